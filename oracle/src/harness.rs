@@ -1,0 +1,3 @@
+//! A child of `lang.rs`, because only a child sees its private items. Each layer has a file of its own here.
+
+pub mod words;
