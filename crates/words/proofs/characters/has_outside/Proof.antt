@@ -1,0 +1,53 @@
+-- `has_outside` meets its contract. The loop's invariant: the line has a character outside the domain exactly when it has one from `at` on.
+use mathlib.Core.Path.{_≡_, refl, sym, _∙_}
+use mathlib.Core.Bool.{true, false}
+use Prim.Native.Nat.{ℕ, _≤_, _<_, _-_, _+_}
+use lib.ListN.{length, drop, length-drop}
+use Rattle.words.specs.Characters.{hasOutside, outsideAfter}
+use Rattle.words.proofs.Encodings.{inside-at, outside-next, outside-here, outside-end}
+use borrow.Author.Needs.{needs}
+use native.Mathlib.Omega.{arith}
+use Rattle.words.proofs.characters.has_outside.Statement.{statement}
+use Rattle.words.proofs.characters.has_outside.Tie as tie
+
+abbrev Inv-loop : tie.InvT-loop
+Inv-loop line at₀ at = (at ≤ length line) × (hasOutside line ≡ outsideAfter (drop at line) 0)
+
+abbrev μ-loop : tie.MeasureT-loop
+μ-loop line at₀ at = length line - at
+
+loop-holds : tie.Need-loop-holds Inv-loop μ-loop
+unfolding hasOutside
+loop-holds c = (search needs, refl)
+
+character-at-requires : tie.Need-character-at-requires Inv-loop μ-loop
+character-at-requires c κs = search needs
+
+returns : tie.Need-returns Inv-loop μ-loop
+returns c = sym ((c .before .before .before .before .loop .inv .1) ∙ outside-here _ (c .before .before .before .before .loop .at) (c .before .before .character-at .result) (c .before .before .before .loop-test .taken) (c .before .before .character-at .ensures) (c .if1 .taken))
+
+add-at : tie.Need-add-at Inv-loop μ-loop
+add-at c = omega (arith, inside-at (c .before .before .before .before .before .before .before .args .line .now) (c .before .before .before .before .before .loop .at) (c .before .before .before .character-at .result) (c .before .before .before .before .loop-test .taken) (c .before .before .before .character-at .ensures) (c .before .if1 .left))
+
+loop-less : tie.Need-loop-less Inv-loop μ-loop
+loop-less c = omega (arith, inside-at (c .before .before .before .before .before .before .before .args .line .now) (c .before .before .before .before .before .loop .at) (c .before .before .before .character-at .result) (c .before .before .before .before .loop-test .taken) (c .before .before .before .character-at .ensures) (c .before .if1 .left))
+
+loop-again : tie.Need-loop-again Inv-loop μ-loop
+loop-again c = let h = inside-at (c .before .before .before .before .before .before .before .args .line .now) (c .before .before .before .before .before .loop .at) (c .before .before .before .character-at .result) (c .before .before .before .before .loop-test .taken) (c .before .before .before .character-at .ensures) (c .before .if1 .left) in (omega arith, (c .before .before .before .before .before .loop .inv .1) ∙ outside-next _ (c .before .before .before .before .before .loop .at) (c .before .before .before .character-at .result) (c .before .before .before .before .loop-test .taken) (c .before .before .before .character-at .ensures) (c .before .if1 .left) (h .0))
+
+returns-2 : tie.Need-returns-2 Inv-loop μ-loop
+returns-2 c = sym ((c .before .loop .inv .1) ∙ outside-end _ (c .before .loop .at) (c .loop-test .left))
+
+pub has-outside-spec : {M : Type 1} → statement M
+has-outside-spec =
+    tie.close
+    (tie.spec
+    Inv-loop
+    μ-loop
+    loop-holds
+    character-at-requires
+    returns
+    add-at
+    loop-less
+    loop-again
+    returns-2)

@@ -1,0 +1,18 @@
+-- `numeral` meets its contract.
+use mathlib.Core.Path.{ap, _∙_}
+use Rattle.words.specs.Numerals.{numeralOf}
+use borrow.Author.Needs.{needs}
+use Rattle.words.proofs.numeral.Statement.{statement}
+use Rattle.words.proofs.numeral.Tie as tie
+
+word-requires : tie.Need-word-requires
+word-requires c κs = search needs
+
+value-requires : tie.Need-value-requires
+value-requires c κs = search needs
+
+returns : tie.Need-returns
+returns c = (c .value .ensures) ∙ ap numeralOf (c .before .word .ensures)
+
+pub numeral-spec : {M : Type 1} → statement M
+numeral-spec = tie.close (tie.spec word-requires value-requires returns)

@@ -1,0 +1,112 @@
+-- `read_code` meets its contract. The loop's invariant: the rows before n, and then the reading of the code from `at` on, come to the whole reading;
+-- there is no more than one row for each byte passed.
+use mathlib.Core.Path.{_≡_, refl, sym, ap, _∙_}
+use mathlib.Core.List.{[], _∷_, _++_}
+use Prim.Native.Nat.{ℕ, _≤_, _<_, _-_, _+_}
+use native.Mathlib.Nat.{add-zero}
+use lib.ListN.{length, drop, take, set, length-set}
+use Rattle.words.specs.Tokens.{Reading, andThen, readAfter, itemLength}
+use Rattle.words.specs.Tokens.Reading.{tokens, refused}
+use Rattle.words.specs.declared.tokens.Item.the-variants.{Token}
+use Rattle.words.proofs.Readings.{item-within, read-end, read-blank, read-token, read-refused, push-row}
+use borrow.Author.Needs.{needs}
+use native.Mathlib.Omega.{arith}
+use Rattle.words.proofs.tokens.read_code.Statement.{statement}
+use Rattle.words.proofs.tokens.read_code.Tie as tie
+
+abbrev Inv-loop : tie.InvT-loop
+Inv-loop code start number rows₀ count at₀ n₀ rows at n = (at ≤ length code) × (n ≤ start + at) × (length rows ≡ length rows₀) × (andThen (tokens (take count rows₀)) (readAfter code 0 start number) ≡ andThen (tokens (take n rows)) (readAfter (drop at code) 0 (start + at) number))
+
+abbrev μ-loop : tie.MeasureT-loop
+μ-loop code start number rows₀ count at₀ n₀ rows at n = length code - at
+
+loop-holds : tie.Need-loop-holds Inv-loop μ-loop
+loop-holds c = (search needs, omega (arith, (c .before .pre .below)), refl, simp add-zero)
+
+item-at-requires : tie.Need-item-at-requires Inv-loop μ-loop
+item-at-requires c κs = search needs
+
+enum-told : tie.Need-enum-told Inv-loop μ-loop
+enum-told c = search needs
+
+add-at : tie.Need-add-at Inv-loop μ-loop
+add-at c = search needs
+
+loop-less : tie.Need-loop-less Inv-loop μ-loop
+loop-less c = search needs
+
+loop-again : tie.Need-loop-again Inv-loop μ-loop
+loop-again c = (omega arith, omega (arith, (c .before .before .before .before .loop .inv)), (c .before .before .before .before .loop .inv .2), (c .before .before .before .before .loop .inv .3) ∙ read-blank (c .before .before .before .before .before .before .args .code .now) (c .before .before .before .before .loop .at) (c .before .before .before .before .before .before .args .start) (c .before .before .before .before .before .before .args .number) _ (c .before .before .before .loop-test .taken) (sym (c .enum-told .given .1) ∙ (c .before .before .item-at .ensures)))
+
+enum-known-kind : tie.Need-enum-known-kind Inv-loop μ-loop
+enum-known-kind c = search needs
+
+add-t14 : tie.Need-add-t14 Inv-loop μ-loop
+add-t14 c = omega (arith, (c .before .before .before .before .before .before .before .pre .small))
+
+cast-t15 : tie.Need-cast-t15 Inv-loop μ-loop
+cast-t15 c = omega (arith, (c .before .before .before .before .before .before .before .pre .small))
+
+cast-t16 : tie.Need-cast-t16 Inv-loop μ-loop
+cast-t16 c = let w : (0 < (c .before .kind .given .0 .1 .0)) × ((c .before .before .before .before .before .loop .at) + (c .before .kind .given .0 .1 .0) ≤ length (c .before .before .before .before .before .before .before .args .code .now)) = item-within (c .before .before .before .before .before .before .before .args .code .now) (c .before .before .before .before .before .loop .at) (c .before .before .before .before .before .before .before .args .start) (c .before .before .before .before .before .before .before .args .number) (Token (c .before .kind .given .0 .0) (c .before .kind .given .0 .1 .0)) (c .before .before .before .before .loop-test .taken) (sym (c .before .kind .given .1) ∙ (c .before .before .before .item-at .ensures)) in omega (arith, (c .before .before .before .before .before .before .before .pre .small))
+
+mul-t18 : tie.Need-mul-t18 Inv-loop μ-loop
+mul-t18 c = search needs
+
+slice-set-from-rows : tie.Need-slice-set-from-rows Inv-loop μ-loop
+slice-set-from-rows c = omega (arith, (c .before .before .before .before .before .before .before .pre .lent), (c .before .before .before .before .before .loop .inv))
+
+add-n : tie.Need-add-n Inv-loop μ-loop
+add-n c = omega (arith, (c .before .before .before .before .before .before .before .pre .small), (c .before .before .before .before .before .loop .inv))
+
+add-at-2 : tie.Need-add-at-2 Inv-loop μ-loop
+add-at-2 c = let w : (0 < (c .before .kind .given .0 .1 .0)) × ((c .before .before .before .before .before .loop .at) + (c .before .kind .given .0 .1 .0) ≤ length (c .before .before .before .before .before .before .before .args .code .now)) = item-within (c .before .before .before .before .before .before .before .args .code .now) (c .before .before .before .before .before .loop .at) (c .before .before .before .before .before .before .before .args .start) (c .before .before .before .before .before .before .before .args .number) (Token (c .before .kind .given .0 .0) (c .before .kind .given .0 .1 .0)) (c .before .before .before .before .loop-test .taken) (sym (c .before .kind .given .1) ∙ (c .before .before .before .item-at .ensures)) in omega (arith, (c .before .before .before .before .before .before .before .pre .small))
+
+loop-less-2 : tie.Need-loop-less-2 Inv-loop μ-loop
+loop-less-2 c = let w : (0 < (c .before .kind .given .0 .1 .0)) × ((c .before .before .before .before .before .loop .at) + (c .before .kind .given .0 .1 .0) ≤ length (c .before .before .before .before .before .before .before .args .code .now)) = item-within (c .before .before .before .before .before .before .before .args .code .now) (c .before .before .before .before .before .loop .at) (c .before .before .before .before .before .before .before .args .start) (c .before .before .before .before .before .before .before .args .number) (Token (c .before .kind .given .0 .0) (c .before .kind .given .0 .1 .0)) (c .before .before .before .before .loop-test .taken) (sym (c .before .kind .given .1) ∙ (c .before .before .before .item-at .ensures)) in omega arith
+
+loop-again-2 : tie.Need-loop-again-2 Inv-loop μ-loop
+loop-again-2 c = let w : (0 < (c .before .kind .given .0 .1 .0)) × ((c .before .before .before .before .before .loop .at) + (c .before .kind .given .0 .1 .0) ≤ length (c .before .before .before .before .before .before .before .args .code .now)) = item-within (c .before .before .before .before .before .before .before .args .code .now) (c .before .before .before .before .before .loop .at) (c .before .before .before .before .before .before .before .args .start) (c .before .before .before .before .before .before .before .args .number) (Token (c .before .kind .given .0 .0) (c .before .kind .given .0 .1 .0)) (c .before .before .before .before .loop-test .taken) (sym (c .before .kind .given .1) ∙ (c .before .before .before .item-at .ensures)) in let room : (c .before .before .before .before .before .loop .n) < length (c .before .before .before .before .before .loop .rows) = omega (arith, (c .before .before .before .before .before .before .before .pre .lent), (c .before .before .before .before .before .loop .inv)) in (omega arith, omega (arith, (c .before .before .before .before .before .loop .inv)), simp length-set (c .before .before .before .before .before .loop .inv .2), (c .before .before .before .before .before .loop .inv .3) ∙ read-token (c .before .before .before .before .before .before .before .args .code .now) (c .before .before .before .before .before .loop .at) (c .before .before .before .before .before .before .before .args .start) (c .before .before .before .before .before .before .before .args .number) (take (c .before .before .before .before .before .loop .n) (c .before .before .before .before .before .loop .rows)) (c .before .before .before .before .loop-test .taken) (c .before .kind .given .0 .0) (c .before .kind .given .0 .1 .0) (sym (c .before .kind .given .1) ∙ (c .before .before .before .item-at .ensures)) ∙ ap (λ ts. andThen (tokens ts) (readAfter (drop ((c .before .before .before .before .before .loop .at) + (c .before .kind .given .0 .1 .0)) (c .before .before .before .before .before .before .before .args .code .now)) 0 ((c .before .before .before .before .before .before .before .args .start) + ((c .before .before .before .before .before .loop .at) + (c .before .kind .given .0 .1 .0))) (c .before .before .before .before .before .before .before .args .number))) (sym (push-row (c .before .before .before .before .before .loop .rows) (c .before .before .before .before .before .loop .n) ((c .before .kind .given .0 .0) ∷ ((c .before .before .before .before .before .before .before .args .start) + (c .before .before .before .before .before .loop .at)) ∷ (c .before .kind .given .0 .1 .0) ∷ (c .before .before .before .before .before .before .before .args .number) ∷ []) room)))
+
+enum-known-r : tie.Need-enum-known-r Inv-loop μ-loop
+enum-known-r c = search needs
+
+same-length : tie.Need-same-length Inv-loop μ-loop
+same-length c = (c .before .before .before .before .before .loop .inv .2)
+
+returns : tie.Need-returns Inv-loop μ-loop
+returns c = record { reads = sym ((c .before .before .before .before .before .loop .inv .3) ∙ read-refused (c .before .before .before .before .before .before .before .args .code .now) (c .before .before .before .before .before .loop .at) (c .before .before .before .before .before .before .before .args .start) (c .before .before .before .before .before .before .before .args .number) (take (c .before .before .before .before .before .loop .n) (c .before .before .before .before .before .loop .rows)) (c .before .before .before .before .loop-test .taken) (c .before .r .given .0 .0) (sym (c .before .r .given .1) ∙ (c .before .before .before .item-at .ensures))); fits = omega arith; long = (c .before .before .before .before .before .loop .inv .2) }
+
+same-length-2 : tie.Need-same-length-2 Inv-loop μ-loop
+same-length-2 c = (c .before .loop .inv .2)
+
+returns-2 : tie.Need-returns-2 Inv-loop μ-loop
+returns-2 c = record { reads = sym ((c .before .loop .inv .3) ∙ read-end (c .before .before .before .args .code .now) (c .before .loop .at) (c .before .before .before .args .start) (c .before .before .before .args .number) (take (c .before .loop .n) (c .before .loop .rows)) (c .loop-test .left)); fits = omega (arith, (c .before .loop .inv)); long = (c .before .loop .inv .2) }
+
+pub read-code-spec : {M : Type 1} → statement M
+read-code-spec =
+    tie.close
+    (tie.spec
+    Inv-loop
+    μ-loop
+    loop-holds
+    item-at-requires
+    enum-told
+    add-at
+    loop-less
+    loop-again
+    enum-known-kind
+    add-t14
+    cast-t15
+    cast-t16
+    mul-t18
+    slice-set-from-rows
+    add-n
+    add-at-2
+    loop-less-2
+    loop-again-2
+    enum-known-r
+    same-length
+    returns
+    same-length-2
+    returns-2)

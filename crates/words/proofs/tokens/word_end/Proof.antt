@@ -1,0 +1,57 @@
+-- `word_end` meets its contract. The loop's invariant: the word's end is as far from i as the end of the word that starts at i.
+use mathlib.Core.Path.{_≡_, refl, sym, ap, _∙_}
+use mathlib.Core.Bool.{not}
+use Prim.Native.Nat.{ℕ, _≤_, _<_, _-_, _+_}
+use lib.ListN.{length, drop}
+use borrow.Author.Tests.{not-true, not-false}
+use Rattle.words.specs.Tokens.{wordOf, isWord}
+use Rattle.words.proofs.Items.{word-next, word-stop, word-past}
+use borrow.Author.Needs.{needs}
+use native.Mathlib.Omega.{arith}
+use Rattle.words.proofs.tokens.word_end.Statement.{statement}
+use Rattle.words.proofs.tokens.word_end.Tie as tie
+
+abbrev Inv-loop : tie.InvT-loop
+Inv-loop line at i₀ i = (at ≤ i) × (i ≤ length line) × (at + length (wordOf (drop at line)) ≡ i + length (wordOf (drop i line)))
+
+abbrev μ-loop : tie.MeasureT-loop
+μ-loop line at i₀ i = length line - i
+
+loop-holds : tie.Need-loop-holds Inv-loop μ-loop
+loop-holds c = (search needs, search needs, refl)
+
+character-at-requires : tie.Need-character-at-requires Inv-loop μ-loop
+character-at-requires c κs = search needs
+
+in-word-requires : tie.Need-in-word-requires Inv-loop μ-loop
+in-word-requires c κs = search needs
+
+returns : tie.Need-returns Inv-loop μ-loop
+returns c = omega (arith, (c .before .before .before .before .loop .inv .2), word-stop (c .before .before .before .before .before .before .args .line .now) (c .before .before .before .before .loop .i) (ap (λ k. isWord (k .class)) (sym (c .before .before .character-at .ensures)) ∙ sym (c .before .in-word .ensures) ∙ not-true _ (c .if1 .taken)))
+
+add-i : tie.Need-add-i Inv-loop μ-loop
+add-i c = search needs
+
+loop-less : tie.Need-loop-less Inv-loop μ-loop
+loop-less c = search needs
+
+loop-again : tie.Need-loop-again Inv-loop μ-loop
+loop-again c = (omega arith, omega arith, omega (arith, (c .before .before .before .before .loop .inv .2), word-next (c .before .before .before .before .before .before .args .line .now) (c .before .before .before .before .loop .i) (c .before .before .before .loop-test .taken) (ap (λ k. isWord (k .class)) (sym (c .before .before .character-at .ensures)) ∙ sym (c .before .in-word .ensures) ∙ not-false _ (c .if1 .left))))
+
+returns-2 : tie.Need-returns-2 Inv-loop μ-loop
+returns-2 c = omega (arith, (c .before .loop .inv .2), word-past (c .before .before .before .args .line .now) (c .before .loop .i) (c .loop-test .left))
+
+pub word-end-spec : {M : Type 1} → statement M
+word-end-spec =
+    tie.close
+    (tie.spec
+    Inv-loop
+    μ-loop
+    loop-holds
+    character-at-requires
+    in-word-requires
+    returns
+    add-i
+    loop-less
+    loop-again
+    returns-2)

@@ -1,0 +1,67 @@
+-- `lex` on all inputs: limits, the order of the refusals, and what the lent rows hold afterwards.
+use mathlib.Core.Path.{_≡_}
+use mathlib.Core.Bool.{Bool, true, false, cond}
+use mathlib.Core.List.{List, [], _∷_, _++_}
+use Prim.Native.Nat.{ℕ, zero, suc, _+_, _-_, min}
+use lib.Dec.{leb, ltb, eqb}
+use lib.ListN.{length, take, drop, replicate}
+use Rattle.words.specs.Utf8.{isUtf8}
+use Rattle.words.specs.Lines.{lines}
+use Rattle.words.specs.Tokens.{Reading, readLines, outsideLine}
+use Rattle.words.specs.Tokens.Reading.{tokens, refused}
+use Rattle.words.specs.declared.Limits.{Limits}
+use Rattle.words.specs.declared.Lexed.{Lexed}
+use Rattle.words.specs.declared.Lexed.the-variants.{Tokens, Refused}
+use Rattle.words.specs.declared.Refusal.{Refusal}
+use Rattle.words.specs.declared.Refusal.the-variants.{Storage, TextLength, NotUtf8, OutsideDomain}
+
+-- A limit over document 01's counts as document 01's.
+abbrev pub cappedOf : Limits → Limits
+cappedOf l =
+    record {
+      text = min (l .text) 65536;
+      nodes = min (l .nodes) 32768;
+      steps = min (l .steps) 65535;
+      variables = min (l .variables) 65536;
+      words = min (l .words) 262144
+    }
+
+-- The part of a text at a place; a place outside the text gives the empty part.
+abbrev pub partOf : List ℕ → ℕ → ℕ → List ℕ
+partOf t start n = cond (leb (start + n) (length t)) (take n (drop start t)) []
+
+-- With no line outside the domain, the reading; else 3 at that line.
+abbrev pub inDomain : ℕ → Reading → Reading
+inDomain zero r = r
+inDomain (suc n) r = refused OutsideDomain (suc n)
+
+-- The reading of a text under a limit on its bytes, in the order of the table: 2, 3, 3, and then the Rust's `lex`.
+unfoldable pub lexOf : ℕ → List ℕ → Reading
+lexOf limit text =
+    cond (ltb limit (length text)) (refused TextLength 0)
+    (cond (isUtf8 text) (inDomain (outsideLine (lines text) 1) (readLines (lines text) 0 1))
+    (refused NotUtf8 0))
+
+abbrev pub zeroRow : List ℕ
+zeroRow = 0 ∷ 0 ∷ 0 ∷ 0 ∷ []
+
+-- What `lex` answers for a reading, and what m lent rows hold then: the tokens and zero past them; on a refusal zero throughout.
+abbrev pub answerOf : Reading → Lexed
+answerOf (tokens ts) = Tokens (length ts)
+answerOf (refused r n) = Refused r n
+
+abbrev pub rowsOf : ℕ → Reading → List (List ℕ)
+rowsOf m (tokens ts) = ts ++ replicate (m - length ts) zeroRow
+rowsOf m (refused r n) = replicate m zeroRow
+
+-- `lex` itself: fewer rows than the limit give 1 and are left as they are; else answer and rows are those of the reading.
+abbrev pub lexAnswer : List ℕ → Limits → List (List ℕ) → Lexed
+lexAnswer text limits rows = cond (ltb (length rows) (cappedOf limits .text)) (Refused Storage 0) (answerOf (lexOf (cappedOf limits .text) text))
+
+abbrev pub lexRows : List ℕ → Limits → List (List ℕ) → List (List ℕ)
+lexRows text limits rows = cond (ltb (length rows) (cappedOf limits .text)) rows (rowsOf (length rows) (lexOf (cappedOf limits .text) text))
+
+-- The promise of `lex`.
+pub record Lexing (text : List ℕ) (limits : Limits) (before : List (List ℕ)) (r : Lexed) (after : List (List ℕ)) : Type 0 where
+  pub answer : r ≡ lexAnswer text limits before
+  pub rows : after ≡ lexRows text limits before

@@ -1,0 +1,12 @@
+-- What the contracts of `words` cite, in reading order.
+pub mod Bytes
+pub mod Utf8
+pub mod Characters
+pub mod Lines
+pub mod Numerals
+pub mod Names
+pub mod Signs
+pub mod Tokens
+pub mod Refusals
+pub mod Lexer
+pub mod Examples

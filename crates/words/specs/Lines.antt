@@ -1,0 +1,32 @@
+-- Document 01, Words: lines follow Rust's `lines`; the first `--` of a line starts a comment to the line's end.
+-- A line ends before a line feed. (The Rust also drops a carriage return there; being blank, it makes no difference.)
+use mathlib.Core.Bool.{Bool, cond, _||_}
+use mathlib.Core.List.{List, [], _∷_}
+use Prim.Native.Nat.{ℕ}
+use lib.Dec.{eqb}
+use Rattle.words.specs.Bytes.{startsWith, upTo}
+
+-- c before the first of the lines.
+abbrev pub before : ℕ → List (List ℕ) → List (List ℕ)
+before c [] = (c ∷ []) ∷ []
+before c (l ∷ ls) = (c ∷ l) ∷ ls
+
+abbrev pub atByte : ℕ → List (List ℕ) → List (List ℕ)
+atByte c ls = cond (eqb c 10) ([] ∷ ls) (before c ls)
+
+-- The lines of a text, without their line feeds. A text that ends in a line feed has no line after it.
+unfoldable pub lines : List ℕ → List (List ℕ)
+lines [] = []
+lines (c ∷ s) = atByte c (lines s)
+
+-- The first line of a text.
+unfoldable pub lineOf : List ℕ → List ℕ
+lineOf = upTo (startsWith (10 ∷ []))
+
+-- A line without its comment.
+unfoldable pub codeOf : List ℕ → List ℕ
+codeOf = upTo (startsWith (45 ∷ 45 ∷ []))
+
+-- Does the code of a line end at the start of s?
+abbrev pub endsCode : List ℕ → Bool
+endsCode s = startsWith (10 ∷ []) s || startsWith (45 ∷ 45 ∷ []) s

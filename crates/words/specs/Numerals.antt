@@ -1,0 +1,22 @@
+-- Document 01, Words: all digits make an unsigned 64-bit numeral.
+use mathlib.Core.Bool.{Bool, true, false, cond, _&&_}
+use mathlib.Core.List.{List, [], _∷_}
+use Prim.Native.Nat.{ℕ, _+_, _-_, _*_, _^_}
+use lib.Dec.{ltb}
+use lib.ListN.{length}
+use Rattle.words.specs.Bytes.{within}
+use Rattle.words.specs.declared.NumeralValue.{NumeralValue}
+use Rattle.words.specs.declared.NumeralValue.the-variants.{Fits, TooLarge}
+
+unfoldable pub allDigits : List ℕ → Bool
+allDigits [] = true
+allDigits (c ∷ s) = within 48 57 c && allDigits s
+
+-- The decimal number whose first digits make v and whose other digits are s.
+unfoldable pub valueFrom : ℕ → List ℕ → ℕ
+valueFrom v [] = v
+valueFrom v (c ∷ s) = valueFrom (v * 10 + (c - 48)) s
+
+-- The value of a word of digits; what is no such word, or is over 64 bits, has none.
+unfoldable pub numeralOf : List ℕ → NumeralValue
+numeralOf w = cond (ltb 0 (length w) && (allDigits w && ltb (valueFrom 0 w) (2 ^ 64))) (Fits (valueFrom 0 w)) TooLarge

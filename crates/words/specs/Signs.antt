@@ -1,0 +1,42 @@
+-- Document 01, Words: `->` (same as →), `=>` and `:=` are tried before the single signs.
+use mathlib.Core.Bool.{Bool, true, false, cond}
+use mathlib.Core.List.{List, [], _∷_}
+use Prim.Native.Nat.{ℕ}
+use lib.ListN.{length}
+use Rattle.words.specs.Bytes.{startsWith}
+use Rattle.words.specs.Characters.{arrow}
+use Rattle.words.specs.declared.Refusal.{Refusal}
+use Rattle.words.specs.declared.Refusal.the-variants.{UnexpectedCharacter}
+use Rattle.words.specs.declared.tokens.Item.{Item}
+use Rattle.words.specs.declared.tokens.Item.the-variants.{Blank, Token, Refused}
+
+-- A sign: its kind, and how it is written.
+pub record Sign : Type 0 where
+  pub kind : ℕ
+  pub written : List ℕ
+
+abbrev pub sign : ℕ → List ℕ → Sign
+sign k w = record { kind = k; written = w }
+
+-- -> => := → ( ) : , | =   in the order in which they are tried
+unfoldable pub signs : List Sign
+signs =
+    sign 15 (45 ∷ 62 ∷ [])
+    ∷ sign 16 (61 ∷ 62 ∷ [])
+    ∷ sign 17 (58 ∷ 61 ∷ [])
+    ∷ sign 15 arrow
+    ∷ sign 18 (40 ∷ [])
+    ∷ sign 19 (41 ∷ [])
+    ∷ sign 20 (58 ∷ [])
+    ∷ sign 21 (44 ∷ [])
+    ∷ sign 22 (124 ∷ [])
+    ∷ sign 23 (61 ∷ [])
+    ∷ []
+
+-- The token of the first of these signs with which s starts.
+unfoldable pub signAmong : List Sign → List ℕ → Item
+signAmong [] s = Refused UnexpectedCharacter
+signAmong (x ∷ xs) s = cond (startsWith (x .written) s) (Token (x .kind) (length (x .written))) (signAmong xs s)
+
+unfoldable pub signItem : List ℕ → Item
+signItem s = signAmong signs s
