@@ -23,7 +23,7 @@ cappedOf l =
       nodes = min (l .nodes) 32768;
       steps = min (l .steps) 65535;
       variables = min (l .variables) 65536;
-      words = min (l .words) 262144
+      words = min (l .words) 262144;
     }
 
 -- The part of a text at a place; a place outside the text gives the empty part.

@@ -8,22 +8,147 @@ ghost use Rattle.words.specs.Characters.{classOf, characterOf, hasOutsid
 
 // The classes of characters.
 pub const NONE: u8 = 0;
+
 pub const BLANK: u8 = 1;
+
 pub const LETTER: u8 = 2;
+
 pub const DIGIT: u8 = 3;
+
 pub const SIGN: u8 = 4;
+
 pub const OUTSIDE: u8 = 5;
 
 // The class of each of the 128 ASCII codes, 16 to a line.
 const CLASS: [u8; 128] = [
-    0, 0, 0, 0, 0, 0, 0, 0, 0, 1, 1, 1, 1, 1, 0, 0,
-    0, 0, 0, 0, 0, 0, 0, 0, 0, 0, 0, 0, 0, 0, 0, 0,
-    1, 0, 0, 2, 0, 0, 0, 2, 4, 4, 0, 0, 4, 4, 2, 0,
-    3, 3, 3, 3, 3, 3, 3, 3, 3, 3, 4, 0, 0, 4, 0, 2,
-    0, 2, 2, 2, 2, 2, 2, 2, 2, 2, 2, 2, 2, 2, 2, 2,
-    2, 2, 2, 2, 2, 2, 2, 2, 2, 2, 2, 0, 0, 0, 0, 2,
-    0, 2, 2, 2, 2, 2, 2, 2, 2, 2, 2, 2, 2, 2, 2, 2,
-    2, 2, 2, 2, 2, 2, 2, 2, 2, 2, 2, 0, 4, 0, 0, 0,
+    0,
+    0,
+    0,
+    0,
+    0,
+    0,
+    0,
+    0,
+    0,
+    1,
+    1,
+    1,
+    1,
+    1,
+    0,
+    0,
+    0,
+    0,
+    0,
+    0,
+    0,
+    0,
+    0,
+    0,
+    0,
+    0,
+    0,
+    0,
+    0,
+    0,
+    0,
+    0,
+    1,
+    0,
+    0,
+    2,
+    0,
+    0,
+    0,
+    2,
+    4,
+    4,
+    0,
+    0,
+    4,
+    4,
+    2,
+    0,
+    3,
+    3,
+    3,
+    3,
+    3,
+    3,
+    3,
+    3,
+    3,
+    3,
+    4,
+    0,
+    0,
+    4,
+    0,
+    2,
+    0,
+    2,
+    2,
+    2,
+    2,
+    2,
+    2,
+    2,
+    2,
+    2,
+    2,
+    2,
+    2,
+    2,
+    2,
+    2,
+    2,
+    2,
+    2,
+    2,
+    2,
+    2,
+    2,
+    2,
+    2,
+    2,
+    2,
+    0,
+    0,
+    0,
+    0,
+    2,
+    0,
+    2,
+    2,
+    2,
+    2,
+    2,
+    2,
+    2,
+    2,
+    2,
+    2,
+    2,
+    2,
+    2,
+    2,
+    2,
+    2,
+    2,
+    2,
+    2,
+    2,
+    2,
+    2,
+    2,
+    2,
+    2,
+    2,
+    0,
+    4,
+    0,
+    0,
+    0,
 ];
 
 // → in UTF-8.
@@ -47,16 +172,28 @@ pub fn character_at(text: &[u8], at: usize) -> Character
     ensures { λ r. ⌜ r ≡ characterOf (drop at (now (text .entry))) ⌝ }
 {
     if text.len() <= at {
-        return Character { class: NONE, length: 0 };
+        return Character {
+            class: NONE,
+            length: 0,
+        };
     }
     let c = text[at];
     if c < 128 {
-        return Character { class: class_of(c), length: 1 };
+        return Character {
+            class: class_of(c),
+            length: 1,
+        };
     }
     if starts_with(text, at, &LONG_ARROW) {
-        return Character { class: SIGN, length: 3 };
+        return Character {
+            class: SIGN,
+            length: 3,
+        };
     }
-    Character { class: OUTSIDE, length: character_length(text, at) }
+    Character {
+        class: OUTSIDE,
+        length: character_length(text, at),
+    }
 }
 
 // Has a line a character outside the domain?

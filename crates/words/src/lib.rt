@@ -36,9 +36,13 @@ pub struct Limits {
 
 // Document 01's limits: 65,536 bytes of text, 32,768 nodes in all, 65,535 steps, 65,536 variables, 262,144 words.
 const TEXT: u32 = 65536;
+
 const NODES: u32 = 32768;
+
 const STEPS: u32 = 65535;
+
 const VARIABLES: u32 = 65536;
+
 const WORDS: u32 = 262144;
 
 // Why a text is refused.

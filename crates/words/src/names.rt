@@ -12,7 +12,9 @@ ghost use Rattle.words.specs.Names.{keywordOf, numberIf, numberSignOf, w
 
 // The kinds of words past the eleven keywords.
 pub const NAME: u32 = 12;
+
 pub const METAVARIABLE: u32 = 13;
+
 pub const NUMERAL: u32 = 14;
 
 // The most bytes that a word may have: document 01's 64.
