@@ -12,7 +12,7 @@ use lib.Dec.{T, eqb, ltb, eqb→eq}
 use borrow.Author.Tests.{eq-eqb, ne-eqb, le-leb, lt-leb, lt-ltb, le-ltb}
 use Rattle.words.specs.Bytes.{within, startsWith}
 use Rattle.words.specs.Utf8.{leadOf, formOf, forms, asks, tailsOf, characterLength, utf8After, isUtf8}
-use Rattle.words.specs.Characters.{arrow, characterOf, outsideAfter, hasOutside, classOf}
+use Rattle.words.specs.Characters.{arrow, characterOf, outsideAfter, hasOutside, classOf, classesFrom, classTable}
 use Rattle.words.specs.declared.utf8.Lead.{Lead}
 use Rattle.words.specs.declared.characters.Character.{Character}
 use Rattle.words.proofs.Table.{both, both-left, both-right, every, at}
@@ -128,6 +128,17 @@ module _ (s : List ℕ) (i m : ℕ) (h : i < length s) (e : m ≡ characterLengt
 pub utf8-end : (s : List ℕ) (i : ℕ) → length s ≤ i → utf8After (drop i s) 0 ≡ true
 unfolding utf8After
 utf8-end s i h = simp (drop-of-length-le s h)
+
+-- The class table at a code.
+classes-at : (n c k : ℕ) → k < n → getD (classesFrom n c) k 0 ≡ classOf (c + k)
+unfolding classesFrom
+classes-at zero c k h = absurd (omega arith)
+classes-at (suc n) c zero h = simp add-zero
+classes-at (suc n) c (suc k) h = let e : suc c + k ≡ c + suc k = omega arith in classes-at n (suc c) k (omega arith) ∙ ap classOf e
+
+pub class-at : (classes : List ℕ) (c : ℕ) → classes ≡ classTable → c < 128 → getD classes c 0 ≡ classOf c
+unfolding classTable
+class-at classes c e h = let z : 0 + c ≡ c = omega arith in ap (λ l. getD l c 0) e ∙ classes-at 128 0 c h ∙ ap classOf z
 
 -- The character test at place i of s.
 pub character-past : (s : List ℕ) (i : ℕ) → length s ≤ i → characterOf (drop i s) ≡ record { class = 0; length = 0 }

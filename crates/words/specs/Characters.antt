@@ -34,6 +34,14 @@ classOf c =
     (cond (within 65 90 c || (within 97 122 c || oneOf (95 ∷ 46 ∷ 39 ∷ 35 ∷ 63 ∷ []) c)) letter
     (cond (oneOf (40 ∷ 41 ∷ 58 ∷ 44 ∷ 124 ∷ 61 ∷ 45 ∷ []) c) sign none)))
 
+-- The classes of the n codes from c on; the table has those of the 128 ASCII codes.
+unfoldable pub classesFrom : ℕ → ℕ → List ℕ
+classesFrom zero c = []
+classesFrom (suc n) c = classOf c ∷ classesFrom n (suc c)
+
+unfoldable pub classTable : List ℕ
+classTable = classesFrom 128 0
+
 -- → in UTF-8.
 abbrev pub arrow : List ℕ
 arrow = 0xE2 ∷ 0x86 ∷ 0x92 ∷ []

@@ -6,7 +6,7 @@ use mathlib.Core.Path.{_≡_}
 use lib.Dec.{eqb, ltb}
 use lib.ListN.{length, take}
 use Rattle.words.specs.Bytes.{upTo}
-use Rattle.words.specs.Characters.{blank, letter, digit, sign, characterOf, hasOutside}
+use Rattle.words.specs.Characters.{blank, letter, digit, sign, characterOf, hasOutside, classTable}
 use Rattle.words.specs.Lines.{codeOf}
 use Rattle.words.specs.Names.{wordItem}
 use Rattle.words.specs.Signs.{signItem}
@@ -86,8 +86,9 @@ pub record Read (reading : Reading) (most count : ℕ) (before : List (List ℕ)
   pub fits : countOf r ≤ most
   pub long : length after ≡ length before
 
--- Where there is room for one row for each byte.
-pub record Room (code : List ℕ) (start : ℕ) (rows : List (List ℕ)) (count : ℕ) : Type 0 where
+-- What it asks: the class table, and room for one row for each byte.
+pub record Room (classes code : List ℕ) (start : ℕ) (rows : List (List ℕ)) (count : ℕ) : Type 0 where
+  pub table : classes ≡ classTable
   pub below : count ≤ start
   pub lent : start + length code ≤ length rows
   pub small : start + length code ≤ 65536

@@ -4,7 +4,7 @@ use super::utf8::character_length;
 ghost use mathlib.Core.Path.{_≡_};
 ghost use Prim.Native.Nat.{_<_};
 ghost use lib.ListN.{length, drop};
-ghost use Rattle.words.specs.Characters.{classOf, characterOf, hasOutside};
+ghost use Rattle.words.specs.Characters.{classOf, classTable, characterOf, hasOutside};
 
 // The classes of characters.
 pub const NONE: u8 = 0;
@@ -19,8 +19,10 @@ pub const SIGN: u8 = 4;
 
 pub const OUTSIDE: u8 = 5;
 
+pub type Classes = [u8; 128];
+
 // The class of each of the 128 ASCII codes, 16 to a line.
-const CLASS: [u8; 128] = [
+pub const CLASS: Classes = [
     0,
     0,
     0,
@@ -159,16 +161,17 @@ pub struct Character {
     pub length: usize,
 }
 
-// The class of an ASCII code.
-fn class_of(c: u8) -> u8
-    requires { ⌜ c < 128 ⌝ }
+// The class of an ASCII code, from the table. It is lent, since a constant is laid out anew wherever it is named.
+fn class_of(classes: &Classes, c: u8) -> u8
+    requires { ⌜ (now classes ≡ classTable) × (c < 128) ⌝ }
     ensures { λ r. ⌜ r ≡ classOf c ⌝ }
 {
-    CLASS[c as usize]
+    classes[c as usize]
 }
 
 // The character at a place of a text; past the end, no class and no length.
-pub fn character_at(text: &[u8], at: usize) -> Character
+pub fn character_at(classes: &Classes, text: &[u8], at: usize) -> Character
+    requires { ⌜ now classes ≡ classTable ⌝ }
     ensures { λ r. ⌜ r ≡ characterOf (drop at (now (text .entry))) ⌝ }
 {
     if text.len() <= at {
@@ -180,7 +183,7 @@ pub fn character_at(text: &[u8], at: usize) -> Character
     let c = text[at];
     if c < 128 {
         return Character {
-            class: class_of(c),
+            class: class_of(classes, c),
             length: 1,
         };
     }
@@ -197,12 +200,13 @@ pub fn character_at(text: &[u8], at: usize) -> Character
 }
 
 // Has a line a character outside the domain?
-pub fn has_outside(line: &[u8]) -> bool
+pub fn has_outside(classes: &Classes, line: &[u8]) -> bool
+    requires { ⌜ now classes ≡ classTable ⌝ }
     ensures { λ r. ⌜ r ≡ hasOutside (now (line .entry)) ⌝ }
 {
     let mut at = 0;
     while at < line.len() {
-        let c = character_at(line, at);
+        let c = character_at(classes, line, at);
         if c.class == OUTSIDE {
             return true;
         }

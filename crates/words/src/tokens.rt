@@ -2,6 +2,8 @@
 use super::Lexed;
 use super::Refusal;
 use super::characters::BLANK;
+use super::characters::CLASS;
+use super::characters::Classes;
 use super::characters::DIGIT;
 use super::characters::LETTER;
 use super::characters::SIGN;
@@ -14,6 +16,7 @@ use super::signs::sign_item;
 ghost use mathlib.Core.Path.{_≡_};
 ghost use Prim.Native.Nat.{_+_, _≤_, _<_};
 ghost use lib.ListN.{length, take, drop};
+ghost use Rattle.words.specs.Characters.{classTable};
 ghost use Rattle.words.specs.Lines.{lines};
 ghost use Rattle.words.specs.Tokens.{isWord, wordOf, itemOf, readAfter, readLines, outsideLine, Room, Read};
 
@@ -27,13 +30,13 @@ pub enum Item {
 }
 
 // The place past the word that starts at a place.
-fn word_end(line: &[u8], at: usize) -> usize
-    requires { ⌜ at ≤ length (now line) ⌝ }
+fn word_end(classes: &Classes, line: &[u8], at: usize) -> usize
+    requires { ⌜ (now classes ≡ classTable) × (at ≤ length (now line)) ⌝ }
     ensures { λ r. ⌜ r ≡ at + length (wordOf (drop at (now (line .entry)))) ⌝ }
 {
     let mut i = at;
     while i < line.len() {
-        if !in_word(character_at(line, i).class) {
+        if !in_word(character_at(classes, line, i).class) {
             return i;
         }
         i += 1;
@@ -52,16 +55,16 @@ fn in_word(class: u8) -> bool
 }
 
 // What stands at a place of a line.
-fn item_at(line: &[u8], at: usize) -> Item
-    requires { ⌜ at < length (now line) ⌝ }
+fn item_at(classes: &Classes, line: &[u8], at: usize) -> Item
+    requires { ⌜ (now classes ≡ classTable) × (at < length (now line)) ⌝ }
     ensures { λ r. ⌜ r ≡ itemOf (drop at (now (line .entry))) ⌝ }
 {
-    let class = character_at(line, at).class;
+    let class = character_at(classes, line, at).class;
     if class == BLANK {
         return Item::Blank;
     }
     if in_word(class) {
-        let end = word_end(line, at);
+        let end = word_end(classes, line, at);
         return word_item(&line[at..end]);
     }
     if class == SIGN {
@@ -71,19 +74,28 @@ fn item_at(line: &[u8], at: usize) -> Item
 }
 
 // Reads a line without its comment, which starts at place `start` of the text; its tokens go to the rows from `count` on.
-fn read_code(code: &[u8], start: usize, number: u32, rows: &mut [Row], count: usize) -> Lexed
-    requires { ⌜ Room (now code) start (now rows) count ⌝ }
+fn read_code(
+    classes: &Classes,
+    code: &[u8],
+    start: usize,
+    number: u32,
+    rows: &mut [Row],
+    count: usize,
+) -> Lexed
+    requires { ⌜ Room (now classes) (now code) start (now rows) count ⌝ }
     ensures { λ r. ⌜ Read (readAfter (now (code .entry)) 0 start number) (start + length (now (code .entry))) count (now (rows .entry)) r (now (rows .exit)) ⌝ }
 {
     let mut at = 0;
     let mut n = count;
     while at < code.len() {
-        match item_at(code, at) {
+        match item_at(classes, code, at) {
             Item::Blank => {
                 at += 1;
             }
             Item::Token(kind, length) => {
-                rows[n] = [kind, (start + at) as u32, length as u32, number];
+                let place = (start + at) as u32;
+                let size = length as u32;
+                rows[n] = [kind, place, size, number];
                 n += 1;
                 at += length;
             }
@@ -100,12 +112,13 @@ pub fn read_lines(text: &[u8], rows: &mut [Row]) -> Lexed
     requires { ⌜ (length (now text) ≤ 65536) × (length (now text) ≤ length (now rows)) ⌝ }
     ensures { λ r. ⌜ Read (readLines (lines (now (text .entry))) 0 1) (length (now (text .entry))) 0 (now (rows .entry)) r (now (rows .exit)) ⌝ }
 {
+    let classes = CLASS;
     let mut at = 0;
     let mut number = 1;
     let mut count = 0;
     while at < text.len() {
         let end = code_end(text, at);
-        let read = read_code(&text[at..end], at, number, rows, count);
+        let read = read_code(&classes, &text[at..end], at, number, rows, count);
         let Lexed::Tokens(n) = read else {
             return read;
         };
@@ -121,11 +134,12 @@ pub fn outside_line(text: &[u8]) -> u32
     requires { ⌜ length (now text) ≤ 65536 ⌝ }
     ensures { λ r. ⌜ r ≡ outsideLine (lines (now (text .entry))) 1 ⌝ }
 {
+    let classes = CLASS;
     let mut at = 0;
     let mut number = 1;
     while at < text.len() {
         let end = code_end(text, at);
-        if has_outside(&text[at..end]) {
+        if has_outside(&classes, &text[at..end]) {
             return number;
         }
         at = line_end(text, end) + 1;

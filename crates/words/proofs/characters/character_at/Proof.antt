@@ -12,7 +12,7 @@ shared-slice-read-c : tie.Need-shared-slice-read-c
 shared-slice-read-c c = search needs
 
 class-of-requires : tie.Need-class-of-requires
-class-of-requires c κs = search needs
+class-of-requires c κs = ((c .before .before .before .before .pre), (c .if2 .taken))
 
 returns-2 : tie.Need-returns-2
 returns-2 c = sym (character-ascii _ _ (c .before .before .before .if1 .left) (c .before .if2 .taken) ∙ simp (← (c .class-of .ensures)))

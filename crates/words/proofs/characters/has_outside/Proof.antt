@@ -2,7 +2,7 @@
 use mathlib.Core.Path.{_≡_, refl, sym, _∙_}
 use mathlib.Core.Bool.{true, false}
 use Prim.Native.Nat.{ℕ, _≤_, _<_, _-_, _+_}
-use lib.ListN.{length, drop, length-drop}
+use lib.ListN.{length, drop}
 use Rattle.words.specs.Characters.{hasOutside, outsideAfter}
 use Rattle.words.proofs.Encodings.{inside-at, outside-next, outside-here, outside-end}
 use borrow.Author.Needs.{needs}
@@ -11,17 +11,17 @@ use Rattle.words.proofs.characters.has_outside.Statement.{statement}
 use Rattle.words.proofs.characters.has_outside.Tie as tie
 
 abbrev Inv-loop : tie.InvT-loop
-Inv-loop line at₀ at = (at ≤ length line) × (hasOutside line ≡ outsideAfter (drop at line) 0)
+Inv-loop classes line at₀ at = (at ≤ length line) × (hasOutside line ≡ outsideAfter (drop at line) 0)
 
 abbrev μ-loop : tie.MeasureT-loop
-μ-loop line at₀ at = length line - at
+μ-loop classes line at₀ at = length line - at
 
 loop-holds : tie.Need-loop-holds Inv-loop μ-loop
 unfolding hasOutside
 loop-holds c = (search needs, refl)
 
 character-at-requires : tie.Need-character-at-requires Inv-loop μ-loop
-character-at-requires c κs = search needs
+character-at-requires c κs = (c .before .before .before .pre)
 
 returns : tie.Need-returns Inv-loop μ-loop
 returns c = sym ((c .before .before .before .before .loop .inv .1) ∙ outside-here _ (c .before .before .before .before .loop .at) (c .before .before .character-at .result) (c .before .before .before .loop-test .taken) (c .before .before .character-at .ensures) (c .if1 .taken))

@@ -12,7 +12,7 @@ use Rattle.words.proofs.tokens.item_at.Statement.{statement}
 use Rattle.words.proofs.tokens.item_at.Tie as tie
 
 character-at-requires : tie.Need-character-at-requires
-character-at-requires c κs = search needs
+character-at-requires c κs = (c .before .pre .0)
 
 returns : tie.Need-returns
 unfolding itemOf
@@ -22,7 +22,7 @@ in-word-requires : tie.Need-in-word-requires
 in-word-requires c κs = search needs
 
 word-end-requires : tie.Need-word-end-requires
-word-end-requires c κs = search needs
+word-end-requires c κs = ((c .before .before .before .before .before .pre .0), omega arith)
 
 sub-word-item : tie.Need-sub-word-item
 sub-word-item c = omega (arith, (c .word-end .ensures))
@@ -34,7 +34,7 @@ part-word-item-end : tie.Need-part-word-item-end
 part-word-item-end c = omega (arith, (c .word-end .ensures), word-fits (c .before .before .before .before .before .before .args .line .now) (c .before .before .before .before .before .before .args .at) (omega arith))
 
 word-item-requires : tie.Need-word-item-requires
-word-item-requires c κs = word-starts (c .before .before .before .before .before .before .before .args .line .now) (c .before .before .before .before .before .before .before .args .at) (c .before .word-end .result) (c .before .before .before .before .before .character-at .result) (c .before .before .before .before .before .before .before .pre) (c .before .before .before .before .before .character-at .ensures) (sym (c .before .before .before .in-word .ensures) ∙ (c .before .before .if2 .taken)) (c .before .word-end .ensures)
+word-item-requires c κs = word-starts (c .before .before .before .before .before .before .before .args .line .now) (c .before .before .before .before .before .before .before .args .at) (c .before .word-end .result) (c .before .before .before .before .before .character-at .result) (c .before .before .before .before .before .before .before .pre .1) (c .before .before .before .before .before .character-at .ensures) (sym (c .before .before .before .in-word .ensures) ∙ (c .before .before .if2 .taken)) (c .before .word-end .ensures)
 
 returns-2 : tie.Need-returns-2
 unfolding itemOf

@@ -15,16 +15,16 @@ use Rattle.words.proofs.tokens.read_code.Statement.{statement}
 use Rattle.words.proofs.tokens.read_code.Tie as tie
 
 abbrev Inv-loop : tie.InvT-loop
-Inv-loop code start number rows₀ count at₀ n₀ rows at n = (at ≤ length code) × (n ≤ start + at) × (length rows ≡ length rows₀) × (andThen (tokens (take count rows₀)) (readAfter code 0 start number) ≡ andThen (tokens (take n rows)) (readAfter (drop at code) 0 (start + at) number))
+Inv-loop classes code start number rows₀ count at₀ n₀ rows at n = (at ≤ length code) × (n ≤ start + at) × (length rows ≡ length rows₀) × (andThen (tokens (take count rows₀)) (readAfter code 0 start number) ≡ andThen (tokens (take n rows)) (readAfter (drop at code) 0 (start + at) number))
 
 abbrev μ-loop : tie.MeasureT-loop
-μ-loop code start number rows₀ count at₀ n₀ rows at n = length code - at
+μ-loop classes code start number rows₀ count at₀ n₀ rows at n = length code - at
 
 loop-holds : tie.Need-loop-holds Inv-loop μ-loop
 loop-holds c = (search needs, omega (arith, (c .before .pre .below)), refl, simp add-zero)
 
 item-at-requires : tie.Need-item-at-requires Inv-loop μ-loop
-item-at-requires c κs = search needs
+item-at-requires c κs = ((c .before .before .before .pre .table), (c .loop-test .taken))
 
 enum-told : tie.Need-enum-told Inv-loop μ-loop
 enum-told c = search needs
@@ -41,17 +41,17 @@ loop-again c = (omega arith, omega (arith, (c .before .before .before .before .l
 enum-known-kind : tie.Need-enum-known-kind Inv-loop μ-loop
 enum-known-kind c = search needs
 
-add-t14 : tie.Need-add-t14 Inv-loop μ-loop
-add-t14 c = omega (arith, (c .before .before .before .before .before .before .before .pre .small))
+add-place : tie.Need-add-place Inv-loop μ-loop
+add-place c = omega (arith, (c .before .before .before .before .before .before .before .pre .small))
 
-cast-t15 : tie.Need-cast-t15 Inv-loop μ-loop
-cast-t15 c = omega (arith, (c .before .before .before .before .before .before .before .pre .small))
+cast-place : tie.Need-cast-place Inv-loop μ-loop
+cast-place c = omega (arith, (c .before .before .before .before .before .before .before .pre .small))
 
-cast-t16 : tie.Need-cast-t16 Inv-loop μ-loop
-cast-t16 c = let w : (0 < (c .before .kind .given .0 .1 .0)) × ((c .before .before .before .before .before .loop .at) + (c .before .kind .given .0 .1 .0) ≤ length (c .before .before .before .before .before .before .before .args .code .now)) = item-within (c .before .before .before .before .before .before .before .args .code .now) (c .before .before .before .before .before .loop .at) (c .before .before .before .before .before .before .before .args .start) (c .before .before .before .before .before .before .before .args .number) (Token (c .before .kind .given .0 .0) (c .before .kind .given .0 .1 .0)) (c .before .before .before .before .loop-test .taken) (sym (c .before .kind .given .1) ∙ (c .before .before .before .item-at .ensures)) in omega (arith, (c .before .before .before .before .before .before .before .pre .small))
+cast-size : tie.Need-cast-size Inv-loop μ-loop
+cast-size c = let w : (0 < (c .before .kind .given .0 .1 .0)) × ((c .before .before .before .before .before .loop .at) + (c .before .kind .given .0 .1 .0) ≤ length (c .before .before .before .before .before .before .before .args .code .now)) = item-within (c .before .before .before .before .before .before .before .args .code .now) (c .before .before .before .before .before .loop .at) (c .before .before .before .before .before .before .before .args .start) (c .before .before .before .before .before .before .before .args .number) (Token (c .before .kind .given .0 .0) (c .before .kind .given .0 .1 .0)) (c .before .before .before .before .loop-test .taken) (sym (c .before .kind .given .1) ∙ (c .before .before .before .item-at .ensures)) in omega (arith, (c .before .before .before .before .before .before .before .pre .small))
 
-mul-t18 : tie.Need-mul-t18 Inv-loop μ-loop
-mul-t18 c = search needs
+mul-t17 : tie.Need-mul-t17 Inv-loop μ-loop
+mul-t17 c = search needs
 
 slice-set-from-rows : tie.Need-slice-set-from-rows Inv-loop μ-loop
 slice-set-from-rows c = omega (arith, (c .before .before .before .before .before .before .before .pre .lent), (c .before .before .before .before .before .loop .inv))
@@ -96,10 +96,10 @@ read-code-spec =
     loop-less
     loop-again
     enum-known-kind
-    add-t14
-    cast-t15
-    cast-t16
-    mul-t18
+    add-place
+    cast-place
+    cast-size
+    mul-t17
     slice-set-from-rows
     add-n
     add-at-2

@@ -12,16 +12,16 @@ use Rattle.words.proofs.tokens.word_end.Statement.{statement}
 use Rattle.words.proofs.tokens.word_end.Tie as tie
 
 abbrev Inv-loop : tie.InvT-loop
-Inv-loop line at i₀ i = (at ≤ i) × (i ≤ length line) × (at + length (wordOf (drop at line)) ≡ i + length (wordOf (drop i line)))
+Inv-loop classes line at i₀ i = (at ≤ i) × (i ≤ length line) × (at + length (wordOf (drop at line)) ≡ i + length (wordOf (drop i line)))
 
 abbrev μ-loop : tie.MeasureT-loop
-μ-loop line at i₀ i = length line - i
+μ-loop classes line at i₀ i = length line - i
 
 loop-holds : tie.Need-loop-holds Inv-loop μ-loop
 loop-holds c = (search needs, search needs, refl)
 
 character-at-requires : tie.Need-character-at-requires Inv-loop μ-loop
-character-at-requires c κs = search needs
+character-at-requires c κs = (c .before .before .before .pre .0)
 
 in-word-requires : tie.Need-in-word-requires Inv-loop μ-loop
 in-word-requires c κs = search needs
