@@ -21,136 +21,136 @@ pub const OUTSIDE: u8 = 5;
 
 pub type Classes = [u8; 128];
 
-// The class of each of the 128 ASCII codes, 16 to a line.
+// The class of each of the 128 ASCII codes.
 pub const CLASS: Classes = [
-    0,
-    0,
-    0,
-    0,
-    0,
-    0,
-    0,
-    0,
-    0,
-    1,
-    1,
-    1,
-    1,
-    1,
-    0,
-    0,
-    0,
-    0,
-    0,
-    0,
-    0,
-    0,
-    0,
-    0,
-    0,
-    0,
-    0,
-    0,
-    0,
-    0,
-    0,
-    0,
-    1,
-    0,
-    0,
-    2,
-    0,
-    0,
-    0,
-    2,
-    4,
-    4,
-    0,
-    0,
-    4,
-    4,
-    2,
-    0,
-    3,
-    3,
-    3,
-    3,
-    3,
-    3,
-    3,
-    3,
-    3,
-    3,
-    4,
-    0,
-    0,
-    4,
-    0,
-    2,
-    0,
-    2,
-    2,
-    2,
-    2,
-    2,
-    2,
-    2,
-    2,
-    2,
-    2,
-    2,
-    2,
-    2,
-    2,
-    2,
-    2,
-    2,
-    2,
-    2,
-    2,
-    2,
-    2,
-    2,
-    2,
-    2,
-    2,
-    0,
-    0,
-    0,
-    0,
-    2,
-    0,
-    2,
-    2,
-    2,
-    2,
-    2,
-    2,
-    2,
-    2,
-    2,
-    2,
-    2,
-    2,
-    2,
-    2,
-    2,
-    2,
-    2,
-    2,
-    2,
-    2,
-    2,
-    2,
-    2,
-    2,
-    2,
-    2,
-    0,
-    4,
-    0,
-    0,
-    0,
+    NONE, // 0
+    NONE, // 1
+    NONE, // 2
+    NONE, // 3
+    NONE, // 4
+    NONE, // 5
+    NONE, // 6
+    NONE, // 7
+    NONE, // 8
+    BLANK, // 9
+    BLANK, // 10
+    BLANK, // 11
+    BLANK, // 12
+    BLANK, // 13
+    NONE, // 14
+    NONE, // 15
+    NONE, // 16
+    NONE, // 17
+    NONE, // 18
+    NONE, // 19
+    NONE, // 20
+    NONE, // 21
+    NONE, // 22
+    NONE, // 23
+    NONE, // 24
+    NONE, // 25
+    NONE, // 26
+    NONE, // 27
+    NONE, // 28
+    NONE, // 29
+    NONE, // 30
+    NONE, // 31
+    BLANK, // 32
+    NONE, // !
+    NONE, // "
+    LETTER, // #
+    NONE, // $
+    NONE, // %
+    NONE, // &
+    LETTER, // '
+    SIGN, // (
+    SIGN, // )
+    NONE, // *
+    NONE, // +
+    SIGN, // ,
+    SIGN, // -
+    LETTER, // .
+    NONE, // /
+    DIGIT, // 0
+    DIGIT, // 1
+    DIGIT, // 2
+    DIGIT, // 3
+    DIGIT, // 4
+    DIGIT, // 5
+    DIGIT, // 6
+    DIGIT, // 7
+    DIGIT, // 8
+    DIGIT, // 9
+    SIGN, // :
+    NONE, // ;
+    NONE, // <
+    SIGN, // =
+    NONE, // >
+    LETTER, // ?
+    NONE, // @
+    LETTER, // A
+    LETTER, // B
+    LETTER, // C
+    LETTER, // D
+    LETTER, // E
+    LETTER, // F
+    LETTER, // G
+    LETTER, // H
+    LETTER, // I
+    LETTER, // J
+    LETTER, // K
+    LETTER, // L
+    LETTER, // M
+    LETTER, // N
+    LETTER, // O
+    LETTER, // P
+    LETTER, // Q
+    LETTER, // R
+    LETTER, // S
+    LETTER, // T
+    LETTER, // U
+    LETTER, // V
+    LETTER, // W
+    LETTER, // X
+    LETTER, // Y
+    LETTER, // Z
+    NONE, // [
+    NONE, // \
+    NONE, // ]
+    NONE, // ^
+    LETTER, // _
+    NONE, // `
+    LETTER, // a
+    LETTER, // b
+    LETTER, // c
+    LETTER, // d
+    LETTER, // e
+    LETTER, // f
+    LETTER, // g
+    LETTER, // h
+    LETTER, // i
+    LETTER, // j
+    LETTER, // k
+    LETTER, // l
+    LETTER, // m
+    LETTER, // n
+    LETTER, // o
+    LETTER, // p
+    LETTER, // q
+    LETTER, // r
+    LETTER, // s
+    LETTER, // t
+    LETTER, // u
+    LETTER, // v
+    LETTER, // w
+    LETTER, // x
+    LETTER, // y
+    LETTER, // z
+    NONE, // {
+    SIGN, // |
+    NONE, // }
+    NONE, // ~
+    NONE, // 127
 ];
 
 // → in UTF-8.

@@ -2,6 +2,11 @@
 //
 // The entry points are `lex`, `word`, `numeral`, `number` and the methods of `Limits`. They ask nothing
 // of their caller, and each contract fixes the answer and every byte of the lent rows on all inputs.
+pub use names::METAVARIABLE;
+pub use names::NAME;
+pub use names::NUMERAL;
+pub use tokens::Row;
+
 mod bytes; // comparing and reading bytes
 mod utf8; // RFC 3629
 mod characters; // the class table and the character test
@@ -12,7 +17,6 @@ mod signs; // the signs, longest first
 mod tokens; // one token, one line, all lines
 
 use numerals::value;
-use tokens::Row;
 use tokens::outside_line;
 use tokens::read_lines;
 use utf8::is_utf8;
