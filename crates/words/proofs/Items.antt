@@ -11,7 +11,7 @@ use lib.Dec.{eqb, ltb}
 use borrow.Author.Tests.{eq-eqb, ne-eqb}
 use Rattle.words.specs.Bytes.{startsWith, sameBytes, upTo}
 use Rattle.words.specs.Characters.{arrow, characterOf}
-use Rattle.words.specs.Names.{keywords, keywordOf, numberAmong, numberIf, numberSignOf, name}
+use Rattle.words.specs.Names.{keywords, keywordOf, numberAmong, numberIf, hashKeywordOf, nameKind}
 use Rattle.words.specs.Signs.{signs, signAmong, signItem}
 use Rattle.words.specs.Tokens.{isWord, wordOf}
 use Rattle.words.specs.declared.Refusal.the-variants.{UnexpectedCharacter}
@@ -54,7 +54,7 @@ keyword-by [] a f h e k = absurd (omega arith)
 keyword-by (c ∷ w) a f h e k = sym (rw e (k w))
 
 -- A first byte that starts no keyword.
-pub keyword-none : (w : List ℕ) → 0 < length w → (getD w 0 0 ≡ 115 → ⊥) → (getD w 0 0 ≡ 99 → ⊥) → (getD w 0 0 ≡ 112 → ⊥) → (getD w 0 0 ≡ 114 → ⊥) → (getD w 0 0 ≡ 100 → ⊥) → (getD w 0 0 ≡ 116 → ⊥) → (getD w 0 0 ≡ 98 → ⊥) → (getD w 0 0 ≡ 97 → ⊥) → (getD w 0 0 ≡ 105 → ⊥) → (getD w 0 0 ≡ 35 → ⊥) → name ≡ keywordOf w
+pub keyword-none : (w : List ℕ) → 0 < length w → (getD w 0 0 ≡ 115 → ⊥) → (getD w 0 0 ≡ 99 → ⊥) → (getD w 0 0 ≡ 112 → ⊥) → (getD w 0 0 ≡ 114 → ⊥) → (getD w 0 0 ≡ 100 → ⊥) → (getD w 0 0 ≡ 116 → ⊥) → (getD w 0 0 ≡ 98 → ⊥) → (getD w 0 0 ≡ 97 → ⊥) → (getD w 0 0 ≡ 105 → ⊥) → (getD w 0 0 ≡ 35 → ⊥) → nameKind ≡ keywordOf w
 unfolding keywords keywordOf numberAmong sameBytes
 keyword-none [] h n0 n1 n2 n3 n4 n5 n6 n7 n8 n9 = absurd (omega arith)
 keyword-none (c ∷ w) h n0 n1 n2 n3 n4 n5 n6 n7 n8 n9 =

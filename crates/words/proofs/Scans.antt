@@ -10,7 +10,7 @@ use lib.Seq.{drop-cons, drop-drop, length-take-le}
 use lib.Dec.{eqb}
 use borrow.Author.Tests.{eq-eqb, ne-eqb, eqb-true}
 use Rattle.words.specs.Bytes.{startsWith, sameBytes, upTo}
-use Rattle.words.specs.Lines.{lines, lineOf, codeOf, before, atByte, endsCode}
+use Rattle.words.specs.Lines.{lines, lineOf, codeOf, endsCode}
 
 pub by-bool {ℓ} : {P : Type ℓ} (b : Bool) → (b ≡ true → P) → (b ≡ false → P) → P
 by-bool true f g = f refl

@@ -35,7 +35,7 @@ abbrev pub inDomain : ℕ → Reading → Reading
 inDomain zero r = r
 inDomain (suc n) r = refused OutsideDomain (suc n)
 
--- The reading of a text under a limit on its bytes, in the order of the table: 2, 3, 3, and then the Rust's `lex`.
+-- The reading of a text under a limit on its bytes, in the order of the table: 2, 3 for the whole text, 3 for a character, and then 4 to 6.
 unfoldable pub lexOf : ℕ → List ℕ → Reading
 lexOf limit text =
     cond (ltb limit (length text)) (refused TextLength 0)

@@ -9,4 +9,5 @@ pub mod Signs
 pub mod Tokens
 pub mod Refusals
 pub mod Lexer
+pub mod Rows
 pub mod Examples

@@ -6,18 +6,19 @@ use Prim.Native.Nat.{ℕ}
 use lib.Dec.{eqb}
 use Rattle.words.specs.Bytes.{startsWith, upTo}
 
--- c before the first of the lines.
-abbrev pub before : ℕ → List (List ℕ) → List (List ℕ)
-before c [] = (c ∷ []) ∷ []
-before c (l ∷ ls) = (c ∷ l) ∷ ls
+-- The byte c put before the first of the lines.
+abbrev pub prepend : ℕ → List (List ℕ) → List (List ℕ)
+prepend c [] = (c ∷ []) ∷ []
+prepend c (l ∷ ls) = (c ∷ l) ∷ ls
 
-abbrev pub atByte : ℕ → List (List ℕ) → List (List ℕ)
-atByte c ls = cond (eqb c 10) ([] ∷ ls) (before c ls)
+-- The lines of a text whose first byte is c, and whose other bytes make ls.
+abbrev pub lineByte : ℕ → List (List ℕ) → List (List ℕ)
+lineByte c ls = cond (eqb c 10) ([] ∷ ls) (prepend c ls)
 
 -- The lines of a text, without their line feeds. A text that ends in a line feed has no line after it.
 unfoldable pub lines : List ℕ → List (List ℕ)
 lines [] = []
-lines (c ∷ s) = atByte c (lines s)
+lines (c ∷ s) = lineByte c (lines s)
 
 -- The first line of a text.
 unfoldable pub lineOf : List ℕ → List ℕ

@@ -14,14 +14,14 @@ use Rattle.words.specs.declared.tokens.Item.{Item}
 use Rattle.words.specs.declared.tokens.Item.the-variants.{Blank, Token, Refused}
 
 -- The kinds of words: 1 to 11 are the keywords.
-abbrev pub name : ℕ
-name = 12
+abbrev pub nameKind : ℕ
+nameKind = 12
 
-abbrev pub metavariable : ℕ
-metavariable = 13
+abbrev pub metavariableKind : ℕ
+metavariableKind = 13
 
-abbrev pub numeral : ℕ
-numeral = 14
+abbrev pub numeralKind : ℕ
+numeralKind = 14
 
 -- sort ctor pred rule def theorem by auto induction #eval #check
 unfoldable pub keywords : List (List ℕ)
@@ -39,22 +39,22 @@ keywords =
     ∷ (35 ∷ 99 ∷ 104 ∷ 101 ∷ 99 ∷ 107 ∷ [])
     ∷ []
 
--- The number of the first of these words that is w, counted from k; `name` where none is.
+-- The number of the first of these words that is w, counted from k; the kind of a name where none is.
 unfoldable pub numberAmong : List (List ℕ) → ℕ → List ℕ → ℕ
-numberAmong [] k w = name
+numberAmong [] k w = nameKind
 numberAmong (v ∷ vs) k w = cond (sameBytes w v) k (numberAmong vs (suc k) w)
 
--- A keyword's number, or `name`.
+-- A keyword's number, or the kind of a name.
 unfoldable pub keywordOf : List ℕ → ℕ
 keywordOf w = numberAmong keywords 1 w
 
--- k where w is v, else `name`.
+-- k where w is v, else the kind of a name.
 abbrev pub numberIf : List ℕ → List ℕ → ℕ → ℕ
-numberIf w v k = cond (sameBytes w v) k name
+numberIf w v k = cond (sameBytes w v) k nameKind
 
--- The number of `#eval` or `#check`, or `name`.
-abbrev pub numberSignOf : List ℕ → ℕ
-numberSignOf w = cond (sameBytes w (35 ∷ 101 ∷ 118 ∷ 97 ∷ 108 ∷ [])) 10 (numberIf w (35 ∷ 99 ∷ 104 ∷ 101 ∷ 99 ∷ 107 ∷ []) 11)
+-- The number of `#eval` or `#check`, or the kind of a name.
+abbrev pub hashKeywordOf : List ℕ → ℕ
+hashKeywordOf w = cond (sameBytes w (35 ∷ 101 ∷ 118 ∷ 97 ∷ 108 ∷ [])) 10 (numberIf w (35 ∷ 99 ∷ 104 ∷ 101 ∷ 99 ∷ 107 ∷ []) 11)
 
 -- A numeral, if its value fits.
 abbrev pub ifFits : NumeralValue → Item → Item
@@ -65,6 +65,6 @@ ifFits TooLarge i = Refused NumeralTooLarge
 unfoldable pub wordItem : List ℕ → Item
 wordItem w =
     cond (ltb 64 (length w)) (Refused WordTooLong)
-    (cond (eqb (getD w 0 0) 63) (Token metavariable (length w))
-    (cond (allDigits w) (ifFits (numeralOf w) (Token numeral (length w)))
+    (cond (eqb (getD w 0 0) 63) (Token metavariableKind (length w))
+    (cond (allDigits w) (ifFits (numeralOf w) (Token numeralKind (length w)))
     (Token (keywordOf w) (length w))))

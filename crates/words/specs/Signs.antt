@@ -15,22 +15,22 @@ pub record Sign : Type 0 where
   pub kind : ℕ
   pub written : List ℕ
 
-abbrev pub sign : ℕ → List ℕ → Sign
-sign k w = record { kind = k; written = w }
+abbrev pub entry : ℕ → List ℕ → Sign
+entry k w = record { kind = k; written = w }
 
 -- -> => := → ( ) : , | =   in the order in which they are tried
 unfoldable pub signs : List Sign
 signs =
-    sign 15 (45 ∷ 62 ∷ [])
-    ∷ sign 16 (61 ∷ 62 ∷ [])
-    ∷ sign 17 (58 ∷ 61 ∷ [])
-    ∷ sign 15 arrow
-    ∷ sign 18 (40 ∷ [])
-    ∷ sign 19 (41 ∷ [])
-    ∷ sign 20 (58 ∷ [])
-    ∷ sign 21 (44 ∷ [])
-    ∷ sign 22 (124 ∷ [])
-    ∷ sign 23 (61 ∷ [])
+    entry 15 (45 ∷ 62 ∷ [])
+    ∷ entry 16 (61 ∷ 62 ∷ [])
+    ∷ entry 17 (58 ∷ 61 ∷ [])
+    ∷ entry 15 arrow
+    ∷ entry 18 (40 ∷ [])
+    ∷ entry 19 (41 ∷ [])
+    ∷ entry 20 (58 ∷ [])
+    ∷ entry 21 (44 ∷ [])
+    ∷ entry 22 (124 ∷ [])
+    ∷ entry 23 (61 ∷ [])
     ∷ []
 
 -- The token of the first of these signs with which s starts.

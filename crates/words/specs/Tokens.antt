@@ -1,19 +1,16 @@
--- The Rust's `lex`: line by line, from left to right, the comment cut off first.
+-- The Rust's `lex`, and 6 with it: line by line, from left to right, the comment cut off first.
 use mathlib.Core.Bool.{Bool, true, false, cond, not, _&&_, _||_}
 use mathlib.Core.List.{List, [], _∷_, _++_}
-use Prim.Native.Nat.{ℕ, zero, suc, _+_, _-_, _≤_}
-use mathlib.Core.Path.{_≡_}
+use Prim.Native.Nat.{ℕ, zero, suc, _+_, _-_}
 use lib.Dec.{eqb, ltb}
-use lib.ListN.{length, take}
+use lib.ListN.{length}
 use Rattle.words.specs.Bytes.{upTo}
-use Rattle.words.specs.Characters.{blank, letter, digit, sign, characterOf, hasOutside, classTable}
+use Rattle.words.specs.Characters.{blank, letter, digit, sign, characterOf, hasOutside}
 use Rattle.words.specs.Lines.{codeOf}
 use Rattle.words.specs.Names.{wordItem}
 use Rattle.words.specs.Signs.{signItem}
 use Rattle.words.specs.declared.Refusal.{Refusal}
 use Rattle.words.specs.declared.Refusal.the-variants.{UnexpectedCharacter}
-use Rattle.words.specs.declared.Lexed.{Lexed}
-use Rattle.words.specs.declared.Lexed.the-variants as lexed
 use Rattle.words.specs.declared.tokens.Item.{Item}
 use Rattle.words.specs.declared.tokens.Item.the-variants.{Blank, Token, Refused}
 
@@ -50,7 +47,7 @@ readItem Blank p n = tokens []
 readItem (Token kind m) p n = tokens ((kind ∷ p ∷ m ∷ n ∷ []) ∷ [])
 readItem (Refused r) p n = refused r n
 
--- How many bytes an item has.
+-- How many bytes an item has. (A refusal ends the reading, so its length is of no account.)
 abbrev pub itemLength : Item → ℕ
 itemLength Blank = 1
 itemLength (Token kind m) = m
@@ -71,24 +68,3 @@ readLines (l ∷ ls) p n = andThen (readAfter (codeOf l) 0 p n) (readLines ls (p
 unfoldable pub outsideLine : List (List ℕ) → ℕ → ℕ
 outsideLine [] n = 0
 outsideLine (l ∷ ls) n = cond (hasOutside (codeOf l)) n (outsideLine ls (n + 1))
-
--- What an inner reader owes: the rows before `count` are kept, and what it comes to, appended to them, is the reading; no token past `most`.
-abbrev pub outcome : Lexed → List (List ℕ) → Reading
-outcome (lexed.Tokens n) rows = tokens (take n rows)
-outcome (lexed.Refused r n) rows = refused r n
-
-abbrev pub countOf : Lexed → ℕ
-countOf (lexed.Tokens n) = n
-countOf (lexed.Refused r n) = 0
-
-pub record Read (reading : Reading) (most count : ℕ) (before : List (List ℕ)) (r : Lexed) (after : List (List ℕ)) : Type 0 where
-  pub reads : outcome r after ≡ andThen (tokens (take count before)) reading
-  pub fits : countOf r ≤ most
-  pub long : length after ≡ length before
-
--- What it asks: the class table, and room for one row for each byte.
-pub record Room (classes code : List ℕ) (start : ℕ) (rows : List (List ℕ)) (count : ℕ) : Type 0 where
-  pub table : classes ≡ classTable
-  pub below : count ≤ start
-  pub lent : start + length code ≤ length rows
-  pub small : start + length code ≤ 65536

@@ -45,7 +45,7 @@ tailsOf zero low high s = true
 tailsOf (suc n) low high [] = false
 tailsOf (suc n) low high (c ∷ s) = within low high c && tailsOf n 0x80 0xBF s
 
--- The length of the character at the start of s, 0 where there is none.
+-- The length of the character at the start of s, 0 where there is none. (A byte that starts no form has the length 0, and asks for no tails.)
 unfoldable pub characterLength : List ℕ → ℕ
 characterLength [] = 0
 characterLength (a ∷ s) = cond (tailsOf (leadOf a .length - 1) (leadOf a .low) (leadOf a .high) s) (leadOf a .length) 0

@@ -22,7 +22,7 @@ pub const OUTSIDE: u8 = 5;
 pub type Classes = [u8; 128];
 
 // The class of each of the 128 ASCII codes.
-pub const CLASS: Classes = [
+const CLASS: Classes = [
     NONE, // 0
     NONE, // 1
     NONE, // 2
@@ -154,14 +154,21 @@ pub const CLASS: Classes = [
 ];
 
 // → in UTF-8.
-pub const LONG_ARROW: [u8; 3] = [0xE2, 0x86, 0x92];
+pub const UNICODE_ARROW: [u8; 3] = [0xE2, 0x86, 0x92];
+
+// The class table, for the loops that read it.
+pub fn class_table() -> Classes
+    ensures { λ r. ⌜ r ≡ classTable ⌝ }
+{
+    CLASS
+}
 
 pub struct Character {
     pub class: u8,
     pub length: usize,
 }
 
-// The class of an ASCII code, from the table. It is lent, since a constant is laid out anew wherever it is named.
+// The class of an ASCII code. The table is lent, since a constant is laid out anew wherever it is named.
 fn class_of(classes: &Classes, c: u8) -> u8
     requires { ⌜ (now classes ≡ classTable) × (c < 128) ⌝ }
     ensures { λ r. ⌜ r ≡ classOf c ⌝ }
@@ -187,7 +194,7 @@ pub fn character_at(classes: &Classes, text: &[u8], at: usize) -> Character
             length: 1,
         };
     }
-    if starts_with(text, at, &LONG_ARROW) {
+    if starts_with(text, at, &UNICODE_ARROW) {
         return Character {
             class: SIGN,
             length: 3,

@@ -26,7 +26,7 @@ ghost use Prim.Native.Nat.{_+_, _-_, _≤_, _<_, min};
 ghost use lib.ListN.{length, take, drop, replicate};
 ghost use Rattle.words.specs.Refusals.{numberOf};
 ghost use Rattle.words.specs.Numerals.{numeralOf};
-ghost use Rattle.words.specs.Tokens.{Read};
+ghost use Rattle.words.specs.Rows.{Read};
 ghost use Rattle.words.specs.Lexer.{cappedOf, partOf, zeroRow, lexOf, Lexing};
 
 // The limits that a caller may set. A limit over the one of document 01 counts as that one.
@@ -61,7 +61,7 @@ pub enum Refusal {
     OutsideDomain,
     // 4: a character that starts no token, as a lone `-`.
     UnexpectedCharacter,
-    // 5: a numeral of 64 bits or more than holds in 64 bits, as 18446744073709551616.
+    // 5: a numeral of 2^64 or more, as 18446744073709551616.
     NumeralTooLarge,
     // 6: a word of more than 64 bytes.
     WordTooLong,

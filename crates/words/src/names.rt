@@ -8,7 +8,7 @@ use super::tokens::Item;
 ghost use mathlib.Core.Path.{_≡_};
 ghost use Prim.Native.Nat.{_<_};
 ghost use lib.ListN.{length};
-ghost use Rattle.words.specs.Names.{keywordOf, numberIf, numberSignOf, wordItem};
+ghost use Rattle.words.specs.Names.{keywordOf, numberIf, hashKeywordOf, wordItem};
 
 // The kinds of words past the eleven keywords.
 pub const NAME: u32 = 12;
@@ -31,8 +31,8 @@ fn number_if(w: &[u8], v: &[u8], k: u32) -> u32
 }
 
 // The number of a keyword that starts with `#`, or that of a name.
-fn number_sign(w: &[u8]) -> u32
-    ensures { λ r. ⌜ r ≡ numberSignOf (now (w .entry)) ⌝ }
+fn hash_keyword(w: &[u8]) -> u32
+    ensures { λ r. ⌜ r ≡ hashKeywordOf (now (w .entry)) ⌝ }
 {
     if same(w, b"#eval") {
         return 10;
@@ -56,7 +56,7 @@ fn keyword(w: &[u8]) -> u32
         b'b' => number_if(w, b"by", 7),
         b'a' => number_if(w, b"auto", 8),
         b'i' => number_if(w, b"induction", 9),
-        b'#' => number_sign(w),
+        b'#' => hash_keyword(w),
         _ => NAME,
     }
 }

@@ -2,7 +2,7 @@
 use super::Refusal;
 use super::bytes::byte;
 use super::bytes::starts_with;
-use super::characters::LONG_ARROW;
+use super::characters::UNICODE_ARROW;
 use super::tokens::Item;
 ghost use mathlib.Core.Path.{_≡_};
 ghost use Prim.Native.Nat.{_<_};
@@ -54,7 +54,7 @@ pub fn sign_item(line: &[u8], at: usize) -> Item
         b')' => Item::Token(CLOSE, 1),
         b',' => Item::Token(COMMA, 1),
         b'|' => Item::Token(BAR, 1),
-        _ => if starts_with(line, at, &LONG_ARROW) {
+        _ => if starts_with(line, at, &UNICODE_ARROW) {
             Item::Token(ARROW, 3)
         } else {
             Item::Refused(Refusal::UnexpectedCharacter)

@@ -2,12 +2,12 @@
 use super::Lexed;
 use super::Refusal;
 use super::characters::BLANK;
-use super::characters::CLASS;
 use super::characters::Classes;
 use super::characters::DIGIT;
 use super::characters::LETTER;
 use super::characters::SIGN;
 use super::characters::character_at;
+use super::characters::class_table;
 use super::characters::has_outside;
 use super::lines::code_end;
 use super::lines::line_end;
@@ -18,7 +18,8 @@ ghost use Prim.Native.Nat.{_+_, _≤_, _<_};
 ghost use lib.ListN.{length, take, drop};
 ghost use Rattle.words.specs.Characters.{classTable};
 ghost use Rattle.words.specs.Lines.{lines};
-ghost use Rattle.words.specs.Tokens.{isWord, wordOf, itemOf, readAfter, readLines, outsideLine, Room, Read};
+ghost use Rattle.words.specs.Rows.{Room, Read};
+ghost use Rattle.words.specs.Tokens.{isWord, wordOf, itemOf, readAfter, readLines, outsideLine};
 
 pub type Row = [u32; 4];
 
@@ -112,7 +113,7 @@ pub fn read_lines(text: &[u8], rows: &mut [Row]) -> Lexed
     requires { ⌜ (length (now text) ≤ 65536) × (length (now text) ≤ length (now rows)) ⌝ }
     ensures { λ r. ⌜ Read (readLines (lines (now (text .entry))) 0 1) (length (now (text .entry))) 0 (now (rows .entry)) r (now (rows .exit)) ⌝ }
 {
-    let classes = CLASS;
+    let classes = class_table();
     let mut at = 0;
     let mut number = 1;
     let mut count = 0;
@@ -134,7 +135,7 @@ pub fn outside_line(text: &[u8]) -> u32
     requires { ⌜ length (now text) ≤ 65536 ⌝ }
     ensures { λ r. ⌜ r ≡ outsideLine (lines (now (text .entry))) 1 ⌝ }
 {
-    let classes = CLASS;
+    let classes = class_table();
     let mut at = 0;
     let mut number = 1;
     while at < text.len() {

@@ -4,7 +4,7 @@ use Prim.Native.Nat.{ℕ, min, _≤_, _<_}
 use lib.ListN.{length, replicate, take}
 use borrow.Author.Tests.{lt-ltb, le-ltb}
 use Rattle.words.specs.Lexer.{lexOf, answerOf, rowsOf, zeroRow}
-use Rattle.words.specs.Tokens.{outcome, countOf}
+use Rattle.words.specs.Rows.{outcome, countOf}
 use Rattle.words.proofs.Readings.{then-nil, leaves}
 use native.Mathlib.Omega.{arith}
 use borrow.Author.Needs.{needs}
@@ -18,10 +18,22 @@ cast-limit : tie.Need-cast-limit
 cast-limit c = search needs
 
 returns : tie.Need-returns
-returns c = let e : (c .before .before .capped .result .text) ≡ min ((c .before .before .before .before .args .limits .text)) 65536 = ap (λ l. l .text) (c .before .before .capped .ensures) in record { answer = sym (simp (← e, lt-ltb _ _ (c .if1 .taken))); rows = sym (simp (← e, lt-ltb _ _ (c .if1 .taken))) }
+returns c =
+    let capped = c .before .before .capped in
+    let args = c .before .before .before .before .args in
+    let if1 = c .if1 in
+    let e : (capped .result .text) ≡ min ((args .limits .text)) 65536 = ap (λ l. l .text) (capped .ensures) in
+    record {
+      answer = sym (simp (← e, lt-ltb _ _ (if1 .taken)));
+      rows = sym (simp (← e, lt-ltb _ _ (if1 .taken)))
+    }
 
 read-requires : tie.Need-read-requires
-read-requires c κs = let e : (c .before .before .before .capped .result .text) ≡ min ((c .before .before .before .before .before .args .limits .text)) 65536 = ap (λ l. l .text) (c .before .before .before .capped .ensures) in (omega arith, omega arith)
+read-requires c κs =
+    let capped = c .before .before .before .capped in
+    let args = c .before .before .before .before .before .args in
+    let e : (capped .result .text) ≡ min ((args .limits .text)) 65536 = ap (λ l. l .text) (capped .ensures) in
+    (omega arith, omega arith)
 
 enum-known-r : tie.Need-enum-known-r
 enum-known-r c = search needs
@@ -36,16 +48,49 @@ same-length : tie.Need-same-length
 same-length c = (c .before .clear .kept .0) ∙ (c .before .before .before .before .before .before .read .ensures .long)
 
 returns-2 : tie.Need-returns-2
-returns-2 c = let e : (c .before .before .before .before .before .before .before .before .before .before .capped .result .text) ≡ min ((c .before .before .before .before .before .before .before .before .before .before .before .before .args .limits .text)) 65536 = ap (λ l. l .text) (c .before .before .before .before .before .before .before .before .before .before .capped .ensures) in let reads : outcome (c .before .before .before .before .before .before .read .result) (c .before .before .before .before .before .before .read .last .1 .1 .0) ≡ lexOf (c .before .before .before .before .before .before .before .before .before .before .capped .result .text) (c .before .before .before .before .before .before .before .before .before .before .before .before .args .text .now) = (c .before .before .before .before .before .before .read .ensures .reads) ∙ then-nil _ in let counted : countOf (c .before .before .before .before .before .before .read .result) ≡ 0 = ap countOf (c .before .before .before .enum-told .given .1) in let left : (((c .before .before .before .before .before .before .read .result) ≡ answerOf (outcome (c .before .before .before .before .before .before .read .result) (c .before .before .before .before .before .before .read .last .1 .1 .0))) × ((c .before .clear .last .0) ≡ rowsOf (length (c .before .before .before .before .before .before .before .before .before .before .before .before .args .tokens .now)) (outcome (c .before .before .before .before .before .before .read .result) (c .before .before .before .before .before .before .read .last .1 .1 .0)))) = leaves (length (c .before .before .before .before .before .before .before .before .before .before .before .before .args .tokens .now)) (c .before .before .before .before .before .before .read .last .1 .1 .0) (c .before .clear .last .0) (c .before .before .before .before .before .before .read .ensures .long) (c .before .before .before .before .before .before .read .result) (omega (arith, (c .before .before .before .before .before .before .read .ensures .fits), (c .before .before .before .before .before .before .before .before .if1 .left))) (rw counted (c .before .clear .ensures)) in record { answer = left .0 ∙ ap answerOf reads ∙ sym (simp (← e, le-ltb _ _ (c .before .before .before .before .before .before .before .before .if1 .left))); rows = left .1 ∙ ap (rowsOf (length (c .before .before .before .before .before .before .before .before .before .before .before .before .args .tokens .now))) reads ∙ sym (simp (← e, le-ltb _ _ (c .before .before .before .before .before .before .before .before .if1 .left))) }
+returns-2 c =
+    let capped = c .before .before .before .before .before .before .before .before .before .before .capped in
+    let args = c .before .before .before .before .before .before .before .before .before .before .before .before .args in
+    let read′ = c .before .before .before .before .before .before .read in
+    let enum-told = c .before .before .before .enum-told in
+    let clear = c .before .clear in
+    let if1 = c .before .before .before .before .before .before .before .before .if1 in
+    let e : (capped .result .text) ≡ min ((args .limits .text)) 65536 = ap (λ l. l .text) (capped .ensures) in
+    let reads : outcome (read′ .result) (read′ .last .1 .1 .0) ≡ lexOf (capped .result .text) (args .text .now) = (read′ .ensures .reads) ∙ then-nil _ in
+    let counted : countOf (read′ .result) ≡ 0 = ap countOf (enum-told .given .1) in
+    let left : (((read′ .result) ≡ answerOf (outcome (read′ .result) (read′ .last .1 .1 .0))) × ((clear .last .0) ≡ rowsOf (length (args .tokens .now)) (outcome (read′ .result) (read′ .last .1 .1 .0)))) = leaves (length (args .tokens .now)) (read′ .last .1 .1 .0) (clear .last .0) (read′ .ensures .long) (read′ .result) (omega (arith, (read′ .ensures .fits), (if1 .left))) (rw counted (clear .ensures)) in
+    record {
+      answer = left .0 ∙ ap answerOf reads ∙ sym (simp (← e, le-ltb _ _ (if1 .left)));
+      rows = left .1 ∙ ap (rowsOf (length (args .tokens .now))) reads ∙ sym (simp (← e, le-ltb _ _ (if1 .left)))
+    }
 
 clear-requires-2 : tie.Need-clear-requires-2
-clear-requires-2 c κs = let counted : countOf (c .before .before .before .before .before .read .result) ≡ (c .before .before .r .given .0 .0) = ap countOf (c .before .before .r .given .1) in omega (arith, (c .before .before .before .before .before .read .ensures .fits), (c .before .before .before .before .before .read .ensures .long), (c .before .before .before .before .before .before .before .if1 .left))
+clear-requires-2 c κs =
+    let read′ = c .before .before .before .before .before .read in
+    let r′ = c .before .before .r in
+    let if1 = c .before .before .before .before .before .before .before .if1 in
+    let counted : countOf (read′ .result) ≡ (r′ .given .0 .0) = ap countOf (r′ .given .1) in
+    omega (arith, (read′ .ensures .fits), (read′ .ensures .long), (if1 .left))
 
 same-length-2 : tie.Need-same-length-2
 same-length-2 c = (c .before .clear2 .kept .0) ∙ (c .before .before .before .before .before .before .before .read .ensures .long)
 
 returns-3 : tie.Need-returns-3
-returns-3 c = let e : (c .before .before .before .before .before .before .before .before .before .before .before .capped .result .text) ≡ min ((c .before .before .before .before .before .before .before .before .before .before .before .before .before .args .limits .text)) 65536 = ap (λ l. l .text) (c .before .before .before .before .before .before .before .before .before .before .before .capped .ensures) in let reads : outcome (c .before .before .before .before .before .before .before .read .result) (c .before .before .before .before .before .before .before .read .last .1 .1 .0) ≡ lexOf (c .before .before .before .before .before .before .before .before .before .before .before .capped .result .text) (c .before .before .before .before .before .before .before .before .before .before .before .before .before .args .text .now) = (c .before .before .before .before .before .before .before .read .ensures .reads) ∙ then-nil _ in let counted : countOf (c .before .before .before .before .before .before .before .read .result) ≡ (c .before .before .before .before .r .given .0 .0) = ap countOf (c .before .before .before .before .r .given .1) in let left : (((c .before .before .before .before .before .before .before .read .result) ≡ answerOf (outcome (c .before .before .before .before .before .before .before .read .result) (c .before .before .before .before .before .before .before .read .last .1 .1 .0))) × ((c .before .clear2 .last .0) ≡ rowsOf (length (c .before .before .before .before .before .before .before .before .before .before .before .before .before .args .tokens .now)) (outcome (c .before .before .before .before .before .before .before .read .result) (c .before .before .before .before .before .before .before .read .last .1 .1 .0)))) = leaves (length (c .before .before .before .before .before .before .before .before .before .before .before .before .before .args .tokens .now)) (c .before .before .before .before .before .before .before .read .last .1 .1 .0) (c .before .clear2 .last .0) (c .before .before .before .before .before .before .before .read .ensures .long) (c .before .before .before .before .before .before .before .read .result) (omega (arith, (c .before .before .before .before .before .before .before .read .ensures .fits), (c .before .before .before .before .before .before .before .before .before .if1 .left))) (rw counted (c .before .clear2 .ensures)) in record { answer = sym (c .before .before .before .before .r .given .1) ∙ left .0 ∙ ap answerOf reads ∙ sym (simp (← e, le-ltb _ _ (c .before .before .before .before .before .before .before .before .before .if1 .left))); rows = left .1 ∙ ap (rowsOf (length (c .before .before .before .before .before .before .before .before .before .before .before .before .before .args .tokens .now))) reads ∙ sym (simp (← e, le-ltb _ _ (c .before .before .before .before .before .before .before .before .before .if1 .left))) }
+returns-3 c =
+    let capped = c .before .before .before .before .before .before .before .before .before .before .before .capped in
+    let args = c .before .before .before .before .before .before .before .before .before .before .before .before .before .args in
+    let read′ = c .before .before .before .before .before .before .before .read in
+    let r′ = c .before .before .before .before .r in
+    let clear2 = c .before .clear2 in
+    let if1 = c .before .before .before .before .before .before .before .before .before .if1 in
+    let e : (capped .result .text) ≡ min ((args .limits .text)) 65536 = ap (λ l. l .text) (capped .ensures) in
+    let reads : outcome (read′ .result) (read′ .last .1 .1 .0) ≡ lexOf (capped .result .text) (args .text .now) = (read′ .ensures .reads) ∙ then-nil _ in
+    let counted : countOf (read′ .result) ≡ (r′ .given .0 .0) = ap countOf (r′ .given .1) in
+    let left : (((read′ .result) ≡ answerOf (outcome (read′ .result) (read′ .last .1 .1 .0))) × ((clear2 .last .0) ≡ rowsOf (length (args .tokens .now)) (outcome (read′ .result) (read′ .last .1 .1 .0)))) = leaves (length (args .tokens .now)) (read′ .last .1 .1 .0) (clear2 .last .0) (read′ .ensures .long) (read′ .result) (omega (arith, (read′ .ensures .fits), (if1 .left))) (rw counted (clear2 .ensures)) in
+    record {
+      answer = sym (r′ .given .1) ∙ left .0 ∙ ap answerOf reads ∙ sym (simp (← e, le-ltb _ _ (if1 .left)));
+      rows = left .1 ∙ ap (rowsOf (length (args .tokens .now))) reads ∙ sym (simp (← e, le-ltb _ _ (if1 .left)))
+    }
 
 pub lex-spec : {M : Type 1} → statement M
 lex-spec =

@@ -4,7 +4,7 @@ use mathlib.Core.List.{List, [], _∷_}
 use Prim.Native.Nat.{ℕ}
 use borrow.Author.Tests.{ne-eqb}
 use Rattle.words.specs.Bytes.{sameBytes}
-use Rattle.words.specs.Names.{keywords, keywordOf, numberAmong, numberIf, numberSignOf, name}
+use Rattle.words.specs.Names.{keywords, keywordOf, numberAmong, numberIf, hashKeywordOf, nameKind}
 use Rattle.words.proofs.Items.{keyword-by, keyword-none}
 use borrow.Author.Needs.{needs}
 use Rattle.words.proofs.names.keyword.Statement.{statement}
@@ -67,8 +67,8 @@ slice-aggregate-number-if-9 c = search needs
 number-if-requires-9 : tie.Need-number-if-requires-9
 number-if-requires-9 c κs = search needs
 
-number-sign-requires : tie.Need-number-sign-requires
-number-sign-requires c κs = search needs
+hash-keyword-requires : tie.Need-hash-keyword-requires
+hash-keyword-requires c κs = search needs
 
 returns : tie.Need-returns
 unfolding keywords keywordOf numberAmong sameBytes
@@ -108,7 +108,7 @@ returns-9 c = (c .number-if9 .ensures) ∙ keyword-by (c .before .before .before
 
 returns-10 : tie.Need-returns-10
 unfolding keywords keywordOf numberAmong sameBytes
-returns-10 c = (c .number-sign .ensures) ∙ keyword-by (c .before .before .before .before .args .w .now) 35 numberSignOf (c .before .before .before .before .pre) (c .before .match .keys10) (λ t. refl)
+returns-10 c = (c .hash-keyword .ensures) ∙ keyword-by (c .before .before .before .before .args .w .now) 35 hashKeywordOf (c .before .before .before .before .pre) (c .before .match .keys10) (λ t. refl)
 
 returns-11 : tie.Need-returns-11
 returns-11 c = keyword-none (c .before .before .before .args .w .now) (c .before .before .before .pre) ((c .match .rest .0 .0 .0 .0 .0 .0 .0 .0 .0 .1)) ((c .match .rest .0 .0 .0 .0 .0 .0 .0 .0 .1)) ((c .match .rest .0 .0 .0 .0 .0 .0 .0 .1)) ((c .match .rest .0 .0 .0 .0 .0 .0 .1)) ((c .match .rest .0 .0 .0 .0 .0 .1)) ((c .match .rest .0 .0 .0 .0 .1)) ((c .match .rest .0 .0 .0 .1)) ((c .match .rest .0 .0 .1)) ((c .match .rest .0 .1)) ((c .match .rest .1))
@@ -136,7 +136,7 @@ keyword-spec =
     number-if-requires-8
     slice-aggregate-number-if-9
     number-if-requires-9
-    number-sign-requires
+    hash-keyword-requires
     returns
     returns-2
     returns-3

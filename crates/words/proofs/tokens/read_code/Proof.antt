@@ -36,7 +36,14 @@ loop-less : tie.Need-loop-less Inv-loop μ-loop
 loop-less c = search needs
 
 loop-again : tie.Need-loop-again Inv-loop μ-loop
-loop-again c = (omega arith, omega (arith, (c .before .before .before .before .loop .inv)), (c .before .before .before .before .loop .inv .2), (c .before .before .before .before .loop .inv .3) ∙ read-blank (c .before .before .before .before .before .before .args .code .now) (c .before .before .before .before .loop .at) (c .before .before .before .before .before .before .args .start) (c .before .before .before .before .before .before .args .number) _ (c .before .before .before .loop-test .taken) (sym (c .enum-told .given .1) ∙ (c .before .before .item-at .ensures)))
+loop-again c =
+    let loop = c .before .before .before .before .loop in
+    let args = c .before .before .before .before .before .before .args in
+    let loop-test = c .before .before .before .loop-test in
+    let enum-told = c .enum-told in
+    let item-at = c .before .before .item-at in
+    (omega arith, omega (arith, (loop .inv)), (loop .inv .2), (loop .inv .3)
+        ∙ read-blank (args .code .now) (loop .at) (args .start) (args .number) _ (loop-test .taken) (sym (enum-told .given .1) ∙ (item-at .ensures)))
 
 enum-known-kind : tie.Need-enum-known-kind Inv-loop μ-loop
 enum-known-kind c = search needs
@@ -48,7 +55,16 @@ cast-place : tie.Need-cast-place Inv-loop μ-loop
 cast-place c = omega (arith, (c .before .before .before .before .before .before .before .pre .small))
 
 cast-size : tie.Need-cast-size Inv-loop μ-loop
-cast-size c = let w : (0 < (c .before .kind .given .0 .1 .0)) × ((c .before .before .before .before .before .loop .at) + (c .before .kind .given .0 .1 .0) ≤ length (c .before .before .before .before .before .before .before .args .code .now)) = item-within (c .before .before .before .before .before .before .before .args .code .now) (c .before .before .before .before .before .loop .at) (c .before .before .before .before .before .before .before .args .start) (c .before .before .before .before .before .before .before .args .number) (Token (c .before .kind .given .0 .0) (c .before .kind .given .0 .1 .0)) (c .before .before .before .before .loop-test .taken) (sym (c .before .kind .given .1) ∙ (c .before .before .before .item-at .ensures)) in omega (arith, (c .before .before .before .before .before .before .before .pre .small))
+cast-size c =
+    let kind = c .before .kind in
+    let loop = c .before .before .before .before .before .loop in
+    let args = c .before .before .before .before .before .before .before .args in
+    let loop-test = c .before .before .before .before .loop-test in
+    let item-at = c .before .before .before .item-at in
+    let pre = c .before .before .before .before .before .before .before .pre in
+    let w : (0 < (kind .given .0 .1 .0)) × ((loop .at) + (kind .given .0 .1 .0) ≤ length (args .code .now)) = item-within (args .code .now) (loop .at) (args .start) (args .number) (Token (kind .given .0 .0) (kind .given .0 .1 .0)) (loop-test .taken) (sym (kind .given .1)
+        ∙ (item-at .ensures)) in
+    omega (arith, (pre .small))
 
 mul-t17 : tie.Need-mul-t17 Inv-loop μ-loop
 mul-t17 c = search needs
@@ -60,13 +76,42 @@ add-n : tie.Need-add-n Inv-loop μ-loop
 add-n c = omega (arith, (c .before .before .before .before .before .before .before .pre .small), (c .before .before .before .before .before .loop .inv))
 
 add-at-2 : tie.Need-add-at-2 Inv-loop μ-loop
-add-at-2 c = let w : (0 < (c .before .kind .given .0 .1 .0)) × ((c .before .before .before .before .before .loop .at) + (c .before .kind .given .0 .1 .0) ≤ length (c .before .before .before .before .before .before .before .args .code .now)) = item-within (c .before .before .before .before .before .before .before .args .code .now) (c .before .before .before .before .before .loop .at) (c .before .before .before .before .before .before .before .args .start) (c .before .before .before .before .before .before .before .args .number) (Token (c .before .kind .given .0 .0) (c .before .kind .given .0 .1 .0)) (c .before .before .before .before .loop-test .taken) (sym (c .before .kind .given .1) ∙ (c .before .before .before .item-at .ensures)) in omega (arith, (c .before .before .before .before .before .before .before .pre .small))
+add-at-2 c =
+    let kind = c .before .kind in
+    let loop = c .before .before .before .before .before .loop in
+    let args = c .before .before .before .before .before .before .before .args in
+    let loop-test = c .before .before .before .before .loop-test in
+    let item-at = c .before .before .before .item-at in
+    let pre = c .before .before .before .before .before .before .before .pre in
+    let w : (0 < (kind .given .0 .1 .0)) × ((loop .at) + (kind .given .0 .1 .0) ≤ length (args .code .now)) = item-within (args .code .now) (loop .at) (args .start) (args .number) (Token (kind .given .0 .0) (kind .given .0 .1 .0)) (loop-test .taken) (sym (kind .given .1)
+        ∙ (item-at .ensures)) in
+    omega (arith, (pre .small))
 
 loop-less-2 : tie.Need-loop-less-2 Inv-loop μ-loop
-loop-less-2 c = let w : (0 < (c .before .kind .given .0 .1 .0)) × ((c .before .before .before .before .before .loop .at) + (c .before .kind .given .0 .1 .0) ≤ length (c .before .before .before .before .before .before .before .args .code .now)) = item-within (c .before .before .before .before .before .before .before .args .code .now) (c .before .before .before .before .before .loop .at) (c .before .before .before .before .before .before .before .args .start) (c .before .before .before .before .before .before .before .args .number) (Token (c .before .kind .given .0 .0) (c .before .kind .given .0 .1 .0)) (c .before .before .before .before .loop-test .taken) (sym (c .before .kind .given .1) ∙ (c .before .before .before .item-at .ensures)) in omega arith
+loop-less-2 c =
+    let kind = c .before .kind in
+    let loop = c .before .before .before .before .before .loop in
+    let args = c .before .before .before .before .before .before .before .args in
+    let loop-test = c .before .before .before .before .loop-test in
+    let item-at = c .before .before .before .item-at in
+    let w : (0 < (kind .given .0 .1 .0)) × ((loop .at) + (kind .given .0 .1 .0) ≤ length (args .code .now)) = item-within (args .code .now) (loop .at) (args .start) (args .number) (Token (kind .given .0 .0) (kind .given .0 .1 .0)) (loop-test .taken) (sym (kind .given .1)
+        ∙ (item-at .ensures)) in
+    omega arith
 
 loop-again-2 : tie.Need-loop-again-2 Inv-loop μ-loop
-loop-again-2 c = let w : (0 < (c .before .kind .given .0 .1 .0)) × ((c .before .before .before .before .before .loop .at) + (c .before .kind .given .0 .1 .0) ≤ length (c .before .before .before .before .before .before .before .args .code .now)) = item-within (c .before .before .before .before .before .before .before .args .code .now) (c .before .before .before .before .before .loop .at) (c .before .before .before .before .before .before .before .args .start) (c .before .before .before .before .before .before .before .args .number) (Token (c .before .kind .given .0 .0) (c .before .kind .given .0 .1 .0)) (c .before .before .before .before .loop-test .taken) (sym (c .before .kind .given .1) ∙ (c .before .before .before .item-at .ensures)) in let room : (c .before .before .before .before .before .loop .n) < length (c .before .before .before .before .before .loop .rows) = omega (arith, (c .before .before .before .before .before .before .before .pre .lent), (c .before .before .before .before .before .loop .inv)) in (omega arith, omega (arith, (c .before .before .before .before .before .loop .inv)), simp length-set (c .before .before .before .before .before .loop .inv .2), (c .before .before .before .before .before .loop .inv .3) ∙ read-token (c .before .before .before .before .before .before .before .args .code .now) (c .before .before .before .before .before .loop .at) (c .before .before .before .before .before .before .before .args .start) (c .before .before .before .before .before .before .before .args .number) (take (c .before .before .before .before .before .loop .n) (c .before .before .before .before .before .loop .rows)) (c .before .before .before .before .loop-test .taken) (c .before .kind .given .0 .0) (c .before .kind .given .0 .1 .0) (sym (c .before .kind .given .1) ∙ (c .before .before .before .item-at .ensures)) ∙ ap (λ ts. andThen (tokens ts) (readAfter (drop ((c .before .before .before .before .before .loop .at) + (c .before .kind .given .0 .1 .0)) (c .before .before .before .before .before .before .before .args .code .now)) 0 ((c .before .before .before .before .before .before .before .args .start) + ((c .before .before .before .before .before .loop .at) + (c .before .kind .given .0 .1 .0))) (c .before .before .before .before .before .before .before .args .number))) (sym (push-row (c .before .before .before .before .before .loop .rows) (c .before .before .before .before .before .loop .n) ((c .before .kind .given .0 .0) ∷ ((c .before .before .before .before .before .before .before .args .start) + (c .before .before .before .before .before .loop .at)) ∷ (c .before .kind .given .0 .1 .0) ∷ (c .before .before .before .before .before .before .before .args .number) ∷ []) room)))
+loop-again-2 c =
+    let kind = c .before .kind in
+    let loop = c .before .before .before .before .before .loop in
+    let args = c .before .before .before .before .before .before .before .args in
+    let loop-test = c .before .before .before .before .loop-test in
+    let item-at = c .before .before .before .item-at in
+    let pre = c .before .before .before .before .before .before .before .pre in
+    let w : (0 < (kind .given .0 .1 .0)) × ((loop .at) + (kind .given .0 .1 .0) ≤ length (args .code .now)) = item-within (args .code .now) (loop .at) (args .start) (args .number) (Token (kind .given .0 .0) (kind .given .0 .1 .0)) (loop-test .taken) (sym (kind .given .1)
+        ∙ (item-at .ensures)) in
+    let room : (loop .n) < length (loop .rows) = omega (arith, (pre .lent), (loop .inv)) in
+    (omega arith, omega (arith, (loop .inv)), simp length-set (loop .inv .2), (loop .inv .3)
+        ∙ read-token (args .code .now) (loop .at) (args .start) (args .number) (take (loop .n) (loop .rows)) (loop-test .taken) (kind .given .0 .0) (kind .given .0 .1 .0) (sym (kind .given .1) ∙ (item-at .ensures))
+        ∙ ap (λ ts. andThen (tokens ts) (readAfter (drop ((loop .at) + (kind .given .0 .1 .0)) (args .code .now)) 0 ((args .start) + ((loop .at) + (kind .given .0 .1 .0))) (args .number))) (sym (push-row (loop .rows) (loop .n) ((kind .given .0 .0) ∷ ((args .start) + (loop .at)) ∷ (kind .given .0 .1 .0) ∷ (args .number) ∷ []) room)))
 
 enum-known-r : tie.Need-enum-known-r Inv-loop μ-loop
 enum-known-r c = search needs
@@ -75,13 +120,32 @@ same-length : tie.Need-same-length Inv-loop μ-loop
 same-length c = (c .before .before .before .before .before .loop .inv .2)
 
 returns : tie.Need-returns Inv-loop μ-loop
-returns c = record { reads = sym ((c .before .before .before .before .before .loop .inv .3) ∙ read-refused (c .before .before .before .before .before .before .before .args .code .now) (c .before .before .before .before .before .loop .at) (c .before .before .before .before .before .before .before .args .start) (c .before .before .before .before .before .before .before .args .number) (take (c .before .before .before .before .before .loop .n) (c .before .before .before .before .before .loop .rows)) (c .before .before .before .before .loop-test .taken) (c .before .r .given .0 .0) (sym (c .before .r .given .1) ∙ (c .before .before .before .item-at .ensures))); fits = omega arith; long = (c .before .before .before .before .before .loop .inv .2) }
+returns c =
+    let loop = c .before .before .before .before .before .loop in
+    let args = c .before .before .before .before .before .before .before .args in
+    let loop-test = c .before .before .before .before .loop-test in
+    let r′ = c .before .r in
+    let item-at = c .before .before .before .item-at in
+    record {
+      reads = sym ((loop .inv .3)
+          ∙ read-refused (args .code .now) (loop .at) (args .start) (args .number) (take (loop .n) (loop .rows)) (loop-test .taken) (r′ .given .0 .0) (sym (r′ .given .1) ∙ (item-at .ensures)));
+      fits = omega arith;
+      long = (loop .inv .2)
+    }
 
 same-length-2 : tie.Need-same-length-2 Inv-loop μ-loop
 same-length-2 c = (c .before .loop .inv .2)
 
 returns-2 : tie.Need-returns-2 Inv-loop μ-loop
-returns-2 c = record { reads = sym ((c .before .loop .inv .3) ∙ read-end (c .before .before .before .args .code .now) (c .before .loop .at) (c .before .before .before .args .start) (c .before .before .before .args .number) (take (c .before .loop .n) (c .before .loop .rows)) (c .loop-test .left)); fits = omega (arith, (c .before .loop .inv)); long = (c .before .loop .inv .2) }
+returns-2 c =
+    let loop = c .before .loop in
+    let args = c .before .before .before .args in
+    let loop-test = c .loop-test in
+    record {
+      reads = sym ((loop .inv .3) ∙ read-end (args .code .now) (loop .at) (args .start) (args .number) (take (loop .n) (loop .rows)) (loop-test .left));
+      fits = omega (arith, (loop .inv));
+      long = (loop .inv .2)
+    }
 
 pub read-code-spec : {M : Type 1} → statement M
 read-code-spec =

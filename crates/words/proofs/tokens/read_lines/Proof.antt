@@ -4,10 +4,9 @@ use mathlib.Core.Path.{_≡_, refl, sym, ap, _∙_}
 use mathlib.Core.List.{[], _∷_, _++_}
 use Prim.Native.Nat.{ℕ, _≤_, _<_, _-_, _+_}
 use lib.ListN.{length, drop, take}
-use Rattle.words.specs.Bytes.{oneOf}
-use Rattle.words.specs.Characters.{classTable, classesFrom, classOf}
 use Rattle.words.specs.Lines.{lines}
-use Rattle.words.specs.Tokens.{Reading, andThen, readAfter, readLines, outcome, countOf}
+use Rattle.words.specs.Tokens.{Reading, andThen, readAfter, readLines}
+use Rattle.words.specs.Rows.{outcome, countOf}
 use Rattle.words.specs.Tokens.Reading.{tokens, refused}
 use Rattle.words.proofs.Scans.{code-fits, part-long, code-within, line-within}
 use Rattle.words.proofs.Readings.{then-nil, then-end, line-read, lines-past, stopped}
@@ -22,6 +21,9 @@ Inv-loop text rows₀ classes at₀ number₀ count₀ rows at number count = (n
 abbrev μ-loop : tie.MeasureT-loop
 μ-loop text rows₀ classes at₀ number₀ count₀ rows at number count = length text + 1 - at
 
+class-table-requires : tie.Need-class-table-requires Inv-loop μ-loop
+class-table-requires c κs = search needs
+
 loop-holds : tie.Need-loop-holds Inv-loop μ-loop
 loop-holds c = (search needs, search needs, search needs, refl, sym (then-nil _))
 
@@ -29,17 +31,32 @@ code-end-requires : tie.Need-code-end-requires Inv-loop μ-loop
 code-end-requires c κs = search needs
 
 sub-read-code : tie.Need-sub-read-code Inv-loop μ-loop
-sub-read-code c = omega (arith, code-fits (c .before .before .before .before .before .args .text .now) (c .before .before .before .loop .at) (c .before .code-end .result) (c .before .before .loop-test .taken) (c .before .code-end .ensures))
+sub-read-code c =
+    omega (arith, code-fits (c .before .before .before .before .before .before .args .text .now) (c .before .before .before .loop .at) (c .before .code-end .result) (c .before .before .loop-test .taken) (c .before .code-end .ensures))
 
 part-read-code-start : tie.Need-part-read-code-start Inv-loop μ-loop
-part-read-code-start c = omega (arith, code-fits (c .before .before .before .before .before .args .text .now) (c .before .before .before .loop .at) (c .before .code-end .result) (c .before .before .loop-test .taken) (c .before .code-end .ensures))
+part-read-code-start c =
+    omega (arith, code-fits (c .before .before .before .before .before .before .args .text .now) (c .before .before .before .loop .at) (c .before .code-end .result) (c .before .before .loop-test .taken) (c .before .code-end .ensures))
 
 part-read-code-end : tie.Need-part-read-code-end Inv-loop μ-loop
-part-read-code-end c = omega (arith, code-fits (c .before .before .before .before .before .args .text .now) (c .before .before .before .loop .at) (c .before .code-end .result) (c .before .before .loop-test .taken) (c .before .code-end .ensures))
+part-read-code-end c =
+    omega (arith, code-fits (c .before .before .before .before .before .before .args .text .now) (c .before .before .before .loop .at) (c .before .code-end .result) (c .before .before .loop-test .taken) (c .before .code-end .ensures))
 
 read-code-requires : tie.Need-read-code-requires Inv-loop μ-loop
-unfolding classTable classesFrom classOf oneOf
-read-code-requires c κs = let long : length (take ((c .before .before .before .code-end .result) - (c .before .before .before .before .before .loop .at)) (drop (c .before .before .before .before .before .loop .at) (c .before .before .before .before .before .before .before .args .text .now))) ≡ (c .before .before .before .code-end .result) - (c .before .before .before .before .before .loop .at) = part-long (c .before .before .before .before .before .before .before .args .text .now) (c .before .before .before .before .before .loop .at) (c .before .before .before .code-end .result) (code-fits (c .before .before .before .before .before .before .before .args .text .now) (c .before .before .before .before .before .loop .at) (c .before .before .before .code-end .result) (c .before .before .before .before .loop-test .taken) (c .before .before .before .code-end .ensures)) in record { table = refl; below = (c .before .before .before .before .before .loop .inv .1); lent = omega (arith, (c .before .before .before .before .before .before .before .pre), (c .before .before .before .before .before .loop .inv), code-fits (c .before .before .before .before .before .before .before .args .text .now) (c .before .before .before .before .before .loop .at) (c .before .before .before .code-end .result) (c .before .before .before .before .loop-test .taken) (c .before .before .before .code-end .ensures)); small = omega (arith, (c .before .before .before .before .before .before .before .pre), code-fits (c .before .before .before .before .before .before .before .args .text .now) (c .before .before .before .before .before .loop .at) (c .before .before .before .code-end .result) (c .before .before .before .before .loop-test .taken) (c .before .before .before .code-end .ensures)) }
+read-code-requires c κs =
+    let code-end = c .before .before .before .code-end in
+    let loop = c .before .before .before .before .before .loop in
+    let args = c .before .before .before .before .before .before .before .before .args in
+    let loop-test = c .before .before .before .before .loop-test in
+    let class-table = c .before .before .before .before .before .before .class-table in
+    let pre = c .before .before .before .before .before .before .before .before .pre in
+    let long : length (take ((code-end .result) - (loop .at)) (drop (loop .at) (args .text .now))) ≡ (code-end .result) - (loop .at) = part-long (args .text .now) (loop .at) (code-end .result) (code-fits (args .text .now) (loop .at) (code-end .result) (loop-test .taken) (code-end .ensures)) in
+    record {
+      table = (class-table .ensures);
+      below = (loop .inv .1);
+      lent = omega (arith, pre, (loop .inv), code-fits (args .text .now) (loop .at) (code-end .result) (loop-test .taken) (code-end .ensures));
+      small = omega (arith, pre, code-fits (args .text .now) (loop .at) (code-end .result) (loop-test .taken) (code-end .ensures))
+    }
 
 enum-known-read : tie.Need-enum-known-read Inv-loop μ-loop
 enum-known-read c = search needs
@@ -51,29 +68,83 @@ same-length : tie.Need-same-length Inv-loop μ-loop
 same-length c = (c .before .before .before .read-code .ensures .long) ∙ (c .before .before .before .before .before .before .before .before .before .loop .inv .3)
 
 returns : tie.Need-returns Inv-loop μ-loop
-returns c = let long : length (take ((c .before .before .before .before .before .before .before .code-end .result) - (c .before .before .before .before .before .before .before .before .before .loop .at)) (drop (c .before .before .before .before .before .before .before .before .before .loop .at) (c .before .before .before .before .before .before .before .before .before .before .before .args .text .now))) ≡ (c .before .before .before .before .before .before .before .code-end .result) - (c .before .before .before .before .before .before .before .before .before .loop .at) = part-long (c .before .before .before .before .before .before .before .before .before .before .before .args .text .now) (c .before .before .before .before .before .before .before .before .before .loop .at) (c .before .before .before .before .before .before .before .code-end .result) (code-fits (c .before .before .before .before .before .before .before .before .before .before .before .args .text .now) (c .before .before .before .before .before .before .before .before .before .loop .at) (c .before .before .before .before .before .before .before .code-end .result) (c .before .before .before .before .before .before .before .before .loop-test .taken) (c .before .before .before .before .before .before .before .code-end .ensures)) in record { reads = sym (then-nil _ ∙ line-read (c .before .before .before .before .before .before .before .before .before .before .before .args .text .now) (c .before .before .before .before .before .before .before .before .before .loop .at) (c .before .before .before .before .before .before .before .code-end .result) _ (c .before .before .before .before .before .before .before .before .before .loop .number) (c .before .before .before .before .before .before .before .before .loop-test .taken) (c .before .before .before .before .before .before .before .code-end .ensures) refl _ (take (c .before .before .before .before .before .before .before .before .before .loop .count) (c .before .before .before .before .before .before .before .before .before .loop .rows)) (outcome (c .before .before .before .read-code .result) (c .before .before .before .read-code .last .1 .1 .1 .1 .0)) (c .before .before .before .before .before .before .before .before .before .loop .inv .4) (c .before .before .before .read-code .ensures .reads) ∙ stopped (c .before .before .before .read-code .result) (c .before .before .before .read-code .last .1 .1 .1 .1 .0) _ _ _ (c .enum-told .given .1)); fits = omega (arith, (c .before .before .before .read-code .ensures .fits), code-fits (c .before .before .before .before .before .before .before .before .before .before .before .args .text .now) (c .before .before .before .before .before .before .before .before .before .loop .at) (c .before .before .before .before .before .before .before .code-end .result) (c .before .before .before .before .before .before .before .before .loop-test .taken) (c .before .before .before .before .before .before .before .code-end .ensures)); long = (c .before .before .before .read-code .ensures .long) ∙ (c .before .before .before .before .before .before .before .before .before .loop .inv .3) }
+returns c =
+    let code-end = c .before .before .before .before .before .before .before .code-end in
+    let loop = c .before .before .before .before .before .before .before .before .before .loop in
+    let args = c .before .before .before .before .before .before .before .before .before .before .before .before .args in
+    let loop-test = c .before .before .before .before .before .before .before .before .loop-test in
+    let read-code = c .before .before .before .read-code in
+    let enum-told = c .enum-told in
+    let long : length (take ((code-end .result) - (loop .at)) (drop (loop .at) (args .text .now))) ≡ (code-end .result) - (loop .at) = part-long (args .text .now) (loop .at) (code-end .result) (code-fits (args .text .now) (loop .at) (code-end .result) (loop-test .taken) (code-end .ensures)) in
+    record {
+      reads = sym (then-nil _
+          ∙ line-read (args .text .now) (loop .at) (code-end .result) _ (loop .number) (loop-test .taken) (code-end .ensures) refl _ (take (loop .count) (loop .rows)) (outcome (read-code .result) (read-code .last .1 .1 .1 .1 .0)) (loop .inv .4) (read-code .ensures .reads)
+          ∙ stopped (read-code .result) (read-code .last .1 .1 .1 .1 .0) _ _ _ (enum-told .given .1));
+      fits = omega (arith, (read-code .ensures .fits), code-fits (args .text .now) (loop .at) (code-end .result) (loop-test .taken) (code-end .ensures));
+      long = (read-code .ensures .long) ∙ (loop .inv .3)
+    }
 
 line-end-requires : tie.Need-line-end-requires Inv-loop μ-loop
-line-end-requires c κs = omega (arith, code-fits (c .before .before .before .before .before .before .before .before .before .before .before .before .args .text .now) (c .before .before .before .before .before .before .before .before .before .before .loop .at) (c .before .before .before .before .before .before .before .before .code-end .result) (c .before .before .before .before .before .before .before .before .before .loop-test .taken) (c .before .before .before .before .before .before .before .before .code-end .ensures))
+line-end-requires c κs =
+    let args = c .before .before .before .before .before .before .before .before .before .before .before .before .before .args in
+    let loop = c .before .before .before .before .before .before .before .before .before .before .loop in
+    let code-end = c .before .before .before .before .before .before .before .before .code-end in
+    let loop-test = c .before .before .before .before .before .before .before .before .before .loop-test in
+    omega (arith, code-fits (args .text .now) (loop .at) (code-end .result) (loop-test .taken) (code-end .ensures))
 
 add-at : tie.Need-add-at Inv-loop μ-loop
-add-at c = omega (arith, line-within (c .before .before .before .before .before .before .before .before .before .before .before .before .before .args .text .now) (c .before .before .before .before .before .before .before .before .before .before .before .loop .at) (c .before .before .before .before .before .before .before .before .before .code-end .result) (c .line-end .result) (c .before .before .before .before .before .before .before .before .before .before .loop-test .taken) (c .before .before .before .before .before .before .before .before .before .code-end .ensures) (c .line-end .ensures))
+add-at c =
+    let args = c .before .before .before .before .before .before .before .before .before .before .before .before .before .before .args in
+    let loop = c .before .before .before .before .before .before .before .before .before .before .before .loop in
+    let code-end = c .before .before .before .before .before .before .before .before .before .code-end in
+    let line-end = c .line-end in
+    let loop-test = c .before .before .before .before .before .before .before .before .before .before .loop-test in
+    omega (arith, line-within (args .text .now) (loop .at) (code-end .result) (line-end .result) (loop-test .taken) (code-end .ensures) (line-end .ensures))
 
 add-number : tie.Need-add-number Inv-loop μ-loop
-add-number c = omega (arith, (c .before .before .before .before .before .before .before .before .before .before .before .loop .inv), (c .before .before .before .before .before .before .before .before .before .before .before .before .before .pre))
+add-number c =
+    let loop = c .before .before .before .before .before .before .before .before .before .before .before .loop in
+    let pre = c .before .before .before .before .before .before .before .before .before .before .before .before .before .before .pre in
+    omega (arith, (loop .inv), pre)
 
 loop-less : tie.Need-loop-less Inv-loop μ-loop
-loop-less c = omega (arith, code-within (c .before .before .before .before .before .before .before .before .before .before .before .before .before .args .text .now) (c .before .before .before .before .before .before .before .before .before .before .before .loop .at) (c .before .before .before .before .before .before .before .before .before .code-end .result) (c .line-end .result) (c .before .before .before .before .before .before .before .before .before .before .loop-test .taken) (c .before .before .before .before .before .before .before .before .before .code-end .ensures) (c .line-end .ensures))
+loop-less c =
+    let args = c .before .before .before .before .before .before .before .before .before .before .before .before .before .before .args in
+    let loop = c .before .before .before .before .before .before .before .before .before .before .before .loop in
+    let code-end = c .before .before .before .before .before .before .before .before .before .code-end in
+    let line-end = c .line-end in
+    let loop-test = c .before .before .before .before .before .before .before .before .before .before .loop-test in
+    omega (arith, code-within (args .text .now) (loop .at) (code-end .result) (line-end .result) (loop-test .taken) (code-end .ensures) (line-end .ensures))
 
 loop-again : tie.Need-loop-again Inv-loop μ-loop
-loop-again c = let long : length (take ((c .before .before .before .before .before .before .before .before .before .code-end .result) - (c .before .before .before .before .before .before .before .before .before .before .before .loop .at)) (drop (c .before .before .before .before .before .before .before .before .before .before .before .loop .at) (c .before .before .before .before .before .before .before .before .before .before .before .before .before .args .text .now))) ≡ (c .before .before .before .before .before .before .before .before .before .code-end .result) - (c .before .before .before .before .before .before .before .before .before .before .before .loop .at) = part-long (c .before .before .before .before .before .before .before .before .before .before .before .before .before .args .text .now) (c .before .before .before .before .before .before .before .before .before .before .before .loop .at) (c .before .before .before .before .before .before .before .before .before .code-end .result) (code-fits (c .before .before .before .before .before .before .before .before .before .before .before .before .before .args .text .now) (c .before .before .before .before .before .before .before .before .before .before .before .loop .at) (c .before .before .before .before .before .before .before .before .before .code-end .result) (c .before .before .before .before .before .before .before .before .before .before .loop-test .taken) (c .before .before .before .before .before .before .before .before .before .code-end .ensures)) in let counted : countOf (c .before .before .before .before .before .read-code .result) ≡ (c .before .before .read .given .0 .0) = ap countOf (c .before .before .read .given .1) in (omega (arith, (c .before .before .before .before .before .before .before .before .before .before .before .loop .inv), code-within (c .before .before .before .before .before .before .before .before .before .before .before .before .before .args .text .now) (c .before .before .before .before .before .before .before .before .before .before .before .loop .at) (c .before .before .before .before .before .before .before .before .before .code-end .result) (c .line-end .result) (c .before .before .before .before .before .before .before .before .before .before .loop-test .taken) (c .before .before .before .before .before .before .before .before .before .code-end .ensures) (c .line-end .ensures)), omega (arith, (c .before .before .before .before .before .read-code .ensures .fits), code-fits (c .before .before .before .before .before .before .before .before .before .before .before .before .before .args .text .now) (c .before .before .before .before .before .before .before .before .before .before .before .loop .at) (c .before .before .before .before .before .before .before .before .before .code-end .result) (c .before .before .before .before .before .before .before .before .before .before .loop-test .taken) (c .before .before .before .before .before .before .before .before .before .code-end .ensures), code-within (c .before .before .before .before .before .before .before .before .before .before .before .before .before .args .text .now) (c .before .before .before .before .before .before .before .before .before .before .before .loop .at) (c .before .before .before .before .before .before .before .before .before .code-end .result) (c .line-end .result) (c .before .before .before .before .before .before .before .before .before .before .loop-test .taken) (c .before .before .before .before .before .before .before .before .before .code-end .ensures) (c .line-end .ensures)), omega (arith, (c .before .before .before .before .before .read-code .ensures .fits), code-fits (c .before .before .before .before .before .before .before .before .before .before .before .before .before .args .text .now) (c .before .before .before .before .before .before .before .before .before .before .before .loop .at) (c .before .before .before .before .before .before .before .before .before .code-end .result) (c .before .before .before .before .before .before .before .before .before .before .loop-test .taken) (c .before .before .before .before .before .before .before .before .before .code-end .ensures)), (c .before .before .before .before .before .read-code .ensures .long) ∙ (c .before .before .before .before .before .before .before .before .before .before .before .loop .inv .3), line-read (c .before .before .before .before .before .before .before .before .before .before .before .before .before .args .text .now) (c .before .before .before .before .before .before .before .before .before .before .before .loop .at) (c .before .before .before .before .before .before .before .before .before .code-end .result) (c .line-end .result) (c .before .before .before .before .before .before .before .before .before .before .before .loop .number) (c .before .before .before .before .before .before .before .before .before .before .loop-test .taken) (c .before .before .before .before .before .before .before .before .before .code-end .ensures) (c .line-end .ensures) _ (take (c .before .before .before .before .before .before .before .before .before .before .before .loop .count) (c .before .before .before .before .before .before .before .before .before .before .before .loop .rows)) (outcome (c .before .before .before .before .before .read-code .result) (c .before .before .before .before .before .read-code .last .1 .1 .1 .1 .0)) (c .before .before .before .before .before .before .before .before .before .before .before .loop .inv .4) (c .before .before .before .before .before .read-code .ensures .reads) ∙ ap (λ l. andThen (outcome l (c .before .before .before .before .before .read-code .last .1 .1 .1 .1 .0)) (readLines (lines (drop ((c .line-end .result) + 1) (c .before .before .before .before .before .before .before .before .before .before .before .before .before .args .text .now))) ((c .line-end .result) + 1) ((c .before .before .before .before .before .before .before .before .before .before .before .loop .number) + 1))) (c .before .before .read .given .1))
+loop-again c =
+    let code-end = c .before .before .before .before .before .before .before .before .before .code-end in
+    let loop = c .before .before .before .before .before .before .before .before .before .before .before .loop in
+    let args = c .before .before .before .before .before .before .before .before .before .before .before .before .before .before .args in
+    let loop-test = c .before .before .before .before .before .before .before .before .before .before .loop-test in
+    let read-code = c .before .before .before .before .before .read-code in
+    let read′ = c .before .before .read in
+    let line-end = c .line-end in
+    let long : length (take ((code-end .result) - (loop .at)) (drop (loop .at) (args .text .now))) ≡ (code-end .result) - (loop .at) = part-long (args .text .now) (loop .at) (code-end .result) (code-fits (args .text .now) (loop .at) (code-end .result) (loop-test .taken) (code-end .ensures)) in
+    let counted : countOf (read-code .result) ≡ (read′ .given .0 .0) = ap countOf (read′ .given .1) in
+    (omega (arith, (loop .inv), code-within (args .text .now) (loop .at) (code-end .result) (line-end .result) (loop-test .taken) (code-end .ensures) (line-end .ensures)), omega (arith, (read-code .ensures .fits), code-fits (args .text .now) (loop .at) (code-end .result) (loop-test .taken) (code-end .ensures), code-within (args .text .now) (loop .at) (code-end .result) (line-end .result) (loop-test .taken) (code-end .ensures) (line-end .ensures)), omega (arith, (read-code .ensures .fits), code-fits (args .text .now) (loop .at) (code-end .result) (loop-test .taken) (code-end .ensures)), (read-code .ensures .long)
+        ∙ (loop .inv .3), line-read (args .text .now) (loop .at) (code-end .result) (line-end .result) (loop .number) (loop-test .taken) (code-end .ensures) (line-end .ensures) _ (take (loop .count) (loop .rows)) (outcome (read-code .result) (read-code .last .1 .1 .1 .1 .0)) (loop .inv .4) (read-code .ensures .reads)
+        ∙ ap (λ l. andThen (outcome l (read-code .last .1 .1 .1 .1 .0)) (readLines (lines (drop ((line-end .result) + 1) (args .text .now))) ((line-end .result) + 1) ((loop .number) + 1))) (read′ .given .1))
 
 same-length-2 : tie.Need-same-length-2 Inv-loop μ-loop
 same-length-2 c = (c .before .loop .inv .3)
 
 returns-2 : tie.Need-returns-2 Inv-loop μ-loop
 unfolding readLines
-returns-2 c = record { reads = sym (then-nil _ ∙ (c .before .loop .inv .4) ∙ simp (lines-past (c .before .before .before .args .text .now) (c .before .loop .at) (c .loop-test .left), then-end)); fits = (c .before .loop .inv .2); long = (c .before .loop .inv .3) }
+returns-2 c =
+    let loop = c .before .loop in
+    let args = c .before .before .before .before .args in
+    let loop-test = c .loop-test in
+    record {
+      reads = sym (then-nil _ ∙ (loop .inv .4) ∙ simp (lines-past (args .text .now) (loop .at) (loop-test .left), then-end));
+      fits = (loop .inv .2);
+      long = (loop .inv .3)
+    }
 
 pub read-lines-spec : {M : Type 1} → statement M
 read-lines-spec =
@@ -81,6 +152,7 @@ read-lines-spec =
     (tie.spec
     Inv-loop
     μ-loop
+    class-table-requires
     loop-holds
     code-end-requires
     sub-read-code

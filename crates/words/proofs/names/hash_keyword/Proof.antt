@@ -1,7 +1,7 @@
--- `number_sign` meets its contract.
+-- `hash_keyword` meets its contract.
 use borrow.Author.Needs.{needs}
-use Rattle.words.proofs.names.number_sign.Statement.{statement}
-use Rattle.words.proofs.names.number_sign.Tie as tie
+use Rattle.words.proofs.names.hash_keyword.Statement.{statement}
+use Rattle.words.proofs.names.hash_keyword.Tie as tie
 
 slice-aggregate-same : tie.Need-slice-aggregate-same
 slice-aggregate-same c = search needs
@@ -21,8 +21,8 @@ number-if-requires c κs = search needs
 returns-2 : tie.Need-returns-2
 returns-2 c = simp (← (c .before .before .before .same .ensures), (c .before .before .if1 .left), (c .number-if .ensures))
 
-pub number-sign-spec : {M : Type 1} → statement M
-number-sign-spec =
+pub hash-keyword-spec : {M : Type 1} → statement M
+hash-keyword-spec =
     tie.close
     (tie.spec
     slice-aggregate-same
