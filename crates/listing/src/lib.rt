@@ -3,9 +3,13 @@ use libc::STDOUT_FILENO;
 use words::Lexed;
 use words::Limits;
 use words::Row;
+ghost use mathlib.Core.Path.{_≡_};
+ghost use Rattle.words.specs.Lexer.{lexRows};
 
-// Writes a line `LINE KIND TEXT` for each token of a text, or the one line `refused N line L`.
-pub fn list(text: &[u8], limits: Limits, rows: &mut [Row]) {
+// Writes a line `LINE KIND TEXT` for each token of a text, or the one line `refused N line L`. The rows are left as `lex` leaves them.
+pub fn list(text: &[u8], limits: Limits, rows: &mut [Row])
+    ensures { λ _. ⌜ now (rows .exit) ≡ lexRows (now (text .entry)) limits (now (rows .entry)) ⌝ }
+{
     match words::lex(text, limits, rows) {
         Lexed::Tokens(n) => list_rows(text, rows, n),
         Lexed::Refused(r, line) => {

@@ -40,7 +40,11 @@ same-length-2 : tie.Need-same-length-2
 same-length-2 c = search needs
 
 returns-2 : tie.Need-returns-2
-returns-2 c = (ap (λ n. n * 4294967296 + (c .before .before .answer2 .given .0 .1 .0)) (c .number .ensures) ∙ ap packed (sym (c .before .before .answer2 .given .1) ∙ (c .before .before .before .before .before .lex .ensures .answer)), (c .before .before .before .before .before .lex .ensures .rows))
+returns-2 c =
+    let answer2 = c .before .before .answer2 in
+    let number = c .number in
+    let lex′ = c .before .before .before .before .before .lex in
+    (ap (λ n. n * 4294967296 + (answer2 .given .0 .1 .0)) (number .ensures) ∙ ap packed (sym (answer2 .given .1) ∙ (lex′ .ensures .answer)), (lex′ .ensures .rows))
 
 pub horn-lex-spec : {M : Type 1} → statement M
 horn-lex-spec =

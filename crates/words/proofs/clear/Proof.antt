@@ -32,13 +32,24 @@ loop-less : tie.Need-loop-less Inv-loop μ-loop
 loop-less c = search needs
 
 loop-again : tie.Need-loop-again Inv-loop μ-loop
-loop-again c = (omega arith, omega arith, simp length-set (c .before .loop .inv .2), ap (λ l. set l (c .before .loop .i) zeroRow) (c .before .loop .inv .3) ∙ clear-more (c .before .before .args .rows .now) (c .before .before .args .from) zeroRow (c .before .loop .i) (c .before .loop .inv .0) (omega (arith, (c .before .loop .inv))))
+loop-again c =
+    let loop = c .before .loop in
+    let args = c .before .before .args in (
+      omega arith,
+      omega arith,
+      simp length-set (loop .inv .2),
+      ap (λ l. set l (loop .i) zeroRow) (loop .inv .3)
+          ∙ clear-more (args .rows .now) (args .from) zeroRow (loop .i) (loop .inv .0) (omega (arith, (loop .inv))),
+    )
 
 same-length : tie.Need-same-length Inv-loop μ-loop
 same-length c = search needs
 
 returns : tie.Need-returns Inv-loop μ-loop
-returns c = (c .before .loop .inv .3) ∙ clear-all (c .before .before .args .rows .now) (c .before .before .args .from) zeroRow (c .before .loop .i) (omega (arith, (c .before .loop .inv))) (c .before .loop .inv .1)
+returns c =
+    let loop = c .before .loop in
+    let args = c .before .before .args in
+    (loop .inv .3) ∙ clear-all (args .rows .now) (args .from) zeroRow (loop .i) (omega (arith, (loop .inv))) (loop .inv .1)
 
 pub clear-spec : {M : Type 1} → statement M
 clear-spec =

@@ -25,7 +25,7 @@ returns c =
     let e : (capped .result .text) ≡ min ((args .limits .text)) 65536 = ap (λ l. l .text) (capped .ensures) in
     record {
       answer = sym (simp (← e, lt-ltb _ _ (if1 .taken)));
-      rows = sym (simp (← e, lt-ltb _ _ (if1 .taken)))
+      rows = sym (simp (← e, lt-ltb _ _ (if1 .taken)));
     }
 
 read-requires : tie.Need-read-requires
@@ -61,7 +61,7 @@ returns-2 c =
     let left : (((read′ .result) ≡ answerOf (outcome (read′ .result) (read′ .last .1 .1 .0))) × ((clear .last .0) ≡ rowsOf (length (args .tokens .now)) (outcome (read′ .result) (read′ .last .1 .1 .0)))) = leaves (length (args .tokens .now)) (read′ .last .1 .1 .0) (clear .last .0) (read′ .ensures .long) (read′ .result) (omega (arith, (read′ .ensures .fits), (if1 .left))) (rw counted (clear .ensures)) in
     record {
       answer = left .0 ∙ ap answerOf reads ∙ sym (simp (← e, le-ltb _ _ (if1 .left)));
-      rows = left .1 ∙ ap (rowsOf (length (args .tokens .now))) reads ∙ sym (simp (← e, le-ltb _ _ (if1 .left)))
+      rows = left .1 ∙ ap (rowsOf (length (args .tokens .now))) reads ∙ sym (simp (← e, le-ltb _ _ (if1 .left)));
     }
 
 clear-requires-2 : tie.Need-clear-requires-2
@@ -89,7 +89,7 @@ returns-3 c =
     let left : (((read′ .result) ≡ answerOf (outcome (read′ .result) (read′ .last .1 .1 .0))) × ((clear2 .last .0) ≡ rowsOf (length (args .tokens .now)) (outcome (read′ .result) (read′ .last .1 .1 .0)))) = leaves (length (args .tokens .now)) (read′ .last .1 .1 .0) (clear2 .last .0) (read′ .ensures .long) (read′ .result) (omega (arith, (read′ .ensures .fits), (if1 .left))) (rw counted (clear2 .ensures)) in
     record {
       answer = sym (r′ .given .1) ∙ left .0 ∙ ap answerOf reads ∙ sym (simp (← e, le-ltb _ _ (if1 .left)));
-      rows = left .1 ∙ ap (rowsOf (length (args .tokens .now))) reads ∙ sym (simp (← e, le-ltb _ _ (if1 .left)))
+      rows = left .1 ∙ ap (rowsOf (length (args .tokens .now))) reads ∙ sym (simp (← e, le-ltb _ _ (if1 .left)));
     }
 
 pub lex-spec : {M : Type 1} → statement M

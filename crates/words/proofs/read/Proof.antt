@@ -28,7 +28,7 @@ returns-2 c =
     record {
       reads = sym (then-nil _ ∙ simp (le-ltb _ _ (c .before .before .if1 .left), ← (c .before .is-utf8 .ensures), not-true (c .before .is-utf8 .result) (c .if2 .taken)));
       fits = omega arith;
-      long = refl
+      long = refl;
     }
 
 read-lines-requires : tie.Need-read-lines-requires
@@ -54,12 +54,12 @@ returns-3 c =
     let if2 = c .before .before .before .before .before .if2 in
     let reads : outcome (read-lines .result) (read-lines .last .1 .0) ≡ readLines (lines (args .text .now)) 0 1 = (read-lines .ensures .reads) ∙ then-nil _ in
     let whole : accepted (readLines (lines (args .text .now)) 0 1) ≡ true = ap accepted (sym reads
-        ∙ ap (λ l. outcome l (read-lines .last .1 .0)) (enum-told2 .given .1)) in
+    ∙ ap (λ l. outcome l (read-lines .last .1 .0)) (enum-told2 .given .1)) in
     record {
       reads = reads
           ∙ sym (then-nil _ ∙ simp (le-ltb _ _ (if1 .left), ← (is-utf8 .ensures), not-false (is-utf8 .result) (if2 .left)) (in-domain _ _ (lines-inside (lines (args .text .now)) 0 1 1 whole)));
       fits = omega (arith, (read-lines .ensures .fits));
-      long = (read-lines .ensures .long)
+      long = (read-lines .ensures .long);
     }
 
 outside-line-requires : tie.Need-outside-line-requires
@@ -82,7 +82,7 @@ returns-4 c =
       reads = sym (then-nil _
           ∙ simp (le-ltb _ _ (if1 .left), ← (is-utf8 .ensures), not-false (is-utf8 .result) (if2 .left)) (ap (λ n. inDomain n (readLines (lines (args .text .now)) 0 1)) (sym (outside-line .ensures)) ∙ out-of-domain _ _ (if3 .taken)));
       fits = omega arith;
-      long = (read-lines .ensures .long)
+      long = (read-lines .ensures .long);
     }
 
 same-length-3 : tie.Need-same-length-3
@@ -103,7 +103,7 @@ returns-5 c =
       reads = reads
           ∙ sym (then-nil _ ∙ simp (le-ltb _ _ (if1 .left), ← (is-utf8 .ensures), not-false (is-utf8 .result) (if2 .left)) (in-domain _ _ (sym (outside-line .ensures) ∙ (if3 .left))));
       fits = omega (arith, (read-lines .ensures .fits));
-      long = (read-lines .ensures .long)
+      long = (read-lines .ensures .long);
     }
 
 pub read-spec : {M : Type 1} → statement M

@@ -25,7 +25,11 @@ part-result-end : tie.Need-part-result-end
 part-result-end c = search needs
 
 returns : tie.Need-returns
-returns c = let h : (c .before .before .before .args .start) + (c .before .before .before .args .length) ≤ length (c .before .before .before .args .text .now) = omega arith in let e : (c .before .before .before .args .start) + (c .before .before .before .args .length) - (c .before .before .before .args .start) ≡ (c .before .before .before .args .length) = omega arith in simp (le-leb _ _ h, e)
+returns c =
+    let args = c .before .before .before .args in
+    let h : (args .start) + (args .length) ≤ length (args .text .now) = omega arith in
+    let e : (args .start) + (args .length) - (args .start) ≡ (args .length) = omega arith in
+    simp (le-leb _ _ h, e)
 
 sub-result-2 : tie.Need-sub-result-2
 sub-result-2 c = search needs
@@ -37,7 +41,11 @@ part-result-end-2 : tie.Need-part-result-end-2
 part-result-end-2 c = search needs
 
 returns-2 : tie.Need-returns-2
-returns-2 c = let h : length (c .before .before .args .text .now) < (c .before .before .args .start) + (c .before .before .args .length) = ⊎-elim (λ w. omega arith) (λ w. omega arith) (c .before .if1 .came) in simp (lt-leb _ _ h)
+returns-2 c =
+    let args = c .before .before .args in
+    let if1 = c .before .if1 in
+    let h : length (args .text .now) < (args .start) + (args .length) = ⊎-elim (λ w. omega arith) (λ w. omega arith) (if1 .came) in
+    simp (lt-leb _ _ h)
 
 pub word-spec : {M : Type 1} → statement M
 word-spec =

@@ -28,7 +28,12 @@ shared-slice-read-if2-2 : tie.Need-shared-slice-read-if2-2 Inv-loop μ-loop
 shared-slice-read-if2-2 c = search needs
 
 returns-2 : tie.Need-returns-2 Inv-loop μ-loop
-returns-2 c = sym ((c .before .before .before .before .loop .inv .2) ∙ same-not (c .before .before .before .before .before .before .args .v .now) (c .before .before .before .before .before .before .args .w .now) (c .before .before .before .before .loop .i) (c .before .before .before .loop-test .taken) (omega (arith, (c .before .before .before .before .loop .inv))) (c .if2 .taken))
+returns-2 c =
+    let loop = c .before .before .before .before .loop in
+    let args = c .before .before .before .before .before .before .args in
+    let loop-test = c .before .before .before .loop-test in
+    let if2 = c .if2 in
+    sym ((loop .inv .2) ∙ same-not (args .v .now) (args .w .now) (loop .i) (loop-test .taken) (omega (arith, (loop .inv))) (if2 .taken))
 
 add-i : tie.Need-add-i Inv-loop μ-loop
 add-i c = search needs
@@ -37,10 +42,19 @@ loop-less : tie.Need-loop-less Inv-loop μ-loop
 loop-less c = search needs
 
 loop-again : tie.Need-loop-again Inv-loop μ-loop
-loop-again c = (omega arith, (c .before .before .before .before .loop .inv .1), (c .before .before .before .before .loop .inv .2) ∙ same-next (c .before .before .before .before .before .before .args .v .now) (c .before .before .before .before .before .before .args .w .now) (c .before .before .before .before .loop .i) (c .before .before .before .loop-test .taken) (omega (arith, (c .before .before .before .before .loop .inv))) (c .if2 .left))
+loop-again c =
+    let loop = c .before .before .before .before .loop in
+    let args = c .before .before .before .before .before .before .args in
+    let loop-test = c .before .before .before .loop-test in
+    let if2 = c .if2 in
+    (omega arith, (loop .inv .1), (loop .inv .2) ∙ same-next (args .v .now) (args .w .now) (loop .i) (loop-test .taken) (omega (arith, (loop .inv))) (if2 .left))
 
 returns-3 : tie.Need-returns-3 Inv-loop μ-loop
-returns-3 c = sym ((c .before .loop .inv .2) ∙ same-end (c .before .before .before .args .v .now) (c .before .before .before .args .w .now) (c .before .loop .i) (c .loop-test .left) (omega (arith, (c .before .loop .inv))))
+returns-3 c =
+    let loop = c .before .loop in
+    let args = c .before .before .before .args in
+    let loop-test = c .loop-test in
+    sym ((loop .inv .2) ∙ same-end (args .v .now) (args .w .now) (loop .i) (loop-test .left) (omega (arith, (loop .inv))))
 
 pub same-spec : {M : Type 1} → statement M
 same-spec =

@@ -35,7 +35,12 @@ shared-slice-read-if2-2 : tie.Need-shared-slice-read-if2-2 Inv-loop μ-loop
 shared-slice-read-if2-2 c = search needs
 
 returns-2 : tie.Need-returns-2 Inv-loop μ-loop
-returns-2 c = sym ((c .before .before .before .before .loop .inv .2) ∙ prefix-not (c .before .before .before .before .before .before .args .w .now) (c .before .before .before .before .before .before .args .text .now) (c .before .before .before .before .loop .i) ((c .before .before .before .before .before .before .args .at) + (c .before .before .before .before .loop .i)) (c .before .before .before .loop-test .taken) (omega (arith, (c .before .before .before .before .loop .inv))) (c .if2 .taken))
+returns-2 c =
+    let loop = c .before .before .before .before .loop in
+    let args = c .before .before .before .before .before .before .args in
+    let loop-test = c .before .before .before .loop-test in
+    let if2 = c .if2 in
+    sym ((loop .inv .2) ∙ prefix-not (args .w .now) (args .text .now) (loop .i) ((args .at) + (loop .i)) (loop-test .taken) (omega (arith, (loop .inv))) (if2 .taken))
 
 add-i : tie.Need-add-i Inv-loop μ-loop
 add-i c = search needs
@@ -44,7 +49,17 @@ loop-less : tie.Need-loop-less Inv-loop μ-loop
 loop-less c = search needs
 
 loop-again : tie.Need-loop-again Inv-loop μ-loop
-loop-again c = (omega arith, (c .before .before .before .before .loop .inv .1), (c .before .before .before .before .loop .inv .2) ∙ prefix-next (c .before .before .before .before .before .before .args .w .now) (c .before .before .before .before .before .before .args .text .now) (c .before .before .before .before .loop .i) ((c .before .before .before .before .before .before .args .at) + (c .before .before .before .before .loop .i)) (c .before .before .before .loop-test .taken) (omega (arith, (c .before .before .before .before .loop .inv))) (c .if2 .left) ∙ simp add-assoc)
+loop-again c =
+    let loop = c .before .before .before .before .loop in
+    let args = c .before .before .before .before .before .before .args in
+    let loop-test = c .before .before .before .loop-test in
+    let if2 = c .if2 in (
+      omega arith,
+      (loop .inv .1),
+      (loop .inv .2)
+          ∙ prefix-next (args .w .now) (args .text .now) (loop .i) ((args .at) + (loop .i)) (loop-test .taken) (omega (arith, (loop .inv))) (if2 .left)
+          ∙ simp add-assoc,
+    )
 
 returns-3 : tie.Need-returns-3 Inv-loop μ-loop
 returns-3 c = sym ((c .before .loop .inv .2) ∙ prefix-end (c .before .before .before .args .w .now) _ (c .before .loop .i) (c .loop-test .left))

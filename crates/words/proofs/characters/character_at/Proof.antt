@@ -24,13 +24,24 @@ starts-with-requires : tie.Need-starts-with-requires
 starts-with-requires c κs = search needs
 
 returns-3 : tie.Need-returns-3
-returns-3 c = sym (character-wide _ _ (c .before .before .before .before .before .if1 .left) (c .before .before .before .if2 .left) ∙ simp (← (c .before .starts-with .ensures), (c .if3 .taken)))
+returns-3 c =
+    let if1 = c .before .before .before .before .before .if1 in
+    let if2 = c .before .before .before .if2 in
+    let starts-with = c .before .starts-with in
+    let if3 = c .if3 in
+    sym (character-wide _ _ (if1 .left) (if2 .left) ∙ simp (← (starts-with .ensures), (if3 .taken)))
 
 character-length-requires : tie.Need-character-length-requires
 character-length-requires c κs = search needs
 
 returns-4 : tie.Need-returns-4
-returns-4 c = sym (character-wide _ _ (c .before .before .before .before .before .before .if1 .left) (c .before .before .before .before .if2 .left) ∙ simp (← (c .before .before .starts-with .ensures), (c .before .if3 .left), ← (c .character-length .ensures)))
+returns-4 c =
+    let if1 = c .before .before .before .before .before .before .if1 in
+    let if2 = c .before .before .before .before .if2 in
+    let starts-with = c .before .before .starts-with in
+    let if3 = c .before .if3 in
+    let character-length = c .character-length in
+    sym (character-wide _ _ (if1 .left) (if2 .left) ∙ simp (← (starts-with .ensures), (if3 .left), ← (character-length .ensures)))
 
 pub character-at-spec : {M : Type 1} → statement M
 character-at-spec =

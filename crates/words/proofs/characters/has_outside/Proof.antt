@@ -24,16 +24,40 @@ character-at-requires : tie.Need-character-at-requires Inv-loop μ-loop
 character-at-requires c κs = (c .before .before .before .pre)
 
 returns : tie.Need-returns Inv-loop μ-loop
-returns c = sym ((c .before .before .before .before .loop .inv .1) ∙ outside-here _ (c .before .before .before .before .loop .at) (c .before .before .character-at .result) (c .before .before .before .loop-test .taken) (c .before .before .character-at .ensures) (c .if1 .taken))
+returns c =
+    let loop = c .before .before .before .before .loop in
+    let character-at = c .before .before .character-at in
+    let loop-test = c .before .before .before .loop-test in
+    let if1 = c .if1 in
+    sym ((loop .inv .1) ∙ outside-here _ (loop .at) (character-at .result) (loop-test .taken) (character-at .ensures) (if1 .taken))
 
 add-at : tie.Need-add-at Inv-loop μ-loop
-add-at c = omega (arith, inside-at (c .before .before .before .before .before .before .before .args .line .now) (c .before .before .before .before .before .loop .at) (c .before .before .before .character-at .result) (c .before .before .before .before .loop-test .taken) (c .before .before .before .character-at .ensures) (c .before .if1 .left))
+add-at c =
+    let args = c .before .before .before .before .before .before .before .args in
+    let loop = c .before .before .before .before .before .loop in
+    let character-at = c .before .before .before .character-at in
+    let loop-test = c .before .before .before .before .loop-test in
+    let if1 = c .before .if1 in
+    omega (arith, inside-at (args .line .now) (loop .at) (character-at .result) (loop-test .taken) (character-at .ensures) (if1 .left))
 
 loop-less : tie.Need-loop-less Inv-loop μ-loop
-loop-less c = omega (arith, inside-at (c .before .before .before .before .before .before .before .args .line .now) (c .before .before .before .before .before .loop .at) (c .before .before .before .character-at .result) (c .before .before .before .before .loop-test .taken) (c .before .before .before .character-at .ensures) (c .before .if1 .left))
+loop-less c =
+    let args = c .before .before .before .before .before .before .before .args in
+    let loop = c .before .before .before .before .before .loop in
+    let character-at = c .before .before .before .character-at in
+    let loop-test = c .before .before .before .before .loop-test in
+    let if1 = c .before .if1 in
+    omega (arith, inside-at (args .line .now) (loop .at) (character-at .result) (loop-test .taken) (character-at .ensures) (if1 .left))
 
 loop-again : tie.Need-loop-again Inv-loop μ-loop
-loop-again c = let h = inside-at (c .before .before .before .before .before .before .before .args .line .now) (c .before .before .before .before .before .loop .at) (c .before .before .before .character-at .result) (c .before .before .before .before .loop-test .taken) (c .before .before .before .character-at .ensures) (c .before .if1 .left) in (omega arith, (c .before .before .before .before .before .loop .inv .1) ∙ outside-next _ (c .before .before .before .before .before .loop .at) (c .before .before .before .character-at .result) (c .before .before .before .before .loop-test .taken) (c .before .before .before .character-at .ensures) (c .before .if1 .left) (h .0))
+loop-again c =
+    let args = c .before .before .before .before .before .before .before .args in
+    let loop = c .before .before .before .before .before .loop in
+    let character-at = c .before .before .before .character-at in
+    let loop-test = c .before .before .before .before .loop-test in
+    let if1 = c .before .if1 in
+    let h = inside-at (args .line .now) (loop .at) (character-at .result) (loop-test .taken) (character-at .ensures) (if1 .left) in
+    (omega arith, (loop .inv .1) ∙ outside-next _ (loop .at) (character-at .result) (loop-test .taken) (character-at .ensures) (if1 .left) (h .0))
 
 returns-2 : tie.Need-returns-2 Inv-loop μ-loop
 returns-2 c = sym ((c .before .loop .inv .1) ∙ outside-end _ (c .before .loop .at) (c .loop-test .left))

@@ -22,7 +22,12 @@ ends-code-requires : tie.Need-ends-code-requires Inv-loop μ-loop
 ends-code-requires c κs = search needs
 
 returns : tie.Need-returns Inv-loop μ-loop
-returns c = omega (arith, (c .before .before .before .loop .inv .2), code-stop (c .before .before .before .before .before .args .text .now) (c .before .before .before .loop .i) (sym (c .before .ends-code .ensures) ∙ (c .if1 .taken)))
+returns c =
+    let loop = c .before .before .before .loop in
+    let args = c .before .before .before .before .before .args in
+    let ends-code = c .before .ends-code in
+    let if1 = c .if1 in
+    omega (arith, (loop .inv .2), code-stop (args .text .now) (loop .i) (sym (ends-code .ensures) ∙ (if1 .taken)))
 
 add-i : tie.Need-add-i Inv-loop μ-loop
 add-i c = search needs
@@ -31,7 +36,13 @@ loop-less : tie.Need-loop-less Inv-loop μ-loop
 loop-less c = search needs
 
 loop-again : tie.Need-loop-again Inv-loop μ-loop
-loop-again c = (omega arith, omega arith, omega (arith, (c .before .before .before .loop .inv .2), code-next (c .before .before .before .before .before .args .text .now) (c .before .before .before .loop .i) (c .before .before .loop-test .taken) (sym (c .before .ends-code .ensures) ∙ (c .if1 .left))))
+loop-again c =
+    let loop = c .before .before .before .loop in
+    let args = c .before .before .before .before .before .args in
+    let loop-test = c .before .before .loop-test in
+    let ends-code = c .before .ends-code in
+    let if1 = c .if1 in
+    (omega arith, omega arith, omega (arith, (loop .inv .2), code-next (args .text .now) (loop .i) (loop-test .taken) (sym (ends-code .ensures) ∙ (if1 .left))))
 
 returns-2 : tie.Need-returns-2 Inv-loop μ-loop
 returns-2 c = omega (arith, (c .before .loop .inv .2), code-past (c .before .before .before .args .text .now) (c .before .loop .i) (c .loop-test .left))

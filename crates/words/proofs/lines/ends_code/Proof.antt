@@ -13,7 +13,11 @@ returns : tie.Need-returns
 returns c = sym (ends-at (c .before .before .before .args .text .now) (c .before .before .before .args .at) ∙ simp (eq-eqb _ _ (c .if1 .taken)))
 
 returns-2 : tie.Need-returns-2
-returns-2 c = sym (ends-at (c .before .before .before .before .args .text .now) (c .before .before .before .before .args .at) ∙ simp (ne-eqb _ _ (c .before .if1 .left), ne-eqb _ _ (c .if2 .taken)))
+returns-2 c =
+    let args = c .before .before .before .before .args in
+    let if1 = c .before .if1 in
+    let if2 = c .if2 in
+    sym (ends-at (args .text .now) (args .at) ∙ simp (ne-eqb _ _ (if1 .left), ne-eqb _ _ (if2 .taken)))
 
 add-byte : tie.Need-add-byte
 add-byte c = search needs
@@ -22,7 +26,12 @@ byte-requires : tie.Need-byte-requires
 byte-requires c κs = search needs
 
 returns-3 : tie.Need-returns-3
-returns-3 c = sym (ends-at (c .before .before .before .before .before .args .text .now) (c .before .before .before .before .before .args .at) ∙ simp (ne-eqb _ _ (c .before .before .if1 .left), eq-eqb _ _ (c .before .if2 .left), (c .byte .ensures)))
+returns-3 c =
+    let args = c .before .before .before .before .before .args in
+    let if1 = c .before .before .if1 in
+    let if2 = c .before .if2 in
+    let byte = c .byte in
+    sym (ends-at (args .text .now) (args .at) ∙ simp (ne-eqb _ _ (if1 .left), eq-eqb _ _ (if2 .left), (byte .ensures)))
 
 pub ends-code-spec : {M : Type 1} → statement M
 ends-code-spec =

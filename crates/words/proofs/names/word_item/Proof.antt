@@ -31,18 +31,38 @@ enum-told-2 c = search needs
 
 returns-3 : tie.Need-returns-3
 unfolding wordItem
-returns-3 c = simp (le-ltb _ _ (c .before .before .before .before .before .before .before .if1 .left), ne-eqb _ _ (c .before .before .before .before .before .if2 .left), ← (c .before .before .before .before .all-digits .ensures), (c .before .before .before .if3 .taken), ← (c .before .before .value .ensures), (c .enum-told2 .given .1))
+returns-3 c =
+    let if1 = c .before .before .before .before .before .before .before .if1 in
+    let if2 = c .before .before .before .before .before .if2 in
+    let all-digits = c .before .before .before .before .all-digits in
+    let if3 = c .before .before .before .if3 in
+    let value′ = c .before .before .value in
+    let enum-told2 = c .enum-told2 in
+    simp (le-ltb _ _ (if1 .left), ne-eqb _ _ (if2 .left), ← (all-digits .ensures), (if3 .taken), ← (value′ .ensures), (enum-told2 .given .1))
 
 returns-4 : tie.Need-returns-4
 unfolding wordItem
-returns-4 c = simp (le-ltb _ _ (c .before .before .before .before .before .before .before .if1 .left), ne-eqb _ _ (c .before .before .before .before .before .if2 .left), ← (c .before .before .before .before .all-digits .ensures), (c .before .before .before .if3 .taken), ← (c .before .before .value .ensures), (c .enum-told .given .1))
+returns-4 c =
+    let if1 = c .before .before .before .before .before .before .before .if1 in
+    let if2 = c .before .before .before .before .before .if2 in
+    let all-digits = c .before .before .before .before .all-digits in
+    let if3 = c .before .before .before .if3 in
+    let value′ = c .before .before .value in
+    let enum-told = c .enum-told in
+    simp (le-ltb _ _ (if1 .left), ne-eqb _ _ (if2 .left), ← (all-digits .ensures), (if3 .taken), ← (value′ .ensures), (enum-told .given .1))
 
 keyword-requires : tie.Need-keyword-requires
 keyword-requires c κs = search needs
 
 returns-5 : tie.Need-returns-5
 unfolding wordItem
-returns-5 c = simp (le-ltb _ _ (c .before .before .before .before .before .if1 .left), ne-eqb _ _ (c .before .before .before .if2 .left), ← (c .before .before .all-digits .ensures), (c .before .if3 .left), (c .keyword .ensures))
+returns-5 c =
+    let if1 = c .before .before .before .before .before .if1 in
+    let if2 = c .before .before .before .if2 in
+    let all-digits = c .before .before .all-digits in
+    let if3 = c .before .if3 in
+    let keyword = c .keyword in
+    simp (le-ltb _ _ (if1 .left), ne-eqb _ _ (if2 .left), ← (all-digits .ensures), (if3 .left), (keyword .ensures))
 
 pub word-item-spec : {M : Type 1} → statement M
 word-item-spec =

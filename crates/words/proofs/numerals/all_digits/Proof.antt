@@ -28,7 +28,11 @@ shared-slice-read-if2 : tie.Need-shared-slice-read-if2 Inv-loop μ-loop
 shared-slice-read-if2 c = search needs
 
 returns-2 : tie.Need-returns-2 Inv-loop μ-loop
-returns-2 c = sym ((c .before .before .before .before .before .loop .inv .1) ∙ digits-high _ (c .before .before .before .before .before .loop .i) (c .before .before .before .before .loop-test .taken) (c .if2 .taken))
+returns-2 c =
+    let loop = c .before .before .before .before .before .loop in
+    let loop-test = c .before .before .before .before .loop-test in
+    let if2 = c .if2 in
+    sym ((loop .inv .1) ∙ digits-high _ (loop .i) (loop-test .taken) (if2 .taken))
 
 add-i : tie.Need-add-i Inv-loop μ-loop
 add-i c = search needs
@@ -37,7 +41,12 @@ loop-less : tie.Need-loop-less Inv-loop μ-loop
 loop-less c = search needs
 
 loop-again : tie.Need-loop-again Inv-loop μ-loop
-loop-again c = (omega arith, (c .before .before .before .before .before .loop .inv .1) ∙ digits-next _ (c .before .before .before .before .before .loop .i) (c .before .before .before .before .loop-test .taken) (c .before .before .if1 .left) (c .if2 .left))
+loop-again c =
+    let loop = c .before .before .before .before .before .loop in
+    let loop-test = c .before .before .before .before .loop-test in
+    let if1 = c .before .before .if1 in
+    let if2 = c .if2 in
+    (omega arith, (loop .inv .1) ∙ digits-next _ (loop .i) (loop-test .taken) (if1 .left) (if2 .left))
 
 returns-3 : tie.Need-returns-3 Inv-loop μ-loop
 returns-3 c = sym ((c .before .loop .inv .1) ∙ digits-end _ (c .before .loop .i) (c .loop-test .left))

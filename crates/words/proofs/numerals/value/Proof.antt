@@ -25,10 +25,18 @@ shared-slice-read-c : tie.Need-shared-slice-read-c Inv-loop μ-loop
 shared-slice-read-c c = search needs
 
 returns-2 : tie.Need-returns-2 Inv-loop μ-loop
-returns-2 c = sym ((c .before .before .before .loop .inv .2) ∙ numeral-not _ (c .before .before .before .loop .i) (c .before .before .loop-test .taken) _ (digits-low _ (c .before .before .before .loop .i) (c .before .before .loop-test .taken) (c .if2 .taken)))
+returns-2 c =
+    let loop = c .before .before .before .loop in
+    let loop-test = c .before .before .loop-test in
+    let if2 = c .if2 in
+    sym ((loop .inv .2) ∙ numeral-not _ (loop .i) (loop-test .taken) _ (digits-low _ (loop .i) (loop-test .taken) (if2 .taken)))
 
 returns-3 : tie.Need-returns-3 Inv-loop μ-loop
-returns-3 c = sym ((c .before .before .before .before .loop .inv .2) ∙ numeral-not _ (c .before .before .before .before .loop .i) (c .before .before .before .loop-test .taken) _ (digits-high _ (c .before .before .before .before .loop .i) (c .before .before .before .loop-test .taken) (c .if3 .taken)))
+returns-3 c =
+    let loop = c .before .before .before .before .loop in
+    let loop-test = c .before .before .before .loop-test in
+    let if3 = c .if3 in
+    sym ((loop .inv .2) ∙ numeral-not _ (loop .i) (loop-test .taken) _ (digits-high _ (loop .i) (loop-test .taken) (if3 .taken)))
 
 cast-d : tie.Need-cast-d Inv-loop μ-loop
 cast-d c = search needs
@@ -37,7 +45,13 @@ sub-if4 : tie.Need-sub-if4 Inv-loop μ-loop
 sub-if4 c = search needs
 
 returns-4 : tie.Need-returns-4 Inv-loop μ-loop
-returns-4 c = sym ((c .before .before .before .before .before .loop .inv .2) ∙ numeral-over (c .before .before .before .before .before .before .before .args .w .now) (c .before .before .before .before .before .loop .i) (c .before .before .before .before .loop-test .taken) (c .before .before .before .before .before .loop .v) (c .before .before .if2 .left) (c .before .if3 .left) (omega arith))
+returns-4 c =
+    let loop = c .before .before .before .before .before .loop in
+    let args = c .before .before .before .before .before .before .before .args in
+    let loop-test = c .before .before .before .before .loop-test in
+    let if2 = c .before .before .if2 in
+    let if3 = c .before .if3 in
+    sym ((loop .inv .2) ∙ numeral-over (args .w .now) (loop .i) (loop-test .taken) (loop .v) (if2 .left) (if3 .left) (omega arith))
 
 mul-v : tie.Need-mul-v Inv-loop μ-loop
 mul-v c = search needs
@@ -52,7 +66,12 @@ loop-less : tie.Need-loop-less Inv-loop μ-loop
 loop-less c = search needs
 
 loop-again : tie.Need-loop-again Inv-loop μ-loop
-loop-again c = (omega arith, omega arith, (c .before .before .before .before .before .loop .inv .2) ∙ numeral-next _ (c .before .before .before .before .before .loop .i) (c .before .before .before .before .loop-test .taken) (c .before .before .before .before .before .loop .v) (c .before .before .if2 .left) (c .before .if3 .left))
+loop-again c =
+    let loop = c .before .before .before .before .before .loop in
+    let loop-test = c .before .before .before .before .loop-test in
+    let if2 = c .before .before .if2 in
+    let if3 = c .before .if3 in
+    (omega arith, omega arith, (loop .inv .2) ∙ numeral-next _ (loop .i) (loop-test .taken) (loop .v) (if2 .left) (if3 .left))
 
 returns-5 : tie.Need-returns-5 Inv-loop μ-loop
 returns-5 c = sym ((c .before .loop .inv .2) ∙ numeral-end _ (c .before .loop .i) (c .before .loop .v) (c .loop-test .left) (c .before .loop .inv .1))

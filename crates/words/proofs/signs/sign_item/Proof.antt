@@ -22,40 +22,97 @@ starts-with-requires : tie.Need-starts-with-requires
 starts-with-requires c κs = search needs
 
 returns : tie.Need-returns
-returns c = sym (sign-at (c .before .before .before .before .before .args .line .now) (c .before .before .before .before .before .args .at) ∙ simp ((c .before .match .keys1), ← (c .before .before .byte .ensures), eq-eqb _ _ (c .if1 .taken)))
+returns c =
+    let args = c .before .before .before .before .before .args in
+    let match′ = c .before .match in
+    let byte = c .before .before .byte in
+    let if1 = c .if1 in
+    sym (sign-at (args .line .now) (args .at) ∙ simp ((match′ .keys1), ← (byte .ensures), eq-eqb _ _ (if1 .taken)))
 
 returns-2 : tie.Need-returns-2
-returns-2 c = sym (sign-at (c .before .before .before .before .before .args .line .now) (c .before .before .before .before .before .args .at) ∙ simp (no-arrow (c .before .before .before .before .before .args .line .now) (c .before .before .before .before .before .args .at) 45 (c .before .match .keys1) refl, (c .before .match .keys1), ← (c .before .before .byte .ensures), ne-eqb _ _ (c .if1 .left)))
+returns-2 c =
+    let args = c .before .before .before .before .before .args in
+    let match′ = c .before .match in
+    let byte = c .before .before .byte in
+    let if1 = c .if1 in
+    sym (sign-at (args .line .now) (args .at)
+    ∙ simp (no-arrow (args .line .now) (args .at) 45 (match′ .keys1) refl, (match′ .keys1), ← (byte .ensures), ne-eqb _ _ (if1 .left)))
 
 returns-3 : tie.Need-returns-3
-returns-3 c = sym (sign-at (c .before .before .before .before .before .args .line .now) (c .before .before .before .before .before .args .at) ∙ simp ((c .before .match .keys2), ← (c .before .before .byte .ensures), eq-eqb _ _ (c .if2 .taken)))
+returns-3 c =
+    let args = c .before .before .before .before .before .args in
+    let match′ = c .before .match in
+    let byte = c .before .before .byte in
+    let if2 = c .if2 in
+    sym (sign-at (args .line .now) (args .at) ∙ simp ((match′ .keys2), ← (byte .ensures), eq-eqb _ _ (if2 .taken)))
 
 returns-4 : tie.Need-returns-4
-returns-4 c = sym (sign-at (c .before .before .before .before .before .args .line .now) (c .before .before .before .before .before .args .at) ∙ simp (no-arrow (c .before .before .before .before .before .args .line .now) (c .before .before .before .before .before .args .at) 61 (c .before .match .keys2) refl, (c .before .match .keys2), ← (c .before .before .byte .ensures), ne-eqb _ _ (c .if2 .left)))
+returns-4 c =
+    let args = c .before .before .before .before .before .args in
+    let match′ = c .before .match in
+    let byte = c .before .before .byte in
+    let if2 = c .if2 in
+    sym (sign-at (args .line .now) (args .at)
+    ∙ simp (no-arrow (args .line .now) (args .at) 61 (match′ .keys2) refl, (match′ .keys2), ← (byte .ensures), ne-eqb _ _ (if2 .left)))
 
 returns-5 : tie.Need-returns-5
-returns-5 c = sym (sign-at (c .before .before .before .before .before .args .line .now) (c .before .before .before .before .before .args .at) ∙ simp ((c .before .match .keys3), ← (c .before .before .byte .ensures), eq-eqb _ _ (c .if3 .taken)))
+returns-5 c =
+    let args = c .before .before .before .before .before .args in
+    let match′ = c .before .match in
+    let byte = c .before .before .byte in
+    let if3 = c .if3 in
+    sym (sign-at (args .line .now) (args .at) ∙ simp ((match′ .keys3), ← (byte .ensures), eq-eqb _ _ (if3 .taken)))
 
 returns-6 : tie.Need-returns-6
-returns-6 c = sym (sign-at (c .before .before .before .before .before .args .line .now) (c .before .before .before .before .before .args .at) ∙ simp (no-arrow (c .before .before .before .before .before .args .line .now) (c .before .before .before .before .before .args .at) 58 (c .before .match .keys3) refl, (c .before .match .keys3), ← (c .before .before .byte .ensures), ne-eqb _ _ (c .if3 .left)))
+returns-6 c =
+    let args = c .before .before .before .before .before .args in
+    let match′ = c .before .match in
+    let byte = c .before .before .byte in
+    let if3 = c .if3 in
+    sym (sign-at (args .line .now) (args .at)
+    ∙ simp (no-arrow (args .line .now) (args .at) 58 (match′ .keys3) refl, (match′ .keys3), ← (byte .ensures), ne-eqb _ _ (if3 .left)))
 
 returns-7 : tie.Need-returns-7
-returns-7 c = sym (sign-at (c .before .before .before .before .args .line .now) (c .before .before .before .before .args .at) ∙ simp (no-arrow (c .before .before .before .before .args .line .now) (c .before .before .before .before .args .at) 40 (c .match .keys4) refl, (c .match .keys4)))
+returns-7 c =
+    let args = c .before .before .before .before .args in
+    let match′ = c .match in
+    sym (sign-at (args .line .now) (args .at) ∙ simp (no-arrow (args .line .now) (args .at) 40 (match′ .keys4) refl, (match′ .keys4)))
 
 returns-8 : tie.Need-returns-8
-returns-8 c = sym (sign-at (c .before .before .before .before .args .line .now) (c .before .before .before .before .args .at) ∙ simp (no-arrow (c .before .before .before .before .args .line .now) (c .before .before .before .before .args .at) 41 (c .match .keys5) refl, (c .match .keys5)))
+returns-8 c =
+    let args = c .before .before .before .before .args in
+    let match′ = c .match in
+    sym (sign-at (args .line .now) (args .at) ∙ simp (no-arrow (args .line .now) (args .at) 41 (match′ .keys5) refl, (match′ .keys5)))
 
 returns-9 : tie.Need-returns-9
-returns-9 c = sym (sign-at (c .before .before .before .before .args .line .now) (c .before .before .before .before .args .at) ∙ simp (no-arrow (c .before .before .before .before .args .line .now) (c .before .before .before .before .args .at) 44 (c .match .keys6) refl, (c .match .keys6)))
+returns-9 c =
+    let args = c .before .before .before .before .args in
+    let match′ = c .match in
+    sym (sign-at (args .line .now) (args .at) ∙ simp (no-arrow (args .line .now) (args .at) 44 (match′ .keys6) refl, (match′ .keys6)))
 
 returns-10 : tie.Need-returns-10
-returns-10 c = sym (sign-at (c .before .before .before .before .args .line .now) (c .before .before .before .before .args .at) ∙ simp (no-arrow (c .before .before .before .before .args .line .now) (c .before .before .before .before .args .at) 124 (c .match .keys7) refl, (c .match .keys7)))
+returns-10 c =
+    let args = c .before .before .before .before .args in
+    let match′ = c .match in
+    sym (sign-at (args .line .now) (args .at) ∙ simp (no-arrow (args .line .now) (args .at) 124 (match′ .keys7) refl, (match′ .keys7)))
 
 returns-11 : tie.Need-returns-11
-returns-11 c = sym (sign-at (c .before .before .before .before .before .before .before .args .line .now) (c .before .before .before .before .before .before .before .args .at) ∙ simp (ne-eqb _ _ ((c .before .before .before .match .rest .0 .0 .0 .0 .0 .0 .1)), ne-eqb _ _ ((c .before .before .before .match .rest .0 .0 .0 .0 .0 .1)), ne-eqb _ _ ((c .before .before .before .match .rest .0 .0 .0 .0 .1)), ne-eqb _ _ ((c .before .before .before .match .rest .0 .0 .0 .1)), ne-eqb _ _ ((c .before .before .before .match .rest .0 .0 .1)), ne-eqb _ _ ((c .before .before .before .match .rest .0 .1)), ne-eqb _ _ ((c .before .before .before .match .rest .1)), ← (c .before .starts-with .ensures), (c .if4 .taken)))
+returns-11 c =
+    let args = c .before .before .before .before .before .before .before .args in
+    let match′ = c .before .before .before .match in
+    let starts-with = c .before .starts-with in
+    let if4 = c .if4 in
+    sym (sign-at (args .line .now) (args .at)
+    ∙ simp (ne-eqb _ _ ((match′ .rest .0 .0 .0 .0 .0 .0 .1)), ne-eqb _ _ ((match′ .rest .0 .0 .0 .0 .0 .1)), ne-eqb _ _ ((match′ .rest .0 .0 .0 .0 .1)), ne-eqb _ _ ((match′ .rest .0 .0 .0 .1)), ne-eqb _ _ ((match′ .rest .0 .0 .1)), ne-eqb _ _ ((match′ .rest .0 .1)), ne-eqb _ _ ((match′ .rest .1)), ← (starts-with .ensures), (if4 .taken)))
 
 returns-12 : tie.Need-returns-12
-returns-12 c = sym (sign-at (c .before .before .before .before .before .before .before .args .line .now) (c .before .before .before .before .before .before .before .args .at) ∙ simp (ne-eqb _ _ ((c .before .before .before .match .rest .0 .0 .0 .0 .0 .0 .1)), ne-eqb _ _ ((c .before .before .before .match .rest .0 .0 .0 .0 .0 .1)), ne-eqb _ _ ((c .before .before .before .match .rest .0 .0 .0 .0 .1)), ne-eqb _ _ ((c .before .before .before .match .rest .0 .0 .0 .1)), ne-eqb _ _ ((c .before .before .before .match .rest .0 .0 .1)), ne-eqb _ _ ((c .before .before .before .match .rest .0 .1)), ne-eqb _ _ ((c .before .before .before .match .rest .1)), ← (c .before .starts-with .ensures), (c .if4 .left)))
+returns-12 c =
+    let args = c .before .before .before .before .before .before .before .args in
+    let match′ = c .before .before .before .match in
+    let starts-with = c .before .starts-with in
+    let if4 = c .if4 in
+    sym (sign-at (args .line .now) (args .at)
+    ∙ simp (ne-eqb _ _ ((match′ .rest .0 .0 .0 .0 .0 .0 .1)), ne-eqb _ _ ((match′ .rest .0 .0 .0 .0 .0 .1)), ne-eqb _ _ ((match′ .rest .0 .0 .0 .0 .1)), ne-eqb _ _ ((match′ .rest .0 .0 .0 .1)), ne-eqb _ _ ((match′ .rest .0 .0 .1)), ne-eqb _ _ ((match′ .rest .0 .1)), ne-eqb _ _ ((match′ .rest .1)), ← (starts-with .ensures), (if4 .left)))
 
 pub sign-item-spec : {M : Type 1} → statement M
 sign-item-spec =

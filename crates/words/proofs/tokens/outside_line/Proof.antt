@@ -50,8 +50,8 @@ returns c =
     let has-outside = c .before .has-outside in
     let if1 = c .if1 in
     sym ((loop .inv .1)
-        ∙ outside-line (args .text .now) (loop .at) (code-end .result) _ (loop .number) (loop-test .taken) (code-end .ensures) refl
-        ∙ simp (← (has-outside .ensures), (if1 .taken)))
+    ∙ outside-line (args .text .now) (loop .at) (code-end .result) _ (loop .number) (loop-test .taken) (code-end .ensures) refl
+    ∙ simp (← (has-outside .ensures), (if1 .taken)))
 
 line-end-requires : tie.Need-line-end-requires Inv-loop μ-loop
 line-end-requires c κs =
@@ -91,10 +91,12 @@ loop-again c =
     let line-end = c .line-end in
     let loop-test = c .before .before .before .before .before .before .loop-test in
     let has-outside = c .before .before .has-outside in
-    let if1 = c .before .if1 in
-    (omega (arith, (loop .inv), code-within (args .text .now) (loop .at) (code-end .result) (line-end .result) (loop-test .taken) (code-end .ensures) (line-end .ensures)), (loop .inv .1)
-        ∙ outside-line (args .text .now) (loop .at) (code-end .result) (line-end .result) (loop .number) (loop-test .taken) (code-end .ensures) (line-end .ensures)
-        ∙ simp (← (has-outside .ensures), (if1 .left)))
+    let if1 = c .before .if1 in (
+      omega (arith, (loop .inv), code-within (args .text .now) (loop .at) (code-end .result) (line-end .result) (loop-test .taken) (code-end .ensures) (line-end .ensures)),
+      (loop .inv .1)
+          ∙ outside-line (args .text .now) (loop .at) (code-end .result) (line-end .result) (loop .number) (loop-test .taken) (code-end .ensures) (line-end .ensures)
+          ∙ simp (← (has-outside .ensures), (if1 .left)),
+    )
 
 returns-2 : tie.Need-returns-2 Inv-loop μ-loop
 unfolding outsideLine

@@ -41,9 +41,13 @@ loop-again c =
     let args = c .before .before .before .before .before .before .args in
     let loop-test = c .before .before .before .loop-test in
     let enum-told = c .enum-told in
-    let item-at = c .before .before .item-at in
-    (omega arith, omega (arith, (loop .inv)), (loop .inv .2), (loop .inv .3)
-        ∙ read-blank (args .code .now) (loop .at) (args .start) (args .number) _ (loop-test .taken) (sym (enum-told .given .1) ∙ (item-at .ensures)))
+    let item-at = c .before .before .item-at in (
+      omega arith,
+      omega (arith, (loop .inv)),
+      (loop .inv .2),
+      (loop .inv .3)
+          ∙ read-blank (args .code .now) (loop .at) (args .start) (args .number) _ (loop-test .taken) (sym (enum-told .given .1) ∙ (item-at .ensures)),
+    )
 
 enum-known-kind : tie.Need-enum-known-kind Inv-loop μ-loop
 enum-known-kind c = search needs
@@ -63,7 +67,7 @@ cast-size c =
     let item-at = c .before .before .before .item-at in
     let pre = c .before .before .before .before .before .before .before .pre in
     let w : (0 < (kind .given .0 .1 .0)) × ((loop .at) + (kind .given .0 .1 .0) ≤ length (args .code .now)) = item-within (args .code .now) (loop .at) (args .start) (args .number) (Token (kind .given .0 .0) (kind .given .0 .1 .0)) (loop-test .taken) (sym (kind .given .1)
-        ∙ (item-at .ensures)) in
+    ∙ (item-at .ensures)) in
     omega (arith, (pre .small))
 
 mul-t17 : tie.Need-mul-t17 Inv-loop μ-loop
@@ -84,7 +88,7 @@ add-at-2 c =
     let item-at = c .before .before .before .item-at in
     let pre = c .before .before .before .before .before .before .before .pre in
     let w : (0 < (kind .given .0 .1 .0)) × ((loop .at) + (kind .given .0 .1 .0) ≤ length (args .code .now)) = item-within (args .code .now) (loop .at) (args .start) (args .number) (Token (kind .given .0 .0) (kind .given .0 .1 .0)) (loop-test .taken) (sym (kind .given .1)
-        ∙ (item-at .ensures)) in
+    ∙ (item-at .ensures)) in
     omega (arith, (pre .small))
 
 loop-less-2 : tie.Need-loop-less-2 Inv-loop μ-loop
@@ -95,7 +99,7 @@ loop-less-2 c =
     let loop-test = c .before .before .before .before .loop-test in
     let item-at = c .before .before .before .item-at in
     let w : (0 < (kind .given .0 .1 .0)) × ((loop .at) + (kind .given .0 .1 .0) ≤ length (args .code .now)) = item-within (args .code .now) (loop .at) (args .start) (args .number) (Token (kind .given .0 .0) (kind .given .0 .1 .0)) (loop-test .taken) (sym (kind .given .1)
-        ∙ (item-at .ensures)) in
+    ∙ (item-at .ensures)) in
     omega arith
 
 loop-again-2 : tie.Need-loop-again-2 Inv-loop μ-loop
@@ -107,11 +111,15 @@ loop-again-2 c =
     let item-at = c .before .before .before .item-at in
     let pre = c .before .before .before .before .before .before .before .pre in
     let w : (0 < (kind .given .0 .1 .0)) × ((loop .at) + (kind .given .0 .1 .0) ≤ length (args .code .now)) = item-within (args .code .now) (loop .at) (args .start) (args .number) (Token (kind .given .0 .0) (kind .given .0 .1 .0)) (loop-test .taken) (sym (kind .given .1)
-        ∙ (item-at .ensures)) in
-    let room : (loop .n) < length (loop .rows) = omega (arith, (pre .lent), (loop .inv)) in
-    (omega arith, omega (arith, (loop .inv)), simp length-set (loop .inv .2), (loop .inv .3)
-        ∙ read-token (args .code .now) (loop .at) (args .start) (args .number) (take (loop .n) (loop .rows)) (loop-test .taken) (kind .given .0 .0) (kind .given .0 .1 .0) (sym (kind .given .1) ∙ (item-at .ensures))
-        ∙ ap (λ ts. andThen (tokens ts) (readAfter (drop ((loop .at) + (kind .given .0 .1 .0)) (args .code .now)) 0 ((args .start) + ((loop .at) + (kind .given .0 .1 .0))) (args .number))) (sym (push-row (loop .rows) (loop .n) ((kind .given .0 .0) ∷ ((args .start) + (loop .at)) ∷ (kind .given .0 .1 .0) ∷ (args .number) ∷ []) room)))
+    ∙ (item-at .ensures)) in
+    let room : (loop .n) < length (loop .rows) = omega (arith, (pre .lent), (loop .inv)) in (
+      omega arith,
+      omega (arith, (loop .inv)),
+      simp length-set (loop .inv .2),
+      (loop .inv .3)
+          ∙ read-token (args .code .now) (loop .at) (args .start) (args .number) (take (loop .n) (loop .rows)) (loop-test .taken) (kind .given .0 .0) (kind .given .0 .1 .0) (sym (kind .given .1) ∙ (item-at .ensures))
+          ∙ ap (λ ts. andThen (tokens ts) (readAfter (drop ((loop .at) + (kind .given .0 .1 .0)) (args .code .now)) 0 ((args .start) + ((loop .at) + (kind .given .0 .1 .0))) (args .number))) (sym (push-row (loop .rows) (loop .n) ((kind .given .0 .0) ∷ ((args .start) + (loop .at)) ∷ (kind .given .0 .1 .0) ∷ (args .number) ∷ []) room)),
+    )
 
 enum-known-r : tie.Need-enum-known-r Inv-loop μ-loop
 enum-known-r c = search needs
@@ -130,7 +138,7 @@ returns c =
       reads = sym ((loop .inv .3)
           ∙ read-refused (args .code .now) (loop .at) (args .start) (args .number) (take (loop .n) (loop .rows)) (loop-test .taken) (r′ .given .0 .0) (sym (r′ .given .1) ∙ (item-at .ensures)));
       fits = omega arith;
-      long = (loop .inv .2)
+      long = (loop .inv .2);
     }
 
 same-length-2 : tie.Need-same-length-2 Inv-loop μ-loop
@@ -144,7 +152,7 @@ returns-2 c =
     record {
       reads = sym ((loop .inv .3) ∙ read-end (args .code .now) (loop .at) (args .start) (args .number) (take (loop .n) (loop .rows)) (loop-test .left));
       fits = omega (arith, (loop .inv));
-      long = (loop .inv .2)
+      long = (loop .inv .2);
     }
 
 pub read-code-spec : {M : Type 1} → statement M

@@ -55,7 +55,7 @@ read-code-requires c κs =
       table = (class-table .ensures);
       below = (loop .inv .1);
       lent = omega (arith, pre, (loop .inv), code-fits (args .text .now) (loop .at) (code-end .result) (loop-test .taken) (code-end .ensures));
-      small = omega (arith, pre, code-fits (args .text .now) (loop .at) (code-end .result) (loop-test .taken) (code-end .ensures))
+      small = omega (arith, pre, code-fits (args .text .now) (loop .at) (code-end .result) (loop-test .taken) (code-end .ensures));
     }
 
 enum-known-read : tie.Need-enum-known-read Inv-loop μ-loop
@@ -81,7 +81,7 @@ returns c =
           ∙ line-read (args .text .now) (loop .at) (code-end .result) _ (loop .number) (loop-test .taken) (code-end .ensures) refl _ (take (loop .count) (loop .rows)) (outcome (read-code .result) (read-code .last .1 .1 .1 .1 .0)) (loop .inv .4) (read-code .ensures .reads)
           ∙ stopped (read-code .result) (read-code .last .1 .1 .1 .1 .0) _ _ _ (enum-told .given .1));
       fits = omega (arith, (read-code .ensures .fits), code-fits (args .text .now) (loop .at) (code-end .result) (loop-test .taken) (code-end .ensures));
-      long = (read-code .ensures .long) ∙ (loop .inv .3)
+      long = (read-code .ensures .long) ∙ (loop .inv .3);
     }
 
 line-end-requires : tie.Need-line-end-requires Inv-loop μ-loop
@@ -126,10 +126,15 @@ loop-again c =
     let read′ = c .before .before .read in
     let line-end = c .line-end in
     let long : length (take ((code-end .result) - (loop .at)) (drop (loop .at) (args .text .now))) ≡ (code-end .result) - (loop .at) = part-long (args .text .now) (loop .at) (code-end .result) (code-fits (args .text .now) (loop .at) (code-end .result) (loop-test .taken) (code-end .ensures)) in
-    let counted : countOf (read-code .result) ≡ (read′ .given .0 .0) = ap countOf (read′ .given .1) in
-    (omega (arith, (loop .inv), code-within (args .text .now) (loop .at) (code-end .result) (line-end .result) (loop-test .taken) (code-end .ensures) (line-end .ensures)), omega (arith, (read-code .ensures .fits), code-fits (args .text .now) (loop .at) (code-end .result) (loop-test .taken) (code-end .ensures), code-within (args .text .now) (loop .at) (code-end .result) (line-end .result) (loop-test .taken) (code-end .ensures) (line-end .ensures)), omega (arith, (read-code .ensures .fits), code-fits (args .text .now) (loop .at) (code-end .result) (loop-test .taken) (code-end .ensures)), (read-code .ensures .long)
-        ∙ (loop .inv .3), line-read (args .text .now) (loop .at) (code-end .result) (line-end .result) (loop .number) (loop-test .taken) (code-end .ensures) (line-end .ensures) _ (take (loop .count) (loop .rows)) (outcome (read-code .result) (read-code .last .1 .1 .1 .1 .0)) (loop .inv .4) (read-code .ensures .reads)
-        ∙ ap (λ l. andThen (outcome l (read-code .last .1 .1 .1 .1 .0)) (readLines (lines (drop ((line-end .result) + 1) (args .text .now))) ((line-end .result) + 1) ((loop .number) + 1))) (read′ .given .1))
+    let counted : countOf (read-code .result) ≡ (read′ .given .0 .0) = ap countOf (read′ .given .1) in (
+      omega (arith, (loop .inv), code-within (args .text .now) (loop .at) (code-end .result) (line-end .result) (loop-test .taken) (code-end .ensures) (line-end .ensures)),
+      omega (arith, (read-code .ensures .fits), code-fits (args .text .now) (loop .at) (code-end .result) (loop-test .taken) (code-end .ensures), code-within (args .text .now) (loop .at) (code-end .result) (line-end .result) (loop-test .taken) (code-end .ensures) (line-end .ensures)),
+      omega (arith, (read-code .ensures .fits), code-fits (args .text .now) (loop .at) (code-end .result) (loop-test .taken) (code-end .ensures)),
+      (read-code .ensures .long)
+          ∙ (loop .inv .3),
+      line-read (args .text .now) (loop .at) (code-end .result) (line-end .result) (loop .number) (loop-test .taken) (code-end .ensures) (line-end .ensures) _ (take (loop .count) (loop .rows)) (outcome (read-code .result) (read-code .last .1 .1 .1 .1 .0)) (loop .inv .4) (read-code .ensures .reads)
+          ∙ ap (λ l. andThen (outcome l (read-code .last .1 .1 .1 .1 .0)) (readLines (lines (drop ((line-end .result) + 1) (args .text .now))) ((line-end .result) + 1) ((loop .number) + 1))) (read′ .given .1),
+    )
 
 same-length-2 : tie.Need-same-length-2 Inv-loop μ-loop
 same-length-2 c = (c .before .loop .inv .3)
@@ -143,7 +148,7 @@ returns-2 c =
     record {
       reads = sym (then-nil _ ∙ (loop .inv .4) ∙ simp (lines-past (args .text .now) (loop .at) (loop-test .left), then-end));
       fits = (loop .inv .2);
-      long = (loop .inv .3)
+      long = (loop .inv .3);
     }
 
 pub read-lines-spec : {M : Type 1} → statement M

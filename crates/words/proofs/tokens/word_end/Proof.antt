@@ -27,7 +27,19 @@ in-word-requires : tie.Need-in-word-requires Inv-loop μ-loop
 in-word-requires c κs = search needs
 
 returns : tie.Need-returns Inv-loop μ-loop
-returns c = omega (arith, (c .before .before .before .before .loop .inv .2), word-stop (c .before .before .before .before .before .before .args .line .now) (c .before .before .before .before .loop .i) (ap (λ k. isWord (k .class)) (sym (c .before .before .character-at .ensures)) ∙ sym (c .before .in-word .ensures) ∙ not-true _ (c .if1 .taken)))
+returns c =
+    let loop = c .before .before .before .before .loop in
+    let args = c .before .before .before .before .before .before .args in
+    let character-at = c .before .before .character-at in
+    let in-word = c .before .in-word in
+    let if1 = c .if1 in
+    omega (
+      arith,
+      (loop .inv .2),
+      word-stop (args .line .now) (loop .i) (ap (λ k. isWord (k .class)) (sym (character-at .ensures))
+          ∙ sym (in-word .ensures)
+          ∙ not-true _ (if1 .taken)),
+    )
 
 add-i : tie.Need-add-i Inv-loop μ-loop
 add-i c = search needs
@@ -36,7 +48,23 @@ loop-less : tie.Need-loop-less Inv-loop μ-loop
 loop-less c = search needs
 
 loop-again : tie.Need-loop-again Inv-loop μ-loop
-loop-again c = (omega arith, omega arith, omega (arith, (c .before .before .before .before .loop .inv .2), word-next (c .before .before .before .before .before .before .args .line .now) (c .before .before .before .before .loop .i) (c .before .before .before .loop-test .taken) (ap (λ k. isWord (k .class)) (sym (c .before .before .character-at .ensures)) ∙ sym (c .before .in-word .ensures) ∙ not-false _ (c .if1 .left))))
+loop-again c =
+    let loop = c .before .before .before .before .loop in
+    let args = c .before .before .before .before .before .before .args in
+    let loop-test = c .before .before .before .loop-test in
+    let character-at = c .before .before .character-at in
+    let in-word = c .before .in-word in
+    let if1 = c .if1 in (
+      omega arith,
+      omega arith,
+      omega (
+        arith,
+        (loop .inv .2),
+        word-next (args .line .now) (loop .i) (loop-test .taken) (ap (λ k. isWord (k .class)) (sym (character-at .ensures))
+            ∙ sym (in-word .ensures)
+            ∙ not-false _ (if1 .left)),
+      ),
+    )
 
 returns-2 : tie.Need-returns-2 Inv-loop μ-loop
 returns-2 c = omega (arith, (c .before .loop .inv .2), word-past (c .before .before .before .args .line .now) (c .before .loop .i) (c .loop-test .left))

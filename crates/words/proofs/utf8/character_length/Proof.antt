@@ -15,7 +15,12 @@ lead-of-requires : tie.Need-lead-of-requires
 lead-of-requires c κs = search needs
 
 returns-2 : tie.Need-returns-2
-returns-2 c = sym (length-none (c .before .before .before .before .before .args .text .now) (c .before .before .before .before .before .args .at) (c .before .lead-of .result) (c .before .before .before .if1 .left) (c .before .lead-of .ensures) (c .if2 .taken))
+returns-2 c =
+    let args = c .before .before .before .before .before .args in
+    let lead-of = c .before .lead-of in
+    let if1 = c .before .before .before .if1 in
+    let if2 = c .if2 in
+    sym (length-none (args .text .now) (args .at) (lead-of .result) (if1 .left) (lead-of .ensures) (if2 .taken))
 
 add-tails : tie.Need-add-tails
 add-tails c = search needs
@@ -27,10 +32,22 @@ tails-requires : tie.Need-tails-requires
 tails-requires c κs = search needs
 
 returns-3 : tie.Need-returns-3
-returns-3 c = sym (length-at (c .before .before .before .before .before .before .before .args .text .now) (c .before .before .before .before .before .before .before .args .at) (c .before .before .before .lead-of .result) (c .before .before .before .before .before .if1 .left) (c .before .before .before .lead-of .ensures) (c .before .tails .result) (c .before .tails .ensures) ∙ simp (c .if3 .taken))
+returns-3 c =
+    let args = c .before .before .before .before .before .before .before .args in
+    let lead-of = c .before .before .before .lead-of in
+    let if1 = c .before .before .before .before .before .if1 in
+    let tails = c .before .tails in
+    let if3 = c .if3 in
+    sym (length-at (args .text .now) (args .at) (lead-of .result) (if1 .left) (lead-of .ensures) (tails .result) (tails .ensures) ∙ simp (if3 .taken))
 
 returns-4 : tie.Need-returns-4
-returns-4 c = sym (length-at (c .before .before .before .before .before .before .before .args .text .now) (c .before .before .before .before .before .before .before .args .at) (c .before .before .before .lead-of .result) (c .before .before .before .before .before .if1 .left) (c .before .before .before .lead-of .ensures) (c .before .tails .result) (c .before .tails .ensures) ∙ simp (c .if3 .left))
+returns-4 c =
+    let args = c .before .before .before .before .before .before .before .args in
+    let lead-of = c .before .before .before .lead-of in
+    let if1 = c .before .before .before .before .before .if1 in
+    let tails = c .before .tails in
+    let if3 = c .if3 in
+    sym (length-at (args .text .now) (args .at) (lead-of .result) (if1 .left) (lead-of .ensures) (tails .result) (tails .ensures) ∙ simp (if3 .left))
 
 pub character-length-spec : {M : Type 1} → statement M
 character-length-spec =

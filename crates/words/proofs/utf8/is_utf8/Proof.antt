@@ -23,16 +23,39 @@ character-length-requires : tie.Need-character-length-requires Inv-loop μ-loop
 character-length-requires c κs = search needs
 
 returns : tie.Need-returns Inv-loop μ-loop
-returns c = sym ((c .before .before .before .loop .inv .1) ∙ utf8-not _ (c .before .before .before .loop .at) (c .before .character-length .result) (c .before .before .loop-test .taken) (c .before .character-length .ensures) (c .if1 .taken))
+returns c =
+    let loop = c .before .before .before .loop in
+    let character-length = c .before .character-length in
+    let loop-test = c .before .before .loop-test in
+    let if1 = c .if1 in
+    sym ((loop .inv .1) ∙ utf8-not _ (loop .at) (character-length .result) (loop-test .taken) (character-length .ensures) (if1 .taken))
 
 add-at : tie.Need-add-at Inv-loop μ-loop
-add-at c = omega (arith, length-within (c .before .before .before .before .before .args .text .now) (c .before .before .before .loop .at) (c .before .character-length .result) (c .before .before .loop-test .taken) (c .before .character-length .ensures))
+add-at c =
+    let args = c .before .before .before .before .before .args in
+    let loop = c .before .before .before .loop in
+    let character-length = c .before .character-length in
+    let loop-test = c .before .before .loop-test in
+    omega (arith, length-within (args .text .now) (loop .at) (character-length .result) (loop-test .taken) (character-length .ensures))
 
 loop-less : tie.Need-loop-less Inv-loop μ-loop
-loop-less c = omega (arith, length-within (c .before .before .before .before .before .args .text .now) (c .before .before .before .loop .at) (c .before .character-length .result) (c .before .before .loop-test .taken) (c .before .character-length .ensures))
+loop-less c =
+    let args = c .before .before .before .before .before .args in
+    let loop = c .before .before .before .loop in
+    let character-length = c .before .character-length in
+    let loop-test = c .before .before .loop-test in
+    omega (arith, length-within (args .text .now) (loop .at) (character-length .result) (loop-test .taken) (character-length .ensures))
 
 loop-again : tie.Need-loop-again Inv-loop μ-loop
-loop-again c = (omega (arith, length-within (c .before .before .before .before .before .args .text .now) (c .before .before .before .loop .at) (c .before .character-length .result) (c .before .before .loop-test .taken) (c .before .character-length .ensures)), (c .before .before .before .loop .inv .1) ∙ utf8-next _ (c .before .before .before .loop .at) (c .before .character-length .result) (c .before .before .loop-test .taken) (c .before .character-length .ensures) (omega arith))
+loop-again c =
+    let args = c .before .before .before .before .before .args in
+    let loop = c .before .before .before .loop in
+    let character-length = c .before .character-length in
+    let loop-test = c .before .before .loop-test in (
+      omega (arith, length-within (args .text .now) (loop .at) (character-length .result) (loop-test .taken) (character-length .ensures)),
+      (loop .inv .1)
+          ∙ utf8-next _ (loop .at) (character-length .result) (loop-test .taken) (character-length .ensures) (omega arith),
+    )
 
 returns-2 : tie.Need-returns-2 Inv-loop μ-loop
 returns-2 c = sym ((c .before .loop .inv .1) ∙ utf8-end _ (c .before .loop .at) (c .loop-test .left))

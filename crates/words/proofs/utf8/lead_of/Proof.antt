@@ -75,14 +75,20 @@ asks-requires-10 c κs = search needs
 
 returns-10 : tie.Need-returns-10
 unfolding leadOf formOf forms sameLead
-returns-10 c = (c .asks10 .ensures) ∙ sym (lead-range 244 1 _ tt (c .before .before .before .before .before .before .before .before .before .before .before .args .a) (omega arith) (omega arith))
+returns-10 c =
+    let asks10 = c .asks10 in
+    let args = c .before .before .before .before .before .before .before .before .before .before .before .args in
+    (asks10 .ensures) ∙ sym (lead-range 244 1 _ tt (args .a) (omega arith) (omega arith))
 
 asks-requires-11 : tie.Need-asks-requires-11
 asks-requires-11 c κs = search needs
 
 returns-11 : tie.Need-returns-11
 unfolding leadOf formOf forms sameLead
-returns-11 c = (c .asks11 .ensures) ∙ sym (lead-range 245 11 _ tt (c .before .before .before .before .before .before .before .before .before .before .before .args .a) (omega arith) (omega arith))
+returns-11 c =
+    let asks11 = c .asks11 in
+    let args = c .before .before .before .before .before .before .before .before .before .before .before .args in
+    (asks11 .ensures) ∙ sym (lead-range 245 11 _ tt (args .a) (omega arith) (omega arith))
 
 pub lead-of-spec : {M : Type 1} → statement M
 lead-of-spec =

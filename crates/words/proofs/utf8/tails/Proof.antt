@@ -24,10 +24,20 @@ shared-slice-read-c : tie.Need-shared-slice-read-c Inv-loop μ-loop
 shared-slice-read-c c = search needs
 
 returns-2 : tie.Need-returns-2 Inv-loop μ-loop
-returns-2 c = sym ((c .before .before .before .before .loop .inv) ∙ tails-low _ (c .before .before .before .before .loop .i) (c .before .before .before .before .loop .left) _ _ (c .before .before .if1 .left) (c .before .before .before .loop-test .taken) (c .if2 .taken))
+returns-2 c =
+    let loop = c .before .before .before .before .loop in
+    let if1 = c .before .before .if1 in
+    let loop-test = c .before .before .before .loop-test in
+    let if2 = c .if2 in
+    sym ((loop .inv) ∙ tails-low _ (loop .i) (loop .left) _ _ (if1 .left) (loop-test .taken) (if2 .taken))
 
 returns-3 : tie.Need-returns-3 Inv-loop μ-loop
-returns-3 c = sym ((c .before .before .before .before .before .loop .inv) ∙ tails-high _ (c .before .before .before .before .before .loop .i) (c .before .before .before .before .before .loop .left) _ _ (c .before .before .before .if1 .left) (c .before .before .before .before .loop-test .taken) (c .if3 .taken))
+returns-3 c =
+    let loop = c .before .before .before .before .before .loop in
+    let if1 = c .before .before .before .if1 in
+    let loop-test = c .before .before .before .before .loop-test in
+    let if3 = c .if3 in
+    sym ((loop .inv) ∙ tails-high _ (loop .i) (loop .left) _ _ (if1 .left) (loop-test .taken) (if3 .taken))
 
 add-i : tie.Need-add-i Inv-loop μ-loop
 add-i c = search needs
@@ -39,7 +49,13 @@ loop-less : tie.Need-loop-less Inv-loop μ-loop
 loop-less c = search needs
 
 loop-again : tie.Need-loop-again Inv-loop μ-loop
-loop-again c = (c .before .before .before .before .before .loop .inv) ∙ tails-next _ (c .before .before .before .before .before .loop .i) (c .before .before .before .before .before .loop .left) _ _ (c .before .before .before .if1 .left) (c .before .before .before .before .loop-test .taken) (c .before .if2 .left) (c .if3 .left)
+loop-again c =
+    let loop = c .before .before .before .before .before .loop in
+    let if1 = c .before .before .before .if1 in
+    let loop-test = c .before .before .before .before .loop-test in
+    let if2 = c .before .if2 in
+    let if3 = c .if3 in
+    (loop .inv) ∙ tails-next _ (loop .i) (loop .left) _ _ (if1 .left) (loop-test .taken) (if2 .left) (if3 .left)
 
 returns-4 : tie.Need-returns-4 Inv-loop μ-loop
 returns-4 c = sym ((c .before .loop .inv) ∙ tails-none _ (c .before .loop .left) _ _ (c .loop-test .left))
