@@ -1,18 +1,18 @@
 -- A text that is read to its end has no character outside the domain, so `lex` looks for one only where reading is refused.
-use mathlib.Core.Path.{_≡_, refl, sym, ap, _∙_}
-use mathlib.Core.Bool.{Bool, true, false, cond, not, _&&_, _||_}
-use mathlib.Core.List.{List, [], _∷_, _++_}
-use Prim.Native.Nat.{ℕ, zero, suc, _+_, _-_, _≤_, _<_}
+use mathlib.Core.Path.{_≡_, refl, _∙_}
+use mathlib.Core.Bool.{Bool, true, false, cond, _&&_, _||_}
+use mathlib.Core.List.{List, [], _∷_}
+use Prim.Native.Nat.{ℕ, zero, suc, _+_, _-_, _<_}
 use native.Mathlib.Omega.{arith}
-use lib.ListN.{length, getD, drop}
+use lib.ListN.{length, getD}
 use lib.Dec.{eqb, ltb}
-use borrow.Author.Tests.{eq-eqb, ne-eqb, eqb-true, ltb-true}
+use borrow.Author.Tests.{ne-eqb, eqb-true, ltb-true}
 use Rattle.words.specs.Bytes.{within, startsWith, upTo, oneOf}
 use Rattle.words.specs.Characters.{arrow, characterOf, classOf, hasOutside, outsideAfter}
 use Rattle.words.specs.Lines.{codeOf}
 use Rattle.words.specs.Names.{wordItem, ifFits}
 use Rattle.words.specs.Numerals.{allDigits, numeralOf}
-use Rattle.words.specs.Signs.{signs, signAmong, signItem}
+use Rattle.words.specs.Signs.{signItem}
 use Rattle.words.specs.Tokens.{Reading, andThen, isWord, wordOf, itemOf, itemLength, readItem, readAfter, readLines, outsideLine}
 use Rattle.words.specs.Tokens.Reading.{tokens, refused}
 use Rattle.words.specs.declared.NumeralValue.{NumeralValue}
@@ -20,7 +20,7 @@ use Rattle.words.specs.declared.NumeralValue.the-variants.{Fits, TooLarg
 use Rattle.words.specs.Lexer.{inDomain}
 use Rattle.words.specs.declared.Refusal.the-variants.{UnexpectedCharacter, OutsideDomain}
 use Rattle.words.specs.declared.tokens.Item.{Item}
-use Rattle.words.specs.declared.tokens.Item.the-variants.{Blank, Token, Refused}
+use Rattle.words.specs.declared.tokens.Item.the-variants.{Token, Refused}
 use Rattle.words.proofs.Scans.{by-bool, and-left, and-right}
 use Rattle.words.proofs.Items.{sign-at, signBy, no-arrow}
 

@@ -1,18 +1,18 @@
 -- Laws of UTF-8 and of characters, at a place of a text.
 use mathlib.Core.Path.{_≡_, refl, sym, ap, _∙_}
-use mathlib.Core.Bool.{Bool, true, false, cond, not, _&&_, _||_, and-false}
+use mathlib.Core.Bool.{Bool, true, false, cond, _&&_, _||_, and-false}
 use mathlib.Core.List.{List, [], _∷_}
 use Prim.Native.Nat.{ℕ, zero, suc, _+_, _-_, _≤_, _<_}
 use native.Mathlib.Numerals.{add-one}
-use native.Mathlib.Nat.{add-suc, suc-add, add-zero}
+use native.Mathlib.Nat.{add-zero}
 use native.Mathlib.Omega.{arith}
-use lib.ListN.{length, getD, take, drop, replicate, length-drop, length-replicate, drop-of-length-le}
+use lib.ListN.{length, getD, drop, replicate, length-drop, length-replicate, drop-of-length-le}
 use lib.Seq.{drop-cons, drop-drop}
 use lib.Dec.{T, eqb, ltb, eqb→eq}
 use borrow.Author.Tests.{eq-eqb, ne-eqb, le-leb, lt-leb, lt-ltb, le-ltb}
 use Rattle.words.specs.Bytes.{within, startsWith}
-use Rattle.words.specs.Utf8.{leadOf, formOf, forms, asks, tailsOf, characterLength, utf8After, isUtf8}
-use Rattle.words.specs.Characters.{arrow, characterOf, outsideAfter, hasOutside, classOf, classesFrom, classTable}
+use Rattle.words.specs.Utf8.{leadOf, asks, tailsOf, characterLength, utf8After}
+use Rattle.words.specs.Characters.{arrow, characterOf, outsideAfter, classOf, classesFrom, classTable}
 use Rattle.words.specs.declared.utf8.Lead.{Lead}
 use Rattle.words.specs.declared.characters.Character.{Character}
 use Rattle.words.proofs.Table.{both, both-left, both-right, every, at}

@@ -1,24 +1,23 @@
 -- Laws of signs, keywords and items, at a place of a line.
-use mathlib.Core.Path.{_≡_, refl, sym, ap, _∙_}
-use mathlib.Core.Bool.{Bool, true, false, cond, not, _&&_, _||_, and-true, and-false}
+use mathlib.Core.Path.{_≡_, refl, sym}
+use mathlib.Core.Bool.{Bool, true, false, cond, not, _&&_}
 use mathlib.Core.List.{List, [], _∷_}
 use Prim.Native.Nat.{ℕ, zero, suc, _+_, _-_, _≤_, _<_}
 use native.Mathlib.Numerals.{add-one}
 use native.Mathlib.Omega.{arith}
-use lib.ListN.{length, getD, take, drop, length-drop, drop-of-length-le}
-use lib.Seq.{drop-cons}
-use lib.Dec.{eqb, ltb}
-use borrow.Author.Tests.{eq-eqb, ne-eqb}
-use Rattle.words.specs.Bytes.{startsWith, sameBytes, upTo}
+use lib.ListN.{length, getD, take, drop, length-drop}
+use lib.Dec.{eqb}
+use borrow.Author.Tests.{ne-eqb}
+use Rattle.words.specs.Bytes.{startsWith, sameBytes}
 use Rattle.words.specs.Characters.{arrow, characterOf}
-use Rattle.words.specs.Names.{keywords, keywordOf, numberAmong, numberIf, hashKeywordOf, nameKind}
+use Rattle.words.specs.Names.{keywords, keywordOf, numberAmong, nameKind}
 use Rattle.words.specs.Signs.{signs, signAmong, signItem}
 use Rattle.words.specs.Tokens.{isWord, wordOf}
 use Rattle.words.specs.declared.Refusal.the-variants.{UnexpectedCharacter}
 use Rattle.words.specs.declared.characters.Character.{Character}
 use Rattle.words.specs.declared.tokens.Item.{Item}
-use Rattle.words.specs.declared.tokens.Item.the-variants.{Blank, Token, Refused}
-use Rattle.words.proofs.Scans.{by-bool, one-at, two-at, scan-next, scan-stop, scan-end, scan-fits, scan-take}
+use Rattle.words.specs.declared.tokens.Item.the-variants.{Token, Refused}
+use Rattle.words.proofs.Scans.{one-at, two-at, scan-next, scan-stop, scan-end, scan-fits, scan-take}
 
 -- The sign whose first bytes are a and b; t: → stands there.
 abbrev pub signBy : ℕ → ℕ → Bool → Item

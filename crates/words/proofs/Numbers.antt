@@ -1,8 +1,8 @@
 -- Laws of digits and of the values of numerals, at place i of a word.
-use mathlib.Core.Path.{_≡_, refl, sym, ap, _∙_}
-use mathlib.Core.Bool.{Bool, true, false, cond, _&&_, and-false}
+use mathlib.Core.Path.{_≡_, _∙_}
+use mathlib.Core.Bool.{true, false, cond, _&&_, and-false}
 use mathlib.Core.List.{List, [], _∷_}
-use Prim.Native.Nat.{ℕ, zero, suc, _+_, _-_, _*_, _^_, _≤_, _<_}
+use Prim.Native.Nat.{ℕ, _+_, _-_, _*_, _^_, _≤_, _<_}
 use native.Mathlib.Numerals.{add-one}
 use native.Mathlib.Omega.{arith}
 use lib.ListN.{length, getD, drop, drop-of-length-le}
@@ -12,7 +12,6 @@ use borrow.Author.Tests.{le-leb, lt-leb, lt-ltb, le-ltb}
 use Rattle.words.specs.Numerals.{allDigits, valueFrom, numeralOf}
 use Rattle.words.specs.declared.NumeralValue.{NumeralValue}
 use Rattle.words.specs.declared.NumeralValue.the-variants.{Fits, TooLarge}
-use Rattle.words.proofs.Scans.{by-bool}
 
 -- The numeral whose first digits make v and whose other bytes are s.
 unfoldable pub numeralFrom : ℕ → List ℕ → NumeralValue

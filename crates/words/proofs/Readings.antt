@@ -1,17 +1,17 @@
 -- Laws of readings: of one after another, of a line from a place on, and of a text from a line on.
 use mathlib.Core.Path.{_≡_, refl, sym, ap, _∙_}
-use mathlib.Core.Bool.{Bool, true, false, cond, not, _&&_, _||_}
+use mathlib.Core.Bool.{Bool, true, cond, _&&_}
 use mathlib.Core.List.{List, [], _∷_, _++_, append-assoc, append-nil}
 use Prim.Native.Nat.{ℕ, zero, suc, _+_, _-_, _≤_, _<_}
 use native.Mathlib.Numerals.{add-one}
-use native.Mathlib.Nat.{add-zero, add-suc, suc-add}
+use native.Mathlib.Nat.{add-zero}
 use native.Mathlib.Omega.{arith}
-use lib.ListN.{length, getD, take, drop, set, replicate, length-drop, length-set, drop-of-length-le}
-use lib.Seq.{drop-cons, drop-drop, take-suc-set, length-take-le}
+use lib.ListN.{length, getD, take, drop, set, replicate, length-drop, drop-of-length-le}
+use lib.Seq.{drop-cons, take-suc-set, length-take-le}
 use lib.Dec.{eqb, ltb}
-use borrow.Author.Tests.{eq-eqb, ne-eqb, eqb-true, ltb-true}
-use Rattle.words.specs.Bytes.{startsWith, upTo}
-use Rattle.words.specs.Characters.{characterOf, hasOutside, outsideAfter}
+use borrow.Author.Tests.{ltb-true}
+use Rattle.words.specs.Bytes.{startsWith}
+use Rattle.words.specs.Characters.{characterOf, hasOutside}
 use Rattle.words.specs.Lines.{lines, lineOf, codeOf}
 use Rattle.words.specs.Names.{wordItem, ifFits}
 use Rattle.words.specs.Numerals.{allDigits, numeralOf}
@@ -27,7 +27,7 @@ use Rattle.words.specs.declared.Lexed.the-variants as lexed
 use Rattle.words.specs.declared.Refusal.{Refusal}
 use Rattle.words.specs.declared.tokens.Item.{Item}
 use Rattle.words.specs.declared.tokens.Item.the-variants.{Blank, Token, Refused}
-use Rattle.words.proofs.Scans.{by-bool, and-left, and-right, prefix-fits, scan-fits, line-long, lines-at, code-part}
+use Rattle.words.proofs.Scans.{by-bool, and-left, and-right, prefix-fits, line-long, lines-at, code-part}
 use Rattle.words.proofs.Encodings.{past}
 use Rattle.words.proofs.Items.{word-next, word-fits}
 

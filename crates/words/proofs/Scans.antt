@@ -1,6 +1,6 @@
 -- Laws of prefixes, of equality byte by byte, of `upTo` and of `lines`, at a place of a list.
 use mathlib.Core.Path.{_≡_, refl, sym, ap, _∙_}
-use mathlib.Core.Bool.{Bool, true, false, cond, not, _&&_, _||_, and-true, and-false}
+use mathlib.Core.Bool.{Bool, true, false, not, _&&_, _||_, and-true, and-false}
 use mathlib.Core.List.{List, [], _∷_}
 use Prim.Native.Nat.{ℕ, zero, suc, _+_, _-_, _≤_, _<_}
 use native.Mathlib.Numerals.{add-one}
@@ -15,9 +15,6 @@ use Rattle.words.specs.Lines.{lines, lineOf, codeOf, endsCode}
 pub by-bool {ℓ} : {P : Type ℓ} (b : Bool) → (b ≡ true → P) → (b ≡ false → P) → P
 by-bool true f g = f refl
 by-bool false f g = g refl
-
-pub one-eqb : (c a : ℕ) → (eqb c a && true) ≡ eqb c a
-one-eqb c a = and-true (eqb c a)
 
 -- Two words, from place i of each on.
 pub same-lengths : (v w : List ℕ) → (length v ≡ length w → ⊥) → sameBytes v w ≡ false

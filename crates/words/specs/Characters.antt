@@ -1,5 +1,5 @@
 -- Document 01, Words: each of the 128 ASCII codes has one class; outside comments → (U+2192) is the only other character.
-use mathlib.Core.Bool.{Bool, true, false, cond, _&&_, _||_}
+use mathlib.Core.Bool.{Bool, false, cond, _||_}
 use mathlib.Core.List.{List, [], _∷_}
 use Prim.Native.Nat.{ℕ, zero, suc, _-_}
 use lib.Dec.{eqb, ltb}

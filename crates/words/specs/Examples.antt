@@ -7,10 +7,10 @@ use Prim.Native.Nat.{ℕ}
 use lib.Dec.{eqb}
 use native.Mathlib.Omega.{arith}
 use borrow.Author.Tests.{eqb-true}
-use Rattle.words.specs.Bytes.{within, oneOf, startsWith, sameBytes, upTo}
+use Rattle.words.specs.Bytes.{oneOf, startsWith, sameBytes, upTo}
 use Rattle.words.specs.Utf8.{forms, formOf, leadOf, tailsOf, characterLength, utf8After, isUtf8}
 use Rattle.words.specs.Characters.{classOf, characterOf, outsideAfter, hasOutside}
-use Rattle.words.specs.Lines.{lines, lineOf, codeOf}
+use Rattle.words.specs.Lines.{lines, codeOf}
 use Rattle.words.specs.Numerals.{allDigits, valueFrom, numeralOf}
 use Rattle.words.specs.Names.{keywords, numberAmong, keywordOf, wordItem}
 use Rattle.words.specs.Signs.{signs, signAmong, signItem}

@@ -1,9 +1,9 @@
 -- `lex` on all inputs: limits, the order of the refusals, and what the lent rows hold afterwards.
 use mathlib.Core.Path.{_≡_}
-use mathlib.Core.Bool.{Bool, true, false, cond}
+use mathlib.Core.Bool.{cond}
 use mathlib.Core.List.{List, [], _∷_, _++_}
 use Prim.Native.Nat.{ℕ, zero, suc, _+_, _-_, min}
-use lib.Dec.{leb, ltb, eqb}
+use lib.Dec.{leb, ltb}
 use lib.ListN.{length, take, drop, replicate}
 use Rattle.words.specs.Utf8.{isUtf8}
 use Rattle.words.specs.Lines.{lines}

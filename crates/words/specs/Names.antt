@@ -1,17 +1,17 @@
 -- Document 01, Words: the eleven keywords, in the Rust's order, and the kind of a word.
-use mathlib.Core.Bool.{Bool, true, false, cond}
+use mathlib.Core.Bool.{cond}
 use mathlib.Core.List.{List, [], _∷_}
-use Prim.Native.Nat.{ℕ, zero, suc}
+use Prim.Native.Nat.{ℕ, suc}
 use lib.Dec.{eqb, ltb}
 use lib.ListN.{length, getD}
 use Rattle.words.specs.Bytes.{sameBytes}
 use Rattle.words.specs.Numerals.{allDigits, numeralOf}
 use Rattle.words.specs.declared.Refusal.{Refusal}
-use Rattle.words.specs.declared.Refusal.the-variants.{UnexpectedCharacter, NumeralTooLarge, WordTooLong}
+use Rattle.words.specs.declared.Refusal.the-variants.{NumeralTooLarge, WordTooLong}
 use Rattle.words.specs.declared.NumeralValue.{NumeralValue}
 use Rattle.words.specs.declared.NumeralValue.the-variants.{Fits, TooLarge}
 use Rattle.words.specs.declared.tokens.Item.{Item}
-use Rattle.words.specs.declared.tokens.Item.the-variants.{Blank, Token, Refused}
+use Rattle.words.specs.declared.tokens.Item.the-variants.{Token, Refused}
 
 -- The kinds of words: 1 to 11 are the keywords.
 abbrev pub nameKind : ℕ

@@ -1,5 +1,5 @@
 -- Document 01, Words: `->` (same as →), `=>` and `:=` are tried before the single signs.
-use mathlib.Core.Bool.{Bool, true, false, cond}
+use mathlib.Core.Bool.{cond}
 use mathlib.Core.List.{List, [], _∷_}
 use Prim.Native.Nat.{ℕ}
 use lib.ListN.{length}
@@ -8,7 +8,7 @@ use Rattle.words.specs.Characters.{arrow}
 use Rattle.words.specs.declared.Refusal.{Refusal}
 use Rattle.words.specs.declared.Refusal.the-variants.{UnexpectedCharacter}
 use Rattle.words.specs.declared.tokens.Item.{Item}
-use Rattle.words.specs.declared.tokens.Item.the-variants.{Blank, Token, Refused}
+use Rattle.words.specs.declared.tokens.Item.the-variants.{Token, Refused}
 
 -- A sign: its kind, and how it is written.
 pub record Sign : Type 0 where

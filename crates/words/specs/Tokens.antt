@@ -1,8 +1,8 @@
 -- The Rust's `lex`, and 6 with it: line by line, from left to right, the comment cut off first.
-use mathlib.Core.Bool.{Bool, true, false, cond, not, _&&_, _||_}
+use mathlib.Core.Bool.{Bool, cond, not, _||_}
 use mathlib.Core.List.{List, [], _∷_, _++_}
 use Prim.Native.Nat.{ℕ, zero, suc, _+_, _-_}
-use lib.Dec.{eqb, ltb}
+use lib.Dec.{eqb}
 use lib.ListN.{length}
 use Rattle.words.specs.Bytes.{upTo}
 use Rattle.words.specs.Characters.{blank, letter, digit, sign, characterOf, hasOutside}

@@ -4,7 +4,7 @@
 use mathlib.Core.Bool.{Bool, true, false, cond, _&&_}
 use mathlib.Core.List.{List, [], _∷_}
 use Prim.Native.Nat.{ℕ, zero, suc, _-_}
-use lib.Dec.{eqb, ltb}
+use lib.Dec.{ltb}
 use Rattle.words.specs.Bytes.{within}
 use Rattle.words.specs.declared.utf8.Lead.{Lead}
 

@@ -23,7 +23,7 @@ use utf8::is_utf8;
 ghost use mathlib.Core.Path.{_≡_};
 ghost use mathlib.Core.List.{_++_};
 ghost use Prim.Native.Nat.{_+_, _-_, _≤_, _<_, min};
-ghost use lib.ListN.{length, take, drop, replicate};
+ghost use lib.ListN.{length, take, replicate};
 ghost use Rattle.words.specs.Refusals.{numberOf};
 ghost use Rattle.words.specs.Numerals.{numeralOf};
 ghost use Rattle.words.specs.Rows.{Read};

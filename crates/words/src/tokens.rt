@@ -15,7 +15,7 @@ use super::names::word_item;
 use super::signs::sign_item;
 ghost use mathlib.Core.Path.{_≡_};
 ghost use Prim.Native.Nat.{_+_, _≤_, _<_};
-ghost use lib.ListN.{length, take, drop};
+ghost use lib.ListN.{length, drop};
 ghost use Rattle.words.specs.Characters.{classTable};
 ghost use Rattle.words.specs.Lines.{lines};
 ghost use Rattle.words.specs.Rows.{Room, Read};

@@ -1,6 +1,6 @@
 // UTF-8 as RFC 3629 has it.
 ghost use mathlib.Core.Path.{_≡_};
-ghost use Prim.Native.Nat.{_+_, _≤_, _<_};
+ghost use Prim.Native.Nat.{_+_, _<_};
 ghost use lib.ListN.{length, drop};
 ghost use Rattle.words.specs.Utf8.{leadOf, tailsOf, characterLength, isUtf8};
 

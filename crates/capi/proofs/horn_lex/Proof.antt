@@ -1,5 +1,5 @@
 -- `horn_lex` meets its contract: the answer of `lex` as one number, and its rows.
-use mathlib.Core.Path.{_≡_, refl, sym, ap, _∙_}
+use mathlib.Core.Path.{sym, ap, _∙_}
 use Prim.Native.Nat.{_+_, _*_}
 use Rattle.capi.specs.Words.{packed}
 use borrow.Author.Needs.{needs}

@@ -1,7 +1,6 @@
 -- `clear` meets its contract. The loop's invariant: the rows from `from` up to i are zero, the others as they were.
 use mathlib.Core.Path.{_≡_, refl, sym, ap, _∙_}
-use mathlib.Core.List.{_∷_, []}
-use Prim.Native.Nat.{ℕ, _≤_, _<_, _-_, _+_}
+use Prim.Native.Nat.{_≤_, _-_}
 use lib.ListN.{length, set, length-set}
 use Rattle.words.specs.Lexer.{zeroRow}
 use Rattle.words.proofs.Rows.{cleared, clear-none, clear-more, clear-all}

@@ -1,9 +1,9 @@
 -- `lex` meets its contract.
-use mathlib.Core.Path.{_≡_, refl, sym, ap, _∙_}
-use Prim.Native.Nat.{ℕ, min, _≤_, _<_}
-use lib.ListN.{length, replicate, take}
+use mathlib.Core.Path.{_≡_, sym, ap, _∙_}
+use Prim.Native.Nat.{min}
+use lib.ListN.{length}
 use borrow.Author.Tests.{lt-ltb, le-ltb}
-use Rattle.words.specs.Lexer.{lexOf, answerOf, rowsOf, zeroRow}
+use Rattle.words.specs.Lexer.{lexOf, answerOf, rowsOf}
 use Rattle.words.specs.Rows.{outcome, countOf}
 use Rattle.words.proofs.Readings.{then-nil, leaves}
 use native.Mathlib.Omega.{arith}

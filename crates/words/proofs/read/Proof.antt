@@ -1,12 +1,11 @@
 -- `read` meets its contract.
 use mathlib.Core.Path.{_≡_, refl, sym, ap, _∙_}
-use mathlib.Core.Bool.{true, false}
-use Prim.Native.Nat.{ℕ, suc, _≤_, _<_, _-_, _+_}
-use lib.ListN.{length}
+use mathlib.Core.Bool.{true}
+use Prim.Native.Nat.{_-_}
 use borrow.Author.Tests.{lt-ltb, le-ltb, not-true, not-false}
 use Rattle.words.specs.Lexer.{lexOf, inDomain}
-use Rattle.words.specs.Tokens.{andThen, readLines}
-use Rattle.words.specs.Rows.{outcome, countOf}
+use Rattle.words.specs.Tokens.{readLines}
+use Rattle.words.specs.Rows.{outcome}
 use Rattle.words.specs.Lines.{lines}
 use Rattle.words.proofs.Readings.{then-nil}
 use Rattle.words.proofs.Domains.{accepted, lines-inside, in-domain, out-of-domain}

@@ -1,5 +1,5 @@
 -- `replay` is safe and ends: each text moves the place forward.
-use mathlib.Core.Path.{_≡_, refl, _∙_}
+use mathlib.Core.Path.{_≡_}
 use Prim.Native.Nat.{_≤_, _-_, _+_}
 use lib.ListN.{length}
 use borrow.Author.Needs.{needs}

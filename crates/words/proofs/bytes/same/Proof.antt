@@ -1,6 +1,6 @@
 -- `same` meets its contract. The loop's invariant: both words are equal exactly when they are from place i on.
 use mathlib.Core.Path.{_≡_, refl, sym, _∙_}
-use Prim.Native.Nat.{ℕ, _≤_, _<_, _-_}
+use Prim.Native.Nat.{_≤_, _-_}
 use lib.ListN.{length, drop}
 use Rattle.words.specs.Bytes.{sameBytes}
 use Rattle.words.proofs.Scans.{same-lengths, same-next, same-not, same-end}

@@ -1,6 +1,6 @@
 -- `starts_with` meets its contract. The loop's invariant: w stands at the place exactly when the rest of w from i on stands i bytes further.
-use mathlib.Core.Path.{_≡_, refl, sym, _∙_}
-use Prim.Native.Nat.{ℕ, _+_, _≤_, _<_, _-_}
+use mathlib.Core.Path.{_≡_, sym, _∙_}
+use Prim.Native.Nat.{_+_, _≤_, _-_}
 use native.Mathlib.Nat.{add-zero, add-assoc}
 use lib.ListN.{length, drop, length-drop}
 use Rattle.words.specs.Bytes.{startsWith}

@@ -1,5 +1,5 @@
 -- `character_at` meets its contract.
-use mathlib.Core.Path.{_≡_, refl, sym, ap, _∙_}
+use mathlib.Core.Path.{sym, _∙_}
 use Rattle.words.proofs.Encodings.{character-past, character-ascii, character-wide}
 use borrow.Author.Needs.{needs}
 use Rattle.words.proofs.characters.character_at.Statement.{statement}

@@ -1,7 +1,6 @@
 -- `has_outside` meets its contract. The loop's invariant: the line has a character outside the domain exactly when it has one from `at` on.
 use mathlib.Core.Path.{_≡_, refl, sym, _∙_}
-use mathlib.Core.Bool.{true, false}
-use Prim.Native.Nat.{ℕ, _≤_, _<_, _-_, _+_}
+use Prim.Native.Nat.{_≤_, _-_}
 use lib.ListN.{length, drop}
 use Rattle.words.specs.Characters.{hasOutside, outsideAfter}
 use Rattle.words.proofs.Encodings.{inside-at, outside-next, outside-here, outside-end}

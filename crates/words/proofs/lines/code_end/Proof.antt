@@ -1,6 +1,6 @@
 -- `code_end` meets its contract. The loop's invariant: the code's end is as far from i as the end of the code that starts at i.
 use mathlib.Core.Path.{_≡_, refl, sym, _∙_}
-use Prim.Native.Nat.{ℕ, _≤_, _<_, _-_, _+_}
+use Prim.Native.Nat.{_≤_, _-_, _+_}
 use lib.ListN.{length, drop}
 use Rattle.words.specs.Lines.{lineOf, codeOf}
 use Rattle.words.proofs.Scans.{code-next, code-stop, code-past}

@@ -1,6 +1,6 @@
 -- `line_end` meets its contract. The loop's invariant: the line's end is as far from i as the end of the line that starts at i.
-use mathlib.Core.Path.{_≡_, refl, sym, _∙_}
-use Prim.Native.Nat.{ℕ, _≤_, _<_, _-_, _+_}
+use mathlib.Core.Path.{_≡_, refl}
+use Prim.Native.Nat.{_≤_, _-_, _+_}
 use lib.ListN.{length, drop}
 use Rattle.words.specs.Lines.{lineOf}
 use Rattle.words.proofs.Scans.{line-next, line-stop, line-end}

@@ -1,10 +1,8 @@
 -- `keyword` meets its contract: a word is compared with the keywords that start as it does.
-use mathlib.Core.Path.{_≡_, refl, sym, ap, _∙_}
-use mathlib.Core.List.{List, [], _∷_}
-use Prim.Native.Nat.{ℕ}
-use borrow.Author.Tests.{ne-eqb}
+use mathlib.Core.Path.{refl, _∙_}
+use mathlib.Core.List.{[], _∷_}
 use Rattle.words.specs.Bytes.{sameBytes}
-use Rattle.words.specs.Names.{keywords, keywordOf, numberAmong, numberIf, hashKeywordOf, nameKind}
+use Rattle.words.specs.Names.{keywords, keywordOf, numberAmong, numberIf, hashKeywordOf}
 use Rattle.words.proofs.Items.{keyword-by, keyword-none}
 use borrow.Author.Needs.{needs}
 use Rattle.words.proofs.names.keyword.Statement.{statement}

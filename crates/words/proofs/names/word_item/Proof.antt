@@ -1,5 +1,4 @@
 -- `word_item` meets its contract.
-use mathlib.Core.Path.{_≡_, refl, sym, ap, _∙_}
 use borrow.Author.Tests.{eq-eqb, ne-eqb, lt-ltb, le-ltb}
 use Rattle.words.specs.Names.{wordItem}
 use borrow.Author.Needs.{needs}

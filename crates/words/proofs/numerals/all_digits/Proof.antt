@@ -1,6 +1,6 @@
 -- `all_digits` meets its contract. The loop's invariant: the word is all digits exactly when it is from place i on.
 use mathlib.Core.Path.{_≡_, refl, sym, _∙_}
-use Prim.Native.Nat.{ℕ, _≤_, _<_, _-_, _+_}
+use Prim.Native.Nat.{_≤_, _-_}
 use lib.ListN.{length, drop}
 use Rattle.words.specs.Numerals.{allDigits}
 use Rattle.words.proofs.Numbers.{digits-low, digits-high, digits-next, digits-end}

@@ -1,6 +1,6 @@
 -- `value` meets its contract. The loop's invariant: the word's numeral is the one whose first digits make v and whose other bytes stand from place i on.
-use mathlib.Core.Path.{_≡_, refl, sym, _∙_}
-use Prim.Native.Nat.{ℕ, _≤_, _<_, _-_, _+_, _^_}
+use mathlib.Core.Path.{_≡_, sym, _∙_}
+use Prim.Native.Nat.{_≤_, _<_, _-_, _^_}
 use lib.ListN.{length, drop}
 use Rattle.words.specs.Numerals.{numeralOf}
 use Rattle.words.proofs.Numbers.{numeralFrom, numeral-empty, numeral-start, numeral-not, numeral-next, numeral-over, numeral-end, digits-low, digits-high}

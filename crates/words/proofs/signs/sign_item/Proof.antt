@@ -1,5 +1,5 @@
 -- `sign_item` meets its contract: the sign follows from the first bytes and from whether → stands there.
-use mathlib.Core.Path.{_≡_, refl, sym, ap, _∙_}
+use mathlib.Core.Path.{refl, sym, _∙_}
 use borrow.Author.Tests.{eq-eqb, ne-eqb}
 use Rattle.words.proofs.Items.{sign-at, no-arrow}
 use borrow.Author.Needs.{needs}

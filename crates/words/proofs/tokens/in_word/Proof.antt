@@ -1,5 +1,4 @@
 -- `in_word` meets its contract.
-use mathlib.Core.Path.{sym}
 use borrow.Author.Tests.{eq-eqb, ne-eqb}
 use Rattle.words.proofs.tokens.in_word.Statement.{statement}
 use Rattle.words.proofs.tokens.in_word.Tie as tie

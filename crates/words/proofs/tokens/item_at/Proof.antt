@@ -1,9 +1,8 @@
 -- `item_at` meets its contract.
-use mathlib.Core.Path.{_≡_, refl, sym, ap, _∙_}
-use Prim.Native.Nat.{_+_, _-_, _≤_, _<_}
-use lib.ListN.{length, drop, take}
+use mathlib.Core.Path.{sym, ap, _∙_}
+use Prim.Native.Nat.{_-_}
 use borrow.Author.Tests.{eq-eqb, ne-eqb}
-use Rattle.words.specs.Tokens.{itemOf, wordOf, isWord}
+use Rattle.words.specs.Tokens.{itemOf}
 use Rattle.words.specs.Names.{wordItem}
 use Rattle.words.proofs.Items.{word-fits, word-part, word-starts}
 use native.Mathlib.Omega.{arith}

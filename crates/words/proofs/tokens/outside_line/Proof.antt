@@ -1,6 +1,6 @@
 -- `outside_line` meets its contract. The loop's invariant: the first line outside the domain is the first one from the line at `at` on.
-use mathlib.Core.Path.{_≡_, refl, sym, ap, _∙_}
-use Prim.Native.Nat.{ℕ, _≤_, _<_, _-_, _+_}
+use mathlib.Core.Path.{_≡_, refl, sym, _∙_}
+use Prim.Native.Nat.{_≤_, _-_, _+_}
 use lib.ListN.{length, drop}
 use Rattle.words.specs.Lines.{lines}
 use Rattle.words.specs.Tokens.{outsideLine}

@@ -1,12 +1,12 @@
 -- `read_code` meets its contract. The loop's invariant: the rows before n, and then the reading of the code from `at` on, come to the whole reading;
 -- there is no more than one row for each byte passed.
 use mathlib.Core.Path.{_≡_, refl, sym, ap, _∙_}
-use mathlib.Core.List.{[], _∷_, _++_}
-use Prim.Native.Nat.{ℕ, _≤_, _<_, _-_, _+_}
+use mathlib.Core.List.{[], _∷_}
+use Prim.Native.Nat.{_≤_, _<_, _-_, _+_}
 use native.Mathlib.Nat.{add-zero}
-use lib.ListN.{length, drop, take, set, length-set}
-use Rattle.words.specs.Tokens.{Reading, andThen, readAfter, itemLength}
-use Rattle.words.specs.Tokens.Reading.{tokens, refused}
+use lib.ListN.{length, drop, take, length-set}
+use Rattle.words.specs.Tokens.{Reading, andThen, readAfter}
+use Rattle.words.specs.Tokens.Reading.{tokens}
 use Rattle.words.specs.declared.tokens.Item.the-variants.{Token}
 use Rattle.words.proofs.Readings.{item-within, read-end, read-blank, read-token, read-refused, push-row}
 use borrow.Author.Needs.{needs}

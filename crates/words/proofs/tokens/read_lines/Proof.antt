@@ -1,13 +1,12 @@
 -- `read_lines` meets its contract. The loop's invariant: the rows before `count`, and then the reading of the lines from `at` on, come to the whole reading;
 -- there is no more than one row for each byte passed.
 use mathlib.Core.Path.{_≡_, refl, sym, ap, _∙_}
-use mathlib.Core.List.{[], _∷_, _++_}
-use Prim.Native.Nat.{ℕ, _≤_, _<_, _-_, _+_}
+use Prim.Native.Nat.{_≤_, _-_, _+_}
 use lib.ListN.{length, drop, take}
 use Rattle.words.specs.Lines.{lines}
-use Rattle.words.specs.Tokens.{Reading, andThen, readAfter, readLines}
+use Rattle.words.specs.Tokens.{Reading, andThen, readLines}
 use Rattle.words.specs.Rows.{outcome, countOf}
-use Rattle.words.specs.Tokens.Reading.{tokens, refused}
+use Rattle.words.specs.Tokens.Reading.{tokens}
 use Rattle.words.proofs.Scans.{code-fits, part-long, code-within, line-within}
 use Rattle.words.proofs.Readings.{then-nil, then-end, line-read, lines-past, stopped}
 use borrow.Author.Needs.{needs}

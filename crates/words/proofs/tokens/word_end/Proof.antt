@@ -1,7 +1,6 @@
 -- `word_end` meets its contract. The loop's invariant: the word's end is as far from i as the end of the word that starts at i.
 use mathlib.Core.Path.{_≡_, refl, sym, ap, _∙_}
-use mathlib.Core.Bool.{not}
-use Prim.Native.Nat.{ℕ, _≤_, _<_, _-_, _+_}
+use Prim.Native.Nat.{_≤_, _-_, _+_}
 use lib.ListN.{length, drop}
 use borrow.Author.Tests.{not-true, not-false}
 use Rattle.words.specs.Tokens.{wordOf, isWord}

@@ -1,5 +1,5 @@
 -- `character_length` meets its contract.
-use mathlib.Core.Path.{_≡_, refl, sym, ap, _∙_}
+use mathlib.Core.Path.{sym, _∙_}
 use Rattle.words.proofs.Encodings.{length-past, length-none, length-at}
 use borrow.Author.Needs.{needs}
 use Rattle.words.proofs.utf8.character_length.Statement.{statement}

@@ -1,7 +1,7 @@
 -- `is_utf8` meets its contract. The loop's invariant: the text is UTF-8 exactly when it is from `at` on, where a character starts.
 use mathlib.Core.Path.{_≡_, refl, sym, _∙_}
-use Prim.Native.Nat.{ℕ, _≤_, _<_, _-_, _+_}
-use lib.ListN.{length, drop, length-drop}
+use Prim.Native.Nat.{_≤_, _-_}
+use lib.ListN.{length, drop}
 use Rattle.words.specs.Utf8.{isUtf8, utf8After}
 use Rattle.words.proofs.Encodings.{length-within, utf8-next, utf8-not, utf8-end}
 use borrow.Author.Needs.{needs}

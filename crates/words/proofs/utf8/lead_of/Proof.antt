@@ -1,5 +1,5 @@
 -- `lead_of` meets its contract: on each range of bytes one test shows what they ask.
-use mathlib.Core.Path.{_≡_, sym, _∙_}
+use mathlib.Core.Path.{sym, _∙_}
 use Rattle.words.specs.Utf8.{leadOf, formOf, forms, asks}
 use Rattle.words.proofs.Encodings.{sameLead, lead-range}
 use native.Mathlib.Omega.{arith}

@@ -1,7 +1,7 @@
 -- `tails` meets its contract. The loop's invariant: what is asked of the text from `at` on is what is still asked of it from i on.
 use mathlib.Core.Path.{_≡_, refl, sym, _∙_}
-use Prim.Native.Nat.{ℕ, _≤_, _<_, _-_}
-use lib.ListN.{length, drop}
+use Prim.Native.Nat.{_-_}
+use lib.ListN.{drop}
 use Rattle.words.specs.Utf8.{tailsOf}
 use Rattle.words.proofs.Encodings.{tails-short, tails-low, tails-high, tails-next, tails-none}
 use borrow.Author.Needs.{needs}
