@@ -1,0 +1,35 @@
+-- Robinson's theorem for `unify`: success gives acyclic bindings that only add and that are a most general unifier over the starting bindings;
+-- failure means that no substitution that agrees with the starting bindings unifies the terms.
+use Prim.Native.Nat.{ℕ, zero, suc, _+_, _≤_, _<_}
+use mathlib.Core.Path.{_≡_, refl, ap, sym, _∙_}
+use mathlib.Core.List.{List, [], _∷_}
+use Rattle.terms.specs.Term.{Kind, one, many, Syn, var, Term, Terms, Subst, sub, Below}
+use Rattle.terms.specs.Bindings.{Bindings, start, bind, full, Acyclic, Solves, BelowB, Extends}
+use Rattle.terms.specs.Unification.{Unifier, MostGeneral, Eqn, eqn, Outcome, unfinished, fails, unified, unify}
+use Rattle.terms.specs.BindingLaws.{full-solves, solves-full, unbound-le}
+use Rattle.terms.specs.UnificationLaws.{Mgu, Answers, Over, unifies-ok, unifies-over}
+
+-- What the outcome for two terms says.
+abbrev pub Unified : ℕ → Bindings → Term → Term → Outcome → Type 0
+Unified c β a b unfinished = ⊥
+Unified c β a b fails = (σ : Subst) → Unifier β a b σ → ⊥
+Unified c β a b (unified β′) = Mgu c β (eqn a b ∷ []) β′
+
+-- The theorem, c being above all variables.
+pub unify-ok : (c : ℕ) (β : Bindings) (a b : Term) → Acyclic β → BelowB c β → Below c a → Below c b → Unified c β a b (unify c β a b)
+unify-ok c β a b ac bb ba b′ = go (unify c β a b)
+    (unifies-ok c c β (eqn a b ∷ []) ac bb (ba, b′, tt)) (unifies-over c c β (eqn a b ∷ []) ac bb (ba, b′, tt) (unbound-le c β))
+  where
+    go : (o : Outcome) → Answers c β (eqn a b ∷ []) o → Over o → Unified c β a b o
+    go unfinished k v = v
+    go fails k v = λ σ u. k σ (u .0) (u .1, tt)
+    go (unified β′) k v = k
+
+-- The new bindings put in throughout are a most general unifier in Robinson's sense.
+pub mgu-most-general : (c : ℕ) (β : Bindings) (a b : Term) (β′ : Bindings) → Mgu c β (eqn a b ∷ []) β′ → MostGeneral β a b (full β′)
+mgu-most-general c β a b β′ m =
+    let s = m .sound (full β′) (full-solves β′ (m .acyclic)) in
+    record {
+      unifier = (s .0, s .1 .0);
+      general = λ τ u. (τ, λ x. sym (solves-full τ β′ (m .general τ (u .0) (u .1, tt)) x));
+    }
