@@ -1,0 +1,99 @@
+-- Steps left only fall, and what was cut off stays so. A search that did not exhaust its steps comes to the same with more of them.
+use Prim.Native.Nat.{ℕ, zero, suc, _+_, _-_, _≤_, _<_}
+use mathlib.Core.Path.{_≡_, refl, ap, ap₂, sym, _∙_, subst}
+use mathlib.Core.Bool.{Bool, true, false, _||_, cond}
+use mathlib.Core.List.{List, [], _∷_}
+use native.Mathlib.Omega.{arith}
+use native.Mathlib.Nat.{le-refl}
+use Rattle.terms.specs.Numbers.{or-false}
+use Rattle.terms.specs.Term.{Kind, one, many, Term, Terms, count}
+use Rattle.terms.specs.Bindings.{Bindings}
+use Rattle.resolution.specs.Rules.{Rule, Tree}
+use Rattle.resolution.specs.Fresh.{body}
+use Rattle.resolution.specs.Search.{Limits, Attempt, attempt, full, missed, entered, Work, goal, build, goals, built, Result, refused, found, failed, after, Search, tries, solve}
+use Rattle.resolution.specs.Attempts.{tries-full, tries-missed, tries-entered, tries-cases}
+
+abbrev pub Falls : ℕ → Bool → Result → Type 0
+Falls b cut refused = Unit {0}
+Falls b cut (found β st b′ c m) = b′ < b
+Falls b cut (failed b′ cut′ c) = (b′ ≤ b) × (cut′ ≡ false → cut ≡ false)
+
+abbrev pub FallsSearch : Search → Type 0
+FallsSearch rec = (b c m : ℕ) (β : Bindings) (w : List Work) (st : Tree many) → Falls b false (rec b c m β w st)
+
+falls-le : (b b₁ : ℕ) (cut cut₁ : Bool) (o : Result) → b₁ ≤ b → (cut₁ ≡ false → cut ≡ false) → Falls b₁ cut₁ o → Falls b cut o
+falls-le b b₁ cut cut₁ refused h i f = tt
+falls-le b b₁ cut cut₁ (found β st b′ c m) h i f = omega arith
+falls-le b b₁ cut cut₁ (failed b′ cut′ c) h i f = (omega arith, λ e. i (f .1 e))
+
+pub tries-falls : (l : Limits) (rec : Search) → FallsSearch rec → (β : Bindings) (g : Term) (d : ℕ) (w : List Work) (st : Tree many) (m r : ℕ) (Rs : List Rule) (b : ℕ) (cut : Bool) (c : ℕ)
+    → Falls b cut (tries l rec β g d w st m r Rs b cut c)
+tries-falls l rec ok β g d w st m r [] b cut c = (le-refl b, λ e. e)
+tries-falls l rec ok β g d w st m r (R ∷ Rs) b cut c =
+    let next : (b′ : ℕ) (cut′ : Bool) (c′ : ℕ) → Falls b′ cut′ (tries l rec β g d w st m (suc r) Rs b′ cut′ c′) = λ b′ cut′ c′. tries-falls l rec ok β g d w st m (suc r) Rs b′ cut′ c′ in
+    tries-cases l rec β g d w st m (Falls b cut) r R Rs b cut c
+    tt
+    (λ c′ e. next b cut c′)
+    (λ β′ c′ m′ e β″ st′ b″ c″ m″ q. subst (Falls b false) q (ok b c′ m′ β′ _ st))
+    (λ β′ c′ m′ e b″ cut″ c″ q. let f : Falls b false (failed b″ cut″ c″) = subst (Falls b false) q (ok b c′ m′ β′ _ st) in
+      falls-le b b″ cut (cut || cut″) (tries l rec β g d w st m (suc r) Rs b″ (cut || cut″) c″) (f .0) (λ z. or-false cut cut″ z .0) (next b″ (cut || cut″) c″))
+
+pub solve-falls : (l : Limits) (rules : List Rule) (n : ℕ) → FallsSearch (solve l rules n)
+solve-falls l rules zero b c m β w st = (omega arith, λ e. refl)
+solve-falls l rules (suc n) zero c m β w st = (omega arith, λ e. refl)
+solve-falls l rules (suc n) (suc b) c m β [] st = omega arith
+solve-falls l rules (suc n) (suc b) c m β (build r g k ∷ w) st =
+    falls-le (suc b) b false false (solve l rules n b c m β w (built r g k st)) (omega arith) (λ e. e) (solve-falls l rules n b c m β w (built r g k st))
+solve-falls l rules (suc n) (suc b) c m β (goal g zero ∷ w) st = (omega arith, λ e. refl)
+solve-falls l rules (suc n) (suc b) c m β (goal g (suc d) ∷ w) st =
+    falls-le (suc b) b false false (tries l (solve l rules n) β g d w st m 0 rules b false c) (omega arith) (λ e. e) (tries-falls l (solve l rules n) (solve-falls l rules n) β g d w st m 0 rules b false c)
+
+-- A result that did not exhaust its steps, and the same with k more steps left.
+abbrev pub Live : Result → Type 0
+Live refused = ⊥
+Live (found β st b c m) = Unit {0}
+Live (failed b cut c) = 0 < b
+
+abbrev pub richer : ℕ → Result → Result
+richer k refused = refused
+richer k (found β st b c m) = found β st (b + k) c m
+richer k (failed b cut c) = failed (b + k) cut c
+
+abbrev pub Richer : ℕ → Search → Search → Type 0
+Richer k rec rec′ = (b b′ c m : ℕ) (β : Bindings) (w : List Work) (st : Tree many) → b′ ≡ b + k → Live (rec b c m β w st) → rec′ b′ c m β w st ≡ richer k (rec b c m β w st)
+
+live-falls : (b : ℕ) (cut : Bool) (o : Result) → Falls b cut o → Live o → 0 < b
+live-falls b cut refused f v = absurd v
+live-falls b cut (found β st b′ c m) f v = omega arith
+live-falls b cut (failed b′ cut′ c) f v = omega arith
+
+module _ (l : Limits) (k : ℕ) (rec rec′ : Search) (fa : FallsSearch rec) (ok : Richer k rec rec′) where
+  tries-richer : (β : Bindings) (g : Term) (d : ℕ) (w : List Work) (st : Tree many) (m r : ℕ) (Rs : List Rule) (b b′ : ℕ) (cut : Bool) (c : ℕ)
+      → b′ ≡ b + k → Live (tries l rec β g d w st m r Rs b cut c) → tries l rec′ β g d w st m r Rs b′ cut c ≡ richer k (tries l rec β g d w st m r Rs b cut c)
+  tries-richer β g d w st m r [] b b′ cut c e = λ v. ap (λ n. failed n cut c) e
+  tries-richer β g d w st m r (R ∷ Rs) b b′ cut c e =
+      let next : (b b′ : ℕ) (cut : Bool) (c : ℕ) → b′ ≡ b + k → Live (tries l rec β g d w st m (suc r) Rs b cut c) → tries l rec′ β g d w st m (suc r) Rs b′ cut c ≡ richer k (tries l rec β g d w st m (suc r) Rs b cut c) =
+        λ b b′ cut c e v. tries-richer β g d w st m (suc r) Rs b b′ cut c e v in
+      tries-cases l rec β g d w st m (λ o. Live o → tries l rec′ β g d w st m r (R ∷ Rs) b′ cut c ≡ richer k o) r R Rs b cut c
+      (λ v. absurd v)
+      (λ c′ a v. tries-missed l rec′ β g d w st m r R Rs b′ cut c c′ a ∙ next b b′ cut c′ e v)
+      (λ β′ c′ m′ a β″ st′ b₁ c₁ m₁ q v.
+        tries-entered l rec′ β g d w st m r R Rs b′ cut c β′ c′ m′ a
+        ∙ ap (λ o. after o (λ b″ cut″ c″. tries l rec′ β g d w st m (suc r) Rs b″ (cut || cut″) c″)) (ok b b′ c′ m′ β′ _ st e (rw q tt) ∙ ap (richer k) q))
+      (λ β′ c′ m′ a b₁ cut₁ c₁ q v.
+        let z : 0 < b₁ = live-falls b₁ (cut || cut₁) (tries l rec β g d w st m (suc r) Rs b₁ (cut || cut₁) c₁) (tries-falls l rec fa β g d w st m (suc r) Rs b₁ (cut || cut₁) c₁) v in
+        tries-entered l rec′ β g d w st m r R Rs b′ cut c β′ c′ m′ a
+        ∙ ap (λ o. after o (λ b″ cut″ c″. tries l rec′ β g d w st m (suc r) Rs b″ (cut || cut″) c″)) (ok b b′ c′ m′ β′ _ st e (rw q z) ∙ ap (richer k) q)
+        ∙ next b₁ (b₁ + k) (cut || cut₁) c₁ refl v)
+
+-- The theorem: more steps, and as many more to recurse on, change nothing but the steps left.
+pub solve-richer : (l : Limits) (rules : List Rule) (k n n′ : ℕ) → n ≤ n′ → Richer k (solve l rules n) (solve l rules n′)
+solve-richer l rules k zero n′ h b b′ c m β w st e v = absurd (omega arith)
+solve-richer l rules k (suc n) zero h b b′ c m β w st e v = absurd (omega arith)
+solve-richer l rules k (suc n) (suc n′) h zero b′ c m β w st e v = absurd (omega arith)
+solve-richer l rules k (suc n) (suc n′) h (suc b) zero c m β w st e v = absurd (omega arith)
+solve-richer l rules k (suc n) (suc n′) h (suc b) (suc b′) c m β [] st e v = ap (λ i. found β st i c m) (omega arith)
+solve-richer l rules k (suc n) (suc n′) h (suc b) (suc b′) c m β (build r g j ∷ w) st e v = solve-richer l rules k n n′ (omega arith) b b′ c m β w (built r g j st) (omega arith) v
+solve-richer l rules k (suc n) (suc n′) h (suc b) (suc b′) c m β (goal g zero ∷ w) st e v = ap (λ i. failed i true c) (omega arith)
+solve-richer l rules k (suc n) (suc n′) h (suc b) (suc b′) c m β (goal g (suc d) ∷ w) st e v =
+    tries-richer l k (solve l rules n) (solve l rules n′) (solve-falls l rules n) (solve-richer l rules k n n′ (omega arith)) β g d w st m 0 rules b b′ false c (omega arith) v
