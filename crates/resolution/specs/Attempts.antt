@@ -14,7 +14,7 @@ use Rattle.terms.specs.Robinson.{Unified, unify-ok}
 use Rattle.resolution.specs.Rules.{Rule, Tree}
 use Rattle.resolution.specs.Fresh.{headVars, allVars, head, body}
 use Rattle.resolution.specs.FreshLaws.{head-below, body-below, vars-le}
-use Rattle.resolution.specs.Search.{Limits, words, over, Attempt, full, missed, entered, attempt, Work, goal, build, goals, Result, refused, found, failed, after, Search, tries}
+use Rattle.resolution.specs.Search.{Limits, words, over, Attempt, exceeded, missed, entered, attempt, Work, goal, build, goals, Result, refused, found, failed, after, Search, tries}
 
 -- The conclusion did not unify: it has no unifier with the goal over the bindings.
 pub record Missed (c : ℕ) (β : Bindings) (g : Term) (R : Rule) (c′ : ℕ) : Type 0 where
@@ -34,7 +34,7 @@ pub record Entered (c : ℕ) (β : Bindings) (g : Term) (R : Rule) (β′ : Bind
   pub premises : Below c′ (body c R)
 
 abbrev pub Attempted : ℕ → Bindings → Term → Rule → Attempt → Type 0
-Attempted c β g R full = Unit {0}
+Attempted c β g R exceeded = Unit {0}
 Attempted c β g R (missed c′) = Missed c β g R c′
 Attempted c β g R (entered β′ c′ m′) = Entered c β g R β′ c′
 
@@ -60,24 +60,24 @@ attempt-ok l β g m c R ac bb bg = counted (over l c₁ (m + words (head c R)))
     c₂ = c + length (allVars R)
     m₂ : ℕ
     m₂ = m + words (head c R) + words (body c R)
-    enters : (t : Bool) (β′ : Bindings) → Unified c₁ β g (head c R) (unified β′) → Attempted c β g R (elim t as (λ _. Attempt) [ true ↦ full | false ↦ entered β′ c₂ m₂ ])
+    enters : (t : Bool) (β′ : Bindings) → Unified c₁ β g (head c R) (unified β′) → Attempted c β g R (elim t as (λ _. Attempt) [ true ↦ exceeded | false ↦ entered β′ c₂ m₂ ])
     enters true β′ u = tt
     enters false β′ u = entered-of c β g R β′ u
     unifying : (o : Outcome) → Unified c₁ β g (head c R) o
-        → Attempted c β g R (elim o as (λ _. Attempt) [ unfinished ↦ missed c₁ | fails ↦ missed c₁ | unified β′ ↦ elim (over l c₂ m₂) [ true ↦ full | false ↦ entered β′ c₂ m₂ ] ])
+        → Attempted c β g R (elim o as (λ _. Attempt) [ unfinished ↦ missed c₁ | fails ↦ missed c₁ | unified β′ ↦ elim (over l c₂ m₂) [ true ↦ exceeded | false ↦ entered β′ c₂ m₂ ] ])
     unifying unfinished u = absurd u
     unifying fails u = missed-of c β g R u
     unifying (unified β′) u = enters (over l c₂ m₂) β′ u
-    counted : (t : Bool) → Attempted c β g R (elim t as (λ _. Attempt) [ true ↦ full | false ↦ elim (unify c₁ β g (head c R)) [ unfinished ↦ missed c₁ | fails ↦ missed c₁ | unified β′ ↦ elim (over l c₂ m₂) [ true ↦ full | false ↦ entered β′ c₂ m₂ ] ] ])
+    counted : (t : Bool) → Attempted c β g R (elim t as (λ _. Attempt) [ true ↦ exceeded | false ↦ elim (unify c₁ β g (head c R)) [ unfinished ↦ missed c₁ | fails ↦ missed c₁ | unified β′ ↦ elim (over l c₂ m₂) [ true ↦ exceeded | false ↦ entered β′ c₂ m₂ ] ] ])
     counted true = tt
     counted false = unifying (unify c₁ β g (head c R)) (unify-rule c β g R ac bb bg)
 
 -- How the attempts go on, by the way the first one goes.
 
 module _ (l : Limits) (rec : Search) (β : Bindings) (g : Term) (d : ℕ) (w : List Work) (st : Tree many) (m : ℕ) where
-  pub tries-full : (r : ℕ) (R : Rule) (Rs : List Rule) (b : ℕ) (cut : Bool) (c : ℕ) → attempt l β g m c R ≡ full
+  pub tries-exceeded : (r : ℕ) (R : Rule) (Rs : List Rule) (b : ℕ) (cut : Bool) (c : ℕ) → attempt l β g m c R ≡ exceeded
       → tries l rec β g d w st m r (R ∷ Rs) b cut c ≡ refused
-  tries-full r R Rs b cut c e = rw (e, tries)
+  tries-exceeded r R Rs b cut c e = rw (e, tries)
 
   pub tries-missed : (r : ℕ) (R : Rule) (Rs : List Rule) (b : ℕ) (cut : Bool) (c c′ : ℕ) → attempt l β g m c R ≡ missed c′
       → tries l rec β g d w st m r (R ∷ Rs) b cut c ≡ tries l rec β g d w st m (suc r) Rs b cut c′
@@ -105,6 +105,6 @@ module _ (l : Limits) (rec : Search) (β : Bindings) (g : Term) (d : ℕ) (w : L
       deep β′ c′ m′ e (found β″ st′ b″ c″ m″) q = finding β′ c′ m′ e β″ st′ b″ c″ m″ q
       deep β′ c′ m′ e (failed b″ cut″ c″) q = failing β′ c′ m′ e b″ cut″ c″ q
       go : (a : Attempt) → attempt l β g m c R ≡ a → P (tries l rec β g d w st m r (R ∷ Rs) b cut c)
-      go full e = subst P (sym (tries-full r R Rs b cut c e)) out
+      go exceeded e = subst P (sym (tries-exceeded r R Rs b cut c e)) out
       go (missed c′) e = subst P (sym (tries-missed r R Rs b cut c c′ e)) (missing c′ e)
       go (entered β′ c′ m′) e = subst P (sym (tries-entered r R Rs b cut c β′ c′ m′ e)) (deep β′ c′ m′ e (rec b c′ m′ β′ (goals (body c R) d (build r g (count (R .premises)) ∷ w)) st) refl)

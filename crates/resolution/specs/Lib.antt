@@ -9,3 +9,6 @@ pub mod Steps
 pub mod Limited
 pub mod Lloyd
 pub mod Refutations
+pub mod Answers
+pub mod Failure
+pub mod Completeness

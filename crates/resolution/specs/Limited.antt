@@ -11,10 +11,10 @@ use Rattle.terms.specs.Bindings.{Bindings}
 use Rattle.terms.specs.Unification.{Outcome, unfinished, fails, unified, unify}
 use Rattle.resolution.specs.Rules.{Rule, Tree, leaf}
 use Rattle.resolution.specs.Fresh.{headVars, allVars, head, body}
-use Rattle.resolution.specs.Search.{Limits, unlimited, words, over, Attempt, full, missed, entered, attempt, Work, goal, build, goals, built, Result, refused, found, failed, after, Search, tries, solve, bounded, Verdict, refusal, proved, nothing, undecided, settle, deepen, prove, bounds}
-use Rattle.resolution.specs.Attempts.{tries-full, tries-missed, tries-entered}
+use Rattle.resolution.specs.Search.{Limits, unlimited, words, over, Attempt, exceeded, missed, entered, attempt, Work, goal, build, goals, built, Result, refused, found, failed, after, Search, tries, solve, bounded, Verdict, refusal, proved, nothing, undecided, settle, deepen, prove, bounds}
+use Rattle.resolution.specs.Attempts.{tries-exceeded, tries-missed, tries-entered}
 
-attempt-limited : (l : Limits) (β : Bindings) (g : Term) (m c : ℕ) (R : Rule) → (attempt l β g m c R ≡ full) ⊎ (attempt l β g m c R ≡ attempt unlimited β g m c R)
+attempt-limited : (l : Limits) (β : Bindings) (g : Term) (m c : ℕ) (R : Rule) → (attempt l β g m c R ≡ exceeded) ⊎ (attempt l β g m c R ≡ attempt unlimited β g m c R)
 unfolding attempt
 attempt-limited l β g m c R = counted (over l c₁ (m + words (head c R)))
   where
@@ -25,16 +25,16 @@ attempt-limited l β g m c R = counted (over l c₁ (m + words (head c R)))
     m₂ : ℕ
     m₂ = m + words (head c R) + words (body c R)
     Same : Attempt → Attempt → Type 0
-    Same a b = (a ≡ full) ⊎ (a ≡ b)
-    enters : (t : Bool) (β′ : Bindings) → Same (elim t as (λ _. Attempt) [ true ↦ full | false ↦ entered β′ c₂ m₂ ]) (entered β′ c₂ m₂)
+    Same a b = (a ≡ exceeded) ⊎ (a ≡ b)
+    enters : (t : Bool) (β′ : Bindings) → Same (elim t as (λ _. Attempt) [ true ↦ exceeded | false ↦ entered β′ c₂ m₂ ]) (entered β′ c₂ m₂)
     enters true β′ = inl refl
     enters false β′ = inr refl
-    unifying : (o : Outcome) → Same (elim o as (λ _. Attempt) [ unfinished ↦ missed c₁ | fails ↦ missed c₁ | unified β′ ↦ elim (over l c₂ m₂) [ true ↦ full | false ↦ entered β′ c₂ m₂ ] ])
+    unifying : (o : Outcome) → Same (elim o as (λ _. Attempt) [ unfinished ↦ missed c₁ | fails ↦ missed c₁ | unified β′ ↦ elim (over l c₂ m₂) [ true ↦ exceeded | false ↦ entered β′ c₂ m₂ ] ])
         (elim o as (λ _. Attempt) [ unfinished ↦ missed c₁ | fails ↦ missed c₁ | unified β′ ↦ entered β′ c₂ m₂ ])
     unifying unfinished = inr refl
     unifying fails = inr refl
     unifying (unified β′) = enters (over l c₂ m₂) β′
-    counted : (t : Bool) → Same (elim t as (λ _. Attempt) [ true ↦ full | false ↦ elim (unify c₁ β g (head c R)) [ unfinished ↦ missed c₁ | fails ↦ missed c₁ | unified β′ ↦ elim (over l c₂ m₂) [ true ↦ full | false ↦ entered β′ c₂ m₂ ] ] ])
+    counted : (t : Bool) → Same (elim t as (λ _. Attempt) [ true ↦ exceeded | false ↦ elim (unify c₁ β g (head c R)) [ unfinished ↦ missed c₁ | fails ↦ missed c₁ | unified β′ ↦ elim (over l c₂ m₂) [ true ↦ exceeded | false ↦ entered β′ c₂ m₂ ] ] ])
         (elim (unify c₁ β g (head c R)) as (λ _. Attempt) [ unfinished ↦ missed c₁ | fails ↦ missed c₁ | unified β′ ↦ entered β′ c₂ m₂ ])
     counted true = inl refl
     counted false = unifying (unify c₁ β g (head c R))
@@ -66,17 +66,17 @@ tries-match l rec rec′ ok β g d w st m r (R ∷ Rs) b cut c = go (attempt l �
     deep : (o o′ : Result) → Matches o o′ → Next → Matches (on o) (on′ o′)
     deep o o′ (inl e) n = inl (ap on e)
     deep o o′ (inr e) n = subst (λ p. Matches (on o) (on′ p)) e (same o n)
-    full-missed : {P : Type 0} {a : Attempt} {c′ : ℕ} → a ≡ full → a ≡ missed c′ → P
-    full-missed p q = absurd (let z : _≡_ {A = ℕ} 0 1 = cc in omega arith)
-    full-entered : {P : Type 0} {a : Attempt} {β′ : Bindings} {c′ m′ : ℕ} → a ≡ full → a ≡ entered β′ c′ m′ → P
-    full-entered p q = absurd (let z : _≡_ {A = ℕ} 0 1 = cc in omega arith)
-    go : (a : Attempt) → attempt l β g m c R ≡ a → (attempt l β g m c R ≡ full) ⊎ (attempt l β g m c R ≡ attempt unlimited β g m c R) → Next
+    exceeded-missed : {P : Type 0} {a : Attempt} {c′ : ℕ} → a ≡ exceeded → a ≡ missed c′ → P
+    exceeded-missed p q = absurd (let z : _≡_ {A = ℕ} 0 1 = cc in omega arith)
+    exceeded-entered : {P : Type 0} {a : Attempt} {β′ : Bindings} {c′ m′ : ℕ} → a ≡ exceeded → a ≡ entered β′ c′ m′ → P
+    exceeded-entered p q = absurd (let z : _≡_ {A = ℕ} 0 1 = cc in omega arith)
+    go : (a : Attempt) → attempt l β g m c R ≡ a → (attempt l β g m c R ≡ exceeded) ⊎ (attempt l β g m c R ≡ attempt unlimited β g m c R) → Next
         → Matches (tries l rec β g d w st m r (R ∷ Rs) b cut c) (tries unlimited rec′ β g d w st m r (R ∷ Rs) b cut c)
-    go full e h n = inl (tries-full l rec β g d w st m r R Rs b cut c e)
-    go (missed c′) e (inl f) n = full-missed f e
+    go exceeded e h n = inl (tries-exceeded l rec β g d w st m r R Rs b cut c e)
+    go (missed c′) e (inl f) n = exceeded-missed f e
     go (missed c′) e (inr f) n = subst (λ o. Matches o (tries unlimited rec′ β g d w st m r (R ∷ Rs) b cut c)) (sym (tries-missed l rec β g d w st m r R Rs b cut c c′ e))
         (subst (Matches (tries l rec β g d w st m (suc r) Rs b cut c′)) (sym (tries-missed unlimited rec′ β g d w st m r R Rs b cut c c′ (sym f ∙ e))) (n b cut c′))
-    go (entered β′ c′ m′) e (inl f) n = full-entered f e
+    go (entered β′ c′ m′) e (inl f) n = exceeded-entered f e
     go (entered β′ c′ m′) e (inr f) n = subst (λ o. Matches o (tries unlimited rec′ β g d w st m r (R ∷ Rs) b cut c)) (sym (tries-entered l rec β g d w st m r R Rs b cut c β′ c′ m′ e))
         (subst (Matches (on (rec b c′ m′ β′ nw st))) (sym (tries-entered unlimited rec′ β g d w st m r R Rs b cut c β′ c′ m′ (sym f ∙ e)))
           (deep (rec b c′ m′ β′ nw st) (rec′ b c′ m′ β′ nw st) (ok b c′ m′ β′ nw st) n))

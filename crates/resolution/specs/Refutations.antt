@@ -28,11 +28,11 @@ abbrev pub joined : Tree many → Tree many → Tree many
 joined leaf qs = qs
 joined (p ◂ ps) qs = p ◂ joined ps qs
 
-roots-joined : (ps qs : Tree many) → roots (joined ps qs) ≡ append (roots ps) (roots qs)
+pub roots-joined : (ps qs : Tree many) → roots (joined ps qs) ≡ append (roots ps) (roots qs)
 roots-joined leaf qs = refl
 roots-joined (p ◂ ps) qs = ap (cons (root p)) (roots-joined ps qs)
 
-derivation-joined : (rules : List Rule) (ps qs : Tree many) → Derivation rules ps → Derivation rules qs → Derivation rules (joined ps qs)
+pub derivation-joined : (rules : List Rule) (ps qs : Tree many) → Derivation rules ps → Derivation rules qs → Derivation rules (joined ps qs)
 derivation-joined rules leaf qs a b = b
 derivation-joined rules (p ◂ ps) qs a b = (a .0, derivation-joined rules ps qs (a .1) b)
 
@@ -56,12 +56,12 @@ split rules (cons t ts) us (p ◂ ps) e d =
       derives-first = (d .0, r .derives-first); derives-second = r .derives-second
     }
 
-abbrev nodes : {s : Kind} → Tree s → ℕ
+abbrev pub nodes : {s : Kind} → Tree s → ℕ
 nodes (node r g ps) = suc (nodes ps)
 nodes leaf = 0
 nodes (p ◂ ps) = nodes p + nodes ps
 
-nodes-joined : (ps qs : Tree many) → nodes (joined ps qs) ≡ nodes ps + nodes qs
+pub nodes-joined : (ps qs : Tree many) → nodes (joined ps qs) ≡ nodes ps + nodes qs
 nodes-joined leaf qs = omega arith
 nodes-joined (p ◂ ps) qs = omega (arith, nodes-joined ps qs)
 

@@ -35,7 +35,7 @@ over (within vars words) c m = less vars c || less words m
 
 -- The limits refuse it; the conclusion does not unify, and only the counter has moved; the rule is entered with bindings, counter and words.
 pub data Attempt : Type 0 where
-  full : Attempt
+  exceeded : Attempt
   missed : ℕ → Attempt
   entered : Bindings → ℕ → ℕ → Attempt
 
@@ -44,12 +44,12 @@ pub data Attempt : Type 0 where
 unfoldable pub attempt : Limits → Bindings → Term → ℕ → ℕ → Rule → Attempt
 attempt l β g m c R =
     elim (over l (c + length (headVars R)) (m + words (head c R))) [
-    | true ↦ full
+    | true ↦ exceeded
     | false ↦ elim (unify (c + length (headVars R)) β g (head c R)) [
       | unfinished ↦ missed (c + length (headVars R))
       | fails ↦ missed (c + length (headVars R))
       | unified β′ ↦ elim (over l (c + length (allVars R)) (m + words (head c R) + words (body c R))) [
-        | true ↦ full
+        | true ↦ exceeded
         | false ↦ entered β′ (c + length (allVars R)) (m + words (head c R) + words (body c R))
         ]
       ]
@@ -100,7 +100,7 @@ abbrev pub tries : Limits → Search → Bindings → Term → ℕ → List Work
 tries l rec β g d w st m r [] b cut c = failed b cut c
 tries l rec β g d w st m r (R ∷ Rs) b cut c =
     elim (attempt l β g m c R) [
-    | full ↦ refused
+    | exceeded ↦ refused
     | missed c′ ↦ tries l rec β g d w st m (suc r) Rs b cut c′
     | entered β′ c′ m′ ↦
       after (rec b c′ m′ β′ (goals (body c R) d (build r g (count (R .premises)) ∷ w)) st)

@@ -10,8 +10,8 @@ use Rattle.terms.specs.Term.{Kind, one, many, Term, Terms, count}
 use Rattle.terms.specs.Bindings.{Bindings}
 use Rattle.resolution.specs.Rules.{Rule, Tree}
 use Rattle.resolution.specs.Fresh.{body}
-use Rattle.resolution.specs.Search.{Limits, Attempt, attempt, full, missed, entered, Work, goal, build, goals, built, Result, refused, found, failed, after, Search, tries, solve}
-use Rattle.resolution.specs.Attempts.{tries-full, tries-missed, tries-entered, tries-cases}
+use Rattle.resolution.specs.Search.{Limits, Attempt, attempt, exceeded, missed, entered, Work, goal, build, goals, built, Result, refused, found, failed, after, Search, tries, solve}
+use Rattle.resolution.specs.Attempts.{tries-exceeded, tries-missed, tries-entered, tries-cases}
 
 abbrev pub Falls : ℕ → Bool → Result → Type 0
 Falls b cut refused = Unit {0}
