@@ -12,3 +12,5 @@ pub mod Refutations
 pub mod Answers
 pub mod Failure
 pub mod Completeness
+pub mod Shifting
+pub mod Verdicts
