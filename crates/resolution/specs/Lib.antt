@@ -14,3 +14,5 @@ pub mod Failure
 pub mod Completeness
 pub mod Shifting
 pub mod Verdicts
+pub mod Session
+pub mod Goals
