@@ -16,7 +16,7 @@ use Rattle.terms.specs.Unification.{Unifier, MostGeneral, Outcome, unfinished, 
 use Rattle.terms.specs.TermLaws.{sub-var, sub-sub, sub-ext, sub-mem, sub-agree, sub-from, sub-append, below-le, below-append, below-mem, cons-inj, nil-cons}
 use Rattle.terms.specs.BindingLaws.{full-unbound, full-solves, full-open, res-open, solves-full, solves-res, solves-comp, solves-agree, lookup-above, below-full, below-res, belowB-le, extends-lookup, extends-solves}
 use Rattle.terms.specs.Robinson.{Unified}
-use Rattle.resolution.specs.Rules.{Rule, rule-at, Tree, node, leaf, _◂_, root, roots, Instance, Derivation, Derivable}
+use Rattle.resolution.specs.Rules.{Rule, rule-at, Tree, node, leaf, _◂_, root, roots, joined, Instance, Derivation, Derivable}
 use Rattle.resolution.specs.Fresh.{fresh, headVars, allVars, head, body}
 use Rattle.resolution.specs.FreshLaws.{Covers, met-covers, metBack-covers, metBack-grows, covers-grows, fresh-from, lift, lift-old, lift-new, head-below, body-below, vars-le, head-all}
 use Rattle.resolution.specs.Search.{Limits, Attempt, attempt, missed, entered, Work, goal, build, goals, built, Result, refused, found, failed, Search, tries, solve, bounded}
@@ -24,7 +24,7 @@ use Rattle.resolution.specs.Attempts.{Missed, Entered, Attempted, attemp
 use Rattle.resolution.specs.Soundness.{BelowW, belowW-le, Sound, SoundSearch, Found, solve-sound, entered-below, Suffix, suffix-all, suffix-here, suffix-next}
 use Rattle.resolution.specs.Steps.{Falls, FallsSearch, tries-falls, solve-falls}
 use Rattle.resolution.specs.Lloyd.{Variant, Resolvent, SLD, here, resolve, Refutation, ComputedAnswer, Clash, FailsBy, FinitelyFailed}
-use Rattle.resolution.specs.Refutations.{joined, roots-joined, derivation-joined, nodes, nodes-joined, finitely-failed-none}
+use Rattle.resolution.specs.Refutations.{roots-joined, derivation-joined, nodes, nodes-joined, finitely-failed-none}
 
 -- A fresh instance is a variant
 
@@ -36,13 +36,16 @@ covers-body R = metBack-covers (R .premises) (headVars R)
 
 pub fresh-variant : (c c₀ : ℕ) (R : Rule) → c₀ ≤ c → Variant R c₀ (c + length (allVars R)) (head c R) (body c R)
 fresh-variant c c₀ R l = record {
-    to = fresh c (allVars R); back = lift c (allVars R) var var; head = head-all c R; body = refl;
-    head-back = ap (sub (lift c (allVars R) var var)) (sym (head-all c R)) ∙ lift-new c (allVars R) var var (R .conclusion) (covers-head R) ∙ sub-var (R .conclusion);
-    body-back = lift-new c (allVars R) var var (R .premises) (covers-body R) ∙ sub-var (R .premises);
-    apart = (from-le l (head c R) (fresh-from c (R .conclusion) (headVars R)), from-le l (body c R) (fresh-from c (R .premises) (allVars R)));
-    below = (below-le (vars-le c R) (head c R) (head-below c R), body-below c R);
-    later = omega arith
-  }
+  to = fresh c (allVars R);
+  back = lift c (allVars R) var var;
+  head = head-all c R;
+  body = refl;
+  head-back = ap (sub (lift c (allVars R) var var)) (sym (head-all c R)) ∙ lift-new c (allVars R) var var (R .conclusion) (covers-head R) ∙ sub-var (R .conclusion);
+  body-back = lift-new c (allVars R) var var (R .premises) (covers-body R) ∙ sub-var (R .premises);
+  apart = (from-le l (head c R) (fresh-from c (R .conclusion) (headVars R)), from-le l (body c R) (fresh-from c (R .premises) (allVars R)));
+  below = (below-le (vars-le c R) (head c R) (head-below c R), body-below c R);
+  later = omega arith;
+}
   where
     from-le : {s : Kind} {c d : ℕ} → c ≤ d → (t : Syn s) → From d t → From c t
     from-le h (var x) b = omega arith
@@ -60,8 +63,10 @@ advance β β′ x = choose (lookup β x) (full β′ x) (var x)
 
 -- A unifier over the bindings, from one of the terms with the bindings put in.
 over-bindings : (c : ℕ) (β : Bindings) (g h : Term) (τ : Subst) → Acyclic β → BelowB c β → From c h → sub τ (res β g) ≡ sub τ h → Unifier β g h (compose (full β) τ)
-over-bindings c β g h τ ac bb fh e = (solves-comp (full β) τ β (full-solves β ac),
-    sym (sub-sub (full β) τ g) ∙ e ∙ sym (sub-from c (compose (full β) τ) τ (λ x l. ap (sub τ) (full-unbound β x (lookup-above c β bb x l))) h fh))
+over-bindings c β g h τ ac bb fh e = (
+  solves-comp (full β) τ β (full-solves β ac),
+  sym (sub-sub (full β) τ g) ∙ e ∙ sym (sub-from c (compose (full β) τ) τ (λ x l. ap (sub τ) (full-unbound β x (lookup-above c β bb x l))) h fh),
+)
 
 module _ (c : ℕ) (β : Bindings) (g : Term) (R : Rule) (β′ : Bindings) (c′ : ℕ) (ac : Acyclic β) (bb : BelowB c β) (en : Entered c β g R β′ c′) where
   advance-open : (x : ℕ) → lookup β x ≡ none → advance β β′ x ≡ full β′ x
@@ -85,9 +90,9 @@ module _ (c : ℕ) (β : Bindings) (g : Term) (R : Rule) (β′ : Bindings) (c�
 
   advance-mgu : MostGeneral start (res β g) (head c R) (advance β β′)
   advance-mgu = record {
-      unifier = (tt, advance-res g ∙ en .unifies (full β′) (full-solves β′ (en .acyclic)) ∙ sym (advance-new (head c R) (fresh-from c (R .conclusion) (headVars R))));
-      general = λ τ u. (τ, each τ (solves-full (compose (full β) τ) β′ (en .general (compose (full β) τ) (over-bindings c β g (head c R) τ ac bb (fresh-from c (R .conclusion) (headVars R)) (u .1)))))
-    }
+    unifier = (tt, advance-res g ∙ en .unifies (full β′) (full-solves β′ (en .acyclic)) ∙ sym (advance-new (head c R) (fresh-from c (R .conclusion) (headVars R))));
+    general = λ τ u. (τ, each τ (solves-full (compose (full β) τ) β′ (en .general (compose (full β) τ) (over-bindings c β g (head c R) τ ac bb (fresh-from c (R .conclusion) (headVars R)) (u .1)))));
+  }
     where
       each : (τ : Subst) → ((x : ℕ) → sub (compose (full β) τ) (full β′ x) ≡ sub τ (full β x)) → (x : ℕ) → τ x ≡ sub τ (advance β β′ x)
       each τ h x = go (lookup β x) refl
@@ -108,20 +113,27 @@ module _ (c : ℕ) (β : Bindings) (g : Term) (R : Rule) (β′ : Bindings) (c�
   pub entered-resolvent : (rules : List Rule) (c₀ r : ℕ) (As : Terms) → c₀ ≤ c → rule-at rules r ≡ some R
       → Resolvent rules c₀ (res β g) (res β As) r c′ (advance β β′) (res β′ (append (body c R) As))
   entered-resolvent rules c₀ r As l at = record {
-      rule = R; found = at; head = head c R; body = body c R;
-      variant = subst (λ n. Variant R c₀ n (head c R) (body c R)) (sym (en .counter)) (fresh-variant c c₀ R l);
-      mgu = advance-mgu; range = advance-range;
-      derived = sub-append (full β′) (body c R) As
+    rule = R;
+    found = at;
+    head = head c R;
+    body = body c R;
+    variant = subst (λ n. Variant R c₀ n (head c R) (body c R)) (sym (en .counter)) (fresh-variant c c₀ R l);
+    mgu = advance-mgu;
+    range = advance-range;
+    derived = sub-append (full β′) (body c R) As
         ∙ ap₂ append (sym (advance-new (body c R) (fresh-from c (R .premises) (allVars R)))) (sym (advance-res As))
-        ∙ sym (sub-append (advance β β′) (body c R) (res β As))
-    }
+        ∙ sym (sub-append (advance β β′) (body c R) (res β As));
+  }
 
 -- A missed rule is a clash.
 pub missed-clash : (c : ℕ) (β : Bindings) (g : Term) (R : Rule) (c′ c₀ : ℕ) → Acyclic β → BelowB c β → Missed c β g R c′ → c₀ ≤ c → Clash R c₀ (res β g)
 missed-clash c β g R c′ c₀ ac bb k l = record {
-    c′ = c + length (allVars R); head = head c R; body = body c R; variant = fresh-variant c c₀ R l;
-    clash = λ σ e. k .apart (compose (full β) σ) (over-bindings c β g (head c R) σ ac bb (fresh-from c (R .conclusion) (headVars R)) e)
-  }
+  c′ = c + length (allVars R);
+  head = head c R;
+  body = body c R;
+  variant = fresh-variant c c₀ R l;
+  clash = λ σ e. k .apart (compose (full β) σ) (over-bindings c β g (head c R) σ ac bb (fresh-from c (R .conclusion) (headVars R)) e);
+}
 
 -- The goals that work has still to prove.
 abbrev pub atoms : List Work → Terms
@@ -154,29 +166,34 @@ module _ (l : Limits) (rules : List Rule) where
   tries-reach rec so ok β g d w st m r [] b cut c₀ c h sf ac bb bg bw = tt
   tries-reach rec so ok β g d w st m r (R ∷ Rs) b cut c₀ c h sf ac bb bg bw =
       let next : (b′ : ℕ) (cut′ : Bool) (c′ : ℕ) → c ≤ c′ → Reaches rules c₀ β (cons g (atoms w)) (tries l rec β g d w st m (suc r) Rs b′ cut′ c′) =
-        λ b′ cut′ c′ i. tries-reach rec so ok β g d w st m (suc r) Rs b′ cut′ c₀ c′ (omega arith) (suffix-next rules r R Rs sf) ac (belowB-le i β bb) (below-le i g bg) (belowW-le i w bw) in
+      λ b′ cut′ c′ i. tries-reach rec so ok β g d w st m (suc r) Rs b′ cut′ c₀ c′ (omega arith) (suffix-next rules r R Rs sf) ac (belowB-le i β bb) (below-le i g bg) (belowW-le i w bw) in
       tries-cases l rec β g d w st m (Reaches rules c₀ β (cons g (atoms w))) r R Rs b cut c
       tt
       (λ c′ e. let k : Missed c β g R c′ = subst (Attempted c β g R) e aok in next b cut c′ (k .later))
       (λ β′ c′ m′ e β″ st′ b″ c″ m″ q.
-        let k : Entered c β g R β′ c′ = subst (Attempted c β g R) e aok in
-        step β′ c′ k β″ (subst (Reaches rules c′ β′ (atoms nw)) q (ok b c′ m′ β′ nw st (k .acyclic) (k .below) (entered-below c β g R β′ c′ d r w k bw))))
+      let k : Entered c β g R β′ c′ = subst (Attempted c β g R) e aok in
+      step β′ c′ k β″ (subst (Reaches rules c′ β′ (atoms nw)) q (ok b c′ m′ β′ nw st (k .acyclic) (k .below) (entered-below c β g R β′ c′ d r w k bw))))
       (λ β′ c′ m′ e b″ cut″ c″ q.
-        let k : Entered c β g R β′ c′ = subst (Attempted c β g R) e aok in
-        let f : c′ ≤ c″ = subst (Sound rules c′ β′ nw st) q (so b c′ m′ β′ nw st (k .acyclic) (k .below) (entered-below c β g R β′ c′ d r w k bw)) in
-        next b″ (cut || cut″) c″ (omega (arith, k .later)))
+      let k : Entered c β g R β′ c′ = subst (Attempted c β g R) e aok in
+      let f : c′ ≤ c″ = subst (Sound rules c′ β′ nw st) q (so b c′ m′ β′ nw st (k .acyclic) (k .below) (entered-below c β g R β′ c′ d r w k bw)) in
+      next b″ (cut || cut″) c″ (omega (arith, k .later)))
     where
       nw : List Work
       nw = goals (body c R) d (build r g (count (R .premises)) ∷ w)
+
       aok : Attempted c β g R (attempt l β g m c R)
       aok = attempt-ok l β g m c R ac bb bg
+
       step : (β′ : Bindings) (c′ : ℕ) → Entered c β g R β′ c′ → (β″ : Bindings) → Refuted rules c′ β′ (atoms nw) β″ → Refuted rules c₀ β (cons g (atoms w)) β″
       step β′ c′ k β″ f = record {
-          φ = compose (advance β β′) (f .φ);
-          refutation = (f .refutation .0, resolve (entered-resolvent c β g R β′ c′ ac bb k rules c₀ r (atoms w) h (suffix-here rules r R Rs sf))
-            (subst (λ G. SLD rules c′ (res β′ G) (f .φ) (f .refutation .0) nil) (atoms-goals (body c R) d (build r g (count (R .premises)) ∷ w)) (f .refutation .1)));
-          answer = λ x i. sym (sub-sub (advance β β′) (f .φ) (full β x)) ∙ ap (sub (f .φ)) (advance-res c β g R β′ c′ ac bb k (var x)) ∙ f .answer x (omega (arith, k .later))
-        }
+        φ = compose (advance β β′) (f .φ);
+        refutation = (
+          f .refutation .0,
+          resolve (entered-resolvent c β g R β′ c′ ac bb k rules c₀ r (atoms w) h (suffix-here rules r R Rs sf))
+              (subst (λ G. SLD rules c′ (res β′ G) (f .φ) (f .refutation .0) nil) (atoms-goals (body c R) d (build r g (count (R .premises)) ∷ w)) (f .refutation .1)),
+        );
+        answer = λ x i. sym (sub-sub (advance β β′) (f .φ) (full β x)) ∙ ap (sub (f .φ)) (advance-res c β g R β′ c′ ac bb k (var x)) ∙ f .answer x (omega (arith, k .later));
+      }
 
   solve-reach : (n : ℕ) → ReachesSearch rules (solve l rules n)
   solve-reach zero b c m β w st ac bb bw = tt
@@ -196,12 +213,16 @@ pub refuted-computed : (rules : List Rule) (c : ℕ) (g : Term) (β′ : Binding
     → ComputedAnswer rules (cons g nil) (λ x. cond (mem x g) (full β′ x) (var x))
 unfolding mem
 refuted-computed rules c g β′ b f = record {
-    c = c; below = (b, tt); φ = f .φ; refutation = subst (λ G. Refutation rules c G (f .φ)) (sub-var (cons g nil)) (f .refutation);
-    inside = λ x e. let m : mem x g ≡ true = inside-one x e in rw m (sym (f .answer x (below-at x m)));
-    outside = λ x e. rw (or-false (mem x g) false e .0)
-  }
+  c = c;
+  below = (b, tt);
+  φ = f .φ;
+  refutation = subst (λ G. Refutation rules c G (f .φ)) (sub-var (cons g nil)) (f .refutation);
+  inside = λ x e. let m : mem x g ≡ true = inside-one x e in rw m (sym (f .answer x (below-at x m)));
+  outside = λ x e. rw (or-false (mem x g) false e .0);
+}
   where
     inside-one : (x : ℕ) → (mem x g || false) ≡ true → mem x g ≡ true
     inside-one x e = by-bool (mem x g) (λ p. p) (λ p. true-false e (rw p))
+
     below-at : (x : ℕ) → mem x g ≡ true → x < c
     below-at x m = below-mem c g b x m

@@ -43,9 +43,15 @@ missed-of c β g R u = record { counter = refl; later = omega arith; apart = u }
 
 pub entered-of : (c : ℕ) (β : Bindings) (g : Term) (R : Rule) (β′ : Bindings) → Unified (c + length (headVars R)) β g (head c R) (unified β′) → Entered c β g R β′ (c + length (allVars R))
 entered-of c β g R β′ u = record {
-    counter = refl; later = omega (arith, vars-le c R); acyclic = u .acyclic; below = belowB-le (vars-le c R) β′ (u .below); extends = u .extends;
-    unifies = λ σ s. u .sound σ s .1 .0; general = λ σ v. u .general σ (v .0) (v .1, tt); premises = body-below c R
-  }
+  counter = refl;
+  later = omega (arith, vars-le c R);
+  acyclic = u .acyclic;
+  below = belowB-le (vars-le c R) β′ (u .below);
+  extends = u .extends;
+  unifies = λ σ s. u .sound σ s .1 .0;
+  general = λ σ v. u .general σ (v .0) (v .1, tt);
+  premises = body-below c R;
+}
 
 pub unify-rule : (c : ℕ) (β : Bindings) (g : Term) (R : Rule) → Acyclic β → BelowB c β → Below c g → Unified (c + length (headVars R)) β g (head c R) (unify (c + length (headVars R)) β g (head c R))
 unify-rule c β g R ac bb bg = unify-ok (c + length (headVars R)) β g (head c R) ac (belowB-le (omega arith) β bb) (below-le (omega arith) g bg) (head-below c R)
@@ -56,18 +62,23 @@ attempt-ok l β g m c R ac bb bg = counted (over l c₁ (m + words (head c R)))
   where
     c₁ : ℕ
     c₁ = c + length (headVars R)
+
     c₂ : ℕ
     c₂ = c + length (allVars R)
+
     m₂ : ℕ
     m₂ = m + words (head c R) + words (body c R)
+
     enters : (t : Bool) (β′ : Bindings) → Unified c₁ β g (head c R) (unified β′) → Attempted c β g R (elim t as (λ _. Attempt) [ true ↦ exceeded | false ↦ entered β′ c₂ m₂ ])
     enters true β′ u = tt
     enters false β′ u = entered-of c β g R β′ u
+
     unifying : (o : Outcome) → Unified c₁ β g (head c R) o
         → Attempted c β g R (elim o as (λ _. Attempt) [ unfinished ↦ missed c₁ | fails ↦ missed c₁ | unified β′ ↦ elim (over l c₂ m₂) [ true ↦ exceeded | false ↦ entered β′ c₂ m₂ ] ])
     unifying unfinished u = absurd u
     unifying fails u = missed-of c β g R u
     unifying (unified β′) u = enters (over l c₂ m₂) β′ u
+
     counted : (t : Bool) → Attempted c β g R (elim t as (λ _. Attempt) [ true ↦ exceeded | false ↦ elim (unify c₁ β g (head c R)) [ unfinished ↦ missed c₁ | fails ↦ missed c₁ | unified β′ ↦ elim (over l c₂ m₂) [ true ↦ exceeded | false ↦ entered β′ c₂ m₂ ] ] ])
     counted true = tt
     counted false = unifying (unify c₁ β g (head c R)) (unify-rule c β g R ac bb bg)
@@ -93,9 +104,9 @@ module _ (l : Limits) (rec : Search) (β : Bindings) (g : Term) (d : ℕ) (w : L
       → P refused
       → ((c′ : ℕ) → attempt l β g m c R ≡ missed c′ → P (tries l rec β g d w st m (suc r) Rs b cut c′))
       → ((β′ : Bindings) (c′ m′ : ℕ) → attempt l β g m c R ≡ entered β′ c′ m′ → (β″ : Bindings) (st′ : Tree many) (b″ c″ m″ : ℕ)
-        → rec b c′ m′ β′ (goals (body c R) d (build r g (count (R .premises)) ∷ w)) st ≡ found β″ st′ b″ c″ m″ → P (found β″ st′ b″ c″ m″))
+      → rec b c′ m′ β′ (goals (body c R) d (build r g (count (R .premises)) ∷ w)) st ≡ found β″ st′ b″ c″ m″ → P (found β″ st′ b″ c″ m″))
       → ((β′ : Bindings) (c′ m′ : ℕ) → attempt l β g m c R ≡ entered β′ c′ m′ → (b″ : ℕ) (cut″ : Bool) (c″ : ℕ)
-        → rec b c′ m′ β′ (goals (body c R) d (build r g (count (R .premises)) ∷ w)) st ≡ failed b″ cut″ c″ → P (tries l rec β g d w st m (suc r) Rs b″ (cut || cut″) c″))
+      → rec b c′ m′ β′ (goals (body c R) d (build r g (count (R .premises)) ∷ w)) st ≡ failed b″ cut″ c″ → P (tries l rec β g d w st m (suc r) Rs b″ (cut || cut″) c″))
       → P (tries l rec β g d w st m r (R ∷ Rs) b cut c)
   tries-cases P r R Rs b cut c out missing finding failing = go (attempt l β g m c R) refl
     where
@@ -104,6 +115,7 @@ module _ (l : Limits) (rec : Search) (β : Bindings) (g : Term) (d : ℕ) (w : L
       deep β′ c′ m′ e refused q = out
       deep β′ c′ m′ e (found β″ st′ b″ c″ m″) q = finding β′ c′ m′ e β″ st′ b″ c″ m″ q
       deep β′ c′ m′ e (failed b″ cut″ c″) q = failing β′ c′ m′ e b″ cut″ c″ q
+
       go : (a : Attempt) → attempt l β g m c R ≡ a → P (tries l rec β g d w st m r (R ∷ Rs) b cut c)
       go exceeded e = subst P (sym (tries-exceeded r R Rs b cut c e)) out
       go (missed c′) e = subst P (sym (tries-missed r R Rs b cut c c′ e)) (missing c′ e)

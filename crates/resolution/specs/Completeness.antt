@@ -13,12 +13,12 @@ use Rattle.terms.specs.Unification.{Unifier, Outcome, unfinished, fails, unifie
 use Rattle.terms.specs.TermLaws.{sub-var, sub-sub, sub-agree, sub-append, below-le, below-append, cons-inj, nil-cons}
 use Rattle.terms.specs.BindingLaws.{solves-full, solves-agree, full-solves}
 use Rattle.terms.specs.Robinson.{Unified}
-use Rattle.resolution.specs.Rules.{Rule, rule-at, Tree, node, leaf, _◂_, root, roots, Instance, Derivation}
+use Rattle.resolution.specs.Rules.{Rule, rule-at, Tree, node, leaf, _◂_, root, roots, joined, Instance, Derivation}
 use Rattle.resolution.specs.Fresh.{fresh, headVars, allVars, head, body}
 use Rattle.resolution.specs.FreshLaws.{lift, lift-old, lift-new, head-all}
 use Rattle.resolution.specs.Attempts.{Entered, entered-of, unify-rule}
 use Rattle.resolution.specs.Lloyd.{SLD, here, resolve, Refutation}
-use Rattle.resolution.specs.Refutations.{joined, roots-joined, derivation-joined, nodes, nodes-joined}
+use Rattle.resolution.specs.Refutations.{roots-joined, derivation-joined, nodes, nodes-joined}
 use Rattle.resolution.specs.Answers.{covers-head, covers-body, advance, advance-res, entered-resolvent}
 
 -- A refutation of the goal with the bindings put in, of whose answer σ is an instance.
@@ -42,25 +42,36 @@ covered rules (suc n) c β (cons g As) σ (node r t qs ◂ ps) h ac bb bg s e d 
   where
     i : Instance rules r t (roots qs)
     i = d .0 .0
+
     R : Rule
     R = i .rule
+
     eA : t ≡ sub σ g
     eA = cons-inj t (sub σ g) (roots ps) (sub σ As) e .0
+
     eAs : roots ps ≡ sub σ As
     eAs = cons-inj t (sub σ g) (roots ps) (sub σ As) e .1
+
     σ⁺ : Subst
     σ⁺ = lift c (allVars R) σ (i .θ)
+
     old : {k : Kind} (u : Syn k) → Below c u → sub σ⁺ u ≡ sub σ u
     old u b = sub-agree c σ⁺ σ (lift-old c (allVars R) σ (i .θ)) u b
+
     unifier : Unifier β g (head c R) σ⁺
-    unifier = (solves-agree c σ σ⁺ (λ x l. sym (lift-old c (allVars R) σ (i .θ) x l)) β bb s,
-      old g (bg .0) ∙ sym eA ∙ sym (i .head) ∙ sym (lift-new c (allVars R) σ (i .θ) (R .conclusion) (covers-head R)) ∙ ap (sub σ⁺) (head-all c R))
+    unifier = (
+      solves-agree c σ σ⁺ (λ x l. sym (lift-old c (allVars R) σ (i .θ) x l)) β bb s,
+      old g (bg .0) ∙ sym eA ∙ sym (i .head) ∙ sym (lift-new c (allVars R) σ (i .θ) (R .conclusion) (covers-head R)) ∙ ap (sub σ⁺) (head-all c R),
+    )
+
     under : roots (joined qs ps) ≡ sub σ⁺ (append (body c R) As)
     under = roots-joined qs ps
-      ∙ ap₂ append (sym (i .body) ∙ sym (lift-new c (allVars R) σ (i .θ) (R .premises) (covers-body R))) (eAs ∙ sym (old As (bg .1)))
-      ∙ sym (sub-append σ⁺ (body c R) As)
+        ∙ ap₂ append (sym (i .body) ∙ sym (lift-new c (allVars R) σ (i .θ) (R .premises) (covers-body R))) (eAs ∙ sym (old As (bg .1)))
+        ∙ sym (sub-append σ⁺ (body c R) As)
+
     Next : Type 0
     Next = (c : ℕ) (β : Bindings) (G : Terms) (σ : Subst) (ps : Tree many) → nodes ps ≤ n → Acyclic β → BelowB c β → Below c G → Solves σ β → roots ps ≡ sub σ G → Derivation rules ps → Covered rules c β G σ
+
     go : (o : Outcome) → Unified (c + length (headVars R)) β g (head c R) o → Next → Covered rules c β (cons g As) σ
     go unfinished u ih = absurd u
     go fails u ih = absurd (u σ⁺ unifier)
@@ -68,13 +79,13 @@ covered rules (suc n) c β (cons g As) σ (node r t qs ◂ ps) h ac bb bg s e d 
         let c′ : ℕ = c + length (allVars R) in
         let en : Entered c β g R β′ c′ = entered-of c β g R β′ u in
         let f = ih c′ β′ (append (body c R) As) σ⁺ (joined qs ps) (omega (arith, nodes-joined qs ps)) (en .acyclic) (en .below)
-              (below-append c′ (body c R) As (en .premises) (below-le (en .later) As (bg .1))) (en .general σ⁺ unifier) under (derivation-joined rules qs ps (d .0 .1) (d .1)) in
+        (below-append c′ (body c R) As (en .premises) (below-le (en .later) As (bg .1))) (en .general σ⁺ unifier) under (derivation-joined rules qs ps (d .0 .1) (d .1)) in
         record {
           φ = compose (advance β β′) (f .φ);
           refutation = (f .refutation .0, resolve (entered-resolvent c β g R β′ c′ ac bb en rules c r As (le-refl c) (i .found)) (f .refutation .1));
           δ = f .δ;
           covers = λ x l. sym (lift-old c (allVars R) σ (i .θ) x l) ∙ f .covers x (omega (arith, en .later))
-            ∙ ap (sub (f .δ)) (ap (sub (f .φ)) (sym (advance-res c β g R β′ c′ ac bb en (var x))) ∙ sub-sub (advance β β′) (f .φ) (full β x))
+              ∙ ap (sub (f .δ)) (ap (sub (f .φ)) (sym (advance-res c β g R β′ c′ ac bb en (var x))) ∙ sub-sub (advance β β′) (f .φ) (full β x));
         }
 
 -- The theorem, from no bindings.
@@ -88,6 +99,8 @@ pub sld-complete : (rules : List Rule) (c : ℕ) (G : Terms) (σ : Subst) (ps : 
 sld-complete rules c G σ ps b e d =
     let f = covered rules (nodes ps) c start G σ ps (le-refl (nodes ps)) tt tt b tt e d in
     record {
-      φ = f .φ; refutation = subst (λ H. Refutation rules c H (f .φ)) (sub-var G) (f .refutation); δ = f .δ;
-      instance = sub-agree c σ (compose (f .φ) (f .δ)) (f .covers) G b ∙ sym (sub-sub (f .φ) (f .δ) G)
+      φ = f .φ;
+      refutation = subst (λ H. Refutation rules c H (f .φ)) (sub-var G) (f .refutation);
+      δ = f .δ;
+      instance = sub-agree c σ (compose (f .φ) (f .δ)) (f .covers) G b ∙ sym (sub-sub (f .φ) (f .δ) G);
     }

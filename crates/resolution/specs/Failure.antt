@@ -56,11 +56,11 @@ all-close : (rules : List Rule) (n c : ℕ) (β : Bindings) (g : Term) (As : Ter
 all-close rules n c β g As r R Rs b cut refused f h k = tt
 all-close rules n c β g As r R Rs b cut (found β′ st b′ c′ m) f h k = tt
 all-close rules n c β g As r R Rs b cut (failed b′ cut′ c′) f h k = λ z e i. elim i as (λ i. (R′ : Rule) → rule-at (R ∷ Rs) i ≡ some R′ → Closes rules n c (res β g) (res β As) (r + i) R′) [
-    | zero ↦ λ R′ q. let s : R ≡ R′ = cc in
+  | zero ↦ λ R′ q. let s : R ≡ R′ = cc in
       let x : Closes rules n c (res β g) (res β As) r R′ = subst (Closes rules n c (res β g) (res β As) r) s (h (omega arith) (f .1 e)) in
       subst (λ j. Closes rules n c (res β g) (res β As) j R′) (let j : r ≡ r + 0 = omega arith in j) x
-    | suc j ↦ λ R′ q. subst (λ v. Closes rules n c (res β g) (res β As) v R′) (let v : suc r + j ≡ r + suc j = omega arith in v) (k z e j R′ q)
-    ]
+  | suc j ↦ λ R′ q. subst (λ v. Closes rules n c (res β g) (res β As) v R′) (let v : suc r + j ≡ r + suc j = omega arith in v) (k z e j R′ q)
+]
 
 module _ (l : Limits) (rules : List Rule) where
   tries-fail : (n : ℕ) (rec : Search) → SoundSearch rules rec → FallsSearch rec → FailsSearch rules n rec
@@ -69,24 +69,29 @@ module _ (l : Limits) (rules : List Rule) where
   tries-fail n rec so fa ok β g d w st m r [] b cut c₀ c h sf ac bb bg bw = λ z e i R q. some-none q refl
   tries-fail n rec so fa ok β g d w st m r (R ∷ Rs) b cut c₀ c h sf ac bb bg bw =
       let next : (b′ : ℕ) (cut′ : Bool) (c′ : ℕ) → c ≤ c′ → (0 < b′ → cut′ ≡ false → Closes rules n c₀ (res β g) (res β (atoms w)) r R)
-            → AllClose rules n c₀ β g (atoms w) r (R ∷ Rs) (tries l rec β g d w st m (suc r) Rs b′ cut′ c′) =
-        λ b′ cut′ c′ i k. all-close rules n c₀ β g (atoms w) r R Rs b′ cut′ (tries l rec β g d w st m (suc r) Rs b′ cut′ c′) (tries-falls l rec fa β g d w st m (suc r) Rs b′ cut′ c′) k
-          (tries-fail n rec so fa ok β g d w st m (suc r) Rs b′ cut′ c₀ c′ (omega arith) (suffix-next rules r R Rs sf) ac (belowB-le i β bb) (below-le i g bg) (belowW-le i w bw)) in
+      → AllClose rules n c₀ β g (atoms w) r (R ∷ Rs) (tries l rec β g d w st m (suc r) Rs b′ cut′ c′) =
+      λ b′ cut′ c′ i k. all-close rules n c₀ β g (atoms w) r R Rs b′ cut′ (tries l rec β g d w st m (suc r) Rs b′ cut′ c′) (tries-falls l rec fa β g d w st m (suc r) Rs b′ cut′ c′) k
+      (tries-fail n rec so fa ok β g d w st m (suc r) Rs b′ cut′ c₀ c′ (omega arith) (suffix-next rules r R Rs sf) ac (belowB-le i β bb) (below-le i g bg) (belowW-le i w bw)) in
       tries-cases l rec β g d w st m (AllClose rules n c₀ β g (atoms w) r (R ∷ Rs)) r R Rs b cut c
       tt
       (λ c′ e. let k : Missed c β g R c′ = subst (Attempted c β g R) e aok in next b cut c′ (k .later) (λ z q. inl (missed-clash c β g R c′ c₀ ac bb k h)))
       (λ β′ c′ m′ e β″ st′ b″ c″ m″ q. tt)
       (λ β′ c′ m′ e b″ cut″ c″ q.
-        let k : Entered c β g R β′ c′ = subst (Attempted c β g R) e aok in
-        let kb : BelowW c′ nw = entered-below c β g R β′ c′ d r w k bw in
-        let f : c′ ≤ c″ = subst (Sound rules c′ β′ nw st) q (so b c′ m′ β′ nw st (k .acyclic) (k .below) kb) in
-        let x : Fails rules n c′ β′ (atoms nw) (failed b″ cut″ c″) = subst (Fails rules n c′ β′ (atoms nw)) q (ok b c′ m′ β′ nw st (k .acyclic) (k .below) kb) in
-        next b″ (cut || cut″) c″ (omega (arith, k .later)) (λ z y. inr (c′, advance β β′, res β′ (append (body c R) (atoms w)),
-          entered-resolvent c β g R β′ c′ ac bb k rules c₀ r (atoms w) h (suffix-here rules r R Rs sf),
-          subst (λ G. FailsBy rules n c′ (res β′ G)) (atoms-goals (body c R) d (build r g (count (R .premises)) ∷ w)) (x z (or-false cut cut″ y .1)))))
+      let k : Entered c β g R β′ c′ = subst (Attempted c β g R) e aok in
+      let kb : BelowW c′ nw = entered-below c β g R β′ c′ d r w k bw in
+      let f : c′ ≤ c″ = subst (Sound rules c′ β′ nw st) q (so b c′ m′ β′ nw st (k .acyclic) (k .below) kb) in
+      let x : Fails rules n c′ β′ (atoms nw) (failed b″ cut″ c″) = subst (Fails rules n c′ β′ (atoms nw)) q (ok b c′ m′ β′ nw st (k .acyclic) (k .below) kb) in
+      next b″ (cut || cut″) c″ (omega (arith, k .later)) (λ z y. inr (
+        c′,
+        advance β β′,
+        res β′ (append (body c R) (atoms w)),
+        entered-resolvent c β g R β′ c′ ac bb k rules c₀ r (atoms w) h (suffix-here rules r R Rs sf),
+        subst (λ G. FailsBy rules n c′ (res β′ G)) (atoms-goals (body c R) d (build r g (count (R .premises)) ∷ w)) (x z (or-false cut cut″ y .1)),
+      )))
     where
       nw : List Work
       nw = goals (body c R) d (build r g (count (R .premises)) ∷ w)
+
       aok : Attempted c β g R (attempt l β g m c R)
       aok = attempt-ok l β g m c R ac bb bg
 
@@ -103,7 +108,7 @@ module _ (l : Limits) (rules : List Rule) where
   solve-fail (suc n) (suc b) c m β (goal g zero ∷ w) st ac bb bw = λ z e. true-false refl e
   solve-fail (suc n) (suc b) c m β (goal g (suc d) ∷ w) st ac bb bw =
       go (tries l (solve l rules n) β g d w st m 0 rules b false c)
-        (tries-fail n (solve l rules n) (solve-sound l rules n) (solve-falls l rules n) (solve-fail n) β g d w st m 0 rules b false c c (le-refl c) (suffix-all rules) ac bb (bw .0) (bw .1))
+      (tries-fail n (solve l rules n) (solve-sound l rules n) (solve-falls l rules n) (solve-fail n) β g d w st m 0 rules b false c c (le-refl c) (suffix-all rules) ac bb (bw .0) (bw .1))
     where
       go : (o : Result) → AllClose rules n c β g (atoms w) 0 rules o → Fails rules (suc n) c β (cons g (atoms w)) o
       go refused k = tt

@@ -69,7 +69,7 @@ pub record Claim (rules : List Rule) (S E : Session) (e : Event) : Type 0 where
   pub refused : (n : ℕ) → e .verdict ≡ refusal n → e .session ≡ S
   pub holds : (new : List Name) (p : Term) → e .query .compile (S .names) ≡ compiles new p → Holds rules S (e .session) E (goalOf S p) (e .verdict)
   pub repeats : (steps depth : ℕ) (a : Allowance) → e .query .steps ≤ steps → e .query .depth ≤ depth → tooMuch steps depth a ≡ false
-    → Again (e .verdict) (ask rules S (reask (e .query) steps depth a) .verdict)
+      → Again (e .verdict) (ask rules S (reask (e .query) steps depth a) .verdict)
 
 abbrev pub Claims : List Rule → Session → Session → List Event → Type 0
 Claims rules S E [] = Unit {0}
@@ -127,27 +127,33 @@ module _ (rules : List Rule) (S : Session) (F : InForm S) (new : List Name) (p :
     where
       g : Term
       g = goalOf S p
+
       m : ℕ
       m = S .words + words g
+
       barred-37 : (v : Verdict) → Says rules n₀ (S .bindings) g v → finding v ≡ barred → v ≡ refusal 37
       barred-37 (refusal n) h e = ap refusal h
       barred-37 (proved β st u c w) h e = absurd (let z : _≡_ {A = ℕ} 0 1 = cc in omega arith)
       barred-37 (nothing u c) h e = absurd (let z : _≡_ {A = ℕ} 0 1 = cc in omega arith)
       barred-37 (undecided u c) h e = absurd (let z : _≡_ {A = ℕ} 0 1 = cc in omega arith)
+
       or-37 : (k : Finding) (v : Verdict) → Says rules n₀ (S .bindings) g v → (finding v ≡ k) ⊎ (finding v ≡ barred) → (finding v ≡ k) ⊎ (v ≡ refusal 37)
       or-37 k v h (inl e) = inl e
       or-37 k v h (inr e) = inr (barred-37 v h e)
+
       says : (s d : ℕ) (a : Allowance) → Says rules n₀ (S .bindings) g (prove (limitsOf a) rules s d m (S .bindings) g n₀)
       says s d a = deepen-says (limitsOf a) rules s m n₀ (S .bindings) g (F .acyclic) below-n₀ goal-n₀ (bounds d) 0 n₀ (le-refl n₀)
+
       r : Repeats (finding (prove (limitsOf a) rules s d m (S .bindings) g n₀)) (finding (prove (limitsOf a′) rules s′ d′ m (S .bindings) g n₀))
       r = prove-repeats rules (S .bindings) g n₀ (F .acyclic) below-n₀ goal-n₀ (limitsOf a) (limitsOf a′) s s′ d d′ m hs hd
+
       go : (t t′ : Bool) → Again (searched rules S s d a (length new) g t) (searched rules S s′ d′ a′ (length new) g t′)
       go true t′ = record { shows = λ e. absurd (let z : _≡_ {A = ℕ} 0 1 = cc in omega arith); excludes = λ e. absurd (let z : _≡_ {A = ℕ} 0 1 = cc in omega arith) }
       go false true = record { shows = λ e. inr refl; excludes = λ e. inr refl }
       go false false = record {
-          shows = λ e. or-37 shown (prove (limitsOf a′) rules s′ d′ m (S .bindings) g n₀) (says s′ d′ a′) (r .0 e);
-          excludes = λ e. or-37 excluded (prove (limitsOf a′) rules s′ d′ m (S .bindings) g n₀) (says s′ d′ a′) (r .1 e)
-        }
+        shows = λ e. or-37 shown (prove (limitsOf a′) rules s′ d′ m (S .bindings) g n₀) (says s′ d′ a′) (r .0 e);
+        excludes = λ e. or-37 excluded (prove (limitsOf a′) rules s′ d′ m (S .bindings) g n₀) (says s′ d′ a′) (r .1 e);
+      }
 
   -- The session left is in form, and its bindings only add.
   left-form : (v : Verdict) → Says rules n₀ (S .bindings) (goalOf S p) v → InForm (left S new v) × Extends (S .bindings) (left S new v .bindings)
@@ -159,10 +165,14 @@ module _ (rules : List Rule) (S : Session) (F : InForm S) (new : List Name) (p :
   verdict-holds : (E : Session) → InForm E → (v : Verdict) → Says rules n₀ (S .bindings) (goalOf S p) v → Extends (left S new v .bindings) (E .bindings) → Holds rules S (left S new v) E (goalOf S p) v
   verdict-holds E FE (refusal n) h x = refl
   verdict-holds E FE (proved β st u c m) h x = record {
-      tree = h .tree; only = h .only; goal = h .goal; rooted = root-putIn (full β) (h .tree) ∙ ap (res β) (h .goal);
-      derivation = h .derives (full β) (full-solves β (h .acyclic)); adds = h .extends;
-      stays = h .derives (full (E .bindings)) (extends-solves x (full (E .bindings)) (full-solves (E .bindings) (FE .acyclic)))
-    }
+    tree = h .tree;
+    only = h .only;
+    goal = h .goal;
+    rooted = root-putIn (full β) (h .tree) ∙ ap (res β) (h .goal);
+    derivation = h .derives (full β) (full-solves β (h .acyclic));
+    adds = h .extends;
+    stays = h .derives (full (E .bindings)) (extends-solves x (full (E .bindings)) (full-solves (E .bindings) (FE .acyclic)));
+  }
   verdict-holds E FE (nothing u c) h x = (h .1, refl)
   verdict-holds E FE (undecided u c) h x = refl
 
@@ -178,6 +188,7 @@ module _ (rules : List Rule) (S : Session) (F : InForm S) (q : Query) where
       compiled : (k : Compiled) → Scoped (S .names) k → InForm (answered rules S (q .steps) (q .depth) (q .limits) k .session) × Extends (S .bindings) (answered rules S (q .steps) (q .depth) (q .limits) k .session .bindings)
       compiled (refuses n) b = (F, unchanged)
       compiled (compiles new p) b = left-form rules S F new p b (verdictOf rules S (q .steps) (q .depth) (q .limits) (length new) (goalOf S p)) (verdict-says rules S F new p b (q .steps) (q .depth) (q .limits))
+
       go : (t : Bool) → InForm (tested rules S q t .session) × Extends (S .bindings) (tested rules S q t .session .bindings)
       go true = (F, unchanged)
       go false = compiled (q .compile (S .names)) (q .scoped (S .names))
@@ -188,6 +199,7 @@ module _ (rules : List Rule) (S : Session) (F : InForm S) (q : Query) where
       compiled : (k : Compiled) → Scoped (S .names) k → answered rules S (q .steps) (q .depth) (q .limits) k .verdict ≡ refusal n → answered rules S (q .steps) (q .depth) (q .limits) k .session ≡ S
       compiled (refuses i) b e = refl
       compiled (compiles new p) b e = left-refused rules S F new p b (verdictOf rules S (q .steps) (q .depth) (q .limits) (length new) (goalOf S p)) n e
+
       go : (t : Bool) → tested rules S q t .verdict ≡ refusal n → tested rules S q t .session ≡ S
       go true e = refl
       go false e = compiled (q .compile (S .names)) (q .scoped (S .names)) e
@@ -198,22 +210,26 @@ module _ (rules : List Rule) (S : Session) (F : InForm S) (q : Query) where
     where
       b : Below (length (S .names) + length new) p
       b = subst (Scoped (S .names)) ck (q .scoped (S .names))
+
       A : Compiled → Answer
       A k = answered rules S (q .steps) (q .depth) (q .limits) k
+
       go : (t : Bool) → Extends (tested rules S q t .session .bindings) (E .bindings) → Holds rules S (tested rules S q t .session) E (goalOf S p) (tested rules S q t .verdict)
       go true x = refl
       go false x = subst (λ k. Holds rules S (A k .session) E (goalOf S p) (A k .verdict)) (sym ck)
           (verdict-holds rules S F new p b E FE (verdictOf rules S (q .steps) (q .depth) (q .limits) (length new) (goalOf S p)) (verdict-says rules S F new p b (q .steps) (q .depth) (q .limits))
-            (subst (λ k. Extends (A k .session .bindings) (E .bindings)) ck x))
+          (subst (λ k. Extends (A k .session .bindings) (E .bindings)) ck x))
 
   answer-again : (s d : ℕ) (a : Allowance) → q .steps ≤ s → q .depth ≤ d → tooMuch s d a ≡ false → Again (ask rules S q .verdict) (ask rules S (reask q s d a) .verdict)
   answer-again s d a hs hd ok = subst (λ t. Again (ask rules S q .verdict) (tested rules S (reask q s d a) t .verdict)) (sym ok) (go (tooMuch (q .steps) (q .depth) (q .limits)))
     where
       nothing-more : (n : ℕ) (v : Verdict) → Again (refusal n) v
       nothing-more n v = record { shows = λ e. absurd (let z : _≡_ {A = ℕ} 0 1 = cc in omega arith); excludes = λ e. absurd (let z : _≡_ {A = ℕ} 0 1 = cc in omega arith) }
+
       compiled : (k : Compiled) → Scoped (S .names) k → Again (answered rules S (q .steps) (q .depth) (q .limits) k .verdict) (answered rules S s d a k .verdict)
       compiled (refuses n) b = nothing-more n (refusal n)
       compiled (compiles new p) b = verdict-again rules S F new p b (q .steps) (q .depth) (q .limits) s d a hs hd
+
       go : (t : Bool) → Again (tested rules S q t .verdict) (answered rules S s d a (q .compile (S .names)) .verdict)
       go true = nothing-more 38 (answered rules S s d a (q .compile (S .names)) .verdict)
       go false = compiled (q .compile (S .names)) (q .scoped (S .names))
@@ -232,14 +248,17 @@ claims rules S E [] F t FE x = tt
 claims rules S E (e ∷ es) F t FE x =
     let A : Answer = ask rules S (e .query) in
     let h : InForm (e .session) = subst InForm (sym (t .1)) (answer-form rules S F (e .query) .0) in
-    let y : Extends (e .session .bindings) (E .bindings) = extends-trans (final-form rules (e .session) es h (t .2) .1) x in
-    (record {
-      verdict = t .0; session = t .1;
-      refused = λ n q. t .1 ∙ answer-refused rules S F (e .query) n (sym (t .0) ∙ q);
-      holds = λ new p ck. subst (λ v. Holds rules S (e .session) E (goalOf S p) v) (sym (t .0)) (subst (λ S′. Holds rules S S′ E (goalOf S p) (A .verdict)) (sym (t .1))
-        (answer-holds rules S F (e .query) E FE (subst (λ S′. Extends (S′ .bindings) (E .bindings)) (t .1) y) new p ck));
-      repeats = λ s d a hs hd ok. subst (λ v. Again v (ask rules S (reask (e .query) s d a) .verdict)) (sym (t .0)) (answer-again rules S F (e .query) s d a hs hd ok)
-    }, claims rules (e .session) E es h (t .2) FE x)
+    let y : Extends (e .session .bindings) (E .bindings) = extends-trans (final-form rules (e .session) es h (t .2) .1) x in (
+      record {
+        verdict = t .0;
+        session = t .1;
+        refused = λ n q. t .1 ∙ answer-refused rules S F (e .query) n (sym (t .0) ∙ q);
+        holds = λ new p ck. subst (λ v. Holds rules S (e .session) E (goalOf S p) v) (sym (t .0)) (subst (λ S′. Holds rules S S′ E (goalOf S p) (A .verdict)) (sym (t .1))
+            (answer-holds rules S F (e .query) E FE (subst (λ S′. Extends (S′ .bindings) (E .bindings)) (t .1) y) new p ck));
+        repeats = λ s d a hs hd ok. subst (λ v. Again v (ask rules S (reask (e .query) s d a) .verdict)) (sym (t .0)) (answer-again rules S F (e .query) s d a hs hd ok);
+      },
+      claims rules (e .session) E es h (t .2) FE x,
+    )
 
 -- Demand 3.
 pub demand-3 : (rules : List Rule) (S : Session) (es : List Event) → InForm S → Transcript rules S es → Claims rules S (final S es) es × InForm (final S es)

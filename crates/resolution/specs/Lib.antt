@@ -2,17 +2,22 @@
 pub mod Rules
 pub mod Fresh
 pub mod Search
+pub mod Session
+pub mod Lloyd
+-- Laws, in the order in which they are needed:
 pub mod FreshLaws
 pub mod Attempts
 pub mod Soundness
 pub mod Steps
 pub mod Limited
-pub mod Lloyd
 pub mod Refutations
 pub mod Answers
 pub mod Failure
 pub mod Completeness
 pub mod Shifting
 pub mod Verdicts
-pub mod Session
+-- Demand 3:
 pub mod Goals
+-- What code needs:
+pub mod Machine
+pub mod Preorder

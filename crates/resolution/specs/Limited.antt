@@ -20,20 +20,26 @@ attempt-limited l β g m c R = counted (over l c₁ (m + words (head c R)))
   where
     c₁ : ℕ
     c₁ = c + length (headVars R)
+
     c₂ : ℕ
     c₂ = c + length (allVars R)
+
     m₂ : ℕ
     m₂ = m + words (head c R) + words (body c R)
+
     Same : Attempt → Attempt → Type 0
     Same a b = (a ≡ exceeded) ⊎ (a ≡ b)
+
     enters : (t : Bool) (β′ : Bindings) → Same (elim t as (λ _. Attempt) [ true ↦ exceeded | false ↦ entered β′ c₂ m₂ ]) (entered β′ c₂ m₂)
     enters true β′ = inl refl
     enters false β′ = inr refl
+
     unifying : (o : Outcome) → Same (elim o as (λ _. Attempt) [ unfinished ↦ missed c₁ | fails ↦ missed c₁ | unified β′ ↦ elim (over l c₂ m₂) [ true ↦ exceeded | false ↦ entered β′ c₂ m₂ ] ])
         (elim o as (λ _. Attempt) [ unfinished ↦ missed c₁ | fails ↦ missed c₁ | unified β′ ↦ entered β′ c₂ m₂ ])
     unifying unfinished = inr refl
     unifying fails = inr refl
     unifying (unified β′) = enters (over l c₂ m₂) β′
+
     counted : (t : Bool) → Same (elim t as (λ _. Attempt) [ true ↦ exceeded | false ↦ elim (unify c₁ β g (head c R)) [ unfinished ↦ missed c₁ | fails ↦ missed c₁ | unified β′ ↦ elim (over l c₂ m₂) [ true ↦ exceeded | false ↦ entered β′ c₂ m₂ ] ] ])
         (elim (unify c₁ β g (head c R)) as (λ _. Attempt) [ unfinished ↦ missed c₁ | fails ↦ missed c₁ | unified β′ ↦ entered β′ c₂ m₂ ])
     counted true = inl refl
@@ -53,23 +59,31 @@ tries-match l rec rec′ ok β g d w st m r (R ∷ Rs) b cut c = go (attempt l �
   where
     nw : List Work
     nw = goals (body c R) d (build r g (count (R .premises)) ∷ w)
+
     Next : Type 0
     Next = (b : ℕ) (cut : Bool) (c : ℕ) → Matches (tries l rec β g d w st m (suc r) Rs b cut c) (tries unlimited rec′ β g d w st m (suc r) Rs b cut c)
+
     on : Result → Result
     on o = after o (λ b″ cut″ c″. tries l rec β g d w st m (suc r) Rs b″ (cut || cut″) c″)
+
     on′ : Result → Result
     on′ o = after o (λ b″ cut″ c″. tries unlimited rec′ β g d w st m (suc r) Rs b″ (cut || cut″) c″)
+
     same : (o : Result) → Next → Matches (on o) (on′ o)
     same refused n = inl refl
     same (found β″ st′ b″ c″ m″) n = inr refl
     same (failed b″ cut″ c″) n = n b″ (cut || cut″) c″
+
     deep : (o o′ : Result) → Matches o o′ → Next → Matches (on o) (on′ o′)
     deep o o′ (inl e) n = inl (ap on e)
     deep o o′ (inr e) n = subst (λ p. Matches (on o) (on′ p)) e (same o n)
+
     exceeded-missed : {P : Type 0} {a : Attempt} {c′ : ℕ} → a ≡ exceeded → a ≡ missed c′ → P
     exceeded-missed p q = absurd (let z : _≡_ {A = ℕ} 0 1 = cc in omega arith)
+
     exceeded-entered : {P : Type 0} {a : Attempt} {β′ : Bindings} {c′ m′ : ℕ} → a ≡ exceeded → a ≡ entered β′ c′ m′ → P
     exceeded-entered p q = absurd (let z : _≡_ {A = ℕ} 0 1 = cc in omega arith)
+
     go : (a : Attempt) → attempt l β g m c R ≡ a → (attempt l β g m c R ≡ exceeded) ⊎ (attempt l β g m c R ≡ attempt unlimited β g m c R) → Next
         → Matches (tries l rec β g d w st m r (R ∷ Rs) b cut c) (tries unlimited rec′ β g d w st m r (R ∷ Rs) b cut c)
     go exceeded e h n = inl (tries-exceeded l rec β g d w st m r R Rs b cut c e)
@@ -79,7 +93,7 @@ tries-match l rec rec′ ok β g d w st m r (R ∷ Rs) b cut c = go (attempt l �
     go (entered β′ c′ m′) e (inl f) n = exceeded-entered f e
     go (entered β′ c′ m′) e (inr f) n = subst (λ o. Matches o (tries unlimited rec′ β g d w st m r (R ∷ Rs) b cut c)) (sym (tries-entered l rec β g d w st m r R Rs b cut c β′ c′ m′ e))
         (subst (Matches (on (rec b c′ m′ β′ nw st))) (sym (tries-entered unlimited rec′ β g d w st m r R Rs b cut c β′ c′ m′ (sym f ∙ e)))
-          (deep (rec b c′ m′ β′ nw st) (rec′ b c′ m′ β′ nw st) (ok b c′ m′ β′ nw st) n))
+        (deep (rec b c′ m′ β′ nw st) (rec′ b c′ m′ β′ nw st) (ok b c′ m′ β′ nw st) n))
 
 -- The theorem at one bound.
 pub solve-match : (l : Limits) (rules : List Rule) (n : ℕ) → MatchesSearch (solve l rules n) (solve unlimited rules n)
@@ -98,16 +112,20 @@ deepen-match l rules s m β g (d ∷ ds) u c = go (bounded l rules s m β g d c)
   where
     Next : Type 0
     Next = (u c : ℕ) → (deepen l rules s m β g ds u c ≡ refusal 37) ⊎ (deepen l rules s m β g ds u c ≡ deepen unlimited rules s m β g ds u c)
+
     on : Result → Verdict
     on o = settle s o (λ u′ c′. deepen l rules s m β g ds u′ c′)
+
     on′ : Result → Verdict
     on′ o = settle s o (λ u′ c′. deepen unlimited rules s m β g ds u′ c′)
+
     same : (o : Result) → Next → (on o ≡ refusal 37) ⊎ (on o ≡ on′ o)
     same refused n = inl refl
     same (found β′ st b c′ m′) n = inr refl
     same (failed zero cut c′) n = n s c′
     same (failed (suc b) true c′) n = n (s - suc b) c′
     same (failed (suc b) false c′) n = inr refl
+
     go : (o o′ : Result) → Matches o o′ → Next → (on o ≡ refusal 37) ⊎ (on o ≡ on′ o′)
     go o o′ (inl e) n = inl (ap on e)
     go o o′ (inr e) n = subst (λ p. (on o ≡ refusal 37) ⊎ (on o ≡ on′ p)) e (same o n)

@@ -16,17 +16,13 @@ use Rattle.terms.specs.Unification.{Unifier, MostGeneral, Outcome, unfinished, 
 use Rattle.terms.specs.TermLaws.{sub-var, sub-sub, sub-ext, sub-mem, sub-agree, sub-from, sub-append, below-sub, below-le, below-append, cons-inj, nil-cons}
 use Rattle.terms.specs.BindingLaws.{full-unbound, full-solves, full-open, res-open, solves-full, solves-res, solves-comp, solves-agree, lookup-above, below-full, below-res, extends-lookup, extends-solves}
 use Rattle.terms.specs.Robinson.{Unified}
-use Rattle.resolution.specs.Rules.{Rule, rule-at, Tree, node, leaf, _◂_, root, roots, Instance, Derivation, Derivable}
+use Rattle.resolution.specs.Rules.{Rule, rule-at, Tree, node, leaf, _◂_, root, roots, joined, Instance, Derivation, Derivable}
 use Rattle.resolution.specs.Fresh.{met, fresh, headVars, allVars, head, body}
 use Rattle.resolution.specs.FreshLaws.{Covers, met-covers, metBack-covers, metBack-grows, covers-grows, fresh-from, lift, lift-old, lift-new, head-below, body-below, vars-le, head-all}
 use Rattle.resolution.specs.Attempts.{Missed, Entered, entered-of, unify-rule}
 use Rattle.resolution.specs.Lloyd.{Variant, Resolvent, SLD, here, resolve, Refutation, ComputedAnswer, Clash, FailsBy, FinitelyFailed}
 
 -- Lists of trees
-
-abbrev pub joined : Tree many → Tree many → Tree many
-joined leaf qs = qs
-joined (p ◂ ps) qs = p ◂ joined ps qs
 
 pub roots-joined : (ps qs : Tree many) → roots (joined ps qs) ≡ append (roots ps) (roots qs)
 roots-joined leaf qs = refl
@@ -52,8 +48,12 @@ split rules (cons t ts) us (p ◂ ps) e d =
     let i = cons-inj (root p) t (roots ps) (append ts us) e in
     let r = split rules ts us ps (i .1) (d .1) in
     record {
-      first = p ◂ r .first; second = r .second; roots-first = ap₂ cons (i .0) (r .roots-first); roots-second = r .roots-second;
-      derives-first = (d .0, r .derives-first); derives-second = r .derives-second
+      first = p ◂ r .first;
+      second = r .second;
+      roots-first = ap₂ cons (i .0) (r .roots-first);
+      roots-second = r .roots-second;
+      derives-first = (d .0, r .derives-first);
+      derives-second = r .derives-second;
     }
 
 abbrev pub nodes : {s : Kind} → Tree s → ℕ
@@ -81,16 +81,24 @@ sld-sound {rules} (resolve {r = r} {A = A} {As = As} {θ = θ} {φ = φ} v s) τ
     let e : (ts : Terms) → sub ψ (sub θ ts) ≡ sub χ ts = λ ts. sub-sub θ ψ ts ∙ sub-ext (compose θ ψ) χ assoc ts in
     let e₁ : (t : Term) → sub ψ (sub θ t) ≡ sub χ t = λ t. sub-sub θ ψ t ∙ sub-ext (compose θ ψ) χ assoc t in
     let z = split rules (sub χ (v .body)) (sub χ As) (q .trees)
-          (q .proves ∙ ap (sub ψ) (v .derived) ∙ e (append (v .body) As) ∙ sub-append χ (v .body) As) (q .derivation) in
+    (q .proves ∙ ap (sub ψ) (v .derived) ∙ e (append (v .body) As) ∙ sub-append χ (v .body) As) (q .derivation) in
     let u : sub χ (v .head) ≡ sub χ A = sym (e₁ (v .head)) ∙ ap (sub ψ) (sym (v .mgu .unifier .1)) ∙ e₁ A in
     record {
       trees = node r (sub χ A) (z .first) ◂ z .second;
       proves = ap (cons (sub χ A)) (z .roots-second);
-      derivation = ((record {
-        rule = v .rule; found = v .found; θ = compose (v .variant .to) χ;
-        head = sym (sub-sub (v .variant .to) χ (v .rule .conclusion)) ∙ ap (sub χ) (v .variant .head) ∙ u;
-        body = sym (sub-sub (v .variant .to) χ (v .rule .premises)) ∙ ap (sub χ) (v .variant .body) ∙ sym (z .roots-first)
-      }, z .derives-first), z .derives-second)
+      derivation = (
+        (
+          record {
+            rule = v .rule;
+            found = v .found;
+            θ = compose (v .variant .to) χ;
+            head = sym (sub-sub (v .variant .to) χ (v .rule .conclusion)) ∙ ap (sub χ) (v .variant .head) ∙ u;
+            body = sym (sub-sub (v .variant .to) χ (v .rule .premises)) ∙ ap (sub χ) (v .variant .body) ∙ sym (z .roots-first);
+          },
+          z .derives-first,
+        ),
+        z .derives-second,
+      );
     }
 
 pub refutation-sound : (rules : List Rule) (c : ℕ) (G : Terms) (φ : Subst) → Refutation rules c G φ → (τ : Subst) → Derived rules (sub (compose φ τ) G)
@@ -120,16 +128,22 @@ fails-none rules (suc n) c (cons A As) f b σ (node r t qs ◂ ps) e d = go (f r
   where
     i : Instance rules r t (roots qs)
     i = d .0 .0
+
     R : Rule
     R = i .rule
+
     eA : t ≡ sub σ A
     eA = cons-inj t (sub σ A) (roots ps) (sub σ As) e .0
+
     eAs : roots ps ≡ sub σ As
     eAs = cons-inj t (sub σ A) (roots ps) (sub σ As) e .1
+
     wide : Subst → Subst
     wide back = beside c σ (compose back (i .θ))
+
     meets : (h : Term) (back : Subst) → sub back h ≡ R .conclusion → From c h → sub (wide back) A ≡ sub (wide back) h
     meets h back k a = beside-low c σ (compose back (i .θ)) A (b .0) ∙ sym eA ∙ sym (i .head) ∙ ap (sub (i .θ)) (sym k) ∙ sub-sub back (i .θ) h ∙ sym (beside-high c σ (compose back (i .θ)) h a)
+
     go : Clash R c A ⊎ ((c′ : ℕ) × (θ : Subst) × (G : Terms) × Resolvent rules c A As r c′ θ G × FailsBy rules n c′ G)
         → ((c : ℕ) (G : Terms) → FailsBy rules n c G → Below c G → (σ : Subst) (ps : Tree many) → roots ps ≡ sub σ G → Derivation rules ps → ⊥) → ⊥
     go (inl k) ih = k .clash (wide (k .variant .back)) (meets (k .head) (k .variant .back) (k .variant .head-back) (k .variant .apart .0))
@@ -140,16 +154,16 @@ fails-none rules (suc n) c (cons A As) f b σ (node r t qs ◂ ps) e d = go (f r
         let σ⁺ : Subst = wide (w .back) in
         let g = v .mgu .general σ⁺ (tt, meets (v .head) (w .back) (w .head-back ∙ ap (λ (Q : Rule). Q .conclusion) same) (w .apart .0)) in
         let under : sub (g .0) (k .2) ≡ append (roots qs) (roots ps) =
-              ap (sub (g .0)) (v .derived) ∙ sub-sub (k .1) (g .0) (append (v .body) As)
-              ∙ sub-ext (compose (k .1) (g .0)) σ⁺ (λ x. sym (g .1 x)) (append (v .body) As)
-              ∙ sub-append σ⁺ (v .body) As
-              ∙ ap₂ append
-                (beside-high c σ (compose (w .back) (i .θ)) (v .body) (w .apart .1) ∙ sym (sub-sub (w .back) (i .θ) (v .body))
-                  ∙ ap (sub (i .θ)) (w .body-back ∙ ap (λ (Q : Rule). Q .premises) same) ∙ i .body)
-                (beside-low c σ (compose (w .back) (i .θ)) As (b .1) ∙ sym eAs) in
+        ap (sub (g .0)) (v .derived) ∙ sub-sub (k .1) (g .0) (append (v .body) As)
+        ∙ sub-ext (compose (k .1) (g .0)) σ⁺ (λ x. sym (g .1 x)) (append (v .body) As)
+        ∙ sub-append σ⁺ (v .body) As
+        ∙ ap₂ append
+        (beside-high c σ (compose (w .back) (i .θ)) (v .body) (w .apart .1) ∙ sym (sub-sub (w .back) (i .θ) (v .body))
+        ∙ ap (sub (i .θ)) (w .body-back ∙ ap (λ (Q : Rule). Q .premises) same) ∙ i .body)
+        (beside-low c σ (compose (w .back) (i .θ)) As (b .1) ∙ sym eAs) in
         ih (k .0) (k .2) (k .4)
-          (subst (Below (k .0)) (sym (v .derived)) (below-sub (k .0) (k .0) (k .1) (v .range) (append (v .body) As) (below-append (k .0) (v .body) As (w .below .1) (below-le (w .later) As (b .1)))))
-          (g .0) (joined qs ps) (roots-joined qs ps ∙ sym under) (derivation-joined rules qs ps (d .0 .1) (d .1))
+        (subst (Below (k .0)) (sym (v .derived)) (below-sub (k .0) (k .0) (k .1) (v .range) (append (v .body) As) (below-append (k .0) (v .body) As (w .below .1) (below-le (w .later) As (b .1)))))
+        (g .0) (joined qs ps) (roots-joined qs ps ∙ sym under) (derivation-joined rules qs ps (d .0 .1) (d .1))
 
 pub finitely-failed-none : (rules : List Rule) (c : ℕ) (A : Term) → FinitelyFailed rules c (cons A nil) → Below c A → (τ : Subst) → Derivable rules (sub τ A) → ⊥
 finitely-failed-none rules c A f b τ p = fails-none rules (f .0) c (cons A nil) (f .1) (b, tt) τ (p .tree ◂ leaf) (ap (λ t. cons t nil) (p .proves)) (p .derivation, tt)

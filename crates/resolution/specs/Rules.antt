@@ -26,13 +26,17 @@ pub data Tree : Kind → Type 0 where
   _◂_ : Tree one → Tree many → Tree many
 
 infixr 40 _◂_
-
 abbrev pub root : Tree one → Term
 root (node r g ps) = g
 
 abbrev pub roots : Tree many → Terms
 roots leaf = nil
 roots (p ◂ ps) = cons (root p) (roots ps)
+
+-- One list of trees in front of another.
+abbrev pub joined : Tree many → Tree many → Tree many
+joined leaf qs = qs
+joined (p ◂ ps) qs = p ◂ joined ps qs
 
 -- A substitution put in throughout a tree.
 abbrev pub putIn : {s : Kind} → Subst → Tree s → Tree s

@@ -44,13 +44,13 @@ pub data Attempt : Type 0 where
 unfoldable pub attempt : Limits → Bindings → Term → ℕ → ℕ → Rule → Attempt
 attempt l β g m c R =
     elim (over l (c + length (headVars R)) (m + words (head c R))) [
-    | true ↦ exceeded
-    | false ↦ elim (unify (c + length (headVars R)) β g (head c R)) [
-      | unfinished ↦ missed (c + length (headVars R))
-      | fails ↦ missed (c + length (headVars R))
-      | unified β′ ↦ elim (over l (c + length (allVars R)) (m + words (head c R) + words (body c R))) [
-        | true ↦ exceeded
-        | false ↦ entered β′ (c + length (allVars R)) (m + words (head c R) + words (body c R))
+      | true ↦ exceeded
+      | false ↦ elim (unify (c + length (headVars R)) β g (head c R)) [
+        | unfinished ↦ missed (c + length (headVars R))
+        | fails ↦ missed (c + length (headVars R))
+        | unified β′ ↦ elim (over l (c + length (allVars R)) (m + words (head c R) + words (body c R))) [
+          | true ↦ exceeded
+          | false ↦ entered β′ (c + length (allVars R)) (m + words (head c R) + words (body c R))
         ]
       ]
     ]
@@ -100,11 +100,11 @@ abbrev pub tries : Limits → Search → Bindings → Term → ℕ → List Work
 tries l rec β g d w st m r [] b cut c = failed b cut c
 tries l rec β g d w st m r (R ∷ Rs) b cut c =
     elim (attempt l β g m c R) [
-    | exceeded ↦ refused
-    | missed c′ ↦ tries l rec β g d w st m (suc r) Rs b cut c′
-    | entered β′ c′ m′ ↦
-      after (rec b c′ m′ β′ (goals (body c R) d (build r g (count (R .premises)) ∷ w)) st)
-        (λ b″ cut″ c″. tries l rec β g d w st m (suc r) Rs b″ (cut || cut″) c″)
+      | exceeded ↦ refused
+      | missed c′ ↦ tries l rec β g d w st m (suc r) Rs b cut c′
+      | entered β′ c′ m′ ↦
+          after (rec b c′ m′ β′ (goals (body c R) d (build r g (count (R .premises)) ∷ w)) st)
+          (λ b″ cut″ c″. tries l rec β g d w st m (suc r) Rs b″ (cut || cut″) c″)
     ]
 
 -- The Rust's `solve`. The first number bounds the recursion; Machine has the equations without it.

@@ -118,9 +118,9 @@ verdictOf rules S steps depth a new g = searched rules S steps depth a new g (ov
 abbrev pub answered : List Rule → Session → ℕ → ℕ → Allowance → Compiled → Answer
 answered rules S steps depth a (refuses n) = record { verdict = refusal n; session = S }
 answered rules S steps depth a (compiles new p) = record {
-    verdict = verdictOf rules S steps depth a (length new) (goalOf S p);
-    session = left S new (verdictOf rules S steps depth a (length new) (goalOf S p))
-  }
+  verdict = verdictOf rules S steps depth a (length new) (goalOf S p);
+  session = left S new (verdictOf rules S steps depth a (length new) (goalOf S p));
+}
 
 -- 38 is tested first, then the goal compiles, then 37 and the search.
 abbrev pub tested : List Rule → Session → Query → Bool → Answer

@@ -76,19 +76,26 @@ module _ (ρ : ℕ → ℕ) (inj : (x y : ℕ) → same (ρ x) (ρ y) ≡ same x
     where
       c₁ : ℕ
       c₁ = c + length (headVars R)
+
       eh : head c′ R ≡ ren ρ (head c R)
       eh = fresh-ren c c′ l q (headVars R) (R .conclusion)
+
       wh : words (head c′ R) ≡ words (head c R)
       wh = ap words eh ∙ words-ren ρ (head c R)
+
       wb : words (body c′ R) ≡ words (body c R)
       wb = ap words (fresh-ren c c′ l q (allVars R) (R .premises)) ∙ words-ren ρ (body c R)
+
       pick : Outcome → Attempt
       pick o = elim o [ unfinished ↦ missed c₁ | fails ↦ missed c₁ | unified β′ ↦ entered β′ (c + length (allVars R)) (m + words (head c R) + words (body c R)) ]
+
       pick′ : Outcome → Attempt
       pick′ o = elim o [ unfinished ↦ missed (c′ + length (headVars R)) | fails ↦ missed (c′ + length (headVars R)) | unified β′ ↦ entered β′ (c′ + length (allVars R)) (m + words (head c′ R) + words (body c′ R)) ]
+
       un : unify (c′ + length (headVars R)) (renB ρ β) (ren ρ g) (head c′ R) ≡ renO ρ (unify c₁ β g (head c R))
       un = ap (unify (c′ + length (headVars R)) (renB ρ β) (ren ρ g)) eh
           ∙ unify-ren ρ inj c₁ (c′ + length (headVars R)) β g (head c R) (omega arith) ac (belowB-le (omega arith) β bb) (below-le (omega arith) g bg) (head-below c R)
+
       go : (o : Outcome) → pick′ (renO ρ o) ≡ renA ρ k (pick o)
       go unfinished = ap missed (omega arith)
       go fails = ap missed (omega arith)
@@ -104,27 +111,35 @@ module _ (ρ : ℕ → ℕ) (inj : (x y : ℕ) → same (ρ x) (ρ y) ≡ same x
   tries-ren rules rec so ok β g d w st m r [] b cut c c′ l q ac bb bg bw = ap (failed b cut) q
   tries-ren rules rec so ok β g d w st m r (R ∷ Rs) b cut c c′ l q ac bb bg bw =
       go (attempt unlimited β g m c R) refl (attempt-ok unlimited β g m c R ac bb bg)
-        (λ b cut c₁ c₁′ i q₁. tries-ren rules rec so ok β g d w st m (suc r) Rs b cut c₁ c₁′ (omega arith) q₁ ac (belowB-le i β bb) (below-le i g bg) (belowW-le i w bw))
+      (λ b cut c₁ c₁′ i q₁. tries-ren rules rec so ok β g d w st m (suc r) Rs b cut c₁ c₁′ (omega arith) q₁ ac (belowB-le i β bb) (below-le i g bg) (belowW-le i w bw))
     where
       nw : List Work
       nw = goals (body c R) d (build r g (count (R .premises)) ∷ w)
+
       nw′ : List Work
       nw′ = goals (body c′ R) d (build r (ren ρ g) (count (R .premises)) ∷ renW ρ w)
+
       nw-ren : nw′ ≡ renW ρ nw
       nw-ren = ap (λ ts. goals ts d (build r (ren ρ g) (count (R .premises)) ∷ renW ρ w)) (fresh-ren c c′ l q (allVars R) (R .premises)) ∙ goals-ren ρ (body c R) d (build r g (count (R .premises)) ∷ w)
+
       same-attempt : attempt unlimited (renB ρ β) (ren ρ g) m c′ R ≡ renA ρ k (attempt unlimited β g m c R)
       same-attempt = attempt-ren β g m c c′ R l q ac bb bg
+
       Next : Type 0
       Next = (b : ℕ) (cut : Bool) (c₁ c₁′ : ℕ) → c ≤ c₁ → c₁′ ≡ c₁ + k
           → tries unlimited rec (renB ρ β) (ren ρ g) d (renW ρ w) (renT ρ st) m (suc r) Rs b cut c₁′ ≡ renR ρ k (tries unlimited rec β g d w st m (suc r) Rs b cut c₁)
+
       on : Result → Result
       on o = after o (λ b″ cut″ c″. tries unlimited rec β g d w st m (suc r) Rs b″ (cut || cut″) c″)
+
       on′ : Result → Result
       on′ o = after o (λ b″ cut″ c″. tries unlimited rec (renB ρ β) (ren ρ g) d (renW ρ w) (renT ρ st) m (suc r) Rs b″ (cut || cut″) c″)
+
       deep : (c₁ : ℕ) (β′ : Bindings) (o : Result) → c ≤ c₁ → Sound rules c₁ β′ nw st o → Next → on′ (renR ρ k o) ≡ renR ρ k (on o)
       deep c₁ β′ refused i s n = refl
       deep c₁ β′ (found β″ st′ b″ c″ m″) i s n = refl
       deep c₁ β′ (failed b″ cut″ c″) i s n = n b″ (cut || cut″) c″ (c″ + k) (omega arith) refl
+
       go : (a : Attempt) → attempt unlimited β g m c R ≡ a → Attempted c β g R (attempt unlimited β g m c R) → Next
           → tries unlimited rec (renB ρ β) (ren ρ g) d (renW ρ w) (renT ρ st) m r (R ∷ Rs) b cut c′ ≡ renR ρ k (tries unlimited rec β g d w st m r (R ∷ Rs) b cut c)
       go exceeded e a n =
@@ -166,8 +181,8 @@ shift-inj : (n₀ k x y : ℕ) → same (shift n₀ k x) (shift n₀ k y) ≡ sa
 shift-inj n₀ k x y = by-same x y
     (λ p q. ap (λ z. same (shift n₀ k x) (shift n₀ k z)) (sym p) ∙ same-refl (shift n₀ k x) ∙ sym q)
     (λ p q. same-ne (λ e. p (by-less x n₀
-        (λ a _. by-less y n₀ (λ b _. sym (shift-low n₀ k x a) ∙ e ∙ shift-low n₀ k y b) (λ b _. omega (arith, shift-low n₀ k x a, shift-high n₀ k y b)))
-        (λ a _. by-less y n₀ (λ b _. omega (arith, shift-high n₀ k x a, shift-low n₀ k y b)) (λ b _. omega (arith, shift-high n₀ k x a, shift-high n₀ k y b))))) ∙ sym q)
+    (λ a _. by-less y n₀ (λ b _. sym (shift-low n₀ k x a) ∙ e ∙ shift-low n₀ k y b) (λ b _. omega (arith, shift-low n₀ k x a, shift-high n₀ k y b)))
+    (λ a _. by-less y n₀ (λ b _. omega (arith, shift-high n₀ k x a, shift-low n₀ k y b)) (λ b _. omega (arith, shift-high n₀ k x a, shift-high n₀ k y b))))) ∙ sym q)
 
 ren-low : {s : Kind} (n₀ k : ℕ) (t : Syn s) → Below n₀ t → ren (shift n₀ k) t ≡ t
 ren-low n₀ k (var x) b = ap var (shift-low n₀ k x b)

@@ -11,7 +11,7 @@ use Rattle.terms.specs.Term.{Kind, one, many, Syn, var, app, nil, cons, Term, T
 use Rattle.terms.specs.Bindings.{Bindings, full, Acyclic, Solves, BelowB, Extends, unchanged}
 use Rattle.terms.specs.TermLaws.{sub-sub, below-le, count-sub}
 use Rattle.terms.specs.BindingLaws.{belowB-le, full-solves, extends-trans, extends-solves}
-use Rattle.resolution.specs.Rules.{Rule, rule-at, Tree, node, leaf, _◂_, root, roots, putIn, Instance, Derivation}
+use Rattle.resolution.specs.Rules.{Rule, rule-at, Tree, node, leaf, _◂_, root, roots, joined, putIn, Instance, Derivation}
 use Rattle.resolution.specs.Fresh.{fresh, allVars, head, body}
 use Rattle.resolution.specs.FreshLaws.{head-all}
 use Rattle.resolution.specs.Search.{Limits, Attempt, attempt, missed, entered, Work, goal, build, goals, gather, built, Result, refused, found, failed, Search, tries, solve, bounded}
@@ -61,10 +61,6 @@ abbrev onto : Tree many → Tree many → Tree many
 onto leaf st = st
 onto (p ◂ ps) st = onto ps (p ◂ st)
 
-abbrev joined : Tree many → Tree many → Tree many
-joined leaf acc = acc
-joined (p ◂ ps) acc = p ◂ joined ps acc
-
 joined-leaf : (ps : Tree many) → joined ps leaf ≡ ps
 joined-leaf leaf = refl
 joined-leaf (p ◂ ps) = ap (λ qs. p ◂ qs) (joined-leaf ps)
@@ -99,12 +95,21 @@ does-rule : (rules : List Rule) (σ : Subst) (c r : ℕ) (R : Rule) (g : Term) (
 does-rule rules σ c r R g d e w st st′ at u x =
     let (ps, er, ds, y) = does-goals rules σ (body c R) d (build r g (count (R .premises)) ∷ w) st st′ x in
     let n : count (R .premises) ≡ count (roots ps) = sym (count-sub _ (R .premises)) ∙ ap count (sym er) in
-    let y′ : Does rules σ w (node r g ps ◂ st) st′ = subst (λ q. Does rules σ w q st′) (ap (λ k. built r g k (onto ps st)) n ∙ built-onto r g ps st) y in
-    (node r g ps, refl, (record {
-      rule = R; found = at; θ = compose (fresh c (allVars R)) σ;
-      head = sym (sub-sub (fresh c (allVars R)) σ (R .conclusion)) ∙ ap (sub σ) (head-all c R) ∙ sym u;
-      body = sym (sub-sub (fresh c (allVars R)) σ (R .premises)) ∙ ap (sub σ) (sym er) ∙ sym (roots-putIn σ ps)
-    }, ds), y′)
+    let y′ : Does rules σ w (node r g ps ◂ st) st′ = subst (λ q. Does rules σ w q st′) (ap (λ k. built r g k (onto ps st)) n ∙ built-onto r g ps st) y in (
+      node r g ps,
+      refl,
+      (
+        record {
+          rule = R;
+          found = at;
+          θ = compose (fresh c (allVars R)) σ;
+          head = sym (sub-sub (fresh c (allVars R)) σ (R .conclusion)) ∙ ap (sub σ) (head-all c R) ∙ sym u;
+          body = sym (sub-sub (fresh c (allVars R)) σ (R .premises)) ∙ ap (sub σ) (sym er) ∙ sym (roots-putIn σ ps);
+        },
+        ds,
+      ),
+      y′,
+    )
 
 -- Rs are the rules from number r on.
 abbrev pub Suffix : List Rule → ℕ → List Rule → Type 0
@@ -137,27 +142,32 @@ module _ (l : Limits) (rules : List Rule) where
   tries-sound rec ok β g d w st m r [] b cut c sf ac bb bg bw = le-refl c
   tries-sound rec ok β g d w st m r (R ∷ Rs) b cut c sf ac bb bg bw =
       let next : (b′ : ℕ) (cut′ : Bool) (c′ : ℕ) → c ≤ c′ → Sound rules c β (goal g (suc d) ∷ w) st (tries l rec β g d w st m (suc r) Rs b′ cut′ c′) =
-        λ b′ cut′ c′ h. sound-le rules c c′ β (goal g (suc d) ∷ w) st (tries l rec β g d w st m (suc r) Rs b′ cut′ c′) h
-          (tries-sound rec ok β g d w st m (suc r) Rs b′ cut′ c′ (suffix-next rules r R Rs sf) ac (belowB-le h β bb) (below-le h g bg) (belowW-le h w bw)) in
+      λ b′ cut′ c′ h. sound-le rules c c′ β (goal g (suc d) ∷ w) st (tries l rec β g d w st m (suc r) Rs b′ cut′ c′) h
+      (tries-sound rec ok β g d w st m (suc r) Rs b′ cut′ c′ (suffix-next rules r R Rs sf) ac (belowB-le h β bb) (below-le h g bg) (belowW-le h w bw)) in
       tries-cases l rec β g d w st m (Sound rules c β (goal g (suc d) ∷ w) st) r R Rs b cut c
       tt
       (λ c′ e. let k : Missed c β g R c′ = subst (Attempted c β g R) e aok in next b cut c′ (k .later))
       (λ β′ c′ m′ e β″ st′ b″ c″ m″ q.
-        let k : Entered c β g R β′ c′ = subst (Attempted c β g R) e aok in
-        let f : Found rules c′ β′ (nw) st β″ st′ c″ = subst (Sound rules c′ β′ nw st) q (deeper β′ c′ m′ k) in
-        record {
-          later = omega (arith, f .later, k .later); acyclic = f .acyclic; below = f .below; extends = extends-trans (k .extends) (f .extends);
-          does = λ σ s. does-rule rules σ c r R g d (suc d) w st st′ (suffix-here rules r R Rs sf) (k .unifies σ (extends-solves (f .extends) σ s)) (f .does σ s)
-        })
+      let k : Entered c β g R β′ c′ = subst (Attempted c β g R) e aok in
+      let f : Found rules c′ β′ (nw) st β″ st′ c″ = subst (Sound rules c′ β′ nw st) q (deeper β′ c′ m′ k) in
+      record {
+        later = omega (arith, f .later, k .later);
+        acyclic = f .acyclic;
+        below = f .below;
+        extends = extends-trans (k .extends) (f .extends);
+        does = λ σ s. does-rule rules σ c r R g d (suc d) w st st′ (suffix-here rules r R Rs sf) (k .unifies σ (extends-solves (f .extends) σ s)) (f .does σ s);
+      })
       (λ β′ c′ m′ e b″ cut″ c″ q.
-        let k : Entered c β g R β′ c′ = subst (Attempted c β g R) e aok in
-        let f : c′ ≤ c″ = subst (Sound rules c′ β′ nw st) q (deeper β′ c′ m′ k) in
-        next b″ (cut || cut″) c″ (omega (arith, k .later)))
+      let k : Entered c β g R β′ c′ = subst (Attempted c β g R) e aok in
+      let f : c′ ≤ c″ = subst (Sound rules c′ β′ nw st) q (deeper β′ c′ m′ k) in
+      next b″ (cut || cut″) c″ (omega (arith, k .later)))
     where
       nw : List Work
       nw = goals (body c R) d (build r g (count (R .premises)) ∷ w)
+
       aok : Attempted c β g R (attempt l β g m c R)
       aok = attempt-ok l β g m c R ac bb bg
+
       deeper : (β′ : Bindings) (c′ m′ : ℕ) → Entered c β g R β′ c′ → Sound rules c′ β′ nw st (rec b c′ m′ β′ nw st)
       deeper β′ c′ m′ k = ok b c′ m′ β′ nw st (k .acyclic) (k .below) (entered-below c β g R β′ c′ d r w k bw)
 

@@ -36,7 +36,7 @@ tries-falls l rec ok β g d w st m r (R ∷ Rs) b cut c =
     (λ c′ e. next b cut c′)
     (λ β′ c′ m′ e β″ st′ b″ c″ m″ q. subst (Falls b false) q (ok b c′ m′ β′ _ st))
     (λ β′ c′ m′ e b″ cut″ c″ q. let f : Falls b false (failed b″ cut″ c″) = subst (Falls b false) q (ok b c′ m′ β′ _ st) in
-      falls-le b b″ cut (cut || cut″) (tries l rec β g d w st m (suc r) Rs b″ (cut || cut″) c″) (f .0) (λ z. or-false cut cut″ z .0) (next b″ (cut || cut″) c″))
+    falls-le b b″ cut (cut || cut″) (tries l rec β g d w st m (suc r) Rs b″ (cut || cut″) c″) (f .0) (λ z. or-false cut cut″ z .0) (next b″ (cut || cut″) c″))
 
 pub solve-falls : (l : Limits) (rules : List Rule) (n : ℕ) → FallsSearch (solve l rules n)
 solve-falls l rules zero b c m β w st = (omega arith, λ e. refl)
@@ -73,18 +73,18 @@ module _ (l : Limits) (k : ℕ) (rec rec′ : Search) (fa : FallsSearch rec) (ok
   tries-richer β g d w st m r [] b b′ cut c e = λ v. ap (λ n. failed n cut c) e
   tries-richer β g d w st m r (R ∷ Rs) b b′ cut c e =
       let next : (b b′ : ℕ) (cut : Bool) (c : ℕ) → b′ ≡ b + k → Live (tries l rec β g d w st m (suc r) Rs b cut c) → tries l rec′ β g d w st m (suc r) Rs b′ cut c ≡ richer k (tries l rec β g d w st m (suc r) Rs b cut c) =
-        λ b b′ cut c e v. tries-richer β g d w st m (suc r) Rs b b′ cut c e v in
+      λ b b′ cut c e v. tries-richer β g d w st m (suc r) Rs b b′ cut c e v in
       tries-cases l rec β g d w st m (λ o. Live o → tries l rec′ β g d w st m r (R ∷ Rs) b′ cut c ≡ richer k o) r R Rs b cut c
       (λ v. absurd v)
       (λ c′ a v. tries-missed l rec′ β g d w st m r R Rs b′ cut c c′ a ∙ next b b′ cut c′ e v)
       (λ β′ c′ m′ a β″ st′ b₁ c₁ m₁ q v.
-        tries-entered l rec′ β g d w st m r R Rs b′ cut c β′ c′ m′ a
-        ∙ ap (λ o. after o (λ b″ cut″ c″. tries l rec′ β g d w st m (suc r) Rs b″ (cut || cut″) c″)) (ok b b′ c′ m′ β′ _ st e (rw q tt) ∙ ap (richer k) q))
+      tries-entered l rec′ β g d w st m r R Rs b′ cut c β′ c′ m′ a
+      ∙ ap (λ o. after o (λ b″ cut″ c″. tries l rec′ β g d w st m (suc r) Rs b″ (cut || cut″) c″)) (ok b b′ c′ m′ β′ _ st e (rw q tt) ∙ ap (richer k) q))
       (λ β′ c′ m′ a b₁ cut₁ c₁ q v.
-        let z : 0 < b₁ = live-falls b₁ (cut || cut₁) (tries l rec β g d w st m (suc r) Rs b₁ (cut || cut₁) c₁) (tries-falls l rec fa β g d w st m (suc r) Rs b₁ (cut || cut₁) c₁) v in
-        tries-entered l rec′ β g d w st m r R Rs b′ cut c β′ c′ m′ a
-        ∙ ap (λ o. after o (λ b″ cut″ c″. tries l rec′ β g d w st m (suc r) Rs b″ (cut || cut″) c″)) (ok b b′ c′ m′ β′ _ st e (rw q z) ∙ ap (richer k) q)
-        ∙ next b₁ (b₁ + k) (cut || cut₁) c₁ refl v)
+      let z : 0 < b₁ = live-falls b₁ (cut || cut₁) (tries l rec β g d w st m (suc r) Rs b₁ (cut || cut₁) c₁) (tries-falls l rec fa β g d w st m (suc r) Rs b₁ (cut || cut₁) c₁) v in
+      tries-entered l rec′ β g d w st m r R Rs b′ cut c β′ c′ m′ a
+      ∙ ap (λ o. after o (λ b″ cut″ c″. tries l rec′ β g d w st m (suc r) Rs b″ (cut || cut″) c″)) (ok b b′ c′ m′ β′ _ st e (rw q z) ∙ ap (richer k) q)
+      ∙ next b₁ (b₁ + k) (cut || cut₁) c₁ refl v)
 
 -- The theorem: more steps, and as many more to recurse on, change nothing but the steps left.
 pub solve-richer : (l : Limits) (rules : List Rule) (k n n′ : ℕ) → n ≤ n′ → Richer k (solve l rules n) (solve l rules n′)

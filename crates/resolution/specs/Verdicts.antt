@@ -44,12 +44,19 @@ Says rules n₀ β g (undecided u c) = n₀ ≤ c
 
 found-proved : (rules : List Rule) (n₀ c : ℕ) (β : Bindings) (g : Term) (d : ℕ) (β′ : Bindings) (st : Tree many) (c′ : ℕ) → n₀ ≤ c → Found rules c β (goal g d ∷ []) leaf β′ st c′ → Proved rules n₀ β g β′ st c′
 found-proved rules n₀ c β g d β′ st c′ l f = record {
-    tree = x .0; only = sym (x .3); goal = x .1; extends = f .extends; acyclic = f .acyclic; below = f .below; later = omega (arith, f .later);
-    derives = λ σ s. go σ (f .does σ s)
-  }
+  tree = x .0;
+  only = sym (x .3);
+  goal = x .1;
+  extends = f .extends;
+  acyclic = f .acyclic;
+  below = f .below;
+  later = omega (arith, f .later);
+  derives = λ σ s. go σ (f .does σ s);
+}
   where
     x : (p : Tree one) × (root p ≡ g) × Derivation rules (putIn (full β′) p) × (p ◂ leaf ≡ st)
     x = f .does (full β′) (full-solves β′ (f .acyclic))
+
     go : (σ : Subst) → ((p : Tree one) × (root p ≡ g) × Derivation rules (putIn σ p) × (p ◂ leaf ≡ st)) → Derivation rules (putIn σ (x .0))
     go σ y = let e : y .0 ◂ leaf ≡ x .0 ◂ leaf = y .3 ∙ sym (x .3) in
         let q : y .0 ≡ x .0 = cc in
@@ -64,6 +71,7 @@ deepen-says l rules s m n₀ β g ac bb bg (d ∷ ds) u c h =
   where
     Next : Type 0
     Next = (u c : ℕ) → n₀ ≤ c → Says rules n₀ β g (deepen l rules s m β g ds u c)
+
     go : (o : Result) → bounded l rules s m β g d c ≡ o → Sound rules c β (goal g d ∷ []) leaf (bounded l rules s m β g d c) → Next
         → Says rules n₀ β g (settle s o (λ u′ c′. deepen l rules s m β g ds u′ c′))
     go refused e snd n = refl
@@ -185,18 +193,23 @@ module _ (rules : List Rule) (β : Bindings) (g : Term) (n₀ : ℕ) (ac : Acycl
     where
       u : Result
       u = bounded unlimited rules s m β g d c
+
       u′ : Result
       u′ = bounded unlimited rules s′ m β g d c′
+
       there : (v : Finding) → kind u′ ≡ v → (kind (bounded l′ rules s′ m β g d c′) ≡ v) ⊎ (kind (bounded l′ rules s′ m β g d c′) ≡ barred)
       there v e = at (solve-match l′ rules s′ s′ c′ m β (goal g d ∷ []) leaf)
         where
           at : Matches (bounded l′ rules s′ m β g d c′) u′ → (kind (bounded l′ rules s′ m β g d c′) ≡ v) ⊎ (kind (bounded l′ rules s′ m β g d c′) ≡ barred)
           at (inl q) = inr (ap kind q)
           at (inr q) = inl (ap kind q ∙ e)
+
       go : (o : Result) → Matches o u → Repeats (kind o) (kind (bounded l′ rules s′ m β g d c′))
       go o (inl q) = (λ e. shown-barred e (ap kind q), λ e. excluded-barred e (ap kind q))
-      go o (inr q) = (λ e. let z : kind u ≡ shown = sym (ap kind q) ∙ e in there shown (unlimited-kind s s′ m d c c′ h i i′ (live-shown u z) ∙ z),
-        λ e. let z : kind u ≡ excluded = sym (ap kind q) ∙ e in there excluded (unlimited-kind s s′ m d c c′ h i i′ (live-excluded u z) ∙ z))
+      go o (inr q) = (
+        λ e. let z : kind u ≡ shown = sym (ap kind q) ∙ e in there shown (unlimited-kind s s′ m d c c′ h i i′ (live-shown u z) ∙ z),
+        λ e. let z : kind u ≡ excluded = sym (ap kind q) ∙ e in there excluded (unlimited-kind s s′ m d c c′ h i i′ (live-excluded u z) ∙ z),
+      )
 
   -- Some instance of the goal under the bindings is derivable.
   record Answerable : Type 0 where
@@ -211,12 +224,13 @@ module _ (rules : List Rule) (β : Bindings) (g : Term) (n₀ : ℕ) (ac : Acycl
 
   proved-answerable : (β′ : Bindings) (st : Tree many) (c′ : ℕ) → Proved rules n₀ β g β′ st c′ → Answerable
   proved-answerable β′ st c′ p = let s = full-solves β′ (p .acyclic) in record {
-      τ = full β′; derivable = record {
-        tree = putIn (full β′) (p .tree);
-        proves = root-putIn (full β′) (p .tree) ∙ ap (sub (full β′)) (p .goal) ∙ sym (solves-res (full β′) β (extends-solves (p .extends) (full β′) s) g);
-        derivation = p .derives (full β′) s
-      }
-    }
+    τ = full β′;
+    derivable = record {
+      tree = putIn (full β′) (p .tree);
+      proves = root-putIn (full β′) (p .tree) ∙ ap (sub (full β′)) (p .goal) ∙ sym (solves-res (full β′) β (extends-solves (p .extends) (full β′) s) g);
+      derivation = p .derives (full β′) s;
+    };
+  }
 
   means : (v : Verdict) → Says rules n₀ β g v → Means (finding v)
   means (refusal n) h = tt
@@ -263,8 +277,8 @@ module _ (rules : List Rule) (β : Bindings) (g : Term) (n₀ : ℕ) (ac : Acycl
       let v : Finding = finding (deepen l rules s m β g ds (used s o) (counter o)) in
       let v′ : Finding = finding (deepen l′ rules s′ m β g (ds ++ es) (used s′ o′) (counter o′)) in
       let r : Repeats (pick (kind o) v) (pick (kind o′) v′) = pick-repeats (kind o) (kind o′) v v′ (kinds-repeat l l′ s s′ m d c c′ h i i′) (a′ .1)
-            (λ q. means (deepen l rules s m β g ds (used s o) (counter o)) (deepen-says l rules s m n₀ β g ac bb bg ds (used s o) (counter o) (a .0 q)))
-            (λ q q′. deepen-repeats l l′ s s′ m ds es (used s o) (used s′ o′) (counter o) (counter o′) h (a .0 q) (a′ .0 q′)) in
+      (λ q. means (deepen l rules s m β g ds (used s o) (counter o)) (deepen-says l rules s m n₀ β g ac bb bg ds (used s o) (counter o) (a .0 q)))
+      (λ q q′. deepen-repeats l l′ s s′ m ds es (used s o) (used s′ o′) (counter o) (counter o′) h (a .0 q) (a′ .0 q′)) in
       let e = settle-finding s o (λ u′ c′. deepen l rules s m β g ds u′ c′) in
       let e′ = settle-finding s′ o′ (λ u′ c′. deepen l′ rules s′ m β g (ds ++ es) u′ c′) in
       subst (λ x. Repeats (finding (settle s o (λ u′ c′. deepen l rules s m β g ds u′ c′))) x) (sym e′) (subst (λ x. Repeats x (pick (kind o′) v′)) (sym e) r)
@@ -307,4 +321,4 @@ pub prove-repeats : (rules : List Rule) (β : Bindings) (g : Term) (n₀ : ℕ) 
 prove-repeats rules β g n₀ ac bb bg l l′ s s′ largest larger m hs hd =
     let r = bounds-grow largest larger hd in
     subst (λ es. Repeats (finding (prove l rules s largest m β g n₀)) (finding (deepen l′ rules s′ m β g es 0 n₀))) (sym (r .1))
-      (deepen-repeats rules β g n₀ ac bb bg l l′ s s′ m (bounds largest) (r .0) 0 0 n₀ n₀ hs (le-refl n₀) (le-refl n₀))
+    (deepen-repeats rules β g n₀ ac bb bg l l′ s s′ m (bounds largest) (r .0) 0 0 n₀ n₀ hs (le-refl n₀) (le-refl n₀))
