@@ -25,10 +25,15 @@ pub record Event : Type 0 where
   pub verdict : Verdict
   pub session : Session
 
--- Each verdict or refusal, and each session left, is the one that the definitions give; each goal gets the session that the last one left.
+-- (a). A list of goals from the session S: each compiles to a term over its names, each verdict or refusal and each session left is the one that the
+-- definitions give, and each goal gets the session that the last one left.
 abbrev pub Transcript : List Rule → Session → List Event → Type 0
 Transcript rules S [] = Unit {0}
-Transcript rules S (e ∷ es) = (e .verdict ≡ ask rules S (e .query) .verdict) × (e .session ≡ ask rules S (e .query) .session) × Transcript rules (e .session) es
+Transcript rules S (e ∷ es) =
+    Scoped (S .names) (e .query .compile (S .names))
+    × (e .verdict ≡ ask rules S (e .query) .verdict)
+    × (e .session ≡ ask rules S (e .query) .session)
+    × Transcript rules (e .session) es
 
 -- The session at the end of all.
 abbrev pub final : Session → List Event → Session
@@ -61,7 +66,7 @@ pub record Again (v v′ : Verdict) : Type 0 where
 
 -- The same goal with other steps, depth and limits.
 abbrev pub reask : Query → ℕ → ℕ → Allowance → Query
-reask q steps depth a = record { compile = q .compile; scoped = q .scoped; steps = steps; depth = depth; limits = a }
+reask q steps depth a = record { compile = q .compile; steps = steps; depth = depth; limits = a }
 
 pub record Claim (rules : List Rule) (S E : Session) (e : Event) : Type 0 where
   pub verdict : e .verdict ≡ ask rules S (e .query) .verdict
@@ -181,7 +186,7 @@ module _ (rules : List Rule) (S : Session) (F : InForm S) (new : List Name) (p :
 
 -- One goal
 
-module _ (rules : List Rule) (S : Session) (F : InForm S) (q : Query) where
+module _ (rules : List Rule) (S : Session) (F : InForm S) (q : Query) (scoped : Scoped (S .names) (q .compile (S .names))) where
   answer-form : InForm (ask rules S q .session) × Extends (S .bindings) (ask rules S q .session .bindings)
   answer-form = go (tooMuch (q .steps) (q .depth) (q .limits))
     where
@@ -191,7 +196,7 @@ module _ (rules : List Rule) (S : Session) (F : InForm S) (q : Query) where
 
       go : (t : Bool) → InForm (tested rules S q t .session) × Extends (S .bindings) (tested rules S q t .session .bindings)
       go true = (F, unchanged)
-      go false = compiled (q .compile (S .names)) (q .scoped (S .names))
+      go false = compiled (q .compile (S .names)) scoped
 
   answer-refused : (n : ℕ) → ask rules S q .verdict ≡ refusal n → ask rules S q .session ≡ S
   answer-refused n = go (tooMuch (q .steps) (q .depth) (q .limits))
@@ -202,14 +207,14 @@ module _ (rules : List Rule) (S : Session) (F : InForm S) (q : Query) where
 
       go : (t : Bool) → tested rules S q t .verdict ≡ refusal n → tested rules S q t .session ≡ S
       go true e = refl
-      go false e = compiled (q .compile (S .names)) (q .scoped (S .names)) e
+      go false e = compiled (q .compile (S .names)) scoped e
 
   answer-holds : (E : Session) → InForm E → Extends (ask rules S q .session .bindings) (E .bindings) → (new : List Name) (p : Term) → q .compile (S .names) ≡ compiles new p
       → Holds rules S (ask rules S q .session) E (goalOf S p) (ask rules S q .verdict)
   answer-holds E FE x new p ck = go (tooMuch (q .steps) (q .depth) (q .limits)) x
     where
       b : Below (length (S .names) + length new) p
-      b = subst (Scoped (S .names)) ck (q .scoped (S .names))
+      b = subst (Scoped (S .names)) ck scoped
 
       A : Compiled → Answer
       A k = answered rules S (q .steps) (q .depth) (q .limits) k
@@ -232,32 +237,32 @@ module _ (rules : List Rule) (S : Session) (F : InForm S) (q : Query) where
 
       go : (t : Bool) → Again (tested rules S q t .verdict) (answered rules S s d a (q .compile (S .names)) .verdict)
       go true = nothing-more 38 (answered rules S s d a (q .compile (S .names)) .verdict)
-      go false = compiled (q .compile (S .names)) (q .scoped (S .names))
+      go false = compiled (q .compile (S .names)) scoped
 
 -- The list
 
 final-form : (rules : List Rule) (S : Session) (es : List Event) → InForm S → Transcript rules S es → InForm (final S es) × Extends (S .bindings) (final S es .bindings)
 final-form rules S [] F t = (F, unchanged)
 final-form rules S (e ∷ es) F t =
-    let h : InForm (e .session) × Extends (S .bindings) (e .session .bindings) = subst (λ S′. InForm S′ × Extends (S .bindings) (S′ .bindings)) (sym (t .1)) (answer-form rules S F (e .query)) in
-    let k = final-form rules (e .session) es (h .0) (t .2) in
+    let h : InForm (e .session) × Extends (S .bindings) (e .session .bindings) = subst (λ S′. InForm S′ × Extends (S .bindings) (S′ .bindings)) (sym (t .2)) (answer-form rules S F (e .query) (t .0)) in
+    let k = final-form rules (e .session) es (h .0) (t .3) in
     (k .0, extends-trans (h .1) (k .1))
 
 claims : (rules : List Rule) (S E : Session) (es : List Event) → InForm S → Transcript rules S es → InForm E → Extends (final S es .bindings) (E .bindings) → Claims rules S E es
 claims rules S E [] F t FE x = tt
 claims rules S E (e ∷ es) F t FE x =
     let A : Answer = ask rules S (e .query) in
-    let h : InForm (e .session) = subst InForm (sym (t .1)) (answer-form rules S F (e .query) .0) in
-    let y : Extends (e .session .bindings) (E .bindings) = extends-trans (final-form rules (e .session) es h (t .2) .1) x in (
+    let h : InForm (e .session) = subst InForm (sym (t .2)) (answer-form rules S F (e .query) (t .0) .0) in
+    let y : Extends (e .session .bindings) (E .bindings) = extends-trans (final-form rules (e .session) es h (t .3) .1) x in (
       record {
-        verdict = t .0;
-        session = t .1;
-        refused = λ n q. t .1 ∙ answer-refused rules S F (e .query) n (sym (t .0) ∙ q);
-        holds = λ new p ck. subst (λ v. Holds rules S (e .session) E (goalOf S p) v) (sym (t .0)) (subst (λ S′. Holds rules S S′ E (goalOf S p) (A .verdict)) (sym (t .1))
-            (answer-holds rules S F (e .query) E FE (subst (λ S′. Extends (S′ .bindings) (E .bindings)) (t .1) y) new p ck));
-        repeats = λ s d a hs hd ok. subst (λ v. Again v (ask rules S (reask (e .query) s d a) .verdict)) (sym (t .0)) (answer-again rules S F (e .query) s d a hs hd ok);
+        verdict = t .1;
+        session = t .2;
+        refused = λ n q. t .2 ∙ answer-refused rules S F (e .query) (t .0) n (sym (t .1) ∙ q);
+        holds = λ new p ck. subst (λ v. Holds rules S (e .session) E (goalOf S p) v) (sym (t .1)) (subst (λ S′. Holds rules S S′ E (goalOf S p) (A .verdict)) (sym (t .2))
+            (answer-holds rules S F (e .query) (t .0) E FE (subst (λ S′. Extends (S′ .bindings) (E .bindings)) (t .2) y) new p ck));
+        repeats = λ s d a hs hd ok. subst (λ v. Again v (ask rules S (reask (e .query) s d a) .verdict)) (sym (t .1)) (answer-again rules S F (e .query) (t .0) s d a hs hd ok);
       },
-      claims rules (e .session) E es h (t .2) FE x,
+      claims rules (e .session) E es h (t .3) FE x,
     )
 
 -- Demand 3.

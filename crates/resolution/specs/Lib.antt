@@ -21,3 +21,5 @@ pub mod Goals
 -- What code needs:
 pub mod Machine
 pub mod Preorder
+pub mod Cases
+pub mod Marked

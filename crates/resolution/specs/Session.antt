@@ -49,6 +49,7 @@ pub data Compiled : Type 0 where
   refuses : ℕ → Compiled
   compiles : List Name → Term → Compiled
 
+-- Its term has no variable but those.
 abbrev pub Scoped : List Named → Compiled → Type 0
 Scoped ns (refuses n) = Unit {0}
 Scoped ns (compiles new p) = Below (length ns + length new) p
@@ -62,7 +63,6 @@ pub record Allowance : Type 0 where
 -- A goal to be asked: how it compiles, its steps for each bound, its largest depth, and its limits.
 pub record Query : Type 0 where
   pub compile : List Named → Compiled
-  pub scoped : (ns : List Named) → Scoped ns (compile ns)
   pub steps : ℕ
   pub depth : ℕ
   pub limits : Allowance
@@ -115,12 +115,12 @@ searched rules S steps depth a new g false = prove (limitsOf a) rules steps dept
 abbrev pub verdictOf : List Rule → Session → ℕ → ℕ → Allowance → ℕ → Term → Verdict
 verdictOf rules S steps depth a new g = searched rules S steps depth a new g (over (limitsOf a) (S .variables + new) (S .words + words g))
 
+abbrev pub answer : Session → List Name → Verdict → Answer
+answer S new v = record { verdict = v; session = left S new v }
+
 abbrev pub answered : List Rule → Session → ℕ → ℕ → Allowance → Compiled → Answer
 answered rules S steps depth a (refuses n) = record { verdict = refusal n; session = S }
-answered rules S steps depth a (compiles new p) = record {
-  verdict = verdictOf rules S steps depth a (length new) (goalOf S p);
-  session = left S new (verdictOf rules S steps depth a (length new) (goalOf S p));
-}
+answered rules S steps depth a (compiles new p) = answer S new (verdictOf rules S steps depth a (length new) (goalOf S p))
 
 -- 38 is tested first, then the goal compiles, then 37 and the search.
 abbrev pub tested : List Rule → Session → Query → Bool → Answer
