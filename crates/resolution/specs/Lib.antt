@@ -23,3 +23,4 @@ pub mod Machine
 pub mod Preorder
 pub mod Cases
 pub mod Marked
+pub mod Recorded
