@@ -366,11 +366,29 @@ struct Tally {
     cut: usize,
 }
 
-/// One case: rules, a session with bindings, and goals with what the Rust answers.
-fn case(rng: &mut Rng, tally: &mut Tally) -> String {
-    let rules = if rng.chance(50) { family(rng) } else { (0..1 + rng.below(5)).map(|_| rule(rng)).collect() };
+/// A goal whose variables are the numbers of names, with its steps, depth and limits.
+struct Posed {
+    goal: Pat,
+    steps: u64,
+    depth: u32,
+    limit_steps: u64,
+    limit_vars: usize,
+    limit_words: usize,
+}
+
+/// Rules, a starting session and goals. Names are given with their variables, bindings in the order in which they were made.
+struct Plan {
+    rules: Vec<Rule>,
+    variables: usize,
+    names: Vec<(usize, usize)>,
+    bindings: Vec<(usize, T)>,
+    words: usize,
+    goals: Vec<Posed>,
+}
+
+fn prover(rules: &[Rule], variables: usize, bindings: &[(usize, T)]) -> Prover {
     let mut p = Prover {
-        sig: Rc::new(signature(rules)),
+        sig: Rc::new(signature(rules.to_vec())),
         binding: Vec::new(),
         var_sort: Vec::new(),
         trail: Vec::new(),
@@ -381,34 +399,58 @@ fn case(rng: &mut Rng, tally: &mut Tally) -> String {
         max_depth: 0,
         cut: false,
     };
-    let start = if rng.chance(70) { 1 + rng.below(6) } else { 0 };
-    for _ in 0..start {
+    for _ in 0..variables {
         p.fresh(0);
     }
+    for (x, t) in bindings {
+        p.binding[*x] = Some(t.clone());
+        p.trail.push(*x);
+    }
+    p
+}
+
+fn random(rng: &mut Rng) -> Plan {
+    let rules = if rng.chance(50) { family(rng) } else { (0..1 + rng.below(5)).map(|_| rule(rng)).collect() };
+    let variables = if rng.chance(70) { 1 + rng.below(6) } else { 0 };
     // Names stand for some of the variables; the others are the remains of earlier searches.
-    let mut names: Vec<(usize, usize)> = Vec::new();
-    for x in 0..start {
+    let mut names = Vec::new();
+    for x in 0..variables {
         if rng.chance(60) {
             names.push((names.len(), x));
         }
     }
-    for _ in 0..rng.below(start + 2) {
-        let x = if start == 0 { break } else { rng.below(start) };
-        if p.binding[x].is_some() {
-            continue;
-        }
-        let t = term(rng, start, 2);
-        let env: Vec<Option<T>> = (0..start).map(|v| Some(T::V(v))).collect();
-        let t = p.inst(&t, &mut env.clone(), &vec![0; start], &[]);
-        if t != T::V(x) && !p.occurs(x, &t) {
-            p.binding[x] = Some(t);
-            p.trail.push(x);
+    let mut bindings = Vec::new();
+    for _ in 0..rng.below(variables + 2) {
+        let x = if variables == 0 { break } else { rng.below(variables) };
+        let mut p = prover(&rules, variables, &bindings);
+        let t = term(rng, variables, 2);
+        let mut env: Vec<Option<T>> = (0..variables).map(|v| Some(T::V(v))).collect();
+        let t = p.inst(&t, &mut env, &vec![0; variables], &[]);
+        if p.binding[x].is_none() && !p.occurs(x, &t) {
+            bindings.push((x, t));
         }
     }
-    tally.bound_at_start += usize::from(!p.trail.is_empty());
-    let mut kept = rng.below(20);
+    let goals = (0..1 + rng.below(4))
+        .map(|_| Posed {
+            goal: if rng.chance(15) { atom(rng, 5, 2) } else { likely(rng, &rules) },
+            steps: rng.pick(&[0, 1, 2, 3, 4, 5, 6, 8, 10, 12, 16, 20, 25, 30, 40, 60]),
+            depth: if rng.chance(2) { 129 } else { rng.pick(&[0, 3, 4, 4, 5, 7, 8, 8, 12, 16, 32]) },
+            limit_steps: if rng.chance(95) { 65535 } else { rng.below(30) as u64 },
+            limit_vars: if rng.chance(75) { 65536 } else { rng.below(60) },
+            limit_words: if rng.chance(75) { 262_144 } else { rng.below(250) },
+        })
+        .collect();
+    Plan { rules, variables, names, bindings, words: rng.below(20), goals }
+}
+
+/// One case: a plan and what the Rust answers.
+fn case(plan: &Plan, tally: &mut Tally) -> String {
+    let mut p = prover(&plan.rules, plan.variables, &plan.bindings);
+    let mut names = plan.names.clone();
+    let mut kept = plan.words;
+    tally.bound_at_start += usize::from(!plan.bindings.is_empty());
     let mut out = String::from("record {\n        rules = ");
-    for r in &p.sig.rules {
+    for r in &plan.rules {
         let mut premises = String::new();
         text_args(&r.premises, &text_pat, &mut premises);
         let mut conclusion = String::new();
@@ -417,25 +459,21 @@ fn case(rng: &mut Rng, tally: &mut Tally) -> String {
     }
     let named: String = names.iter().map(|(n, x)| format!("record {{ name = record {{ text = {n} ∷ []; sort = 1 }}; variable = {x} }} ∷ ")).collect();
     out.push_str(&format!(
-        "[];\n        session = record {{ names = {named}[]; variables = {start}; bindings = {}; words = {kept} }};\n        goals = ",
+        "[];\n        session = record {{ names = {named}[]; variables = {}; bindings = {}; words = {kept} }};\n        goals = ",
+        plan.variables,
         text_bindings(&p)
     ));
     let mut expected = Vec::new();
     let mut goals = String::new();
-    for _ in 0..1 + rng.below(4) {
-        let goal = if rng.chance(15) { atom(rng, 5, 2) } else { likely(rng, &p) };
-        let steps = rng.pick(&[0, 1, 2, 3, 4, 5, 6, 8, 10, 12, 16, 20, 25, 30, 40, 60]) as u64;
-        let depth = if rng.chance(2) { 129 } else { rng.pick(&[0u32, 3, 4, 4, 5, 7, 8, 8, 12, 16, 32]) };
-        let limit_steps = if rng.chance(95) { 65535 } else { rng.below(30) as u64 };
-        let limit_vars = if rng.chance(75) { 65536 } else { rng.below(60) };
-        let limit_words = if rng.chance(75) { 262144 } else { rng.below(250) };
+    for g in &plan.goals {
         let mut text = String::new();
-        text_pat(&goal, &mut text);
+        text_pat(&g.goal, &mut text);
         goals.push_str(&format!(
-            "record {{ goal = {text}; steps = {steps}; depth = {depth}; limits = record {{ steps = {limit_steps}; variables = {limit_vars}; words = {limit_words} }} }} ∷ "
+            "record {{ goal = {text}; steps = {}; depth = {}; limits = record {{ steps = {}; variables = {}; words = {} }} }} ∷ ",
+            g.steps, g.depth, g.limit_steps, g.limit_vars, g.limit_words
         ));
         tally.goals += 1;
-        if steps > limit_steps || depth > 128 {
+        if g.steps > g.limit_steps || g.depth > 128 {
             tally.too_much += 1;
             expected.extend([6, 38]);
             code_session(names.len(), &p, kept, &mut expected);
@@ -444,13 +482,13 @@ fn case(rng: &mut Rng, tally: &mut Tally) -> String {
         let saved = (p.binding.clone(), p.var_sort.clone(), p.trail.clone(), names.clone());
         // The goal as a rule without premises: a name's own variable, or a new one in the order of first appearance.
         let mut met = Vec::new();
-        names_of(&goal, &mut met);
+        names_of(&g.goal, &mut met);
         let most = met.iter().copied().chain(names.iter().map(|n| n.0)).max().map_or(0, |n| n + 1);
         let mut env: Vec<Option<T>> = vec![None; most];
         for (n, x) in &names {
             env[*n] = Some(T::V(*x));
         }
-        let t = p.inst(&goal, &mut env, &vec![0; most], &[]);
+        let t = p.inst(&g.goal, &mut env, &vec![0; most], &[]);
         for n in met {
             if !names.iter().any(|m| m.0 == n) {
                 let Some(T::V(x)) = env[n] else { unreachable!("a variable") };
@@ -458,17 +496,18 @@ fn case(rng: &mut Rng, tally: &mut Tally) -> String {
             }
         }
         let m = kept + words(&t);
-        p.round = steps;
-        p.max_depth = depth;
+        p.round = g.steps;
+        p.max_depth = g.depth;
         let before = p.trail.len();
         let o = ask(&mut p, &t, m);
         tally.out_of_steps += usize::from(p.budget == 0 && o.kind != Kind::Proved);
         tally.cut += usize::from(o.cut);
-        if p.binding.len() > limit_vars || o.most > limit_words {
+        if p.binding.len() > g.limit_vars || o.most > g.limit_words {
             tally.refused += 1;
             (p.binding, p.var_sort, p.trail, names) = saved;
             expected.extend([6, 37]);
         } else {
+            assert!(o.kind == Kind::Proved || p.trail.len() == before, "bindings are left");
             match o.kind {
                 Kind::Proved => {
                     tally.proved += 1;
@@ -486,7 +525,6 @@ fn case(rng: &mut Rng, tally: &mut Tally) -> String {
                     expected.extend([9, o.steps]);
                 }
             }
-            assert!(o.kind == Kind::Proved || p.trail.len() == before, "bindings are left");
         }
         code_session(names.len(), &p, kept, &mut expected);
     }
@@ -495,8 +533,48 @@ fn case(rng: &mut Rng, tally: &mut Tally) -> String {
     out
 }
 
+/// Sessions for the places where document 01 says a port goes wrong; they stand in front of the random ones.
+fn fixed() -> Vec<Plan> {
+    let v = Pat::Var;
+    let num = |n: usize| (0..n).fold(app(0, vec![]), |t, _| app(1, vec![t]));
+    let add = |a, b, c| app(6, vec![a, b, c]);
+    let addition = || {
+        vec![
+            clause(add(num(0), v(0), v(0)), vec![]),
+            clause(add(app(1, vec![v(0)]), v(1), app(1, vec![v(2)])), vec![add(v(0), v(1), v(2))]),
+        ]
+    };
+    let posed = |goal, steps, depth| Posed { goal, steps, depth, limit_steps: 65535, limit_vars: 65536, limit_words: 262_144 };
+    let plan = |rules, goals| Plan { rules, variables: 0, names: Vec::new(), bindings: Vec::new(), words: 0, goals };
+    vec![
+        // The last step was also the last allowed one, and one step more.
+        plan(addition(), vec![posed(add(v(0), num(2), num(1)), 2, 32), posed(add(v(0), num(2), num(1)), 3, 32)]),
+        // Cut off at bound 4, none at bound 8.
+        plan(addition(), vec![posed(add(num(6), v(0), num(5)), 40, 32)]),
+        // The occurs check: x = succ x has no proof.
+        plan(vec![clause(app(5, vec![v(0), app(1, vec![v(0)])]), vec![])], vec![posed(app(5, vec![v(0), v(0)]), 10, 8)]),
+        // Fresh numbers: premises from the last to the first.
+        plan(
+            vec![
+                clause(app(5, vec![v(0), v(1)]), vec![app(4, vec![v(2)]), app(4, vec![v(3)])]),
+                clause(app(4, vec![num(1)]), vec![]),
+            ],
+            vec![posed(app(5, vec![v(0), v(1)]), 20, 8)],
+        ),
+        // A branch that fails after binding: its variables stay counted, and a later goal shares the session.
+        plan(
+            vec![
+                clause(app(5, vec![v(0), num(0)]), vec![app(4, vec![v(1)]), app(4, vec![num(3)])]),
+                clause(app(5, vec![num(2), v(0)]), vec![]),
+                clause(app(4, vec![num(0)]), vec![]),
+            ],
+            vec![posed(app(5, vec![v(0), v(1)]), 30, 8), posed(app(5, vec![v(1), v(2)]), 30, 8), posed(app(4, vec![v(0)]), 30, 8)],
+        ),
+    ]
+}
+
 /// A goal that some rule's conclusion may meet: an instance of it with some of its parts replaced.
-fn likely(rng: &mut Rng, p: &Prover) -> Pat {
+fn likely(rng: &mut Rng, rules: &[Rule]) -> Pat {
     fn change(rng: &mut Rng, p: &Pat) -> Pat {
         if rng.chance(20) {
             return term(rng, 5, 2);
@@ -507,8 +585,7 @@ fn likely(rng: &mut Rng, p: &Prover) -> Pat {
             Pat::E(_) => unreachable!("no rigid names"),
         }
     }
-    let r = rng.below(p.sig.rules.len());
-    match &p.sig.rules[r].conclusion {
+    match &rules[rng.below(rules.len())].conclusion {
         Pat::A(f, args) => Pat::A(*f, args.iter().map(|a| change(rng, a)).collect()),
         _ => unreachable!("a judgment"),
     }
@@ -523,6 +600,7 @@ pub fn main() {
     let head = fs::read_to_string(&args[5]).expect("the head of a file");
     let mut rng = Rng(seed);
     let mut tally = Tally::default();
+    let mut front = fixed().into_iter();
     let mut done = 0;
     let mut file = 0;
     while done < cases {
@@ -530,7 +608,8 @@ pub fn main() {
         let mut out = head.clone();
         out.push_str("\nunfoldable pub cases : List Case\ncases =\n      ");
         for _ in 0..n {
-            out.push_str(&case(&mut rng, &mut tally));
+            let plan = front.next().unwrap_or_else(|| random(&mut rng));
+            out.push_str(&case(&plan, &mut tally));
             out.push_str("\n    ∷ ");
         }
         out.push_str(&format!(

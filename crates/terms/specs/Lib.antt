@@ -14,3 +14,5 @@ pub mod Order
 pub mod Loops
 pub mod Skips
 pub mod Renaming
+-- Examples by computing:
+pub mod Examples
