@@ -23,7 +23,7 @@ use Rattle.resolution.specs.Search.{Limits, Attempt, attempt, missed, en
 use Rattle.resolution.specs.Attempts.{Missed, Entered, Attempted, attempt-ok, missed-of, entered-of, unify-rule, tries-cases}
 use Rattle.resolution.specs.Soundness.{BelowW, belowW-le, Sound, SoundSearch, Found, solve-sound, entered-below, Suffix, suffix-all, suffix-here, suffix-next}
 use Rattle.resolution.specs.Steps.{Falls, FallsSearch, tries-falls, solve-falls}
-use Rattle.resolution.specs.Lloyd.{Variant, Resolvent, SLD, here, resolve, Refutation, ComputedAnswer, Clash, FailsBy, FinitelyFailed}
+use Rattle.resolution.specs.Lloyd.{Variant, Resolvent, SLD, here, resolve, Refutation, restrict, ComputedAnswer, Clash, FailsBy, FinitelyFailed}
 use Rattle.resolution.specs.Refutations.{roots-joined, derivation-joined, nodes, nodes-joined, finitely-failed-none}
 
 -- A fresh instance is a variant
@@ -152,7 +152,7 @@ pub record Refuted (rules : List Rule) (c : ℕ) (β : Bindings) (G : Terms) (β
   pub refutation : Refutation rules c (res β G) φ
   pub answer : (x : ℕ) → x < c → sub φ (full β x) ≡ full β′ x
 
-abbrev Reaches : List Rule → ℕ → Bindings → Terms → Result → Type 0
+abbrev pub Reaches : List Rule → ℕ → Bindings → Terms → Result → Type 0
 Reaches rules c β G refused = Unit {0}
 Reaches rules c β G (found β′ st b c′ m) = Refuted rules c β G β′
 Reaches rules c β G (failed b cut c′) = Unit {0}
@@ -204,25 +204,20 @@ module _ (l : Limits) (rules : List Rule) where
   solve-reach (suc n) (suc b) c m β (goal g (suc d) ∷ w) st ac bb bw =
       tries-reach (solve l rules n) (solve-sound l rules n) (solve-reach n) β g d w st m 0 rules b false c c (le-refl c) (suffix-all rules) ac bb (bw .0) (bw .1)
 
-  -- The theorem: a success from the bindings β is a refutation of the goal with β put in, and β followed by its answer is the final bindings.
-  pub success-refutes : (s m : ℕ) (β : Bindings) (g : Term) (d c : ℕ) → Acyclic β → BelowB c β → Below c g → Reaches rules c β (cons g nil) (bounded l rules s m β g d c)
-  success-refutes s m β g d c ac bb bg = solve-reach s s c m β (goal g d ∷ []) leaf ac bb (bg, tt)
+  -- The theorem: a success from the bindings β is a refutation of the goal with β put in, and β followed by its answer is the final bindings. The
+  -- counter may have moved on from c₀.
+  pub success-refutes : (s m : ℕ) (β : Bindings) (g : Term) (d c₀ c : ℕ) → c₀ ≤ c → Acyclic β → BelowB c β → Below c g → Reaches rules c₀ β (cons g nil) (bounded l rules s m β g d c)
+  success-refutes zero m β g d c₀ c h ac bb bg = tt
+  success-refutes (suc s) m β g zero c₀ c h ac bb bg = tt
+  success-refutes (suc s) m β g (suc d) c₀ c h ac bb bg =
+      tries-reach (solve l rules s) (solve-sound l rules s) (solve-reach s) β g d [] leaf m 0 rules s false c₀ c h (suffix-all rules) ac bb bg tt
 
 -- From no bindings, the final bindings are a computed answer.
-pub refuted-computed : (rules : List Rule) (c : ℕ) (g : Term) (β′ : Bindings) → Below c g → Refuted rules c start (cons g nil) β′
-    → ComputedAnswer rules (cons g nil) (λ x. cond (mem x g) (full β′ x) (var x))
-unfolding mem
+pub refuted-computed : (rules : List Rule) (c : ℕ) (g : Term) (β′ : Bindings) → Below c g → Refuted rules c start (cons g nil) β′ → ComputedAnswer rules (cons g nil) (restrict (cons g nil) (full β′))
 refuted-computed rules c g β′ b f = record {
   c = c;
   below = (b, tt);
   φ = f .φ;
   refutation = subst (λ G. Refutation rules c G (f .φ)) (sub-var (cons g nil)) (f .refutation);
-  inside = λ x e. let m : mem x g ≡ true = inside-one x e in rw m (sym (f .answer x (below-at x m)));
-  outside = λ x e. rw (or-false (mem x g) false e .0);
+  restricted = λ x. by-bool (mem x (cons g nil)) (λ e. rw e (sym (f .answer x (below-mem c (cons g nil) (b, tt) x e)))) (λ e. rw e);
 }
-  where
-    inside-one : (x : ℕ) → (mem x g || false) ≡ true → mem x g ≡ true
-    inside-one x e = by-bool (mem x g) (λ p. p) (λ p. true-false e (rw p))
-
-    below-at : (x : ℕ) → mem x g ≡ true → x < c
-    below-at x m = below-mem c g b x m

@@ -17,8 +17,8 @@ use Rattle.resolution.specs.Rules.{Rule, rule-at, Tree, node, leaf, _◂
 use Rattle.resolution.specs.Fresh.{fresh, headVars, allVars, head, body}
 use Rattle.resolution.specs.FreshLaws.{lift, lift-old, lift-new, head-all}
 use Rattle.resolution.specs.Attempts.{Entered, entered-of, unify-rule}
-use Rattle.resolution.specs.Lloyd.{SLD, here, resolve, Refutation}
-use Rattle.resolution.specs.Refutations.{roots-joined, derivation-joined, nodes, nodes-joined}
+use Rattle.resolution.specs.Lloyd.{SLD, here, resolve, Refutation, restrict, ComputedAnswer}
+use Rattle.resolution.specs.Refutations.{restrict-same, refutation-answer, roots-joined, derivation-joined, nodes, nodes-joined}
 use Rattle.resolution.specs.Answers.{covers-head, covers-body, advance, advance-res, entered-resolvent}
 
 -- A refutation of the goal with the bindings put in, of whose answer σ is an instance.
@@ -72,35 +72,39 @@ covered rules (suc n) c β (cons g As) σ (node r t qs ◂ ps) h ac bb bg s e d 
     Next : Type 0
     Next = (c : ℕ) (β : Bindings) (G : Terms) (σ : Subst) (ps : Tree many) → nodes ps ≤ n → Acyclic β → BelowB c β → Below c G → Solves σ β → roots ps ≡ sub σ G → Derivation rules ps → Covered rules c β G σ
 
+    step : (β′ : Bindings) (c′ : ℕ) → Entered c β g R β′ c′ → Covered rules c′ β′ (append (body c R) As) σ⁺ → Covered rules c β (cons g As) σ
+    step β′ c′ en f = record {
+      φ = compose (advance β β′) (f .φ);
+      refutation = (f .refutation .0, resolve (entered-resolvent c β g R β′ c′ ac bb en rules c r As (le-refl c) (i .found)) (f .refutation .1));
+      δ = f .δ;
+      covers = λ x l. sym (lift-old c (allVars R) σ (i .θ) x l) ∙ f .covers x (omega (arith, en .later)) ∙ ap (sub (f .δ)) (after x);
+    }
+      where
+        after : (x : ℕ) → sub (f .φ) (full β′ x) ≡ sub (compose (advance β β′) (f .φ)) (full β x)
+        after x = ap (sub (f .φ)) (sym (advance-res c β g R β′ c′ ac bb en (var x))) ∙ sub-sub (advance β β′) (f .φ) (full β x)
+
     go : (o : Outcome) → Unified (c + length (headVars R)) β g (head c R) o → Next → Covered rules c β (cons g As) σ
     go unfinished u ih = absurd u
     go fails u ih = absurd (u σ⁺ unifier)
     go (unified β′) u ih =
         let c′ : ℕ = c + length (allVars R) in
         let en : Entered c β g R β′ c′ = entered-of c β g R β′ u in
-        let f = ih c′ β′ (append (body c R) As) σ⁺ (joined qs ps) (omega (arith, nodes-joined qs ps)) (en .acyclic) (en .below)
-        (below-append c′ (body c R) As (en .premises) (below-le (en .later) As (bg .1))) (en .general σ⁺ unifier) under (derivation-joined rules qs ps (d .0 .1) (d .1)) in
-        record {
-          φ = compose (advance β β′) (f .φ);
-          refutation = (f .refutation .0, resolve (entered-resolvent c β g R β′ c′ ac bb en rules c r As (le-refl c) (i .found)) (f .refutation .1));
-          δ = f .δ;
-          covers = λ x l. sym (lift-old c (allVars R) σ (i .θ) x l) ∙ f .covers x (omega (arith, en .later))
-              ∙ ap (sub (f .δ)) (ap (sub (f .φ)) (sym (advance-res c β g R β′ c′ ac bb en (var x))) ∙ sub-sub (advance β β′) (f .φ) (full β x));
-        }
+        step β′ c′ en (ih c′ β′ (append (body c R) As) σ⁺ (joined qs ps) (omega (arith, nodes-joined qs ps)) (en .acyclic) (en .below)
+        (below-append c′ (body c R) As (en .premises) (below-le (en .later) As (bg .1))) (en .general σ⁺ unifier) under (derivation-joined rules qs ps (d .0 .1) (d .1)))
 
--- The theorem, from no bindings.
-pub record MoreGeneral (rules : List Rule) (c : ℕ) (G : Terms) (σ : Subst) : Type 0 where
-  pub φ : Subst
-  pub refutation : Refutation rules c G φ
+-- The theorem (Lloyd, 8.6): a computed answer, of which the instance is an instance.
+pub record MoreGeneral (rules : List Rule) (G : Terms) (σ : Subst) : Type 0 where
+  pub θ : Subst
+  pub computed : ComputedAnswer rules G θ
   pub δ : Subst
-  pub instance : sub σ G ≡ sub δ (sub φ G)
+  pub instance : sub σ G ≡ sub δ (sub θ G)
 
-pub sld-complete : (rules : List Rule) (c : ℕ) (G : Terms) (σ : Subst) (ps : Tree many) → Below c G → roots ps ≡ sub σ G → Derivation rules ps → MoreGeneral rules c G σ
+pub sld-complete : (rules : List Rule) (c : ℕ) (G : Terms) (σ : Subst) (ps : Tree many) → Below c G → roots ps ≡ sub σ G → Derivation rules ps → MoreGeneral rules G σ
 sld-complete rules c G σ ps b e d =
     let f = covered rules (nodes ps) c start G σ ps (le-refl (nodes ps)) tt tt b tt e d in
     record {
-      φ = f .φ;
-      refutation = subst (λ H. Refutation rules c H (f .φ)) (sub-var G) (f .refutation);
+      θ = restrict G (f .φ);
+      computed = refutation-answer rules c G (f .φ) b (subst (λ H. Refutation rules c H (f .φ)) (sub-var G) (f .refutation));
       δ = f .δ;
-      instance = sub-agree c σ (compose (f .φ) (f .δ)) (f .covers) G b ∙ sym (sub-sub (f .φ) (f .δ) G);
+      instance = sub-agree c σ (compose (f .φ) (f .δ)) (f .covers) G b ∙ sym (sub-sub (f .φ) (f .δ) G) ∙ ap (sub (f .δ)) (sym (restrict-same G (f .φ)));
     }

@@ -3,7 +3,7 @@
 -- are c or above is standardised apart.
 use Prim.Native.Nat.{ℕ, zero, suc, _+_, _≤_, _<_}
 use mathlib.Core.Path.{_≡_}
-use mathlib.Core.Bool.{Bool, true, false}
+use mathlib.Core.Bool.{Bool, true, false, cond}
 use mathlib.Core.Option.{Option, none, some}
 use mathlib.Core.List.{List, [], _∷_}
 use mathlib.Core.Logic.{_⊎_}
@@ -44,14 +44,17 @@ pub data SLD (rules : List Rule) : ℕ → Terms → Subst → ℕ → Terms →
 abbrev pub Refutation : List Rule → ℕ → Terms → Subst → Type 0
 Refutation rules c G φ = (d : ℕ) × SLD rules c G φ d nil
 
+-- A substitution restricted to the variables of a goal.
+abbrev pub restrict : Terms → Subst → Subst
+restrict G φ x = cond (mem x G) (φ x) (var x)
+
 -- A computed answer is the composition of a refutation's most general unifiers, restricted to the variables of the goal.
 pub record ComputedAnswer (rules : List Rule) (G : Terms) (θ : Subst) : Type 0 where
   pub c : ℕ
   pub below : Below c G
   pub φ : Subst
   pub refutation : Refutation rules c G φ
-  pub inside : (x : ℕ) → mem x G ≡ true → θ x ≡ φ x
-  pub outside : (x : ℕ) → mem x G ≡ false → θ x ≡ var x
+  pub restricted : (x : ℕ) → θ x ≡ restrict G φ x
 
 -- A branch of an SLD tree ends in failure where no substitution makes the atom and a variant's head equal.
 pub record Clash (R : Rule) (c : ℕ) (A : Term) : Type 0 where

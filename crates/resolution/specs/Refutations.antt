@@ -20,7 +20,7 @@ use Rattle.resolution.specs.Rules.{Rule, rule-at, Tree, node, leaf, _◂
 use Rattle.resolution.specs.Fresh.{met, fresh, headVars, allVars, head, body}
 use Rattle.resolution.specs.FreshLaws.{Covers, met-covers, metBack-covers, metBack-grows, covers-grows, fresh-from, lift, lift-old, lift-new, head-below, body-below, vars-le, head-all}
 use Rattle.resolution.specs.Attempts.{Missed, Entered, entered-of, unify-rule}
-use Rattle.resolution.specs.Lloyd.{Variant, Resolvent, SLD, here, resolve, Refutation, ComputedAnswer, Clash, FailsBy, FinitelyFailed}
+use Rattle.resolution.specs.Lloyd.{Variant, Resolvent, SLD, here, resolve, Refutation, restrict, ComputedAnswer, Clash, FailsBy, FinitelyFailed}
 
 -- Lists of trees
 
@@ -104,10 +104,17 @@ sld-sound {rules} (resolve {r = r} {A = A} {As = As} {θ = θ} {φ = φ} v s) τ
 pub refutation-sound : (rules : List Rule) (c : ℕ) (G : Terms) (φ : Subst) → Refutation rules c G φ → (τ : Subst) → Derived rules (sub (compose φ τ) G)
 refutation-sound rules c G φ r τ = sld-sound (r .1) τ (record { trees = leaf; proves = refl; derivation = tt })
 
--- Every instance of a goal under a computed answer is derivable.
+pub restrict-same : (G : Terms) (φ : Subst) → sub (restrict G φ) G ≡ sub φ G
+restrict-same G φ = sub-mem (restrict G φ) φ G (λ x e. rw e)
+
+pub refutation-answer : (rules : List Rule) (c : ℕ) (G : Terms) (φ : Subst) → Below c G → Refutation rules c G φ → ComputedAnswer rules G (restrict G φ)
+refutation-answer rules c G φ b r = record { c = c; below = b; φ = φ; refutation = r; restricted = λ x. refl }
+
+-- Every instance of a goal under a computed answer is derivable (Lloyd, theorem 7.1).
 pub answer-sound : (rules : List Rule) (G : Terms) (θ : Subst) → ComputedAnswer rules G θ → (τ : Subst) → Derived rules (sub τ (sub θ G))
 answer-sound rules G θ a τ =
-    subst (Derived rules) (sym (sub-sub (a .φ) τ G) ∙ ap (sub τ) (sub-mem (a .φ) θ G (λ x e. sym (a .inside x e)))) (refutation-sound rules (a .c) G (a .φ) (a .refutation) τ)
+    subst (Derived rules) (sym (sub-sub (a .φ) τ G) ∙ ap (sub τ) (sym (restrict-same G (a .φ)) ∙ sym (sub-ext θ (restrict G (a .φ)) (a .restricted) G)))
+    (refutation-sound rules (a .c) G (a .φ) (a .refutation) τ)
 
 -- A substitution below c, and another from c on.
 abbrev beside : ℕ → Subst → Subst → Subst
@@ -144,26 +151,42 @@ fails-none rules (suc n) c (cons A As) f b σ (node r t qs ◂ ps) e d = go (f r
     meets : (h : Term) (back : Subst) → sub back h ≡ R .conclusion → From c h → sub (wide back) A ≡ sub (wide back) h
     meets h back k a = beside-low c σ (compose back (i .θ)) A (b .0) ∙ sym eA ∙ sym (i .head) ∙ ap (sub (i .θ)) (sym k) ∙ sub-sub back (i .θ) h ∙ sym (beside-high c σ (compose back (i .θ)) h a)
 
+    resolved : (c′ : ℕ) (θ : Subst) (G : Terms) → Resolvent rules c A As r c′ θ G
+        → ((σ : Subst) (ps : Tree many) → Below c′ G → roots ps ≡ sub σ G → Derivation rules ps → ⊥) → ⊥
+    resolved c′ θ G v ih = ih δ (joined qs ps)
+        (subst (Below c′) (sym (v .derived)) (below-sub c′ c′ θ (v .range) (append (v .body) As) (below-append c′ (v .body) As (w .below .1) (below-le (w .later) As (b .1)))))
+        (roots-joined qs ps ∙ sym under) (derivation-joined rules qs ps (d .0 .1) (d .1))
+      where
+        same : v .rule ≡ R
+        same = let z : some (v .rule) ≡ some R = sym (v .found) ∙ i .found in cc
+
+        w : Variant (v .rule) c c′ (v .head) (v .body)
+        w = v .variant
+
+        σ⁺ : Subst
+        σ⁺ = wide (w .back)
+
+        factor : (δ : Subst) × ((x : ℕ) → σ⁺ x ≡ sub δ (θ x))
+        factor = v .mgu .general σ⁺ (tt, meets (v .head) (w .back) (w .head-back ∙ ap (λ (Q : Rule). Q .conclusion) same) (w .apart .0))
+
+        δ : Subst
+        δ = factor .0
+
+        premises : sub σ⁺ (v .body) ≡ roots qs
+        premises = beside-high c σ (compose (w .back) (i .θ)) (v .body) (w .apart .1) ∙ sym (sub-sub (w .back) (i .θ) (v .body))
+            ∙ ap (sub (i .θ)) (w .body-back ∙ ap (λ (Q : Rule). Q .premises) same) ∙ i .body
+
+        others : sub σ⁺ As ≡ roots ps
+        others = beside-low c σ (compose (w .back) (i .θ)) As (b .1) ∙ sym eAs
+
+        under : sub δ G ≡ append (roots qs) (roots ps)
+        under = ap (sub δ) (v .derived) ∙ sub-sub θ δ (append (v .body) As) ∙ sub-ext (compose θ δ) σ⁺ (λ x. sym (factor .1 x)) (append (v .body) As)
+            ∙ sub-append σ⁺ (v .body) As ∙ ap₂ append premises others
+
     go : Clash R c A ⊎ ((c′ : ℕ) × (θ : Subst) × (G : Terms) × Resolvent rules c A As r c′ θ G × FailsBy rules n c′ G)
         → ((c : ℕ) (G : Terms) → FailsBy rules n c G → Below c G → (σ : Subst) (ps : Tree many) → roots ps ≡ sub σ G → Derivation rules ps → ⊥) → ⊥
     go (inl k) ih = k .clash (wide (k .variant .back)) (meets (k .head) (k .variant .back) (k .variant .head-back) (k .variant .apart .0))
-    go (inr k) ih =
-        let v = k .3 in
-        let same : v .rule ≡ R = let z : some (v .rule) ≡ some R = sym (v .found) ∙ i .found in cc in
-        let w = v .variant in
-        let σ⁺ : Subst = wide (w .back) in
-        let g = v .mgu .general σ⁺ (tt, meets (v .head) (w .back) (w .head-back ∙ ap (λ (Q : Rule). Q .conclusion) same) (w .apart .0)) in
-        let under : sub (g .0) (k .2) ≡ append (roots qs) (roots ps) =
-        ap (sub (g .0)) (v .derived) ∙ sub-sub (k .1) (g .0) (append (v .body) As)
-        ∙ sub-ext (compose (k .1) (g .0)) σ⁺ (λ x. sym (g .1 x)) (append (v .body) As)
-        ∙ sub-append σ⁺ (v .body) As
-        ∙ ap₂ append
-        (beside-high c σ (compose (w .back) (i .θ)) (v .body) (w .apart .1) ∙ sym (sub-sub (w .back) (i .θ) (v .body))
-        ∙ ap (sub (i .θ)) (w .body-back ∙ ap (λ (Q : Rule). Q .premises) same) ∙ i .body)
-        (beside-low c σ (compose (w .back) (i .θ)) As (b .1) ∙ sym eAs) in
-        ih (k .0) (k .2) (k .4)
-        (subst (Below (k .0)) (sym (v .derived)) (below-sub (k .0) (k .0) (k .1) (v .range) (append (v .body) As) (below-append (k .0) (v .body) As (w .below .1) (below-le (w .later) As (b .1)))))
-        (g .0) (joined qs ps) (roots-joined qs ps ∙ sym under) (derivation-joined rules qs ps (d .0 .1) (d .1))
+    go (inr k) ih = resolved (k .0) (k .1) (k .2) (k .3) (λ σ ps b′. ih (k .0) (k .2) (k .4) b′ σ ps)
 
 pub finitely-failed-none : (rules : List Rule) (c : ℕ) (A : Term) → FinitelyFailed rules c (cons A nil) → Below c A → (τ : Subst) → Derivable rules (sub τ A) → ⊥
 finitely-failed-none rules c A f b τ p = fails-none rules (f .0) c (cons A nil) (f .1) (b, tt) τ (p .tree ◂ leaf) (ap (λ t. cons t nil) (p .proves)) (p .derivation, tt)

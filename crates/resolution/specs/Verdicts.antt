@@ -15,7 +15,9 @@ use Rattle.terms.specs.BindingLaws.{belowB-le, full-solves, solves-res, extends
 use Rattle.resolution.specs.Rules.{Rule, Tree, node, leaf, _◂_, root, roots, putIn, Derivation, Derivable}
 use Rattle.resolution.specs.Search.{Limits, unlimited, Work, goal, Result, refused, found, failed, solve, bounded, Verdict, refusal, proved, nothing, undecided, settle, boundsFrom, bounds, deepen, prove}
 use Rattle.resolution.specs.Soundness.{Found, Sound, Does, soundness, root-putIn}
-use Rattle.resolution.specs.Failure.{completeness}
+use Rattle.resolution.specs.Lloyd.{FinitelyFailed}
+use Rattle.resolution.specs.Answers.{Refuted, Reaches, success-refutes}
+use Rattle.resolution.specs.Failure.{none-fails, completeness}
 use Rattle.resolution.specs.Steps.{Live, richer, solve-richer}
 use Rattle.resolution.specs.Limited.{Matches, solve-match}
 use Rattle.resolution.specs.Shifting.{renR, shift, bounded-shift}
@@ -80,6 +82,31 @@ deepen-says l rules s m n₀ β g ac bb bg (d ∷ ds) u c h =
     go (failed (suc b) true c′) e snd n = let f : c ≤ c′ = subst (Sound rules c β (goal g d ∷ []) leaf) e snd in n (s - suc b) c′ (omega arith)
     go (failed (suc b) false c′) e snd n = let f : c ≤ c′ = subst (Sound rules c β (goal g d ∷ []) leaf) e snd in
         (omega arith, completeness l rules s m β g d c b c′ ac (belowB-le h β bb) (below-le h g bg) e)
+
+-- The same in Lloyd's terms: "proved" is a refutation whose answer, after the starting bindings, is the final bindings; "none" is a finitely failed goal.
+abbrev pub SaysSLD : List Rule → ℕ → Bindings → Term → Verdict → Type 0
+SaysSLD rules n₀ β g (refusal n) = Unit {0}
+SaysSLD rules n₀ β g (proved β′ st u c m) = Refuted rules n₀ β (cons g nil) β′
+SaysSLD rules n₀ β g (nothing u c) = FinitelyFailed rules n₀ (cons (res β g) nil)
+SaysSLD rules n₀ β g (undecided u c) = Unit {0}
+
+pub deepen-sld : (l : Limits) (rules : List Rule) (s m n₀ : ℕ) (β : Bindings) (g : Term) → Acyclic β → BelowB n₀ β → Below n₀ g
+    → (ds : List ℕ) (u c : ℕ) → n₀ ≤ c → SaysSLD rules n₀ β g (deepen l rules s m β g ds u c)
+deepen-sld l rules s m n₀ β g ac bb bg [] u c h = tt
+deepen-sld l rules s m n₀ β g ac bb bg (d ∷ ds) u c h =
+    go (bounded l rules s m β g d c) refl (soundness l rules s m β g d c ac (belowB-le h β bb) (below-le h g bg)) (success-refutes l rules s m β g d n₀ c h ac (belowB-le h β bb) (below-le h g bg))
+    (deepen-sld l rules s m n₀ β g ac bb bg ds)
+  where
+    Next : Type 0
+    Next = (u c : ℕ) → n₀ ≤ c → SaysSLD rules n₀ β g (deepen l rules s m β g ds u c)
+
+    go : (o : Result) → bounded l rules s m β g d c ≡ o → Sound rules c β (goal g d ∷ []) leaf (bounded l rules s m β g d c) → Reaches rules n₀ β (cons g nil) (bounded l rules s m β g d c) → Next
+        → SaysSLD rules n₀ β g (settle s o (λ u′ c′. deepen l rules s m β g ds u′ c′))
+    go refused e snd rch n = tt
+    go (found β′ st b c′ m′) e snd rch n = subst (Reaches rules n₀ β (cons g nil)) e rch
+    go (failed zero cut c′) e snd rch n = let f : c ≤ c′ = subst (Sound rules c β (goal g d ∷ []) leaf) e snd in n s c′ (omega arith)
+    go (failed (suc b) true c′) e snd rch n = let f : c ≤ c′ = subst (Sound rules c β (goal g d ∷ []) leaf) e snd in n (s - suc b) c′ (omega arith)
+    go (failed (suc b) false c′) e snd rch n = none-fails l rules s m β g d n₀ c b c′ h ac (belowB-le h β bb) (below-le h g bg) e
 
 -- Verdicts by their kind alone
 
