@@ -17,7 +17,8 @@ use Rattle.resolution.specs.Rules.{Rule, Tree, leaf, _◂_, root, putIn,
 use Rattle.resolution.specs.Search.{Limits, words, over, Verdict, refusal, proved, nothing, undecided, prove, bounds}
 use Rattle.resolution.specs.Session.{Name, Named, Session, newSession, Known, InForm, Compiled, refuses, compiles, Scoped, Allowance, Query, limitsOf, tooMuch, variableAt, goalOf, enter, Answer, left, searched, verdictOf, answered, tested, ask}
 use Rattle.resolution.specs.Soundness.{root-putIn}
-use Rattle.resolution.specs.Verdicts.{Proved, Excluded, Says, deepen-says, Finding, shown, excluded, unsettled, barred, finding, Repeats, prove-repeats}
+use Rattle.resolution.specs.Verdicts.{Proved, Excluded, Says, deepen-says}
+use Rattle.resolution.specs.Repeats.{Finding, shown, excluded, unsettled, barred, finding, Repeats, prove-repeats}
 
 -- A goal that was asked, the verdict that was given, and the session that was left.
 pub record Event : Type 0 where

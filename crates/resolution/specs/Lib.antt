@@ -15,12 +15,15 @@ pub mod Answers
 pub mod Failure
 pub mod Completeness
 pub mod Shifting
+pub mod Bounds
 pub mod Verdicts
+pub mod Repeats
 -- Demand 3:
 pub mod Goals
 -- What code needs:
 pub mod Machine
 pub mod Preorder
+-- Checks by computing:
 pub mod Cases
 pub mod Marked
 pub mod Recorded
