@@ -1,30 +1,26 @@
 -- The search's answers in Lloyd's terms: success is a refutation whose computed answer, put in after the starting bindings, is the final bindings;
 -- "none" is a finitely failed goal, so that nothing is derivable; and SLD resolution is complete.
-use Prim.Native.Nat.{ℕ, zero, suc, _+_, _-_, _≤_, _<_}
+use Prim.Native.Nat.{ℕ, zero, suc, _+_, _≤_, _<_}
 use mathlib.Core.Path.{_≡_, refl, ap, ap₂, sym, _∙_, subst}
-use mathlib.Core.Bool.{Bool, true, false, _||_, cond}
+use mathlib.Core.Bool.{Bool, false, _||_}
 use mathlib.Core.Option.{Option, none, some}
 use mathlib.Core.List.{List, [], _∷_}
-use mathlib.Core.Logic.{_⊎_, inl, inr}
 use native.Mathlib.Omega.{arith}
 use native.Mathlib.Nat.{le-refl}
 use lib.ListN.{length}
-use Rattle.terms.specs.Numbers.{same, by-bool, true-false, or-false, some-none}
-use Rattle.terms.specs.Term.{Kind, one, many, Syn, var, app, nil, cons, Term, Terms, count, append, Subst, sub, compose, mem, Below, From}
-use Rattle.terms.specs.Bindings.{Bindings, start, bind, lookup, full, res, Acyclic, Solves, BelowB, Extends}
-use Rattle.terms.specs.Unification.{Unifier, MostGeneral, Outcome, unfinished, fails, unified, unify}
-use Rattle.terms.specs.TermLaws.{sub-var, sub-sub, sub-ext, sub-mem, sub-agree, sub-from, sub-append, below-le, below-append, below-mem, cons-inj, nil-cons}
-use Rattle.terms.specs.BindingLaws.{full-unbound, full-solves, full-open, res-open, solves-full, solves-res, solves-comp, solves-agree, lookup-above, below-full, below-res, belowB-le, extends-lookup, extends-solves}
-use Rattle.terms.specs.Robinson.{Unified}
-use Rattle.resolution.specs.Rules.{Rule, rule-at, Tree, node, leaf, _◂_, root, roots, joined, Instance, Derivation, Derivable}
+use Rattle.terms.specs.Numbers.{by-bool, some-none}
+use Rattle.terms.specs.Term.{Kind, many, Syn, var, app, nil, cons, Term, Terms, count, append, Subst, sub, compose, mem, Below, From}
+use Rattle.terms.specs.Bindings.{Bindings, start, lookup, full, res, Acyclic, BelowB}
+use Rattle.terms.specs.Unification.{Unifier, MostGeneral}
+use Rattle.terms.specs.TermLaws.{sub-var, sub-sub, sub-mem, sub-from, sub-append, below-le, below-mem}
+use Rattle.terms.specs.BindingLaws.{full-unbound, full-solves, full-open, res-open, solves-full, solves-res, solves-comp, lookup-above, below-full, belowB-le, extends-lookup, extends-solves}
+use Rattle.resolution.specs.Rules.{Rule, rule-at, Tree, leaf}
 use Rattle.resolution.specs.Fresh.{fresh, headVars, allVars, head, body}
-use Rattle.resolution.specs.FreshLaws.{Covers, met-covers, metBack-covers, metBack-grows, covers-grows, fresh-from, lift, lift-old, lift-new, head-below, body-below, vars-le, head-all}
-use Rattle.resolution.specs.Search.{Limits, Attempt, attempt, missed, entered, Work, goal, build, goals, built, Result, refused, found, failed, Search, tries, solve, bounded}
-use Rattle.resolution.specs.Attempts.{Missed, Entered, Attempted, attempt-ok, missed-of, entered-of, unify-rule, tries-cases}
-use Rattle.resolution.specs.Soundness.{BelowW, belowW-le, Sound, SoundSearch, Found, solve-sound, entered-below, Suffix, suffix-all, suffix-here, suffix-next}
-use Rattle.resolution.specs.Steps.{Falls, FallsSearch, tries-falls, solve-falls}
-use Rattle.resolution.specs.Lloyd.{Variant, Resolvent, SLD, here, resolve, Refutation, restrict, ComputedAnswer, Clash, FailsBy, FinitelyFailed}
-use Rattle.resolution.specs.Refutations.{roots-joined, derivation-joined, nodes, nodes-joined, finitely-failed-none}
+use Rattle.resolution.specs.FreshLaws.{Covers, met-covers, metBack-covers, metBack-grows, covers-grows, fresh-from, lift, lift-new, head-below, body-below, vars-le, head-all}
+use Rattle.resolution.specs.Search.{Limits, attempt, Work, goal, build, goals, built, Result, refused, found, failed, Search, tries, solve, bounded}
+use Rattle.resolution.specs.Attempts.{Missed, Entered, Attempted, attempt-ok, tries-cases}
+use Rattle.resolution.specs.Soundness.{BelowW, belowW-le, Sound, SoundSearch, solve-sound, entered-below, Suffix, suffix-all, suffix-here, suffix-next}
+use Rattle.resolution.specs.Lloyd.{Variant, Resolvent, SLD, here, resolve, Refutation, restrict, ComputedAnswer, Clash}
 
 -- A fresh instance is a variant
 

@@ -1,11 +1,11 @@
 -- What one attempt does, from Robinson's theorem, and how the attempts with the rules go on from it: all that the theorems use of them.
-use Prim.Native.Nat.{ℕ, zero, suc, _+_, _-_, _≤_, _<_}
-use mathlib.Core.Path.{_≡_, refl, ap, ap₂, sym, _∙_, subst}
-use mathlib.Core.Bool.{Bool, true, false, _||_, cond}
-use mathlib.Core.List.{List, [], _∷_}
+use Prim.Native.Nat.{ℕ, suc, _+_, _≤_}
+use mathlib.Core.Path.{_≡_, refl, sym, subst}
+use mathlib.Core.Bool.{Bool, true, false, _||_}
+use mathlib.Core.List.{List, _∷_}
 use native.Mathlib.Omega.{arith}
 use lib.ListN.{length}
-use Rattle.terms.specs.Term.{Kind, one, many, Syn, Term, Terms, count, Subst, sub, Below}
+use Rattle.terms.specs.Term.{many, Term, count, Subst, sub, Below}
 use Rattle.terms.specs.Bindings.{Bindings, Acyclic, Solves, BelowB, Extends}
 use Rattle.terms.specs.Unification.{Unifier, Outcome, unfinished, fails, unified, unify}
 use Rattle.terms.specs.TermLaws.{below-le}
@@ -14,7 +14,7 @@ use Rattle.terms.specs.Robinson.{Unified, unify-ok}
 use Rattle.resolution.specs.Rules.{Rule, Tree}
 use Rattle.resolution.specs.Fresh.{headVars, allVars, head, body}
 use Rattle.resolution.specs.FreshLaws.{head-below, body-below, vars-le}
-use Rattle.resolution.specs.Search.{Limits, words, over, Attempt, exceeded, missed, entered, attempt, Work, goal, build, goals, Result, refused, found, failed, after, Search, tries}
+use Rattle.resolution.specs.Search.{Limits, words, over, Attempt, exceeded, missed, entered, attempt, Work, build, goals, Result, refused, found, failed, after, Search, tries}
 
 -- The conclusion did not unify: it has no unifier with the goal over the bindings.
 pub record Missed (c : ℕ) (β : Bindings) (g : Term) (R : Rule) (c′ : ℕ) : Type 0 where

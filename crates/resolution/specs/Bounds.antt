@@ -1,11 +1,10 @@
 -- The depth bounds 4, 8, 16, … up to the largest depth (the Rust's `while depth <= self.max_depth`), as a relation for loops, and as a list that grows
 -- with the largest depth.
 use Prim.Native.Nat.{ℕ, zero, suc, _+_, _≤_, _<_}
-use mathlib.Core.Path.{_≡_, refl, ap, sym, _∙_}
-use mathlib.Core.Bool.{cond}
+use mathlib.Core.Path.{_≡_, refl, ap}
 use mathlib.Core.List.{List, [], _∷_, _++_}
 use native.Mathlib.Omega.{arith}
-use Rattle.terms.specs.Numbers.{less, by-less}
+use Rattle.terms.specs.Numbers.{by-less}
 use Rattle.resolution.specs.Search.{boundsFrom, bounds}
 
 -- ds are the bounds d, 2d, 4d, … up to the largest.

@@ -1,11 +1,10 @@
 -- Cases that the checker computes with the definitions: a session of goals over rules, with what comes out written as one list of numbers.
-use Prim.Native.Nat.{ℕ, zero, suc, _+_, _-_}
-use mathlib.Core.Path.{_≡_, refl}
+use Prim.Native.Nat.{ℕ, _+_}
 use mathlib.Core.Bool.{Bool, true, false, _&&_, cond}
 use mathlib.Core.List.{List, [], _∷_, _++_}
 use lib.ListN.{length, drop}
 use Rattle.terms.specs.Numbers.{same}
-use Rattle.terms.specs.Term.{Kind, one, many, Syn, var, app, nil, cons, Term, Terms, count, sub}
+use Rattle.terms.specs.Term.{Kind, Syn, var, app, nil, cons, Term, count, sub}
 use Rattle.terms.specs.Bindings.{Bindings, start, bind}
 use Rattle.resolution.specs.Rules.{Rule, Tree, node, leaf, _◂_}
 use Rattle.resolution.specs.Fresh.{met, place}

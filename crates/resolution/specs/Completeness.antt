@@ -1,23 +1,21 @@
 -- Completeness of SLD resolution (Lloyd, section 8): every derivable instance of a goal is an instance of the goal under the answer of a refutation.
-use Prim.Native.Nat.{ℕ, zero, suc, _+_, _-_, _≤_, _<_}
+use Prim.Native.Nat.{ℕ, zero, suc, _+_, _≤_, _<_}
 use mathlib.Core.Path.{_≡_, refl, ap, ap₂, sym, _∙_, subst}
-use mathlib.Core.Bool.{Bool, true, false, cond}
-use mathlib.Core.Option.{Option, none, some}
-use mathlib.Core.List.{List, [], _∷_}
+use mathlib.Core.List.{List}
 use native.Mathlib.Omega.{arith}
 use native.Mathlib.Nat.{le-refl}
 use lib.ListN.{length}
-use Rattle.terms.specs.Term.{Kind, one, many, Syn, var, app, nil, cons, Term, Terms, append, Subst, sub, compose, Below}
+use Rattle.terms.specs.Term.{Kind, many, Syn, var, nil, cons, Terms, append, Subst, sub, compose, Below}
 use Rattle.terms.specs.Bindings.{Bindings, start, full, res, Acyclic, Solves, BelowB}
 use Rattle.terms.specs.Unification.{Unifier, Outcome, unfinished, fails, unified, unify}
 use Rattle.terms.specs.TermLaws.{sub-var, sub-sub, sub-agree, sub-append, below-le, below-append, cons-inj, nil-cons}
-use Rattle.terms.specs.BindingLaws.{solves-full, solves-agree, full-solves}
+use Rattle.terms.specs.BindingLaws.{solves-full, solves-agree}
 use Rattle.terms.specs.Robinson.{Unified}
-use Rattle.resolution.specs.Rules.{Rule, rule-at, Tree, node, leaf, _◂_, root, roots, joined, Instance, Derivation}
-use Rattle.resolution.specs.Fresh.{fresh, headVars, allVars, head, body}
+use Rattle.resolution.specs.Rules.{Rule, Tree, node, leaf, _◂_, roots, joined, Instance, Derivation}
+use Rattle.resolution.specs.Fresh.{headVars, allVars, head, body}
 use Rattle.resolution.specs.FreshLaws.{lift, lift-old, lift-new, head-all}
 use Rattle.resolution.specs.Attempts.{Entered, entered-of, unify-rule}
-use Rattle.resolution.specs.Lloyd.{SLD, here, resolve, Refutation, restrict, ComputedAnswer}
+use Rattle.resolution.specs.Lloyd.{here, resolve, Refutation, restrict, ComputedAnswer}
 use Rattle.resolution.specs.Refutations.{restrict-same, refutation-answer, roots-joined, derivation-joined, nodes, nodes-joined}
 use Rattle.resolution.specs.Answers.{covers-head, covers-body, advance, advance-res, entered-resolvent}
 

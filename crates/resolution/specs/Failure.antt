@@ -1,21 +1,21 @@
 -- Completeness of "none": a search that fails with steps left and nothing cut off leaves a finitely failed goal, so that no instance of the goal under
 -- the starting bindings has a derivation, of any height.
-use Prim.Native.Nat.{ℕ, zero, suc, _+_, _-_, _≤_, _<_}
-use mathlib.Core.Path.{_≡_, refl, ap, ap₂, sym, _∙_, subst}
-use mathlib.Core.Bool.{Bool, true, false, _||_, cond}
-use mathlib.Core.Option.{Option, none, some}
+use Prim.Native.Nat.{ℕ, zero, suc, _+_, _≤_, _<_}
+use mathlib.Core.Path.{_≡_, refl, subst}
+use mathlib.Core.Bool.{Bool, true, false, _||_}
+use mathlib.Core.Option.{some}
 use mathlib.Core.List.{List, [], _∷_}
 use mathlib.Core.Logic.{_⊎_, inl, inr}
 use native.Mathlib.Omega.{arith}
 use native.Mathlib.Nat.{le-refl}
 use Rattle.terms.specs.Numbers.{true-false, or-false, some-none}
-use Rattle.terms.specs.Term.{Kind, one, many, Syn, var, app, nil, cons, Term, Terms, count, append, Subst, sub, Below}
-use Rattle.terms.specs.Bindings.{Bindings, full, res, Acyclic, Solves, BelowB}
+use Rattle.terms.specs.Term.{many, nil, cons, Term, Terms, count, append, Subst, sub, Below}
+use Rattle.terms.specs.Bindings.{Bindings, res, Acyclic, BelowB}
 use Rattle.terms.specs.TermLaws.{below-le}
 use Rattle.terms.specs.BindingLaws.{belowB-le, below-res}
 use Rattle.resolution.specs.Rules.{Rule, rule-at, Tree, leaf, Derivable}
 use Rattle.resolution.specs.Fresh.{body}
-use Rattle.resolution.specs.Search.{Limits, Attempt, attempt, missed, entered, Work, goal, build, goals, built, Result, refused, found, failed, Search, tries, solve, bounded}
+use Rattle.resolution.specs.Search.{Limits, attempt, Work, goal, build, goals, built, Result, refused, found, failed, Search, tries, solve, bounded}
 use Rattle.resolution.specs.Attempts.{Missed, Entered, Attempted, attempt-ok, tries-cases}
 use Rattle.resolution.specs.Soundness.{BelowW, belowW-le, Sound, SoundSearch, solve-sound, entered-below, Suffix, suffix-all, suffix-here, suffix-next}
 use Rattle.resolution.specs.Steps.{Falls, FallsSearch, tries-falls, solve-falls}

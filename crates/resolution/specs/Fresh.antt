@@ -1,10 +1,10 @@
 -- A rule's fresh instance (the Rust's `inst` and `fresh`): its variables get the numbers from the counter on, in the order in which they are met: in
 -- the conclusion from left to right, then in the premises from the last to the first.
-use Prim.Native.Nat.{ℕ, zero, suc, _+_, _-_, _≤_, _<_}
-use mathlib.Core.Bool.{Bool, true, false, _||_, cond}
+use Prim.Native.Nat.{ℕ, suc, _+_}
+use mathlib.Core.Bool.{Bool, false, _||_, cond}
 use mathlib.Core.List.{List, [], _∷_, _++_}
 use Rattle.terms.specs.Numbers.{same}
-use Rattle.terms.specs.Term.{Kind, one, many, Syn, var, app, nil, cons, Term, Terms, Subst, sub}
+use Rattle.terms.specs.Term.{Kind, Syn, var, app, nil, cons, Term, Terms, Subst, sub}
 use Rattle.resolution.specs.Rules.{Rule}
 
 abbrev pub elem : ℕ → List ℕ → Bool

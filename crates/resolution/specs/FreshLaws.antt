@@ -1,12 +1,12 @@
 -- Laws of fresh instances: numbers given once stay, lie in the range from the counter on, and can be given any terms, whatever older variables stand for.
-use Prim.Native.Nat.{ℕ, zero, suc, _+_, _-_, _≤_, _<_}
-use mathlib.Core.Path.{_≡_, refl, ap, ap₂, sym, _∙_, subst}
-use mathlib.Core.Bool.{Bool, true, false, _||_, cond}
+use Prim.Native.Nat.{ℕ, suc, _+_, _-_, _≤_, _<_}
+use mathlib.Core.Path.{_≡_, refl, ap, ap₂, sym, _∙_}
+use mathlib.Core.Bool.{true, cond}
 use mathlib.Core.List.{List, [], _∷_, _++_, append-assoc, append-nil}
 use native.Mathlib.Omega.{arith}
 use lib.ListN.{length, getD, length-append}
 use Rattle.terms.specs.Numbers.{same, same-refl, same-true, by-bool, true-false, less, less-yes, less-no}
-use Rattle.terms.specs.Term.{Kind, one, many, Syn, var, app, nil, cons, Term, Terms, Subst, sub, Below, From}
+use Rattle.terms.specs.Term.{Kind, Syn, var, app, nil, cons, Terms, Subst, sub, Below, From}
 use Rattle.resolution.specs.Rules.{Rule}
 use Rattle.resolution.specs.Fresh.{elem, met, metBack, place, fresh, headVars, allVars, head, body}
 

@@ -1,24 +1,23 @@
 -- Demand 3 (document 01, "Search"), as one theorem about a whole list of goals, refused ones included, each with steps, depth and limits of its own,
 -- from any session in form. The theorem is `demand-3` at the end; what it claims is defined first.
 use Prim.Native.Nat.{ℕ, zero, suc, _+_, _≤_, _<_}
-use mathlib.Core.Path.{_≡_, refl, ap, ap₂, sym, _∙_, subst}
-use mathlib.Core.Bool.{Bool, true, false, _||_, cond}
+use mathlib.Core.Path.{_≡_, refl, ap, sym, _∙_, subst}
+use mathlib.Core.Bool.{Bool, true, false}
 use mathlib.Core.List.{List, [], _∷_, _++_}
 use mathlib.Core.Logic.{_⊎_, inl, inr}
 use native.Mathlib.Omega.{arith}
 use native.Mathlib.Nat.{le-refl}
 use lib.ListN.{length}
-use Rattle.terms.specs.Numbers.{by-bool, true-false}
-use Rattle.terms.specs.Term.{Kind, one, many, Syn, var, Term, Subst, sub, Below}
-use Rattle.terms.specs.Bindings.{Bindings, start, full, res, Acyclic, Solves, BelowB, Extends, unchanged}
+use Rattle.terms.specs.Term.{one, many, var, Term, Below}
+use Rattle.terms.specs.Bindings.{full, res, BelowB, Extends, unchanged}
 use Rattle.terms.specs.TermLaws.{below-sub}
 use Rattle.terms.specs.BindingLaws.{belowB-le, full-solves, extends-trans, extends-solves}
-use Rattle.resolution.specs.Rules.{Rule, Tree, leaf, _◂_, root, putIn, Derivation, Derivable}
-use Rattle.resolution.specs.Search.{Limits, words, over, Verdict, refusal, proved, nothing, undecided, prove, bounds}
+use Rattle.resolution.specs.Rules.{Rule, Tree, leaf, _◂_, root, putIn, Derivation}
+use Rattle.resolution.specs.Search.{words, over, Verdict, refusal, proved, nothing, undecided, prove, bounds}
 use Rattle.resolution.specs.Session.{Name, Named, Session, newSession, Known, InForm, Compiled, refuses, compiles, Scoped, Allowance, Query, limitsOf, tooMuch, variableAt, goalOf, enter, Answer, left, searched, verdictOf, answered, tested, ask}
 use Rattle.resolution.specs.Soundness.{root-putIn}
-use Rattle.resolution.specs.Verdicts.{Proved, Excluded, Says, deepen-says}
-use Rattle.resolution.specs.Repeats.{Finding, shown, excluded, unsettled, barred, finding, Repeats, prove-repeats}
+use Rattle.resolution.specs.Verdicts.{Excluded, Says, deepen-says}
+use Rattle.resolution.specs.Repeats.{Finding, shown, excluded, barred, finding, Repeats, prove-repeats}
 
 -- A goal that was asked, the verdict that was given, and the session that was left.
 pub record Event : Type 0 where

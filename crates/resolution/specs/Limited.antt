@@ -1,17 +1,17 @@
 -- A limited search refuses, or comes to what the unlimited one comes to: bindings, proofs, steps, counter and words.
-use Prim.Native.Nat.{ℕ, zero, suc, _+_, _-_, _≤_, _<_}
-use mathlib.Core.Path.{_≡_, refl, ap, ap₂, sym, _∙_, subst}
-use mathlib.Core.Bool.{Bool, true, false, _||_, cond}
+use Prim.Native.Nat.{ℕ, zero, suc, _+_, _-_}
+use mathlib.Core.Path.{_≡_, refl, ap, sym, _∙_, subst}
+use mathlib.Core.Bool.{Bool, true, false, _||_}
 use mathlib.Core.List.{List, [], _∷_}
 use mathlib.Core.Logic.{_⊎_, inl, inr}
 use native.Mathlib.Omega.{arith}
 use lib.ListN.{length}
-use Rattle.terms.specs.Term.{Kind, one, many, Syn, Term, Terms, count}
+use Rattle.terms.specs.Term.{many, Term, count}
 use Rattle.terms.specs.Bindings.{Bindings}
 use Rattle.terms.specs.Unification.{Outcome, unfinished, fails, unified, unify}
 use Rattle.resolution.specs.Rules.{Rule, Tree, leaf}
 use Rattle.resolution.specs.Fresh.{headVars, allVars, head, body}
-use Rattle.resolution.specs.Search.{Limits, unlimited, words, over, Attempt, exceeded, missed, entered, attempt, Work, goal, build, goals, built, Result, refused, found, failed, after, Search, tries, solve, bounded, Verdict, refusal, proved, nothing, undecided, settle, deepen, prove, bounds}
+use Rattle.resolution.specs.Search.{Limits, unlimited, words, over, Attempt, exceeded, missed, entered, attempt, Work, goal, build, goals, built, Result, refused, found, failed, after, Search, tries, solve, bounded, Verdict, refusal, settle, deepen, prove, bounds}
 use Rattle.resolution.specs.Attempts.{tries-exceeded, tries-missed, tries-entered}
 
 attempt-limited : (l : Limits) (β : Bindings) (g : Term) (m c : ℕ) (R : Rule) → (attempt l β g m c R ≡ exceeded) ⊎ (attempt l β g m c R ≡ attempt unlimited β g m c R)

@@ -1,13 +1,13 @@
 -- SLD resolution as in Lloyd, Foundations of Logic Programming, sections 4, 7 and 15, with the leftmost atom selected: variants, resolvents, SLD
 -- derivations, refutations, computed answers and finite failure. The number c is above all variables used so far, so that a variant whose variables
 -- are c or above is standardised apart.
-use Prim.Native.Nat.{ℕ, zero, suc, _+_, _≤_, _<_}
+use Prim.Native.Nat.{ℕ, zero, suc, _≤_, _<_}
 use mathlib.Core.Path.{_≡_}
-use mathlib.Core.Bool.{Bool, true, false, cond}
-use mathlib.Core.Option.{Option, none, some}
-use mathlib.Core.List.{List, [], _∷_}
+use mathlib.Core.Bool.{cond}
+use mathlib.Core.Option.{some}
+use mathlib.Core.List.{List}
 use mathlib.Core.Logic.{_⊎_}
-use Rattle.terms.specs.Term.{Kind, one, many, Syn, var, nil, cons, Term, Terms, append, Subst, sub, compose, mem, Below, From}
+use Rattle.terms.specs.Term.{var, nil, cons, Term, Terms, append, Subst, sub, compose, mem, Below, From}
 use Rattle.terms.specs.Bindings.{start}
 use Rattle.terms.specs.Unification.{MostGeneral}
 use Rattle.resolution.specs.Rules.{Rule, rule-at}

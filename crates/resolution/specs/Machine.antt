@@ -1,18 +1,18 @@
 -- The search as a machine runs it: its equations without the bound on recursion; one cut flag; and its recursion as a stack of branch records, whose
 -- invariant is that what the whole search comes to stays the same at every step.
-use Prim.Native.Nat.{ℕ, zero, suc, _+_, _-_, _≤_, _<_}
-use mathlib.Core.Path.{_≡_, refl, ap, ap₂, sym, _∙_, subst}
-use mathlib.Core.Bool.{Bool, true, false, _||_, cond}
+use Prim.Native.Nat.{ℕ, zero, suc, _≤_}
+use mathlib.Core.Path.{_≡_, refl, ap, sym, _∙_}
+use mathlib.Core.Bool.{Bool, true, false, _||_}
 use mathlib.Core.List.{List, [], _∷_}
 use native.Mathlib.Omega.{arith}
 use native.Mathlib.Nat.{le-refl}
 use Rattle.terms.specs.Numbers.{or-assoc, or-true, or-no}
-use Rattle.terms.specs.Term.{Kind, one, many, Term, Terms, count}
+use Rattle.terms.specs.Term.{many, Term, count}
 use Rattle.terms.specs.Bindings.{Bindings}
 use Rattle.resolution.specs.Rules.{Rule, Tree}
 use Rattle.resolution.specs.Fresh.{body}
 use Rattle.resolution.specs.Search.{Limits, Attempt, exceeded, missed, entered, attempt, Work, goal, build, goals, built, Result, refused, found, failed, after, Search, tries, solve}
-use Rattle.resolution.specs.Attempts.{tries-exceeded, tries-missed, tries-entered, tries-cases}
+use Rattle.resolution.specs.Attempts.{tries-exceeded, tries-missed, tries-entered}
 use Rattle.resolution.specs.Steps.{Falls, FallsSearch, solve-falls}
 
 -- The search without its bound.

@@ -1,14 +1,14 @@
 -- The search cases that document 01 marks for proof, over its text's `add`: one list, and one lemma that all of them come out.
-use Prim.Native.Nat.{ℕ, zero, suc, _+_, _-_}
+use Prim.Native.Nat.{ℕ, zero, suc}
 use mathlib.Core.Path.{_≡_, refl}
-use mathlib.Core.Bool.{Bool, true, false, _&&_, cond}
+use mathlib.Core.Bool.{Bool, true, false, _&&_}
 use mathlib.Core.List.{List, [], _∷_}
 use Rattle.terms.specs.Numbers.{same, less}
-use Rattle.terms.specs.Term.{Kind, one, many, Syn, var, app, nil, cons, Term, mem}
+use Rattle.terms.specs.Term.{var, app, nil, cons, Term, mem}
 use Rattle.resolution.specs.Rules.{Rule}
 use Rattle.resolution.specs.Search.{attempt, Verdict, refusal, proved, nothing, undecided}
-use Rattle.resolution.specs.Session.{newSession, Allowance, ask}
-use Rattle.resolution.specs.Cases.{Posed, compileBy, queryOf}
+use Rattle.resolution.specs.Session.{newSession, ask}
+use Rattle.resolution.specs.Cases.{compileBy, queryOf}
 
 -- zero, succ and add are the symbols 0, 1 and 2; Nat is the sort 1.
 

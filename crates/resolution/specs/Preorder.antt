@@ -1,6 +1,6 @@
 -- A proof in preorder: the rule applications in the order in which they were made, each with its height from the top, are the preorder of the trees built
 -- so far together with the applications still open. So a machine that keeps its applications in a list has the proof's listing in it.
-use Prim.Native.Nat.{ℕ, zero, suc, _+_, _-_, _≤_, _<_}
+use Prim.Native.Nat.{ℕ, zero, suc, _+_, _-_, _≤_}
 use mathlib.Core.Path.{_≡_, refl, ap, ap₂, sym, _∙_, subst}
 use mathlib.Core.List.{List, [], _∷_, _++_, append-assoc, append-nil}
 use native.Mathlib.Omega.{arith}

@@ -1,25 +1,17 @@
 -- SLD resolution and derivation trees: a refutation gives derivations of its goal under the computed answer; every derivable instance of a goal is an
 -- instance of a computed answer; a finitely failed goal has no derivable instance. The last is the completeness of "none".
-use Prim.Native.Nat.{ℕ, zero, suc, _+_, _-_, _≤_, _<_}
+use Prim.Native.Nat.{ℕ, zero, suc, _+_}
 use mathlib.Core.Path.{_≡_, refl, ap, ap₂, sym, _∙_, subst}
-use mathlib.Core.Bool.{Bool, true, false, cond}
-use mathlib.Core.Option.{Option, none, some}
-use mathlib.Core.List.{List, [], _∷_}
+use mathlib.Core.Bool.{cond}
+use mathlib.Core.Option.{some}
+use mathlib.Core.List.{List}
 use mathlib.Core.Logic.{_⊎_, inl, inr}
 use native.Mathlib.Omega.{arith}
-use native.Mathlib.Nat.{le-refl}
-use lib.ListN.{length}
-use Rattle.terms.specs.Numbers.{less, less-yes, less-no, some-none}
-use Rattle.terms.specs.Term.{Kind, one, many, Syn, var, app, nil, cons, Term, Terms, append, Subst, sub, compose, mem, Below, From}
-use Rattle.terms.specs.Bindings.{Bindings, start, bind, lookup, full, res, Acyclic, Solves, BelowB, Extends}
-use Rattle.terms.specs.Unification.{Unifier, MostGeneral, Outcome, unfinished, fails, unified, unify}
-use Rattle.terms.specs.TermLaws.{sub-var, sub-sub, sub-ext, sub-mem, sub-agree, sub-from, sub-append, below-sub, below-le, below-append, cons-inj, nil-cons}
-use Rattle.terms.specs.BindingLaws.{full-unbound, full-solves, full-open, res-open, solves-full, solves-res, solves-comp, solves-agree, lookup-above, below-full, below-res, extends-lookup, extends-solves}
-use Rattle.terms.specs.Robinson.{Unified}
-use Rattle.resolution.specs.Rules.{Rule, rule-at, Tree, node, leaf, _◂_, root, roots, joined, Instance, Derivation, Derivable}
-use Rattle.resolution.specs.Fresh.{met, fresh, headVars, allVars, head, body}
-use Rattle.resolution.specs.FreshLaws.{Covers, met-covers, metBack-covers, metBack-grows, covers-grows, fresh-from, lift, lift-old, lift-new, head-below, body-below, vars-le, head-all}
-use Rattle.resolution.specs.Attempts.{Missed, Entered, entered-of, unify-rule}
+use Rattle.terms.specs.Numbers.{less, less-yes, less-no}
+use Rattle.terms.specs.Term.{Kind, many, Syn, nil, cons, Term, Terms, append, Subst, sub, compose, Below, From}
+use Rattle.terms.specs.TermLaws.{sub-sub, sub-ext, sub-mem, sub-agree, sub-from, sub-append, below-sub, below-le, below-append, cons-inj, nil-cons}
+use Rattle.resolution.specs.Rules.{Rule, Tree, node, leaf, _◂_, root, roots, joined, Instance, Derivation, Derivable}
+use Rattle.resolution.specs.Fresh.{head, body}
 use Rattle.resolution.specs.Lloyd.{Variant, Resolvent, SLD, here, resolve, Refutation, restrict, ComputedAnswer, Clash, FailsBy, FinitelyFailed}
 
 -- Lists of trees

@@ -1,18 +1,18 @@
 -- Repeatability: steps and depth no smaller, from the same bindings and goal, repeat "proved" and "none", whatever the limits and wherever fresh numbers
 -- start, unless storage refuses.
-use Prim.Native.Nat.{ℕ, zero, suc, _+_, _-_, _≤_, _<_}
-use mathlib.Core.Path.{_≡_, refl, ap, ap₂, sym, _∙_, subst}
-use mathlib.Core.Bool.{Bool, true, false}
+use Prim.Native.Nat.{ℕ, zero, suc, _+_, _-_, _≤_}
+use mathlib.Core.Path.{_≡_, refl, ap, sym, _∙_, subst}
+use mathlib.Core.Bool.{true, false}
 use mathlib.Core.List.{List, [], _∷_, _++_}
 use mathlib.Core.Logic.{_⊎_, inl, inr}
 use native.Mathlib.Omega.{arith}
 use native.Mathlib.Nat.{le-refl}
-use Rattle.terms.specs.Term.{Kind, one, many, Syn, Term, Terms, Subst, sub, Below}
-use Rattle.terms.specs.Bindings.{Bindings, full, res, Acyclic, Solves, BelowB}
+use Rattle.terms.specs.Term.{many, Term, Subst, sub, Below}
+use Rattle.terms.specs.Bindings.{Bindings, full, res, Acyclic, BelowB}
 use Rattle.terms.specs.TermLaws.{below-le}
 use Rattle.terms.specs.BindingLaws.{belowB-le, full-solves, solves-res, extends-solves}
-use Rattle.resolution.specs.Rules.{Rule, Tree, leaf, _◂_, root, putIn, Derivable}
-use Rattle.resolution.specs.Search.{Limits, unlimited, Work, goal, Result, refused, found, failed, bounded, Verdict, refusal, proved, nothing, undecided, settle, bounds, deepen, prove}
+use Rattle.resolution.specs.Rules.{Rule, Tree, leaf, putIn, Derivable}
+use Rattle.resolution.specs.Search.{Limits, unlimited, goal, Result, refused, found, failed, bounded, Verdict, refusal, proved, nothing, undecided, settle, bounds, deepen, prove}
 use Rattle.resolution.specs.Soundness.{Sound, soundness, root-putIn}
 use Rattle.resolution.specs.Steps.{Live, richer, solve-richer}
 use Rattle.resolution.specs.Limited.{Matches, solve-match}

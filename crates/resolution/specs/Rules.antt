@@ -4,7 +4,7 @@ use Prim.Native.Nat.{ℕ, zero, suc}
 use mathlib.Core.Path.{_≡_}
 use mathlib.Core.Option.{Option, none, some}
 use mathlib.Core.List.{List, [], _∷_}
-use Rattle.terms.specs.Term.{Kind, one, many, Syn, nil, cons, Term, Terms, Subst, sub}
+use Rattle.terms.specs.Term.{Kind, one, many, nil, cons, Term, Terms, Subst, sub}
 
 -- A rule: its name as bytes, the sorts of its variables, its premises and its conclusion.
 pub record Rule : Type 0 where

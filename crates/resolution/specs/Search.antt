@@ -1,14 +1,14 @@
 -- The search (the Rust's `solve` and `prove`, with no facts and no hypotheses): leftmost goal first, rules in source order, each entry with steps left
 -- uses one step, and a goal at depth 0 is cut off. Limits on variables and words are a parameter: the Rust's own search is the unlimited one, and
 -- Limited shows that a limited search refuses or comes to the same.
-use Prim.Native.Nat.{ℕ, zero, suc, _+_, _-_, _≤_, _<_}
+use Prim.Native.Nat.{ℕ, zero, suc, _+_, _-_}
 use mathlib.Core.Bool.{Bool, true, false, _||_, cond}
 use mathlib.Core.List.{List, [], _∷_}
 use lib.ListN.{length}
 use Rattle.terms.specs.Numbers.{less}
-use Rattle.terms.specs.Term.{Kind, one, many, Syn, var, app, nil, cons, Term, Terms, count}
+use Rattle.terms.specs.Term.{Kind, many, Syn, var, app, nil, cons, Term, Terms, count}
 use Rattle.terms.specs.Bindings.{Bindings}
-use Rattle.terms.specs.Unification.{Outcome, unfinished, fails, unified, unify}
+use Rattle.terms.specs.Unification.{unfinished, fails, unified, unify}
 use Rattle.resolution.specs.Rules.{Rule, Tree, node, leaf, _◂_}
 use Rattle.resolution.specs.Fresh.{headVars, allVars, head, body}
 

@@ -1,11 +1,11 @@
 -- Sessions (document 01, "Search" and the table's search place): goals share variables by name; each goal gets the session that the last one left,
 -- with steps, depth and limits of its own; and each verdict or refusal determines the session that the goal leaves.
-use Prim.Native.Nat.{ℕ, zero, suc, _+_, _≤_, _<_}
+use Prim.Native.Nat.{ℕ, zero, suc, _+_, _<_}
 use mathlib.Core.Bool.{Bool, true, false, _||_, cond}
 use mathlib.Core.List.{List, [], _∷_, _++_}
 use lib.ListN.{length}
 use Rattle.terms.specs.Numbers.{less}
-use Rattle.terms.specs.Term.{Kind, one, many, Syn, var, Term, Subst, sub, Below}
+use Rattle.terms.specs.Term.{var, Term, sub, Below}
 use Rattle.terms.specs.Bindings.{Bindings, start, Acyclic, BelowB}
 use Rattle.resolution.specs.Rules.{Rule}
 use Rattle.resolution.specs.Search.{Limits, within, words, over, Verdict, refusal, proved, nothing, undecided, prove}

@@ -8,7 +8,7 @@ use native.Mathlib.Omega.{arith}
 use native.Mathlib.Nat.{le-refl}
 use lib.ListN.{length}
 use Rattle.terms.specs.Numbers.{same, same-refl, same-ne, by-same, less, less-yes, less-no, by-less}
-use Rattle.terms.specs.Term.{Kind, one, many, Syn, var, app, nil, cons, Term, Terms, count, Subst, sub, Below}
+use Rattle.terms.specs.Term.{Kind, many, Syn, var, app, nil, cons, Term, Terms, count, sub, Below}
 use Rattle.terms.specs.Bindings.{Bindings, start, bind, Acyclic, BelowB}
 use Rattle.terms.specs.Unification.{Outcome, unfinished, fails, unified, unify}
 use Rattle.terms.specs.TermLaws.{sub-ext, below-le}
@@ -17,7 +17,7 @@ use Rattle.terms.specs.Renaming.{ren, renB, renO, ren-sub, unify-ren}
 use Rattle.resolution.specs.Rules.{Rule, Tree, node, leaf, _◂_}
 use Rattle.resolution.specs.Fresh.{place, fresh, headVars, allVars, head, body}
 use Rattle.resolution.specs.FreshLaws.{head-below}
-use Rattle.resolution.specs.Search.{Limits, unlimited, words, Attempt, exceeded, missed, entered, attempt, Work, goal, build, goals, gather, built, Result, refused, found, failed, after, Search, tries, solve, bounded}
+use Rattle.resolution.specs.Search.{unlimited, words, Attempt, exceeded, missed, entered, attempt, Work, goal, build, goals, gather, built, Result, refused, found, failed, after, Search, tries, solve, bounded}
 use Rattle.resolution.specs.Attempts.{Missed, Entered, Attempted, attempt-ok, tries-missed, tries-entered, tries-exceeded}
 use Rattle.resolution.specs.Soundness.{BelowW, belowW-le, Sound, SoundSearch, solve-sound, entered-below}
 

@@ -1,20 +1,20 @@
 -- Soundness: what a successful search has built is a derivation once the final bindings are put in throughout, under any limits, and the bindings
 -- only add. It is a derivation under every substitution that agrees with the final bindings, so later bindings leave it one.
-use Prim.Native.Nat.{ℕ, zero, suc, _+_, _-_, _≤_, _<_}
+use Prim.Native.Nat.{ℕ, zero, suc, _+_, _≤_}
 use mathlib.Core.Path.{_≡_, refl, ap, ap₂, sym, _∙_, subst}
-use mathlib.Core.Bool.{Bool, true, false, _||_, cond}
-use mathlib.Core.Option.{Option, none, some}
+use mathlib.Core.Bool.{Bool, false, _||_}
+use mathlib.Core.Option.{some}
 use mathlib.Core.List.{List, [], _∷_}
 use native.Mathlib.Omega.{arith}
 use native.Mathlib.Nat.{le-refl}
-use Rattle.terms.specs.Term.{Kind, one, many, Syn, var, app, nil, cons, Term, Terms, count, Subst, sub, compose, Below}
-use Rattle.terms.specs.Bindings.{Bindings, full, Acyclic, Solves, BelowB, Extends, unchanged}
+use Rattle.terms.specs.Term.{one, many, nil, cons, Term, Terms, count, Subst, sub, compose, Below}
+use Rattle.terms.specs.Bindings.{Bindings, Acyclic, Solves, BelowB, Extends, unchanged}
 use Rattle.terms.specs.TermLaws.{sub-sub, below-le, count-sub}
-use Rattle.terms.specs.BindingLaws.{belowB-le, full-solves, extends-trans, extends-solves}
-use Rattle.resolution.specs.Rules.{Rule, rule-at, Tree, node, leaf, _◂_, root, roots, joined, putIn, Instance, Derivation}
+use Rattle.terms.specs.BindingLaws.{belowB-le, extends-trans, extends-solves}
+use Rattle.resolution.specs.Rules.{Rule, rule-at, Tree, node, leaf, _◂_, root, roots, joined, putIn, Derivation}
 use Rattle.resolution.specs.Fresh.{fresh, allVars, head, body}
 use Rattle.resolution.specs.FreshLaws.{head-all}
-use Rattle.resolution.specs.Search.{Limits, Attempt, attempt, missed, entered, Work, goal, build, goals, gather, built, Result, refused, found, failed, Search, tries, solve, bounded}
+use Rattle.resolution.specs.Search.{Limits, attempt, Work, goal, build, goals, gather, built, Result, refused, found, failed, Search, tries, solve, bounded}
 use Rattle.resolution.specs.Attempts.{Missed, Entered, Attempted, attempt-ok, tries-cases}
 
 -- All variables of the goals are below c.

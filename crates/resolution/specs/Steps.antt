@@ -1,17 +1,16 @@
 -- Steps left only fall, and what was cut off stays so. A search that did not exhaust its steps comes to the same with more of them.
-use Prim.Native.Nat.{ℕ, zero, suc, _+_, _-_, _≤_, _<_}
-use mathlib.Core.Path.{_≡_, refl, ap, ap₂, sym, _∙_, subst}
-use mathlib.Core.Bool.{Bool, true, false, _||_, cond}
+use Prim.Native.Nat.{ℕ, zero, suc, _+_, _≤_, _<_}
+use mathlib.Core.Path.{_≡_, refl, ap, _∙_, subst}
+use mathlib.Core.Bool.{Bool, true, false, _||_}
 use mathlib.Core.List.{List, [], _∷_}
 use native.Mathlib.Omega.{arith}
 use native.Mathlib.Nat.{le-refl}
 use Rattle.terms.specs.Numbers.{or-false}
-use Rattle.terms.specs.Term.{Kind, one, many, Term, Terms, count}
+use Rattle.terms.specs.Term.{many, Term}
 use Rattle.terms.specs.Bindings.{Bindings}
 use Rattle.resolution.specs.Rules.{Rule, Tree}
-use Rattle.resolution.specs.Fresh.{body}
-use Rattle.resolution.specs.Search.{Limits, Attempt, attempt, exceeded, missed, entered, Work, goal, build, goals, built, Result, refused, found, failed, after, Search, tries, solve}
-use Rattle.resolution.specs.Attempts.{tries-exceeded, tries-missed, tries-entered, tries-cases}
+use Rattle.resolution.specs.Search.{Limits, Work, goal, build, built, Result, refused, found, failed, after, Search, tries, solve}
+use Rattle.resolution.specs.Attempts.{tries-missed, tries-entered, tries-cases}
 
 abbrev pub Falls : ℕ → Bool → Result → Type 0
 Falls b cut refused = Unit {0}

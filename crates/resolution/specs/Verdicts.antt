@@ -1,17 +1,16 @@
 -- What a verdict says: of derivation trees, and in Lloyd's terms.
-use Prim.Native.Nat.{ℕ, zero, suc, _+_, _-_, _≤_, _<_}
-use mathlib.Core.Path.{_≡_, refl, ap, ap₂, sym, _∙_, subst}
-use mathlib.Core.Bool.{Bool, true, false}
+use Prim.Native.Nat.{ℕ, zero, suc, _-_, _≤_}
+use mathlib.Core.Path.{_≡_, refl, sym, _∙_, subst}
+use mathlib.Core.Bool.{true, false}
 use mathlib.Core.List.{List, [], _∷_}
 use native.Mathlib.Omega.{arith}
-use native.Mathlib.Nat.{le-refl}
-use Rattle.terms.specs.Term.{Kind, one, many, Syn, Term, Terms, nil, cons, Subst, sub, Below}
+use Rattle.terms.specs.Term.{one, many, Term, nil, cons, Subst, sub, Below}
 use Rattle.terms.specs.Bindings.{Bindings, full, res, Acyclic, Solves, BelowB, Extends}
 use Rattle.terms.specs.TermLaws.{below-le}
-use Rattle.terms.specs.BindingLaws.{belowB-le, full-solves, solves-res, extends-solves}
-use Rattle.resolution.specs.Rules.{Rule, Tree, node, leaf, _◂_, root, roots, putIn, Derivation, Derivable}
-use Rattle.resolution.specs.Search.{Limits, Work, goal, Result, refused, found, failed, solve, bounded, Verdict, refusal, proved, nothing, undecided, settle, deepen}
-use Rattle.resolution.specs.Soundness.{Found, Sound, Does, soundness, root-putIn}
+use Rattle.terms.specs.BindingLaws.{belowB-le, full-solves}
+use Rattle.resolution.specs.Rules.{Rule, Tree, leaf, _◂_, root, putIn, Derivation, Derivable}
+use Rattle.resolution.specs.Search.{Limits, goal, Result, refused, found, failed, bounded, Verdict, refusal, proved, nothing, undecided, settle, deepen}
+use Rattle.resolution.specs.Soundness.{Found, Sound, soundness}
 use Rattle.resolution.specs.Lloyd.{FinitelyFailed}
 use Rattle.resolution.specs.Answers.{Refuted, Reaches, success-refutes}
 use Rattle.resolution.specs.Failure.{none-fails, completeness}

@@ -1,14 +1,14 @@
 -- Laws of triangular bindings: what it means to put them in, how a walk goes, where it ends, and how many variables are unbound.
 use Prim.Native.Nat.{ℕ, zero, suc, _+_, _≤_, _<_}
-use mathlib.Core.Path.{_≡_, refl, ap, ap₂, sym, _∙_, subst}
-use mathlib.Core.Bool.{Bool, true, false, _||_, cond}
+use mathlib.Core.Path.{_≡_, refl, ap, sym, _∙_, subst}
+use mathlib.Core.Bool.{true, false}
 use mathlib.Core.Option.{Option, none, some}
 use mathlib.Core.Logic.{_≢_}
 use native.Mathlib.Omega.{arith}
-use Rattle.terms.specs.Numbers.{same, same-refl, same-ne, by-same, by-bool, true-false, some-none}
-use Rattle.terms.specs.Term.{Kind, one, many, Syn, var, app, nil, cons, Term, Terms, Subst, sub, compose, upd, mem, size, Below}
-use Rattle.terms.specs.Bindings.{Bindings, start, bind, lookup, into, walk, full, res, occurs, Acyclic, Solves, BelowB, Extends, unchanged, added}
-use Rattle.terms.specs.TermLaws.{sub-sub, sub-ext, sub-mem, sub-single, sub-agree, below-sub, below-le, mem-through, mem-var, var-app}
+use Rattle.terms.specs.Numbers.{same-refl, same-ne, by-same, true-false, some-none}
+use Rattle.terms.specs.Term.{Kind, Syn, var, app, Term, Terms, Subst, sub, compose, upd, mem, Below}
+use Rattle.terms.specs.Bindings.{Bindings, start, bind, lookup, into, walk, full, res, Acyclic, Solves, BelowB, Extends, unchanged, added}
+use Rattle.terms.specs.TermLaws.{sub-sub, sub-ext, sub-single, sub-agree, below-sub, below-le, mem-through, mem-var, var-app}
 
 -- The bindings put in throughout
 

@@ -1,11 +1,11 @@
 -- Triangular bindings (the Rust's `binding` with its `trail`): the raw terms that unification stores, newest first. To undo is to go back to an
 -- older list. `walk`, the bindings put in throughout and acyclicity are by recursion on the list.
-use Prim.Native.Nat.{ℕ, zero, suc, _+_, _≤_, _<_}
+use Prim.Native.Nat.{ℕ, _<_}
 use mathlib.Core.Path.{_≡_}
-use mathlib.Core.Bool.{Bool, true, false, cond}
+use mathlib.Core.Bool.{Bool, false, cond}
 use mathlib.Core.Option.{Option, none, some}
 use Rattle.terms.specs.Numbers.{same}
-use Rattle.terms.specs.Term.{Kind, one, many, Syn, var, app, nil, cons, Term, Terms, Subst, sub, mem, upd, Below}
+use Rattle.terms.specs.Term.{Kind, Syn, var, app, Term, Subst, sub, mem, upd, Below}
 
 -- No binding; a variable bound to a term, after older bindings.
 pub data Bindings : Type 0 where

@@ -1,9 +1,8 @@
 -- Unification by computing: the Rust's order, the raw terms that it stores, and the occurs check, also through bindings.
-use Prim.Native.Nat.{ℕ, zero, suc}
 use mathlib.Core.Path.{_≡_, refl}
 use mathlib.Core.List.{List, [], _∷_}
 use Rattle.terms.specs.Numbers.{same}
-use Rattle.terms.specs.Term.{Kind, one, many, Syn, var, app, nil, cons, Term, mem}
+use Rattle.terms.specs.Term.{var, app, nil, cons, Term, mem}
 use Rattle.terms.specs.Bindings.{Bindings, start, bind}
 use Rattle.terms.specs.Unification.{Outcome, fails, unified, unify}
 

@@ -1,15 +1,15 @@
 -- What loops over stored terms need of `walk`, `occurs` and `unify`: the Rust's recursion equations, with no bound on steps, and numbers that fall.
-use Prim.Native.Nat.{ℕ, zero, suc, _+_, _-_, _≤_, _<_}
-use mathlib.Core.Path.{_≡_, refl, ap, ap₂, sym, _∙_, subst}
-use mathlib.Core.Bool.{Bool, true, false, _||_, cond}
-use mathlib.Core.Option.{Option, none, some}
+use Prim.Native.Nat.{ℕ, zero, suc, _+_, _≤_, _<_}
+use mathlib.Core.Path.{_≡_, refl, ap, sym, _∙_, subst}
+use mathlib.Core.Bool.{false, _||_, cond}
+use mathlib.Core.Option.{none, some}
 use mathlib.Core.List.{List, [], _∷_}
 use mathlib.Core.Logic.{_≢_}
 use native.Mathlib.Omega.{arith}
 use Rattle.terms.specs.Numbers.{same, by-same, some-none}
-use Rattle.terms.specs.Term.{Kind, one, many, Syn, var, app, nil, cons, Term, Terms, mem, size}
-use Rattle.terms.specs.Bindings.{Bindings, start, bind, lookup, walk, full, res, occurs, Acyclic, BelowB}
-use Rattle.terms.specs.Unification.{Eqn, eqn, eqns, Step, stop, keep, join, step, Outcome, unfinished, fails, unified, sizes, work, unifies, BelowE}
+use Rattle.terms.specs.Term.{var, app, nil, cons, Term, Terms, mem, size}
+use Rattle.terms.specs.Bindings.{Bindings, start, bind, lookup, walk, res, occurs, Acyclic, BelowB}
+use Rattle.terms.specs.Unification.{Eqn, Step, stop, keep, join, step, Outcome, unfinished, fails, sizes, work, unifies, BelowE}
 use Rattle.terms.specs.BindingLaws.{full-unbound, res-walk, walk-unbound, walk-bound, walk-ends, walk-not-back, unbound, unbound-le, unbound-bind}
 use Rattle.terms.specs.UnificationLaws.{Stepped, step-ok, Over, unifies-over, sizes-pos}
 

@@ -1,15 +1,15 @@
 -- Acyclicity does not depend on the order in which bindings are listed. As a graph, the bindings have an edge from a bound variable to each variable
 -- of its term; the graph is acyclic if the variables can be ranked so that ranks fall along the edges. A list is acyclic exactly if each variable is
 -- bound once and the graph is acyclic.
-use Prim.Native.Nat.{ℕ, zero, suc, _+_, _≤_, _<_}
-use mathlib.Core.Path.{_≡_, refl, ap, ap₂, sym, _∙_, subst}
-use mathlib.Core.Bool.{Bool, true, false, _||_, cond}
-use mathlib.Core.Option.{Option, none, some}
+use Prim.Native.Nat.{ℕ, suc, _+_, _≤_, _<_}
+use mathlib.Core.Path.{_≡_, refl, ap, sym}
+use mathlib.Core.Bool.{true, false, cond}
+use mathlib.Core.Option.{none, some}
 use native.Mathlib.Omega.{arith}
 use native.Mathlib.Nat.{le-refl}
-use Rattle.terms.specs.Numbers.{same, same-refl, same-true, same-ne, by-same, by-bool, true-false, some-none}
-use Rattle.terms.specs.Term.{Kind, one, many, Syn, var, app, nil, cons, Term, Terms, Subst, sub, upd, mem}
-use Rattle.terms.specs.Bindings.{Bindings, start, bind, lookup, full, res, occurs, Acyclic, Solves}
+use Rattle.terms.specs.Numbers.{same-refl, same-true, by-same, by-bool, true-false, some-none}
+use Rattle.terms.specs.Term.{Kind, Syn, var, app, nil, cons, Term, upd, mem}
+use Rattle.terms.specs.Bindings.{Bindings, start, bind, lookup, full, res, occurs, Acyclic}
 use Rattle.terms.specs.TermLaws.{mem-through, through-mem, mem-var}
 use Rattle.terms.specs.BindingLaws.{full-unbound, full-solves, solves-lookup}
 

@@ -1,11 +1,10 @@
 -- Unification does not depend on how variables are numbered: it commutes with every injective renaming.
-use Prim.Native.Nat.{ℕ, zero, suc, _+_, _≤_, _<_}
+use Prim.Native.Nat.{ℕ, zero, suc, _+_, _≤_}
 use mathlib.Core.Path.{_≡_, refl, ap, ap₂, sym, _∙_, subst}
 use mathlib.Core.Bool.{Bool, true, false, _||_, cond}
 use mathlib.Core.List.{List, [], _∷_}
-use native.Mathlib.Omega.{arith}
 use Rattle.terms.specs.Numbers.{same, by-bool}
-use Rattle.terms.specs.Term.{Kind, one, many, Syn, var, app, nil, cons, Term, Terms, Subst, sub, upd, mem, size, Below}
+use Rattle.terms.specs.Term.{Kind, Syn, var, app, nil, cons, Term, Subst, sub, upd, mem, size, Below}
 use Rattle.terms.specs.Bindings.{Bindings, start, bind, into, walk, full, res, occurs, Acyclic, BelowB}
 use Rattle.terms.specs.Unification.{Eqn, eqn, eqns, Step, stop, keep, join, step, meet, Outcome, unfinished, fails, unified, sizes, work, unifies, unify}
 use Rattle.terms.specs.BindingLaws.{unbound-le}

@@ -1,11 +1,11 @@
 -- Robinson's theorem for `unify`: success gives acyclic bindings that only add and that are a most general unifier over the starting bindings;
 -- failure means that no substitution that agrees with the starting bindings unifies the terms.
-use Prim.Native.Nat.{ℕ, zero, suc, _+_, _≤_, _<_}
-use mathlib.Core.Path.{_≡_, refl, ap, sym, _∙_}
-use mathlib.Core.List.{List, [], _∷_}
-use Rattle.terms.specs.Term.{Kind, one, many, Syn, var, Term, Terms, Subst, sub, Below}
-use Rattle.terms.specs.Bindings.{Bindings, start, bind, full, Acyclic, Solves, BelowB, Extends}
-use Rattle.terms.specs.Unification.{Unifier, MostGeneral, Eqn, eqn, Outcome, unfinished, fails, unified, unify}
+use Prim.Native.Nat.{ℕ}
+use mathlib.Core.Path.{sym}
+use mathlib.Core.List.{[], _∷_}
+use Rattle.terms.specs.Term.{Term, Subst, Below}
+use Rattle.terms.specs.Bindings.{Bindings, full, Acyclic, BelowB}
+use Rattle.terms.specs.Unification.{Unifier, MostGeneral, eqn, Outcome, unfinished, fails, unified, unify}
 use Rattle.terms.specs.BindingLaws.{full-solves, solves-full, unbound-le}
 use Rattle.terms.specs.UnificationLaws.{Mgu, Answers, Over, unifies-ok, unifies-over}
 

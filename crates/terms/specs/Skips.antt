@@ -1,16 +1,16 @@
 -- Unifying terms that are equal under the bindings binds nothing, so a machine that skips such pairs makes the very same bindings.
-use Prim.Native.Nat.{ℕ, zero, suc, _+_, _-_, _≤_, _<_}
-use mathlib.Core.Path.{_≡_, refl, ap, ap₂, sym, _∙_, subst}
-use mathlib.Core.Bool.{Bool, true, false, cond}
+use Prim.Native.Nat.{ℕ, zero, suc, _≤_}
+use mathlib.Core.Path.{_≡_, refl, ap, sym, _∙_, subst}
+use mathlib.Core.Bool.{true}
 use mathlib.Core.List.{List, [], _∷_}
 use native.Mathlib.Omega.{arith}
 use native.Mathlib.Nat.{le-refl}
 use Rattle.terms.specs.Numbers.{same, same-refl}
-use Rattle.terms.specs.Term.{Kind, one, many, Syn, var, app, nil, cons, Term, Terms, size, Below}
+use Rattle.terms.specs.Term.{var, app, nil, cons, Term, Terms, size, Below}
 use Rattle.terms.specs.Bindings.{Bindings, Acyclic, BelowB, full, res, walk}
-use Rattle.terms.specs.Unification.{Eqn, eqn, eqns, Step, stop, keep, join, step, meet, Outcome, unified, unifies, unify, BelowE}
+use Rattle.terms.specs.Unification.{Eqn, eqn, eqns, meet, unified, unifies, unify, BelowE}
 use Rattle.terms.specs.TermLaws.{var-app, var-inj, nil-cons, app-inj, cons-inj, size-pos}
-use Rattle.terms.specs.BindingLaws.{full-unbound, res-walk, walk-ends, unbound-le}
+use Rattle.terms.specs.BindingLaws.{full-unbound, res-walk, walk-ends}
 use Rattle.terms.specs.UnificationLaws.{Stepped, step-ok, Kept}
 use Rattle.terms.specs.Loops.{Next, unify-next}
 

@@ -1,12 +1,11 @@
 -- Laws of terms and substitutions: composition, agreement, occurrence, size, and bounds on variables.
-use Prim.Native.Nat.{ℕ, zero, suc, _+_, _≤_, _<_}
-use mathlib.Core.Path.{_≡_, refl, ap, ap₂, sym, _∙_, subst}
-use mathlib.Core.Bool.{Bool, true, false, _||_, cond}
-use mathlib.Core.Logic.{_≢_}
+use Prim.Native.Nat.{ℕ, suc, _≤_, _<_}
+use mathlib.Core.Path.{_≡_, refl, ap, ap₂, _∙_, subst}
+use mathlib.Core.Bool.{true, false}
 use native.Mathlib.Omega.{arith}
 use native.Mathlib.Nat.{le-refl}
-use Rattle.terms.specs.Numbers.{same, same-refl, same-true, same-sym, same-ne, by-same, by-bool, true-false, or-false, or-left, or-right}
-use Rattle.terms.specs.Term.{Kind, one, many, Syn, var, app, nil, cons, Term, Terms, count, append, Subst, sub, compose, upd, mem, size, Below, From}
+use Rattle.terms.specs.Numbers.{same-refl, same-true, same-ne, by-bool, true-false, or-left, or-right}
+use Rattle.terms.specs.Term.{Kind, Syn, var, app, nil, cons, Term, Terms, count, append, Subst, sub, compose, upd, mem, size, Below, From}
 
 -- Constructors
 

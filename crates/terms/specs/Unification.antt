@@ -1,12 +1,12 @@
 -- Unification (Robinson 1965) and the Rust's `unify`: equations worked off from the left, a variable bound to the raw walked term, with the
 -- occurs check.
-use Prim.Native.Nat.{ℕ, zero, suc, _+_, _≤_, _<_}
+use Prim.Native.Nat.{ℕ, zero, suc, _+_}
 use mathlib.Core.Path.{_≡_}
-use mathlib.Core.Bool.{Bool, true, false, cond}
+use mathlib.Core.Bool.{cond}
 use mathlib.Core.List.{List, [], _∷_}
 use Rattle.terms.specs.Numbers.{same}
-use Rattle.terms.specs.Term.{Kind, one, many, Syn, var, app, nil, cons, Term, Terms, Subst, sub, size, Below}
-use Rattle.terms.specs.Bindings.{Bindings, start, bind, res, walk, occurs, Solves}
+use Rattle.terms.specs.Term.{var, app, nil, cons, Term, Terms, Subst, sub, size, Below}
+use Rattle.terms.specs.Bindings.{Bindings, bind, res, walk, occurs, Solves}
 
 -- Robinson's notions, for two terms under bindings. Under no bindings they are Robinson's own.
 

@@ -1,13 +1,12 @@
 -- What one step of unification does to the solutions of the equations, and why the steps come to an end.
-use Prim.Native.Nat.{ℕ, zero, suc, _+_, _≤_, _<_}
-use mathlib.Core.Path.{_≡_, refl, ap, ap₂, sym, _∙_, subst}
-use mathlib.Core.Bool.{Bool, true, false, cond}
-use mathlib.Core.Option.{Option, none, some}
+use Prim.Native.Nat.{ℕ, zero, suc, _≤_, _<_}
+use mathlib.Core.Path.{_≡_, refl, ap, ap₂, sym, _∙_}
+use mathlib.Core.Bool.{true}
 use mathlib.Core.List.{List, [], _∷_}
 use native.Mathlib.Omega.{arith}
-use Rattle.terms.specs.Numbers.{same, by-same, by-bool}
-use Rattle.terms.specs.Term.{Kind, one, many, Syn, var, app, nil, cons, Term, Terms, Subst, sub, mem, size, Below}
-use Rattle.terms.specs.Bindings.{Bindings, start, bind, lookup, walk, full, res, occurs, Acyclic, Solves, BelowB, Extends, unchanged, added}
+use Rattle.terms.specs.Numbers.{by-same, by-bool}
+use Rattle.terms.specs.Term.{var, app, nil, cons, Term, Terms, Subst, sub, mem, size, Below}
+use Rattle.terms.specs.Bindings.{Bindings, bind, walk, res, occurs, Acyclic, Solves, BelowB, Extends, unchanged, added}
 use Rattle.terms.specs.Unification.{Eqn, eqn, eqns, Step, stop, keep, join, meet, step, Outcome, unfinished, fails, unified, sizes, work, unifies, SolvesE, BelowE}
 use Rattle.terms.specs.TermLaws.{app-inj, cons-inj, nil-cons, size-mem}
 use Rattle.terms.specs.BindingLaws.{full-unbound, solves-res, solves-walk, res-walk, walk-ends, below-walk, extends-trans, unbound, unbound-bind}
