@@ -19,7 +19,7 @@ pub mod Bounds
 pub mod Verdicts
 pub mod Repeats
 -- Demand 3:
-pub mod Goals
+pub mod Demand3
 -- What code needs:
 pub mod Machine
 pub mod Preorder
