@@ -1,4 +1,4 @@
--- SLD resolution as in Lloyd, Foundations of Logic Programming, sections 4, 7 and 15, with the leftmost atom selected: variants, resolvents, SLD
+-- SLD resolution as in Lloyd, Foundations of Logic Programming, chapters 1 to 3, with the leftmost atom selected: variants, resolvents, SLD
 -- derivations, refutations, computed answers and finite failure. The number c is above all variables used so far, so that a variant whose variables
 -- are c or above is standardised apart.
 use Prim.Native.Nat.{ℕ, zero, suc, _≤_, _<_}
