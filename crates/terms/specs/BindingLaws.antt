@@ -5,7 +5,7 @@ use mathlib.Core.Bool.{true, false}
 use mathlib.Core.Option.{Option, none, some}
 use mathlib.Core.Logic.{_≢_}
 use native.Mathlib.Omega.{arith}
-use Rattle.terms.specs.Numbers.{same-refl, same-ne, by-same, true-false, some-none}
+use Rattle.terms.specs.Numbers.{same-refl, same-ne, by-same, true-false, some-none, none-some}
 use Rattle.terms.specs.Term.{Kind, Syn, var, app, Term, Terms, Subst, sub, compose, upd, mem, Below}
 use Rattle.terms.specs.Bindings.{Bindings, start, bind, lookup, into, walk, full, res, Acyclic, Solves, BelowB, Extends, unchanged, added}
 use Rattle.terms.specs.TermLaws.{sub-sub, sub-ext, sub-single, sub-agree, below-sub, below-le, mem-through, mem-var, var-app}
@@ -48,7 +48,7 @@ full-solves (bind x t β) h = (
 )
 
 pub solves-lookup : (σ : Subst) (β : Bindings) → Solves σ β → (y : ℕ) (t : Term) → lookup β y ≡ some t → σ y ≡ sub σ t
-solves-lookup σ start s y t e = some-none {a = t} (sym (sym e)) refl
+solves-lookup σ start s y t e = none-some e
 solves-lookup σ (bind x u β) s y t e = by-same y x
     (λ p q. let e′ : some u ≡ some t = rw q at e in let ut : u ≡ t = cc in ap σ p ∙ s .0 ∙ ap (sub σ) ut)
     (λ p q. solves-lookup σ β (s .1) y t (rw q at e))
@@ -111,7 +111,7 @@ into-idle x u (app f ts) h = refl
 
 -- A bound variable's walk goes on with the term that it is bound to.
 pub walk-bound : (β : Bindings) → Acyclic β → (y : ℕ) (t : Term) → lookup β y ≡ some t → walk β (var y) ≡ walk β t
-walk-bound start h y t e = some-none {a = t} (sym (sym e)) refl
+walk-bound start h y t e = none-some e
 walk-bound (bind x u β) h y t e = by-same y x
     (λ p q. let e′ : some u ≡ some t = rw q at e in
     let ut : u ≡ t = cc in

@@ -6,10 +6,10 @@ use mathlib.Core.Option.{none, some}
 use mathlib.Core.List.{List, [], _∷_}
 use mathlib.Core.Logic.{_≢_}
 use native.Mathlib.Omega.{arith}
-use Rattle.terms.specs.Numbers.{same, by-same, some-none}
+use Rattle.terms.specs.Numbers.{same, by-same, some-none, none-some}
 use Rattle.terms.specs.Term.{var, app, nil, cons, Term, Terms, mem, size}
 use Rattle.terms.specs.Bindings.{Bindings, start, bind, lookup, walk, res, occurs, Acyclic, BelowB}
-use Rattle.terms.specs.Unification.{Eqn, Step, stop, keep, join, step, Outcome, unfinished, fails, sizes, work, unifies, BelowE}
+use Rattle.terms.specs.Unification.{Eqn, Step, stop, keep, join, step, Outcome, unfinished, fails, sizes, proceed, work, unifies, BelowE}
 use Rattle.terms.specs.BindingLaws.{full-unbound, res-walk, walk-unbound, walk-bound, walk-ends, walk-not-back, unbound, unbound-le, unbound-bind}
 use Rattle.terms.specs.UnificationLaws.{Stepped, step-ok, Over, unifies-over, sizes-pos}
 
@@ -50,7 +50,7 @@ hits-no x n (var y) h = by-same y x (λ p q. absurd (h (ap var p))) (λ p q. rw 
 hits-no x n (app f ts) h = refl
 
 pub hops-bound : (β : Bindings) → Acyclic β → (y : ℕ) (t : Term) → lookup β y ≡ some t → hops β (var y) ≡ suc (hops β t)
-hops-bound start h y t e = some-none {a = t} (sym (sym e)) refl
+hops-bound start h y t e = none-some e
 hops-bound (bind x u β) h y t e = by-same y x
     (λ p q. let e′ : some u ≡ some t = rw q at e in
     let ut : u ≡ t = cc in
@@ -69,9 +69,9 @@ work-same again again′ h (suc n) β [] o = refl
 work-same again again′ h (suc n) β (e ∷ es) o = go (step β e es) (work-same again again′ h n β) o
   where
     go : (s : Step) → ((es : List Eqn) → Over (work again n β es) → work again′ n β es ≡ work again n β es)
-        → Over (elim s as (λ _. Outcome) [ stop ↦ fails | keep es′ ↦ work again n β es′ | join x t es′ ↦ again (bind x t β) es′ ])
-        → _≡_ {A = Outcome} (elim s as (λ _. Outcome) [ stop ↦ fails | keep es′ ↦ work again′ n β es′ | join x t es′ ↦ again′ (bind x t β) es′ ])
-        (elim s as (λ _. Outcome) [ stop ↦ fails | keep es′ ↦ work again n β es′ | join x t es′ ↦ again (bind x t β) es′ ])
+        → Over (proceed s (work again n β) (λ x t es′. again (bind x t β) es′))
+        → proceed s (work again′ n β) (λ x t es′. again′ (bind x t β) es′)
+        ≡ proceed s (work again n β) (λ x t es′. again (bind x t β) es′)
     go stop ih o = refl
     go (keep es′) ih o = ih es′ o
     go (join x t es′) ih o = h (bind x t β) es′ o
@@ -92,9 +92,9 @@ work-more again (suc n) (suc n′) β [] l o = refl
 work-more again (suc n) (suc n′) β (e ∷ es) l o = go (step β e es) (work-more again n n′ β) o
   where
     go : (s : Step) → ((es : List Eqn) → n ≤ n′ → Over (work again n β es) → work again n′ β es ≡ work again n β es)
-        → Over (elim s as (λ _. Outcome) [ stop ↦ fails | keep es′ ↦ work again n β es′ | join x t es′ ↦ again (bind x t β) es′ ])
-        → _≡_ {A = Outcome} (elim s as (λ _. Outcome) [ stop ↦ fails | keep es′ ↦ work again n′ β es′ | join x t es′ ↦ again (bind x t β) es′ ])
-        (elim s as (λ _. Outcome) [ stop ↦ fails | keep es′ ↦ work again n β es′ | join x t es′ ↦ again (bind x t β) es′ ])
+        → Over (proceed s (work again n β) (λ x t es′. again (bind x t β) es′))
+        → proceed s (work again n′ β) (λ x t es′. again (bind x t β) es′)
+        ≡ proceed s (work again n β) (λ x t es′. again (bind x t β) es′)
     go stop ih o = refl
     go (keep es′) ih o = ih es′ (omega arith) o
     go (join x t es′) ih o = refl
@@ -121,7 +121,7 @@ pub unify-next : (c : ℕ) (β : Bindings) (e : Eqn) (es : List Eqn) → Acyclic
 unify-next c β e es ac bb be = start-at (sizes β (e ∷ es)) refl (step β e es) refl (step-ok c β ac bb e es be)
   where
     run : ℕ → Step → Outcome
-    run m s = elim s as (λ _. Outcome) [ stop ↦ fails | keep es′ ↦ work (again c) m β es′ | join x t es′ ↦ again c (bind x t β) es′ ]
+    run m s = proceed s (work (again c) m β) (λ x t es′. again c (bind x t β) es′)
 
     begun : (m : ℕ) → sizes β (e ∷ es) ≡ suc m → unifies c β (e ∷ es) ≡ run m (step β e es)
     begun m q = unifies-again c β (e ∷ es) ∙ ap (λ n. work (again c) n β (e ∷ es)) q

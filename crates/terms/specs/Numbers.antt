@@ -28,6 +28,9 @@ true-false p q = absurd (subst T (sym p ∙ q) tt)
 pub some-none {ℓ κ} : {A : Type ℓ} {P : Type κ} {a : A} {o : Option A} → o ≡ some a → o ≡ none → P
 some-none p q = absurd (let w : _≡_ {A = ℕ} 0 1 = cc in omega arith)
 
+pub none-some {ℓ κ} : {A : Type ℓ} {P : Type κ} {a : A} → none ≡ some a → P
+none-some e = some-none e refl
+
 pub same-refl : (x : ℕ) → same x x ≡ true
 unfolding same
 same-refl x = go (eqb x x) (eqb-refl x)

@@ -7,7 +7,7 @@ use mathlib.Core.Bool.{true, false, cond}
 use mathlib.Core.Option.{none, some}
 use native.Mathlib.Omega.{arith}
 use native.Mathlib.Nat.{le-refl}
-use Rattle.terms.specs.Numbers.{same-refl, same-true, by-same, by-bool, true-false, some-none}
+use Rattle.terms.specs.Numbers.{same-refl, same-true, by-same, by-bool, true-false, some-none, none-some}
 use Rattle.terms.specs.Term.{Kind, Syn, var, app, nil, cons, Term, upd, mem}
 use Rattle.terms.specs.Bindings.{Bindings, start, bind, lookup, full, res, occurs, Acyclic}
 use Rattle.terms.specs.TermLaws.{mem-through, through-mem, mem-var}
@@ -88,7 +88,7 @@ rank (bind x t β) z = rank β z + cond (mem x (full β z)) (suc (sum (rank β) 
 
 pub acyclic-ranked : (β : Bindings) → Acyclic β → Ranked (rank β) β
 unfolding mem
-acyclic-ranked start h v u y e m = some-none {a = u} (sym (sym e)) refl
+acyclic-ranked start h v u y e m = none-some e
 acyclic-ranked (bind x t β) h v u y e m = by-same v x
     (λ p q. let e′ : some t ≡ some u = rw q at e in
     let ut : t ≡ u = cc in

@@ -6,7 +6,7 @@ use mathlib.Core.List.{List, [], _∷_}
 use Rattle.terms.specs.Numbers.{same, by-bool}
 use Rattle.terms.specs.Term.{Kind, Syn, var, app, nil, cons, Term, Subst, sub, upd, mem, size, Below}
 use Rattle.terms.specs.Bindings.{Bindings, start, bind, into, walk, full, res, occurs, Acyclic, BelowB}
-use Rattle.terms.specs.Unification.{Eqn, eqn, eqns, Step, stop, keep, join, step, meet, Outcome, unfinished, fails, unified, sizes, work, unifies, unify}
+use Rattle.terms.specs.Unification.{Eqn, eqn, eqns, Step, stop, keep, join, step, meet, Outcome, unfinished, fails, unified, sizes, proceed, work, unifies, unify}
 use Rattle.terms.specs.BindingLaws.{unbound-le}
 use Rattle.terms.specs.UnificationLaws.{Over, unifies-over}
 use Rattle.terms.specs.Loops.{unifies-same}
@@ -110,11 +110,11 @@ module _ (ρ : ℕ → ℕ) (inj : (x y : ℕ) → same (ρ x) (ρ y) ≡ same x
   work-ren again again′ h zero β (e ∷ es) = refl
   work-ren again again′ h (suc n) β [] = refl
   work-ren again again′ h (suc n) β (e ∷ es) =
-      ap (λ (s : Step). elim s as (λ _. Outcome) [ stop ↦ fails | keep es′ ↦ work again′ n (renB ρ β) es′ | join x t es′ ↦ again′ (bind x t (renB ρ β)) es′ ]) (step-ren β e es) ∙ go (step β e es) (work-ren again again′ h n β)
+      ap (λ (s : Step). proceed s (work again′ n (renB ρ β)) (λ x t es′. again′ (bind x t (renB ρ β)) es′)) (step-ren β e es) ∙ go (step β e es) (work-ren again again′ h n β)
     where
       go : (s : Step) → ((es : List Eqn) → work again′ n (renB ρ β) (renE ρ es) ≡ renO ρ (work again n β es))
-          → elim (renS ρ s) as (λ _. Outcome) [ stop ↦ fails | keep es′ ↦ work again′ n (renB ρ β) es′ | join x t es′ ↦ again′ (bind x t (renB ρ β)) es′ ]
-          ≡ renO ρ (elim s as (λ _. Outcome) [ stop ↦ fails | keep es′ ↦ work again n β es′ | join x t es′ ↦ again (bind x t β) es′ ])
+          → proceed (renS ρ s) (work again′ n (renB ρ β)) (λ x t es′. again′ (bind x t (renB ρ β)) es′)
+          ≡ renO ρ (proceed s (work again n β) (λ x t es′. again (bind x t β) es′))
       go stop ih = refl
       go (keep es′) ih = ih es′
       go (join x t es′) ih = h (bind x t β) es′

@@ -56,12 +56,18 @@ sizes β [] = 0
 sizes β (eqn a b ∷ es) = suc (size (res β a) + size (res β b) + sizes β es)
 sizes β (eqns a b ∷ es) = suc (size (res β a) + size (res β b) + sizes β es)
 
+-- On from a step: it failed; other equations; a variable to bind, and then other equations.
+abbrev pub proceed : Step → (List Eqn → Outcome) → (ℕ → Term → List Eqn → Outcome) → Outcome
+proceed stop kept joined = fails
+proceed (keep es) kept joined = kept es
+proceed (join x t es) kept joined = joined x t es
+
 -- At most n steps until something is bound, and then `again`.
 abbrev pub work : (Bindings → List Eqn → Outcome) → ℕ → Bindings → List Eqn → Outcome
 work again zero β [] = unified β
 work again zero β (e ∷ es) = unfinished
 work again (suc n) β [] = unified β
-work again (suc n) β (e ∷ es) = elim (step β e es) [ stop ↦ fails | keep es′ ↦ work again n β es′ | join x t es′ ↦ again (bind x t β) es′ ]
+work again (suc n) β (e ∷ es) = proceed (step β e es) (work again n β) (λ x t es′. again (bind x t β) es′)
 
 -- All equations, with at most k variables bound.
 abbrev pub unifies : ℕ → Bindings → List Eqn → Outcome

@@ -7,7 +7,7 @@ use native.Mathlib.Omega.{arith}
 use Rattle.terms.specs.Numbers.{by-same, by-bool}
 use Rattle.terms.specs.Term.{var, app, nil, cons, Term, Terms, Subst, sub, mem, size, Below}
 use Rattle.terms.specs.Bindings.{Bindings, bind, walk, res, occurs, Acyclic, Solves, BelowB, Extends, unchanged, added}
-use Rattle.terms.specs.Unification.{Eqn, eqn, eqns, Step, stop, keep, join, meet, step, Outcome, unfinished, fails, unified, sizes, work, unifies, SolvesE, BelowE}
+use Rattle.terms.specs.Unification.{Eqn, eqn, eqns, Step, stop, keep, join, meet, step, Outcome, unfinished, fails, unified, sizes, proceed, work, unifies, SolvesE, BelowE}
 use Rattle.terms.specs.TermLaws.{app-inj, cons-inj, nil-cons, size-mem}
 use Rattle.terms.specs.BindingLaws.{full-unbound, solves-res, solves-walk, res-walk, walk-ends, below-walk, extends-trans, unbound, unbound-bind}
 
@@ -153,7 +153,7 @@ work-ok c again g (suc n) β [] ac bb be = done-ok c β ac bb
 work-ok c again g (suc n) β (e ∷ es) ac bb be = go (step β e es) (step-ok c β ac bb e es be) (work-ok c again g n)
   where
     go : (r : Step) → Stepped c β (e ∷ es) r → Good c (work again n)
-        → Answers c β (e ∷ es) (elim r [ stop ↦ fails | keep es′ ↦ work again n β es′ | join x t es′ ↦ again (bind x t β) es′ ])
+        → Answers c β (e ∷ es) (proceed r (work again n β) (λ x t es′. again (bind x t β) es′))
     go stop k ih = k
     go (keep es′) k ih = kept-ok c β (e ∷ es) es′ (work again n β es′) k (ih β es′ ac bb (k .below))
     go (join x t es′) k ih = joined-ok c β (e ∷ es) es′ x t (again (bind x t β) es′) k (g (bind x t β) es′ (k .acyclic) (k .below .1, k .below .0, bb) (k .below .2))
@@ -182,7 +182,7 @@ work-over c again (suc n) β [] ac bb be h f = tt
 work-over c again (suc n) β (e ∷ es) ac bb be h f = go (step β e es) (step-ok c β ac bb e es be) (work-over c again n β)
   where
     go : (r : Step) → Stepped c β (e ∷ es) r → ((es : List Eqn) → Acyclic β → BelowB c β → BelowE c es → sizes β es ≤ n → Fewer c β again → Over (work again n β es))
-        → Over (elim r [ stop ↦ fails | keep es′ ↦ work again n β es′ | join x t es′ ↦ again (bind x t β) es′ ])
+        → Over (proceed r (work again n β) (λ x t es′. again (bind x t β) es′))
     go stop k ih = tt
     go (keep es′) k ih = ih es′ ac bb (k .below) (omega arith) f
     go (join x t es′) k ih = f (bind x t β) es′ (k .acyclic) (k .below .1, k .below .0, bb) (k .below .2)
