@@ -14,7 +14,7 @@ use Rattle.terms.specs.Robinson.{Unified, unify-ok}
 use Rattle.resolution.specs.Rules.{Rule, Tree}
 use Rattle.resolution.specs.Fresh.{headVars, allVars, head, body}
 use Rattle.resolution.specs.FreshLaws.{head-below, body-below, vars-le}
-use Rattle.resolution.specs.Search.{Limits, words, over, Attempt, exceeded, missed, entered, attempt, Work, build, goals, Result, refused, found, failed, after, Search, tries}
+use Rattle.resolution.specs.Search.{Limits, words, over, Attempt, exceeded, missed, entered, attempt, guard, unifying, Work, build, goals, Result, refused, found, failed, after, Search, tries}
 
 -- The conclusion did not unify: it has no unifier with the goal over the bindings.
 pub record Missed (c : ℕ) (β : Bindings) (g : Term) (R : Rule) (c′ : ℕ) : Type 0 where
@@ -56,32 +56,23 @@ entered-of c β g R β′ u = record {
 pub unify-rule : (c : ℕ) (β : Bindings) (g : Term) (R : Rule) → Acyclic β → BelowB c β → Below c g → Unified (c + length (headVars R)) β g (head c R) (unify (c + length (headVars R)) β g (head c R))
 unify-rule c β g R ac bb bg = unify-ok (c + length (headVars R)) β g (head c R) ac (belowB-le (omega arith) β bb) (below-le (omega arith) g bg) (head-below c R)
 
+-- What holds of both ways, holds of the guard.
+pub guard-cases : (P : Attempt → Type 0) (t : Bool) (next : Unit {0} → Attempt) → P exceeded → P (next tt) → P (guard t next)
+guard-cases P true next e n = e
+guard-cases P false next e n = n
+
 pub attempt-ok : (l : Limits) (β : Bindings) (g : Term) (m c : ℕ) (R : Rule) → Acyclic β → BelowB c β → Below c g → Attempted c β g R (attempt l β g m c R)
 unfolding attempt
-attempt-ok l β g m c R ac bb bg = counted (over l c₁ (m + words (head c R)))
+attempt-ok l β g m c R ac bb bg =
+    guard-cases (Attempted c β g R) (over l (c + length (headVars R)) (m + words (head c R))) _ tt (go (unify (c + length (headVars R)) β g (head c R)) (unify-rule c β g R ac bb bg))
   where
-    c₁ : ℕ
-    c₁ = c + length (headVars R)
+    enter : Bindings → Attempt
+    enter β′ = guard (over l (c + length (allVars R)) (m + words (head c R) + words (body c R))) (λ _. entered β′ (c + length (allVars R)) (m + words (head c R) + words (body c R)))
 
-    c₂ : ℕ
-    c₂ = c + length (allVars R)
-
-    m₂ : ℕ
-    m₂ = m + words (head c R) + words (body c R)
-
-    enters : (t : Bool) (β′ : Bindings) → Unified c₁ β g (head c R) (unified β′) → Attempted c β g R (elim t as (λ _. Attempt) [ true ↦ exceeded | false ↦ entered β′ c₂ m₂ ])
-    enters true β′ u = tt
-    enters false β′ u = entered-of c β g R β′ u
-
-    unifying : (o : Outcome) → Unified c₁ β g (head c R) o
-        → Attempted c β g R (elim o as (λ _. Attempt) [ unfinished ↦ missed c₁ | fails ↦ missed c₁ | unified β′ ↦ elim (over l c₂ m₂) [ true ↦ exceeded | false ↦ entered β′ c₂ m₂ ] ])
-    unifying unfinished u = absurd u
-    unifying fails u = missed-of c β g R u
-    unifying (unified β′) u = enters (over l c₂ m₂) β′ u
-
-    counted : (t : Bool) → Attempted c β g R (elim t as (λ _. Attempt) [ true ↦ exceeded | false ↦ elim (unify c₁ β g (head c R)) [ unfinished ↦ missed c₁ | fails ↦ missed c₁ | unified β′ ↦ elim (over l c₂ m₂) [ true ↦ exceeded | false ↦ entered β′ c₂ m₂ ] ] ])
-    counted true = tt
-    counted false = unifying (unify c₁ β g (head c R)) (unify-rule c β g R ac bb bg)
+    go : (o : Outcome) → Unified (c + length (headVars R)) β g (head c R) o → Attempted c β g R (unifying o (missed (c + length (headVars R))) enter)
+    go unfinished u = absurd u
+    go fails u = missed-of c β g R u
+    go (unified β′) u = guard-cases (Attempted c β g R) (over l (c + length (allVars R)) (m + words (head c R) + words (body c R))) _ tt (entered-of c β g R β′ u)
 
 -- How the attempts go on, by the way the first one goes.
 

@@ -11,39 +11,22 @@ use Rattle.terms.specs.Bindings.{Bindings}
 use Rattle.terms.specs.Unification.{Outcome, unfinished, fails, unified, unify}
 use Rattle.resolution.specs.Rules.{Rule, Tree, leaf}
 use Rattle.resolution.specs.Fresh.{headVars, allVars, head, body}
-use Rattle.resolution.specs.Search.{Limits, unlimited, words, over, Attempt, exceeded, missed, entered, attempt, Work, goal, build, goals, built, Result, refused, found, failed, after, Search, tries, solve, bounded, Verdict, refusal, settle, deepen, prove, bounds}
-use Rattle.resolution.specs.Attempts.{tries-exceeded, tries-missed, tries-entered}
+use Rattle.resolution.specs.Search.{Limits, unlimited, words, over, Attempt, exceeded, missed, entered, attempt, guard, unifying, Work, goal, build, goals, built, Result, refused, found, failed, after, Search, tries, solve, bounded, Verdict, refusal, settle, deepen, prove, bounds}
+use Rattle.resolution.specs.Attempts.{guard-cases, tries-exceeded, tries-missed, tries-entered}
 
-attempt-limited : (l : Limits) (β : Bindings) (g : Term) (m c : ℕ) (R : Rule) → (attempt l β g m c R ≡ exceeded) ⊎ (attempt l β g m c R ≡ attempt unlimited β g m c R)
+-- An attempt exceeds the limits, or is the unlimited one.
+pub attempt-limited : (l : Limits) (β : Bindings) (g : Term) (m c : ℕ) (R : Rule) → (attempt l β g m c R ≡ exceeded) ⊎ (attempt l β g m c R ≡ attempt unlimited β g m c R)
 unfolding attempt
-attempt-limited l β g m c R = counted (over l c₁ (m + words (head c R)))
+attempt-limited l β g m c R =
+    guard-cases (λ a. (a ≡ exceeded) ⊎ (a ≡ attempt unlimited β g m c R)) (over l (c + length (headVars R)) (m + words (head c R))) _ (inl refl) (go (unify (c + length (headVars R)) β g (head c R)))
   where
-    c₁ : ℕ
-    c₁ = c + length (headVars R)
+    enter : Limits → Bindings → Attempt
+    enter l β′ = guard (over l (c + length (allVars R)) (m + words (head c R) + words (body c R))) (λ _. entered β′ (c + length (allVars R)) (m + words (head c R) + words (body c R)))
 
-    c₂ : ℕ
-    c₂ = c + length (allVars R)
-
-    m₂ : ℕ
-    m₂ = m + words (head c R) + words (body c R)
-
-    Same : Attempt → Attempt → Type 0
-    Same a b = (a ≡ exceeded) ⊎ (a ≡ b)
-
-    enters : (t : Bool) (β′ : Bindings) → Same (elim t as (λ _. Attempt) [ true ↦ exceeded | false ↦ entered β′ c₂ m₂ ]) (entered β′ c₂ m₂)
-    enters true β′ = inl refl
-    enters false β′ = inr refl
-
-    unifying : (o : Outcome) → Same (elim o as (λ _. Attempt) [ unfinished ↦ missed c₁ | fails ↦ missed c₁ | unified β′ ↦ elim (over l c₂ m₂) [ true ↦ exceeded | false ↦ entered β′ c₂ m₂ ] ])
-        (elim o as (λ _. Attempt) [ unfinished ↦ missed c₁ | fails ↦ missed c₁ | unified β′ ↦ entered β′ c₂ m₂ ])
-    unifying unfinished = inr refl
-    unifying fails = inr refl
-    unifying (unified β′) = enters (over l c₂ m₂) β′
-
-    counted : (t : Bool) → Same (elim t as (λ _. Attempt) [ true ↦ exceeded | false ↦ elim (unify c₁ β g (head c R)) [ unfinished ↦ missed c₁ | fails ↦ missed c₁ | unified β′ ↦ elim (over l c₂ m₂) [ true ↦ exceeded | false ↦ entered β′ c₂ m₂ ] ] ])
-        (elim (unify c₁ β g (head c R)) as (λ _. Attempt) [ unfinished ↦ missed c₁ | fails ↦ missed c₁ | unified β′ ↦ entered β′ c₂ m₂ ])
-    counted true = inl refl
-    counted false = unifying (unify c₁ β g (head c R))
+    go : (o : Outcome) → (unifying o (missed (c + length (headVars R))) (enter l) ≡ exceeded) ⊎ (unifying o (missed (c + length (headVars R))) (enter l) ≡ unifying o (missed (c + length (headVars R))) (enter unlimited))
+    go unfinished = inr refl
+    go fails = inr refl
+    go (unified β′) = guard-cases (λ a. (a ≡ exceeded) ⊎ (a ≡ enter unlimited β′)) (over l (c + length (allVars R)) (m + words (head c R) + words (body c R))) _ (inl refl) (inr refl)
 
 -- Refused, or the same.
 abbrev pub Matches : Result → Result → Type 0

@@ -8,7 +8,7 @@ use lib.ListN.{length}
 use Rattle.terms.specs.Numbers.{less}
 use Rattle.terms.specs.Term.{Kind, many, Syn, var, app, nil, cons, Term, Terms, count}
 use Rattle.terms.specs.Bindings.{Bindings}
-use Rattle.terms.specs.Unification.{unfinished, fails, unified, unify}
+use Rattle.terms.specs.Unification.{Outcome, unfinished, fails, unified, unify}
 use Rattle.resolution.specs.Rules.{Rule, Tree, node, leaf, _◂_}
 use Rattle.resolution.specs.Fresh.{headVars, allVars, head, body}
 
@@ -39,21 +39,25 @@ pub data Attempt : Type 0 where
   missed : ℕ → Attempt
   entered : Bindings → ℕ → ℕ → Attempt
 
+-- Within the limits it goes on.
+abbrev pub guard : Bool → (Unit {0} → Attempt) → Attempt
+guard true next = exceeded
+guard false next = next tt
+
+-- By the outcome of unification: missed, or on with the bindings.
+abbrev pub unifying : Outcome → Attempt → (Bindings → Attempt) → Attempt
+unifying unfinished miss next = miss
+unifying fails miss next = miss
+unifying (unified β) miss next = next β
+
 -- The goal g with rule R, from the counter c on, m words being in use. The conclusion is instantiated and counted before it is unified, and the
 -- variables that it got are never given back; the premises are instantiated only then.
 unfoldable pub attempt : Limits → Bindings → Term → ℕ → ℕ → Rule → Attempt
 attempt l β g m c R =
-    elim (over l (c + length (headVars R)) (m + words (head c R))) [
-      | true ↦ exceeded
-      | false ↦ elim (unify (c + length (headVars R)) β g (head c R)) [
-        | unfinished ↦ missed (c + length (headVars R))
-        | fails ↦ missed (c + length (headVars R))
-        | unified β′ ↦ elim (over l (c + length (allVars R)) (m + words (head c R) + words (body c R))) [
-          | true ↦ exceeded
-          | false ↦ entered β′ (c + length (allVars R)) (m + words (head c R) + words (body c R))
-        ]
-      ]
-    ]
+    guard (over l (c + length (headVars R)) (m + words (head c R))) (λ _.
+    unifying (unify (c + length (headVars R)) β g (head c R)) (missed (c + length (headVars R))) (λ β′.
+    guard (over l (c + length (allVars R)) (m + words (head c R) + words (body c R))) (λ _.
+    entered β′ (c + length (allVars R)) (m + words (head c R) + words (body c R)))))
 
 -- Work and proofs
 

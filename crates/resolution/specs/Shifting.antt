@@ -17,7 +17,7 @@ use Rattle.terms.specs.Renaming.{ren, renB, renO, ren-sub, unify-ren}
 use Rattle.resolution.specs.Rules.{Rule, Tree, node, leaf, _◂_}
 use Rattle.resolution.specs.Fresh.{place, fresh, headVars, allVars, head, body}
 use Rattle.resolution.specs.FreshLaws.{head-below}
-use Rattle.resolution.specs.Search.{unlimited, words, Attempt, exceeded, missed, entered, attempt, Work, goal, build, goals, gather, built, Result, refused, found, failed, after, Search, tries, solve, bounded}
+use Rattle.resolution.specs.Search.{unlimited, words, Attempt, exceeded, missed, entered, attempt, unifying, Work, goal, build, goals, gather, built, Result, refused, found, failed, after, Search, tries, solve, bounded}
 use Rattle.resolution.specs.Attempts.{Missed, Entered, Attempted, attempt-ok, tries-missed, tries-entered, tries-exceeded}
 use Rattle.resolution.specs.Soundness.{BelowW, belowW-le, Sound, SoundSearch, solve-sound, entered-below}
 
@@ -87,10 +87,10 @@ module _ (ρ : ℕ → ℕ) (inj : (x y : ℕ) → same (ρ x) (ρ y) ≡ same x
       wb = ap words (fresh-ren c c′ l q (allVars R) (R .premises)) ∙ words-ren ρ (body c R)
 
       pick : Outcome → Attempt
-      pick o = elim o [ unfinished ↦ missed c₁ | fails ↦ missed c₁ | unified β′ ↦ entered β′ (c + length (allVars R)) (m + words (head c R) + words (body c R)) ]
+      pick o = unifying o (missed c₁) (λ β′. entered β′ (c + length (allVars R)) (m + words (head c R) + words (body c R)))
 
       pick′ : Outcome → Attempt
-      pick′ o = elim o [ unfinished ↦ missed (c′ + length (headVars R)) | fails ↦ missed (c′ + length (headVars R)) | unified β′ ↦ entered β′ (c′ + length (allVars R)) (m + words (head c′ R) + words (body c′ R)) ]
+      pick′ o = unifying o (missed (c′ + length (headVars R))) (λ β′. entered β′ (c′ + length (allVars R)) (m + words (head c′ R) + words (body c′ R)))
 
       un : unify (c′ + length (headVars R)) (renB ρ β) (ren ρ g) (head c′ R) ≡ renO ρ (unify c₁ β g (head c R))
       un = ap (unify (c′ + length (headVars R)) (renB ρ β) (ren ρ g)) eh

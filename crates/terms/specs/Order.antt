@@ -2,7 +2,7 @@
 -- of its term; the graph is acyclic if the variables can be ranked so that ranks fall along the edges. A list is acyclic exactly if each variable is
 -- bound once and the graph is acyclic.
 use Prim.Native.Nat.{ℕ, suc, _+_, _≤_, _<_}
-use mathlib.Core.Path.{_≡_, refl, ap, sym}
+use mathlib.Core.Path.{_≡_, refl, ap}
 use mathlib.Core.Bool.{true, false, cond}
 use mathlib.Core.Option.{none, some}
 use native.Mathlib.Omega.{arith}
