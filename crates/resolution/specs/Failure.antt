@@ -2,7 +2,7 @@
 -- the starting bindings has a derivation, of any height.
 use Prim.Native.Nat.{ℕ, zero, suc, _+_, _≤_, _<_}
 use mathlib.Core.Path.{_≡_, refl, subst}
-use mathlib.Core.Bool.{Bool, true, false, _||_}
+use mathlib.Core.Bool.{Bool, false, _||_}
 use mathlib.Core.Option.{some}
 use mathlib.Core.List.{List, [], _∷_}
 use mathlib.Core.Logic.{_⊎_, inl, inr}
@@ -95,10 +95,6 @@ module _ (l : Limits) (rules : List Rule) where
       aok : Attempted c β g R (attempt l β g m c R)
       aok = attempt-ok l β g m c R ac bb bg
 
-  -- Where every rule's branch fails, the goal does.
-  fails-all : (n c : ℕ) (β : Bindings) (g : Term) (As : Terms) (b : ℕ) (cut : Bool) (c′ : ℕ) → AllClose rules n c β g As 0 rules (failed b cut c′) → 0 < b → cut ≡ false → FailsBy rules (suc n) c (res β (cons g As))
-  fails-all n c β g As b cut c′ k z e r R at = subst (λ j. Closes rules n c (res β g) (res β As) j R) (let j : 0 + r ≡ r = omega arith in j) (k z e r R at)
-
   solve-fail : (n : ℕ) → FailsSearch rules n (solve l rules n)
   solve-fail zero b c m β w st ac bb bw = λ z. absurd (omega arith)
   solve-fail (suc n) zero c m β w st ac bb bw = λ z. absurd (omega arith)
@@ -117,19 +113,15 @@ module _ (l : Limits) (rules : List Rule) where
       go : (o : Result) → AllClose rules n c β g (atoms w) 0 rules o → Fails rules (suc n) c β (cons g (atoms w)) o
       go refused k = tt
       go (found β′ st′ b′ c′ m′) k = tt
-      go (failed b′ cut c′) k = fails-all n c β g (atoms w) b′ cut c′ k
+      go (failed b′ cut c′) k = λ z e r R at. subst (λ j. Closes rules n c (res β g) (res β (atoms w)) j R) (let j : 0 + r ≡ r = omega arith in j) (k z e r R at)
 
-  -- The search's "none" is finite failure. The counter may have moved on from c₀.
-  pub none-fails : (s m : ℕ) (β : Bindings) (g : Term) (d c₀ c b c′ : ℕ) → c₀ ≤ c → Acyclic β → BelowB c β → Below c g → bounded l rules s m β g d c ≡ failed (suc b) false c′
-      → FinitelyFailed rules c₀ (cons (res β g) nil)
-  none-fails zero m β g d c₀ c b c′ h ac bb bg e = absurd (let z : _≡_ {A = ℕ} 0 (suc b) = cc in omega arith)
-  none-fails (suc s) m β g zero c₀ c b c′ h ac bb bg e = absurd (let z : true ≡ false = cc in true-false refl z)
-  none-fails (suc s) m β g (suc d) c₀ c b c′ h ac bb bg e =
-      let f : AllClose rules s c₀ β g nil 0 rules (failed (suc b) false c′) = subst (AllClose rules s c₀ β g nil 0 rules) e
-      (tries-fail s (solve l rules s) (solve-sound l rules s) (solve-falls l rules s) (solve-fail s) β g d [] leaf m 0 rules s false c₀ c h (suffix-all rules) ac bb bg tt) in
-      (suc s, fails-all s c₀ β g nil (suc b) false c′ f (omega arith) refl)
+  -- The search's "none" is finite failure.
+  pub none-fails : (s m : ℕ) (β : Bindings) (g : Term) (d c b c′ : ℕ) → Acyclic β → BelowB c β → Below c g → bounded l rules s m β g d c ≡ failed (suc b) false c′ → FinitelyFailed rules (cons (res β g) nil)
+  none-fails s m β g d c b c′ ac bb bg e =
+      let f : Fails rules s c β (cons g nil) (failed (suc b) false c′) = subst (Fails rules s c β (cons g nil)) e (solve-fail s s c m β (goal g d ∷ []) leaf ac bb (bg, tt)) in
+      record { c = c; below = (below-res c β bb g bg, tt); height = s; fails = f (omega arith) refl }
 
   -- The theorem: no derivation has as its root the goal with the starting bindings put in and any terms for the variables left.
   pub completeness : (s m : ℕ) (β : Bindings) (g : Term) (d c b c′ : ℕ) → Acyclic β → BelowB c β → Below c g → bounded l rules s m β g d c ≡ failed (suc b) false c′
       → (τ : Subst) → Derivable rules (sub τ (res β g)) → ⊥
-  completeness s m β g d c b c′ ac bb bg e τ p = finitely-failed-none rules c (res β g) (none-fails s m β g d c c b c′ (le-refl c) ac bb bg e) (below-res c β bb g bg) τ p
+  completeness s m β g d c b c′ ac bb bg e τ p = finitely-failed-none rules (res β g) (none-fails s m β g d c b c′ ac bb bg e) τ p

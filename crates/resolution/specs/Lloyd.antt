@@ -71,5 +71,9 @@ FailsBy rules (suc n) c nil = ⊥
 FailsBy rules (suc n) c (cons A As) = (r : ℕ) (R : Rule) → rule-at rules r ≡ some R
     → Clash R c A ⊎ ((c′ : ℕ) × (θ : Subst) × (G : Terms) × Resolvent rules c A As r c′ θ G × FailsBy rules n c′ G)
 
-abbrev pub FinitelyFailed : List Rule → ℕ → Terms → Type 0
-FinitelyFailed rules c G = (n : ℕ) × FailsBy rules n c G
+-- A goal is finitely failed if it has a finitely failed SLD tree.
+pub record FinitelyFailed (rules : List Rule) (G : Terms) : Type 0 where
+  pub c : ℕ
+  pub below : Below c G
+  pub height : ℕ
+  pub fails : FailsBy rules height c G

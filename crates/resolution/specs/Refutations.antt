@@ -180,5 +180,11 @@ fails-none rules (suc n) c (cons A As) f b σ (node r t qs ◂ ps) e d = go (f r
     go (inl k) ih = k .clash (wide (k .variant .back)) (meets (k .head) (k .variant .back) (k .variant .head-back) (k .variant .apart .0))
     go (inr k) ih = resolved (k .0) (k .1) (k .2) (k .3) (λ σ ps b′. ih (k .0) (k .2) (k .4) b′ σ ps)
 
-pub finitely-failed-none : (rules : List Rule) (c : ℕ) (A : Term) → FinitelyFailed rules c (cons A nil) → Below c A → (τ : Subst) → Derivable rules (sub τ A) → ⊥
-finitely-failed-none rules c A f b τ p = fails-none rules (f .0) c (cons A nil) (f .1) (b, tt) τ (p .tree ◂ leaf) (ap (λ t. cons t nil) (p .proves)) (p .derivation, tt)
+pub finitely-failed-none : (rules : List Rule) (A : Term) → FinitelyFailed rules (cons A nil) → (τ : Subst) → Derivable rules (sub τ A) → ⊥
+finitely-failed-none rules A f τ p = fails-none rules (f .height) (f .c) (cons A nil) (f .fails) (f .below) τ (p .tree ◂ leaf) (ap (λ t. cons t nil) (p .proves)) (p .derivation, tt)
+
+-- A finitely failed goal has no refutation.
+pub failed-not-refuted : (rules : List Rule) (G : Terms) → FinitelyFailed rules G → (c : ℕ) (φ : Subst) → Refutation rules c G φ → ⊥
+failed-not-refuted rules G f c φ r =
+    let p = refutation-sound rules c G φ r var in
+    fails-none rules (f .height) (f .c) G (f .fails) (f .below) (compose φ var) (p .trees) (p .proves) (p .derivation)

@@ -80,7 +80,7 @@ deepen-says l rules s m n₀ β g ac bb bg (d ∷ ds) u c h =
 abbrev pub SaysSLD : List Rule → ℕ → Bindings → Term → Verdict → Type 0
 SaysSLD rules n₀ β g (refusal n) = Unit {0}
 SaysSLD rules n₀ β g (proved β′ st u c m) = Refuted rules n₀ β (cons g nil) β′
-SaysSLD rules n₀ β g (nothing u c) = FinitelyFailed rules n₀ (cons (res β g) nil)
+SaysSLD rules n₀ β g (nothing u c) = FinitelyFailed rules (cons (res β g) nil)
 SaysSLD rules n₀ β g (undecided u c) = Unit {0}
 
 pub deepen-sld : (l : Limits) (rules : List Rule) (s m n₀ : ℕ) (β : Bindings) (g : Term) → Acyclic β → BelowB n₀ β → Below n₀ g
@@ -99,4 +99,4 @@ deepen-sld l rules s m n₀ β g ac bb bg (d ∷ ds) u c h =
     go (found β′ st b c′ m′) e snd rch n = subst (Reaches rules n₀ β (cons g nil)) e rch
     go (failed zero cut c′) e snd rch n = let f : c ≤ c′ = subst (Sound rules c β (goal g d ∷ []) leaf) e snd in n s c′ (omega arith)
     go (failed (suc b) true c′) e snd rch n = let f : c ≤ c′ = subst (Sound rules c β (goal g d ∷ []) leaf) e snd in n (s - suc b) c′ (omega arith)
-    go (failed (suc b) false c′) e snd rch n = none-fails l rules s m β g d n₀ c b c′ h ac (belowB-le h β bb) (below-le h g bg) e
+    go (failed (suc b) false c′) e snd rch n = none-fails l rules s m β g d c b c′ ac (belowB-le h β bb) (below-le h g bg) e
