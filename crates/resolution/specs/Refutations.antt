@@ -8,7 +8,7 @@ use mathlib.Core.List.{List}
 use mathlib.Core.Logic.{_⊎_, inl, inr}
 use native.Mathlib.Omega.{arith}
 use Rattle.terms.specs.Numbers.{less, less-yes, less-no}
-use Rattle.terms.specs.Term.{Kind, many, Syn, nil, cons, Term, Terms, append, Subst, sub, compose, Below, From}
+use Rattle.terms.specs.Term.{Kind, many, Syn, var, nil, cons, Term, Terms, append, Subst, sub, compose, Below, From}
 use Rattle.terms.specs.TermLaws.{sub-sub, sub-ext, sub-mem, sub-agree, sub-from, sub-append, below-sub, below-le, below-append, cons-inj, nil-cons}
 use Rattle.resolution.specs.Rules.{Rule, Tree, node, leaf, _◂_, root, roots, joined, Instance, Derivation, Derivable}
 use Rattle.resolution.specs.Fresh.{head, body}
