@@ -378,6 +378,7 @@ struct Posed {
 
 /// Rules, a starting session and goals. Names are given with their variables, bindings in the order in which they were made.
 struct Plan {
+    note: &'static str,
     rules: Vec<Rule>,
     variables: usize,
     names: Vec<(usize, usize)>,
@@ -440,7 +441,7 @@ fn random(rng: &mut Rng) -> Plan {
             limit_words: if rng.chance(75) { 262_144 } else { rng.below(250) },
         })
         .collect();
-    Plan { rules, variables, names, bindings, words: rng.below(20), goals }
+    Plan { note: "", rules, variables, names, bindings, words: rng.below(20), goals }
 }
 
 /// One case: a plan and what the Rust answers.
@@ -545,24 +546,25 @@ fn fixed() -> Vec<Plan> {
         ]
     };
     let posed = |goal, steps, depth| Posed { goal, steps, depth, limit_steps: 65535, limit_vars: 65536, limit_words: 262_144 };
-    let plan = |rules, goals| Plan { rules, variables: 0, names: Vec::new(), bindings: Vec::new(), words: 0, goals };
+    let plan = |note, rules, goals| Plan { note, rules, variables: 0, names: Vec::new(), bindings: Vec::new(), words: 0, goals };
     vec![
-        // The last step was also the last allowed one, and one step more.
-        plan(addition(), vec![posed(add(v(0), num(2), num(1)), 2, 32), posed(add(v(0), num(2), num(1)), 3, 32)]),
-        // Cut off at bound 4, none at bound 8.
-        plan(addition(), vec![posed(add(num(6), v(0), num(5)), 40, 32)]),
-        // The occurs check: x = succ x has no proof.
-        plan(vec![clause(app(5, vec![v(0), app(1, vec![v(0)])]), vec![])], vec![posed(app(5, vec![v(0), v(0)]), 10, 8)]),
-        // Fresh numbers: premises from the last to the first.
+        plan("The last step was also the last allowed one; then one step more.", addition(), vec![posed(add(v(0), num(2), num(1)), 2, 32), posed(add(v(0), num(2), num(1)), 3, 32)]),
+        plan("Cut off at bound 4, none at bound 8.", addition(), vec![posed(add(num(6), v(0), num(5)), 40, 32)]),
         plan(
+            "The occurs check: no term is its own successor.",
+            vec![clause(app(5, vec![v(0), app(1, vec![v(0)])]), vec![])],
+            vec![posed(app(5, vec![v(0), v(0)]), 10, 8)],
+        ),
+        plan(
+            "Premises are instantiated from the last to the first.",
             vec![
                 clause(app(5, vec![v(0), v(1)]), vec![app(4, vec![v(2)]), app(4, vec![v(3)])]),
                 clause(app(4, vec![num(1)]), vec![]),
             ],
             vec![posed(app(5, vec![v(0), v(1)]), 20, 8)],
         ),
-        // A branch that fails after binding: its variables stay counted, and a later goal shares the session.
         plan(
+            "A branch fails after binding: its variables stay counted, and later goals share the session.",
             vec![
                 clause(app(5, vec![v(0), num(0)]), vec![app(4, vec![v(1)]), app(4, vec![num(3)])]),
                 clause(app(5, vec![num(2), v(0)]), vec![]),
@@ -606,14 +608,18 @@ pub fn main() {
     while done < cases {
         let n = each.min(cases - done);
         let mut out = head.clone();
-        out.push_str("\nunfoldable pub cases : List Case\ncases =\n      ");
-        for _ in 0..n {
+        out.push_str("\nunfoldable pub cases : List Case\ncases =\n");
+        for k in 0..n {
             let plan = front.next().unwrap_or_else(|| random(&mut rng));
+            if !plan.note.is_empty() {
+                out.push_str(&format!("    -- {}\n", plan.note));
+            }
+            out.push_str(if k == 0 { "    " } else { "    ∷ " });
             out.push_str(&case(&plan, &mut tally));
-            out.push_str("\n    ∷ ");
+            out.push('\n');
         }
         out.push_str(&format!(
-            "[]\n\n-- All of them come out.\npub all-pass : passing cases ≡ {n}\nunfolding same less mem attempt compileBy cases\nall-pass = refl\n"
+            "    ∷ []\n\n-- All of them come out.\npub all-pass : passing cases ≡ {n}\nunfolding same less mem attempt compileBy cases\nall-pass = refl\n"
         ));
         fs::write(format!("{folder}/Batch{file}.antt"), out).expect("written");
         file += 1;

@@ -7,7 +7,7 @@ use Rattle.terms.specs.Numbers.{same, less}
 use Rattle.terms.specs.Term.{var, app, nil, cons, Term, mem}
 use Rattle.resolution.specs.Rules.{Rule}
 use Rattle.resolution.specs.Search.{attempt, Verdict, refusal, proved, nothing, undecided}
-use Rattle.resolution.specs.Session.{newSession, ask}
+use Rattle.resolution.specs.Session.{newSession, stepLimit, variableLimit, wordLimit, ask}
 use Rattle.resolution.specs.Cases.{compileBy, queryOf}
 
 -- zero, succ and add are the symbols 0, 1 and 2; Nat is the sort 1.
@@ -52,7 +52,7 @@ meets (undecided u c) (isNone s) = false
 meets (undecided u c) (isUndecided s) = same u s
 
 abbrev pub meetsCase : MarkedCase → Bool
-meetsCase k = meets (ask addRules newSession (queryOf (record { goal = k .goal; steps = k .steps; depth = k .depth; limits = record { steps = 65535; variables = 65536; words = 262144 } })) .verdict) (k .expected)
+meetsCase k = meets (ask addRules newSession (queryOf (record { goal = k .goal; steps = k .steps; depth = k .depth; limits = record { steps = stepLimit; variables = variableLimit; words = wordLimit } })) .verdict) (k .expected)
 
 abbrev pub allMeet : List MarkedCase → Bool
 allMeet [] = true

@@ -1,4 +1,5 @@
 -- Random sessions with the answers of the Rust's `Prover`, computed with the definitions.
+use Prim.Native.Nat.{ℕ, zero, suc, _+_}
 use mathlib.Core.Path.{_≡_, refl}
 use mathlib.Core.List.{List, [], _∷_}
 use Rattle.terms.specs.Numbers.{same, less}
@@ -9,30 +10,35 @@ use Rattle.resolution.specs.Cases.{Case, compileBy, passing}
 
 unfoldable pub cases : List Case
 cases =
+    -- The last step was also the last allowed one; then one step more.
     record {
       rules = record { name = []; sorts = []; premises = nil; conclusion = app 6 (cons (app 0 nil) (cons (var 0) (cons (var 0) nil))) } ∷ record { name = []; sorts = []; premises = (cons (app 6 (cons (var 0) (cons (var 1) (cons (var 2) nil)))) nil); conclusion = app 6 (cons (app 1 (cons (var 0) nil)) (cons (var 1) (cons (app 1 (cons (var 2) nil)) nil))) } ∷ [];
       session = record { names = []; variables = 0; bindings = start; words = 0 };
       goals = record { goal = app 6 (cons (var 0) (cons (app 1 (cons (app 1 (cons (app 0 nil) nil)) nil)) (cons (app 1 (cons (app 0 nil) nil)) nil))); steps = 2; depth = 32; limits = record { steps = 65535; variables = 65536; words = 262144 } } ∷ record { goal = app 6 (cons (var 0) (cons (app 1 (cons (app 1 (cons (app 0 nil) nil)) nil)) (cons (app 1 (cons (app 0 nil) nil)) nil))); steps = 3; depth = 32; limits = record { steps = 65535; variables = 65536; words = 262144 } } ∷ [];
       expected = 9 ∷ 2 ∷ 1 ∷ 33 ∷ 0 ∷ 4 ∷ 8 ∷ 2 ∷ 1 ∷ 41 ∷ 0 ∷ 4 ∷ [];
     }
+    -- Cut off at bound 4, none at bound 8.
     ∷ record {
       rules = record { name = []; sorts = []; premises = nil; conclusion = app 6 (cons (app 0 nil) (cons (var 0) (cons (var 0) nil))) } ∷ record { name = []; sorts = []; premises = (cons (app 6 (cons (var 0) (cons (var 1) (cons (var 2) nil)))) nil); conclusion = app 6 (cons (app 1 (cons (var 0) nil)) (cons (var 1) (cons (app 1 (cons (var 2) nil)) nil))) } ∷ [];
       session = record { names = []; variables = 0; bindings = start; words = 0 };
       goals = record { goal = app 6 (cons (app 1 (cons (app 1 (cons (app 1 (cons (app 1 (cons (app 1 (cons (app 1 (cons (app 0 nil) nil)) nil)) nil)) nil)) nil)) nil)) (cons (var 0) (cons (app 1 (cons (app 1 (cons (app 1 (cons (app 1 (cons (app 1 (cons (app 0 nil) nil)) nil)) nil)) nil)) nil)) nil))); steps = 40; depth = 32; limits = record { steps = 65535; variables = 65536; words = 262144 } } ∷ [];
       expected = 8 ∷ 6 ∷ 1 ∷ 41 ∷ 0 ∷ 4 ∷ [];
     }
+    -- The occurs check: no term is its own successor.
     ∷ record {
       rules = record { name = []; sorts = []; premises = nil; conclusion = app 5 (cons (var 0) (cons (app 1 (cons (var 0) nil)) nil)) } ∷ [];
       session = record { names = []; variables = 0; bindings = start; words = 0 };
       goals = record { goal = app 5 (cons (var 0) (cons (var 0) nil)); steps = 10; depth = 8; limits = record { steps = 65535; variables = 65536; words = 262144 } } ∷ [];
       expected = 8 ∷ 1 ∷ 1 ∷ 2 ∷ 0 ∷ 4 ∷ [];
     }
+    -- Premises are instantiated from the last to the first.
     ∷ record {
       rules = record { name = []; sorts = []; premises = (cons (app 4 (cons (var 2) nil)) (cons (app 4 (cons (var 3) nil)) nil)); conclusion = app 5 (cons (var 0) (cons (var 1) nil)) } ∷ record { name = []; sorts = []; premises = nil; conclusion = app 4 (cons (app 1 (cons (app 0 nil) nil)) nil) } ∷ [];
       session = record { names = []; variables = 0; bindings = start; words = 0 };
       goals = record { goal = app 5 (cons (var 0) (cons (var 1) nil)); steps = 20; depth = 8; limits = record { steps = 65535; variables = 65536; words = 262144 } } ∷ [];
       expected = 7 ∷ 7 ∷ 2 ∷ 0 ∷ 1 ∷ 5 ∷ 2 ∷ 0 ∷ 0 ∷ 0 ∷ 1 ∷ 2 ∷ 1 ∷ 1 ∷ 4 ∷ 1 ∷ 0 ∷ 5 ∷ 3 ∷ 2 ∷ 1 ∷ 1 ∷ 4 ∷ 1 ∷ 0 ∷ 4 ∷ 3 ∷ 3 ∷ 3 ∷ 2 ∷ 10 ∷ 20 ∷ 5 ∷ 4 ∷ 1 ∷ 1 ∷ 1 ∷ 1 ∷ 0 ∷ 0 ∷ 5 ∷ 5 ∷ 1 ∷ 1 ∷ 1 ∷ 1 ∷ 0 ∷ 0 ∷ 5 ∷ 1 ∷ 0 ∷ 3 ∷ 5 ∷ 0 ∷ 0 ∷ 2 ∷ 4 ∷ [];
     }
+    -- A branch fails after binding: its variables stay counted, and later goals share the session.
     ∷ record {
       rules = record { name = []; sorts = []; premises = (cons (app 4 (cons (var 1) nil)) (cons (app 4 (cons (app 1 (cons (app 1 (cons (app 1 (cons (app 0 nil) nil)) nil)) nil)) nil)) nil)); conclusion = app 5 (cons (var 0) (cons (app 0 nil) nil)) } ∷ record { name = []; sorts = []; premises = nil; conclusion = app 5 (cons (app 1 (cons (app 1 (cons (app 0 nil) nil)) nil)) (cons (var 0) nil)) } ∷ record { name = []; sorts = []; premises = nil; conclusion = app 4 (cons (app 0 nil) nil) } ∷ [];
       session = record { names = []; variables = 0; bindings = start; words = 0 };

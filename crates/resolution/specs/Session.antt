@@ -10,11 +10,12 @@ use Rattle.terms.specs.Bindings.{Bindings, start, Acyclic, BelowB}
 use Rattle.resolution.specs.Rules.{Rule}
 use Rattle.resolution.specs.Search.{Limits, within, words, over, Verdict, refusal, proved, nothing, undecided, prove}
 
--- A name as bytes, with the sort that it keeps for the session; and the variable that it stands for.
+-- A name as bytes, with the sort that it keeps for the session.
 pub record Name : Type 0 where
   pub text : List ℕ
   pub sort : ℕ
 
+-- A name and the variable that it stands for.
 pub record Named : Type 0 where
   pub name : Name
   pub variable : ℕ
@@ -67,16 +68,29 @@ pub record Query : Type 0 where
   pub depth : ℕ
   pub limits : Allowance
 
+-- Document 01's limits: 65,535 steps and depth 128 (38), 65,536 variables in a session and 262,144 words (37).
+abbrev pub stepLimit : ℕ
+stepLimit = 65535
+
+abbrev pub depthLimit : ℕ
+depthLimit = 128
+
+abbrev pub variableLimit : ℕ
+variableLimit = 65536
+
+abbrev pub wordLimit : ℕ
+wordLimit = 262144
+
 -- A limit that is set higher counts as the limit of document 01.
 abbrev pub atMost : ℕ → ℕ → ℕ
 atMost top n = cond (less top n) top n
 
 abbrev pub limitsOf : Allowance → Limits
-limitsOf a = within (atMost 65536 (a .variables)) (atMost 262144 (a .words))
+limitsOf a = within (atMost variableLimit (a .variables)) (atMost wordLimit (a .words))
 
--- 38: more steps than allowed, or a depth over 128.
+-- 38: more steps than allowed, or too great a depth.
 abbrev pub tooMuch : ℕ → ℕ → Allowance → Bool
-tooMuch steps depth a = less (atMost 65535 (a .steps)) steps || less 128 depth
+tooMuch steps depth a = less (atMost stepLimit (a .steps)) steps || less depthLimit depth
 
 -- The variable at a place: a name's own, or a new one from the count on.
 abbrev pub variableAt : List Named → ℕ → ℕ → ℕ
@@ -95,6 +109,7 @@ enter ns c (n ∷ new) = enter (ns ++ (record { name = n; variable = c } ∷ [])
 
 -- Asking a goal
 
+-- A verdict, and the session left.
 pub record Answer : Type 0 where
   pub verdict : Verdict
   pub session : Session
@@ -112,6 +127,7 @@ abbrev pub searched : List Rule → Session → ℕ → ℕ → Allowance → �
 searched rules S steps depth a new g true = refusal 37
 searched rules S steps depth a new g false = prove (limitsOf a) rules steps depth (S .words + words g) (S .bindings) g (S .variables + new)
 
+-- The verdict on a compiled goal with so many new names.
 abbrev pub verdictOf : List Rule → Session → ℕ → ℕ → Allowance → ℕ → Term → Verdict
 verdictOf rules S steps depth a new g = searched rules S steps depth a new g (over (limitsOf a) (S .variables + new) (S .words + words g))
 
