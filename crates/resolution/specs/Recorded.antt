@@ -1,5 +1,4 @@
 -- Random sessions with the answers of the Rust's `Prover`, computed with the definitions.
-use Prim.Native.Nat.{ℕ, zero, suc, _+_}
 use mathlib.Core.Path.{_≡_, refl}
 use mathlib.Core.List.{List, [], _∷_}
 use Rattle.terms.specs.Numbers.{same, less}

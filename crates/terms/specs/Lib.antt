@@ -12,6 +12,7 @@ pub mod Robinson
 -- What storage and code need:
 pub mod Order
 pub mod Loops
+pub mod Recursion
 pub mod Skips
 pub mod Renaming
 -- Examples by computing:

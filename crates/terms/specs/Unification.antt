@@ -74,7 +74,7 @@ abbrev pub unifies : ℕ → Bindings → List Eqn → Outcome
 unifies zero β es = work (λ _ _. unfinished) (sizes β es) β es
 unifies (suc k) β es = work (unifies k) (sizes β es) β es
 
--- The Rust's `unify`, c variables having been made. Robinson shows that it is never unfinished; Loops has its equations without the two bounds.
+-- The Rust's `unify`, c variables having been made. Robinson shows that it is never unfinished, and Recursion that it has the Rust's equations.
 abbrev pub unify : ℕ → Bindings → Term → Term → Outcome
 unify c β a b = unifies c β (eqn a b ∷ [])
 
