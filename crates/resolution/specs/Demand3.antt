@@ -268,3 +268,17 @@ claims rules S E (e ∷ es) F t FE x =
 -- Demand 3.
 pub demand-3 : (rules : List Rule) (S : Session) (es : List Event) → InForm S → Transcript rules S es → Claims rules S (final S es) es × InForm (final S es)
 demand-3 rules S es F t = let f = final-form rules S es F t in (claims rules S (final S es) es F t (f .0) unchanged, f .0)
+
+-- The definitions' own answers to a list of goals are such a transcript.
+
+abbrev pub run : List Rule → Session → List Query → List Event
+run rules S [] = []
+run rules S (q ∷ qs) = record { query = q; verdict = ask rules S q .verdict; session = ask rules S q .session } ∷ run rules (ask rules S q .session) qs
+
+abbrev pub AllScoped : List Rule → Session → List Query → Type 0
+AllScoped rules S [] = Unit {0}
+AllScoped rules S (q ∷ qs) = Scoped (S .names) (q .compile (S .names)) × AllScoped rules (ask rules S q .session) qs
+
+pub run-transcript : (rules : List Rule) (S : Session) (qs : List Query) → AllScoped rules S qs → Transcript rules S (run rules S qs)
+run-transcript rules S [] h = tt
+run-transcript rules S (q ∷ qs) h = (h .0, refl, refl, run-transcript rules (ask rules S q .session) qs (h .1))

@@ -14,7 +14,7 @@ use Rattle.terms.specs.BindingLaws.{belowB-le, full-solves, solves-res, extends
 use Rattle.resolution.specs.Rules.{Rule, Tree, leaf, putIn, Derivable}
 use Rattle.resolution.specs.Search.{Limits, unlimited, goal, Result, refused, found, failed, bounded, Verdict, refusal, proved, nothing, undecided, settle, bounds, deepen, prove}
 use Rattle.resolution.specs.Soundness.{Sound, soundness, root-putIn}
-use Rattle.resolution.specs.Steps.{Live, richer, solve-richer}
+use Rattle.resolution.specs.Steps.{StepsLeft, addSteps, solve-addSteps}
 use Rattle.resolution.specs.Limited.{Matches, solve-match}
 use Rattle.resolution.specs.Failure.{completeness}
 use Rattle.resolution.specs.Shifting.{renR, shift, bounded-shift}
@@ -89,43 +89,43 @@ kind-ren ρ k (failed zero cut c) = refl
 kind-ren ρ k (failed (suc b) true c) = refl
 kind-ren ρ k (failed (suc b) false c) = refl
 
-kind-richer : (k : ℕ) (o : Result) → Live o → kind (richer k o) ≡ kind o
-kind-richer k refused v = refl
-kind-richer k (found β st b c m) v = refl
-kind-richer k (failed zero cut c) v = absurd (omega arith)
-kind-richer k (failed (suc b) true c) v = let q : suc b + k ≡ suc (b + k) = omega arith in rw q
-kind-richer k (failed (suc b) false c) v = let q : suc b + k ≡ suc (b + k) = omega arith in rw q
+kind-addSteps : (k : ℕ) (o : Result) → StepsLeft o → kind (addSteps k o) ≡ kind o
+kind-addSteps k refused v = refl
+kind-addSteps k (found β st b c m) v = refl
+kind-addSteps k (failed zero cut c) v = absurd (omega arith)
+kind-addSteps k (failed (suc b) true c) v = let q : suc b + k ≡ suc (b + k) = omega arith in rw q
+kind-addSteps k (failed (suc b) false c) v = let q : suc b + k ≡ suc (b + k) = omega arith in rw q
 
-live-shown : (o : Result) → kind o ≡ shown → Live o
-live-shown refused e = shown-barred e refl
-live-shown (found β st b c m) e = tt
-live-shown (failed zero cut c) e = shown-unsettled e refl
-live-shown (failed (suc b) true c) e = shown-unsettled e refl
-live-shown (failed (suc b) false c) e = shown-excluded e refl
+steps-left-shown : (o : Result) → kind o ≡ shown → StepsLeft o
+steps-left-shown refused e = shown-barred e refl
+steps-left-shown (found β st b c m) e = tt
+steps-left-shown (failed zero cut c) e = shown-unsettled e refl
+steps-left-shown (failed (suc b) true c) e = shown-unsettled e refl
+steps-left-shown (failed (suc b) false c) e = shown-excluded e refl
 
-live-excluded : (o : Result) → kind o ≡ excluded → Live o
-live-excluded refused e = excluded-barred e refl
-live-excluded (found β st b c m) e = tt
-live-excluded (failed zero cut c) e = excluded-unsettled e refl
-live-excluded (failed (suc b) true c) e = omega arith
-live-excluded (failed (suc b) false c) e = omega arith
+steps-left-excluded : (o : Result) → kind o ≡ excluded → StepsLeft o
+steps-left-excluded refused e = excluded-barred e refl
+steps-left-excluded (found β st b c m) e = tt
+steps-left-excluded (failed zero cut c) e = excluded-unsettled e refl
+steps-left-excluded (failed (suc b) true c) e = omega arith
+steps-left-excluded (failed (suc b) false c) e = omega arith
 
-live-ren : (ρ : ℕ → ℕ) (k : ℕ) (o : Result) → Live (renR ρ k o) → Live o
-live-ren ρ k refused v = v
-live-ren ρ k (found β st b c m) v = tt
-live-ren ρ k (failed b cut c) v = v
+steps-left-ren : (ρ : ℕ → ℕ) (k : ℕ) (o : Result) → StepsLeft (renR ρ k o) → StepsLeft o
+steps-left-ren ρ k refused v = v
+steps-left-ren ρ k (found β st b c m) v = tt
+steps-left-ren ρ k (failed b cut c) v = v
 
 module _ (rules : List Rule) (β : Bindings) (g : Term) (n₀ : ℕ) (ac : Acyclic β) (bb : BelowB n₀ β) (bg : Below n₀ g) where
   -- Without limits, more steps from another number on come to the same kind of result.
-  unlimited-kind : (s s′ m d c c′ : ℕ) → s ≤ s′ → n₀ ≤ c → n₀ ≤ c′ → Live (bounded unlimited rules s m β g d c) → kind (bounded unlimited rules s′ m β g d c′) ≡ kind (bounded unlimited rules s m β g d c)
+  unlimited-kind : (s s′ m d c c′ : ℕ) → s ≤ s′ → n₀ ≤ c → n₀ ≤ c′ → StepsLeft (bounded unlimited rules s m β g d c) → kind (bounded unlimited rules s′ m β g d c′) ≡ kind (bounded unlimited rules s m β g d c)
   unlimited-kind s s′ m d c c′ h l l′ v =
       let here = bounded-shift rules s m β g d n₀ c ac bb bg l in
       let there = bounded-shift rules s′ m β g d n₀ c′ ac bb bg l′ in
       let o : Result = bounded unlimited rules s m β g d n₀ in
-      let v₀ : Live o = live-ren (shift n₀ (c - n₀)) (c - n₀) o (subst Live here v) in
+      let v₀ : StepsLeft o = steps-left-ren (shift n₀ (c - n₀)) (c - n₀) o (subst StepsLeft here v) in
       ap kind there ∙ kind-ren (shift n₀ (c′ - n₀)) (c′ - n₀) (bounded unlimited rules s′ m β g d n₀)
-      ∙ ap kind (solve-richer unlimited rules (s′ - s) s s′ h s s′ n₀ m β (goal g d ∷ []) leaf (omega arith) v₀)
-      ∙ kind-richer (s′ - s) o v₀
+      ∙ ap kind (solve-addSteps unlimited rules (s′ - s) s s′ h s s′ n₀ m β (goal g d ∷ []) leaf (omega arith) v₀)
+      ∙ kind-addSteps (s′ - s) o v₀
       ∙ sym (ap kind here ∙ kind-ren (shift n₀ (c - n₀)) (c - n₀) o)
 
   kinds-repeat : (l l′ : Limits) (s s′ m d c c′ : ℕ) → s ≤ s′ → n₀ ≤ c → n₀ ≤ c′ → Repeats (kind (bounded l rules s m β g d c)) (kind (bounded l′ rules s′ m β g d c′))
@@ -147,8 +147,8 @@ module _ (rules : List Rule) (β : Bindings) (g : Term) (n₀ : ℕ) (ac : Acycl
       go : (o : Result) → Matches o u → Repeats (kind o) (kind (bounded l′ rules s′ m β g d c′))
       go o (inl q) = (λ e. shown-barred e (ap kind q), λ e. excluded-barred e (ap kind q))
       go o (inr q) = (
-        λ e. let z : kind u ≡ shown = sym (ap kind q) ∙ e in there shown (unlimited-kind s s′ m d c c′ h i i′ (live-shown u z) ∙ z),
-        λ e. let z : kind u ≡ excluded = sym (ap kind q) ∙ e in there excluded (unlimited-kind s s′ m d c c′ h i i′ (live-excluded u z) ∙ z),
+        λ e. let z : kind u ≡ shown = sym (ap kind q) ∙ e in there shown (unlimited-kind s s′ m d c c′ h i i′ (steps-left-shown u z) ∙ z),
+        λ e. let z : kind u ≡ excluded = sym (ap kind q) ∙ e in there excluded (unlimited-kind s s′ m d c c′ h i i′ (steps-left-excluded u z) ∙ z),
       )
 
   -- Some instance of the goal under the bindings is derivable.

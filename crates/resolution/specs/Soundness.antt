@@ -24,10 +24,10 @@ BelowW c (goal g d ∷ w) = Below c g × BelowW c w
 BelowW c (build r g k ∷ w) = BelowW c w
 
 -- Done under σ, the work turns the proofs st into st′: a goal adds a derivation of it, and a build takes the last proofs together.
-abbrev pub Does : List Rule → Subst → List Work → Tree many → Tree many → Type 0
-Does rules σ [] st st′ = st ≡ st′
-Does rules σ (goal g d ∷ w) st st′ = (p : Tree one) × (root p ≡ g) × Derivation rules (putIn σ p) × Does rules σ w (p ◂ st) st′
-Does rules σ (build r g k ∷ w) st st′ = Does rules σ w (built r g k st) st′
+abbrev pub Performed : List Rule → Subst → List Work → Tree many → Tree many → Type 0
+Performed rules σ [] st st′ = st ≡ st′
+Performed rules σ (goal g d ∷ w) st st′ = (p : Tree one) × (root p ≡ g) × Derivation rules (putIn σ p) × Performed rules σ w (p ◂ st) st′
+Performed rules σ (build r g k ∷ w) st st′ = Performed rules σ w (built r g k st) st′
 
 -- What success says.
 pub record Found (rules : List Rule) (c : ℕ) (β : Bindings) (w : List Work) (st : Tree many) (β′ : Bindings) (st′ : Tree many) (c′ : ℕ) : Type 0 where
@@ -35,7 +35,7 @@ pub record Found (rules : List Rule) (c : ℕ) (β : Bindings) (w : List Work) (
   pub acyclic : Acyclic β′
   pub below : BelowB c′ β′
   pub extends : Extends β β′
-  pub does : (σ : Subst) → Solves σ β′ → Does rules σ w st st′
+  pub performed : (σ : Subst) → Solves σ β′ → Performed rules σ w st st′
 
 abbrev pub Sound : List Rule → ℕ → Bindings → List Work → Tree many → Result → Type 0
 Sound rules c β w st refused = Unit {0}
@@ -81,21 +81,21 @@ pub roots-putIn : (σ : Subst) (ps : Tree many) → roots (putIn σ ps) ≡ sub 
 roots-putIn σ leaf = refl
 roots-putIn σ (p ◂ ps) = ap₂ cons (root-putIn σ p) (roots-putIn σ ps)
 
-does-goals : (rules : List Rule) (σ : Subst) (ts : Terms) (d : ℕ) (w : List Work) (st st′ : Tree many) → Does rules σ (goals ts d w) st st′
-    → (ps : Tree many) × (roots ps ≡ ts) × Derivation rules (putIn σ ps) × Does rules σ w (onto ps st) st′
-does-goals rules σ nil d w st st′ x = (leaf, refl, tt, x)
-does-goals rules σ (cons t ts) d w st st′ x =
-    let (ps, e, ds, y) = does-goals rules σ ts d w (x .0 ◂ st) st′ (x .3) in
+performed-goals : (rules : List Rule) (σ : Subst) (ts : Terms) (d : ℕ) (w : List Work) (st st′ : Tree many) → Performed rules σ (goals ts d w) st st′
+    → (ps : Tree many) × (roots ps ≡ ts) × Derivation rules (putIn σ ps) × Performed rules σ w (onto ps st) st′
+performed-goals rules σ nil d w st st′ x = (leaf, refl, tt, x)
+performed-goals rules σ (cons t ts) d w st st′ x =
+    let (ps, e, ds, y) = performed-goals rules σ ts d w (x .0 ◂ st) st′ (x .3) in
     (x .0 ◂ ps, ap₂ cons (x .1) e, (x .2, ds), y)
 
 -- An application: where the goal and the rule's conclusion are equal, the premises' derivations make one of the goal.
-does-rule : (rules : List Rule) (σ : Subst) (c r : ℕ) (R : Rule) (g : Term) (d e : ℕ) (w : List Work) (st st′ : Tree many)
-    → rule-at rules r ≡ some R → sub σ g ≡ sub σ (head c R) → Does rules σ (goals (body c R) d (build r g (count (R .premises)) ∷ w)) st st′
-    → Does rules σ (goal g e ∷ w) st st′
-does-rule rules σ c r R g d e w st st′ at u x =
-    let (ps, er, ds, y) = does-goals rules σ (body c R) d (build r g (count (R .premises)) ∷ w) st st′ x in
+performed-rule : (rules : List Rule) (σ : Subst) (c r : ℕ) (R : Rule) (g : Term) (d e : ℕ) (w : List Work) (st st′ : Tree many)
+    → rule-at rules r ≡ some R → sub σ g ≡ sub σ (head c R) → Performed rules σ (goals (body c R) d (build r g (count (R .premises)) ∷ w)) st st′
+    → Performed rules σ (goal g e ∷ w) st st′
+performed-rule rules σ c r R g d e w st st′ at u x =
+    let (ps, er, ds, y) = performed-goals rules σ (body c R) d (build r g (count (R .premises)) ∷ w) st st′ x in
     let n : count (R .premises) ≡ count (roots ps) = sym (count-sub _ (R .premises)) ∙ ap count (sym er) in
-    let y′ : Does rules σ w (node r g ps ◂ st) st′ = subst (λ q. Does rules σ w q st′) (ap (λ k. built r g k (onto ps st)) n ∙ built-onto r g ps st) y in (
+    let y′ : Performed rules σ w (node r g ps ◂ st) st′ = subst (λ q. Performed rules σ w q st′) (ap (λ k. built r g k (onto ps st)) n ∙ built-onto r g ps st) y in (
       node r g ps,
       refl,
       (
@@ -128,7 +128,7 @@ suffix-next rules r R Rs h i = let q : suc r + i ≡ r + suc i = omega arith in 
 
 sound-le : (rules : List Rule) (c d : ℕ) (β : Bindings) (w : List Work) (st : Tree many) (o : Result) → c ≤ d → Sound rules d β w st o → Sound rules c β w st o
 sound-le rules c d β w st refused h f = tt
-sound-le rules c d β w st (found β′ st′ b c′ m) h f = record { later = omega (arith, f .later); acyclic = f .acyclic; below = f .below; extends = f .extends; does = f .does }
+sound-le rules c d β w st (found β′ st′ b c′ m) h f = record { later = omega (arith, f .later); acyclic = f .acyclic; below = f .below; extends = f .extends; performed = f .performed }
 sound-le rules c d β w st (failed b cut c′) h f = omega arith
 
 -- The premises of an entered rule, with the work behind them.
@@ -155,7 +155,7 @@ module _ (l : Limits) (rules : List Rule) where
         acyclic = f .acyclic;
         below = f .below;
         extends = extends-trans (k .extends) (f .extends);
-        does = λ σ s. does-rule rules σ c r R g d (suc d) w st st′ (suffix-here rules r R Rs sf) (k .unifies σ (extends-solves (f .extends) σ s)) (f .does σ s);
+        performed = λ σ s. performed-rule rules σ c r R g d (suc d) w st st′ (suffix-here rules r R Rs sf) (k .unifies σ (extends-solves (f .extends) σ s)) (f .performed σ s);
       })
       (λ β′ c′ m′ e b″ cut″ c″ q.
       let k : Entered c β g R β′ c′ = subst (Attempted c β g R) e aok in
@@ -174,12 +174,12 @@ module _ (l : Limits) (rules : List Rule) where
   pub solve-sound : (n : ℕ) → SoundSearch rules (solve l rules n)
   solve-sound zero b c m β w st ac bb bw = le-refl c
   solve-sound (suc n) zero c m β w st ac bb bw = le-refl c
-  solve-sound (suc n) (suc b) c m β [] st ac bb bw = record { later = le-refl c; acyclic = ac; below = bb; extends = unchanged; does = λ σ s. refl }
+  solve-sound (suc n) (suc b) c m β [] st ac bb bw = record { later = le-refl c; acyclic = ac; below = bb; extends = unchanged; performed = λ σ s. refl }
   solve-sound (suc n) (suc b) c m β (build r g k ∷ w) st ac bb bw = go (solve l rules n b c m β w (built r g k st)) (solve-sound n b c m β w (built r g k st) ac bb bw)
     where
       go : (o : Result) → Sound rules c β w (built r g k st) o → Sound rules c β (build r g k ∷ w) st o
       go refused f = tt
-      go (found β′ st′ b′ c′ m′) f = record { later = f .later; acyclic = f .acyclic; below = f .below; extends = f .extends; does = f .does }
+      go (found β′ st′ b′ c′ m′) f = record { later = f .later; acyclic = f .acyclic; below = f .below; extends = f .extends; performed = f .performed }
       go (failed b′ cut c′) f = f
   solve-sound (suc n) (suc b) c m β (goal g zero ∷ w) st ac bb bw = le-refl c
   solve-sound (suc n) (suc b) c m β (goal g (suc d) ∷ w) st ac bb bw =

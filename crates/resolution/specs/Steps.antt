@@ -48,51 +48,51 @@ solve-falls l rules (suc n) (suc b) c m β (goal g (suc d) ∷ w) st =
     falls-le (suc b) b false false (tries l (solve l rules n) β g d w st m 0 rules b false c) (omega arith) (λ e. e) (tries-falls l (solve l rules n) (solve-falls l rules n) β g d w st m 0 rules b false c)
 
 -- A result that did not exhaust its steps, and the same with k more steps left.
-abbrev pub Live : Result → Type 0
-Live refused = ⊥
-Live (found β st b c m) = Unit {0}
-Live (failed b cut c) = 0 < b
+abbrev pub StepsLeft : Result → Type 0
+StepsLeft refused = ⊥
+StepsLeft (found β st b c m) = Unit {0}
+StepsLeft (failed b cut c) = 0 < b
 
-abbrev pub richer : ℕ → Result → Result
-richer k refused = refused
-richer k (found β st b c m) = found β st (b + k) c m
-richer k (failed b cut c) = failed (b + k) cut c
+abbrev pub addSteps : ℕ → Result → Result
+addSteps k refused = refused
+addSteps k (found β st b c m) = found β st (b + k) c m
+addSteps k (failed b cut c) = failed (b + k) cut c
 
-abbrev pub Richer : ℕ → Search → Search → Type 0
-Richer k rec rec′ = (b b′ c m : ℕ) (β : Bindings) (w : List Work) (st : Tree many) → b′ ≡ b + k → Live (rec b c m β w st) → rec′ b′ c m β w st ≡ richer k (rec b c m β w st)
+abbrev pub MoreSteps : ℕ → Search → Search → Type 0
+MoreSteps k rec rec′ = (b b′ c m : ℕ) (β : Bindings) (w : List Work) (st : Tree many) → b′ ≡ b + k → StepsLeft (rec b c m β w st) → rec′ b′ c m β w st ≡ addSteps k (rec b c m β w st)
 
-live-falls : (b : ℕ) (cut : Bool) (o : Result) → Falls b cut o → Live o → 0 < b
-live-falls b cut refused f v = absurd v
-live-falls b cut (found β st b′ c m) f v = omega arith
-live-falls b cut (failed b′ cut′ c) f v = omega arith
+steps-left-falls : (b : ℕ) (cut : Bool) (o : Result) → Falls b cut o → StepsLeft o → 0 < b
+steps-left-falls b cut refused f v = absurd v
+steps-left-falls b cut (found β st b′ c m) f v = omega arith
+steps-left-falls b cut (failed b′ cut′ c) f v = omega arith
 
-module _ (l : Limits) (k : ℕ) (rec rec′ : Search) (fa : FallsSearch rec) (ok : Richer k rec rec′) where
-  tries-richer : (β : Bindings) (g : Term) (d : ℕ) (w : List Work) (st : Tree many) (m r : ℕ) (Rs : List Rule) (b b′ : ℕ) (cut : Bool) (c : ℕ)
-      → b′ ≡ b + k → Live (tries l rec β g d w st m r Rs b cut c) → tries l rec′ β g d w st m r Rs b′ cut c ≡ richer k (tries l rec β g d w st m r Rs b cut c)
-  tries-richer β g d w st m r [] b b′ cut c e = λ v. ap (λ n. failed n cut c) e
-  tries-richer β g d w st m r (R ∷ Rs) b b′ cut c e =
-      let next : (b b′ : ℕ) (cut : Bool) (c : ℕ) → b′ ≡ b + k → Live (tries l rec β g d w st m (suc r) Rs b cut c) → tries l rec′ β g d w st m (suc r) Rs b′ cut c ≡ richer k (tries l rec β g d w st m (suc r) Rs b cut c) =
-      λ b b′ cut c e v. tries-richer β g d w st m (suc r) Rs b b′ cut c e v in
-      tries-cases l rec β g d w st m (λ o. Live o → tries l rec′ β g d w st m r (R ∷ Rs) b′ cut c ≡ richer k o) r R Rs b cut c
+module _ (l : Limits) (k : ℕ) (rec rec′ : Search) (fa : FallsSearch rec) (ok : MoreSteps k rec rec′) where
+  tries-addSteps : (β : Bindings) (g : Term) (d : ℕ) (w : List Work) (st : Tree many) (m r : ℕ) (Rs : List Rule) (b b′ : ℕ) (cut : Bool) (c : ℕ)
+      → b′ ≡ b + k → StepsLeft (tries l rec β g d w st m r Rs b cut c) → tries l rec′ β g d w st m r Rs b′ cut c ≡ addSteps k (tries l rec β g d w st m r Rs b cut c)
+  tries-addSteps β g d w st m r [] b b′ cut c e = λ v. ap (λ n. failed n cut c) e
+  tries-addSteps β g d w st m r (R ∷ Rs) b b′ cut c e =
+      let next : (b b′ : ℕ) (cut : Bool) (c : ℕ) → b′ ≡ b + k → StepsLeft (tries l rec β g d w st m (suc r) Rs b cut c) → tries l rec′ β g d w st m (suc r) Rs b′ cut c ≡ addSteps k (tries l rec β g d w st m (suc r) Rs b cut c) =
+      λ b b′ cut c e v. tries-addSteps β g d w st m (suc r) Rs b b′ cut c e v in
+      tries-cases l rec β g d w st m (λ o. StepsLeft o → tries l rec′ β g d w st m r (R ∷ Rs) b′ cut c ≡ addSteps k o) r R Rs b cut c
       (λ v. absurd v)
       (λ c′ a v. tries-missed l rec′ β g d w st m r R Rs b′ cut c c′ a ∙ next b b′ cut c′ e v)
       (λ β′ c′ m′ a β″ st′ b₁ c₁ m₁ q v.
       tries-entered l rec′ β g d w st m r R Rs b′ cut c β′ c′ m′ a
-      ∙ ap (λ o. after o (λ b″ cut″ c″. tries l rec′ β g d w st m (suc r) Rs b″ (cut || cut″) c″)) (ok b b′ c′ m′ β′ _ st e (rw q tt) ∙ ap (richer k) q))
+      ∙ ap (λ o. after o (λ b″ cut″ c″. tries l rec′ β g d w st m (suc r) Rs b″ (cut || cut″) c″)) (ok b b′ c′ m′ β′ _ st e (rw q tt) ∙ ap (addSteps k) q))
       (λ β′ c′ m′ a b₁ cut₁ c₁ q v.
-      let z : 0 < b₁ = live-falls b₁ (cut || cut₁) (tries l rec β g d w st m (suc r) Rs b₁ (cut || cut₁) c₁) (tries-falls l rec fa β g d w st m (suc r) Rs b₁ (cut || cut₁) c₁) v in
+      let z : 0 < b₁ = steps-left-falls b₁ (cut || cut₁) (tries l rec β g d w st m (suc r) Rs b₁ (cut || cut₁) c₁) (tries-falls l rec fa β g d w st m (suc r) Rs b₁ (cut || cut₁) c₁) v in
       tries-entered l rec′ β g d w st m r R Rs b′ cut c β′ c′ m′ a
-      ∙ ap (λ o. after o (λ b″ cut″ c″. tries l rec′ β g d w st m (suc r) Rs b″ (cut || cut″) c″)) (ok b b′ c′ m′ β′ _ st e (rw q z) ∙ ap (richer k) q)
+      ∙ ap (λ o. after o (λ b″ cut″ c″. tries l rec′ β g d w st m (suc r) Rs b″ (cut || cut″) c″)) (ok b b′ c′ m′ β′ _ st e (rw q z) ∙ ap (addSteps k) q)
       ∙ next b₁ (b₁ + k) (cut || cut₁) c₁ refl v)
 
 -- The theorem: more steps, and as many more to recurse on, change nothing but the steps left.
-pub solve-richer : (l : Limits) (rules : List Rule) (k n n′ : ℕ) → n ≤ n′ → Richer k (solve l rules n) (solve l rules n′)
-solve-richer l rules k zero n′ h b b′ c m β w st e v = absurd (omega arith)
-solve-richer l rules k (suc n) zero h b b′ c m β w st e v = absurd (omega arith)
-solve-richer l rules k (suc n) (suc n′) h zero b′ c m β w st e v = absurd (omega arith)
-solve-richer l rules k (suc n) (suc n′) h (suc b) zero c m β w st e v = absurd (omega arith)
-solve-richer l rules k (suc n) (suc n′) h (suc b) (suc b′) c m β [] st e v = ap (λ i. found β st i c m) (omega arith)
-solve-richer l rules k (suc n) (suc n′) h (suc b) (suc b′) c m β (build r g j ∷ w) st e v = solve-richer l rules k n n′ (omega arith) b b′ c m β w (built r g j st) (omega arith) v
-solve-richer l rules k (suc n) (suc n′) h (suc b) (suc b′) c m β (goal g zero ∷ w) st e v = ap (λ i. failed i true c) (omega arith)
-solve-richer l rules k (suc n) (suc n′) h (suc b) (suc b′) c m β (goal g (suc d) ∷ w) st e v =
-    tries-richer l k (solve l rules n) (solve l rules n′) (solve-falls l rules n) (solve-richer l rules k n n′ (omega arith)) β g d w st m 0 rules b b′ false c (omega arith) v
+pub solve-addSteps : (l : Limits) (rules : List Rule) (k n n′ : ℕ) → n ≤ n′ → MoreSteps k (solve l rules n) (solve l rules n′)
+solve-addSteps l rules k zero n′ h b b′ c m β w st e v = absurd (omega arith)
+solve-addSteps l rules k (suc n) zero h b b′ c m β w st e v = absurd (omega arith)
+solve-addSteps l rules k (suc n) (suc n′) h zero b′ c m β w st e v = absurd (omega arith)
+solve-addSteps l rules k (suc n) (suc n′) h (suc b) zero c m β w st e v = absurd (omega arith)
+solve-addSteps l rules k (suc n) (suc n′) h (suc b) (suc b′) c m β [] st e v = ap (λ i. found β st i c m) (omega arith)
+solve-addSteps l rules k (suc n) (suc n′) h (suc b) (suc b′) c m β (build r g j ∷ w) st e v = solve-addSteps l rules k n n′ (omega arith) b b′ c m β w (built r g j st) (omega arith) v
+solve-addSteps l rules k (suc n) (suc n′) h (suc b) (suc b′) c m β (goal g zero ∷ w) st e v = ap (λ i. failed i true c) (omega arith)
+solve-addSteps l rules k (suc n) (suc n′) h (suc b) (suc b′) c m β (goal g (suc d) ∷ w) st e v =
+    tries-addSteps l k (solve l rules n) (solve l rules n′) (solve-falls l rules n) (solve-addSteps l rules k n n′ (omega arith)) β g d w st m 0 rules b b′ false c (omega arith) v

@@ -46,11 +46,11 @@ found-proved rules n₀ c β g d β′ st c′ l f = record {
   acyclic = f .acyclic;
   below = f .below;
   later = omega (arith, f .later);
-  derives = λ σ s. go σ (f .does σ s);
+  derives = λ σ s. go σ (f .performed σ s);
 }
   where
     x : (p : Tree one) × (root p ≡ g) × Derivation rules (putIn (full β′) p) × (p ◂ leaf ≡ st)
-    x = f .does (full β′) (full-solves β′ (f .acyclic))
+    x = f .performed (full β′) (full-solves β′ (f .acyclic))
 
     go : (σ : Subst) → ((p : Tree one) × (root p ≡ g) × Derivation rules (putIn σ p) × (p ◂ leaf ≡ st)) → Derivation rules (putIn σ (x .0))
     go σ y = let e : y .0 ◂ leaf ≡ x .0 ◂ leaf = y .3 ∙ sym (x .3) in

@@ -32,31 +32,31 @@ unfolding mem
 occurs-cons β v t ts = refl
 
 -- How many bound variables a walk passes: the number that falls along it.
-abbrev hits : ℕ → Term → ℕ → ℕ
-hits x (var y) n = cond (same y x) n 0
-hits x (app f ts) n = 0
+abbrev lengthIf : ℕ → Term → ℕ → ℕ
+lengthIf x (var y) n = cond (same y x) n 0
+lengthIf x (app f ts) n = 0
 
-abbrev pub hops : Bindings → Term → ℕ
-hops start t = 0
-hops (bind x u β) t = hops β t + hits x (walk β t) (suc (hops β u))
+abbrev pub walkLength : Bindings → Term → ℕ
+walkLength start t = 0
+walkLength (bind x u β) t = walkLength β t + lengthIf x (walk β t) (suc (walkLength β u))
 
-hops-unbound : (β : Bindings) (y : ℕ) → lookup β y ≡ none → hops β (var y) ≡ 0
-hops-unbound start y e = refl
-hops-unbound (bind x u β) y e = by-same y x (λ p q. some-none refl (rw q at e))
-    (λ p q. rw (walk-unbound β y (rw q at e), q, hops-unbound β y (rw q at e)))
+walkLength-unbound : (β : Bindings) (y : ℕ) → lookup β y ≡ none → walkLength β (var y) ≡ 0
+walkLength-unbound start y e = refl
+walkLength-unbound (bind x u β) y e = by-same y x (λ p q. some-none refl (rw q at e))
+    (λ p q. rw (walk-unbound β y (rw q at e), q, walkLength-unbound β y (rw q at e)))
 
-hits-no : (x n : ℕ) (w : Term) → w ≢ var x → hits x w n ≡ 0
-hits-no x n (var y) h = by-same y x (λ p q. absurd (h (ap var p))) (λ p q. rw q)
-hits-no x n (app f ts) h = refl
+lengthIf-no : (x n : ℕ) (w : Term) → w ≢ var x → lengthIf x w n ≡ 0
+lengthIf-no x n (var y) h = by-same y x (λ p q. absurd (h (ap var p))) (λ p q. rw q)
+lengthIf-no x n (app f ts) h = refl
 
-pub hops-bound : (β : Bindings) → Acyclic β → (y : ℕ) (t : Term) → lookup β y ≡ some t → hops β (var y) ≡ suc (hops β t)
-hops-bound start h y t e = none-some e
-hops-bound (bind x u β) h y t e = by-same y x
+pub walkLength-bound : (β : Bindings) → Acyclic β → (y : ℕ) (t : Term) → lookup β y ≡ some t → walkLength β (var y) ≡ suc (walkLength β t)
+walkLength-bound start h y t e = none-some e
+walkLength-bound (bind x u β) h y t e = by-same y x
     (λ p q. let e′ : some u ≡ some t = rw q at e in
     let ut : u ≡ t = cc in
     let n : lookup β y ≡ none = rw p (h .0) in
-    rw (walk-unbound β y n, q, hops-unbound β y n, ← ut, hits-no x (suc (hops β u)) (walk β u) (walk-not-back β x u h)) (omega arith))
-    (λ p q. rw (walk-bound β (h .2) y t (rw q at e), hops-bound β (h .2) y t (rw q at e)) (omega arith))
+    rw (walk-unbound β y n, q, walkLength-unbound β y n, ← ut, lengthIf-no x (suc (walkLength β u)) (walk β u) (walk-not-back β x u h)) (omega arith))
+    (λ p q. rw (walk-bound β (h .2) y t (rw q at e), walkLength-bound β (h .2) y t (rw q at e)) (omega arith))
 
 -- Unification without its bounds
 
