@@ -1,10 +1,11 @@
 -- Robinson's theorem for `unify`: success gives acyclic bindings that only add and that are a most general unifier over the starting bindings;
 -- failure means that no substitution that agrees with the starting bindings unifies the terms.
 use Prim.Native.Nat.{ℕ}
-use mathlib.Core.Path.{sym}
+use mathlib.Core.Path.{_≡_, sym}
 use mathlib.Core.List.{[], _∷_}
-use Rattle.terms.specs.Term.{Term, Subst, Below}
-use Rattle.terms.specs.Bindings.{Bindings, full, Acyclic, BelowB}
+use mathlib.Core.Logic.{_⊎_, inl, inr}
+use Rattle.terms.specs.Term.{Term, Subst, Below, sub}
+use Rattle.terms.specs.Bindings.{Bindings, start, full, Acyclic, BelowB}
 use Rattle.terms.specs.Unification.{Unifier, MostGeneral, eqn, Outcome, unfinished, fails, unified, unify}
 use Rattle.terms.specs.BindingLaws.{full-solves, solves-full, unbound-le}
 use Rattle.terms.specs.UnificationLaws.{Mgu, Answers, Over, unifies-ok, unifies-over}
@@ -33,3 +34,12 @@ mgu-most-general c β a b β′ m =
       unifier = (s .0, s .1 .0);
       general = λ τ u. (τ, λ x. sym (solves-full τ β′ (m .general τ (u .0) (u .1, tt)) x));
     }
+
+-- Robinson's own theorem, with no bindings: two terms have a most general unifier, or none at all.
+pub robinson : (c : ℕ) (a b : Term) → Below c a → Below c b → ((σ : Subst) × MostGeneral start a b σ) ⊎ ((σ : Subst) → sub σ a ≡ sub σ b → ⊥)
+robinson c a b ba b′ = go (unify c start a b) (unify-ok c start a b tt tt ba b′)
+  where
+    go : (o : Outcome) → Unified c start a b o → ((σ : Subst) × MostGeneral start a b σ) ⊎ ((σ : Subst) → sub σ a ≡ sub σ b → ⊥)
+    go unfinished u = absurd u
+    go fails u = inr (λ σ e. u σ (tt, e))
+    go (unified β) u = inl (full β, mgu-most-general c start a b β u)
