@@ -54,6 +54,7 @@ abbrev choose : Option Term → Term → Term → Term
 choose none t u = t
 choose (some v) t u = u
 
+-- What takes the bindings β on to β′.
 abbrev pub advance : Bindings → Bindings → Subst
 advance β β′ x = choose (lookup β x) (full β′ x) (var x)
 
@@ -143,16 +144,19 @@ atoms-goals (cons t ts) d w = ap (cons t) (atoms-goals ts d w)
 
 -- Success is a refutation
 
+-- A refutation of the goal with the bindings put in, whose answer takes them to β′.
 pub record Refuted (rules : List Rule) (c : ℕ) (β : Bindings) (G : Terms) (β′ : Bindings) : Type 0 where
   pub φ : Subst
   pub refutation : Refutation rules c (res β G) φ
   pub answer : (x : ℕ) → x < c → sub φ (full β x) ≡ full β′ x
 
+-- What a result says: success is such a refutation.
 abbrev pub Reaches : List Rule → ℕ → Bindings → Terms → Result → Type 0
 Reaches rules c β G refused = Unit {0}
 Reaches rules c β G (found β′ st b c′ m) = Refuted rules c β G β′
 Reaches rules c β G (failed b cut c′) = Unit {0}
 
+-- Of all that a search comes to.
 abbrev ReachesSearch : List Rule → Search → Type 0
 ReachesSearch rules rec = (b c m : ℕ) (β : Bindings) (w : List Work) (st : Tree many) → Acyclic β → BelowB c β → BelowW c w → Reaches rules c β (atoms w) (rec b c m β w st)
 

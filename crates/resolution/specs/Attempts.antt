@@ -33,6 +33,7 @@ pub record Entered (c : ℕ) (β : Bindings) (g : Term) (R : Rule) (β′ : Bind
   pub general : (σ : Subst) → Unifier β g (head c R) σ → Solves σ β′
   pub premises : Below c′ (body c R)
 
+-- What an attempt says.
 abbrev pub Attempted : ℕ → Bindings → Term → Rule → Attempt → Type 0
 Attempted c β g R exceeded = Unit {0}
 Attempted c β g R (missed c′) = Missed c β g R c′

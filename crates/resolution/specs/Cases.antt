@@ -23,6 +23,7 @@ abbrev numbers : List Named → List ℕ
 numbers [] = []
 numbers (n ∷ ns) = (n .name .text) ++ numbers ns
 
+-- Numbers as names.
 abbrev named : List ℕ → List Name
 named [] = []
 named (x ∷ xs) = record { text = x ∷ []; sort = 1 } ∷ named xs
@@ -31,32 +32,38 @@ named (x ∷ xs) = record { text = x ∷ []; sort = 1 } ∷ named xs
 unfoldable pub compileBy : Term → List Named → Compiled
 compileBy p ns = compiles (named (drop (length (numbers ns)) (met p (numbers ns)))) (sub (λ x. var (place (met p (numbers ns)) x)) p)
 
+-- The goal as it is asked.
 abbrev pub queryOf : Posed → Query
 queryOf q = record { compile = compileBy (q .goal); steps = q .steps; depth = q .depth; limits = q .limits }
 
 -- What comes out, in front of other numbers
 
+-- A term, or the terms of a list.
 abbrev pub writeTerm : {s : Kind} → Syn s → List ℕ → List ℕ
 writeTerm (var x) l = 0 ∷ x ∷ l
 writeTerm (app f ts) l = 1 ∷ f ∷ count ts ∷ writeTerm ts l
 writeTerm nil l = l
 writeTerm (cons t ts) l = writeTerm t (writeTerm ts l)
 
+-- A tree, or the trees of a list.
 abbrev pub writeTree : {s : Kind} → Tree s → List ℕ → List ℕ
 writeTree (node r g ps) l = 2 ∷ r ∷ writeTerm g (writeTree ps l)
 writeTree leaf l = 3 ∷ l
 writeTree (p ◂ ps) l = writeTree p (writeTree ps l)
 
+-- Bindings, the newest first.
 abbrev pub writeBindings : Bindings → List ℕ → List ℕ
 writeBindings start l = 4 ∷ l
 writeBindings (bind x t β) l = 5 ∷ x ∷ writeTerm t (writeBindings β l)
 
+-- A verdict with its steps, and its proof.
 abbrev pub writeVerdict : Verdict → List ℕ → List ℕ
 writeVerdict (refusal n) l = 6 ∷ n ∷ l
 writeVerdict (proved β st u c m) l = 7 ∷ u ∷ writeTree st l
 writeVerdict (nothing u c) l = 8 ∷ u ∷ l
 writeVerdict (undecided u c) l = 9 ∷ u ∷ l
 
+-- A verdict, and the session left.
 abbrev pub writeAnswer : Answer → List ℕ → List ℕ
 writeAnswer a l = writeVerdict (a .verdict) (length (a .session .names) ∷ a .session .variables ∷ a .session .words ∷ writeBindings (a .session .bindings) l)
 
@@ -64,6 +71,7 @@ writeAnswer a l = writeVerdict (a .verdict) (length (a .session .names) ∷ a .s
 abbrev written : Answer → (Session → List ℕ) → List ℕ
 written a next = writeAnswer a (next (a .session))
 
+-- All that the goals of a session come to.
 abbrev pub play : List Rule → Session → List Posed → List ℕ
 play rules S [] = []
 play rules S (q ∷ qs) = written (ask rules S (queryOf q)) (λ S′. play rules S′ qs)
@@ -75,12 +83,14 @@ pub record Case : Type 0 where
   pub goals : List Posed
   pub expected : List ℕ
 
+-- Are two lists the same?
 abbrev pub sameList : List ℕ → List ℕ → Bool
 sameList [] [] = true
 sameList [] (y ∷ ys) = false
 sameList (x ∷ xs) [] = false
 sameList (x ∷ xs) (y ∷ ys) = same x y && sameList xs ys
 
+-- Does a case come out as expected?
 abbrev pub passes : Case → Bool
 passes k = sameList (play (k .rules) (k .session) (k .goals)) (k .expected)
 

@@ -68,6 +68,7 @@ pub record Again (v v′ : Verdict) : Type 0 where
 abbrev pub reask : Query → ℕ → ℕ → Allowance → Query
 reask q steps depth a = record { compile = q .compile; steps = steps; depth = depth; limits = a }
 
+-- What is claimed of one goal, E being the session at the end of all.
 pub record Claim (rules : List Rule) (S E : Session) (e : Event) : Type 0 where
   pub verdict : e .verdict ≡ ask rules S (e .query) .verdict
   pub session : e .session ≡ ask rules S (e .query) .session
@@ -76,6 +77,7 @@ pub record Claim (rules : List Rule) (S E : Session) (e : Event) : Type 0 where
   pub repeats : (steps depth : ℕ) (a : Allowance) → e .query .steps ≤ steps → e .query .depth ≤ depth → tooMuch steps depth a ≡ false
       → Again (e .verdict) (ask rules S (reask (e .query) steps depth a) .verdict)
 
+-- And of the whole list.
 abbrev pub Claims : List Rule → Session → Session → List Event → Type 0
 Claims rules S E [] = Unit {0}
 Claims rules S E (e ∷ es) = Claim rules S E e × Claims rules (e .session) E es
@@ -110,6 +112,7 @@ goal-below S F k p b = below-sub (length (S .names) + k) (S .variables + k) (λ 
 -- What the verdict on a compiled goal says
 
 module _ (rules : List Rule) (S : Session) (F : InForm S) (new : List Name) (p : Term) (b : Below (length (S .names) + length new) p) where
+  -- The variables made once the goal is instantiated.
   abbrev n₀ : ℕ
   n₀ = S .variables + length new
 
@@ -271,10 +274,12 @@ demand-3 rules S es F t = let f = final-form rules S es F t in (claims rules S (
 
 -- The definitions' own answers to a list of goals are such a transcript.
 
+-- The answers in turn.
 abbrev pub run : List Rule → Session → List Query → List Event
 run rules S [] = []
 run rules S (q ∷ qs) = record { query = q; verdict = ask rules S q .verdict; session = ask rules S q .session } ∷ run rules (ask rules S q .session) qs
 
+-- Each goal compiles to a term over the names of the session that it gets.
 abbrev pub AllScoped : List Rule → Session → List Query → Type 0
 AllScoped rules S [] = Unit {0}
 AllScoped rules S (q ∷ qs) = Scoped (S .names) (q .compile (S .names)) × AllScoped rules (ask rules S q .session) qs

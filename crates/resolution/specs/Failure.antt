@@ -37,11 +37,13 @@ fails-more rules (suc n) c (cons A As) f = λ r R at. go r R (f r R at) (fails-m
     go r R (inl k) ih = inl k
     go r R (inr k) ih = inr (k .0, k .1, k .2, k .3, ih (k .0) (k .2) (k .4))
 
+-- What a result says: failure with steps left and nothing cut off is finite failure.
 abbrev Fails : List Rule → ℕ → ℕ → Bindings → Terms → Result → Type 0
 Fails rules n c β G refused = Unit {0}
 Fails rules n c β G (found β′ st b c′ m) = Unit {0}
 Fails rules n c β G (failed b cut c′) = 0 < b → cut ≡ false → FailsBy rules n c (res β G)
 
+-- Of all that a search comes to.
 abbrev FailsSearch : List Rule → ℕ → Search → Type 0
 FailsSearch rules n rec = (b c m : ℕ) (β : Bindings) (w : List Work) (st : Tree many) → Acyclic β → BelowB c β → BelowW c w → Fails rules n c β (atoms w) (rec b c m β w st)
 

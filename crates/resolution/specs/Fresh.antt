@@ -7,6 +7,7 @@ use Rattle.terms.specs.Numbers.{same}
 use Rattle.terms.specs.Term.{Kind, Syn, var, app, nil, cons, Term, Terms, Subst, sub}
 use Rattle.resolution.specs.Rules.{Rule}
 
+-- Is x in the list?
 abbrev pub elem : ℕ → List ℕ → Bool
 elem x [] = false
 elem x (y ∷ e) = same x y || elem x e
@@ -32,15 +33,18 @@ place (y ∷ e) x = cond (same x y) 0 (suc (place e x))
 abbrev pub fresh : ℕ → List ℕ → Subst
 fresh c e x = var (c + place e x)
 
+-- The variables of the conclusion, as they are met.
 abbrev pub headVars : Rule → List ℕ
 headVars R = met (R .conclusion) []
 
+-- And those of the premises behind them.
 abbrev pub allVars : Rule → List ℕ
 allVars R = metBack (R .premises) (headVars R)
 
--- The instance of the conclusion, and that of the premises, made from the counter c on.
+-- The instance of the conclusion, made from the counter c on.
 abbrev pub head : ℕ → Rule → Term
 head c R = sub (fresh c (headVars R)) (R .conclusion)
 
+-- The instance of the premises.
 abbrev pub body : ℕ → Rule → Terms
 body c R = sub (fresh c (allVars R)) (R .premises)

@@ -32,6 +32,7 @@ attempt-limited l β g m c R =
 abbrev pub Matches : Result → Result → Type 0
 Matches o o′ = (o ≡ refused) ⊎ (o ≡ o′)
 
+-- Of all that two searches come to.
 abbrev MatchesSearch : Search → Search → Type 0
 MatchesSearch rec rec′ = (b c m : ℕ) (β : Bindings) (w : List Work) (st : Tree many) → Matches (rec b c m β w st) (rec′ b c m β w st)
 

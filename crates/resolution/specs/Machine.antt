@@ -36,6 +36,7 @@ pub record Branch : Type 0 where
   pub rule : ℕ
   pub others : List Rule
 
+-- The goal of a branch record with the rules that are left.
 abbrev pub retry : Limits → List Rule → Branch → ℕ → Bool → ℕ → Result
 retry l rules f b cut c = tries l (search l rules) (f .saved) (f .term) (f .depth) (f .rest) (f .stack) (f .words) (f .rule) (f .others) b cut c
 
@@ -46,6 +47,7 @@ resume l rules (f ∷ fs) o = resume l rules fs (after o (retry l rules f))
 
 -- A recursion bound no less than the steps makes no difference.
 
+-- Two searches agree on at most n steps.
 abbrev Agree : ℕ → Search → Search → Type 0
 Agree n rec rec′ = (b c m : ℕ) (β : Bindings) (w : List Work) (st : Tree many) → b ≤ n → rec′ b c m β w st ≡ rec b c m β w st
 

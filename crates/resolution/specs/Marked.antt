@@ -12,13 +12,16 @@ use Rattle.resolution.specs.Cases.{compileBy, queryOf}
 
 -- zero, succ and add are the symbols 0, 1 and 2; Nat is the sort 1.
 
+-- A numeral: so many times succ on zero.
 unfoldable pub num : ℕ → Term
 num zero = app 0 nil
 num (suc n) = app 1 (cons (num n) nil)
 
+-- The judgment add a b = c.
 unfoldable pub add : Term → Term → Term → Term
 add a b c = app 2 (cons a (cons b (cons c nil)))
 
+-- The successor of a term.
 unfoldable pub succ : Term → Term
 succ t = app 1 (cons t nil)
 
@@ -33,12 +36,14 @@ addRules =
 pub data Expected : Type 0 where
   isProved isNone isUndecided : ℕ → Expected
 
+-- A goal with steps and depth, and what is expected.
 pub record MarkedCase : Type 0 where
   pub goal : Term
   pub steps : ℕ
   pub depth : ℕ
   pub expected : Expected
 
+-- Is the verdict the expected one, with its steps?
 abbrev meets : Verdict → Expected → Bool
 meets (refusal n) e = false
 meets (proved β st u c m) (isProved s) = same u s
@@ -51,9 +56,11 @@ meets (undecided u c) (isProved s) = false
 meets (undecided u c) (isNone s) = false
 meets (undecided u c) (isUndecided s) = same u s
 
+-- Does a case come out?
 abbrev pub meetsCase : MarkedCase → Bool
 meetsCase k = meets (ask addRules newSession (queryOf (record { goal = k .goal; steps = k .steps; depth = k .depth; limits = record { steps = stepLimit; variables = variableLimit; words = wordLimit } })) .verdict) (k .expected)
 
+-- Do all of them?
 abbrev pub allMeet : List MarkedCase → Bool
 allMeet [] = true
 allMeet (k ∷ ks) = meetsCase k && allMeet ks

@@ -48,6 +48,7 @@ split rules (cons t ts) us (p ◂ ps) e d =
       derives-second = r .derives-second;
     }
 
+-- How many nodes.
 abbrev pub nodes : {s : Kind} → Tree s → ℕ
 nodes (node r g ps) = suc (nodes ps)
 nodes leaf = 0

@@ -23,9 +23,11 @@ use Rattle.resolution.specs.Verdicts.{Proved, Says, found-proved, deepen
 
 -- Verdicts by their kind alone
 
+-- Proved; none; undecided; refused.
 pub data Finding : Type 0 where
   shown excluded unsettled barred : Finding
 
+-- The kind of a verdict.
 abbrev pub finding : Verdict → Finding
 finding (refusal n) = barred
 finding (proved β st u c m) = shown
@@ -36,6 +38,7 @@ finding (undecided u c) = unsettled
 abbrev pub Repeats : Finding → Finding → Type 0
 Repeats v v′ = (v ≡ shown → (v′ ≡ shown) ⊎ (v′ ≡ barred)) × (v ≡ excluded → (v′ ≡ excluded) ⊎ (v′ ≡ barred))
 
+-- What one bound settles.
 abbrev kind : Result → Finding
 kind refused = barred
 kind (found β st b c m) = shown
@@ -43,17 +46,20 @@ kind (failed zero cut c) = unsettled
 kind (failed (suc b) true c) = unsettled
 kind (failed (suc b) false c) = excluded
 
+-- The counter that one bound leaves.
 abbrev counter : Result → ℕ
 counter refused = 0
 counter (found β st b c m) = c
 counter (failed b cut c) = c
 
+-- The steps that one bound used.
 abbrev used : ℕ → Result → ℕ
 used s refused = 0
 used s (found β st b c m) = s - b
 used s (failed zero cut c) = s
 used s (failed (suc b) cut c) = s - suc b
 
+-- What one bound leaves unsettled, the later ones settle.
 abbrev pick : Finding → Finding → Finding
 pick shown v = shown
 pick excluded v = excluded
@@ -156,6 +162,7 @@ module _ (rules : List Rule) (β : Bindings) (g : Term) (n₀ : ℕ) (ac : Acycl
     pub τ : Subst
     pub derivable : Derivable rules (sub τ (res β g))
 
+  -- What a kind of verdict means.
   abbrev Means : Finding → Type 0
   Means shown = Answerable
   Means excluded = Answerable → ⊥

@@ -26,9 +26,11 @@ pub data Tree : Kind → Type 0 where
   _◂_ : Tree one → Tree many → Tree many
 
 infixr 40 _◂_
+-- A tree's root.
 abbrev pub root : Tree one → Term
 root (node r g ps) = g
 
+-- The roots of a list of trees.
 abbrev pub roots : Tree many → Terms
 roots leaf = nil
 roots (p ◂ ps) = cons (root p) (roots ps)
@@ -52,6 +54,7 @@ pub record Instance (rules : List Rule) (r : ℕ) (g : Term) (gs : Terms) : Type
   pub head : sub θ (rule .conclusion) ≡ g
   pub body : sub θ (rule .premises) ≡ gs
 
+-- Every node is an instance of its rule.
 abbrev pub Derivation : {s : Kind} → List Rule → Tree s → Type 0
 Derivation rules (node r g ps) = Instance rules r g (roots ps) × Derivation rules ps
 Derivation rules leaf = Unit {0}

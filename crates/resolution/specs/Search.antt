@@ -77,6 +77,7 @@ gather zero acc st = (acc, st)
 gather (suc n) acc leaf = (acc, leaf)
 gather (suc n) acc (p ◂ st) = gather n (p ◂ acc) st
 
+-- A node built from them, put on the proofs before them.
 abbrev pub built : ℕ → Term → ℕ → Tree many → Tree many
 built r g n st = node r g ((gather n leaf st) .0) ◂ (gather n leaf st) .1
 
@@ -147,6 +148,7 @@ abbrev pub boundsFrom : ℕ → ℕ → ℕ → List ℕ
 boundsFrom zero d largest = []
 boundsFrom (suc n) d largest = cond (less largest d) [] (d ∷ boundsFrom n (d + d) largest)
 
+-- The bounds start at 4.
 abbrev pub bounds : ℕ → List ℕ
 bounds largest = boundsFrom largest 4 largest
 

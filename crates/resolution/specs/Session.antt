@@ -85,6 +85,7 @@ wordLimit = 262144
 abbrev pub atMost : ℕ → ℕ → ℕ
 atMost top n = cond (less top n) top n
 
+-- The limits that the search goes by.
 abbrev pub limitsOf : Allowance → Limits
 limitsOf a = within (atMost variableLimit (a .variables)) (atMost wordLimit (a .words))
 
@@ -131,9 +132,11 @@ searched rules S steps depth a new g false = prove (limitsOf a) rules steps dept
 abbrev pub verdictOf : List Rule → Session → ℕ → ℕ → Allowance → ℕ → Term → Verdict
 verdictOf rules S steps depth a new g = searched rules S steps depth a new g (over (limitsOf a) (S .variables + new) (S .words + words g))
 
+-- A verdict with the session that it leaves.
 abbrev pub answer : Session → List Name → Verdict → Answer
 answer S new v = record { verdict = v; session = left S new v }
 
+-- The answer to a compiled goal.
 abbrev pub answered : List Rule → Session → ℕ → ℕ → Allowance → Compiled → Answer
 answered rules S steps depth a (refuses n) = record { verdict = refusal n; session = S }
 answered rules S steps depth a (compiles new p) = answer S new (verdictOf rules S steps depth a (length new) (goalOf S p))
@@ -143,5 +146,6 @@ abbrev pub tested : List Rule → Session → Query → Bool → Answer
 tested rules S q true = record { verdict = refusal 38; session = S }
 tested rules S q false = answered rules S (q .steps) (q .depth) (q .limits) (q .compile (S .names))
 
+-- The answer to a goal in a session.
 abbrev pub ask : List Rule → Session → Query → Answer
 ask rules S q = tested rules S q (tooMuch (q .steps) (q .depth) (q .limits))

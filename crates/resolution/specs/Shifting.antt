@@ -101,6 +101,7 @@ module _ (ρ : ℕ → ℕ) (inj : (x y : ℕ) → same (ρ x) (ρ y) ≡ same x
       go fails = ap missed (omega arith)
       go (unified β′) = ap₂ (entered (renB ρ β′)) (omega arith) (omega (arith, wh, wb))
 
+  -- A search comes to the same, renamed, from the shifted counter.
   abbrev pub Commutes : Search → Type 0
   Commutes rec = (b c c′ m : ℕ) (β : Bindings) (w : List Work) (st : Tree many) → n₀ ≤ c → c′ ≡ c + k → Acyclic β → BelowB c β → BelowW c w
       → rec b c′ m (renB ρ β) (renW ρ w) (renT ρ st) ≡ renR ρ k (rec b c m β w st)

@@ -37,11 +37,13 @@ pub record Found (rules : List Rule) (c : ℕ) (β : Bindings) (w : List Work) (
   pub extends : Extends β β′
   pub performed : (σ : Subst) → Solves σ β′ → Performed rules σ w st st′
 
+-- What a result says.
 abbrev pub Sound : List Rule → ℕ → Bindings → List Work → Tree many → Result → Type 0
 Sound rules c β w st refused = Unit {0}
 Sound rules c β w st (found β′ st′ b c′ m) = Found rules c β w st β′ st′ c′
 Sound rules c β w st (failed b cut c′) = c ≤ c′
 
+-- Of all that a search comes to.
 abbrev pub SoundSearch : List Rule → Search → Type 0
 SoundSearch rules rec = (b c m : ℕ) (β : Bindings) (w : List Work) (st : Tree many) → Acyclic β → BelowB c β → BelowW c w → Sound rules c β w st (rec b c m β w st)
 

@@ -12,11 +12,13 @@ use Rattle.resolution.specs.Rules.{Rule, Tree}
 use Rattle.resolution.specs.Search.{Limits, Work, goal, build, built, Result, refused, found, failed, after, Search, tries, solve}
 use Rattle.resolution.specs.Attempts.{tries-missed, tries-entered, tries-cases}
 
+-- At most b steps are left, and a result that says nothing was cut off had nothing cut off before.
 abbrev pub Falls : ℕ → Bool → Result → Type 0
 Falls b cut refused = Unit {0}
 Falls b cut (found β st b′ c m) = b′ < b
 Falls b cut (failed b′ cut′ c) = (b′ ≤ b) × (cut′ ≡ false → cut ≡ false)
 
+-- Of all that a search comes to.
 abbrev pub FallsSearch : Search → Type 0
 FallsSearch rec = (b c m : ℕ) (β : Bindings) (w : List Work) (st : Tree many) → Falls b false (rec b c m β w st)
 
@@ -53,11 +55,13 @@ StepsLeft refused = ⊥
 StepsLeft (found β st b c m) = Unit {0}
 StepsLeft (failed b cut c) = 0 < b
 
+-- With k more steps left.
 abbrev pub addSteps : ℕ → Result → Result
 addSteps k refused = refused
 addSteps k (found β st b c m) = found β st (b + k) c m
 addSteps k (failed b cut c) = failed (b + k) cut c
 
+-- The second search, with k more steps, comes to the same.
 abbrev pub MoreSteps : ℕ → Search → Search → Type 0
 MoreSteps k rec rec′ = (b b′ c m : ℕ) (β : Bindings) (w : List Work) (st : Tree many) → b′ ≡ b + k → StepsLeft (rec b c m β w st) → rec′ b′ c m β w st ≡ addSteps k (rec b c m β w st)
 

@@ -31,6 +31,7 @@ pub record Proved (rules : List Rule) (n₀ : ℕ) (β : Bindings) (g : Term) (�
 abbrev pub Excluded : List Rule → Bindings → Term → Type 0
 Excluded rules β g = (τ : Subst) → Derivable rules (sub τ (res β g)) → ⊥
 
+-- What each verdict says.
 abbrev pub Says : List Rule → ℕ → Bindings → Term → Verdict → Type 0
 Says rules n₀ β g (refusal n) = n ≡ 37
 Says rules n₀ β g (proved β′ st u c m) = Proved rules n₀ β g β′ st c

@@ -184,10 +184,12 @@ extends-lookup ac (added {x} k) y t e = let ih = extends-lookup (ac .2) k y t e 
 
 -- How many variables below c are unbound: the measure of unification.
 
+-- One for a variable that is unbound.
 abbrev pub isNone : Option Term → ℕ
 isNone none = 1
 isNone (some t) = 0
 
+-- The unbound variables below c.
 abbrev pub unbound : ℕ → Bindings → ℕ
 unbound zero β = 0
 unbound (suc n) β = isNone (lookup β n) + unbound n β

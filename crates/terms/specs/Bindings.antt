@@ -12,6 +12,7 @@ pub data Bindings : Type 0 where
   start : Bindings
   bind : ℕ → Term → Bindings → Bindings
 
+-- The term that a variable is bound to.
 abbrev pub lookup : Bindings → ℕ → Option Term
 lookup start y = none
 lookup (bind x t β) y = cond (same y x) (some t) (lookup β y)

@@ -12,10 +12,12 @@ pub record Problem : Type 0 where
   pub left : Term
   pub right : Term
 
+-- What the problems come to.
 abbrev pub outcomes : List Problem → List Outcome
 outcomes [] = []
 outcomes (p ∷ ps) = unify 4 (p .bindings) (p .left) (p .right) ∷ outcomes ps
 
+-- A constant, and symbols with one and two arguments.
 abbrev pub a : Term
 a = app 0 nil
 
@@ -25,6 +27,7 @@ f t = app 1 (cons t nil)
 abbrev pub g : Term → Term → Term
 g t u = app 2 (cons t (cons u nil))
 
+-- The problems.
 abbrev pub problems : List Problem
 problems =
     -- Arguments from left to right, the newest binding first.

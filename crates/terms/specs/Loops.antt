@@ -36,6 +36,7 @@ abbrev lengthIf : ℕ → Term → ℕ → ℕ
 lengthIf x (var y) n = cond (same y x) n 0
 lengthIf x (app f ts) n = 0
 
+-- The bound variables from t on.
 abbrev pub walkLength : Bindings → Term → ℕ
 walkLength start t = 0
 walkLength (bind x u β) t = walkLength β t + lengthIf x (walk β t) (suc (walkLength β u))
@@ -99,6 +100,7 @@ work-more again (suc n) (suc n′) β (e ∷ es) l o = go (step β e es) (work-m
     go (keep es′) ih o = ih es′ (omega arith) o
     go (join x t es′) ih o = refl
 
+-- What goes on after a binding.
 abbrev again : ℕ → Bindings → List Eqn → Outcome
 again zero β es = unfinished
 again (suc k) β es = unifies k β es

@@ -67,6 +67,7 @@ ranked-acyclic r (bind x t β) d h =
 
 -- From acyclicity to a rank: a newer binding lifts its variable, and those that lead to it, above the variables of its term.
 
+-- The ranks of all variables of a term together.
 abbrev sum : {s : Kind} → (ℕ → ℕ) → Syn s → ℕ
 sum r (var x) = r x
 sum r (app f ts) = sum r ts
@@ -82,6 +83,7 @@ sum-mem r (cons t ts) y e = by-bool (mem y t)
     (λ p. omega (arith, sum-mem r t y p))
     (λ p. omega (arith, sum-mem r ts y (rw p at e)))
 
+-- A rank for acyclic bindings.
 abbrev pub rank : Bindings → ℕ → ℕ
 rank start z = 0
 rank (bind x t β) z = rank β z + cond (mem x (full β z)) (suc (sum (rank β) t)) 0

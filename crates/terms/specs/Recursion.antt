@@ -57,6 +57,7 @@ unifies-empty (suc k) β = refl
 
 -- Equations in front of others are worked off first.
 module _ (c : ℕ) (fs : List Eqn) (bf : BelowE c fs) where
+  -- The equations es, and then fs from their bindings.
   abbrev InOrder : Bindings → List Eqn → Type 0
   InOrder β es = unifies c β (es ++ fs) ≡ andThen (unifies c β es) (λ β′. unifies c β′ fs)
 

@@ -19,6 +19,7 @@ abbrev pub Same : Bindings → Eqn → Type 0
 Same β (eqn a b) = res β a ≡ res β b
 Same β (eqns a b) = res β a ≡ res β b
 
+-- The size of the left side.
 abbrev measure : Bindings → Eqn → ℕ
 measure β (eqn a b) = size (res β a)
 measure β (eqns a b) = size (res β a)

@@ -5,6 +5,7 @@ use Prim.Native.Nat.{ℕ, suc, _+_, _≤_, _<_}
 use mathlib.Core.Bool.{Bool, false, _||_, cond}
 use Rattle.terms.specs.Numbers.{same}
 
+-- One term, or a list of terms.
 pub data Kind : Type 0 where
   one many : Kind
 
@@ -15,9 +16,11 @@ pub data Syn : Kind → Type 0 where
   nil : Syn many
   cons : Syn one → Syn many → Syn many
 
+-- A term.
 abbrev pub Term : Type 0
 Term = Syn one
 
+-- A list of terms.
 abbrev pub Terms : Type 0
 Terms = Syn many
 
@@ -35,6 +38,7 @@ append (cons t ts) us = cons t (append ts us)
 abbrev pub Subst : Type 0
 Subst = ℕ → Term
 
+-- The terms put in.
 abbrev pub sub : {s : Kind} → Subst → Syn s → Syn s
 sub σ (var x) = σ x
 sub σ (app f ts) = app f (sub σ ts)
@@ -56,6 +60,7 @@ mem x (app f ts) = mem x ts
 mem x nil = false
 mem x (cons t ts) = mem x t || mem x ts
 
+-- How many constructors.
 abbrev pub size : {s : Kind} → Syn s → ℕ
 size (var x) = 1
 size (app f ts) = suc (size ts)

@@ -39,6 +39,7 @@ meet β (var x) (app g us) es = cond (occurs β x (app g us)) stop (join x (app 
 meet β (app f ts) (var y) es = cond (occurs β y (app f ts)) stop (join y (app f ts) es)
 meet β (app f ts) (app g us) es = cond (same f g) (keep (eqns ts us ∷ es)) stop
 
+-- The first equation, with others behind it.
 abbrev pub step : Bindings → Eqn → List Eqn → Step
 step β (eqn a b) es = meet β (walk β a) (walk β b) es
 step β (eqns nil nil) es = keep es
@@ -46,6 +47,7 @@ step β (eqns nil (cons u us)) es = stop
 step β (eqns (cons t ts) nil) es = stop
 step β (eqns (cons t ts) (cons u us)) es = keep (eqn t u ∷ eqns ts us ∷ es)
 
+-- A bound was reached; the terms do not unify; they do, with these bindings.
 pub data Outcome : Type 0 where
   unfinished fails : Outcome
   unified : Bindings → Outcome

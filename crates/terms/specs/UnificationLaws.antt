@@ -118,6 +118,7 @@ Answers c β es unfinished = Unit {0}
 Answers c β es fails = (σ : Subst) → Solves σ β → SolvesE σ es → ⊥
 Answers c β es (unified β′) = Mgu c β es β′
 
+-- Every outcome of a run answers its equations.
 abbrev pub Good : ℕ → (Bindings → List Eqn → Outcome) → Type 0
 Good c run = (β : Bindings) (es : List Eqn) → Acyclic β → BelowB c β → BelowE c es → Answers c β es (run β es)
 
@@ -168,6 +169,7 @@ Over unfinished = ⊥
 Over fails = Unit {0}
 Over (unified β) = Unit {0}
 
+-- A run comes to an end wherever fewer variables are unbound.
 abbrev Fewer : ℕ → Bindings → (Bindings → List Eqn → Outcome) → Type 0
 Fewer c β again = (β′ : Bindings) (es : List Eqn) → Acyclic β′ → BelowB c β′ → BelowE c es → unbound c β′ < unbound c β → Over (again β′ es)
 
