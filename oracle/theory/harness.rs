@@ -134,9 +134,24 @@ fn words(t: &T) -> usize {
     }
 }
 
-/// What is counted while the search runs: the most words of a branch.
+/// What is counted while the search runs: the most words of a branch, and whether a goal grew out of the checker's reach.
 struct Count {
     most: usize,
+    large: bool,
+}
+
+/// Goals with more nodes than this, once the bindings are put in, are left out: terms that double at each step soon have too many for any checker.
+const LARGEST: usize = 2000;
+
+/// The nodes of a term with the bindings put in, as far as they are within `left`.
+fn within(p: &Prover, t: &T, left: usize) -> Option<usize> {
+    let mut left = left.checked_sub(1)?;
+    if let T::A(_, args) = p.walk(t) {
+        for a in args.iter() {
+            left = within(p, a, left)?;
+        }
+    }
+    Some(left)
 }
 
 /// The Rust's `solve` once more, over the Prover's own `inst`, `unify` and `undo`, with the words of the current branch. Its answers are compared
@@ -167,7 +182,11 @@ fn counting(p: &mut Prover, work: &WList, proofs: &PList, m: usize, count: &mut 
                 p.cut = true;
                 return None;
             }
+            count.large |= within(p, goal, LARGEST).is_none();
             for r in 0..p.sig.rules.len() {
+                if count.large {
+                    return None;
+                }
                 let mark = p.trail.len();
                 let rule = p.sig.rules[r].clone();
                 let mut env = vec![None; rule.sorts.len()];
@@ -215,8 +234,8 @@ fn same_proof(a: &Proof, b: &Proof) -> bool {
     r == s && a.goal == b.goal && a.children.len() == b.children.len() && a.children.iter().zip(&b.children).all(|(x, y)| same_proof(x, y))
 }
 
-/// The Rust's `prove`, counted by a second run beside it.
-fn ask(p: &mut Prover, goal: &T, m: usize) -> Outcome {
+/// The Rust's `prove`, counted by a second run beside it; nothing if a goal grew too large.
+fn ask(p: &mut Prover, goal: &T, m: usize) -> Option<Outcome> {
     let mut q = Prover {
         sig: p.sig.clone(),
         binding: p.binding.clone(),
@@ -229,18 +248,7 @@ fn ask(p: &mut Prover, goal: &T, m: usize) -> Outcome {
         max_depth: p.max_depth,
         cut: false,
     };
-    p.budget = 0;
-    p.cut = false;
-    let proof = p.prove(goal);
-    let tried = p.max_depth >= 4;
-    let kind = match &proof {
-        Some(_) => Kind::Proved,
-        None if tried && p.budget > 0 && !p.cut => Kind::Nothing,
-        None => Kind::Undecided,
-    };
-    let steps = if tried { p.round - p.budget } else { 0 };
-
-    let mut count = Count { most: m };
+    let mut count = Count { most: m, large: false };
     let mut found = None;
     let mut cut = false;
     let mut depth = 4;
@@ -253,6 +261,9 @@ fn ask(p: &mut Prover, goal: &T, m: usize) -> Outcome {
             found = Some((node.proof.clone(), end));
             break;
         }
+        if count.large {
+            return None;
+        }
         q.undo(mark);
         cut |= q.cut;
         if q.budget > 0 && !q.cut {
@@ -260,6 +271,17 @@ fn ask(p: &mut Prover, goal: &T, m: usize) -> Outcome {
         }
         depth *= 2;
     }
+
+    p.budget = 0;
+    p.cut = false;
+    let proof = p.prove(goal);
+    let tried = p.max_depth >= 4;
+    let kind = match &proof {
+        Some(_) => Kind::Proved,
+        None if tried && p.budget > 0 && !p.cut => Kind::Nothing,
+        None => Kind::Undecided,
+    };
+    let steps = if tried { p.round - p.budget } else { 0 };
     assert!(q.binding == p.binding && q.trail == p.trail && q.budget == p.budget && q.cut == p.cut, "the counting run differs");
     match (&proof, &found) {
         (None, None) => {}
@@ -267,7 +289,7 @@ fn ask(p: &mut Prover, goal: &T, m: usize) -> Outcome {
         _ => panic!("the counting run's verdict differs"),
     }
     let end = found.map_or(m, |f| f.1);
-    Outcome { kind, proof, steps, words: end, most: count.most, cut }
+    Some(Outcome { kind, proof, steps, words: end, most: count.most, cut })
 }
 
 // Writing
@@ -353,7 +375,7 @@ fn names_of(p: &Pat, out: &mut Vec<usize>) {
     }
 }
 
-#[derive(Default)]
+#[derive(Default, Clone, Copy)]
 struct Tally {
     goals: usize,
     proved: usize,
@@ -364,6 +386,7 @@ struct Tally {
     bound_at_start: usize,
     out_of_steps: usize,
     cut: usize,
+    left_out: usize,
 }
 
 /// A goal whose variables are the numbers of names, with its steps, depth and limits.
@@ -444,8 +467,8 @@ fn random(rng: &mut Rng) -> Plan {
     Plan { note: "", rules, variables, names, bindings, words: rng.below(20), goals }
 }
 
-/// One case: a plan and what the Rust answers.
-fn case(plan: &Plan, tally: &mut Tally) -> String {
+/// One case: a plan and what the Rust answers; nothing if a goal grew too large.
+fn case(plan: &Plan, tally: &mut Tally) -> Option<String> {
     let mut p = prover(&plan.rules, plan.variables, &plan.bindings);
     let mut names = plan.names.clone();
     let mut kept = plan.words;
@@ -500,7 +523,7 @@ fn case(plan: &Plan, tally: &mut Tally) -> String {
         p.round = g.steps;
         p.max_depth = g.depth;
         let before = p.trail.len();
-        let o = ask(&mut p, &t, m);
+        let o = ask(&mut p, &t, m)?;
         tally.out_of_steps += usize::from(p.budget == 0 && o.kind != Kind::Proved);
         tally.cut += usize::from(o.cut);
         if p.binding.len() > g.limit_vars || o.most > g.limit_words {
@@ -531,7 +554,7 @@ fn case(plan: &Plan, tally: &mut Tally) -> String {
     }
     let numbers: String = expected.iter().map(|n| format!("{n} ∷ ")).collect();
     out.push_str(&format!("{goals}[];\n        expected = {numbers}[]\n      }}"));
-    out
+    Some(out)
 }
 
 /// Sessions for the places where document 01 says a port goes wrong; they stand in front of the random ones.
@@ -610,12 +633,19 @@ pub fn main() {
         let mut out = head.clone();
         out.push_str("\nunfoldable pub cases : List Case\ncases =\n");
         for k in 0..n {
-            let plan = front.next().unwrap_or_else(|| random(&mut rng));
-            if !plan.note.is_empty() {
-                out.push_str(&format!("    -- {}\n", plan.note));
+            let (note, text) = loop {
+                let plan = front.next().unwrap_or_else(|| random(&mut rng));
+                let before = tally;
+                if let Some(text) = case(&plan, &mut tally) {
+                    break (plan.note, text);
+                }
+                tally = Tally { left_out: before.left_out + 1, ..before };
+            };
+            if !note.is_empty() {
+                out.push_str(&format!("    -- {note}\n"));
             }
             out.push_str(if k == 0 { "    " } else { "    ∷ " });
-            out.push_str(&case(&plan, &mut tally));
+            out.push_str(&text);
             out.push('\n');
         }
         out.push_str(&format!(
@@ -626,7 +656,7 @@ pub fn main() {
         done += n;
     }
     println!(
-        "{cases} programs, {} goals: {} proved, {} none, {} undecided, {} refused by 37, {} by 38; {} out of steps, {} cut off at some bound; {} programs with bindings at the start",
-        tally.goals, tally.proved, tally.nothing, tally.undecided, tally.refused, tally.too_much, tally.out_of_steps, tally.cut, tally.bound_at_start
+        "{cases} programs, {} goals: {} proved, {} none, {} undecided, {} refused by 37, {} by 38; {} out of steps, {} cut off at some bound; {} programs with bindings at the start; {} left out for their size",
+        tally.goals, tally.proved, tally.nothing, tally.undecided, tally.refused, tally.too_much, tally.out_of_steps, tally.cut, tally.bound_at_start, tally.left_out
     );
 }
