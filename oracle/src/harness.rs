@@ -1,3 +1,4 @@
 //! A child of `lang.rs`, because only a child sees its private items. Each layer has a file of its own here.
 
+pub mod theory;
 pub mod words;

@@ -1,31 +1,10 @@
 //! Random sessions for the theory's search, answered by the Rust's own `Prover` and written as cases that the checker computes.
-//! This file becomes a child module of an unchanged copy of `lang.rs`, so that it sees `Prover`.
 //!
 //! Arguments: seed, number of cases, cases in a file, output folder, the head of each file. Each file `BatchN.antt` holds one list of cases and one lemma that all of
 //! them pass; the last line printed counts the verdicts.
-use super::*;
+use super::super::*;
+use crate::random::Random;
 use std::fs;
-
-struct Rng(u64);
-
-impl Rng {
-    fn next(&mut self) -> u64 {
-        self.0 = self.0.wrapping_add(0x9E37_79B9_7F4A_7C15);
-        let mut z = self.0;
-        z = (z ^ (z >> 30)).wrapping_mul(0xBF58_476D_1CE4_E5B9);
-        z = (z ^ (z >> 27)).wrapping_mul(0x94D0_49BB_1331_11EB);
-        z ^ (z >> 31)
-    }
-    fn below(&mut self, n: usize) -> usize {
-        (self.next() % n as u64) as usize
-    }
-    fn chance(&mut self, percent: usize) -> bool {
-        self.below(100) < percent
-    }
-    fn pick<X: Copy>(&mut self, xs: &[X]) -> X {
-        xs[self.below(xs.len())]
-    }
-}
 
 /// Constructors 0 to 3 and predicates 4 to 7, by number of arguments.
 const CTORS: [(u32, usize); 4] = [(0, 0), (1, 1), (2, 2), (3, 0)];
@@ -35,24 +14,24 @@ fn app(f: u32, args: Vec<Pat>) -> Pat {
     Pat::A(f, args)
 }
 
-fn term(rng: &mut Rng, vars: usize, depth: usize) -> Pat {
-    if vars > 0 && rng.chance(if depth == 0 { 60 } else { 40 }) {
+fn term(rng: &mut Random, vars: usize, depth: usize) -> Pat {
+    if vars > 0 && rng.percent(if depth == 0 { 60 } else { 40 }) {
         return Pat::Var(rng.below(vars));
     }
-    if rng.chance(8) {
+    if rng.percent(8) {
         return (0..rng.below(10)).fold(app(0, vec![]), |t, _| app(1, vec![t]));
     }
     let (f, n) = if depth == 0 { rng.pick(&[CTORS[0], CTORS[3]]) } else { rng.pick(&CTORS) };
     app(f, (0..n).map(|_| term(rng, vars, depth - 1)).collect())
 }
 
-fn atom(rng: &mut Rng, vars: usize, depth: usize) -> Pat {
-    let many = if rng.chance(90) { 3 } else { 4 };
+fn atom(rng: &mut Random, vars: usize, depth: usize) -> Pat {
+    let many = if rng.percent(90) { 3 } else { 4 };
     let (f, n) = rng.pick(&PREDS[..many]);
     app(f, (0..n).map(|_| term(rng, vars, depth)).collect())
 }
 
-fn rule(rng: &mut Rng) -> Rule {
+fn rule(rng: &mut Random) -> Rule {
     let vars = rng.below(4);
     let premises = rng.pick(&[0, 0, 0, 1, 1, 2, 3]);
     Rule {
@@ -68,7 +47,7 @@ fn clause(conclusion: Pat, premises: Vec<Pat>) -> Rule {
 }
 
 /// Programs whose searches go deep: addition, a path in a graph, lists.
-fn family(rng: &mut Rng) -> Vec<Rule> {
+fn family(rng: &mut Random) -> Vec<Rule> {
     let v = Pat::Var;
     let zero = || app(0, vec![]);
     let succ = |t| app(1, vec![t]);
@@ -100,7 +79,7 @@ fn family(rng: &mut Rng) -> Vec<Rule> {
             clause(app(7, vec![]), vec![]),
         ],
     };
-    if rng.chance(40) {
+    if rng.percent(40) {
         let at = rng.below(rules.len() + 1);
         rules.insert(at, rule(rng));
     }
@@ -433,13 +412,13 @@ fn prover(rules: &[Rule], variables: usize, bindings: &[(usize, T)]) -> Prover {
     p
 }
 
-fn random(rng: &mut Rng) -> Plan {
-    let rules = if rng.chance(50) { family(rng) } else { (0..1 + rng.below(5)).map(|_| rule(rng)).collect() };
-    let variables = if rng.chance(70) { 1 + rng.below(6) } else { 0 };
+fn random(rng: &mut Random) -> Plan {
+    let rules = if rng.percent(50) { family(rng) } else { (0..1 + rng.below(5)).map(|_| rule(rng)).collect() };
+    let variables = if rng.percent(70) { 1 + rng.below(6) } else { 0 };
     // Names stand for some of the variables; the others are the remains of earlier searches.
     let mut names = Vec::new();
     for x in 0..variables {
-        if rng.chance(60) {
+        if rng.percent(60) {
             names.push((names.len(), x));
         }
     }
@@ -456,12 +435,12 @@ fn random(rng: &mut Rng) -> Plan {
     }
     let goals = (0..1 + rng.below(4))
         .map(|_| Posed {
-            goal: if rng.chance(15) { atom(rng, 5, 2) } else { likely(rng, &rules) },
+            goal: if rng.percent(15) { atom(rng, 5, 2) } else { likely(rng, &rules) },
             steps: rng.pick(&[0, 1, 2, 3, 4, 5, 6, 8, 10, 12, 16, 20, 25, 30, 40, 60]),
-            depth: if rng.chance(2) { 129 } else { rng.pick(&[0, 3, 4, 4, 5, 7, 8, 8, 12, 16, 32]) },
-            limit_steps: if rng.chance(95) { 65535 } else { rng.below(30) as u64 },
-            limit_vars: if rng.chance(75) { 65536 } else { rng.below(60) },
-            limit_words: if rng.chance(75) { 262_144 } else { rng.below(250) },
+            depth: if rng.percent(2) { 129 } else { rng.pick(&[0, 3, 4, 4, 5, 7, 8, 8, 12, 16, 32]) },
+            limit_steps: if rng.percent(95) { 65535 } else { rng.below(30) as u64 },
+            limit_vars: if rng.percent(75) { 65536 } else { rng.below(60) },
+            limit_words: if rng.percent(75) { 262_144 } else { rng.below(250) },
         })
         .collect();
     Plan { note: "", rules, variables, names, bindings, words: rng.below(20), goals }
@@ -599,9 +578,9 @@ fn fixed() -> Vec<Plan> {
 }
 
 /// A goal that some rule's conclusion may meet: an instance of it with some of its parts replaced.
-fn likely(rng: &mut Rng, rules: &[Rule]) -> Pat {
-    fn change(rng: &mut Rng, p: &Pat) -> Pat {
-        if rng.chance(20) {
+fn likely(rng: &mut Random, rules: &[Rule]) -> Pat {
+    fn change(rng: &mut Random, p: &Pat) -> Pat {
+        if rng.percent(20) {
             return term(rng, 5, 2);
         }
         match p {
@@ -616,6 +595,7 @@ fn likely(rng: &mut Rng, rules: &[Rule]) -> Pat {
     }
 }
 
+/// The program: see above.
 pub fn main() {
     let args: Vec<String> = std::env::args().collect();
     let seed: u64 = args[1].parse().expect("seed");
@@ -623,7 +603,7 @@ pub fn main() {
     let each: usize = args[3].parse().expect("cases in a file");
     let folder = &args[4];
     let head = fs::read_to_string(&args[5]).expect("the head of a file");
-    let mut rng = Rng(seed);
+    let mut rng = Random::new(seed);
     let mut tally = Tally::default();
     let mut front = fixed().into_iter();
     let mut done = 0;
