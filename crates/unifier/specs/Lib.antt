@@ -1,6 +1,11 @@
 -- Unification over stored terms, in reading order. Definitions:
 pub mod Tables
+pub mod Stored
 pub mod Contracts
--- Laws:
+-- Laws, in the order in which they are needed:
 pub mod Orders
 pub mod TableLaws
+pub mod Entries
+pub mod Holding
+pub mod Occurrence
+pub mod Search
