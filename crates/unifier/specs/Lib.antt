@@ -7,5 +7,6 @@ pub mod Orders
 pub mod TableLaws
 pub mod Entries
 pub mod Holding
+pub mod Walking
 pub mod Occurrence
 pub mod Search

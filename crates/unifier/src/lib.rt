@@ -1,9 +1,13 @@
 // Unification over stored terms (the Rust's `walk`, `occurs`, `unify` and the undoing of its trail), on lent slices.
 ghost use mathlib.Core.Path.{_≡_};
-ghost use Prim.Native.Nat.{ℕ, _-_, _<_, _≤_};
+ghost use Prim.Native.Nat.{ℕ, suc, _+_, _-_, _<_, _≤_};
 ghost use lib.ListN.{length, getD};
-ghost use Rattle.unifier.specs.Tables.{valued, listed, undone};
-ghost use Rattle.unifier.specs.Contracts.{Replaced, Entered, Undoable};
+ghost use Rattle.arena.specs.Cells.{Reference};
+ghost use Rattle.unifier.specs.Tables.{column, valued, listed, undone};
+ghost use Rattle.unifier.specs.Stored.{cells, Form, Edge};
+ghost use Rattle.unifier.specs.Contracts.{Replaced, Entered, Undoable, Walked, Free, Checked};
+ghost use Rattle.unifier.specs.Entries.{Entries};
+ghost use Rattle.unifier.specs.Search.{Grown, ArgumentOf};
 
 // The first number of a row.
 fn first(row: [u32; 2]) -> u32
@@ -62,4 +66,87 @@ pub fn undo(t: &mut [[u32; 2]], n: u32, mark: u32)
         set_value(t, key, 0);
         set_listed(t, i, 0);
     }
+}
+
+// Where the bindings lead from r.
+pub fn walk(w: &[u32], b: &[[u32; 2]], room: u32, variables: u32, used: u32, k: u32, r: u32) -> u32
+    requires { ⌜ Form room (now w) (now b) variables used k ⌝ ∗ ⌜ Reference room (cells (now w)) variables used r ⌝ }
+    ensures { λ q. ⌜ Walked room (now (w .entry)) (now (b .entry)) variables used k r q ⌝ }
+{
+    let mut q = r;
+    while q < room {
+        let value = b[q as usize][0];
+        if value == 0 {
+            return q;
+        }
+        q = value - 1;
+    }
+    q
+}
+
+// Marks y and puts it at the queue's end, unless it is marked.
+fn visit(m: &mut [[u32; 2]], limit: u32, t: u32, y: u32) -> u32
+    requires { ⌜ Entries (now m) limit t ⌝ ∗ ⌜ (y < limit) × (limit ≤ length (now m)) ⌝ }
+    ensures { λ s. ⌜ Grown limit (λ z. z ≡ y) (now (m .entry)) t (now (m .exit)) s ⌝ }
+{
+    let i = y as usize;
+    if m[i][0] == 0 {
+        enter(m, t, y, 1);
+        return t + 1;
+    }
+    t
+}
+
+// Visits the n arguments of the node at address a.
+fn visit_args(w: &[u32], m: &mut [[u32; 2]], limit: u32, a: usize, n: usize, t: u32) -> u32
+    requires { ⌜ Entries (now m) limit t ⌝ ∗ ⌜ (a + n < length (now w)) × (limit ≤ length (now m)) ⌝
+      ∗ ⌜ ((i : ℕ) → i < n → cells (now w) (suc a + i) < limit) ⌝ }
+    ensures { λ s. ⌜ Grown limit (ArgumentOf (now (w .entry)) a n) (now (m .entry)) t (now (m .exit)) s ⌝ }
+{
+    let mut s = t;
+    let mut i = 0;
+    while i < n {
+        s = visit(m, limit, s, w[a + 1 + i]);
+        i += 1;
+    }
+    s
+}
+
+// Visits all that one step down from r leads to.
+fn visit_edges(w: &[u32], b: &[[u32; 2]], m: &mut [[u32; 2]], room: u32, variables: u32, used: u32, k: u32, t: u32, r: u32) -> u32
+    requires { ⌜ Form room (now w) (now b) variables used k ⌝ ∗ ⌜ Reference room (cells (now w)) variables used r ⌝
+      ∗ ⌜ Entries (now m) (room + used) t ⌝ ∗ ⌜ room + used ≤ length (now m) ⌝ }
+    ensures { λ s. ⌜ Grown (room + used) (Edge room (cells (now (w .entry))) (column 0 (now (b .entry))) r) (now (m .entry)) t (now (m .exit)) s ⌝ }
+{
+    if r < room {
+        let value = b[r as usize][0];
+        if value == 0 {
+            return t;
+        }
+        return visit(m, room + used, t, value - 1);
+    }
+    let a = (r - room) as usize;
+    let n = (w[a] % 32) as usize;
+    visit_args(w, m, room + used, a, n, t)
+}
+
+// Whether the unbound variable x occurs in what r denotes, the bindings put in: a search that visits each reachable reference once.
+pub fn occurs(w: &[u32], b: &[[u32; 2]], m: &mut [[u32; 2]], room: u32, variables: u32, used: u32, k: u32, x: u32, r: u32) -> bool
+    requires { ⌜ Form room (now w) (now b) variables used k ⌝ ∗ ⌜ Reference room (cells (now w)) variables used r ⌝
+      ∗ ⌜ (x < variables) × (column 0 (now b) x ≡ 0) ⌝ ∗ ⌜ Free room used (now m) ⌝ }
+    ensures { λ answer. ⌜ Checked room (now (w .entry)) (now (b .entry)) (now (m .entry)) (now (m .exit)) k x r answer ⌝ }
+{
+    let mut t = visit(m, room + used, 0, r);
+    let mut h = 0;
+    while h < t {
+        let y = m[h as usize][1];
+        if y == x {
+            undo(m, t, 0);
+            return true;
+        }
+        t = visit_edges(w, b, m, room, variables, used, k, t, y);
+        h += 1;
+    }
+    undo(m, t, 0);
+    false
 }
