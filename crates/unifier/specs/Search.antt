@@ -17,9 +17,13 @@ use Rattle.unifier.specs.Stored.{cells, held, Form, Edge, into, argument
 use Rattle.unifier.specs.Contracts.{Entered, Undoable}
 use Rattle.unifier.specs.Orders.{by-order, low-or-high, same-or-not, not-zero}
 use Rattle.unifier.specs.TableLaws.{Changed, undone-none}
-use Rattle.unifier.specs.Entries.{Entries, entries-none, entries-few, entries-room, entries-more, enter-changed, enter-back}
+use Rattle.unifier.specs.Entries.{Entries, entries-none, entries-few, entries-room, entries-more, entries-undoable, enter-changed, enter-back}
 use Rattle.unifier.specs.Holding.{form-holds}
 use Rattle.unifier.specs.Occurrence.{reach-mem, mem-reach}
+
+pub undone-zero : (t : Rows) (mark : ℕ) → undone t mark 0 ≡ t
+unfolding undone
+undone-zero t mark = refl
 
 -- The marks grew by exactly the references of P, and taking all back gives the same rows as before.
 pub record Grown (limit : ℕ) (P : ℕ → Type 0) (m : Rows) (t : ℕ) (m′ : Rows) (t′ : ℕ) : Type 0 where
@@ -176,10 +180,9 @@ pub record Searched (N : ℕ) (w : List ℕ) (b m₀ m : Rows) (variables used r
   pub other : (i : ℕ) → i < h → column 1 m i ≢ x
 
 module _ (N : ℕ) (w : List ℕ) (b m₀ : Rows) (variables used r x : ℕ) where
-  pub search-start : (m : Rows) (t : ℕ) → Reference N (cells w) variables used r → Grown (N + used) (λ z. z ≡ r) m₀ 0 m t → Searched N w b m₀ m variables used r x 0 t
-  unfolding undone
+  pub search-start : (m : Rows) (t : ℕ) → Reference N (cells w) variables used r → Grown (N + used) (λ z. z ≡ r) m₀ 0 m t → Searched N w b (undone m 0 t) m variables used r x 0 t
   search-start m t f g = record {
-      entries = g .entries; long = g .long; back = g .back; le = zero-le; start = g .hit r refl;
+      entries = g .entries; long = g .long ∙ ap length (sym (g .back ∙ undone-zero m₀ 0)); back = refl; le = zero-le; start = g .hit r refl;
       queued = λ i l. rw (g .new i zero-le l) f;
       come = λ i l. rw (g .new i zero-le l) stay;
       done = λ i l. absurd (not-suc-le-zero l);
@@ -219,6 +222,17 @@ module _ (N : ℕ) (w : List ℕ) (b m₀ : Rows) (variables used r x : ℕ) whe
       let s′ : Searched N w b m₀ m variables used r x t t = rw e at s in
       let (i, k, d) = s .entries .all x (closed m t s′ c (s .start)) in
       s′ .other i k d
+
+-- The marks were s, which are those at entry: all can be taken back, which gives them.
+module _ {N : ℕ} {w : List ℕ} {b s m m₁ : Rows} {variables used r x h t : ℕ} (f : Searched N w b s m variables used r x h t) (e : s ≡ m₁) where
+  pub searched-lent : N + used ≤ length m₁ → N + used ≤ length m
+  searched-lent l = let n : length m ≡ length m₁ = f .long ∙ ap length e in omega arith
+
+  pub searched-undoable : N + used ≤ length m₁ → Undoable m t 0
+  searched-undoable l = entries-undoable (f .entries) (searched-lent l)
+
+  pub searched-back : undone m 0 (t - 0) ≡ m₁
+  searched-back = let d : t - 0 ≡ t = omega arith in ap (undone m 0) d ∙ f .back ∙ e
 
 -- What the search says of the theory's occurs check.
 module _ {N : ℕ} {w : List ℕ} {b : Rows} {variables used k x r : ℕ} (f : Form N w b variables used k) (g : Reference N (cells w) variables used r) where
