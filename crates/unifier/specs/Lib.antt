@@ -10,3 +10,7 @@ pub mod Holding
 pub mod Walking
 pub mod Occurrence
 pub mod Search
+pub mod Pairs
+pub mod Steps
+pub mod Turns
+pub mod Bounds

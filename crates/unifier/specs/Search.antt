@@ -13,7 +13,7 @@ use Rattle.terms.specs.Term.{mem, size}
 use Rattle.terms.specs.Bindings.{res, occurs}
 use Rattle.arena.specs.Cells.{Cells, headers, arityOf, denote, Reference, WellFormed, reference-up, reference-argument}
 use Rattle.unifier.specs.Tables.{Rows, column, Empty, undone}
-use Rattle.unifier.specs.Stored.{cells, held, Form, Edge, into, argument, Reaches, stay, step}
+use Rattle.unifier.specs.Stored.{cells, held, Form, Edge, into, argument, Reaches, here, step}
 use Rattle.unifier.specs.Contracts.{Entered, Undoable}
 use Rattle.unifier.specs.Orders.{by-order, low-or-high, same-or-not, not-zero}
 use Rattle.unifier.specs.TableLaws.{Changed, undone-none}
@@ -137,7 +137,7 @@ module _ {N : ℕ} where
   edge-reference {w} {b} {variables} {used} {k} {r} s h (argument i l j) = reference-argument N (cells w) variables used (s .words) r i h l j
 
   reaches-more : {w values : Cells} {r s t : ℕ} → Reaches N w values r s → Edge N w values s t → Reaches N w values r t
-  reaches-more stay e = step e stay
+  reaches-more here e = step e here
   reaches-more (step d h) e = step d (reaches-more h e)
 
   -- the edges, as they are followed
@@ -184,7 +184,7 @@ module _ (N : ℕ) (w : List ℕ) (b m₀ : Rows) (variables used r x : ℕ) whe
   search-start m t f g = record {
       entries = g .entries; long = g .long ∙ ap length (sym (g .back ∙ undone-zero m₀ 0)); back = refl; le = zero-le; start = g .hit r refl;
       queued = λ i l. rw (g .new i zero-le l) f;
-      come = λ i l. rw (g .new i zero-le l) stay;
+      come = λ i l. rw (g .new i zero-le l) here;
       done = λ i l. absurd (not-suc-le-zero l);
       other = λ i l. absurd (not-suc-le-zero l)
     }
@@ -211,7 +211,7 @@ module _ (N : ℕ) (w : List ℕ) (b m₀ : Rows) (variables used r x : ℕ) whe
 
   -- at the end what is marked is closed under edges
   closed : (m : Rows) (t : ℕ) → Searched N w b m₀ m variables used r x t t → {y z : ℕ} → Reaches N (cells w) (column 0 b) y z → column 0 m y ≢ 0 → column 0 m z ≢ 0
-  closed m t s stay e = e
+  closed m t s here e = e
   closed m t s {y} (step {s = v} d c) e =
       let (i, l, k) = s .entries .all y e in
       closed m t s c (s .done i l v (rw k d))

@@ -64,5 +64,10 @@ pub data Edge (N : ℕ) (w values : Cells) : ℕ → ℕ → Type 0 where
 
 -- Any number of steps down.
 pub data Reaches (N : ℕ) (w values : Cells) : ℕ → ℕ → Type 0 where
-  stay : {r : ℕ} → Reaches N w values r r
+  here : {r : ℕ} → Reaches N w values r r
   step : {r s t : ℕ} → Edge N w values r s → Reaches N w values s t → Reaches N w values r t
+
+-- Where links lead from a reference: links are 0 or 1 + a reference, and a reference with no link is a root.
+pub data LeadsTo (links : Cells) : ℕ → ℕ → Type 0 where
+  stay : {r : ℕ} → links r ≡ 0 → LeadsTo links r r
+  go : {r x q : ℕ} → links r ≡ suc x → LeadsTo links x q → LeadsTo links r q
