@@ -10,6 +10,8 @@ pub mod Holding
 pub mod Walking
 pub mod Occurrence
 pub mod Search
+pub mod Linking
+pub mod Deciding
 pub mod Pairs
 pub mod Steps
 pub mod Turns

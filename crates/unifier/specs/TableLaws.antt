@@ -138,7 +138,7 @@ module _ (t : Rows) (n key value : ℕ) (ln : n < length t) (lk : key < length t
       ∙ ext-getD [] (listed d n 0) t (length-set d n _ ∙ ld) (λ i l. each i)
 
 -- An entry is made of two rows replaced, and so is its removal.
-pub entered-is : (t t₁ t₂ : Rows) (n key value : ℕ) → n < length t → key < length t → Replaced t t₁ key (valued t key value) → Replaced t₁ t₂ n (listed t₁ n key) → Entered t t₂ n key value
+pub entered-is : (t t₁ t₂ : Rows) (n key value : ℕ) → n < length t → key < length t → Replaced t t₁ key 2 (valued t key value) → Replaced t₁ t₂ n 2 (listed t₁ n key) → Entered t t₂ n key value
 unfolding entered
 entered-is t t₁ t₂ n key value ln lk p q =
     let e : t₂ ≡ entered t n key value = q .is ∙ ap (λ (s : Rows). listed s n key) (p .is) in

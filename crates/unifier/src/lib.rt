@@ -1,13 +1,33 @@
 // Unification over stored terms (the Rust's `walk`, `occurs`, `unify` and the undoing of its trail), on lent slices.
 ghost use mathlib.Core.Path.{_≡_};
+ghost use mathlib.Core.List.{[], _∷_};
 ghost use Prim.Native.Nat.{ℕ, suc, _+_, _-_, _<_, _≤_};
-ghost use lib.ListN.{length, getD};
-ghost use Rattle.arena.specs.Cells.{Reference};
+ghost use lib.ListN.{length, getD, set};
+ghost use Rattle.arena.specs.Cells.{headers, arityOf, Reference};
 ghost use Rattle.unifier.specs.Tables.{column, valued, listed, undone};
-ghost use Rattle.unifier.specs.Stored.{cells, Form, Edge};
-ghost use Rattle.unifier.specs.Contracts.{Replaced, Entered, Undoable, Walked, Free, Checked};
+ghost use Rattle.unifier.specs.Stored.{cells, Form, Edge, LeadsTo};
+ghost use Rattle.unifier.specs.Contracts.{Replaced, Entered, Undoable, Walked, Free, Checked, Falling, Decided, Joined};
 ghost use Rattle.unifier.specs.Entries.{Entries};
 ghost use Rattle.unifier.specs.Search.{Grown, ArgumentOf};
+
+// What is to be done with two references that are to be made equal.
+pub enum Decision {
+    // They are equal already.
+    Same,
+    // The variable is to be bound to the reference.
+    Bind(u32, u32),
+    // The arguments of the two nodes are to be made equal.
+    Open(u32, u32),
+    // They cannot be made equal.
+    Clash,
+}
+
+// Two nodes whose arguments are being made equal, and how many of them were taken.
+pub struct Pair {
+    pub left: u32,
+    pub right: u32,
+    pub taken: u32,
+}
 
 // The first number of a row.
 fn first(row: [u32; 2]) -> u32
@@ -26,7 +46,7 @@ fn second(row: [u32; 2]) -> u32
 // Sets the value of a key.
 fn set_value(t: &mut [[u32; 2]], key: u32, value: u32)
     requires { ⌜ key < length (now t) ⌝ }
-    ensures { λ _. ⌜ Replaced (now (t .entry)) (now (t .exit)) key (valued (now (t .entry)) key value) ⌝ }
+    ensures { λ _. ⌜ Replaced (now (t .entry)) (now (t .exit)) key 2 (valued (now (t .entry)) key value) ⌝ }
 {
     let i = key as usize;
     let row = t[i];
@@ -37,7 +57,7 @@ fn set_value(t: &mut [[u32; 2]], key: u32, value: u32)
 // Sets the key at position n of the list.
 fn set_listed(t: &mut [[u32; 2]], n: u32, key: u32)
     requires { ⌜ n < length (now t) ⌝ }
-    ensures { λ _. ⌜ Replaced (now (t .entry)) (now (t .exit)) n (listed (now (t .entry)) n key) ⌝ }
+    ensures { λ _. ⌜ Replaced (now (t .entry)) (now (t .exit)) n 2 (listed (now (t .entry)) n key) ⌝ }
 {
     let i = n as usize;
     let row = t[i];
@@ -149,4 +169,118 @@ pub fn occurs(w: &[u32], b: &[[u32; 2]], m: &mut [[u32; 2]], room: u32, variable
     }
     undo(m, t, 0);
     false
+}
+
+// The root to which the links lead from r.
+fn find(links: &[[u32; 2]], r: u32) -> u32
+    requires { ⌜ Falling (now links) ⌝ ∗ ⌜ r < length (now links) ⌝ }
+    ensures { λ q. ⌜ (LeadsTo (column 0 (now (links .entry))) r q) × (q ≤ r) ⌝ }
+{
+    let mut q = r;
+    loop {
+        let next = links[q as usize][0];
+        if next == 0 {
+            return q;
+        }
+        q = next - 1;
+    }
+}
+
+// Links the roots of x and y, the greater to the smaller.
+fn link(links: &mut [[u32; 2]], c: u32, x: u32, y: u32)
+    requires { ⌜ Falling (now links) ⌝ ∗ ⌜ (x < length (now links)) × (y < length (now links)) × (c < length (now links)) × (x < headers) × (y < headers) ⌝ }
+    ensures { λ _. ⌜ Joined (now (links .entry)) (now (links .exit)) c x y ⌝ }
+{
+    let p = find(links, x);
+    let q = find(links, y);
+    if p < q {
+        enter(links, c, q, p + 1);
+        return;
+    }
+    enter(links, c, p, q + 1);
+}
+
+// What is to be done with x and y.
+fn decide(w: &[u32], b: &[[u32; 2]], links: &[[u32; 2]], m: &mut [[u32; 2]], room: u32, variables: u32, used: u32, k: u32, x: u32, y: u32) -> Decision
+    requires { ⌜ Form room (now w) (now b) variables used k ⌝
+      ∗ ⌜ (Reference room (cells (now w)) variables used x) × (Reference room (cells (now w)) variables used y) ⌝
+      ∗ ⌜ Falling (now links) ⌝ ∗ ⌜ room + used ≤ length (now links) ⌝ ∗ ⌜ Free room used (now m) ⌝ }
+    ensures { λ d. ⌜ Decided room (now (w .entry)) (now (b .entry)) (now (links .entry)) (now (m .entry)) (now (m .exit)) k x y d ⌝ }
+{
+    let p = walk(w, b, room, variables, used, k, x);
+    let q = walk(w, b, room, variables, used, k, y);
+    if p == q {
+        return Decision::Same;
+    }
+    if p < room {
+        if occurs(w, b, m, room, variables, used, k, p, q) {
+            return Decision::Clash;
+        }
+        return Decision::Bind(p, q);
+    }
+    if q < room {
+        if occurs(w, b, m, room, variables, used, k, q, p) {
+            return Decision::Clash;
+        }
+        return Decision::Bind(q, p);
+    }
+    if find(links, p) == find(links, q) {
+        return Decision::Same;
+    }
+    if w[(p - room) as usize] == w[(q - room) as usize] {
+        return Decision::Open(p, q);
+    }
+    Decision::Clash
+}
+
+// A row of three numbers has three numbers.
+fn three(row: [u32; 3])
+    ensures { λ _. ⌜ length row ≡ 3 ⌝ }
+{
+}
+
+// Puts a pair at place d of the stack.
+fn put_pair(s: &mut [[u32; 3]], d: u32, p: Pair)
+    requires { ⌜ d < length (now s) ⌝ }
+    ensures { λ _. ⌜ Replaced (now (s .entry)) (now (s .exit)) d 3 (set (now (s .entry)) d (p .left ∷ p .right ∷ p .taken ∷ [])) ⌝ }
+{
+    let i = d as usize;
+    let row = s[i];
+    three(row);
+    s[i] = [p.left, p.right, p.taken];
+}
+
+// The pair at place d of the stack.
+fn pair_at(s: &[[u32; 3]], d: u32) -> Pair
+    ensures { λ p. ⌜ (p .left ≡ column 0 (now (s .entry)) d) × (p .right ≡ column 1 (now (s .entry)) d) × (p .taken ≡ column 2 (now (s .entry)) d) ⌝ }
+{
+    let i = d as usize;
+    if i < s.len() {
+        return Pair { left: s[i][0], right: s[i][1], taken: s[i][2] };
+    }
+    Pair { left: 0, right: 0, taken: 0 }
+}
+
+// The number of arguments of the node r.
+fn arity(w: &[u32], room: u32, r: u32) -> u32
+    requires { ⌜ room ≤ r ⌝ }
+    ensures { λ n. ⌜ n ≡ arityOf (cells (now (w .entry)) (r - room)) ⌝ }
+{
+    let a = (r - room) as usize;
+    if a < w.len() {
+        return w[a] % 32;
+    }
+    0
+}
+
+// Argument i of the node r.
+fn argument(w: &[u32], room: u32, r: u32, i: u32) -> u32
+    requires { ⌜ (room ≤ r) × (r < headers) × (i < 32) ⌝ }
+    ensures { λ x. ⌜ x ≡ cells (now (w .entry)) (suc (r - room) + i) ⌝ }
+{
+    let a = (r - room + 1 + i) as usize;
+    if a < w.len() {
+        return w[a];
+    }
+    0
 }
