@@ -55,14 +55,14 @@ module _ {N : ℕ} where
   stack-nodes {lefts = lefts} {variables = variables} {used = used} (pair {d = d} a b i ea eb ei f h fs) j l = by-order j d (λ jd. stack-nodes fs j jd)
       (λ jd. let q : lefts j ≡ a = let jj : j ≡ d = omega arith in ap lefts jj ∙ ea in let n = f .leftIn .node (f .leftNode) in let m = f .leftNode in (omega arith, omega arith))
 
-  pub stack-in : {w values trail links lefts rights taken : Cells} {variables used k d : ℕ} {o : Outcome} → Resuming N w values trail links lefts rights taken variables used k d o → d ≤ used
-  stack-in {w} {values} {trail} {links} {lefts} {rights} {taken} {variables} {used} {k} {d} h = pigeonhole used d (λ j. lefts j - N)
-      (λ i l. let (a, b) = stack-nodes (h .state .stack) i l in omega arith)
-      (λ i j li lj e. let (a, b) = stack-nodes (h .state .stack) i li in let (a′, b′) = stack-nodes (h .state .stack) j lj in
+  pub stack-in : {w values trail links lefts rights taken : Cells} {variables used k d : ℕ} {β : Bindings} {X Y : Term} {es : List Eqn} → State N w values trail links lefts rights taken variables used k d β X Y es → d ≤ used
+  stack-in {w} {values} {trail} {links} {lefts} {rights} {taken} {variables} {used} {k} {d} {β} h = pigeonhole used d (λ j. lefts j - N)
+      (λ i l. let (a, b) = stack-nodes (h .stack) i l in omega arith)
+      (λ i j li lj e. let (a, b) = stack-nodes (h .stack) i li in let (a′, b′) = stack-nodes (h .stack) j lj in
         let e′ : lefts i ≡ lefts j = omega arith in
         by-order i j (λ ij. absurd (no i j ij lj e′)) (λ ij. by-order j i (λ ji. absurd (no j i ji li (sym e′))) (λ ji. omega arith)))
     where
       no : (i j : ℕ) → i < j → j < d → lefts i ≡ lefts j → ⊥
       no i j ij lj e =
-          let z = h .state .smaller i j ij lj (full (h .β)) (full-solves (h .β) (h .state .holds .acyclic)) in
-          let y = ap (λ (r : ℕ). size (sub (full (h .β)) (denote N w r))) e in omega arith
+          let z = h .smaller i j ij lj (full β) (full-solves β (h .holds .acyclic)) in
+          let y = ap (λ (r : ℕ). size (sub (full β) (denote N w r))) e in omega arith

@@ -1,13 +1,14 @@
 -- What the functions answer, each contract a record with named parts.
-use Prim.Native.Nat.{ℕ, suc, _+_, _-_, _≤_, _<_}
+use Prim.Native.Nat.{ℕ, zero, suc, _+_, _-_, _≤_, _<_}
 use mathlib.Core.Path.{_≡_}
 use mathlib.Core.Bool.{Bool, true, false}
 use mathlib.Core.Logic.{_⊎_, _≢_}
 use mathlib.Core.List.{List, [], _∷_}
-use lib.ListN.{getD, length}
-use Rattle.terms.specs.Bindings.{walk, occurs}
+use lib.ListN.{getD, length, set}
+use Rattle.terms.specs.Bindings.{Bindings, walk, occurs}
+use Rattle.terms.specs.Unification.{Outcome, fails, unified, unify}
 use Rattle.arena.specs.Cells.{denote, Reference}
-use Rattle.unifier.specs.Tables.{Rows, column, Empty, valued, listed, entered, removed}
+use Rattle.unifier.specs.Tables.{Rows, column, Empty, entered, removed, undone}
 use Rattle.unifier.specs.Stored.{cells, held, Form, WalksTo, LeadsTo}
 use Rattle.unifier.specs.declared.Decision.{Decision}
 use Rattle.unifier.specs.declared.Decision.the-variants.{Same, Bind, Open, Clash}
@@ -114,3 +115,34 @@ pub record Joined (links links′ : Rows) (c x y : ℕ) : Type 0 where
   pub either : ((from ≡ rootX) × (to ≡ rootY)) ⊎ ((from ≡ rootY) × (to ≡ rootX))
   pub falls : (rootX ≡ rootY) ⊎ (to < from)
   pub entered : Entered links links′ c from (to + 1)
+
+-- The theory's outcome for an answer and the bindings that then stand.
+abbrev pub outcome : Bool → Bindings → Outcome
+outcome true β = unified β
+outcome false β = fails
+
+-- `unify` of what r and t denote under the first k bindings answered whether they unify; k′ bindings stand at exit.
+pub record Unified (N : ℕ) (w : List ℕ) (b b′ : Rows) (variables used k k′ r t : ℕ) (answer : Bool) : Type 0 where
+  -- by the theory's `unify`: the same bindings in the same order
+  pub is : unify variables (held N w b k) (denote N (cells w) r) (denote N (cells w) t) ≡ outcome answer (held N w b′ k′)
+  -- the state is again in form
+  pub form : Form N w b′ variables used k′
+  -- bindings are only added
+  pub more : k ≤ k′
+  pub kept : (i : ℕ) → i < k → column 1 b′ i ≡ column 1 b i
+  pub still : (v : ℕ) → column 0 b v ≢ 0 → column 0 b′ v ≡ column 0 b v
+  -- undoing to the mark k gives the very rows at entry
+  pub back : undone b′ k (k′ - k) ≡ b
+  -- without success nothing changed
+  pub failed : answer ≡ false → (b′ ≡ b) × (k′ ≡ k)
+
+-- The rows of the stack below d with all numbers 0.
+unfoldable pub cleared : Rows → ℕ → Rows
+cleared s zero = s
+cleared s (suc d) = cleared (set s d (0 ∷ 0 ∷ 0 ∷ [])) d
+
+-- `unify` leaves its scratch as it was.
+pub record Untouched (l l′ m m′ s s′ : Rows) : Type 0 where
+  pub links : l′ ≡ l
+  pub marks : m′ ≡ m
+  pub stack : s′ ≡ s

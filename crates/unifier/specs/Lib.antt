@@ -16,3 +16,4 @@ pub mod Pairs
 pub mod Steps
 pub mod Turns
 pub mod Bounds
+pub mod Equating

@@ -69,8 +69,8 @@ module _ {N : ℕ} where
     bel = (below-denote N w variables used (h .state .words) x (h .leftIn), below-denote N w variables used (h .state .words) y (h .rightIn), h .state .below)
 
     -- a pair that is equal is skipped
-    pub t-skip : EqualUnder (h .β) (denote N w x) (denote N w y) → Resuming N w values trail links lefts rights taken variables used k d o
-    t-skip e = record {
+    pub skip-equal : EqualUnder (h .β) (denote N w x) (denote N w y) → Resuming N w values trail links lefts rights taken variables used k d o
+    skip-equal e = record {
         β = h .β; X = denote N w x; Y = denote N w y; es = h .es; state = h .state; equal = e;
         comes = h .comes ∙ skips variables (h .β) (h .state .holds .acyclic) (h .state .holds .below) (size (res (h .β) (denote N w x))) (eqn (denote N w x) (denote N w y))
           (e (full (h .β)) (full-solves (h .β) (h .state .holds .acyclic))) (le-refl _) (h .es) bel
@@ -95,8 +95,8 @@ module _ {N : ℕ} where
       ey : EqualUnder (h .β) (denote N w y) (denote N w q)
       ey = walk-eq (h .state) (h .rightIn) vy
 
-      pub t-same : (P : ℕ) → LeadsTo links p P → LeadsTo links q P → Resuming N w values trail links lefts rights taken variables used k d o
-      t-same P l m = t-skip (λ σ s. ex σ s ∙ leads-eq N w (h .β) (h .state .equalLinks) l σ s ∙ sym (leads-eq N w (h .β) (h .state .equalLinks) m σ s) ∙ sym (ey σ s))
+      pub skip-linked : (P : ℕ) → LeadsTo links p P → LeadsTo links q P → Resuming N w values trail links lefts rights taken variables used k d o
+      skip-linked P l m = skip-equal (λ σ s. ex σ s ∙ leads-eq N w (h .β) (h .state .equalLinks) l σ s ∙ sym (leads-eq N w (h .β) (h .state .equalLinks) m σ s) ∙ sym (ey σ s))
 
       meets : (a b : Term) → denote N w p ≡ a → denote N w q ≡ b → Next variables (h .β) (meet (h .β) a b (h .es)) (unifies variables (h .β) (eqn (denote N w x) (denote N w y) ∷ (h .es)))
       meets a b ea eb =
@@ -142,12 +142,12 @@ module _ {N : ℕ} where
             comes = h .comes ∙ nx
           }
 
-        pub t-left : trail′ k ≡ p → values′ p ≡ suc q → ((y : ℕ) → y ≢ p → values′ y ≡ values y) → p < N → p ≢ q → mem p (res (h .β) (denote N w q)) ≡ false → Resuming N w values′ trail′ links lefts rights taken variables used (suc k) d o
-        t-left tv bv bo l n m = bound p q tv bv bo (rp .variable l) (walks-end (h .state .words) (h .state .holds) vx l) rq m
+        pub bind-first : trail′ k ≡ p → values′ p ≡ suc q → ((y : ℕ) → y ≢ p → values′ y ≡ values y) → p < N → p ≢ q → mem p (res (h .β) (denote N w q)) ≡ false → Resuming N w values′ trail′ links lefts rights taken variables used (suc k) d o
+        bind-first tv bv bo l n m = bound p q tv bv bo (rp .variable l) (walks-end (h .state .words) (h .state .holds) vx l) rq m
             (λ σ s. ex σ (s .1) ∙ ap (sub σ) (denote-variable N w p l) ∙ s .0 ∙ sym (ey σ (s .1))) (left-next l n m)
 
-        pub t-right : trail′ k ≡ q → values′ q ≡ suc p → ((y : ℕ) → y ≢ q → values′ y ≡ values y) → N ≤ p → q < N → mem q (res (h .β) (denote N w p)) ≡ false → Resuming N w values′ trail′ links lefts rights taken variables used (suc k) d o
-        t-right tv bv bo lp l m = bound q p tv bv bo (rq .variable l) (walks-end (h .state .words) (h .state .holds) vy l) rp m
+        pub bind-second : trail′ k ≡ q → values′ q ≡ suc p → ((y : ℕ) → y ≢ q → values′ y ≡ values y) → N ≤ p → q < N → mem q (res (h .β) (denote N w p)) ≡ false → Resuming N w values′ trail′ links lefts rights taken variables used (suc k) d o
+        bind-second tv bv bo lp l m = bound q p tv bv bo (rq .variable l) (walks-end (h .state .words) (h .state .holds) vy l) rp m
             (λ σ s. ex σ (s .1) ∙ sym (s .0) ∙ ap (sub σ) (sym (denote-variable N w q l)) ∙ sym (ey σ (s .1))) (right-next lp l m)
 
       arguments-zero : (r : ℕ) → argumentsFrom N w r 0 ≡ args (denote N w) w (suc (r - N)) (arityOf (w (r - N)))
@@ -165,10 +165,10 @@ module _ {N : ℕ} where
           let t : same (symbolOf (w (p - N))) (symbolOf (w (q - N))) ≡ true = subst (λ (z : ℕ). same (symbolOf (w (p - N))) (symbolOf z) ≡ true) e (same-refl (symbolOf (w (p - N)))) in
           (rw t at nx) ∙ ap₂ (λ (a b : Terms). unifies variables (h .β) (eqns a b ∷ (h .es))) (sym (arguments-zero p)) (sym (arguments-zero q))
 
-      pub t-open : (lefts′ rights′ taken′ : Cells) → ((j : ℕ) → j < d → lefts′ j ≡ lefts j) → ((j : ℕ) → j < d → rights′ j ≡ rights j) → ((j : ℕ) → j < d → taken′ j ≡ taken j)
+      pub open-pair : (lefts′ rights′ taken′ : Cells) → ((j : ℕ) → j < d → lefts′ j ≡ lefts j) → ((j : ℕ) → j < d → rights′ j ≡ rights j) → ((j : ℕ) → j < d → taken′ j ≡ taken j)
         → lefts′ d ≡ p → rights′ d ≡ q → taken′ d ≡ 0 → N ≤ p → N ≤ q → w (p - N) ≡ w (q - N) → ((P : ℕ) → LeadsTo links p P → LeadsTo links q P → ⊥)
         → Resuming N w values trail links lefts′ rights′ taken′ variables used k (suc d) o
-      t-open lefts′ rights′ taken′ ka kb ki ea eb ei lp lq e ap′ = record {
+      open-pair lefts′ rights′ taken′ ka kb ki ea eb ei lp lq e ap′ = record {
           β = h .β; X = denote N w p; Y = denote N w p; es = eqns (argumentsFrom N w p 0) (argumentsFrom N w q 0) ∷ (h .es);
           state = record {
             words = h .state .words; holds = h .state .holds;
@@ -189,14 +189,14 @@ module _ {N : ℕ} where
         }
 
       -- where the outcome is failure
-      pub t-occurs-left : p < N → N ≤ q → mem p (res (h .β) (denote N w q)) ≡ true → o ≡ fails
-      t-occurs-left l lq m =
+      pub occurs-in-second : p < N → N ≤ q → mem p (res (h .β) (denote N w q)) ≡ true → o ≡ fails
+      occurs-in-second l lq m =
           let e = denote-node N w variables used (h .state .words) q rq lq in
           let nx = meets (var p) (app (symbolOf (w (q - N))) (args (denote N w) w (suc (q - N)) (arityOf (w (q - N))))) (denote-variable N w p l) e in
           let m′ = rw e at m in h .comes ∙ (rw m′ at nx)
 
-      pub t-occurs-right : N ≤ p → q < N → mem q (res (h .β) (denote N w p)) ≡ true → o ≡ fails
-      t-occurs-right lp l m =
+      pub occurs-in-first : N ≤ p → q < N → mem q (res (h .β) (denote N w p)) ≡ true → o ≡ fails
+      occurs-in-first lp l m =
           let e = denote-node N w variables used (h .state .words) p rp lp in
           let nx = meets (app (symbolOf (w (p - N))) (args (denote N w) w (suc (p - N)) (arityOf (w (p - N))))) (var q) e (denote-variable N w q l) in
           let m′ = rw e at m in h .comes ∙ (rw m′ at nx)
@@ -212,7 +212,7 @@ module _ {N : ℕ} where
           over fails a v = refl
           over (unified β′) a v = let (s, e) = a .sound (full β′) (full-solves β′ (a .acyclic)) in absurd (n (full β′) s (e .0))
 
-      pub t-head : N ≤ p → N ≤ q → w (p - N) ≢ w (q - N) → o ≡ fails
-      t-head lp lq n = no-way (λ σ s e. n (heads (w (p - N)) (w (q - N)) (rp .header lp) (rq .header lq) σ (args (denote N w) w (suc (p - N))) (args (denote N w) w (suc (q - N)))
+      pub heads-differ : N ≤ p → N ≤ q → w (p - N) ≢ w (q - N) → o ≡ fails
+      heads-differ lp lq n = no-way (λ σ s e. n (heads (w (p - N)) (w (q - N)) (rp .header lp) (rq .header lq) σ (args (denote N w) w (suc (p - N))) (args (denote N w) w (suc (q - N)))
           (λ m. length-args σ (denote N w) w (suc (p - N)) m) (λ m. length-args σ (denote N w) w (suc (q - N)) m)
           (ap (sub σ) (sym (denote-node N w variables used (h .state .words) p rp lp)) ∙ sym (ex σ s) ∙ e ∙ ey σ s ∙ ap (sub σ) (denote-node N w variables used (h .state .words) q rq lq))))

@@ -43,13 +43,13 @@ module _ {N : ℕ} where
   bottom-none bottom = refl
 
   -- nothing is left
-  pub t-done : {w values trail links lefts rights taken : Cells} {variables used k : ℕ} {o : Outcome} → Resuming N w values trail links lefts rights taken variables used k 0 o → o ≡ unified (bindings N w values trail k)
-  t-done {variables = variables} h = h .comes ∙ ap (unifies variables (h .β)) (bottom-none (h .state .stack)) ∙ unifies-done variables (h .β) ∙ ap unified (h .state .holds .is)
+  pub all-done : {w values trail links lefts rights taken : Cells} {variables used k : ℕ} {o : Outcome} → Resuming N w values trail links lefts rights taken variables used k 0 o → o ≡ unified (bindings N w values trail k)
+  all-done {variables = variables} h = h .comes ∙ ap (unifies variables (h .β)) (bottom-none (h .state .stack)) ∙ unifies-done variables (h .β) ∙ ap unified (h .state .holds .is)
 
   -- the start
-  pub t-start : {w values trail links lefts rights taken : Cells} {variables used k x y : ℕ} {β : Bindings} → WellFormed N w variables used → Holds N w values trail variables used k β → ((a : ℕ) → links a ≡ 0) → Reference N w variables used x → Reference N w variables used y
+  pub first-state : {w values trail links lefts rights taken : Cells} {variables used k x y : ℕ} {β : Bindings} → WellFormed N w variables used → Holds N w values trail variables used k β → ((a : ℕ) → links a ≡ 0) → Reference N w variables used x → Reference N w variables used y
     → Pending N w values trail links lefts rights taken variables used k 0 x y (unifies variables (bindings N w values trail k) (eqn (denote N w x) (denote N w y) ∷ []))
-  t-start {w} {values} {trail} {links} {variables = variables} {k = k} {x = x} {y = y} {β = β} wf h z rx ry = record {
+  first-state {w} {values} {trail} {links} {variables = variables} {k = k} {x = x} {y = y} {β = β} wf h z rx ry = record {
       β = β; es = [];
       state = record {
         words = wf; holds = h; stack = bottom; below = tt;
@@ -70,9 +70,9 @@ module _ {N : ℕ} where
     bes = subst (λ (e : List Eqn). BelowE variables e) (tp .is) (h .state .below)
 
     -- the next pair of arguments
-    pub t-next : (taken′ : Cells) → ((j : ℕ) → j < d → taken′ j ≡ taken j) → taken′ d ≡ suc (taken d) → taken d < arityOf (w (lefts d - N))
+    pub next-arguments : (taken′ : Cells) → ((j : ℕ) → j < d → taken′ j ≡ taken j) → taken′ d ≡ suc (taken d) → taken d < arityOf (w (lefts d - N))
       → Pending N w values trail links lefts rights taken′ variables used k (suc d) (w (suc (lefts d - N) + taken d)) (w (suc (rights d - N) + taken d)) o
-    t-next taken′ ki ei l =
+    next-arguments taken′ ki ei l =
         let l′ : taken d < arityOf (w (rights d - N)) = subst (λ (z : ℕ). taken d < arityOf z) (tp .pair .alike) l in
         let ca = arguments-cons N w (lefts d) (taken d) l in
         let cb = arguments-cons N w (rights d) (taken d) l′ in
@@ -141,8 +141,8 @@ module _ {N : ℕ} where
         notT : (j : ℕ) → j < d → LeadsTo links (lefts j) T → ⊥
         notT j jd m = no-earlier j jd (λ σ s. leads-eq N w (h .β) (h .state .equalLinks) m σ s ∙ sym (eT σ s))
 
-        pub t-close : Resuming N w values trail links′ lefts rights taken variables used k d o
-        t-close = record {
+        pub close-pair : Resuming N w values trail links′ lefts rights taken variables used k d o
+        close-pair = record {
             β = h .β; X = denote N w (lefts d); Y = denote N w (rights d); es = tp .es′;
             state = record {
               words = h .state .words; holds = h .state .holds; stack = tp .up; below = bes .2;
