@@ -1,0 +1,2 @@
+-- Stored terms, in reading order.
+pub mod Cells

@@ -1,0 +1,1 @@
+// Terms as words in lent slices.

@@ -1,0 +1,32 @@
+-- What `decide` finds, as its contract says it.
+use Prim.Native.Nat.{ℕ, _+_, _-_, _≤_, _<_}
+use native.Mathlib.Omega.{arith}
+use mathlib.Core.Path.{_≡_, refl, sym, ap, subst, _∙_}
+use mathlib.Core.Logic.{_≢_}
+use mathlib.Core.List.{List}
+use lib.ListN.{length}
+use Rattle.unifier.specs.Tables.{Rows, column}
+use Rattle.unifier.specs.Stored.{cells, Form, WalksTo, LeadsTo}
+use Rattle.unifier.specs.Contracts.{Walked, Ways, Alike, met, linked, Opening}
+use Rattle.unifier.specs.Linking.{leads-one}
+use Rattle.unifier.specs.Search.{reference-low}
+
+module _ {N : ℕ} {w : List ℕ} {b : Rows} {variables used k x y p q : ℕ} (vx : Walked N w b variables used k x p) (vy : Walked N w b variables used k y q) where
+  pub ways : Ways N b x y p q
+  ways = record { first = vx .way; second = vy .way }
+
+  pub alike-met : {links : Rows} → p ≡ q → Alike N b links x y
+  alike-met e = met p (record { first = vx .way; second = subst (λ (z : ℕ). WalksTo N (column 0 b) y z) (sym e) (vy .way) })
+
+  pub alike-linked : {links : Rows} {root root′ : ℕ} → LeadsTo (column 0 links) p root → LeadsTo (column 0 links) q root′ → root ≡ root′ → Alike N b links x y
+  alike-linked {links} {root} l l′ e = linked p q root ways l (subst (λ (z : ℕ). LeadsTo (column 0 links) q z) (sym e) l′)
+
+  pub opened : {links : Rows} {root root′ : ℕ} → N ≤ p → N ≤ q → cells w (p - N) ≡ cells w (q - N) → LeadsTo (column 0 links) p root → LeadsTo (column 0 links) q root′ → root ≢ root′ → Opening N w b links x y p q
+  opened lp lq e l l′ n = record { ways = ways; firstNode = lp; secondNode = lq; alike = e; apart = λ r i j. n (leads-one l i ∙ leads-one j l′) }
+
+-- The header of a node is among the words.
+pub header-in : {N : ℕ} {w : List ℕ} {b : Rows} {variables used k x p : ℕ} → Form N w b variables used k → Walked N w b variables used k x p → N ≤ p → p - N < length w
+header-in f v l = let i = reference-low (v .inForm) in let n = f .lentWords in omega arith
+
+pub root-in : {N : ℕ} {w : List ℕ} {b : Rows} {variables used k x p n : ℕ} → Walked N w b variables used k x p → N + used ≤ n → p < n
+root-in v l = let i = reference-low (v .inForm) in omega arith
