@@ -1,2 +1,3 @@
 -- Stored terms, in reading order.
 pub mod Cells
+pub mod NodeLaws
