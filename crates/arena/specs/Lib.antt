@@ -1,3 +1,5 @@
 -- Stored terms, in reading order.
 pub mod Cells
 pub mod NodeLaws
+pub mod Copies
+pub mod CopyLaws
