@@ -3,3 +3,5 @@ pub mod Cells
 pub mod NodeLaws
 pub mod Copies
 pub mod CopyLaws
+pub mod Form
+pub mod FormLaws

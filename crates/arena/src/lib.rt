@@ -3,14 +3,18 @@
 ghost use mathlib.Core.Path.{_≡_};
 ghost use mathlib.Core.List.{_∷_};
 ghost use Prim.Native.Nat.{ℕ, _+_, _≤_};
+ghost use Rattle.arena.specs.Cells.{headers};
 ghost use lib.ListN.{length};
 ghost use lib.Seq.{sets};
 ghost use Rattle.arena.specs.Copies.{moved, copied, Movable, Copyable};
+ghost use Rattle.arena.specs.Form.{isHeader, isArgument, inForm, Place};
 
 // The room for variables in patterns: a rule has at most 64 (document 01, refusal 28).
 const PATTERN_ROOM: u32 = 64;
 // The least header; references are below it.
 const HEADERS: u32 = 1048576;
+// The most inputs that a symbol has (document 01, refusal 28).
+const INPUTS: u32 = 16;
 
 // Writes a node, its header and its arguments, from the address `used` on.
 pub fn push_node(words: &mut [u32], used: u32, header: u32, arguments: &[u32])
@@ -59,4 +63,67 @@ pub fn inst(pattern: &[u32], from: u32, count: u32, places: &[u32], words: &mut 
         words[at + i] = moved_word(pattern[start + i], places, counter, first, base);
         i += 1;
     }
+}
+
+// Whether a word is the header of a known symbol, with that symbol's arity.
+fn is_header(arities: &[u32], word: u32) -> bool
+    ensures { λ r. ⌜ r ≡ isHeader (now (arities .entry)) word ⌝ }
+{
+    if word < HEADERS {
+        return false;
+    }
+    let symbol = ((word - HEADERS) / 32) as usize;
+    if symbol < arities.len() {
+        if word % 32 == arities[symbol] {
+            return word % 32 <= INPUTS;
+        }
+    }
+    false
+}
+
+// Whether a word may be an argument of the node at the address `node`.
+fn is_argument(words: &[u32], from: u32, room: u32, variables: u32, node: u32, word: u32) -> bool
+    // The pass over the words has come to `node`, and all references are below the headers.
+    requires { ⌜ (from ≤ node) × (node ≤ length (now words)) × (room + node ≤ headers) ⌝ }
+    ensures { λ r. ⌜ r ≡ isArgument (record { words = now (words .entry); room = room; variables = variables; from = from }) node word ⌝ }
+{
+    if word < room {
+        return word < variables;
+    }
+    if word < room + from {
+        return false;
+    }
+    if word < room + node {
+        return words[(word - room) as usize] >= HEADERS;
+    }
+    false
+}
+
+// Whether the words from the address `from` up to `to` are in form: nodes one after another, whatever they hold.
+pub fn check_words(words: &[u32], from: u32, to: u32, room: u32, variables: u32, arities: &[u32]) -> bool
+    // The part lies in the slice, and all references to it are below the headers: both follow from the limits, which the caller tests first.
+    requires { ⌜ (from ≤ to) × (to ≤ length (now words)) × (room + to ≤ headers) ⌝ }
+    ensures { λ r. ⌜ r ≡ inForm (now (words .entry)) from to room variables (now (arities .entry)) ⌝ }
+{
+    let mut at = from;
+    let mut node = from;
+    let mut left = 0;
+    while at < to {
+        let word = words[at as usize];
+        if left == 0 {
+            if !is_header(arities, word) {
+                return false;
+            }
+            node = at;
+            left = word % 32;
+            at += 1;
+            continue;
+        }
+        if !is_argument(words, from, room, variables, node, word) {
+            return false;
+        }
+        left -= 1;
+        at += 1;
+    }
+    left == 0
 }
