@@ -1,10 +1,10 @@
 // Terms as words in lent slices. A node is a header, which holds its symbol and its arity, and then one reference for each argument; specs/Cells says
 // what a reference denotes.
 ghost use mathlib.Core.Path.{_≡_};
-ghost use mathlib.Core.List.{_∷_};
-ghost use Prim.Native.Nat.{ℕ, _+_, _≤_};
+ghost use mathlib.Core.List.{_∷_, _++_};
+ghost use Prim.Native.Nat.{ℕ, _+_, _-_, _<_, _≤_};
 ghost use Rattle.arena.specs.Cells.{headers};
-ghost use lib.ListN.{length};
+ghost use lib.ListN.{length, take, replicate};
 ghost use lib.Seq.{sets};
 ghost use Rattle.arena.specs.Copies.{moved, copied, Movable, Copyable};
 ghost use Rattle.arena.specs.Form.{isHeader, isArgument, inForm, Place};
@@ -126,4 +126,15 @@ pub fn check_words(words: &[u32], from: u32, to: u32, room: u32, variables: u32,
         at += 1;
     }
     left == 0
+}
+
+// Zeroes the words from the address `from` on.
+pub fn clear(words: &mut [u32], from: u32)
+    ensures { λ _. ⌜ now (words .exit) ≡ take from (now (words .entry)) ++ replicate (length (now (words .entry)) - from) 0 ⌝ }
+{
+    let mut at = from as usize;
+    while at < words.len() {
+        words[at] = 0;
+        at += 1;
+    }
 }
