@@ -5,3 +5,4 @@ pub mod Copies
 pub mod CopyLaws
 pub mod Form
 pub mod FormLaws
+pub mod Links

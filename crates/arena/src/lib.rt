@@ -2,11 +2,12 @@
 // what a reference denotes.
 ghost use mathlib.Core.Path.{_≡_};
 ghost use mathlib.Core.List.{_∷_, _++_};
-ghost use Prim.Native.Nat.{ℕ, _+_, _-_, _<_, _≤_};
-ghost use Rattle.arena.specs.Cells.{headers};
+ghost use Prim.Native.Nat.{ℕ, suc, _+_, _-_, _<_, _≤_};
+ghost use Rattle.arena.specs.Cells.{headers, cells};
 ghost use lib.ListN.{length, take, replicate};
 ghost use lib.Seq.{sets};
 ghost use Rattle.arena.specs.Copies.{moved, copied, Movable, Copyable};
+ghost use Rattle.arena.specs.Links.{least, greatest, Linkable, Arguments, Joined};
 ghost use Rattle.arena.specs.Form.{isHeader, isArgument, inForm, Place};
 
 // The room for variables in patterns: a rule has at most 64 (document 01, refusal 28).
@@ -137,4 +138,71 @@ pub fn clear(words: &mut [u32], from: u32)
         words[at] = 0;
         at += 1;
     }
+}
+
+// The lesser of two references.
+fn least(a: u32, b: u32) -> u32
+    ensures { λ r. ⌜ r ≡ least a b ⌝ }
+{
+    if a < b {
+        return a;
+    }
+    b
+}
+
+// The greater of two references.
+fn greatest(a: u32, b: u32) -> u32
+    ensures { λ r. ⌜ r ≡ greatest a b ⌝ }
+{
+    if a < b {
+        return b;
+    }
+    a
+}
+
+// Links two references, which have to denote the same term; false where one is a variable and the other is not the same.
+fn link(links: &mut [u32], room: u32, a: u32, b: u32) -> bool
+    // The links are those of an earlier step, and there is one for each node.
+    requires { ⌜ Linkable room (now links) a b ⌝ }
+    ensures { λ r. ⌜ Joined room (now (links .entry)) (now (links .exit)) 1 (λ _. a) (λ _. b) r ⌝ }
+{
+    let mut p = a;
+    let mut q = b;
+    while p != q {
+        let high = greatest(p, q);
+        let low = least(p, q);
+        if low < room {
+            return false;
+        }
+        let at = (high - room) as usize;
+        let next = links[at];
+        if next == 0 {
+            links[at] = low + 1;
+            return true;
+        }
+        // The links of one class are shortened on the way, so that later ones take few steps.
+        links[at] = least(low, next - 1) + 1;
+        p = next - 1;
+        q = low;
+    }
+    true
+}
+
+// Links the first `count` arguments of the nodes at the addresses a and b, each with its like.
+fn link_arguments(words: &[u32], links: &mut [u32], room: u32, a: u32, b: u32, count: u32) -> bool
+    // Both nodes are in form.
+    requires { ⌜ Arguments room (now words) (now links) a b count ⌝ }
+    ensures { λ r. ⌜ Joined room (now (links .entry)) (now (links .exit)) count (λ i. cells (now (words .entry)) (a + suc i)) (λ i. cells (now (words .entry)) (b + suc i)) r ⌝ }
+{
+    let left = a as usize + 1;
+    let right = b as usize + 1;
+    let end = count as usize;
+    let mut i = 0;
+    while i < end {
+        if !link(links, room, words[left + i], words[right + i]) {
+            return false;
+        }
+        i += 1;
+    }
+    true
 }
