@@ -5,4 +5,6 @@ pub mod Copies
 pub mod CopyLaws
 pub mod Form
 pub mod FormLaws
+pub mod Equality
+pub mod EqualityLaws
 pub mod Links

@@ -8,6 +8,7 @@ use mathlib.Core.List.{List}
 use lib.ListN.{length}
 use Rattle.terms.specs.Numbers.{less}
 use Rattle.terms.specs.Term.{Term}
+use Rattle.arena.specs.Equality.{alike}
 use Rattle.arena.specs.Cells.{Cells, headers, cells, denote, Reference, WellFormed}
 
 -- The lesser of two references, and the greater.
@@ -80,7 +81,17 @@ pub record Settled (room : ℕ) (w L L′ : List ℕ) (nv used at : ℕ) (same a
   pub forth : answer ≡ true → Agrees room (denote room (cells w)) (cells L) → Agrees room (denote room (cells w)) (cells L′)
   pub no : answer ≡ false → (same ≡ false) ⊎ (Agrees room (denote room (cells w)) (cells L) → ⊥)
 
--- The answer to the question whether two references denote the same term.
-pub record Compared (room : ℕ) (w : Cells) (a b : ℕ) (answer : Bool) : Type 0 where
-  pub yes : answer ≡ true → denote room w a ≡ denote room w b
-  pub no : answer ≡ false → denote room w a ≡ denote room w b → ⊥
+-- What comparing asks: words in form, references in form, and links for all addresses, which are all zero.
+pub record Ready (room : ℕ) (w L : List ℕ) (nv used a b : ℕ) : Type 0 where
+  pub formed : WellFormed room (cells w) nv used
+  pub small : room + used ≤ headers
+  pub words : used ≤ length w
+  pub scratch : used ≤ length L
+  pub zero-before : (i : ℕ) → cells L i ≡ 0
+  pub left : Reference room (cells w) nv used a
+  pub right : Reference room (cells w) nv used b
+
+-- Whether two references denote the same term; and the links are as they were.
+pub record Compared (room : ℕ) (w : Cells) (L L′ : List ℕ) (a b : ℕ) (same : Bool) : Type 0 where
+  pub answer : same ≡ alike (denote room w a) (denote room w b)
+  pub restored : L′ ≡ L
