@@ -173,12 +173,28 @@ module _ (room : ℕ) (w : List ℕ) (nv used a b : ℕ) where
     pub forth : same ≡ true → denote room (cells w) a ≡ denote room (cells w) b → Agrees room (denote room (cells w)) (cells L)
     pub no : same ≡ false → denote room (cells w) a ≡ denote room (cells w) b → ⊥
 
+  -- A reference in form has a link, and is below the headers.
+  reference-low : (x : ℕ) → Reference room (cells w) nv used x → x < room + used
+  reference-low x p = ⊎-elim (λ l. omega arith) (λ l. p .node l) (low-or-high room x room)
+
+  pub ready-linkable : (L : List ℕ) → Ready room w L nv used a b → Linkable room L a b
+  ready-linkable L k = let s = k .scratch in let p = reference-low a (k .left) in let q = reference-low b (k .right) in record
+    { form = record
+        { node = λ i z d. let o = k .zero-before i in let x : ⊥ = omega arith in absurd x
+        ; below = λ i z d. let o = k .zero-before i in let x : ⊥ = omega arith in absurd x }
+    ; left = omega arith; right = omega arith }
+
+  pub ready-low : (L : List ℕ) (x : ℕ) → Ready room w L nv used a b → x ≡ greatest a b → x < headers
+  ready-low L x k e = let s = k .small in let p = reference-low a (k .left) in let q = reference-low b (k .right) in
+      rw e (ordered (λ x y. x < headers) a b (λ l. omega arith) (λ l. omega arith))
+
   pub pass-start : (L L′ : List ℕ) (at : ℕ) (r : Bool) → Ready room w L nv used a b → Joined room L L′ 1 (λ _. a) (λ _. b) r → at ≡ suc (greatest a b) - room → Passing L′ at r
   pass-start L L′ at r k j e =
       let top : (a ≤ greatest a b) × (b ≤ greatest a b) = ordered (λ x y. (a ≤ x) × (b ≤ x)) a b (λ l. (omega arith, omega arith)) (λ l. (omega arith, l)) in
       let n = j .long in
       let s = k .scratch in
-      let low : (x : ℕ) → Reference room (cells w) nv used x → suc x - room ≤ used = (λ x p. ⊎-elim (λ l. omega arith) (λ l. let q = p .node l in omega arith) (low-or-high room x room)) in
+      let p = reference-low a (k .left) in
+      let q = reference-low b (k .right) in
       let none : Agrees room (denote room (cells w)) (cells L) = (λ i z d. let o = k .zero-before i in let x : ⊥ = omega arith in absurd x) in
       let refs : Each room (test room w nv used) (cells L′) = j .good (test room w nv used)
             (λ i z d. let o = k .zero-before i in let x : ⊥ = omega arith in absurd x)
@@ -187,7 +203,7 @@ module _ (room : ℕ) (w : List ℕ) (nv used a b : ℕ) where
       { kept = record
           { formed = k .formed; small = k .small; words = k .words; scratch = omega arith; form = j .form
           ; references = λ i z d. let v = refs i z d in (test-reference room w nv used (room + i) (v .0), test-reference room w nv used z (v .1)) }
-      ; within = rw e (ordered (λ x y. suc x - room ≤ used) a b (λ l. low b (k .right)) (λ l. low a (k .left)))
+      ; within = rw e (ordered (λ x y. suc x - room ≤ used) a b (λ l. omega arith) (λ l. omega arith))
       ; cleared = λ i l. j .above (suc (greatest a b)) (λ _ _. (omega arith, omega arith)) i (omega arith) ∙ k .zero-before i
       ; back = λ f u. j .back f (denote room (cells w)) u .1 0 (omega arith)
       ; forth = λ f u. j .forth f (denote room (cells w)) none (λ _ _. u)
@@ -204,8 +220,8 @@ module _ (room : ℕ) (w : List ℕ) (nv used a b : ℕ) where
         (λ e. ⊎-elim (λ d. true-false e d) (λ d. d (h .forth e u)) (k .no f))
         (λ e. h .no e u) }
 
-  pub pass-end : (L₀ L : List ℕ) (same : Bool) → Ready room w L₀ nv used a b → length L ≡ length L₀ → Passing L 0 same → Compared room (cells w) L₀ L a b same
-  pass-end L₀ L same k n h = record
+  pub pass-end : (L₀ L : List ℕ) (at : ℕ) (same : Bool) → Ready room w L₀ nv used a b → length L ≡ length L₀ → at ≤ 0 → Passing L at same → Compared room (cells w) L₀ L a b same
+  pass-end L₀ L at same k n done h = record
     { answer = by-bool same
         (λ e. e ∙ sym (alike-same (denote room (cells w) a) (denote room (cells w) b) (h .back e (λ i z d. let o = h .cleared i (omega arith) in let x : ⊥ = omega arith in absurd x))))
         (λ e. e ∙ sym (alike-not (denote room (cells w) a) (denote room (cells w) b) (h .no e)))

@@ -7,7 +7,7 @@ ghost use Rattle.arena.specs.Cells.{headers, cells};
 ghost use lib.ListN.{length, take, replicate};
 ghost use lib.Seq.{sets};
 ghost use Rattle.arena.specs.Copies.{moved, copied, Movable, Copyable};
-ghost use Rattle.arena.specs.Links.{least, greatest, Linkable, Arguments, Joined};
+ghost use Rattle.arena.specs.Links.{least, greatest, Linkable, Arguments, Comparable, Ready, Joined, Settled, Compared};
 ghost use Rattle.arena.specs.Form.{isHeader, isArgument, inForm, Place};
 
 // The room for variables in patterns: a rule has at most 64 (document 01, refusal 28).
@@ -205,4 +205,52 @@ fn link_arguments(words: &[u32], links: &mut [u32], room: u32, a: u32, b: u32, c
         i += 1;
     }
     true
+}
+
+// Takes up the link of the node at the address `at`: removes it, and links the node's arguments with those of the node to which it led.
+fn settle(words: &[u32], links: &mut [u32], room: u32, variables: u32, used: u32, at: u32, same: bool) -> bool
+    // The words are in form, and the links join references in form.
+    requires { ⌜ Comparable room (now words) (now links) variables used ⌝ ∗ ⌜ at < used ⌝ }
+    ensures { λ r. ⌜ Settled room (now (words .entry)) (now (links .entry)) (now (links .exit)) variables used at same r ⌝ }
+{
+    let i = at as usize;
+    let next = links[i];
+    if next == 0 {
+        return same;
+    }
+    links[i] = 0;
+    if same {
+        let other = next - 1 - room;
+        let header = words[i];
+        if header == words[other as usize] {
+            return link_arguments(words, links, room, at, other, header % 32);
+        }
+    }
+    false
+}
+
+// The number of addresses up to that of a reference, 0 for a variable.
+fn past(room: u32, reference: u32) -> u32
+    requires { ⌜ reference < headers ⌝ }
+    ensures { λ r. ⌜ r ≡ suc reference - room ⌝ }
+{
+    if reference < room {
+        return 0;
+    }
+    reference - room + 1
+}
+
+// Whether two references denote the same term, in one pass from the greater one's address down; the links are zero before and after.
+pub fn equal(words: &[u32], links: &mut [u32], room: u32, variables: u32, used: u32, a: u32, b: u32) -> bool
+    // The words and both references are in form, and there is a link for each address in use.
+    requires { ⌜ Ready room (now words) (now links) variables used a b ⌝ }
+    ensures { λ r. ⌜ Compared room (cells (now (words .entry))) (now (links .entry)) (now (links .exit)) a b r ⌝ }
+{
+    let mut same = link(links, room, a, b);
+    let mut at = past(room, greatest(a, b));
+    while at > 0 {
+        at -= 1;
+        same = settle(words, links, room, variables, used, at, same);
+    }
+    same
 }
