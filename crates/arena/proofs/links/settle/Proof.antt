@@ -5,8 +5,8 @@ use lib.ListN.{length, length-set}
 use Rattle.arena.proofs.Settling.{settle-none, settle-no, settle-clash, settle-linked, lower, room-for, arguments-linkable}
 use native.Mathlib.Omega.{arith}
 use borrow.Author.Needs.{needs}
-use Rattle.arena.proofs.settle.Statement.{statement}
-use Rattle.arena.proofs.settle.Tie as tie
+use Rattle.arena.proofs.links.settle.Statement.{statement}
+use Rattle.arena.proofs.links.settle.Tie as tie
 
 mul-next : tie.Need-mul-next
 mul-next c = search needs
