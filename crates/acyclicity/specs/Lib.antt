@@ -1,0 +1,3 @@
+-- Acyclic bindings in storage, in reading order.
+pub mod Contract
+pub mod Edges
