@@ -14,4 +14,4 @@ pub mod declarations;
 pub mod random;
 pub mod tokens;
 
-pub use original::lang::harness::{theory, words};
+pub use original::lang::harness::{theory, unify, words};

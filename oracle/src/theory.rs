@@ -389,7 +389,7 @@ struct Plan {
     goals: Vec<Posed>,
 }
 
-fn prover(rules: &[Rule], variables: usize, bindings: &[(usize, T)]) -> Prover {
+pub(super) fn prover(rules: &[Rule], variables: usize, bindings: &[(usize, T)]) -> Prover {
     let mut p = Prover {
         sig: Rc::new(signature(rules.to_vec())),
         binding: Vec::new(),

@@ -1,6 +1,10 @@
 // The functions that programs in other languages call: numbers, byte slices and rows.
 ghost use mathlib.Core.Path.{_≡_};
+ghost use Rattle.arena.specs.Cells.{Reference};
+ghost use Rattle.capi.specs.Unification.{UnifiedAs};
 ghost use Rattle.capi.specs.Words.{packed, textLimit};
+ghost use Rattle.unifier.specs.Contracts.{Scratch};
+ghost use Rattle.unifier.specs.Stored.{cells, Form};
 ghost use Rattle.words.specs.Lexer.{lexAnswer, lexRows};
 
 // `words::lex` under a limit on the text's bytes. The answer is the number of tokens, or 2^32 times the refusal's number and its line.
@@ -21,4 +25,33 @@ pub extern "C" fn horn_lex(text: &[u8], limit: u32, tokens: &mut [[u32; 4]]) -> 
         words::Lexed::Tokens(n) => n as u64,
         words::Lexed::Refused(r, line) => (words::number(r) as u64) * 0x1_0000_0000 + (line as u64),
     }
+}
+
+// `unifier::unify`, for comparison with other unifications: the caller sees to what it asks. The answer is how many variables are bound, and 2^32 more
+// where the terms unify.
+#[no_mangle]
+pub extern "C" fn horn_unify(
+    words: &[u32],
+    bindings: &mut [[u32; 2]],
+    links: &mut [[u32; 2]],
+    marks: &mut [[u32; 2]],
+    stack: &mut [[u32; 3]],
+    room: u32,
+    variables: u32,
+    used: u32,
+    bound: u32,
+    left: u32,
+    right: u32,
+) -> u64
+    requires { ⌜ Form room (now words) (now bindings) variables used bound ⌝
+      ∗ ⌜ (Reference room (cells (now words)) variables used left) × (Reference room (cells (now words)) variables used right) ⌝
+      ∗ ⌜ Scratch room used (now links) (now marks) (now stack) ⌝ }
+    ensures { λ r. ⌜ UnifiedAs room (now (words .entry)) (now (bindings .entry)) (now (bindings .exit)) (now (links .entry)) (now (links .exit))
+      (now (marks .entry)) (now (marks .exit)) (now (stack .entry)) (now (stack .exit)) variables used bound left right r ⌝ }
+{
+    let ended = unifier::unify(words, bindings, links, marks, stack, room, variables, used, bound, left, right);
+    if ended.unified {
+        return 0x1_0000_0000 + (ended.bound as u64);
+    }
+    ended.bound as u64
 }
