@@ -29,7 +29,7 @@ cleared-more {rows₀} {rows} {from} {i} h f l = record {
       getD-set-other rows i a (0 ∷ 0 ∷ []) [] n ∙ h .outside a (⊎-elim (λ p. inl p) (λ p. inr (omega arith)) o);
 }
 
-pub searchable : {words : List ℕ} {bindings : Rows} {N nv u : ℕ} {rows : Rows} → Ready words bindings N nv u rows → Searchable words bindings N nv u rows
+pub searchable : {words : List ℕ} {bindings : Rows} {N variables used : ℕ} {rows : Rows} → Ready words bindings N variables used rows → Searchable words bindings N variables used rows
 searchable {rows = rows} h = record {
   stored = h .stored;
   long = h .long;
@@ -38,17 +38,17 @@ searchable {rows = rows} h = record {
       (λ l q. ap (λ (r : List ℕ). getD r 0 0) (List·getD-eq-default rows [] l));
 }
 
-pub restored : {words : List ℕ} {bindings : Rows} {N nv u : ℕ} {rows rows₁ rows₂ rows₃ : Rows} {answer : Bool} → Ready words bindings N nv u rows
-    → Searched words bindings N nv u rows answer rows₁ → Cleared rows₁ 0 nv rows₂ → Cleared rows₂ N (N + u) rows₃ → rows₃ ≡ rows
-restored {N = N} {nv} {u} {rows} {rows₁} {rows₂} {rows₃} h s c d =
+pub restored : {words : List ℕ} {bindings : Rows} {N variables used : ℕ} {rows rows₁ rows₂ rows₃ : Rows} {answer : Bool} → Ready words bindings N variables used rows
+    → Searched words bindings N variables used rows answer rows₁ → Cleared rows₁ 0 variables rows₂ → Cleared rows₂ N (N + used) rows₃ → rows₃ ≡ rows
+restored {N = N} {variables} {used} {rows} {rows₁} {rows₂} {rows₃} h s c d =
     let n : length rows₃ ≡ length rows = d .long ∙ (c .long ∙ s .long) in
     ext-getD [] rows₃ rows n (λ a l.
     let zero-row : getD rows a [] ≡ 0 ∷ 0 ∷ [] = h .zeros a (omega arith) in
     by-less a N
-    (λ p q. d .outside a (inl p) ∙ by-less a nv
+    (λ p q. d .outside a (inl p) ∙ by-less a variables
     (λ v r. c .inside a (omega arith) v ∙ sym zero-row)
     (λ v r. c .outside a (inr v) ∙ s .outside a (v, inl p)))
-    (λ p q. by-less a (N + u)
+    (λ p q. by-less a (N + used)
     (λ v r. d .inside a p v ∙ sym zero-row)
     (λ v r. let f = h .stored .few in
     d .outside a (inr v) ∙ (c .outside a (inr (omega arith)) ∙ s .outside a (omega arith, inr v)))))

@@ -68,7 +68,7 @@ bound-some : (N : ℕ) (w : Cells) (x : ℕ) {t : Term} → bindingOf N w x ≡ 
 bound-some N w zero e = none-some e
 bound-some N w (suc r) e = (r, refl, (let q : some (denote N w r) ≡ some _ = e in cc))
 
-module _ {words : List ℕ} {bindings : Rows} {N nv u : ℕ} (s : Stored words bindings N nv u) where
+module _ {words : List ℕ} {bindings : Rows} {N variables used : ℕ} (s : Stored words bindings N variables used) where
   -- An argument of a node, as its edge has it.
   argument-place : {r : ℕ} (i : ℕ) → N ≤ r → i < arityOf (cells words (r - N)) → edge N (cells words) (column 0 bindings) r i ≡ suc (cells words (suc (r - N) + i))
   argument-place {r} i l b =
@@ -76,9 +76,9 @@ module _ {words : List ℕ} {bindings : Rows} {N nv u : ℕ} (s : Stored words b
       edge-argument N (cells words) (column 0 bindings) r i l b ∙ ap (λ (k : ℕ). suc (cells words k)) d
 
   -- A bound variable's term, and its edge.
-  binding-edge : (β : Bindings) → Held N (cells words) (column 0 bindings) nv β → (x : ℕ) (t : Term) → lookup β x ≡ some t
-      → (r : ℕ) × (x < nv) × (edge N (cells words) (column 0 bindings) x 0 ≡ suc r) × (denote N (cells words) r ≡ t)
-  binding-edge β h x t e = by-less x nv
+  binding-edge : (β : Bindings) → Held N (cells words) (column 0 bindings) variables β → (x : ℕ) (t : Term) → lookup β x ≡ some t
+      → (r : ℕ) × (x < variables) × (edge N (cells words) (column 0 bindings) x 0 ≡ suc r) × (denote N (cells words) r ≡ t)
+  binding-edge β h x t e = by-less x variables
       (λ l q. let (r, b, d) = bound-some N (cells words) (column 0 bindings x) (sym (h .below x l) ∙ e) in
       let f = s .few in
       (r, l, edge-variable N (cells words) (column 0 bindings) x 0 (omega arith) refl ∙ b, d))
@@ -87,27 +87,27 @@ module _ {words : List ℕ} {bindings : Rows} {N nv u : ℕ} (s : Stored words b
   module _ (mark rank′ : ℕ → ℕ)
       (falls : (a i y : ℕ) → mark a ≡ 33 → edge N (cells words) (column 0 bindings) a i ≡ suc y → (mark y ≡ 33) × (rank′ y < rank′ a)) where
     -- A term's variables have at most the rank of its reference.
-    mem-rank : (n r y : ℕ) → r < n → Reference N (cells words) nv u r → mark r ≡ 33 → mem y (denote N (cells words) r) ≡ true → rank′ y ≤ rank′ r
+    mem-rank : (n r y : ℕ) → r < n → Reference N (cells words) variables used r → mark r ≡ 33 → mem y (denote N (cells words) r) ≡ true → rank′ y ≤ rank′ r
     unfolding mem
     mem-rank zero r y b h d m = absurd (not-suc-le-zero b)
     mem-rank (suc n) r y b h d m = ⊎-elim
         (λ l. let e : y ≡ r = same-true (rw (denote-variable N (cells words) r l) at m) in
         let k : rank′ y ≡ rank′ r = ap rank′ e in omega arith)
-        (λ l. let m′ = rw (denote-node N (cells words) nv u (s .formed) r h l) at m in
+        (λ l. let m′ = rw (denote-node N (cells words) variables used (s .formed) r h l) at m in
         let (i, c, g) = mem-args (denote N (cells words)) (cells words) (suc (r - N)) (arityOf (cells words (r - N))) y m′ in
         let e = argument-place i l c in
         let (d′, f) = falls r i (cells words (suc (r - N) + i)) d e in
         let o = h .node l in
         let p : r - N + suc i ≡ suc (r - N) + i = omega arith in
-        let a : Reference N (cells words) nv (r - N) (cells words (r - N + suc i)) = s .formed .arguments (r - N) i (omega arith) (h .header l) c in
-        let a′ : Reference N (cells words) nv (r - N) (cells words (suc (r - N) + i)) = subst (λ (k : ℕ). Reference N (cells words) nv (r - N) (cells words k)) p a in
+        let a : Reference N (cells words) variables (r - N) (cells words (r - N + suc i)) = s .formed .arguments (r - N) i (omega arith) (h .header l) c in
+        let a′ : Reference N (cells words) variables (r - N) (cells words (suc (r - N) + i)) = subst (λ (k : ℕ). Reference N (cells words) variables (r - N) (cells words k)) p a in
         let j = reference-below N l a′ in
         let ih = mem-rank n (cells words (suc (r - N) + i)) y (omega arith) (edge-reference s i (cells words (suc (r - N) + i)) h e) d′ g in
         omega arith)
         (low-or-high N r N)
 
     -- The search is done with every variable: the bindings are acyclic.
-    pub accept : ((v : ℕ) → v < nv → mark v ≡ 33) → (β : Bindings) → Held N (cells words) (column 0 bindings) nv β → Acyclic β
+    pub accept : ((v : ℕ) → v < variables → mark v ≡ 33) → (β : Bindings) → Held N (cells words) (column 0 bindings) variables β → Acyclic β
     accept all β h = ranked-acyclic rank′ β (h .distinct) (λ x t y e m.
         let (r, l, g, d) = binding-edge β h x t e in
         let (k, f) = falls x 0 r (all x l) g in
@@ -115,11 +115,11 @@ module _ {words : List ℕ} {bindings : Rows} {N nv u : ℕ} (s : Stored words b
         omega arith)
 
   -- Along a path heights do not rise, and where they stay the references fall.
-  module _ (β : Bindings) (held : Held N (cells words) (column 0 bindings) nv β) (acyclic : Acyclic β) where
+  module _ (β : Bindings) (held : Held N (cells words) (column 0 bindings) variables β) (acyclic : Acyclic β) where
     high : ℕ → ℕ
     high r = height (rank β) (denote N (cells words) r)
 
-    step-falls : {r : ℕ} (i y : ℕ) → Reference N (cells words) nv u r → edge N (cells words) (column 0 bindings) r i ≡ suc y
+    step-falls : {r : ℕ} (i y : ℕ) → Reference N (cells words) variables used r → edge N (cells words) (column 0 bindings) r i ≡ suc y
         → (high y < high r) ⊎ ((high y ≤ high r) × (y < r))
     unfolding mem height high
     step-falls {r} i y h e = by-edge N (cells words) (column 0 bindings) r i y e
@@ -130,21 +130,21 @@ module _ {words : List ℕ} {bindings : Rows} {N nv u : ℕ} (s : Stored words b
         inl (omega arith))
         (λ l c q. let o = h .node l in
         let p : r - N + suc i ≡ suc (r - N) + i = omega arith in
-        let a : Reference N (cells words) nv (r - N) (cells words (r - N + suc i)) = s .formed .arguments (r - N) i (omega arith) (h .header l) c in
+        let a : Reference N (cells words) variables (r - N) (cells words (r - N + suc i)) = s .formed .arguments (r - N) i (omega arith) (h .header l) c in
         let j : cells words (r - N + suc i) < r = reference-below N l a in
         let q′ : y ≡ cells words (suc (r - N) + i) = q ∙ ap (cells words) p in
         let d : denote N (cells words) y ≡ denote N (cells words) (cells words (suc (r - N) + i)) = ap (denote N (cells words)) q′ in
         let ts = args (denote N (cells words)) (cells words) (suc (r - N)) (arityOf (cells words (r - N))) in
         let g : height (rank β) (denote N (cells words) r) ≡ height (rank β) (args (denote N (cells words)) (cells words) (suc (r - N)) (arityOf (cells words (r - N)))) =
-        ap (height (rank β)) (denote-node N (cells words) nv u (s .formed) r h l) in
+        ap (height (rank β)) (denote-node N (cells words) variables used (s .formed) r h l) in
         let f : height (rank β) (denote N (cells words) y) ≤ height (rank β) (args (denote N (cells words)) (cells words) (suc (r - N)) (arityOf (cells words (r - N)))) =
         height-most (rank β) (denote N (cells words) y) (height (rank β) (args (denote N (cells words)) (cells words) (suc (r - N)) (arityOf (cells words (r - N)))))
         (λ x m. height-mem (rank β) (args (denote N (cells words)) (cells words) (suc (r - N)) (arityOf (cells words (r - N)))) x
         (args-mem (denote N (cells words)) (cells words) (suc (r - N)) (arityOf (cells words (r - N))) x i c (rw d at m))) in
         inr (omega arith, omega arith))
 
-    path-falls : {r y : ℕ} → Reference N (cells words) nv u r → Path (edge N (cells words) (column 0 bindings)) (Reference N (cells words) nv u) r y
-        → Reference N (cells words) nv u y × ((high y < high r) ⊎ ((high y ≤ high r) × (y < r)))
+    path-falls : {r y : ℕ} → Reference N (cells words) variables used r → Path (edge N (cells words) (column 0 bindings)) (Reference N (cells words) variables used) r y
+        → Reference N (cells words) variables used y × ((high y < high r) ⊎ ((high y ≤ high r) × (y < r)))
     path-falls h (Path.step {y = y} i e) = (edge-reference s i y h e, step-falls i y h e)
     path-falls h (Path.more {y = y} p i e) =
         let (k, f) = path-falls h p in
@@ -154,5 +154,5 @@ module _ {words : List ℕ} {bindings : Rows} {N nv u : ℕ} (s : Stored words b
               (λ a. let (a₁, a₂) = a in ⊎-elim (λ b. inl (omega arith)) (λ b. let (b₁, b₂) = b in inr (omega arith, omega arith)) g) f,
         )
 
-    pub refuse : {r : ℕ} → Reference N (cells words) nv u r → Path (edge N (cells words) (column 0 bindings)) (Reference N (cells words) nv u) r r → ⊥
+    pub refuse : {r : ℕ} → Reference N (cells words) variables used r → Path (edge N (cells words) (column 0 bindings)) (Reference N (cells words) variables used) r r → ⊥
     refuse h p = let (k, f) = path-falls h p in ⊎-elim (λ a. omega arith) (λ a. let (a₁, a₂) = a in omega arith) f
