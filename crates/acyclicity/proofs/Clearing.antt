@@ -1,14 +1,14 @@
 -- Rows set to zero one by one, and scratch restored: what the search leaves in the rows for references is zero again, and so is all the rest.
-use Prim.Native.Nat.{ℕ, zero, suc, _+_, _-_, _≤_, _<_}
+use Prim.Native.Nat.{ℕ, _+_, _≤_, _<_}
 use native.Mathlib.Omega.{arith}
-use mathlib.Core.Path.{_≡_, refl, sym, ap, _∙_, subst}
-use mathlib.Core.Logic.{_⊎_, inl, inr, ⊎-elim, _≢_}
+use mathlib.Core.Path.{_≡_, refl, sym, ap, _∙_}
+use mathlib.Core.Logic.{inl, inr, ⊎-elim, _≢_}
 use mathlib.Core.List.{List, [], _∷_}
 use mathlib.Core.Bool.{Bool}
 use lib.ListN.{getD, length, set, length-set, List·getD-eq-default}
 use lib.Seq.{getD-set-same, getD-set-other, ext-getD}
 use Rattle.terms.specs.Numbers.{by-same, by-less}
-use Rattle.acyclicity.specs.Contract.{Rows, column, Stored, Ready}
+use Rattle.acyclicity.specs.Contract.{Rows, Ready}
 use Rattle.acyclicity.specs.Edges.{Searchable, Searched, Cleared}
 
 pub cleared-none : (rows : Rows) (from : ℕ) → Cleared rows from from rows

@@ -1,13 +1,12 @@
 -- The edges of stored bindings, one by one: they are numbered without gaps, they lead from references to references, and their words are in range.
-use Prim.Native.Nat.{ℕ, zero, suc, _+_, _-_, _*_, _/_, _%_, _≤_, _<_}
+use Prim.Native.Nat.{ℕ, suc, _+_, _-_, _≤_, _<_}
 use native.Mathlib.Omega.{arith}
-use mathlib.Core.Path.{_≡_, refl, sym, ap, _∙_, subst}
-use mathlib.Core.Logic.{_⊎_, inl, inr, ⊎-elim, _≢_}
-use mathlib.Core.Bool.{true, false, cond}
-use mathlib.Core.List.{List, [], _∷_}
-use lib.ListN.{getD, length}
-use Rattle.terms.specs.Numbers.{same, less, less-yes, less-no, same-refl, same-ne, by-same, by-less}
-use Rattle.arena.specs.Cells.{Cells, cells, headers, arityOf, Reference, WellFormed, low-or-high, reference-up, reference-below}
+use mathlib.Core.Path.{_≡_, sym, _∙_, subst}
+use mathlib.Core.Logic.{⊎-elim, _≢_}
+use mathlib.Core.List.{List}
+use lib.ListN.{length}
+use Rattle.terms.specs.Numbers.{less-yes, less-no, same-refl, same-ne, by-same, by-less}
+use Rattle.arena.specs.Cells.{Cells, cells, arityOf, Reference, low-or-high, reference-up}
 use Rattle.acyclicity.specs.Contract.{Rows, column, Stored}
 use Rattle.acyclicity.specs.Edges.{edge, Outside}
 
@@ -84,6 +83,5 @@ module _ {words : List ℕ} {bindings : Rows} {N variables used : ℕ} (s : Stor
 
   pub argument-small : {r : ℕ} (i : ℕ) → Reference N (cells words) variables used r → N ≤ r → i < arityOf (cells words (r - N)) → cells words (r - N + suc i) < 327680
   argument-small {r} i h l b =
-      let y = cells words (r - N + suc i) in
       let k = reference-within (edge-reference i (cells words (r - N + suc i)) h (edge-argument N (cells words) (column 0 bindings) r i l b)) in
       let a = s .room in let c = s .short in omega arith

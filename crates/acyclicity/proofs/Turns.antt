@@ -3,16 +3,16 @@ use Prim.Native.Nat.{ℕ, zero, suc, _+_, _-_, _*_, _≤_, _<_}
 use native.Mathlib.Omega.{arith}
 use native.Mathlib.Numerals.{add-one}
 use mathlib.Core.Path.{_≡_, refl, sym, ap, _∙_, subst}
-use mathlib.Core.Logic.{_⊎_, inl, inr, ⊎-elim, _≢_}
+use mathlib.Core.Logic.{_≢_}
 use mathlib.Core.List.{List, [], _∷_}
 use lib.ListN.{getD, length, set, length-set}
 use lib.Seq.{getD-set-other}
-use Rattle.terms.specs.Numbers.{by-same, by-less}
+use Rattle.terms.specs.Numbers.{by-less}
 use Rattle.terms.specs.Bindings.{Bindings, Acyclic}
 use Rattle.arena.specs.Cells.{cells, Reference}
 use Rattle.acyclicity.specs.Contract.{Rows, column, Held, Stored}
 use Rattle.acyclicity.specs.Edges.{edge, Outside, Searchable}
-use Rattle.acyclicity.proofs.Tables.{Changed, column-changed, all-changed, total, total-changed, total-most}
+use Rattle.acyclicity.proofs.Tables.{column-changed, all-changed, total, total-changed, total-most}
 use Rattle.acyclicity.proofs.Depth.{State, skip, enter, cycle, begin, away, at-top, follow, close, nothing}
 use Rattle.acyclicity.proofs.EdgeLaws.{edge-few, edge-first, reference-within, reference-inside, variable-reference, edge-reference}
 use Rattle.acyclicity.proofs.Ranks.{accept, refuse}

@@ -1,6 +1,6 @@
 -- The graph of stored bindings. Its vertices are references; a bound variable has one edge, to the reference that it is bound to, and a node an edge to
 -- each argument. And the contracts of the functions that the check is made of.
-use Prim.Native.Nat.{ℕ, zero, suc, _+_, _-_, _≤_, _<_}
+use Prim.Native.Nat.{ℕ, suc, _+_, _-_, _≤_, _<_}
 use mathlib.Core.Path.{_≡_}
 use mathlib.Core.Logic.{_⊎_}
 use mathlib.Core.Bool.{Bool, true, false, cond}

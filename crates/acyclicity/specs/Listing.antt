@@ -1,6 +1,6 @@
 -- Stored bindings do have a list: the bound variables in order. So the check's answer is never empty of meaning: it is true exactly if this list, and
 -- then every other, is acyclic.
-use Prim.Native.Nat.{ℕ, zero, suc, _≤_, _<_}
+use Prim.Native.Nat.{ℕ, zero, suc}
 use native.Mathlib.Omega.{arith}
 use native.Mathlib.Nat.{not-suc-le-zero}
 use mathlib.Core.Path.{_≡_, refl, sym, ap, _∙_}

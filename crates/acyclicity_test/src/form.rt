@@ -1,8 +1,6 @@
 // Whether storage is in the form that `acyclicity::is_acyclic` requires, so that a case may have any contents.
 ghost use mathlib.Core.Path.{_≡_};
 ghost use mathlib.Core.Bool.{true};
-ghost use Prim.Native.Nat.{ℕ, _≤_};
-ghost use lib.ListN.{length};
 ghost use Rattle.arena.specs.Cells.{cells, Reference};
 ghost use Rattle.acyclicity_test.specs.Form.{NodeInForm, WordsInForm, BindingInForm, BindingsInForm, Zero};
 

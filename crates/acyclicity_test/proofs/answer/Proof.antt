@@ -1,6 +1,4 @@
 -- `answer` is safe: the tests before the call are what the check requires.
-use Prim.Native.Nat.{suc}
-use mathlib.Core.Path.{_≡_, _∙_}
 use borrow.Author.Tests.{not-false}
 use native.Mathlib.Omega.{arith}
 use borrow.Author.Needs.{needs}

@@ -1,6 +1,6 @@
 -- `put_tower` is safe. The loop's invariant: the words stay as many.
 use Prim.Native.Nat.{_-_}
-use mathlib.Core.Path.{_≡_, refl, _∙_}
+use mathlib.Core.Path.{_≡_, refl}
 use lib.ListN.{length}
 use borrow.Author.Needs.{needs}
 use Rattle.acyclicity_test.proofs.put_tower.Statement.{statement}

@@ -1,5 +1,5 @@
 -- `are_bindings` meets its contract. The loop's invariant: the bindings of the variables passed are in form.
-use Prim.Native.Nat.{ℕ, _+_, _-_, _≤_, _<_}
+use Prim.Native.Nat.{ℕ, _-_, _≤_, _<_}
 use mathlib.Core.Path.{_≡_, refl}
 use lib.ListN.{length}
 use borrow.Author.Count.{below-more}

@@ -1,6 +1,6 @@
 -- `are_words` meets its contract. The loop's invariant: the nodes passed are in form.
-use Prim.Native.Nat.{ℕ, _+_, _-_, _≤_, _<_}
-use mathlib.Core.Path.{_≡_, refl}
+use Prim.Native.Nat.{ℕ, _-_, _≤_, _<_}
+use mathlib.Core.Path.{refl}
 use lib.ListN.{length}
 use borrow.Author.Count.{below-more}
 use borrow.Author.Tests.{not-false}

@@ -1,7 +1,6 @@
 -- `is_binding` meets its contract: what is not 0 is 1 + the reference that is tested.
 use Prim.Native.Nat.{_-_}
 use mathlib.Core.Path.{_≡_}
-use Rattle.arena.specs.Cells.{cells, Reference}
 use native.Mathlib.Omega.{arith}
 use borrow.Author.Needs.{needs}
 use Rattle.acyclicity_test.proofs.form.is_binding.Statement.{statement}

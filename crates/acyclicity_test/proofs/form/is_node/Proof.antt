@@ -1,7 +1,6 @@
 -- `is_node` meets its contract. The loop's invariant: the arguments passed are references to what stands before the node.
-use Prim.Native.Nat.{ℕ, suc, _+_, _-_, _*_, _%_, _≤_, _<_}
-use mathlib.Core.Path.{_≡_, refl, subst}
-use lib.ListN.{length}
+use Prim.Native.Nat.{ℕ, suc, _+_, _-_, _≤_, _<_}
+use mathlib.Core.Path.{_≡_, refl}
 use borrow.Author.Count.{below-more}
 use Rattle.terms.specs.Numbers.{true-false}
 use Rattle.arena.specs.Cells.{cells, arityOf, Reference}
