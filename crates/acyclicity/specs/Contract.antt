@@ -12,6 +12,7 @@ use Rattle.terms.specs.Bindings.{Bindings, lookup, Acyclic}
 use Rattle.terms.specs.Order.{Distinct}
 use Rattle.arena.specs.Cells.{Cells, cells, denote, Reference, WellFormed}
 
+-- Rows of numbers.
 abbrev pub Rows : Type 0
 Rows = List (List ℕ)
 
@@ -42,7 +43,7 @@ pub record Stored (words : List ℕ) (bindings : Rows) (N variables used : ℕ) 
   -- At most 262,144 words are in use.
   pub short : used ≤ 262144
   pub within : used ≤ length words
-  -- The words in use are nodes whose arguments are variables in use and earlier nodes.
+  -- Among them each header has its node's arguments behind it: variables in use and earlier nodes.
   pub formed : WellFormed N (cells words) variables used
   -- A variable in use is unbound, or bound to a variable in use or to a node.
   pub bound : (v r : ℕ) → v < variables → column 0 bindings v ≡ suc r → Reference N (cells words) variables used r
