@@ -1,7 +1,7 @@
 -- Search in depth through any graph whose vertices are numbers. Edges are numbered from 0 on without gaps: edge i from r leads to the vertex y if
 -- e r i is 1 + y, and e r i is 0 if there is no edge i. A mark is 0 where the search has not been, 33 where it is done, else 1 + the number of edges
 -- followed; marks between are those of the way, the vertices that the search has come through to where it is. A place is 0, or 1 + a vertex.
-use Prim.Native.Nat.{ℕ, zero, suc, _+_, _-_, _≤_, _<_}
+use Prim.Native.Nat.{ℕ, suc, _+_, _≤_, _<_}
 use native.Mathlib.Omega.{arith}
 use mathlib.Core.Path.{_≡_, refl, sym, ap, _∙_, subst}
 use mathlib.Core.Logic.{_⊎_, inl, inr, ⊎-elim, _≢_}

@@ -1,13 +1,12 @@
 -- The edges of stored bindings, one by one: they are numbered without gaps, they lead from references to references, and their words are in range.
-use Prim.Native.Nat.{ℕ, zero, suc, _+_, _-_, _*_, _/_, _%_, _≤_, _<_}
+use Prim.Native.Nat.{ℕ, suc, _+_, _-_, _≤_, _<_}
 use native.Mathlib.Omega.{arith}
-use mathlib.Core.Path.{_≡_, refl, sym, ap, _∙_, subst}
-use mathlib.Core.Logic.{_⊎_, inl, inr, ⊎-elim, _≢_}
-use mathlib.Core.Bool.{true, false, cond}
-use mathlib.Core.List.{List, [], _∷_}
-use lib.ListN.{getD, length}
-use Rattle.terms.specs.Numbers.{same, less, less-yes, less-no, same-refl, same-ne, by-same, by-less}
-use Rattle.arena.specs.Cells.{Cells, cells, headers, arityOf, Reference, WellFormed, low-or-high, reference-up, reference-below}
+use mathlib.Core.Path.{_≡_, sym, _∙_, subst}
+use mathlib.Core.Logic.{⊎-elim, _≢_}
+use mathlib.Core.List.{List}
+use lib.ListN.{length}
+use Rattle.terms.specs.Numbers.{less-yes, less-no, same-refl, same-ne, by-same, by-less}
+use Rattle.arena.specs.Cells.{Cells, cells, arityOf, Reference, low-or-high, reference-up}
 use Rattle.acyclicity.specs.Contract.{Rows, column, Stored}
 use Rattle.acyclicity.specs.Edges.{edge, Outside}
 
@@ -49,18 +48,18 @@ module _ (N : ℕ) (w bound : Cells) (r : ℕ) where
       (λ k n b. let i₀ : i ≡ 0 = omega arith in let d = edge-variable i k i₀ in let no : ⊥ = omega arith in absurd no)
       (λ k n b. let d = edge-argument i k (omega arith) in let no : ⊥ = omega arith in absurd no))
 
-module _ {words : List ℕ} {bindings : Rows} {N nv u : ℕ} (s : Stored words bindings N nv u) where
+module _ {words : List ℕ} {bindings : Rows} {N variables used : ℕ} (s : Stored words bindings N variables used) where
   -- A reference is a variable in use or below the end of the words in use.
-  pub reference-within : {r : ℕ} → Reference N (cells words) nv u r → r < N + u
+  pub reference-within : {r : ℕ} → Reference N (cells words) variables used r → r < N + used
   reference-within {r} h = let f = s .few in ⊎-elim (λ l. omega arith) (λ l. h .node l) (low-or-high N r N)
 
-  pub reference-inside : {r a : ℕ} → Reference N (cells words) nv u r → Outside N nv u a → a ≢ r
+  pub reference-inside : {r a : ℕ} → Reference N (cells words) variables used r → Outside N variables used a → a ≢ r
   reference-inside {r} {a} h (o, q) e =
       ⊎-elim (λ l. let k = h .variable l in let no : ⊥ = omega arith in no)
       (λ l. let k = h .node l in ⊎-elim (λ p. let no : ⊥ = omega arith in no) (λ p. let no : ⊥ = omega arith in no) q) (low-or-high N r N)
 
   -- A variable in use is a reference.
-  pub variable-reference : (v : ℕ) → v < nv → Reference N (cells words) nv u v
+  pub variable-reference : (v : ℕ) → v < variables → Reference N (cells words) variables used v
   variable-reference v l = let f = s .few in record {
     variable = λ p. l;
     node = λ p. let no : ⊥ = omega arith in absurd no;
@@ -68,22 +67,21 @@ module _ {words : List ℕ} {bindings : Rows} {N nv u : ℕ} (s : Stored words b
   }
 
   -- Edges lead to references.
-  pub edge-reference : {r : ℕ} (i y : ℕ) → Reference N (cells words) nv u r → edge N (cells words) (column 0 bindings) r i ≡ suc y → Reference N (cells words) nv u y
+  pub edge-reference : {r : ℕ} (i y : ℕ) → Reference N (cells words) variables used r → edge N (cells words) (column 0 bindings) r i ≡ suc y → Reference N (cells words) variables used y
   edge-reference {r} i y h e = by-edge N (cells words) (column 0 bindings) r i y e
       (λ l z b. s .bound r y (h .variable l) b)
       (λ l b q. let n = h .node l in
-      let k : Reference N (cells words) nv (r - N) (cells words (r - N + suc i)) = s .formed .arguments (r - N) i (omega arith) (h .header l) b in
-      subst (Reference N (cells words) nv u) (sym q) (reference-up N (omega arith) (omega arith) k))
+      let k : Reference N (cells words) variables (r - N) (cells words (r - N + suc i)) = s .formed .arguments (r - N) i (omega arith) (h .header l) b in
+      subst (Reference N (cells words) variables used) (sym q) (reference-up N (omega arith) (omega arith) k))
 
   -- The words that an edge is read from are within the slices, and its place is a small number.
-  pub variable-row : {r : ℕ} → Reference N (cells words) nv u r → r < N → r < length bindings
+  pub variable-row : {r : ℕ} → Reference N (cells words) variables used r → r < N → r < length bindings
   variable-row h l = let k = h .variable l in let n = s .rows in omega arith
 
-  pub node-words : {r : ℕ} → Reference N (cells words) nv u r → N ≤ r → r - N + arityOf (cells words (r - N)) < length words
+  pub node-words : {r : ℕ} → Reference N (cells words) variables used r → N ≤ r → r - N + arityOf (cells words (r - N)) < length words
   node-words {r} h l = let n = h .node l in let f = s .formed .fits (r - N) (omega arith) (h .header l) in let k = s .within in omega arith
 
-  pub argument-small : {r : ℕ} (i : ℕ) → Reference N (cells words) nv u r → N ≤ r → i < arityOf (cells words (r - N)) → cells words (r - N + suc i) < 327680
+  pub argument-small : {r : ℕ} (i : ℕ) → Reference N (cells words) variables used r → N ≤ r → i < arityOf (cells words (r - N)) → cells words (r - N + suc i) < 327680
   argument-small {r} i h l b =
-      let y = cells words (r - N + suc i) in
       let k = reference-within (edge-reference i (cells words (r - N + suc i)) h (edge-argument N (cells words) (column 0 bindings) r i l b)) in
       let a = s .room in let c = s .short in omega arith

@@ -1,18 +1,18 @@
 -- Ranks of references and ranks of variables. Where ranks fall along all edges that the variables lead to, every list of the stored bindings is acyclic;
 -- where a path leads back to its start, none is.
-use Prim.Native.Nat.{ℕ, zero, suc, _+_, _-_, _*_, _/_, _%_, _≤_, _<_}
+use Prim.Native.Nat.{ℕ, zero, suc, _+_, _-_, _≤_, _<_}
 use native.Mathlib.Omega.{arith}
-use native.Mathlib.Nat.{not-suc-le-zero, le-refl}
+use native.Mathlib.Nat.{not-suc-le-zero}
 use mathlib.Core.Path.{_≡_, refl, sym, ap, _∙_, subst}
-use mathlib.Core.Logic.{_⊎_, inl, inr, ⊎-elim, _≢_}
-use mathlib.Core.Bool.{Bool, true, false, cond, _||_}
-use mathlib.Core.Option.{Option, none, some}
-use mathlib.Core.List.{List, [], _∷_}
-use Rattle.terms.specs.Numbers.{same, same-refl, same-true, by-same, by-bool, by-less, true-false, some-none, none-some, or-left, or-right}
+use mathlib.Core.Logic.{_⊎_, inl, inr, ⊎-elim}
+use mathlib.Core.Bool.{true}
+use mathlib.Core.Option.{some}
+use mathlib.Core.List.{List}
+use Rattle.terms.specs.Numbers.{same-refl, same-true, by-bool, by-less, true-false, some-none, none-some, or-left, or-right}
 use Rattle.terms.specs.Term.{Kind, Syn, var, app, nil, cons, Term, Terms, mem}
 use Rattle.terms.specs.Bindings.{Bindings, lookup, Acyclic}
-use Rattle.terms.specs.Order.{Ranked, ranked-acyclic, acyclic-ranked, rank}
-use Rattle.arena.specs.Cells.{Cells, cells, symbolOf, arityOf, args, denote, Reference, WellFormed, low-or-high, reference-below, denote-node, denote-variable}
+use Rattle.terms.specs.Order.{ranked-acyclic, acyclic-ranked, rank}
+use Rattle.arena.specs.Cells.{Cells, cells, arityOf, args, denote, Reference, low-or-high, reference-below, denote-node, denote-variable}
 use Rattle.acyclicity.specs.Contract.{Rows, column, bindingOf, Held, Stored}
 use Rattle.acyclicity.specs.Edges.{edge}
 use Rattle.acyclicity.proofs.EdgeLaws.{edge-variable, edge-argument, by-edge, edge-reference, variable-reference}
@@ -68,46 +68,56 @@ bound-some : (N : ℕ) (w : Cells) (x : ℕ) {t : Term} → bindingOf N w x ≡ 
 bound-some N w zero e = none-some e
 bound-some N w (suc r) e = (r, refl, (let q : some (denote N w r) ≡ some _ = e in cc))
 
-module _ {words : List ℕ} {bindings : Rows} {N nv u : ℕ} (s : Stored words bindings N nv u) where
+module _ {words : List ℕ} {bindings : Rows} {N variables used : ℕ} (s : Stored words bindings N variables used) where
+  abbrev w : Cells
+  w = cells words
+
+  abbrev bound : Cells
+  bound = column 0 bindings
+
+  -- What the arguments of a node denote.
+  abbrev arguments : ℕ → Terms
+  arguments r = args (denote N w) w (suc (r - N)) (arityOf (w (r - N)))
+
   -- An argument of a node, as its edge has it.
-  argument-place : {r : ℕ} (i : ℕ) → N ≤ r → i < arityOf (cells words (r - N)) → edge N (cells words) (column 0 bindings) r i ≡ suc (cells words (suc (r - N) + i))
+  argument-place : {r : ℕ} (i : ℕ) → N ≤ r → i < arityOf (w (r - N)) → edge N w bound r i ≡ suc (w (suc (r - N) + i))
   argument-place {r} i l b =
       let d : r - N + suc i ≡ suc (r - N) + i = omega arith in
-      edge-argument N (cells words) (column 0 bindings) r i l b ∙ ap (λ (k : ℕ). suc (cells words k)) d
+      edge-argument N w bound r i l b ∙ ap (λ (k : ℕ). suc (w k)) d
 
   -- A bound variable's term, and its edge.
-  binding-edge : (β : Bindings) → Held N (cells words) (column 0 bindings) nv β → (x : ℕ) (t : Term) → lookup β x ≡ some t
-      → (r : ℕ) × (x < nv) × (edge N (cells words) (column 0 bindings) x 0 ≡ suc r) × (denote N (cells words) r ≡ t)
-  binding-edge β h x t e = by-less x nv
-      (λ l q. let (r, b, d) = bound-some N (cells words) (column 0 bindings x) (sym (h .below x l) ∙ e) in
+  binding-edge : (β : Bindings) → Held N w bound variables β → (x : ℕ) (t : Term) → lookup β x ≡ some t
+      → (r : ℕ) × (x < variables) × (edge N w bound x 0 ≡ suc r) × (denote N w r ≡ t)
+  binding-edge β h x t e = by-less x variables
+      (λ l q. let (r, b, d) = bound-some N w (bound x) (sym (h .below x l) ∙ e) in
       let f = s .few in
-      (r, l, edge-variable N (cells words) (column 0 bindings) x 0 (omega arith) refl ∙ b, d))
+      (r, l, edge-variable N w bound x 0 (omega arith) refl ∙ b, d))
       (λ l q. some-none e (h .above x l))
 
   module _ (mark rank′ : ℕ → ℕ)
-      (falls : (a i y : ℕ) → mark a ≡ 33 → edge N (cells words) (column 0 bindings) a i ≡ suc y → (mark y ≡ 33) × (rank′ y < rank′ a)) where
+      (falls : (a i y : ℕ) → mark a ≡ 33 → edge N w bound a i ≡ suc y → (mark y ≡ 33) × (rank′ y < rank′ a)) where
     -- A term's variables have at most the rank of its reference.
-    mem-rank : (n r y : ℕ) → r < n → Reference N (cells words) nv u r → mark r ≡ 33 → mem y (denote N (cells words) r) ≡ true → rank′ y ≤ rank′ r
+    mem-rank : (n r y : ℕ) → r < n → Reference N w variables used r → mark r ≡ 33 → mem y (denote N w r) ≡ true → rank′ y ≤ rank′ r
     unfolding mem
     mem-rank zero r y b h d m = absurd (not-suc-le-zero b)
     mem-rank (suc n) r y b h d m = ⊎-elim
-        (λ l. let e : y ≡ r = same-true (rw (denote-variable N (cells words) r l) at m) in
+        (λ l. let e : y ≡ r = same-true (rw (denote-variable N w r l) at m) in
         let k : rank′ y ≡ rank′ r = ap rank′ e in omega arith)
-        (λ l. let m′ = rw (denote-node N (cells words) nv u (s .formed) r h l) at m in
-        let (i, c, g) = mem-args (denote N (cells words)) (cells words) (suc (r - N)) (arityOf (cells words (r - N))) y m′ in
+        (λ l. let m′ = rw (denote-node N w variables used (s .formed) r h l) at m in
+        let (i, c, g) = mem-args (denote N w) w (suc (r - N)) (arityOf (w (r - N))) y m′ in
         let e = argument-place i l c in
-        let (d′, f) = falls r i (cells words (suc (r - N) + i)) d e in
+        let (d′, f) = falls r i (w (suc (r - N) + i)) d e in
         let o = h .node l in
         let p : r - N + suc i ≡ suc (r - N) + i = omega arith in
-        let a : Reference N (cells words) nv (r - N) (cells words (r - N + suc i)) = s .formed .arguments (r - N) i (omega arith) (h .header l) c in
-        let a′ : Reference N (cells words) nv (r - N) (cells words (suc (r - N) + i)) = subst (λ (k : ℕ). Reference N (cells words) nv (r - N) (cells words k)) p a in
+        let a : Reference N w variables (r - N) (w (r - N + suc i)) = s .formed .arguments (r - N) i (omega arith) (h .header l) c in
+        let a′ : Reference N w variables (r - N) (w (suc (r - N) + i)) = subst (λ (k : ℕ). Reference N w variables (r - N) (w k)) p a in
         let j = reference-below N l a′ in
-        let ih = mem-rank n (cells words (suc (r - N) + i)) y (omega arith) (edge-reference s i (cells words (suc (r - N) + i)) h e) d′ g in
+        let ih = mem-rank n (w (suc (r - N) + i)) y (omega arith) (edge-reference s i (w (suc (r - N) + i)) h e) d′ g in
         omega arith)
         (low-or-high N r N)
 
     -- The search is done with every variable: the bindings are acyclic.
-    pub accept : ((v : ℕ) → v < nv → mark v ≡ 33) → (β : Bindings) → Held N (cells words) (column 0 bindings) nv β → Acyclic β
+    pub accept : ((v : ℕ) → v < variables → mark v ≡ 33) → (β : Bindings) → Held N w bound variables β → Acyclic β
     accept all β h = ranked-acyclic rank′ β (h .distinct) (λ x t y e m.
         let (r, l, g, d) = binding-edge β h x t e in
         let (k, f) = falls x 0 r (all x l) g in
@@ -115,36 +125,32 @@ module _ {words : List ℕ} {bindings : Rows} {N nv u : ℕ} (s : Stored words b
         omega arith)
 
   -- Along a path heights do not rise, and where they stay the references fall.
-  module _ (β : Bindings) (held : Held N (cells words) (column 0 bindings) nv β) (acyclic : Acyclic β) where
+  module _ (β : Bindings) (held : Held N w bound variables β) (acyclic : Acyclic β) where
     high : ℕ → ℕ
-    high r = height (rank β) (denote N (cells words) r)
+    high r = height (rank β) (denote N w r)
 
-    step-falls : {r : ℕ} (i y : ℕ) → Reference N (cells words) nv u r → edge N (cells words) (column 0 bindings) r i ≡ suc y
+    step-falls : {r : ℕ} (i y : ℕ) → Reference N w variables used r → edge N w bound r i ≡ suc y
         → (high y < high r) ⊎ ((high y ≤ high r) × (y < r))
     unfolding mem height high
-    step-falls {r} i y h e = by-edge N (cells words) (column 0 bindings) r i y e
+    step-falls {r} i y h e = by-edge N w bound r i y e
         (λ l z b. let k = h .variable l in
-        let t : lookup β r ≡ some (denote N (cells words) y) = held .below r k ∙ ap (bindingOf N (cells words)) b in
-        let f = height-most (rank β) (denote N (cells words) y) (rank β r) (λ x m. acyclic-ranked β acyclic r (denote N (cells words) y) x t m) in
-        let g : height (rank β) (denote N (cells words) r) ≡ suc (rank β r) = ap (height (rank β)) (denote-variable N (cells words) r l) in
+        let t : lookup β r ≡ some (denote N w y) = held .below r k ∙ ap (bindingOf N w) b in
+        let f = height-most (rank β) (denote N w y) (rank β r) (λ x m. acyclic-ranked β acyclic r (denote N w y) x t m) in
+        let g : height (rank β) (denote N w r) ≡ suc (rank β r) = ap (height (rank β)) (denote-variable N w r l) in
         inl (omega arith))
         (λ l c q. let o = h .node l in
         let p : r - N + suc i ≡ suc (r - N) + i = omega arith in
-        let a : Reference N (cells words) nv (r - N) (cells words (r - N + suc i)) = s .formed .arguments (r - N) i (omega arith) (h .header l) c in
-        let j : cells words (r - N + suc i) < r = reference-below N l a in
-        let q′ : y ≡ cells words (suc (r - N) + i) = q ∙ ap (cells words) p in
-        let d : denote N (cells words) y ≡ denote N (cells words) (cells words (suc (r - N) + i)) = ap (denote N (cells words)) q′ in
-        let ts = args (denote N (cells words)) (cells words) (suc (r - N)) (arityOf (cells words (r - N))) in
-        let g : height (rank β) (denote N (cells words) r) ≡ height (rank β) (args (denote N (cells words)) (cells words) (suc (r - N)) (arityOf (cells words (r - N)))) =
-        ap (height (rank β)) (denote-node N (cells words) nv u (s .formed) r h l) in
-        let f : height (rank β) (denote N (cells words) y) ≤ height (rank β) (args (denote N (cells words)) (cells words) (suc (r - N)) (arityOf (cells words (r - N)))) =
-        height-most (rank β) (denote N (cells words) y) (height (rank β) (args (denote N (cells words)) (cells words) (suc (r - N)) (arityOf (cells words (r - N)))))
-        (λ x m. height-mem (rank β) (args (denote N (cells words)) (cells words) (suc (r - N)) (arityOf (cells words (r - N)))) x
-        (args-mem (denote N (cells words)) (cells words) (suc (r - N)) (arityOf (cells words (r - N))) x i c (rw d at m))) in
+        let a : Reference N w variables (r - N) (w (r - N + suc i)) = s .formed .arguments (r - N) i (omega arith) (h .header l) c in
+        let j : w (r - N + suc i) < r = reference-below N l a in
+        let q′ : y ≡ w (suc (r - N) + i) = q ∙ ap w p in
+        let d : denote N w y ≡ denote N w (w (suc (r - N) + i)) = ap (denote N w) q′ in
+        let g : height (rank β) (denote N w r) ≡ height (rank β) (arguments r) = ap (height (rank β)) (denote-node N w variables used (s .formed) r h l) in
+        let in-arguments : (x : ℕ) → mem x (denote N w y) ≡ true → mem x (arguments r) ≡ true = (λ x m. args-mem (denote N w) w (suc (r - N)) (arityOf (w (r - N))) x i c (rw d at m)) in
+        let f = height-most (rank β) (denote N w y) (height (rank β) (arguments r)) (λ x m. height-mem (rank β) (arguments r) x (in-arguments x m)) in
         inr (omega arith, omega arith))
 
-    path-falls : {r y : ℕ} → Reference N (cells words) nv u r → Path (edge N (cells words) (column 0 bindings)) (Reference N (cells words) nv u) r y
-        → Reference N (cells words) nv u y × ((high y < high r) ⊎ ((high y ≤ high r) × (y < r)))
+    path-falls : {r y : ℕ} → Reference N w variables used r → Path (edge N w bound) (Reference N w variables used) r y
+        → Reference N w variables used y × ((high y < high r) ⊎ ((high y ≤ high r) × (y < r)))
     path-falls h (Path.step {y = y} i e) = (edge-reference s i y h e, step-falls i y h e)
     path-falls h (Path.more {y = y} p i e) =
         let (k, f) = path-falls h p in
@@ -154,5 +160,5 @@ module _ {words : List ℕ} {bindings : Rows} {N nv u : ℕ} (s : Stored words b
               (λ a. let (a₁, a₂) = a in ⊎-elim (λ b. inl (omega arith)) (λ b. let (b₁, b₂) = b in inr (omega arith, omega arith)) g) f,
         )
 
-    pub refuse : {r : ℕ} → Reference N (cells words) nv u r → Path (edge N (cells words) (column 0 bindings)) (Reference N (cells words) nv u) r r → ⊥
+    pub refuse : {r : ℕ} → Reference N w variables used r → Path (edge N w bound) (Reference N w variables used) r r → ⊥
     refuse h p = let (k, f) = path-falls h p in ⊎-elim (λ a. omega arith) (λ a. let (a₁, a₂) = a in omega arith) f

@@ -1,11 +1,11 @@
 -- Tables of numbers in which one entry changes, and their sums; columns of rows are such tables.
-use Prim.Native.Nat.{ℕ, zero, suc, _+_, _-_, _*_, _≤_, _<_}
+use Prim.Native.Nat.{ℕ, zero, suc, _+_, _*_, _≤_, _<_}
 use native.Mathlib.Omega.{arith}
 use native.Mathlib.Nat.{not-suc-le-zero}
-use mathlib.Core.Path.{_≡_, refl, sym, ap, _∙_, subst}
-use mathlib.Core.Logic.{_⊎_, inl, inr, ⊎-elim, _≢_}
-use mathlib.Core.List.{List, [], _∷_}
-use lib.ListN.{getD, length, set, length-set}
+use mathlib.Core.Path.{_≡_, refl, sym, ap, subst}
+use mathlib.Core.Logic.{_≢_}
+use mathlib.Core.List.{List, []}
+use lib.ListN.{getD, length, set}
 use lib.Seq.{getD-set-same, getD-set-other}
 use Rattle.terms.specs.Numbers.{by-same, by-less}
 use Rattle.acyclicity.specs.Contract.{Rows, column}

@@ -12,6 +12,7 @@ use Rattle.terms.specs.Bindings.{Bindings, lookup, Acyclic}
 use Rattle.terms.specs.Order.{Distinct}
 use Rattle.arena.specs.Cells.{Cells, cells, denote, Reference, WellFormed}
 
+-- Rows of numbers.
 abbrev pub Rows : Type 0
 Rows = List (List ℕ)
 
@@ -24,42 +25,42 @@ abbrev pub bindingOf : ℕ → Cells → ℕ → Option Term
 bindingOf N w zero = none
 bindingOf N w (suc r) = some (denote N w r)
 
--- The list is one of the stored bindings: of the variables below nv, with room for N of them.
-pub record Held (N : ℕ) (w bound : Cells) (nv : ℕ) (β : Bindings) : Type 0 where
+-- The list is one of the stored bindings: of the variables below `variables`, where there is room for N.
+pub record Held (N : ℕ) (w bound : Cells) (variables : ℕ) (β : Bindings) : Type 0 where
   -- Each variable is bound once,
   pub distinct : Distinct β
-  -- a variable in use to the term that its stored reference denotes,
-  pub below : (v : ℕ) → v < nv → lookup β v ≡ bindingOf N w (bound v)
-  -- and no other.
-  pub above : (v : ℕ) → nv ≤ v → lookup β v ≡ none
+  -- a variable in use to the term that its stored reference denotes, if it has one,
+  pub below : (v : ℕ) → v < variables → lookup β v ≡ bindingOf N w (bound v)
+  -- and no other variable is bound.
+  pub above : (v : ℕ) → variables ≤ v → lookup β v ≡ none
 
 -- Words and bindings are in form, but for cycles.
-pub record Stored (words : List ℕ) (bindings : Rows) (N nv u : ℕ) : Type 0 where
+pub record Stored (words : List ℕ) (bindings : Rows) (N variables used : ℕ) : Type 0 where
   -- The room for variables is at most 65,536; the variables in use have room, and a row each.
   pub room : N ≤ 65536
-  pub few : nv ≤ N
-  pub rows : nv ≤ length bindings
+  pub few : variables ≤ N
+  pub rows : variables ≤ length bindings
   -- At most 262,144 words are in use.
-  pub short : u ≤ 262144
-  pub within : u ≤ length words
-  -- The words in use are nodes whose arguments are variables in use and earlier nodes.
-  pub formed : WellFormed N (cells words) nv u
+  pub short : used ≤ 262144
+  pub within : used ≤ length words
+  -- Among them each header has its node's arguments behind it: variables in use and earlier nodes.
+  pub formed : WellFormed N (cells words) variables used
   -- A variable in use is unbound, or bound to a variable in use or to a node.
-  pub bound : (v r : ℕ) → v < nv → column 0 bindings v ≡ suc r → Reference N (cells words) nv u r
+  pub bound : (v r : ℕ) → v < variables → column 0 bindings v ≡ suc r → Reference N (cells words) variables used r
 
 -- What the check requires.
-pub record Ready (words : List ℕ) (bindings : Rows) (N nv u : ℕ) (scratch : Rows) : Type 0 where
+pub record Ready (words : List ℕ) (bindings : Rows) (N variables used : ℕ) (scratch : Rows) : Type 0 where
   -- Words and bindings are in form.
-  pub stored : Stored words bindings N nv u
+  pub stored : Stored words bindings N variables used
   -- There is a row of scratch for each reference, and all of scratch is zero.
-  pub long : N + u ≤ length scratch
+  pub long : N + used ≤ length scratch
   pub zeros : (a : ℕ) → a < length scratch → getD scratch a [] ≡ 0 ∷ 0 ∷ []
 
 -- What the check ensures.
-pub record Decided (words : List ℕ) (bindings : Rows) (N nv : ℕ) (scratch : Rows) (answer : Bool) (scratch′ : Rows) : Type 0 where
+pub record Decided (words : List ℕ) (bindings : Rows) (N variables : ℕ) (scratch : Rows) (answer : Bool) (scratch′ : Rows) : Type 0 where
   -- Accepted: the stored bindings are acyclic, in whatever order they are listed.
-  pub accepted : answer ≡ true → (β : Bindings) → Held N (cells words) (column 0 bindings) nv β → Acyclic β
+  pub accepted : answer ≡ true → (β : Bindings) → Held N (cells words) (column 0 bindings) variables β → Acyclic β
   -- Refused: they are acyclic in no order.
-  pub refused : answer ≡ false → (β : Bindings) → Held N (cells words) (column 0 bindings) nv β → Acyclic β → ⊥
+  pub refused : answer ≡ false → (β : Bindings) → Held N (cells words) (column 0 bindings) variables β → Acyclic β → ⊥
   -- Scratch is as it was.
   pub restored : scratch′ ≡ scratch

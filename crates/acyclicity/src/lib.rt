@@ -2,7 +2,7 @@
 // from a node an edge leads to each argument. The search goes through the graph in depth; scratch has by reference a mark and the way back, so that
 // nothing is recursive. A place is 0 for none, else 1 + a reference.
 ghost use mathlib.Core.Path.{_≡_};
-ghost use Prim.Native.Nat.{ℕ, _+_, _≤_};
+ghost use Prim.Native.Nat.{_+_, _≤_};
 ghost use lib.ListN.{length};
 ghost use Rattle.arena.specs.Cells.{cells};
 ghost use Rattle.acyclicity.specs.Contract.{column, Ready, Decided};

@@ -1,7 +1,6 @@
 -- `clear_rows` meets its contract. The loop's invariant: the rows from `from` on before `i` are zero, and the others as they were.
 use Prim.Native.Nat.{_≤_, _-_}
 use mathlib.Core.Path.{_≡_, refl}
-use lib.ListN.{length}
 use Rattle.acyclicity.specs.Edges.{Cleared}
 use Rattle.acyclicity.proofs.Clearing.{cleared-none, cleared-more}
 use borrow.Author.Needs.{needs}

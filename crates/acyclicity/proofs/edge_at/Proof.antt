@@ -1,8 +1,7 @@
 -- `edge_at` meets its contract: each way out is one case of the definition, and a reference's words are within the slices.
-use Prim.Native.Nat.{_+_, _-_, _<_, _≤_, suc}
+use Prim.Native.Nat.{_+_, _-_, suc}
 use native.Mathlib.Numerals.{add-one}
-use mathlib.Core.Path.{_≡_, refl, sym, ap, _∙_}
-use lib.ListN.{getD, length}
+use mathlib.Core.Path.{_≡_, sym}
 use Rattle.arena.specs.Cells.{cells}
 use Rattle.acyclicity.specs.Contract.{column}
 use Rattle.acyclicity.proofs.EdgeLaws.{edge-variable, edge-second, edge-argument, edge-past, variable-row, node-words, argument-small}

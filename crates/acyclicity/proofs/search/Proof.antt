@@ -1,10 +1,7 @@
 -- `search` meets its contract. The loop's invariant: a search in depth stands in order at `top`, on its way to `ahead`, and of the variables below `next`
 -- none is new, but for one ahead. Each turn raises a mark, enters or passes over the place ahead, or goes on to the next variable.
-use Prim.Native.Nat.{ℕ, _+_, _-_, _<_, _≤_}
-use mathlib.Core.Path.{_≡_, refl, sym, ap, _∙_}
-use mathlib.Core.Bool.{true, false}
-use mathlib.Core.List.{[], _∷_}
-use lib.ListN.{getD, length}
+use Prim.Native.Nat.{_+_, _-_}
+use mathlib.Core.Path.{refl}
 use Rattle.terms.specs.Numbers.{true-false}
 use Rattle.acyclicity.specs.Contract.{column}
 use Rattle.acyclicity.proofs.Turns.{Turn, left, pending-most, pending-one, risen, turn-start, ahead-row, turn-skip, turn-enter, turn-refuse, top-row, turn-close, turn-follow, turn-begin, turn-accept}

@@ -1,0 +1,2 @@
+-- What the program's checks find.
+pub mod Form
