@@ -7,14 +7,13 @@ mod copies; // one word of a copy
 mod form; // the tests on one word
 mod links; // nodes that have to denote the same term
 
+use copies::moved_word;
+use form::is_argument;
+use form::is_header;
 pub use format::HEADERS;
 pub use format::INPUTS;
 pub use format::PATTERN_ROOM;
 pub use format::SYMBOL_STEP;
-
-use copies::moved_word;
-use form::is_argument;
-use form::is_header;
 use links::greatest;
 use links::link;
 use links::past;
@@ -46,7 +45,16 @@ pub fn push_node(words: &mut [u32], used: u32, header: u32, arguments: &[u32])
 }
 
 // Copies a rule's words, `count` words of the pattern from the address `from` on, to the address `used`, with new variables from `counter` on.
-pub fn inst(pattern: &[u32], from: u32, count: u32, places: &[u32], words: &mut [u32], room: u32, used: u32, counter: u32)
+pub fn inst(
+    pattern: &[u32],
+    from: u32,
+    count: u32,
+    places: &[u32],
+    words: &mut [u32],
+    room: u32,
+    used: u32,
+    counter: u32,
+)
     // The caller counts words and variables before it copies, and a signature in form has rules whose words refer to nothing outside.
     requires { ⌜ Copyable (now pattern) from count (now places) (now words) room used counter ⌝ }
     ensures { λ _. ⌜ now (words .exit) ≡ sets (now (words .entry)) used (copied (now (pattern .entry)) from count (now (places .entry)) room used counter) ⌝ }
@@ -64,7 +72,14 @@ pub fn inst(pattern: &[u32], from: u32, count: u32, places: &[u32], words: &mut 
 }
 
 // Whether the words from the address `from` up to `to` are in form: nodes one after another, whatever they hold.
-pub fn check_words(words: &[u32], from: u32, to: u32, room: u32, variables: u32, arities: &[u32]) -> bool
+pub fn check_words(
+    words: &[u32],
+    from: u32,
+    to: u32,
+    room: u32,
+    variables: u32,
+    arities: &[u32],
+) -> bool
     // The part lies in the slice, and all references to it are below the headers: both follow from the limits, which the caller tests first.
     requires { ⌜ (from ≤ to) × (to ≤ length (now words)) × (room + to ≤ headers) ⌝ }
     ensures { λ r. ⌜ r ≡ inForm (now (words .entry)) from to room variables (now (arities .entry)) ⌝ }
@@ -104,7 +119,15 @@ pub fn clear(words: &mut [u32], from: u32)
 }
 
 // Whether two references denote the same term, in one pass from the greater one's address down; the links are zero before and after.
-pub fn equal(words: &[u32], links: &mut [u32], room: u32, variables: u32, used: u32, a: u32, b: u32) -> bool
+pub fn equal(
+    words: &[u32],
+    links: &mut [u32],
+    room: u32,
+    variables: u32,
+    used: u32,
+    a: u32,
+    b: u32,
+) -> bool
     // The words and both references are in form, and there is a link for each address in use.
     requires { ⌜ Ready room (now words) (now links) variables used a b ⌝ }
     ensures { λ r. ⌜ Compared room (cells (now (words .entry))) (now (links .entry)) (now (links .exit)) a b r ⌝ }

@@ -54,7 +54,14 @@ pub fn link(links: &mut [u32], room: u32, a: u32, b: u32) -> bool
 }
 
 // Links the first `count` arguments of the nodes at the addresses a and b, each with its like.
-pub fn link_arguments(words: &[u32], links: &mut [u32], room: u32, a: u32, b: u32, count: u32) -> bool
+pub fn link_arguments(
+    words: &[u32],
+    links: &mut [u32],
+    room: u32,
+    a: u32,
+    b: u32,
+    count: u32,
+) -> bool
     // Both nodes are in form.
     requires { ⌜ Arguments room (now words) (now links) a b count ⌝ }
     ensures { λ r. ⌜ Joined room (now (links .entry)) (now (links .exit)) count (λ i. cells (now (words .entry)) (a + suc i)) (λ i. cells (now (words .entry)) (b + suc i)) r ⌝ }
@@ -73,7 +80,15 @@ pub fn link_arguments(words: &[u32], links: &mut [u32], room: u32, a: u32, b: u3
 }
 
 // Takes up the link of the node at the address `at`: removes it, and links the node's arguments with those of the node to which it led.
-pub fn settle(words: &[u32], links: &mut [u32], room: u32, variables: u32, used: u32, at: u32, same: bool) -> bool
+pub fn settle(
+    words: &[u32],
+    links: &mut [u32],
+    room: u32,
+    variables: u32,
+    used: u32,
+    at: u32,
+    same: bool,
+) -> bool
     // The words are in form, and the links join references in form.
     requires { ⌜ Comparable room (now words) (now links) variables used ⌝ ∗ ⌜ at < used ⌝ }
     ensures { λ r. ⌜ Settled room (now (words .entry)) (now (links .entry)) (now (links .exit)) variables used at same r ⌝ }
