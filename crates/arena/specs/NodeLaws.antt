@@ -30,6 +30,15 @@ pub sets-past : (vs l : List ℕ) (i k : ℕ) → i + length vs ≤ k → getD (
 sets-past [] l i k b = refl
 sets-past (a ∷ vs) l i k b = sets-past vs (set l i a) (suc i) k (omega arith) ∙ getD-set-other l i k a 0 (λ e. omega arith)
 
+-- The header of a symbol with its arity.
+pub record HeaderOf (f n h : ℕ) : Type 0 where
+  pub high : headers ≤ h
+  pub symbol : symbolOf h ≡ f
+  pub arity : arityOf h ≡ n
+
+pub header-of : (f n : ℕ) → n < 32 → HeaderOf f n (headers + 32 * f + n)
+header-of f n l = record { high = omega arith; symbol = omega arith; arity = omega arith }
+
 module _ (N : ℕ) where
   -- What agrees below u is well formed alike.
   pub reference-same : {w w′ : Cells} {nv u r : ℕ} → Same N w w′ u → Reference N w nv u r → Reference N w′ nv u r

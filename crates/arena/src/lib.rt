@@ -7,7 +7,7 @@ mod copies; // one word of a copy
 mod form; // the tests on one word
 mod links; // nodes that have to denote the same term
 
-use copies::moved_word;
+pub use copies::moved_word;
 use form::is_argument;
 use form::is_header;
 pub use format::HEADERS;
