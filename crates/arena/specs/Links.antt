@@ -11,7 +11,7 @@ use Rattle.terms.specs.Term.{Term}
 use Rattle.arena.specs.Equality.{alike}
 use Rattle.arena.specs.Cells.{Cells, headers, cells, denote, Reference, WellFormed}
 
--- The lesser of two references, and the greater.
+-- The lesser of two numbers, and the greater.
 unfoldable pub least : ℕ → ℕ → ℕ
 least a b = cond (less a b) a b
 
@@ -36,12 +36,14 @@ abbrev pub Apart : ℕ → (ℕ → Term) → Type 0
 Apart room g = (p q : ℕ) → q < room → q < p → g p ≡ g q → ⊥
 
 -- The links L became L′ when the first n pairs (x i, y i) were linked. Whatever terms the references have: with the answer true, L′ says of them what L
--- and the pairs say; with the answer false, L and the pairs cannot hold together.
-pub record Joined (room : ℕ) (L L′ : List ℕ) (n : ℕ) (x y : ℕ → ℕ) (answer : Bool) : Type 0 where
+-- and the pairs say; with the answer false, L and the pairs cannot hold together. Below the address `low` there were no links, and below low′ there are
+-- none.
+pub record Joined (room : ℕ) (L L′ : List ℕ) (n : ℕ) (x y : ℕ → ℕ) (low low′ : ℕ) (answer : Bool) : Type 0 where
   pub long : length L′ ≡ length L
   pub form : Descending room (cells L′)
   -- links of nodes above the pairs stay
   pub above : (t : ℕ) → ((i : ℕ) → i < n → (x i < t) × (y i < t)) → (i : ℕ) → t ≤ room + i → cells L′ i ≡ cells L i
+  pub floor : ((i : ℕ) → i < low → cells L i ≡ 0) → (i : ℕ) → i < low′ → cells L′ i ≡ 0
   -- what is linked was linked or is of the pairs
   pub good : (test : ℕ → Bool) → Each room test (cells L) → ((i : ℕ) → i < n → (test (x i) ≡ true) × (test (y i) ≡ true)) → Each room test (cells L′)
   pub back : answer ≡ true → (g : ℕ → Term) → Agrees room g (cells L′) → Agrees room g (cells L) × ((i : ℕ) → i < n → g (x i) ≡ g (y i))
@@ -73,8 +75,9 @@ pub record Comparable (room : ℕ) (w L : List ℕ) (nv used : ℕ) : Type 0 whe
   pub references : (i z : ℕ) → cells L i ≡ suc z → Reference room (cells w) nv used (room + i) × Reference room (cells w) nv used z
 
 -- The link of the node at the address `at` was taken up: it is gone, and the demand is passed on. `same` is the answer so far.
-pub record Settled (room : ℕ) (w L L′ : List ℕ) (nv used at : ℕ) (same answer : Bool) : Type 0 where
+pub record Settled (room : ℕ) (w L L′ : List ℕ) (nv used at : ℕ) (same : Bool) (low low′ : ℕ) (answer : Bool) : Type 0 where
   pub long : length L′ ≡ length L
+  pub floor : ((i : ℕ) → i < low → cells L i ≡ 0) → (i : ℕ) → i < low′ → cells L′ i ≡ 0
   pub kept : Comparable room w L′ nv used
   pub cleared : ((i : ℕ) → at < i → cells L i ≡ 0) → (i : ℕ) → at ≤ i → cells L′ i ≡ 0
   pub back : answer ≡ true → (same ≡ true) × (Agrees room (denote room (cells w)) (cells L′) → Agrees room (denote room (cells w)) (cells L))
