@@ -7,15 +7,14 @@ use mathlib.Core.Logic.{_⊎_, inl, inr, ⊎-elim, _≢_}
 use mathlib.Core.List.{List}
 use lib.ListN.{length, getD, set, length-set}
 use lib.Seq.{getD-set-same, getD-set-other, ext-getD}
-use borrow.Author.Tests.{le-leb}
 use Rattle.terms.specs.Numbers.{less, less-yes, less-no, by-less, by-same, by-bool, true-false}
 use Rattle.terms.specs.Term.{Term}
 use Rattle.arena.specs.Cells.{headers, Cells, cells, arityOf, denote, Reference, WellFormed, low-or-high, reference-up, reference-below}
 use Rattle.arena.specs.Form.{Place, isArgument}
-use Rattle.arena.specs.FormLaws.{argument-reference}
-use Rattle.arena.specs.Links.{Descending, Agrees, Each, Apart, Joined, Linkable, Arguments, Comparable, Ready, Settled, Compared, greatest}
+use Rattle.arena.specs.FormLaws.{argument-reference, reference-accepted}
+use Rattle.arena.specs.Links.{Descending, Agrees, Each, Apart, Joined, Linkable, Arguments, Comparable, Settled, greatest}
+use Rattle.arena.specs.Equality.{Ready, Compared}
 use Rattle.arena.specs.EqualityLaws.{alike-same, alike-not, variable-apart, nodes-equal, equal-headers, equal-arguments}
-use Rattle.arena.proofs.Checking.{argument-variable, argument-node}
 use Rattle.arena.proofs.Linking.{set-other, set-here, ordered}
 
 -- A reference in form, as a test.
@@ -23,12 +22,7 @@ abbrev test : ℕ → List ℕ → ℕ → ℕ → ℕ → Bool
 test room w nv used r = isArgument (record { words = w; room = room; variables = nv; from = 0 }) used r
 
 reference-test : (room : ℕ) (w : List ℕ) (nv used r : ℕ) → Reference room (cells w) nv used r → test room w nv used r ≡ true
-unfolding less
-reference-test room w nv used r h =
-    ⊎-elim
-    (λ l. sym (argument-variable (record { words = w; room = room; variables = nv; from = 0 }) used r l) ∙ less-yes (h .variable l))
-    (λ l. sym (argument-node (record { words = w; room = room; variables = nv; from = 0 }) used r l (omega arith) (h .node l)) ∙ le-leb headers (getD w (r - room) 0) (h .header l))
-    (low-or-high room r room)
+reference-test room w nv used r h = reference-accepted (record { words = w; room = room; variables = nv; from = 0 }) used r h (λ l. omega arith)
 
 test-reference : (room : ℕ) (w : List ℕ) (nv used r : ℕ) → test room w nv used r ≡ true → Reference room (cells w) nv used r
 test-reference room w nv used r e = argument-reference (record { words = w; room = room; variables = nv; from = 0 }) used r e
@@ -57,7 +51,7 @@ module _ (room : ℕ) (w L : List ℕ) (nv used at : ℕ) (h : Comparable room w
 
   gone-kept : Comparable room w (set L at 0) nv used
   gone-kept = let n = length-set L at 0 in let s = h .scratch in record
-      { formed = h .formed; small = h .small; words = h .words; scratch = omega arith; form = gone-form; references = λ i z e. h .references i z (gone i z e) }
+      { formed = h .formed; small = h .small; words-in = h .words-in; scratch = omega arith; form = gone-form; references = λ i z e. h .references i z (gone i z e) }
 
   gone-cleared : ((i : ℕ) → at < i → cells L i ≡ 0) → (i : ℕ) → at ≤ i → cells (set L at 0) i ≡ 0
   gone-cleared k i l = by-same i at
@@ -133,7 +127,7 @@ module _ (room : ℕ) (w L : List ℕ) (nv used at : ℕ) (h : Comparable room w
           let s = lower in
           let q : b + arityOf (cells w b) < used = h .formed .fits b (omega arith) header-second in
           let q′ : b + arityOf (cells w at) < used = rw e q in
-          let k = h .words in
+          let k = h .words-in in
           let c = h .scratch in
           let m = length-set L at 0 in
           record {
@@ -168,7 +162,7 @@ module _ (room : ℕ) (w L : List ℕ) (nv used at : ℕ) (h : Comparable room w
             record {
               formed = h .formed;
               small = h .small;
-              words = h .words;
+              words-in = h .words-in;
               scratch = omega arith;
               form = j .form;
               references = λ i z d. let v = joined-references i z d in (test-reference room w nv used (room + i) (v .0), test-reference room w nv used z (v .1));
@@ -243,7 +237,7 @@ module _ (room : ℕ) (w : List ℕ) (nv used a b : ℕ) where
         kept = record {
           formed = k .formed;
           small = k .small;
-          words = k .words;
+          words-in = k .words-in;
           scratch = omega arith;
           form = j .form;
           references = λ i z d. let v = refs i z d in (test-reference room w nv used (room + i) (v .0), test-reference room w nv used z (v .1));
@@ -277,7 +271,7 @@ module _ (room : ℕ) (w : List ℕ) (nv used a b : ℕ) where
   pub pass-end : (L₀ L : List ℕ) (at low : ℕ) (same : Bool) → Ready room w L₀ nv used a b → length L ≡ length L₀ → at ≤ low → Passing L at low same
       → Compared room (cells w) L₀ L a b same
   pass-end L₀ L at low same k n done h = record {
-    answer = by-bool same
+    exact = by-bool same
         (λ e. e ∙ sym (alike-same (denote room (cells w) a) (denote room (cells w) b) (h .back e (λ i z d. let o = pass-none L at low same done h i in let x : ⊥ = omega arith in absurd x))))
         (λ e. e ∙ sym (alike-not (denote room (cells w) a) (denote room (cells w) b) (h .no e)));
     restored = ext-getD 0 L L₀ n (λ i l. pass-none L at low same done h i ∙ sym (k .zero-before i));

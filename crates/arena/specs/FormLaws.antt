@@ -31,9 +31,13 @@ is-less x y e = by-less x y (λ l q. l) (λ l q. true-false e q)
 
 -- A header that the test accepts.
 pub record Header (arities : List ℕ) (h : ℕ) : Type 0 where
+  -- it is above all references,
   pub high : headers ≤ h
+  -- its symbol is known,
   pub known : symbolOf h < length arities
+  -- its arity is the symbol's own,
   pub own : arityOf h ≡ getD arities (symbolOf h) 0
+  -- and at most 16.
   pub few : arityOf h ≤ inputs
 
 pub header-accepted : (arities : List ℕ) (h : ℕ) → isHeader arities h ≡ true → Header arities h
@@ -69,10 +73,21 @@ argument-from p a r e l =
     let e₀ : (not (less r (p .room + p .from)) && (less r (p .room + a) && not (less (getD (p .words) (r - p .room) 0) headers))) ≡ true = rw q at e in
     not-less r (p .room + p .from) (and-left (not (less r (p .room + p .from))) _ e₀)
 
+-- The test accepts every reference in form that is not before `from`.
+pub reference-accepted : (p : Place) (a r : ℕ) → Reference (p .room) (cells (p .words)) (p .variables) a r → (p .room ≤ r → p .room + p .from ≤ r) → isArgument p a r ≡ true
+unfolding isArgument
+reference-accepted p a r h f =
+    by-less r (p .room)
+    (λ l q. rw q (less-yes (h .variable l)))
+    (λ l q. rw (q, less-no (f l), less-yes (h .node l), less-no (h .header l)))
+
 -- A word of the part that starts at `from`, below the address a: a header of a known symbol, or a variable, or a node from `from` on.
 pub record Word (arities : List ℕ) (room variables from a x : ℕ) : Type 0 where
+  -- a header is a known symbol's;
   pub header : headers ≤ x → Header arities x
+  -- a variable is one of those counted;
   pub variable : x < room → x < variables
+  -- a node is not before the part, and is an earlier one.
   pub from-on : room ≤ x → x < headers → room + from ≤ x
   pub below : room ≤ x → x < headers → x < room + a
 

@@ -8,8 +8,8 @@ mod form; // the tests on one word
 mod links; // nodes that have to denote the same term
 
 pub use copies::moved_word;
-use form::is_argument;
-use form::is_header;
+pub use form::is_argument;
+pub use form::is_header;
 pub use format::HEADERS;
 pub use format::INPUTS;
 pub use format::PATTERN_ROOM;
@@ -26,7 +26,7 @@ ghost use lib.Seq.{sets};
 ghost use Rattle.arena.specs.Cells.{headers, cells};
 ghost use Rattle.arena.specs.Copies.{copied, Copyable};
 ghost use Rattle.arena.specs.Form.{inForm};
-ghost use Rattle.arena.specs.Links.{Ready, Compared};
+ghost use Rattle.arena.specs.Equality.{Ready, Compared};
 
 // Writes a node, its header and its arguments, from the address `used` on.
 pub fn push_node(words: &mut [u32], used: u32, header: u32, arguments: &[u32])

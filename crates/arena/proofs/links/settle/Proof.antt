@@ -48,21 +48,21 @@ cast-if3 c =
     let args = c .before .before .before .before .before .before .args in
     let pre = c .before .before .before .before .before .before .pre in
     let if1 = c .before .before .if1 in
-    omega (arith, lower (args .room) (args .words .now) (args .links .now) (args .variables) (args .used) (args .at) (pre .0) (pre .1) _ _ refl (if1 .left) refl, (pre .0 .words), (pre .1))
+    omega (arith, lower (args .room) (args .words .now) (args .links .now) (args .variables) (args .used) (args .at) (pre .0) (pre .1) _ _ refl (if1 .left) refl, (pre .0 .words-in), (pre .1))
 
 mul-if3 : tie.Need-mul-if3
 mul-if3 c =
     let args = c .before .before .before .before .before .before .args in
     let pre = c .before .before .before .before .before .before .pre in
     let if1 = c .before .before .if1 in
-    omega (arith, lower (args .room) (args .words .now) (args .links .now) (args .variables) (args .used) (args .at) (pre .0) (pre .1) _ _ refl (if1 .left) refl, (pre .0 .words), (pre .1))
+    omega (arith, lower (args .room) (args .words .now) (args .links .now) (args .variables) (args .used) (args .at) (pre .0) (pre .1) _ _ refl (if1 .left) refl, (pre .0 .words-in), (pre .1))
 
 shared-slice-read-if3 : tie.Need-shared-slice-read-if3
 shared-slice-read-if3 c =
     let args = c .before .before .before .before .before .before .before .args in
     let pre = c .before .before .before .before .before .before .before .pre in
     let if1 = c .before .before .before .if1 in
-    omega (arith, lower (args .room) (args .words .now) (args .links .now) (args .variables) (args .used) (args .at) (pre .0) (pre .1) _ _ refl (if1 .left) refl, (pre .0 .words), (pre .1))
+    omega (arith, lower (args .room) (args .words .now) (args .links .now) (args .variables) (args .used) (args .at) (pre .0) (pre .1) _ _ refl (if1 .left) refl, (pre .0 .words-in), (pre .1))
 
 link-arguments-requires : tie.Need-link-arguments-requires
 link-arguments-requires c κs =
