@@ -17,11 +17,15 @@ unfoldable pub isHeader : List ℕ → ℕ → Bool
 isHeader arities h =
     not (less h headers) && (less (symbolOf h) (length arities) && (same (arityOf h) (getD arities (symbolOf h) 0) && not (less inputs (arityOf h))))
 
--- Where words are read: the words, the room for variables in references, how many variables there are, and the address from which nodes may be used.
+-- What an argument is tested against.
 pub record Place : Type 0 where
+  -- the words
   pub words : List ℕ
+  -- the room for variables: references from it on are nodes
   pub room : ℕ
+  -- how many variables there are
   pub variables : ℕ
+  -- the address from which nodes may be arguments
   pub from : ℕ
 
 -- May the word be an argument of the node at the address a: a variable that there is, or a node at an address from `from` on and below a?

@@ -24,8 +24,15 @@ pub fn is_header(arities: &[u32], word: u32) -> bool
     false
 }
 
-// Whether a word may be an argument of the node at the address `node`.
-pub fn is_argument(words: &[u32], from: u32, room: u32, variables: u32, node: u32, word: u32) -> bool
+// Whether a word may be an argument of the node at the address `node`; with the number of words in use for `node`, whether it is a reference in form.
+pub fn is_argument(
+    words: &[u32],
+    from: u32,
+    room: u32,
+    variables: u32,
+    node: u32,
+    word: u32,
+) -> bool
     // The pass over the words has come to `node`, and all references are below the headers.
     requires { ⌜ (from ≤ node) × (node ≤ length (now words)) × (room + node ≤ headers) ⌝ }
     ensures { λ r. ⌜ r ≡ isArgument (record { words = now (words .entry); room = room; variables = variables; from = from }) node word ⌝ }

@@ -7,14 +7,13 @@ mod copies; // one word of a copy
 mod form; // the tests on one word
 mod links; // nodes that have to denote the same term
 
+pub use copies::moved_word;
+pub use form::is_argument;
+pub use form::is_header;
 pub use format::HEADERS;
 pub use format::INPUTS;
 pub use format::PATTERN_ROOM;
 pub use format::SYMBOL_STEP;
-
-use copies::moved_word;
-use form::is_argument;
-use form::is_header;
 use links::greatest;
 use links::link;
 use links::past;
@@ -27,7 +26,7 @@ ghost use lib.Seq.{sets};
 ghost use Rattle.arena.specs.Cells.{headers, cells};
 ghost use Rattle.arena.specs.Copies.{copied, Copyable};
 ghost use Rattle.arena.specs.Form.{inForm};
-ghost use Rattle.arena.specs.Links.{Ready, Compared};
+ghost use Rattle.arena.specs.Equality.{Ready, Compared};
 
 // Writes a node, its header and its arguments, from the address `used` on.
 pub fn push_node(words: &mut [u32], used: u32, header: u32, arguments: &[u32])
@@ -46,7 +45,16 @@ pub fn push_node(words: &mut [u32], used: u32, header: u32, arguments: &[u32])
 }
 
 // Copies a rule's words, `count` words of the pattern from the address `from` on, to the address `used`, with new variables from `counter` on.
-pub fn inst(pattern: &[u32], from: u32, count: u32, places: &[u32], words: &mut [u32], room: u32, used: u32, counter: u32)
+pub fn inst(
+    pattern: &[u32],
+    from: u32,
+    count: u32,
+    places: &[u32],
+    words: &mut [u32],
+    room: u32,
+    used: u32,
+    counter: u32,
+)
     // The caller counts words and variables before it copies, and a signature in form has rules whose words refer to nothing outside.
     requires { ⌜ Copyable (now pattern) from count (now places) (now words) room used counter ⌝ }
     ensures { λ _. ⌜ now (words .exit) ≡ sets (now (words .entry)) used (copied (now (pattern .entry)) from count (now (places .entry)) room used counter) ⌝ }
@@ -64,7 +72,14 @@ pub fn inst(pattern: &[u32], from: u32, count: u32, places: &[u32], words: &mut 
 }
 
 // Whether the words from the address `from` up to `to` are in form: nodes one after another, whatever they hold.
-pub fn check_words(words: &[u32], from: u32, to: u32, room: u32, variables: u32, arities: &[u32]) -> bool
+pub fn check_words(
+    words: &[u32],
+    from: u32,
+    to: u32,
+    room: u32,
+    variables: u32,
+    arities: &[u32],
+) -> bool
     // The part lies in the slice, and all references to it are below the headers: both follow from the limits, which the caller tests first.
     requires { ⌜ (from ≤ to) × (to ≤ length (now words)) × (room + to ≤ headers) ⌝ }
     ensures { λ r. ⌜ r ≡ inForm (now (words .entry)) from to room variables (now (arities .entry)) ⌝ }
@@ -103,17 +118,29 @@ pub fn clear(words: &mut [u32], from: u32)
     }
 }
 
-// Whether two references denote the same term, in one pass from the greater one's address down; the links are zero before and after.
-pub fn equal(words: &[u32], links: &mut [u32], room: u32, variables: u32, used: u32, a: u32, b: u32) -> bool
+// Whether two references denote the same term, in one pass from the greater one's address down to the least that is linked; the links are zero before and after.
+pub fn equal(
+    words: &[u32],
+    links: &mut [u32],
+    room: u32,
+    variables: u32,
+    used: u32,
+    a: u32,
+    b: u32,
+) -> bool
     // The words and both references are in form, and there is a link for each address in use.
     requires { ⌜ Ready room (now words) (now links) variables used a b ⌝ }
     ensures { λ r. ⌜ Compared room (cells (now (words .entry))) (now (links .entry)) (now (links .exit)) a b r ⌝ }
 {
-    let mut same = link(links, room, a, b);
     let mut at = past(room, greatest(a, b));
-    while at > 0 {
+    let first = link(links, room, a, b, at);
+    let mut same = first.same;
+    let mut low = first.low;
+    while at > low {
         at -= 1;
-        same = settle(words, links, room, variables, used, at, same);
+        let step = settle(words, links, room, variables, used, at, same, low);
+        same = step.same;
+        low = step.low;
     }
     same
 }

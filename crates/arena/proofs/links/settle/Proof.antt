@@ -19,7 +19,7 @@ returns c =
     let args = c .before .before .before .before .args in
     let pre = c .before .before .before .before .pre in
     let if1 = c .if1 in
-    settle-none (args .room) (args .words .now) (args .links .now) (args .variables) (args .used) (args .at) (pre .0) (pre .1) (args .same) (if1 .taken)
+    settle-none (args .room) (args .words .now) (args .links .now) (args .variables) (args .used) (args .at) (pre .0) (pre .1) (args .same) (args .low) (if1 .taken)
 
 mul-links : tie.Need-mul-links
 mul-links c = search needs
@@ -48,21 +48,21 @@ cast-if3 c =
     let args = c .before .before .before .before .before .before .args in
     let pre = c .before .before .before .before .before .before .pre in
     let if1 = c .before .before .if1 in
-    omega (arith, lower (args .room) (args .words .now) (args .links .now) (args .variables) (args .used) (args .at) (pre .0) (pre .1) _ _ refl (if1 .left) refl, (pre .0 .words), (pre .1))
+    omega (arith, lower (args .room) (args .words .now) (args .links .now) (args .variables) (args .used) (args .at) (pre .0) (pre .1) _ _ refl (if1 .left) refl, (pre .0 .words-in), (pre .1))
 
 mul-if3 : tie.Need-mul-if3
 mul-if3 c =
     let args = c .before .before .before .before .before .before .args in
     let pre = c .before .before .before .before .before .before .pre in
     let if1 = c .before .before .if1 in
-    omega (arith, lower (args .room) (args .words .now) (args .links .now) (args .variables) (args .used) (args .at) (pre .0) (pre .1) _ _ refl (if1 .left) refl, (pre .0 .words), (pre .1))
+    omega (arith, lower (args .room) (args .words .now) (args .links .now) (args .variables) (args .used) (args .at) (pre .0) (pre .1) _ _ refl (if1 .left) refl, (pre .0 .words-in), (pre .1))
 
 shared-slice-read-if3 : tie.Need-shared-slice-read-if3
 shared-slice-read-if3 c =
     let args = c .before .before .before .before .before .before .before .args in
     let pre = c .before .before .before .before .before .before .before .pre in
     let if1 = c .before .before .before .if1 in
-    omega (arith, lower (args .room) (args .words .now) (args .links .now) (args .variables) (args .used) (args .at) (pre .0) (pre .1) _ _ refl (if1 .left) refl, (pre .0 .words), (pre .1))
+    omega (arith, lower (args .room) (args .words .now) (args .links .now) (args .variables) (args .used) (args .at) (pre .0) (pre .1) _ _ refl (if1 .left) refl, (pre .0 .words-in), (pre .1))
 
 link-arguments-requires : tie.Need-link-arguments-requires
 link-arguments-requires c κs =
@@ -83,7 +83,7 @@ returns-2 c =
     let if3 = c .before .before .before .before .if3 in
     let link-arguments = c .before .before .link-arguments in
     let if2 = c .before .before .before .before .before .before .before .if2 in
-    settle-linked (args .room) (args .words .now) (args .links .now) (args .variables) (args .used) (args .at) (pre .0) (pre .1) _ _ refl (if1 .left) refl (if3 .taken) _ (link-arguments .result) (link-arguments .ensures) (args .same) (if2 .taken)
+    settle-linked (args .room) (args .words .now) (args .links .now) (args .variables) (args .used) (args .at) (pre .0) (pre .1) _ _ refl (if1 .left) refl (if3 .taken) _ (args .low) _ _ (link-arguments .ensures) (args .same) (if2 .taken)
 
 same-length-2 : tie.Need-same-length-2
 same-length-2 c = search needs
@@ -94,7 +94,7 @@ returns-3 c =
     let pre = c .before .before .before .before .before .before .before .before .pre in
     let if1 = c .before .before .before .before .if1 in
     let if3 = c .if3 in
-    settle-clash (args .room) (args .words .now) (args .links .now) (args .variables) (args .used) (args .at) (pre .0) (pre .1) _ _ refl (if1 .left) refl (args .same) (if3 .left)
+    settle-clash (args .room) (args .words .now) (args .links .now) (args .variables) (args .used) (args .at) (pre .0) (pre .1) _ _ refl (if1 .left) refl (args .same) (args .low) (if3 .left)
 
 same-length-3 : tie.Need-same-length-3
 same-length-3 c = search needs
@@ -104,7 +104,7 @@ returns-4 c =
     let args = c .before .before .before .before .before .args in
     let pre = c .before .before .before .before .before .pre in
     let if2 = c .if2 in
-    settle-no (args .room) (args .words .now) (args .links .now) (args .variables) (args .used) (args .at) (pre .0) (pre .1) (args .same) (if2 .left)
+    settle-no (args .room) (args .words .now) (args .links .now) (args .variables) (args .used) (args .at) (pre .0) (pre .1) (args .same) (args .low) (if2 .left)
 
 pub settle-spec : {M : Type 1} → statement M
 settle-spec =
