@@ -7,6 +7,8 @@ use native.Mathlib.Nat.{not-suc-le-zero}
 use mathlib.Core.Path.{_≡_, refl, sym, ap, ap₂, _∙_, subst}
 use mathlib.Core.Bool.{Bool, true, false, cond}
 use mathlib.Core.Logic.{_⊎_, inl, inr, ⊎-elim}
+use mathlib.Core.List.{List, [], _∷_}
+use lib.ListN.{getD}
 use Rattle.terms.specs.Numbers.{same, by-bool, less, less-yes, less-no, by-less}
 use Rattle.terms.specs.Term.{Kind, one, many, Syn, var, app, nil, cons, Term, Terms, Subst, sub, mem, size, Below}
 
@@ -147,3 +149,12 @@ module _ (N : ℕ) where
   pub denote-variable : (w : Cells) (r : ℕ) → r < N → denote w r ≡ var r
   unfolding denote
   denote-variable w r p = decode-variable (suc r) w r p
+
+-- The words of a slice; past its end they read as 0.
+abbrev pub cells : List ℕ → Cells
+cells words i = getD words i 0
+
+-- The terms that a list of references denotes.
+abbrev pub termsOf : (ℕ → Term) → List ℕ → Terms
+termsOf g [] = nil
+termsOf g (r ∷ rs) = cons (g r) (termsOf g rs)

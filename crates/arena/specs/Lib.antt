@@ -1,2 +1,10 @@
 -- Stored terms, in reading order.
 pub mod Cells
+pub mod NodeLaws
+pub mod Copies
+pub mod CopyLaws
+pub mod Form
+pub mod FormLaws
+pub mod Equality
+pub mod EqualityLaws
+pub mod Links

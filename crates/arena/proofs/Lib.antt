@@ -1,0 +1,4 @@
+pub mod Writing
+pub mod Checking
+pub mod Linking
+pub mod Settling
