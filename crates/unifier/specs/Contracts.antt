@@ -121,8 +121,21 @@ abbrev pub outcome : Bool → Bindings → Outcome
 outcome true β = unified β
 outcome false β = fails
 
+-- The rows of the stack below d with all numbers 0.
+unfoldable pub cleared : Rows → ℕ → Rows
+cleared s zero = s
+cleared s (suc d) = cleared (set s d (0 ∷ 0 ∷ 0 ∷ [])) d
+
+-- The scratch of `unify`: a table for links and one for marks, and a stack, with nothing in them.
+pub record Scratch (N used : ℕ) (links marks stack : Rows) : Type 0 where
+  pub linksFree : Free N used links
+  pub marksFree : Free N used marks
+  -- no more pairs are open together than there are words in use
+  pub stackLent : used ≤ length stack
+  pub stackEmpty : Empty stack
+
 -- `unify` of what r and t denote under the first k bindings answered whether they unify; k′ bindings stand at exit.
-pub record Unified (N : ℕ) (w : List ℕ) (b b′ : Rows) (variables used k k′ r t : ℕ) (answer : Bool) : Type 0 where
+pub record Unified (N : ℕ) (w : List ℕ) (b b′ l l′ m m′ s s′ : Rows) (variables used k k′ r t : ℕ) (answer : Bool) : Type 0 where
   -- by the theory's `unify`: the same bindings in the same order
   pub is : unify variables (held N w b k) (denote N (cells w) r) (denote N (cells w) t) ≡ outcome answer (held N w b′ k′)
   -- the state is again in form
@@ -135,14 +148,7 @@ pub record Unified (N : ℕ) (w : List ℕ) (b b′ : Rows) (variables used k k�
   pub back : undone b′ k (k′ - k) ≡ b
   -- without success nothing changed
   pub failed : answer ≡ false → (b′ ≡ b) × (k′ ≡ k)
-
--- The rows of the stack below d with all numbers 0.
-unfoldable pub cleared : Rows → ℕ → Rows
-cleared s zero = s
-cleared s (suc d) = cleared (set s d (0 ∷ 0 ∷ 0 ∷ [])) d
-
--- `unify` leaves its scratch as it was.
-pub record Untouched (l l′ m m′ s s′ : Rows) : Type 0 where
+  -- the scratch is as it was
   pub links : l′ ≡ l
   pub marks : m′ ≡ m
   pub stack : s′ ≡ s

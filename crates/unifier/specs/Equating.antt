@@ -284,6 +284,16 @@ module _ {N : ℕ} {w : List ℕ} {b₀ l₀ m₀ s₀ : Rows} {variables used k
         go {v} {z} (ofSecond ws lp lq o) = let i = first-in ws in let j = second-in ws in
             ((j .variable lq, second-free ws lq), room (j .variable lq) (second-free ws lq) i (checked false v z o), reference-low i)
 
+    pub bind-room : (v z : ℕ) → Says N w b l n x y (Bind v z) → (n < length b) × (v < length b)
+    bind-room v z a = let ((vn, vz), nn, zn) = bind-in v z a in let e = h .binding .long in let f = h .fixed .lentRows in (omega arith, omega arith)
+
+    -- a binding is entered
+    pub turn-enter : (m′ : Rows) → m′ ≡ m → (v z : ℕ) → Says N w b l n x y (Bind v z) → (b′ : Rows) → Entered b b′ n v (z + 1) → Loop N w b₀ l₀ m₀ s₀ variables used k r t b′ l m′ s x y d (n + 1) c false
+    turn-enter m′ em v z a b′ en =
+        let ((vn, vz), nn, zn) = bind-in v z a in
+        let (ln, lv) = bind-room v z a in
+        turn-bind m′ em v z a b′ (enter-changed en ln lv) (enter-back en (h .binding .more) vz (h .binding .rest n (le-refl n))) vn vz
+
     -- room for one more open pair
     pub open-in : (p q : ℕ) → Says N w b l n x y (Open p q) → d < used
     open-in p q a = stack-in ((open-pair now (a .ways .first) (a .ways .second) (put (column 0 s) d p) (put (column 1 s) d q) (put (column 2 s) d 0)

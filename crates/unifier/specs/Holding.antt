@@ -17,6 +17,7 @@ use Rattle.arena.specs.Cells.{Cells, denote, Reference, WellFormed, denote-node
 use lib.ListN.{length}
 use Rattle.unifier.specs.Orders.{by-order, low-or-high, pigeonhole}
 use Rattle.unifier.specs.Tables.{Rows, column}
+use Rattle.unifier.specs.Contracts.{Undoable}
 use Rattle.unifier.specs.Stored.{cells, lookupAt, bindings, held, Form, WalksTo, free, bound, node}
 
 -- The first k positions hold the bindings β.
@@ -131,3 +132,9 @@ module _ {N : ℕ} where
         (h .lookups (column 1 b i) (bindings-low N (cells w) (column 0 b) (column 1 b) variables k (h .below) i l) ∙ ap (lookupAt N (cells w)) e)
     }
 
+  -- the bindings above a mark can be undone
+  pub form-undoable : {w : List ℕ} {b : Rows} {variables used k mark : ℕ} → Form N w b variables used k → mark ≤ k → Undoable b k mark
+  form-undoable {w} {b} {variables} {used} {k} h l = let f = trail-in (form-holds h) in let g = h .lentRows in record {
+      above = l; within = omega arith;
+      keys = λ i p q. let z = bindings-low N (cells w) (column 0 b) (column 1 b) variables k (h .below) i q in omega arith
+    }

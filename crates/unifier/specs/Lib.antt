@@ -17,3 +17,4 @@ pub mod Steps
 pub mod Turns
 pub mod Bounds
 pub mod Equating
+pub mod Ending

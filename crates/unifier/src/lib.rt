@@ -6,9 +6,10 @@ ghost use lib.ListN.{length, getD, set};
 ghost use Rattle.arena.specs.Cells.{headers, arityOf, Reference};
 ghost use Rattle.unifier.specs.Tables.{column, valued, listed, undone};
 ghost use Rattle.unifier.specs.Stored.{cells, Form, Edge, LeadsTo};
-ghost use Rattle.unifier.specs.Contracts.{Replaced, Entered, Undoable, Walked, Free, Checked, Falling, Decided, Joined};
+ghost use Rattle.unifier.specs.Contracts.{Replaced, Entered, Undoable, Walked, Free, Checked, Falling, Decided, Joined, Scratch, Unified, cleared};
 ghost use Rattle.unifier.specs.Entries.{Entries};
 ghost use Rattle.unifier.specs.Search.{Grown, ArgumentOf};
+ghost use Rattle.unifier.specs.Equating.{Equated};
 
 // What is to be done with two references that are to be made equal.
 pub enum Decision {
@@ -27,6 +28,20 @@ pub struct Pair {
     pub left: u32,
     pub right: u32,
     pub taken: u32,
+}
+
+// How the loop of `unify` ended: whether the terms are equal, and how many bindings, links and open pairs there are.
+pub struct Ending {
+    pub equal: bool,
+    pub bound: u32,
+    pub linked: u32,
+    pub open: u32,
+}
+
+// Whether two terms were unified, and how many bindings there are.
+pub struct Ended {
+    pub unified: bool,
+    pub bound: u32,
 }
 
 // The first number of a row.
@@ -283,4 +298,95 @@ fn argument(w: &[u32], room: u32, r: u32, i: u32) -> u32
         return w[a];
     }
     0
+}
+
+// Makes r and t equal under the first k bindings, if that can be, the pairs in the Rust's order; each pair of nodes is opened at most once.
+fn equate(w: &[u32], b: &mut [[u32; 2]], links: &mut [[u32; 2]], m: &mut [[u32; 2]], s: &mut [[u32; 3]], room: u32, variables: u32, used: u32, k: u32, r: u32, t: u32) -> Ending
+    requires { ⌜ Form room (now w) (now b) variables used k ⌝
+      ∗ ⌜ (Reference room (cells (now w)) variables used r) × (Reference room (cells (now w)) variables used t) ⌝
+      ∗ ⌜ Scratch room used (now links) (now m) (now s) ⌝ }
+    ensures { λ e. ⌜ Equated room (now (w .entry)) (now (b .entry)) (now (b .exit)) (now (links .entry)) (now (links .exit)) (now (m .entry)) (now (m .exit))
+      (now (s .entry)) (now (s .exit)) variables used k r t (e .equal) (e .bound) (e .linked) (e .open) ⌝ }
+{
+    let mut x = r;
+    let mut y = t;
+    let mut d = 0;
+    let mut n = k;
+    let mut c = 0;
+    let mut pending = true;
+    loop {
+        if pending {
+            match decide(w, b, links, m, room, variables, used, n, x, y) {
+                Decision::Same => {
+                    pending = false;
+                }
+                Decision::Bind(v, z) => {
+                    enter(b, n, v, z + 1);
+                    n += 1;
+                    pending = false;
+                }
+                Decision::Open(p, q) => {
+                    put_pair(s, d, Pair { left: p, right: q, taken: 0 });
+                    d += 1;
+                    pending = false;
+                }
+                Decision::Clash => {
+                    return Ending { equal: false, bound: n, linked: c, open: d };
+                }
+            }
+        } else {
+            if d == 0 {
+                return Ending { equal: true, bound: n, linked: c, open: d };
+            }
+            let f = pair_at(s, d - 1);
+            let left = f.left;
+            let right = f.right;
+            let taken = f.taken;
+            if taken < arity(w, room, left) {
+                put_pair(s, d - 1, Pair { left: left, right: right, taken: taken + 1 });
+                x = argument(w, room, left, taken);
+                y = argument(w, room, right, taken);
+                pending = true;
+            } else {
+                link(links, c, left, right);
+                c += 1;
+                put_pair(s, d - 1, Pair { left: 0, right: 0, taken: 0 });
+                d -= 1;
+            }
+        }
+    }
+}
+
+// Sets the rows of the stack below d to 0.
+fn clear(s: &mut [[u32; 3]], d: u32)
+    requires { ⌜ d ≤ length (now s) ⌝ }
+    ensures { λ _. ⌜ now (s .exit) ≡ cleared (now (s .entry)) d ⌝ }
+{
+    let mut i = d;
+    while 0 < i {
+        i -= 1;
+        s[i as usize] = [0, 0, 0];
+    }
+}
+
+// Unifies what r and t denote under the first k bindings; without success the bindings are undone to k, and the scratch is left as it was.
+pub fn unify(w: &[u32], b: &mut [[u32; 2]], links: &mut [[u32; 2]], m: &mut [[u32; 2]], s: &mut [[u32; 3]], room: u32, variables: u32, used: u32, k: u32, r: u32, t: u32) -> Ended
+    requires { ⌜ Form room (now w) (now b) variables used k ⌝
+      ∗ ⌜ (Reference room (cells (now w)) variables used r) × (Reference room (cells (now w)) variables used t) ⌝
+      ∗ ⌜ Scratch room used (now links) (now m) (now s) ⌝ }
+    ensures { λ e. ⌜ Unified room (now (w .entry)) (now (b .entry)) (now (b .exit)) (now (links .entry)) (now (links .exit)) (now (m .entry)) (now (m .exit))
+      (now (s .entry)) (now (s .exit)) variables used k (e .bound) r t (e .unified) ⌝ }
+{
+    let e = equate(w, b, links, m, s, room, variables, used, k, r, t);
+    let equal = e.equal;
+    let n = e.bound;
+    let c = e.linked;
+    let d = e.open;
+    undo(links, c, 0);
+    clear(s, d);
+    if equal {
+        return Ended { unified: true, bound: n };
+    }
+    undo(b, n, k);
+    Ended { unified: false, bound: k }
 }
