@@ -54,7 +54,7 @@ module _ (p : Place) (a r : ℕ) where
 module _ (p : Place) (arities words : List ℕ) (to : ℕ) (long : to ≤ length words) where
   -- A header where one is due.
   pub header-step : (at node left : ℕ) → at < to → left ≡ 0 → isHeader arities (getD words at 0) ≡ true
-    → nodes p arities (slice at to words) at node left ≡ nodes p arities (slice (at + 1) to words) (at + 1) at (arityOf (getD words at 0))
+      → nodes p arities (slice at to words) at node left ≡ nodes p arities (slice (at + 1) to words) (at + 1) at (arityOf (getD words at 0))
   header-step at node left l z e = rw (z, slice-cons at to words 0 l long, e, add-one at)
 
   pub header-stop : (at node left : ℕ) → at < to → left ≡ 0 → isHeader arities (getD words at 0) ≡ false → nodes p arities (slice at to words) at node left ≡ false
@@ -62,7 +62,7 @@ module _ (p : Place) (arities words : List ℕ) (to : ℕ) (long : to ≤ length
 
   -- An argument where one is due.
   pub argument-step : (at node left : ℕ) → at < to → (left ≡ 0 → ⊥) → isArgument p node (getD words at 0) ≡ true
-    → nodes p arities (slice at to words) at node left ≡ nodes p arities (slice (at + 1) to words) (at + 1) node (left - 1)
+      → nodes p arities (slice at to words) at node left ≡ nodes p arities (slice (at + 1) to words) (at + 1) node (left - 1)
   argument-step at node zero l z e = absurd (z refl)
   argument-step at node (suc left) l z e = let d : suc left - 1 ≡ left = omega arith in rw (d, slice-cons at to words 0 l long, e, add-one at)
 

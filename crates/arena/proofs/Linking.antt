@@ -69,13 +69,15 @@ module _ (room : ℕ) (L₀ : List ℕ) (a b : ℕ) where
     pub forth : (g : ℕ → Term) → Agrees room g (cells L₀) → g a ≡ g b → Agrees room g (cells L) × (g p ≡ g q)
 
   pub link-swap : (L : List ℕ) (p q : ℕ) → Linking L p q → Linking L q p
-  link-swap L p q h = record
-    { long = h .long; form = h .form
-    ; bound = λ t u v. let k = h .bound t u v in (k .1, k .0)
-    ; above = h .above
-    ; good = λ test e u v. let k = h .good test e u v in (k .0, k .2, k .1)
-    ; back = λ g u v. h .back g u (sym v)
-    ; forth = λ g u v. let k = h .forth g u v in (k .0, sym (k .1)) }
+  link-swap L p q h = record {
+    long = h .long;
+    form = h .form;
+    bound = λ t u v. let k = h .bound t u v in (k .1, k .0);
+    above = h .above;
+    good = λ test e u v. let k = h .good test e u v in (k .0, k .2, k .1);
+    back = λ g u v. h .back g u (sym v);
+    forth = λ g u v. let k = h .forth g u v in (k .0, sym (k .1));
+  }
 
   -- The greater and the lesser of the two.
   pub link-order : (L : List ℕ) (p q x y : ℕ) → Linking L p q → (p ≡ q → ⊥) → x ≡ greatest p q → y ≡ least p q → Linking L x y × (y < x)
@@ -86,49 +88,55 @@ module _ (room : ℕ) (L₀ : List ℕ) (a b : ℕ) where
 
   -- Ways out.
   pub link-same : (L : List ℕ) (p q : ℕ) → Linking L p q → p ≡ q → Joined room L₀ L 1 (λ _. a) (λ _. b) true
-  link-same L p q h e = record
-    { long = h .long; form = h .form
-    ; above = λ t k. h .above t (k 0 (omega arith) .0) (k 0 (omega arith) .1)
-    ; good = λ test u k. h .good test u (k 0 (omega arith) .0) (k 0 (omega arith) .1) .0
-    ; back = λ _ g u. let k = h .back g u (ap g e) in (k .0, λ i l. k .1)
-    ; forth = λ _ g u k. h .forth g u (k 0 (omega arith)) .0
-    ; no = λ f. true-false refl f }
+  link-same L p q h e = record {
+    long = h .long;
+    form = h .form;
+    above = λ t k. h .above t (k 0 (omega arith) .0) (k 0 (omega arith) .1);
+    good = λ test u k. h .good test u (k 0 (omega arith) .0) (k 0 (omega arith) .1) .0;
+    back = λ _ g u. let k = h .back g u (ap g e) in (k .0, λ i l. k .1);
+    forth = λ _ g u k. h .forth g u (k 0 (omega arith)) .0;
+    no = λ f. true-false refl f;
+  }
 
   pub link-clash : (L : List ℕ) (p q : ℕ) → Linking L p q → q < p → q < room → Joined room L₀ L 1 (λ _. a) (λ _. b) false
-  link-clash L p q h l m = record
-    { long = h .long; form = h .form
-    ; above = λ t k. h .above t (k 0 (omega arith) .0) (k 0 (omega arith) .1)
-    ; good = λ test u k. h .good test u (k 0 (omega arith) .0) (k 0 (omega arith) .1) .0
-    ; back = λ f. true-false f refl
-    ; forth = λ f. true-false f refl
-    ; no = λ _ g s u k. s p q m l (h .forth g u (k 0 (omega arith)) .1) }
+  link-clash L p q h l m = record {
+    long = h .long;
+    form = h .form;
+    above = λ t k. h .above t (k 0 (omega arith) .0) (k 0 (omega arith) .1);
+    good = λ test u k. h .good test u (k 0 (omega arith) .0) (k 0 (omega arith) .1) .0;
+    back = λ f. true-false f refl;
+    forth = λ f. true-false f refl;
+    no = λ _ g s u k. s p q m l (h .forth g u (k 0 (omega arith)) .1);
+  }
 
   pub link-new : (L : List ℕ) (p q : ℕ) → Linking L p q → q < p → room ≤ q → p < room + length L → cells L (p - room) ≡ 0
-    → Joined room L₀ (set L (p - room) (q + 1)) 1 (λ _. a) (λ _. b) true
+      → Joined room L₀ (set L (p - room) (q + 1)) 1 (λ _. a) (λ _. b) true
   link-new L p q h l m s z =
       let j : room + (p - room) ≡ p = omega arith in
       let s′ : p - room < length L = omega arith in
-      record
-      { long = length-set L (p - room) (q + 1) ∙ h .long
-      ; form = record
-          { node = λ i y e. set-link L (p - room) q i y s′ e (λ u v. omega arith) (λ u v. h .form .node i y v)
-          ; below = λ i y e. set-link L (p - room) q i y s′ e (λ u v. omega arith) (λ u v. h .form .below i y v) }
-      ; above = λ t k i u. let v = h .bound t (k 0 (omega arith) .0) (k 0 (omega arith) .1) in
-          set-other L (p - room) (q + 1) i (λ e. omega arith) ∙ h .above t (k 0 (omega arith) .0) (k 0 (omega arith) .1) i u
-      ; good = λ test u k. let v = h .good test u (k 0 (omega arith) .0) (k 0 (omega arith) .1) in
-          λ i y e. set-link L (p - room) q i y s′ e (λ c d. (rw (c, j) (v .1), rw d at (v .2))) (λ c d. v .0 i y d)
-      ; back = λ _ g u. let here : g p ≡ g q = rw j at (u (p - room) q (set-here L (p - room) (q + 1) s′ ∙ (let e : q + 1 ≡ suc q = omega arith in e))) in
-          let old : Agrees room g (cells L) = (λ i y e. by-same i (p - room)
+      record {
+        long = length-set L (p - room) (q + 1) ∙ h .long;
+        form = record {
+          node = λ i y e. set-link L (p - room) q i y s′ e (λ u v. omega arith) (λ u v. h .form .node i y v);
+          below = λ i y e. set-link L (p - room) q i y s′ e (λ u v. omega arith) (λ u v. h .form .below i y v);
+        };
+        above = λ t k i u. let v = h .bound t (k 0 (omega arith) .0) (k 0 (omega arith) .1) in
+            set-other L (p - room) (q + 1) i (λ e. omega arith) ∙ h .above t (k 0 (omega arith) .0) (k 0 (omega arith) .1) i u;
+        good = λ test u k. let v = h .good test u (k 0 (omega arith) .0) (k 0 (omega arith) .1) in
+            λ i y e. set-link L (p - room) q i y s′ e (λ c d. (rw (c, j) (v .1), rw d at (v .2))) (λ c d. v .0 i y d);
+        back = λ _ g u. let here : g p ≡ g q = rw j at (u (p - room) q (set-here L (p - room) (q + 1) s′ ∙ (let e : q + 1 ≡ suc q = omega arith in e))) in
+            let old : Agrees room g (cells L) = (λ i y e. by-same i (p - room)
             (λ c _. let e′ : cells L (p - room) ≡ suc y = rw c at e in let x : ⊥ = omega arith in absurd x)
             (λ n _. u i y (set-other L (p - room) (q + 1) i n ∙ e))) in
-          let k = h .back g old here in (k .0, λ i l. k .1)
-      ; forth = λ _ g u k. let v = h .forth g u (k 0 (omega arith)) in
-          λ i y e. set-link L (p - room) q i y s′ e (λ c d. rw (c, j, ← d) (v .1)) (λ c d. v .0 i y d)
-      ; no = λ f. true-false refl f }
+            let k = h .back g old here in (k .0, λ i l. k .1);
+        forth = λ _ g u k. let v = h .forth g u (k 0 (omega arith)) in
+            λ i y e. set-link L (p - room) q i y s′ e (λ c d. rw (c, j, ← d) (v .1)) (λ c d. v .0 i y d);
+        no = λ f. true-false refl f;
+      }
 
   -- The step: the link of the greater leads on, and is shortened where the lesser is below.
   pub link-next : (L : List ℕ) (p q y : ℕ) → Linking L p q → q < p → room ≤ q → p < room + length L → cells L (p - room) ≡ suc y
-    → Linking (set L (p - room) (least q y + 1)) y q
+      → Linking (set L (p - room) (least q y + 1)) y q
   link-next L p q y h l m s z =
       let j : room + (p - room) ≡ p = omega arith in
       let s′ : p - room < length L = omega arith in
@@ -136,32 +144,34 @@ module _ (room : ℕ) (L₀ : List ℕ) (a b : ℕ) where
       let b₀ = h .form .below (p - room) y z in
       let low : room ≤ least q y = least-is (λ x. room ≤ x) q y (λ _. m) (λ _. n₀) in
       let under : least q y < p = least-is (λ x. x < p) q y (λ _. l) (λ _. omega arith) in
-      record
-      { long = length-set L (p - room) (least q y + 1) ∙ h .long
-      ; form = record
-          { node = λ i x e. set-link L (p - room) (least q y) i x s′ e (λ u v. omega arith) (λ u v. h .form .node i x v)
-          ; below = λ i x e. set-link L (p - room) (least q y) i x s′ e (λ u v. omega arith) (λ u v. h .form .below i x v) }
-      ; bound = λ t u v. let k = h .bound t u v in (omega arith, k .1)
-      ; above = λ t u v i w. let k = h .bound t u v in set-other L (p - room) (least q y + 1) i (λ e. omega arith) ∙ h .above t u v i w
-      ; good = λ test e u v. let k = h .good test e u v in
-          let ky = k .0 (p - room) y z in
-          let kl : test (least q y) ≡ true = least-is (λ x. test x ≡ true) q y (λ _. k .2) (λ _. ky .1) in
-          ((λ i x d. set-link L (p - room) (least q y) i x s′ d (λ c f. (rw (c, j) (k .1), rw f at kl)) (λ c f. k .0 i x f)), ky .1, k .2)
-      ; back = λ g u e.
-          let to : g p ≡ g (least q y) = rw j at (u (p - room) (least q y) (set-here L (p - room) (least q y + 1) s′ ∙ (let d : least q y + 1 ≡ suc (least q y) = omega arith in d))) in
-          let at-y : g (least q y) ≡ g y = least-is (λ x. g x ≡ g y) q y (λ _. sym e) (λ _. refl) in
-          let old : Agrees room g (cells L) = (λ i x d. by-same i (p - room)
+      record {
+        long = length-set L (p - room) (least q y + 1) ∙ h .long;
+        form = record {
+          node = λ i x e. set-link L (p - room) (least q y) i x s′ e (λ u v. omega arith) (λ u v. h .form .node i x v);
+          below = λ i x e. set-link L (p - room) (least q y) i x s′ e (λ u v. omega arith) (λ u v. h .form .below i x v);
+        };
+        bound = λ t u v. let k = h .bound t u v in (omega arith, k .1);
+        above = λ t u v i w. let k = h .bound t u v in set-other L (p - room) (least q y + 1) i (λ e. omega arith) ∙ h .above t u v i w;
+        good = λ test e u v. let k = h .good test e u v in
+            let ky = k .0 (p - room) y z in
+            let kl : test (least q y) ≡ true = least-is (λ x. test x ≡ true) q y (λ _. k .2) (λ _. ky .1) in
+            ((λ i x d. set-link L (p - room) (least q y) i x s′ d (λ c f. (rw (c, j) (k .1), rw f at kl)) (λ c f. k .0 i x f)), ky .1, k .2);
+        back = λ g u e.
+            let to : g p ≡ g (least q y) = rw j at (u (p - room) (least q y) (set-here L (p - room) (least q y + 1) s′ ∙ (let d : least q y + 1 ≡ suc (least q y) = omega arith in d))) in
+            let at-y : g (least q y) ≡ g y = least-is (λ x. g x ≡ g y) q y (λ _. sym e) (λ _. refl) in
+            let old : Agrees room g (cells L) = (λ i x d. by-same i (p - room)
             (λ c _. let d′ : cells L (p - room) ≡ suc x = rw c at d in let f : y ≡ x = omega arith in rw (c, j, ← f) (to ∙ at-y))
             (λ n _. u i x (set-other L (p - room) (least q y + 1) i n ∙ d))) in
-          h .back g old (to ∙ at-y ∙ e)
-      ; forth = λ g u e.
-          let k = h .forth g u e in
-          let at-y : g p ≡ g y = rw j at (k .0 (p - room) y z) in
-          let to : g p ≡ g (least q y) = least-is (λ x. g p ≡ g x) q y (λ _. k .1) (λ _. at-y) in
-          ((λ i x d. set-link L (p - room) (least q y) i x s′ d (λ c f. rw (c, j, ← f) to) (λ c f. k .0 i x f)), sym at-y ∙ k .1) }
+            h .back g old (to ∙ at-y ∙ e);
+        forth = λ g u e.
+            let k = h .forth g u e in
+            let at-y : g p ≡ g y = rw j at (k .0 (p - room) y z) in
+            let to : g p ≡ g (least q y) = least-is (λ x. g p ≡ g x) q y (λ _. k .1) (λ _. at-y) in
+            ((λ i x d. set-link L (p - room) (least q y) i x s′ d (λ c f. rw (c, j, ← f) to) (λ c f. k .0 i x f)), sym at-y ∙ k .1);
+      }
 
   pub link-step : (L : List ℕ) (p q n v : ℕ) → Linking L p q → q < p → room ≤ q → p < room + length L → cells L (p - room) ≡ n → (n ≡ 0 → ⊥) → v ≡ least q (n - 1)
-    → Linking (set L (p - room) (v + 1)) (n - 1) q
+      → Linking (set L (p - room) (v + 1)) (n - 1) q
   link-step L p q n v h l m s z o e = rw e (link-next L p q (n - 1) h l m s (let k : n ≢ 0 = o in omega arith))
 
   pub link-falls : (L : List ℕ) (p q n : ℕ) → Linking L p q → q < p → room ≤ q → cells L (p - room) ≡ n → (n ≡ 0 → ⊥) → n - 1 < p
@@ -169,33 +179,44 @@ module _ (room : ℕ) (L₀ : List ℕ) (a b : ℕ) where
 
 pub link-start : (room : ℕ) (L : List ℕ) (a b : ℕ) → Descending room (cells L) → Linking room L a b L a b
 link-start room L a b f = record
-  { long = refl; form = f; bound = λ t u v. (u, v); above = λ t u v i w. refl; good = λ test e u v. (e, u, v); back = λ g u e. (u, e); forth = λ g u e. (u, e) }
+    { long = refl; form = f; bound = λ t u v. (u, v); above = λ t u v i w. refl; good = λ test e u v. (e, u, v); back = λ g u e. (u, e); forth = λ g u e. (u, e) }
 
 -- Pairs one after another.
 module _ (room : ℕ) (L₀ : List ℕ) (x y : ℕ → ℕ) where
   pub joined-none : Descending room (cells L₀) → Joined room L₀ L₀ 0 x y true
-  joined-none f = record
-    { long = refl; form = f; above = λ t k i u. refl; good = λ test e k. e
-    ; back = λ _ g u. (u, λ i l. let z : ⊥ = omega arith in absurd z); forth = λ _ g u k. u; no = λ e. true-false refl e }
+  joined-none f = record {
+    long = refl;
+    form = f;
+    above = λ t k i u. refl;
+    good = λ test e k. e;
+    back = λ _ g u. (u, λ i l. let z : ⊥ = omega arith in absurd z);
+    forth = λ _ g u k. u;
+    no = λ e. true-false refl e;
+  }
 
   pub joined-more : (L L′ : List ℕ) (n : ℕ) (r : Bool) → Joined room L₀ L n x y true → Joined room L L′ 1 (λ _. x n) (λ _. y n) r → Joined room L₀ L′ (n + 1) x y r
-  joined-more L L′ n r h k = record
-    { long = k .long ∙ h .long; form = k .form
-    ; above = λ t b i u. k .above t (λ _ _. b n (omega arith)) i u ∙ h .above t (λ i l. b i (omega arith)) i u
-    ; good = λ test e b. k .good test (h .good test e (λ i l. b i (omega arith))) (λ _ _. b n (omega arith))
-    ; back = λ a g u. let v = k .back a g u in let w = h .back refl g (v .0) in
-        (w .0, below-more (λ i. g (x i) ≡ g (y i)) n (w .1) (v .1 0 (omega arith)))
-    ; forth = λ a g u b. k .forth a g (h .forth refl g u (λ i l. b i (omega arith))) (λ _ _. b n (omega arith))
-    ; no = λ a g s u b. k .no a g s (h .forth refl g u (λ i l. b i (omega arith))) (λ _ _. b n (omega arith)) }
+  joined-more L L′ n r h k = record {
+    long = k .long ∙ h .long;
+    form = k .form;
+    above = λ t b i u. k .above t (λ _ _. b n (omega arith)) i u ∙ h .above t (λ i l. b i (omega arith)) i u;
+    good = λ test e b. k .good test (h .good test e (λ i l. b i (omega arith))) (λ _ _. b n (omega arith));
+    back = λ a g u. let v = k .back a g u in let w = h .back refl g (v .0) in
+        (w .0, below-more (λ i. g (x i) ≡ g (y i)) n (w .1) (v .1 0 (omega arith)));
+    forth = λ a g u b. k .forth a g (h .forth refl g u (λ i l. b i (omega arith))) (λ _ _. b n (omega arith));
+    no = λ a g s u b. k .no a g s (h .forth refl g u (λ i l. b i (omega arith))) (λ _ _. b n (omega arith));
+  }
 
   -- Where some of the pairs cannot hold, all cannot.
   pub joined-stop : (L : List ℕ) (n m : ℕ) → n ≤ m → Joined room L₀ L n x y false → Joined room L₀ L m x y false
-  joined-stop L n m l h = record
-    { long = h .long; form = h .form
-    ; above = λ t b. h .above t (λ i k. b i (omega arith))
-    ; good = λ test e b. h .good test e (λ i k. b i (omega arith))
-    ; back = λ a. true-false a refl; forth = λ a. true-false a refl
-    ; no = λ a g s u b. h .no a g s u (λ i k. b i (omega arith)) }
+  joined-stop L n m l h = record {
+    long = h .long;
+    form = h .form;
+    above = λ t b. h .above t (λ i k. b i (omega arith));
+    good = λ test e b. h .good test e (λ i k. b i (omega arith));
+    back = λ a. true-false a refl;
+    forth = λ a. true-false a refl;
+    no = λ a g s u b. h .no a g s u (λ i k. b i (omega arith));
+  }
 
 -- The arguments of two nodes, one pair after another.
 module _ (room : ℕ) (w L₀ : List ℕ) (a b count : ℕ) where
@@ -218,6 +239,6 @@ module _ (room : ℕ) (w L₀ : List ℕ) (a b count : ℕ) where
       joined-more room L₀ (λ i. cells w (a + suc i)) (λ i. cells w (b + suc i)) L L′ i r h (rw (e, d) at k)
 
   pub pair-stop : (L L′ : List ℕ) (i : ℕ) (r : Bool) → i < count → r ≡ false → Pairs L i true
-    → Joined room L L′ 1 (λ _. getD w (a + 1 + i) 0) (λ _. getD w (b + 1 + i) 0) r → Pairs L′ count false
+      → Joined room L L′ 1 (λ _. getD w (a + 1 + i) 0) (λ _. getD w (b + 1 + i) 0) r → Pairs L′ count false
   pair-stop L L′ i r l e h k =
       joined-stop room L₀ (λ i. cells w (a + suc i)) (λ i. cells w (b + suc i)) L′ (i + 1) count (omega arith) (rw e at (pair-next L L′ i r h k))

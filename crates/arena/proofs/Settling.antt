@@ -36,10 +36,14 @@ test-reference room w nv used r e = argument-reference (record { words = w; room
 module _ (room : ℕ) (w L : List ℕ) (nv used at : ℕ) (h : Comparable room w L nv used) (in-use : at < used) where
   -- There is no link.
   pub settle-none : (same : Bool) → cells L at ≡ 0 → Settled room w L L nv used at same same
-  settle-none same z = record
-    { long = refl; kept = h
-    ; cleared = λ k i l. by-same i at (λ e _. rw e z) (λ n _. k i (omega arith))
-    ; back = λ e. (e, λ u. u); forth = λ _ u. u; no = λ e. inl e }
+  settle-none same z = record {
+    long = refl;
+    kept = h;
+    cleared = λ k i l. by-same i at (λ e _. rw e z) (λ n _. k i (omega arith));
+    back = λ e. (e, λ u. u);
+    forth = λ _ u. u;
+    no = λ e. inl e;
+  }
 
   -- The link removed.
   gone : (i z : ℕ) → cells (set L at 0) i ≡ suc z → cells L i ≡ suc z
@@ -52,7 +56,7 @@ module _ (room : ℕ) (w L : List ℕ) (nv used at : ℕ) (h : Comparable room w
 
   gone-kept : Comparable room w (set L at 0) nv used
   gone-kept = let n = length-set L at 0 in let s = h .scratch in record
-    { formed = h .formed; small = h .small; words = h .words; scratch = omega arith; form = gone-form; references = λ i z e. h .references i z (gone i z e) }
+      { formed = h .formed; small = h .small; words = h .words; scratch = omega arith; form = gone-form; references = λ i z e. h .references i z (gone i z e) }
 
   gone-cleared : ((i : ℕ) → at < i → cells L i ≡ 0) → (i : ℕ) → at ≤ i → cells (set L at 0) i ≡ 0
   gone-cleared k i l = by-same i at
@@ -61,9 +65,14 @@ module _ (room : ℕ) (w L : List ℕ) (nv used at : ℕ) (h : Comparable room w
 
   -- The answer was false before.
   pub settle-no : (same : Bool) → same ≡ false → Settled room w L (set L at 0) nv used at same false
-  settle-no same e = record
-    { long = length-set L at 0; kept = gone-kept; cleared = gone-cleared
-    ; back = λ f. true-false f refl; forth = λ f. true-false f refl; no = λ _. inl e }
+  settle-no same e = record {
+    long = length-set L at 0;
+    kept = gone-kept;
+    cleared = gone-cleared;
+    back = λ f. true-false f refl;
+    forth = λ f. true-false f refl;
+    no = λ _. inl e;
+  }
 
   -- There is a link, to the node at the address b.
   module _ (n b : ℕ) (linked : cells L at ≡ n) (some : n ≡ 0 → ⊥) (to : b ≡ n - 1 - room) where
@@ -90,10 +99,14 @@ module _ (room : ℕ) (w L : List ℕ) (nv used at : ℕ) (h : Comparable room w
 
     -- The headers differ.
     pub settle-clash : (same : Bool) → (cells w at ≡ cells w b → ⊥) → Settled room w L (set L at 0) nv used at same false
-    settle-clash same d = record
-      { long = length-set L at 0; kept = gone-kept; cleared = gone-cleared
-      ; back = λ f. true-false f refl; forth = λ f. true-false f refl
-      ; no = λ _. inr (λ g. d (equal-headers room (cells w) nv used (h .formed) at b first second (g at (room + b) link-is))) }
+    settle-clash same d = record {
+      long = length-set L at 0;
+      kept = gone-kept;
+      cleared = gone-cleared;
+      back = λ f. true-false f refl;
+      forth = λ f. true-false f refl;
+      no = λ _. inr (λ g. d (equal-headers room (cells w) nv used (h .formed) at b first second (g at (room + b) link-is)));
+    }
 
     -- The headers are the same.
     module _ (e : cells w at ≡ cells w b) where
@@ -115,53 +128,65 @@ module _ (room : ℕ) (w L : List ℕ) (nv used at : ℕ) (h : Comparable room w
           let k = h .words in
           let c = h .scratch in
           let m = length-set L at 0 in
-          record
-          { form = gone-form
-          ; left = omega arith
-          ; right = omega arith
-          ; lefts = λ i l. ⊎-elim (λ v. omega arith) (λ v. omega arith) (under (cells w (at + suc i)) at (argument-first i l))
-          ; rights = λ i l. ⊎-elim (λ v. omega arith) (λ v. omega arith) (under (cells w (b + suc i)) b (argument-second i l)) }
+          record {
+            form = gone-form;
+            left = omega arith;
+            right = omega arith;
+            lefts = λ i l. ⊎-elim (λ v. omega arith) (λ v. omega arith) (under (cells w (at + suc i)) at (argument-first i l));
+            rights = λ i l. ⊎-elim (λ v. omega arith) (λ v. omega arith) (under (cells w (b + suc i)) b (argument-second i l));
+          }
 
       module _ (L′ : List ℕ) (r : Bool) (j : Joined room (set L at 0) L′ (arityOf (cells w at)) (λ i. cells w (at + suc i)) (λ i. cells w (b + suc i)) r) where
         joined-above : (i : ℕ) → at ≤ i → cells L′ i ≡ cells (set L at 0) i
         joined-above i l = j .above (room + at)
-            (λ i m. let s = lower in
-              ( ⊎-elim (λ v. v) (λ v. omega arith) (under (cells w (at + suc i)) at (argument-first i m))
-              , ⊎-elim (λ v. omega arith) (λ v. omega arith) (under (cells w (b + suc i)) b (argument-second i m)) ))
+            (λ i m. let s = lower in (
+              ⊎-elim (λ v. v) (λ v. omega arith) (under (cells w (at + suc i)) at (argument-first i m)),
+              ⊎-elim (λ v. omega arith) (λ v. omega arith) (under (cells w (b + suc i)) b (argument-second i m)),
+            ))
             i (omega arith)
 
         joined-references : Each room (test room w nv used) (cells L′)
         joined-references = j .good (test room w nv used)
             (λ i z d. let v = h .references i z (gone i z d) in (reference-test room w nv used (room + i) (v .0), reference-test room w nv used z (v .1)))
-            (λ i m. let s = lower in
-              ( reference-test room w nv used (cells w (at + suc i)) (reference-up room (omega arith) (omega arith) (argument-first i m))
-              , reference-test room w nv used (cells w (b + suc i)) (reference-up room (omega arith) (omega arith) (argument-second i m)) ))
+            (λ i m. let s = lower in (
+              reference-test room w nv used (cells w (at + suc i)) (reference-up room (omega arith) (omega arith) (argument-first i m)),
+              reference-test room w nv used (cells w (b + suc i)) (reference-up room (omega arith) (omega arith) (argument-second i m)),
+            ))
 
         joined-kept : Comparable room w L′ nv used
         joined-kept =
             let n₁ = j .long in let n₂ = length-set L at 0 in let s = h .scratch in
-            record
-            { formed = h .formed; small = h .small; words = h .words; scratch = omega arith; form = j .form
-            ; references = λ i z d. let v = joined-references i z d in (test-reference room w nv used (room + i) (v .0), test-reference room w nv used z (v .1)) }
+            record {
+              formed = h .formed;
+              small = h .small;
+              words = h .words;
+              scratch = omega arith;
+              form = j .form;
+              references = λ i z d. let v = joined-references i z d in (test-reference room w nv used (room + i) (v .0), test-reference room w nv used z (v .1));
+            }
 
         pub settle-linked : (same : Bool) → same ≡ true → Settled room w L L′ nv used at same r
         settle-linked same q =
             let g = denote room (cells w) in
             let pairs : denote room (cells w) (room + at) ≡ denote room (cells w) (room + b) → (i : ℕ) → i < arityOf (cells w at) → denote room (cells w) (cells w (at + suc i)) ≡ denote room (cells w) (cells w (b + suc i)) =
-              equal-arguments room (cells w) nv used (h .formed) at b first second in
-            record
-            { long = j .long ∙ length-set L at 0
-            ; kept = joined-kept
-            ; cleared = λ k i l. joined-above i l ∙ gone-cleared k i l
-            ; back = λ f. (q, λ u.
-                let v = j .back f (denote room (cells w)) u in
-                λ i z d. by-same i at
-                  (λ c _. let d′ : cells L at ≡ suc z = rw c at d in
+            equal-arguments room (cells w) nv used (h .formed) at b first second in
+            record {
+              long = j .long ∙ length-set L at 0;
+              kept = joined-kept;
+              cleared = λ k i l. joined-above i l ∙ gone-cleared k i l;
+              back = λ f. (
+                q,
+                λ u.
+                    let v = j .back f (denote room (cells w)) u in
+                    λ i z d. by-same i at
+                    (λ c _. let d′ : cells L at ≡ suc z = rw c at d in
                     let t : room + b ≡ z = (let x = link-is in omega arith) in
                     rw (c, ← t) (nodes-equal room (cells w) nv used (h .formed) at b first second e (v .1)))
-                  (λ n _. v .0 i z (set-other L at 0 i n ∙ d)))
-            ; forth = λ f u. j .forth f (denote room (cells w)) (λ i z d. u i z (gone i z d)) (pairs (u at (room + b) link-is))
-            ; no = λ f. inr (λ u. j .no f (denote room (cells w)) (variable-apart room (cells w)) (λ i z d. u i z (gone i z d)) (pairs (u at (room + b) link-is))) }
+                    (λ n _. v .0 i z (set-other L at 0 i n ∙ d)),
+              );
+              forth = λ f u. j .forth f (denote room (cells w)) (λ i z d. u i z (gone i z d)) (pairs (u at (room + b) link-is));
+              no = λ f. inr (λ u. j .no f (denote room (cells w)) (variable-apart room (cells w)) (λ i z d. u i z (gone i z d)) (pairs (u at (room + b) link-is)));
+            }
 
 -- The pass: links at addresses from `at` on are taken up.
 module _ (room : ℕ) (w : List ℕ) (nv used a b : ℕ) where
@@ -173,40 +198,67 @@ module _ (room : ℕ) (w : List ℕ) (nv used a b : ℕ) where
     pub forth : same ≡ true → denote room (cells w) a ≡ denote room (cells w) b → Agrees room (denote room (cells w)) (cells L)
     pub no : same ≡ false → denote room (cells w) a ≡ denote room (cells w) b → ⊥
 
+  -- A reference in form has a link, and is below the headers.
+  reference-low : (x : ℕ) → Reference room (cells w) nv used x → x < room + used
+  reference-low x p = ⊎-elim (λ l. omega arith) (λ l. p .node l) (low-or-high room x room)
+
+  pub ready-linkable : (L : List ℕ) → Ready room w L nv used a b → Linkable room L a b
+  ready-linkable L k = let s = k .scratch in let p = reference-low a (k .left) in let q = reference-low b (k .right) in record {
+    form = record {
+      node = λ i z d. let o = k .zero-before i in let x : ⊥ = omega arith in absurd x;
+      below = λ i z d. let o = k .zero-before i in let x : ⊥ = omega arith in absurd x;
+    };
+    left = omega arith;
+    right = omega arith;
+  }
+
+  pub ready-low : (L : List ℕ) (x : ℕ) → Ready room w L nv used a b → x ≡ greatest a b → x < headers
+  ready-low L x k e = let s = k .small in let p = reference-low a (k .left) in let q = reference-low b (k .right) in
+      rw e (ordered (λ x y. x < headers) a b (λ l. omega arith) (λ l. omega arith))
+
   pub pass-start : (L L′ : List ℕ) (at : ℕ) (r : Bool) → Ready room w L nv used a b → Joined room L L′ 1 (λ _. a) (λ _. b) r → at ≡ suc (greatest a b) - room → Passing L′ at r
   pass-start L L′ at r k j e =
       let top : (a ≤ greatest a b) × (b ≤ greatest a b) = ordered (λ x y. (a ≤ x) × (b ≤ x)) a b (λ l. (omega arith, omega arith)) (λ l. (omega arith, l)) in
       let n = j .long in
       let s = k .scratch in
-      let low : (x : ℕ) → Reference room (cells w) nv used x → suc x - room ≤ used = (λ x p. ⊎-elim (λ l. omega arith) (λ l. let q = p .node l in omega arith) (low-or-high room x room)) in
+      let p = reference-low a (k .left) in
+      let q = reference-low b (k .right) in
       let none : Agrees room (denote room (cells w)) (cells L) = (λ i z d. let o = k .zero-before i in let x : ⊥ = omega arith in absurd x) in
       let refs : Each room (test room w nv used) (cells L′) = j .good (test room w nv used)
-            (λ i z d. let o = k .zero-before i in let x : ⊥ = omega arith in absurd x)
-            (λ _ _. (reference-test room w nv used a (k .left), reference-test room w nv used b (k .right))) in
-      record
-      { kept = record
-          { formed = k .formed; small = k .small; words = k .words; scratch = omega arith; form = j .form
-          ; references = λ i z d. let v = refs i z d in (test-reference room w nv used (room + i) (v .0), test-reference room w nv used z (v .1)) }
-      ; within = rw e (ordered (λ x y. suc x - room ≤ used) a b (λ l. low b (k .right)) (λ l. low a (k .left)))
-      ; cleared = λ i l. j .above (suc (greatest a b)) (λ _ _. (omega arith, omega arith)) i (omega arith) ∙ k .zero-before i
-      ; back = λ f u. j .back f (denote room (cells w)) u .1 0 (omega arith)
-      ; forth = λ f u. j .forth f (denote room (cells w)) none (λ _ _. u)
-      ; no = λ f u. j .no f (denote room (cells w)) (variable-apart room (cells w)) none (λ _ _. u) }
+      (λ i z d. let o = k .zero-before i in let x : ⊥ = omega arith in absurd x)
+      (λ _ _. (reference-test room w nv used a (k .left), reference-test room w nv used b (k .right))) in
+      record {
+        kept = record {
+          formed = k .formed;
+          small = k .small;
+          words = k .words;
+          scratch = omega arith;
+          form = j .form;
+          references = λ i z d. let v = refs i z d in (test-reference room w nv used (room + i) (v .0), test-reference room w nv used z (v .1));
+        };
+        within = rw e (ordered (λ x y. suc x - room ≤ used) a b (λ l. omega arith) (λ l. omega arith));
+        cleared = λ i l. j .above (suc (greatest a b)) (λ _ _. (omega arith, omega arith)) i (omega arith) ∙ k .zero-before i;
+        back = λ f u. j .back f (denote room (cells w)) u .1 0 (omega arith);
+        forth = λ f u. j .forth f (denote room (cells w)) none (λ _ _. u);
+        no = λ f u. j .no f (denote room (cells w)) (variable-apart room (cells w)) none (λ _ _. u);
+      }
 
   pub pass-step : (L L′ : List ℕ) (at : ℕ) (same r : Bool) → 0 < at → Passing L at same → Settled room w L L′ nv used (at - 1) same r → Passing L′ (at - 1) r
-  pass-step L L′ at same r l h k = let v = h .within in record
-    { kept = k .kept
-    ; within = omega arith
-    ; cleared = k .cleared (λ i m. h .cleared i (omega arith))
-    ; back = λ f u. let b = k .back f in h .back (b .0) (b .1 u)
-    ; forth = λ f u. k .forth f (h .forth (k .back f .0) u)
-    ; no = λ f u. by-bool same
+  pass-step L L′ at same r l h k = let v = h .within in record {
+    kept = k .kept;
+    within = omega arith;
+    cleared = k .cleared (λ i m. h .cleared i (omega arith));
+    back = λ f u. let b = k .back f in h .back (b .0) (b .1 u);
+    forth = λ f u. k .forth f (h .forth (k .back f .0) u);
+    no = λ f u. by-bool same
         (λ e. ⊎-elim (λ d. true-false e d) (λ d. d (h .forth e u)) (k .no f))
-        (λ e. h .no e u) }
+        (λ e. h .no e u);
+  }
 
-  pub pass-end : (L₀ L : List ℕ) (same : Bool) → Ready room w L₀ nv used a b → length L ≡ length L₀ → Passing L 0 same → Compared room (cells w) L₀ L a b same
-  pass-end L₀ L same k n h = record
-    { answer = by-bool same
+  pub pass-end : (L₀ L : List ℕ) (at : ℕ) (same : Bool) → Ready room w L₀ nv used a b → length L ≡ length L₀ → at ≤ 0 → Passing L at same → Compared room (cells w) L₀ L a b same
+  pass-end L₀ L at same k n done h = record {
+    answer = by-bool same
         (λ e. e ∙ sym (alike-same (denote room (cells w) a) (denote room (cells w) b) (h .back e (λ i z d. let o = h .cleared i (omega arith) in let x : ⊥ = omega arith in absurd x))))
-        (λ e. e ∙ sym (alike-not (denote room (cells w) a) (denote room (cells w) b) (h .no e)))
-    ; restored = ext-getD 0 L L₀ n (λ i l. h .cleared i (omega arith) ∙ sym (k .zero-before i)) }
+        (λ e. e ∙ sym (alike-not (denote room (cells w) a) (denote room (cells w) b) (h .no e)));
+    restored = ext-getD 0 L L₀ n (λ i l. h .cleared i (omega arith) ∙ sym (k .zero-before i));
+  }

@@ -19,7 +19,7 @@ write-end w xs p i l = rw (drop-of-length-le xs l)
 
 -- The words with zeroes from i on, after one zero more.
 pub clear-step : (w : List ℕ) (i : ℕ) → i < length w
-  → take (i + 1) (set w i 0) ++ replicate (length (set w i 0) - (i + 1)) 0 ≡ take i w ++ replicate (length w - i) 0
+    → take (i + 1) (set w i 0) ++ replicate (length (set w i 0) - (i + 1)) 0 ≡ take i w ++ replicate (length w - i) 0
 clear-step w i l =
     let d : length w - i ≡ suc (length w - suc i) = omega arith in
     rw (add-one i, length-set w i 0, take-suc-set w i 0 l, d) (append-snoc (take i w) 0 (replicate (length w - suc i) 0))

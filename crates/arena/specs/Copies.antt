@@ -51,7 +51,7 @@ pub record Copyable (pattern : List ℕ) (from count : ℕ) (places words : List
   pub number : (i : ℕ) → i < count → getD pattern (from + i) 0 < patternRoom → counter + getD places (getD pattern (from + i) 0) 0 < room
   pub inside : (i : ℕ) → i < count → patternRoom ≤ getD pattern (from + i) 0 → getD pattern (from + i) 0 < headers → patternRoom + from ≤ getD pattern (from + i) 0
   pub address : (i : ℕ) → i < count → patternRoom ≤ getD pattern (from + i) 0 → getD pattern (from + i) 0 < headers
-    → getD pattern (from + i) 0 < patternRoom + from + count
+      → getD pattern (from + i) 0 < patternRoom + from + count
 
 -- A reference of the part that starts at `from`, to one of its first n words: a variable whose new number is below nv, or a node's.
 pub record PartReference (places : List ℕ) (counter nv from : ℕ) (pattern : Cells) (n r : ℕ) : Type 0 where

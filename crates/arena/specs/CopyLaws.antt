@@ -37,9 +37,9 @@ sub-args σ g h p w a b (suc n) f =
     let e′ : b + 0 ≡ b = omega arith in
     let f₀ : h (w (b + 0)) ≡ sub σ (g (p (a + 0))) = f 0 (omega arith) in
     ap₂ cons (rw (e, e′) at f₀) (sub-args σ g h p w (suc a) (suc b) n (λ i l.
-      let d : a + suc i ≡ suc a + i = omega arith in
-      let d′ : b + suc i ≡ suc b + i = omega arith in
-      let f₁ : h (w (b + suc i)) ≡ sub σ (g (p (a + suc i))) = f (suc i) (omega arith) in rw (d, d′) at f₁))
+    let d : a + suc i ≡ suc a + i = omega arith in
+    let d′ : b + suc i ≡ suc b + i = omega arith in
+    let f₁ : h (w (b + suc i)) ≡ sub σ (g (p (a + suc i))) = f (suc i) (omega arith) in rw (d, d′) at f₁))
 
 -- Over words read by functions: w′ is w with the part of p from `from` on, `count` words, moved to the address u. The pattern's variables are below k,
 -- those of w below nv, and those of w′ below nv′.
@@ -60,11 +60,11 @@ module _ (N k nv nv′ from count u counter : ℕ) (places : List ℕ) (p w w′
   header-back i l h =
       ⊎-elim
       (λ q. ⊎-elim
-        (λ v. let e = copy i l ∙ moved-variable places counter (patternRoom + from) (N + u) (p (from + i)) v in
-          let n = number i l v in let z : ⊥ = omega arith in absurd z)
-        (λ v. let e = copy i l ∙ moved-node places counter (patternRoom + from) (N + u) (p (from + i)) v q in
-          let t = address i l v q in let z : ⊥ = omega arith in absurd z)
-        (low-or-high N (p (from + i)) patternRoom))
+      (λ v. let e = copy i l ∙ moved-variable places counter (patternRoom + from) (N + u) (p (from + i)) v in
+      let n = number i l v in let z : ⊥ = omega arith in absurd z)
+      (λ v. let e = copy i l ∙ moved-node places counter (patternRoom + from) (N + u) (p (from + i)) v q in
+      let t = address i l v q in let z : ⊥ = omega arith in absurd z)
+      (low-or-high N (p (from + i)) patternRoom))
       (λ q. q)
       (low-or-high N (p (from + i)) headers)
 
@@ -75,27 +75,29 @@ module _ (N k nv nv′ from count u counter : ℕ) (places : List ℕ) (p w w′
       let f = formed .fits (from + a) (omega arith) h in
       let r : Reference patternRoom p k (from + a) (p (from + (a + suc i))) = rw e at (formed .arguments (from + a) i (omega arith) h j) in
       let s : a + suc i < count = omega arith in
-      record
-      { variable = λ v. number (a + suc i) s v
-      ; from-on = λ v. let n = r .node v in inside (a + suc i) s v (omega arith)
-      ; node = λ v. let n = r .node v in omega arith
-      ; header = λ v. r .header v }
+      record {
+        variable = λ v. number (a + suc i) s v;
+        from-on = λ v. let n = r .node v in inside (a + suc i) s v (omega arith);
+        node = λ v. let n = r .node v in omega arith;
+        header = λ v. r .header v;
+      }
 
   -- The moved reference is a reference to what was written.
   pub moved-reference : (n r : ℕ) → n ≤ count → PartReference places counter nv′ from p n r → Reference N w′ nv′ (u + n) (move r)
   moved-reference n r b h =
       ⊎-elim
       (λ l. let e = moved-variable places counter (patternRoom + from) (N + u) r l in let v = h .variable l in
-        record { variable = λ q. omega arith; node = λ q. let z : ⊥ = omega arith in absurd z; header = λ q. let z : ⊥ = omega arith in absurd z })
+      record { variable = λ q. omega arith; node = λ q. let z : ⊥ = omega arith in absurd z; header = λ q. let z : ⊥ = omega arith in absurd z })
       (λ l. let n′ = h .node l in let o = h .from-on l in let d = h .header l in
-        let e = moved-node places counter (patternRoom + from) (N + u) r l (omega arith) in
-        let j : from + (r - (patternRoom + from)) ≡ r - patternRoom = omega arith in
-        let d′ : headers ≤ p (from + (r - (patternRoom + from))) = rw j d in
-        record
-        { variable = λ q. let z : ⊥ = omega arith in absurd z
-        ; node = λ q. omega arith
-        ; header = λ q. let i : move r - N ≡ u + (r - (patternRoom + from)) = omega arith in
-            rw (i, header-copied (r - (patternRoom + from)) (omega arith) d′) d′ })
+      let e = moved-node places counter (patternRoom + from) (N + u) r l (omega arith) in
+      let j : from + (r - (patternRoom + from)) ≡ r - patternRoom = omega arith in
+      let d′ : headers ≤ p (from + (r - (patternRoom + from))) = rw j d in
+      record {
+        variable = λ q. let z : ⊥ = omega arith in absurd z;
+        node = λ q. omega arith;
+        header = λ q. let i : move r - N ≡ u + (r - (patternRoom + from)) = omega arith in
+            rw (i, header-copied (r - (patternRoom + from)) (omega arith) d′) d′;
+      })
       (low-or-high N r patternRoom)
 
   back : (P : ℕ → Type 0) → ((a : ℕ) → a < u → P a) → ((a : ℕ) → a < count → P (u + a)) → (a : ℕ) → a < u + count → P a
@@ -105,18 +107,19 @@ module _ (N k nv nv′ from count u counter : ℕ) (places : List ℕ) (p w w′
   pub copy-formed : WellFormed N w′ nv′ (u + count)
   copy-formed =
       let v : WellFormed N w′ nv′ u = formed-up N more (formed-same N below old) in
-      record
-      { fits = back (λ a. headers ≤ w′ a → a + arityOf (w′ a) < u + count)
-          (λ a l h. let f = v .fits a l h in omega arith)
-          (λ a l h. let h′ = header-back a l h in let e = header-copied a l h′ in let f = formed .fits (from + a) (omega arith) h′ in
-            rw e (omega arith))
-      ; arguments = λ a i l. back (λ a. headers ≤ w′ a → i < arityOf (w′ a) → Reference N w′ nv′ a (w′ (a + suc i)))
-          (λ a l h j. v .arguments a i l h j)
-          (λ a l h j. let h′ = header-back a l h in let e = header-copied a l h′ in let f = formed .fits (from + a) (omega arith) h′ in
+      record {
+        fits = back (λ a. headers ≤ w′ a → a + arityOf (w′ a) < u + count)
+            (λ a l h. let f = v .fits a l h in omega arith)
+            (λ a l h. let h′ = header-back a l h in let e = header-copied a l h′ in let f = formed .fits (from + a) (omega arith) h′ in
+            rw e (omega arith));
+        arguments = λ a i l. back (λ a. headers ≤ w′ a → i < arityOf (w′ a) → Reference N w′ nv′ a (w′ (a + suc i)))
+            (λ a l h j. v .arguments a i l h j)
+            (λ a l h j. let h′ = header-back a l h in let e = header-copied a l h′ in let f = formed .fits (from + a) (omega arith) h′ in
             let j′ : i < arityOf (p (from + a)) = (rw e at j) in
             let e₂ : u + a + suc i ≡ u + (a + suc i) = omega arith in
             rw (e₂, copy (a + suc i) (omega arith)) (moved-reference a (p (from + (a + suc i))) (omega arith) (argument a i l h′ j′)))
-          a l }
+            a l;
+      }
 
   -- What the moved reference denotes.
   denotes-below : (n r : ℕ) → r < n → PartReference places counter nv′ from p count r → denote N w′ (move r) ≡ sub (numbered places counter) (denote patternRoom p r)
@@ -124,29 +127,29 @@ module _ (N k nv nv′ from count u counter : ℕ) (places : List ℕ) (p w w′
   denotes-below (suc n) r b h =
       ⊎-elim
       (λ l. let v = h .variable l in
-        rw (moved-variable places counter (patternRoom + from) (N + u) r l, denote-variable patternRoom p r l)
-          (denote-variable N w′ (counter + getD places r 0) (omega arith)))
+      rw (moved-variable places counter (patternRoom + from) (N + u) r l, denote-variable patternRoom p r l)
+      (denote-variable N w′ (counter + getD places r 0) (omega arith)))
       (λ l. let d = h .node l in let o = h .from-on l in let hd = h .header l in
-        let e = moved-node places counter (patternRoom + from) (N + u) r l (omega arith) in
-        let a : ℕ = r - (patternRoom + from) in
-        let j : r - patternRoom ≡ from + a = omega arith in
-        let i : N + u + a - N ≡ u + a = omega arith in
-        let hd′ : headers ≤ p (from + a) = rw j at hd in
-        let hc = header-copied a (omega arith) hd′ in
-        let f = formed .fits (from + a) (omega arith) hd′ in
-        let rr : Reference patternRoom p k (from + count) r = record
-          { variable = λ q. let z : ⊥ = omega arith in absurd z; node = λ q. omega arith; header = h .header } in
-        denote-node N w′ nv′ (u + count) copy-formed (move r) (moved-reference count r (omega arith) h) (omega arith)
-        ∙ rw (e, i, hc, denote-node patternRoom p k (from + count) formed r rr l, j)
-          (ap (app (symbolOf (p (from + a)))) (sub-args (numbered places counter) (denote patternRoom p) (denote N w′) p w′ (suc (from + a)) (suc (u + a)) (arityOf (p (from + a)))
-            (λ m q.
-              let x = argument a m (omega arith) hd′ q in
-              let e₂ : suc (u + a) + m ≡ u + (a + suc m) = omega arith in
-              let e₃ : suc (from + a) + m ≡ from + (a + suc m) = omega arith in
-              let x′ : PartReference places counter nv′ from p count (p (from + (a + suc m))) = record
-                { variable = x .variable; from-on = x .from-on; node = λ v. let y = x .node v in omega arith; header = x .header } in
-              let y : p (from + (a + suc m)) < r = ⊎-elim (λ v. omega arith) (λ v. let y = x .node v in omega arith) (low-or-high N (p (from + (a + suc m))) patternRoom) in
-              rw (e₂, e₃, copy (a + suc m) (omega arith)) (denotes-below n (p (from + (a + suc m))) (omega arith) x′)))))
+      let e = moved-node places counter (patternRoom + from) (N + u) r l (omega arith) in
+      let a : ℕ = r - (patternRoom + from) in
+      let j : r - patternRoom ≡ from + a = omega arith in
+      let i : N + u + a - N ≡ u + a = omega arith in
+      let hd′ : headers ≤ p (from + a) = rw j at hd in
+      let hc = header-copied a (omega arith) hd′ in
+      let f = formed .fits (from + a) (omega arith) hd′ in
+      let rr : Reference patternRoom p k (from + count) r = record
+      { variable = λ q. let z : ⊥ = omega arith in absurd z; node = λ q. omega arith; header = h .header } in
+      denote-node N w′ nv′ (u + count) copy-formed (move r) (moved-reference count r (omega arith) h) (omega arith)
+      ∙ rw (e, i, hc, denote-node patternRoom p k (from + count) formed r rr l, j)
+      (ap (app (symbolOf (p (from + a)))) (sub-args (numbered places counter) (denote patternRoom p) (denote N w′) p w′ (suc (from + a)) (suc (u + a)) (arityOf (p (from + a)))
+      (λ m q.
+      let x = argument a m (omega arith) hd′ q in
+      let e₂ : suc (u + a) + m ≡ u + (a + suc m) = omega arith in
+      let e₃ : suc (from + a) + m ≡ from + (a + suc m) = omega arith in
+      let x′ : PartReference places counter nv′ from p count (p (from + (a + suc m))) = record
+      { variable = x .variable; from-on = x .from-on; node = λ v. let y = x .node v in omega arith; header = x .header } in
+      let y : p (from + (a + suc m)) < r = ⊎-elim (λ v. omega arith) (λ v. let y = x .node v in omega arith) (low-or-high N (p (from + (a + suc m))) patternRoom) in
+      rw (e₂, e₃, copy (a + suc m) (omega arith)) (denotes-below n (p (from + (a + suc m))) (omega arith) x′)))))
       (low-or-high N r patternRoom)
 
   pub copy-denotes : (r : ℕ) → PartReference places counter nv′ from p count r → denote N w′ (move r) ≡ sub (numbered places counter) (denote patternRoom p r)
@@ -170,7 +173,7 @@ module _ (pattern : List ℕ) (from count : ℕ) (places : List ℕ) (room used 
       ∙ length-slice from (from + count) pattern part ∙ (let e : from + count - from ≡ count = omega arith in e)
 
   pub copied-at : (i : ℕ) → i < count
-    → getD (copied pattern from count places room used counter) i 0 ≡ moved places counter (patternRoom + from) (room + used) (getD pattern (from + i) 0)
+      → getD (copied pattern from count places room used counter) i 0 ≡ moved places counter (patternRoom + from) (room + used) (getD pattern (from + i) 0)
   copied-at i l =
       let n : length (slice from (from + count) pattern) ≡ from + count - from = length-slice from (from + count) pattern part in
       map-at (moved places counter (patternRoom + from) (room + used)) (slice from (from + count) pattern) i (omega arith)
@@ -203,13 +206,13 @@ module _ (pattern : List ℕ) (from count : ℕ) (places words : List ℕ) (room
 
   -- A reference of the part, moved, is a reference of the result, and denotes the instance.
   pub inst-reference : (r : ℕ) → PartReference places counter nv′ from (cells pattern) count r
-    → Reference room (cells result) nv′ (used + count) (moved places counter (patternRoom + from) (room + used) r)
+      → Reference room (cells result) nv′ (used + count) (moved places counter (patternRoom + from) (room + used) r)
   inst-reference r h =
       moved-reference room k nv nv′ from count used counter places (cells pattern) (cells words) (cells result) formed old more few (asked .small) (asked .low)
       inst-frame copy number (asked .inside) (asked .address) count r (omega arith) h
 
   pub inst-denotes : (r : ℕ) → PartReference places counter nv′ from (cells pattern) count r
-    → denote room (cells result) (moved places counter (patternRoom + from) (room + used) r) ≡ sub (numbered places counter) (denote patternRoom (cells pattern) r)
+      → denote room (cells result) (moved places counter (patternRoom + from) (room + used) r) ≡ sub (numbered places counter) (denote patternRoom (cells pattern) r)
   inst-denotes r h =
       copy-denotes room k nv nv′ from count used counter places (cells pattern) (cells words) (cells result) formed old more few (asked .small) (asked .low)
       inst-frame copy number (asked .inside) (asked .address) r h
@@ -221,16 +224,17 @@ module _ (pattern : List ℕ) (from count : ℕ) (places words : List ℕ) (room
 -- Where the table of places agrees with σ on the variables of t, the copy is the instance by σ: `head` and `body` of the theory, when the places are
 -- those of the meeting order.
 pub numbered-by : (places : List ℕ) (counter : ℕ) (σ : Subst) (t : Term) → ((x : ℕ) → mem x t ≡ true → σ x ≡ var (counter + getD places x 0))
-  → sub (numbered places counter) t ≡ sub σ t
+    → sub (numbered places counter) t ≡ sub σ t
 numbered-by places counter σ t h = sub-mem (numbered places counter) σ t (λ x m. sym (h x m))
 
 -- Each word of a part that can be copied can be moved.
 pub movable : (pattern : List ℕ) (from count : ℕ) (places words : List ℕ) (room used counter : ℕ) → Copyable pattern from count places words room used counter
-  → (i : ℕ) → i < count → Movable places counter (patternRoom + from) (room + used) (getD pattern (from + i) 0)
+    → (i : ℕ) → i < count → Movable places counter (patternRoom + from) (room + used) (getD pattern (from + i) 0)
 movable pattern from count places words room used counter h i l =
     let s = h .small in
-    record
-    { listed = h .listed i l
-    ; number = λ v. let n = h .number i l v in omega arith
-    ; inside = h .inside i l
-    ; address = λ v q. let a = h .address i l v q in let b = h .inside i l v q in omega arith }
+    record {
+      listed = h .listed i l;
+      number = λ v. let n = h .number i l v in omega arith;
+      inside = h .inside i l;
+      address = λ v q. let a = h .address i l v q in let b = h .inside i l v q in omega arith;
+    }

@@ -47,9 +47,9 @@ args-equal g w p q (suc n) h =
     let e : q + 0 ≡ q = omega arith in
     let h₀ : g (w (p + 0)) ≡ g (w (q + 0)) = h 0 (omega arith) in
     ap₂ cons (rw (d, e) at h₀) (args-equal g w (suc p) (suc q) n (λ i l.
-      let d′ : p + suc i ≡ suc p + i = omega arith in
-      let e′ : q + suc i ≡ suc q + i = omega arith in
-      let h₁ : g (w (p + suc i)) ≡ g (w (q + suc i)) = h (suc i) (omega arith) in rw (d′, e′) at h₁))
+    let d′ : p + suc i ≡ suc p + i = omega arith in
+    let e′ : q + suc i ≡ suc q + i = omega arith in
+    let h₁ : g (w (p + suc i)) ≡ g (w (q + suc i)) = h (suc i) (omega arith) in rw (d′, e′) at h₁))
 
 equal-args : (g : ℕ → Term) (w : Cells) (p q n : ℕ) → args g w p n ≡ args g w q n → (i : ℕ) → i < n → g (w (p + i)) ≡ g (w (q + i))
 equal-args g w p q zero e i l = absurd (not-suc-le-zero l)
@@ -82,15 +82,15 @@ module _ (N : ℕ) (w : Cells) (nv u : ℕ) (wf : WellFormed N w nv u) (a b : �
   pub nodes-equal : w a ≡ w b → ((i : ℕ) → i < arityOf (w a) → denote N w (w (a + suc i)) ≡ denote N w (w (b + suc i))) → denote N w (N + a) ≡ denote N w (N + b)
   nodes-equal e h =
       let t : args (denote N w) w (suc a) (arityOf (w a)) ≡ args (denote N w) w (suc b) (arityOf (w a)) = args-equal (denote N w) w (suc a) (suc b) (arityOf (w a)) (λ i l.
-        let d : a + suc i ≡ suc a + i = omega arith in
-        let d′ : b + suc i ≡ suc b + i = omega arith in
-        let h₁ : denote N w (w (a + suc i)) ≡ denote N w (w (b + suc i)) = h i l in rw (d, d′) at h₁) in
+      let d : a + suc i ≡ suc a + i = omega arith in
+      let d′ : b + suc i ≡ suc b + i = omega arith in
+      let h₁ : denote N w (w (a + suc i)) ≡ denote N w (w (b + suc i)) = h i l in rw (d, d′) at h₁) in
       node-at a first ∙ ap (app (symbolOf (w a))) t ∙ ap (λ (x : ℕ). app (symbolOf x) (args (denote N w) w (suc b) (arityOf x))) e ∙ sym (node-at b second)
 
   pub equal-headers : denote N w (N + a) ≡ denote N w (N + b) → w a ≡ w b
   equal-headers e =
       let k = app-inj (symbolOf (w a)) (symbolOf (w b)) (args (denote N w) w (suc a) (arityOf (w a))) (args (denote N w) w (suc b) (arityOf (w b)))
-            (sym (node-at a first) ∙ e ∙ node-at b second) in
+      (sym (node-at a first) ∙ e ∙ node-at b second) in
       let s = k .0 in
       let n : arityOf (w a) ≡ arityOf (w b) = sym (count-args (denote N w) w (suc a) (arityOf (w a))) ∙ ap count (k .1) ∙ count-args (denote N w) w (suc b) (arityOf (w b)) in
       let d : N + a - N ≡ a = omega arith in
@@ -103,7 +103,7 @@ module _ (N : ℕ) (w : Cells) (nv u : ℕ) (wf : WellFormed N w nv u) (a b : �
   equal-arguments e i l =
       let h = equal-headers e in
       let k = app-inj (symbolOf (w a)) (symbolOf (w b)) (args (denote N w) w (suc a) (arityOf (w a))) (args (denote N w) w (suc b) (arityOf (w b)))
-            (sym (node-at a first) ∙ e ∙ node-at b second) in
+      (sym (node-at a first) ∙ e ∙ node-at b second) in
       let t : args (denote N w) w (suc a) (arityOf (w a)) ≡ args (denote N w) w (suc b) (arityOf (w a)) = rw h (rw h at (k .1)) in
       let d : a + suc i ≡ suc a + i = omega arith in
       let d′ : b + suc i ≡ suc b + i = omega arith in

@@ -53,14 +53,14 @@ unfolding isArgument
 argument-reference p a r e =
     by-less r (p .room)
     (λ l q. let v : less r (p .variables) ≡ true = rw q at e in
-      let v′ = is-less r (p .variables) v in
-      record { variable = λ k. v′; node = λ k. let z : ⊥ = omega arith in absurd z; header = λ k. let z : ⊥ = omega arith in absurd z })
+    let v′ = is-less r (p .variables) v in
+    record { variable = λ k. v′; node = λ k. let z : ⊥ = omega arith in absurd z; header = λ k. let z : ⊥ = omega arith in absurd z })
     (λ l q.
-      let e₀ : (not (less r (p .room + p .from)) && (less r (p .room + a) && not (less (getD (p .words) (r - p .room) 0) headers))) ≡ true = rw q at e in
-      let e₁ = and-right (not (less r (p .room + p .from))) _ e₀ in
-      let n = is-less r (p .room + a) (and-left (less r (p .room + a)) _ e₁) in
-      let h = not-less (getD (p .words) (r - p .room) 0) headers (and-right (less r (p .room + a)) _ e₁) in
-      record { variable = λ k. let z : ⊥ = omega arith in absurd z; node = λ k. n; header = λ k. h })
+    let e₀ : (not (less r (p .room + p .from)) && (less r (p .room + a) && not (less (getD (p .words) (r - p .room) 0) headers))) ≡ true = rw q at e in
+    let e₁ = and-right (not (less r (p .room + p .from))) _ e₀ in
+    let n = is-less r (p .room + a) (and-left (less r (p .room + a)) _ e₁) in
+    let h = not-less (getD (p .words) (r - p .room) 0) headers (and-right (less r (p .room + a)) _ e₁) in
+    record { variable = λ k. let z : ⊥ = omega arith in absurd z; node = λ k. n; header = λ k. h })
 
 pub argument-from : (p : Place) (a r : ℕ) → isArgument p a r ≡ true → p .room ≤ r → p .room + p .from ≤ r
 unfolding isArgument
@@ -100,20 +100,24 @@ module _ (p : Place) (arities : List ℕ) (top : ℕ) (small : p .room + top ≤
 
   open-header : (at : ℕ) → WellFormed (p .room) (cells (p .words)) (p .variables) at → headers ≤ cells (p .words) at → Open (suc at) at (arityOf (cells (p .words) at))
   open-header at f h = record
-    { formed = f; header = h; count = omega arith; begun = omega arith; ok = λ i m. let z : ⊥ = omega arith in absurd z }
+      { formed = f; header = h; count = omega arith; begun = omega arith; ok = λ i m. let z : ⊥ = omega arith in absurd z }
 
   open-argument : (at node left : ℕ) → Open at node (suc left) → Reference (p .room) (cells (p .words)) (p .variables) node (cells (p .words) at) → Open (suc at) node left
   open-argument at node left h r =
       let c = h .count in
       let b = h .begun in
-      record
-      { formed = h .formed; header = h .header; count = omega arith; begun = omega arith
-      ; ok = λ i m. ⊎-elim (λ q. h .ok i q)
-          (λ q. let e : node + suc i ≡ at = omega arith in rw e r)
-          (low-or-high (p .room) (node + suc i) at) }
+      record {
+        formed = h .formed;
+        header = h .header;
+        count = omega arith;
+        begun = omega arith;
+        ok = λ i m. ⊎-elim (λ q. h .ok i q)
+            (λ q. let e : node + suc i ≡ at = omega arith in rw e r)
+            (low-or-high (p .room) (node + suc i) at);
+      }
 
   accepted : (rest : List ℕ) (at node left : ℕ) → ((i : ℕ) → i < length rest → getD rest i 0 ≡ cells (p .words) (at + i)) → at + length rest ≤ top → node ≤ at
-    → nodes p arities rest at node left ≡ true → Read at node left → WellFormed (p .room) (cells (p .words)) (p .variables) (at + length rest)
+      → nodes p arities rest at node left ≡ true → Read at node left → WellFormed (p .room) (cells (p .words)) (p .variables) (at + length rest)
   accepted [] at node zero s f b e h = let d : at + 0 ≡ at = omega arith in rw d h
   accepted [] at node (suc left) s f b e h = true-false e refl
   accepted (x ∷ rest) at node zero s f b e h =
@@ -124,8 +128,8 @@ module _ (p : Place) (arities : List ℕ) (top : ℕ) (small : p .room + top ≤
       let hd = header-accepted arities x (and-left (isHeader arities x) _ e) .high in
       let o : Open (suc at) at (arityOf x) = rw x₁ (open-header at h (rw x₁ at hd)) in
       rw d′ (accepted rest (suc at) at (arityOf x) (λ i l. let q : at + suc i ≡ suc at + i = omega arith in
-          let s₁ : getD rest i 0 ≡ cells (p .words) (at + suc i) = s (suc i) (omega arith) in rw q at s₁) (omega arith) (omega arith)
-        (and-right (isHeader arities x) _ e) (complete (suc at) at (arityOf x) (omega arith) o))
+      let s₁ : getD rest i 0 ≡ cells (p .words) (at + suc i) = s (suc i) (omega arith) in rw q at s₁) (omega arith) (omega arith)
+      (and-right (isHeader arities x) _ e) (complete (suc at) at (arityOf x) (omega arith) o))
   accepted (x ∷ rest) at node (suc left) s f b e h =
       let d : at + 0 ≡ at = omega arith in
       let d′ : at + suc (length rest) ≡ suc at + length rest = omega arith in
@@ -133,30 +137,32 @@ module _ (p : Place) (arities : List ℕ) (top : ℕ) (small : p .room + top ≤
       let x₁ : x ≡ cells (p .words) at = rw d at x₀ in
       let r = argument-reference p node x (and-left (isArgument p node x) _ e) in
       rw d′ (accepted rest (suc at) node left (λ i l. let q : at + suc i ≡ suc at + i = omega arith in
-          let s₁ : getD rest i 0 ≡ cells (p .words) (at + suc i) = s (suc i) (omega arith) in rw q at s₁) (omega arith) (omega arith)
-        (and-right (isArgument p node x) _ e) (complete (suc at) node left (omega arith) (open-argument at node left h (rw x₁ at r))))
+      let s₁ : getD rest i 0 ≡ cells (p .words) (at + suc i) = s (suc i) (omega arith) in rw q at s₁) (omega arith) (omega arith)
+      (and-right (isArgument p node x) _ e) (complete (suc at) node left (omega arith) (open-argument at node left h (rw x₁ at r))))
 
   argument-word : (a b r : ℕ) → a ≤ b → b ≤ top → isArgument p a r ≡ true → Word arities (p .room) (p .variables) (p .from) b r
   argument-word a b r l m e =
       let h = argument-reference p a r e in
-      record
-      { header = λ q. let n = h .node (omega arith) in let z : ⊥ = omega arith in absurd z
-      ; variable = h .variable
-      ; from-on = λ q k. argument-from p a r e q
-      ; below = λ q k. let n = h .node q in omega arith }
+      record {
+        header = λ q. let n = h .node (omega arith) in let z : ⊥ = omega arith in absurd z;
+        variable = h .variable;
+        from-on = λ q k. argument-from p a r e q;
+        below = λ q k. let n = h .node q in omega arith;
+      }
 
   header-word : (b h : ℕ) → p .room ≤ headers → isHeader arities h ≡ true → Word arities (p .room) (p .variables) (p .from) b h
   header-word b h m e =
       let k = header-accepted arities h e in
       let t = k .high in
-      record
-      { header = λ q. k
-      ; variable = λ q. let z : ⊥ = omega arith in absurd z
-      ; from-on = λ q l. let z : ⊥ = omega arith in absurd z
-      ; below = λ q l. let z : ⊥ = omega arith in absurd z }
+      record {
+        header = λ q. k;
+        variable = λ q. let z : ⊥ = omega arith in absurd z;
+        from-on = λ q l. let z : ⊥ = omega arith in absurd z;
+        below = λ q l. let z : ⊥ = omega arith in absurd z;
+      }
 
   accepted-words : (rest : List ℕ) (at node left : ℕ) → at + length rest ≤ top → node ≤ at → nodes p arities rest at node left ≡ true
-    → (i : ℕ) → i < length rest → Word arities (p .room) (p .variables) (p .from) (at + i) (getD rest i 0)
+      → (i : ℕ) → i < length rest → Word arities (p .room) (p .variables) (p .from) (at + i) (getD rest i 0)
   accepted-words [] at node left f b e i l = absurd (not-suc-le-zero l)
   accepted-words (x ∷ rest) at node zero f b e zero l = header-word (at + 0) x (omega arith) (and-left (isHeader arities x) _ e)
   accepted-words (x ∷ rest) at node zero f b e (suc i) l =
@@ -194,7 +200,7 @@ module _ (words : List ℕ) (from to room variables : ℕ) (arities : List ℕ) 
 
 -- Accepted from the first word on they are well formed.
 pub all-formed : (words : List ℕ) (used room variables : ℕ) (arities : List ℕ) → used ≤ length words → room + used ≤ headers
-  → inForm words 0 used room variables arities ≡ true → WellFormed room (cells words) variables used
+    → inForm words 0 used room variables arities ≡ true → WellFormed room (cells words) variables used
 all-formed words used room variables arities long small accept =
     form-formed words 0 used room variables arities (omega arith) long small accept (record
-      { fits = λ a l. let z : ⊥ = omega arith in absurd z; arguments = λ a i l. let z : ⊥ = omega arith in absurd z })
+    { fits = λ a l. let z : ⊥ = omega arith in absurd z; arguments = λ a i l. let z : ⊥ = omega arith in absurd z })

@@ -5,6 +5,7 @@ pub mod Copies
 pub mod CopyLaws
 pub mod Form
 pub mod FormLaws
+pub mod PartLaws
 pub mod Equality
 pub mod EqualityLaws
 pub mod Links

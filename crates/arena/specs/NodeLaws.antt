@@ -30,31 +30,44 @@ pub sets-past : (vs l : List ℕ) (i k : ℕ) → i + length vs ≤ k → getD (
 sets-past [] l i k b = refl
 sets-past (a ∷ vs) l i k b = sets-past vs (set l i a) (suc i) k (omega arith) ∙ getD-set-other l i k a 0 (λ e. omega arith)
 
+-- The header of a symbol with its arity.
+pub record HeaderOf (f n h : ℕ) : Type 0 where
+  pub high : headers ≤ h
+  pub symbol : symbolOf h ≡ f
+  pub arity : arityOf h ≡ n
+
+pub header-of : (f n : ℕ) → n < 32 → HeaderOf f n (headers + 32 * f + n)
+header-of f n l = record { high = omega arith; symbol = omega arith; arity = omega arith }
+
 module _ (N : ℕ) where
   -- What agrees below u is well formed alike.
   pub reference-same : {w w′ : Cells} {nv u r : ℕ} → Same N w w′ u → Reference N w nv u r → Reference N w′ nv u r
-  reference-same {w} {w′} {nv} {u} {r} s h = record
-    { variable = h .variable; node = h .node
-    ; header = λ l. let n = h .node l in let b = h .header l in let e = s (r - N) (omega arith) in omega arith }
+  reference-same {w} {w′} {nv} {u} {r} s h = record {
+    variable = h .variable;
+    node = h .node;
+    header = λ l. let n = h .node l in let b = h .header l in let e = s (r - N) (omega arith) in omega arith;
+  }
 
   pub formed-same : {w w′ : Cells} {nv u : ℕ} → Same N w w′ u → WellFormed N w nv u → WellFormed N w′ nv u
-  formed-same {w} {w′} {nv} {u} s h = record
-    { fits = λ a l b. let e = s a l in
+  formed-same {w} {w′} {nv} {u} s h = record {
+    fits = λ a l b. let e = s a l in
         let b₀ : headers ≤ w a = omega arith in
-        let f : a + arityOf (w a) < u = h .fits a l b₀ in rw e at f
-    ; arguments = λ a i l b j. let e = s a l in
+        let f : a + arityOf (w a) < u = h .fits a l b₀ in rw e at f;
+    arguments = λ a i l b j. let e = s a l in
         let b₀ : headers ≤ w a = omega arith in
         let j₀ : i < arityOf (w a) = rw e j in
         let f : a + arityOf (w a) < u = h .fits a l b₀ in
         let e′ : w (a + suc i) ≡ w′ (a + suc i) = s (a + suc i) (omega arith) in
         let r : Reference N w nv a (w (a + suc i)) = h .arguments a i l b₀ j₀ in
         let r′ : Reference N w′ nv a (w (a + suc i)) = reference-same (λ k m. s k (omega arith)) r in
-        rw e′ at r′ }
+        rw e′ at r′;
+  }
 
   pub formed-up : {w : Cells} {nv nv′ u : ℕ} → nv ≤ nv′ → WellFormed N w nv u → WellFormed N w nv′ u
-  formed-up m h = record
-    { fits = h .fits
-    ; arguments = λ a i l b j. reference-up N m (omega arith) (h .arguments a i l b j) }
+  formed-up m h = record {
+    fits = h .fits;
+    arguments = λ a i l b j. reference-up N m (omega arith) (h .arguments a i l b j);
+  }
 
   -- A node behind well formed words, its arguments references to them.
   module _ (w : Cells) (nv u : ℕ) (small : N + u ≤ headers) (wf : WellFormed N w nv u) (header : headers ≤ w u)
@@ -68,18 +81,19 @@ module _ (N : ℕ) where
     which : (a : ℕ) → a < u + suc (arityOf (w u)) → headers ≤ w a → (a < u) ⊎ (a ≡ u)
     which a l b = ⊎-elim inl
         (λ p. ⊎-elim
-          (λ q. let z : ⊥ = (let e : u + suc (a - suc u) ≡ a = omega arith in
-            let k : w (u + suc (a - suc u)) < headers = low (a - suc u) (omega arith) in
-            let k′ : w a < headers = rw e at k in omega arith) in absurd z)
-          (λ q. let e : a ≡ u = omega arith in inr e)
-          (low-or-high N u a))
+        (λ q. let z : ⊥ = (let e : u + suc (a - suc u) ≡ a = omega arith in
+        let k : w (u + suc (a - suc u)) < headers = low (a - suc u) (omega arith) in
+        let k′ : w a < headers = rw e at k in omega arith) in absurd z)
+        (λ q. let e : a ≡ u = omega arith in inr e)
+        (low-or-high N u a))
         (low-or-high N a u)
 
     pub formed-node : WellFormed N w nv (u + suc (arityOf (w u)))
-    formed-node = record
-      { fits = λ a l b. ⊎-elim (λ p. let f = wf .fits a p b in omega arith) (λ e. rw e (omega arith)) (which a l b)
-      ; arguments = λ a i l b j. ⊎-elim (λ p. wf .arguments a i p b j)
-          (λ e. let j′ : i < arityOf (w u) = rw e at j in rw e (ok i j′)) (which a l b) }
+    formed-node = record {
+      fits = λ a l b. ⊎-elim (λ p. let f = wf .fits a p b in omega arith) (λ e. rw e (omega arith)) (which a l b);
+      arguments = λ a i l b j. ⊎-elim (λ p. wf .arguments a i p b j)
+          (λ e. let j′ : i < arityOf (w u) = rw e at j in rw e (ok i j′)) (which a l b);
+    }
 
   -- The terms of references that stand behind one another in the words.
   pub args-list : (g : ℕ → Term) (w : Cells) (p : ℕ) (xs : List ℕ) → ((i : ℕ) → i < length xs → w (p + i) ≡ getD xs i 0) → args g w p (length xs) ≡ termsOf g xs
@@ -88,7 +102,7 @@ module _ (N : ℕ) where
       let e : p + 0 ≡ p = omega arith in
       let h₀ : w (p + 0) ≡ x = h 0 (omega arith) in
       ap₂ cons (ap g (rw e at h₀)) (args-list g w (suc p) xs (λ i l. let d : p + suc i ≡ suc p + i = omega arith in
-        let h₁ : w (p + suc i) ≡ getD xs i 0 = h (suc i) (omega arith) in rw d at h₁))
+      let h₁ : w (p + suc i) ≡ getD xs i 0 = h (suc i) (omega arith) in rw d at h₁))
 
   pub terms-same : (g g′ : ℕ → Term) (xs : List ℕ) → ((i : ℕ) → i < length xs → g (getD xs i 0) ≡ g′ (getD xs i 0)) → termsOf g xs ≡ termsOf g′ xs
   terms-same g g′ [] h = refl
@@ -114,7 +128,7 @@ module _ (N : ℕ) where
     pub push-formed : WellFormed N (cells (sets w u (h ∷ xs))) nv (u + suc (length xs))
     push-formed =
         let f = formed-node (cells (sets w u (h ∷ xs))) nv u small (formed-same push-frame wf) (rw push-header header)
-              (λ i l. let k : i < length xs = rw push-size at l in rw (push-argument i k) (reference-same push-frame (ok i k))) in
+        (λ i l. let k : i < length xs = rw push-size at l in rw (push-argument i k) (reference-same push-frame (ok i k))) in
         rw push-size at f
 
     -- An earlier term stays.
@@ -124,14 +138,14 @@ module _ (N : ℕ) where
     -- The new reference.
     pub push-reference : Reference N (cells (sets w u (h ∷ xs))) nv (u + suc (length xs)) (N + u)
     push-reference = let e : N + u - N ≡ u = omega arith in record
-      { variable = λ l. let z : ⊥ = omega arith in absurd z; node = λ l. omega arith; header = λ l. rw (e, push-header) header }
+        { variable = λ l. let z : ⊥ = omega arith in absurd z; node = λ l. omega arith; header = λ l. rw (e, push-header) header }
 
     pub push-denotes : denote N (cells (sets w u (h ∷ xs))) (N + u) ≡ app (symbolOf h) (termsOf (denote N (cells w)) xs)
     push-denotes =
         let w′ : List ℕ = sets w u (h ∷ xs) in
         let e : N + u - N ≡ u = omega arith in
         let t : args (denote N (cells w′)) (cells w′) (suc u) (length xs) ≡ termsOf (denote N (cells w)) xs =
-          args-list (denote N (cells w′)) (cells w′) (suc u) xs (λ i l. let d : u + suc i ≡ suc u + i = omega arith in rw d at (push-argument i l))
-          ∙ sym (terms-same (denote N (cells w)) (denote N (cells w′)) xs (λ i l. push-old (getD xs i 0) (ok i l))) in
+        args-list (denote N (cells w′)) (cells w′) (suc u) xs (λ i l. let d : u + suc i ≡ suc u + i = omega arith in rw d at (push-argument i l))
+        ∙ sym (terms-same (denote N (cells w)) (denote N (cells w′)) xs (λ i l. push-old (getD xs i 0) (ok i l))) in
         denote-node N (cells w′) nv (u + suc (length xs)) push-formed (N + u) push-reference (omega arith)
         ∙ rw (e, push-header, arity) (ap (app (symbolOf h)) t)

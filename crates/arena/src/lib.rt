@@ -1,21 +1,32 @@
-// Terms as words in lent slices. A node is a header, which holds its symbol and its arity, and then one reference for each argument; specs/Cells says
-// what a reference denotes.
+// Arena: terms as words in lent slices. A node is a header, which holds its symbol and its arity, and then one reference for each argument; specs/Cells
+// says what a reference denotes, and docs/STORAGE.md how much room it takes.
+//
+// All functions here serve the crates above, which count words and variables before they write: so they ask for room.
+mod format; // the numbers of the format
+mod copies; // one word of a copy
+mod form; // the tests on one word
+mod links; // nodes that have to denote the same term
+
+pub use copies::moved_word;
+use form::is_argument;
+use form::is_header;
+pub use format::HEADERS;
+pub use format::INPUTS;
+pub use format::PATTERN_ROOM;
+pub use format::SYMBOL_STEP;
+use links::greatest;
+use links::link;
+use links::past;
+use links::settle;
 ghost use mathlib.Core.Path.{_≡_};
 ghost use mathlib.Core.List.{_∷_, _++_};
-ghost use Prim.Native.Nat.{ℕ, suc, _+_, _-_, _<_, _≤_};
-ghost use Rattle.arena.specs.Cells.{headers, cells};
+ghost use Prim.Native.Nat.{ℕ, _+_, _-_, _≤_};
 ghost use lib.ListN.{length, take, replicate};
 ghost use lib.Seq.{sets};
-ghost use Rattle.arena.specs.Copies.{moved, copied, Movable, Copyable};
-ghost use Rattle.arena.specs.Links.{least, greatest, Linkable, Arguments, Joined};
-ghost use Rattle.arena.specs.Form.{isHeader, isArgument, inForm, Place};
-
-// The room for variables in patterns: a rule has at most 64 (document 01, refusal 28).
-const PATTERN_ROOM: u32 = 64;
-// The least header; references are below it.
-const HEADERS: u32 = 1048576;
-// The most inputs that a symbol has (document 01, refusal 28).
-const INPUTS: u32 = 16;
+ghost use Rattle.arena.specs.Cells.{headers, cells};
+ghost use Rattle.arena.specs.Copies.{copied, Copyable};
+ghost use Rattle.arena.specs.Form.{inForm};
+ghost use Rattle.arena.specs.Links.{Ready, Compared};
 
 // Writes a node, its header and its arguments, from the address `used` on.
 pub fn push_node(words: &mut [u32], used: u32, header: u32, arguments: &[u32])
@@ -33,23 +44,17 @@ pub fn push_node(words: &mut [u32], used: u32, header: u32, arguments: &[u32])
     }
 }
 
-// A pattern's word, moved: a variable by the table of places, an address by a constant.
-fn moved_word(word: u32, places: &[u32], counter: u32, first: u32, base: u32) -> u32
-    // No sum is too large.
-    requires { ⌜ Movable (now places) counter first base word ⌝ }
-    ensures { λ r. ⌜ r ≡ moved (now (places .entry)) counter first base word ⌝ }
-{
-    if word < PATTERN_ROOM {
-        return counter + places[word as usize];
-    }
-    if word < HEADERS {
-        return base + (word - first);
-    }
-    word
-}
-
 // Copies a rule's words, `count` words of the pattern from the address `from` on, to the address `used`, with new variables from `counter` on.
-pub fn inst(pattern: &[u32], from: u32, count: u32, places: &[u32], words: &mut [u32], room: u32, used: u32, counter: u32)
+pub fn inst(
+    pattern: &[u32],
+    from: u32,
+    count: u32,
+    places: &[u32],
+    words: &mut [u32],
+    room: u32,
+    used: u32,
+    counter: u32,
+)
     // The caller counts words and variables before it copies, and a signature in form has rules whose words refer to nothing outside.
     requires { ⌜ Copyable (now pattern) from count (now places) (now words) room used counter ⌝ }
     ensures { λ _. ⌜ now (words .exit) ≡ sets (now (words .entry)) used (copied (now (pattern .entry)) from count (now (places .entry)) room used counter) ⌝ }
@@ -66,42 +71,15 @@ pub fn inst(pattern: &[u32], from: u32, count: u32, places: &[u32], words: &mut 
     }
 }
 
-// Whether a word is the header of a known symbol, with that symbol's arity.
-fn is_header(arities: &[u32], word: u32) -> bool
-    ensures { λ r. ⌜ r ≡ isHeader (now (arities .entry)) word ⌝ }
-{
-    if word < HEADERS {
-        return false;
-    }
-    let symbol = ((word - HEADERS) / 32) as usize;
-    if symbol < arities.len() {
-        if word % 32 == arities[symbol] {
-            return word % 32 <= INPUTS;
-        }
-    }
-    false
-}
-
-// Whether a word may be an argument of the node at the address `node`.
-fn is_argument(words: &[u32], from: u32, room: u32, variables: u32, node: u32, word: u32) -> bool
-    // The pass over the words has come to `node`, and all references are below the headers.
-    requires { ⌜ (from ≤ node) × (node ≤ length (now words)) × (room + node ≤ headers) ⌝ }
-    ensures { λ r. ⌜ r ≡ isArgument (record { words = now (words .entry); room = room; variables = variables; from = from }) node word ⌝ }
-{
-    if word < room {
-        return word < variables;
-    }
-    if word < room + from {
-        return false;
-    }
-    if word < room + node {
-        return words[(word - room) as usize] >= HEADERS;
-    }
-    false
-}
-
 // Whether the words from the address `from` up to `to` are in form: nodes one after another, whatever they hold.
-pub fn check_words(words: &[u32], from: u32, to: u32, room: u32, variables: u32, arities: &[u32]) -> bool
+pub fn check_words(
+    words: &[u32],
+    from: u32,
+    to: u32,
+    room: u32,
+    variables: u32,
+    arities: &[u32],
+) -> bool
     // The part lies in the slice, and all references to it are below the headers: both follow from the limits, which the caller tests first.
     requires { ⌜ (from ≤ to) × (to ≤ length (now words)) × (room + to ≤ headers) ⌝ }
     ensures { λ r. ⌜ r ≡ inForm (now (words .entry)) from to room variables (now (arities .entry)) ⌝ }
@@ -116,7 +94,7 @@ pub fn check_words(words: &[u32], from: u32, to: u32, room: u32, variables: u32,
                 return false;
             }
             node = at;
-            left = word % 32;
+            left = word % SYMBOL_STEP;
             at += 1;
             continue;
         }
@@ -140,69 +118,25 @@ pub fn clear(words: &mut [u32], from: u32)
     }
 }
 
-// The lesser of two references.
-fn least(a: u32, b: u32) -> u32
-    ensures { λ r. ⌜ r ≡ least a b ⌝ }
+// Whether two references denote the same term, in one pass from the greater one's address down; the links are zero before and after.
+pub fn equal(
+    words: &[u32],
+    links: &mut [u32],
+    room: u32,
+    variables: u32,
+    used: u32,
+    a: u32,
+    b: u32,
+) -> bool
+    // The words and both references are in form, and there is a link for each address in use.
+    requires { ⌜ Ready room (now words) (now links) variables used a b ⌝ }
+    ensures { λ r. ⌜ Compared room (cells (now (words .entry))) (now (links .entry)) (now (links .exit)) a b r ⌝ }
 {
-    if a < b {
-        return a;
+    let mut same = link(links, room, a, b);
+    let mut at = past(room, greatest(a, b));
+    while at > 0 {
+        at -= 1;
+        same = settle(words, links, room, variables, used, at, same);
     }
-    b
-}
-
-// The greater of two references.
-fn greatest(a: u32, b: u32) -> u32
-    ensures { λ r. ⌜ r ≡ greatest a b ⌝ }
-{
-    if a < b {
-        return b;
-    }
-    a
-}
-
-// Links two references, which have to denote the same term; false where one is a variable and the other is not the same.
-fn link(links: &mut [u32], room: u32, a: u32, b: u32) -> bool
-    // The links are those of an earlier step, and there is one for each node.
-    requires { ⌜ Linkable room (now links) a b ⌝ }
-    ensures { λ r. ⌜ Joined room (now (links .entry)) (now (links .exit)) 1 (λ _. a) (λ _. b) r ⌝ }
-{
-    let mut p = a;
-    let mut q = b;
-    while p != q {
-        let high = greatest(p, q);
-        let low = least(p, q);
-        if low < room {
-            return false;
-        }
-        let at = (high - room) as usize;
-        let next = links[at];
-        if next == 0 {
-            links[at] = low + 1;
-            return true;
-        }
-        // The links of one class are shortened on the way, so that later ones take few steps.
-        links[at] = least(low, next - 1) + 1;
-        p = next - 1;
-        q = low;
-    }
-    true
-}
-
-// Links the first `count` arguments of the nodes at the addresses a and b, each with its like.
-fn link_arguments(words: &[u32], links: &mut [u32], room: u32, a: u32, b: u32, count: u32) -> bool
-    // Both nodes are in form.
-    requires { ⌜ Arguments room (now words) (now links) a b count ⌝ }
-    ensures { λ r. ⌜ Joined room (now (links .entry)) (now (links .exit)) count (λ i. cells (now (words .entry)) (a + suc i)) (λ i. cells (now (words .entry)) (b + suc i)) r ⌝ }
-{
-    let left = a as usize + 1;
-    let right = b as usize + 1;
-    let end = count as usize;
-    let mut i = 0;
-    while i < end {
-        if !link(links, room, words[left + i], words[right + i]) {
-            return false;
-        }
-        i += 1;
-    }
-    true
+    same
 }

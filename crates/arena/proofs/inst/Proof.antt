@@ -24,9 +24,17 @@ add-base : tie.Need-add-base Inv-loop μ-loop
 add-base c = search needs
 
 loop-holds : tie.Need-loop-holds Inv-loop μ-loop
-loop-holds c =
-    (refl, refl, refl, refl, refl, refl, search needs, (let e : (c .before .before .before .args .used) + 0 ≡ (c .before .before .before .args .used) = omega arith in
-    rw e))
+loop-holds c = (
+  refl,
+  refl,
+  refl,
+  refl,
+  refl,
+  refl,
+  search needs,
+  (let e : (c .before .before .before .args .used) + 0 ≡ (c .before .before .before .args .used) = omega arith in
+      rw e),
+)
 
 add-moved-word : tie.Need-add-moved-word Inv-loop μ-loop
 add-moved-word c = search needs
@@ -78,7 +86,7 @@ returns c =
     let loop = c .before .loop in
     let n = copied-length (args .pattern .now) (args .from) (args .count) (args .places .now) (args .room) (args .used) (args .counter) (pre .part) in
     sym (write-end (loop .words) (copied (args .pattern .now) (args .from) (args .count) (args .places .now) (args .room) (args .used) (args .counter)) (args .used) (loop .i) (omega arith))
-        ∙ (loop .inv .7)
+    ∙ (loop .inv .7)
 
 pub inst-spec : {M : Type 1} → statement M
 inst-spec =

@@ -2,8 +2,8 @@
 use mathlib.Core.Path.{_≡_, sym}
 use Rattle.arena.proofs.Checking.{header-low, header-unknown, header-other, header-own}
 use borrow.Author.Needs.{needs}
-use Rattle.arena.proofs.is_header.Statement.{statement}
-use Rattle.arena.proofs.is_header.Tie as tie
+use Rattle.arena.proofs.form.is_header.Statement.{statement}
+use Rattle.arena.proofs.form.is_header.Tie as tie
 
 returns : tie.Need-returns
 returns c = sym (header-low (c .before .args .arities .now) (c .before .args .word) (c .if1 .taken))

@@ -7,8 +7,8 @@ use borrow.Author.Tests.{not-true, not-false}
 use Rattle.arena.proofs.Linking.{Pairs, pair-linkable, pair-next, pair-stop, joined-none}
 use borrow.Author.Needs.{needs}
 use native.Mathlib.Omega.{arith}
-use Rattle.arena.proofs.link_arguments.Statement.{statement}
-use Rattle.arena.proofs.link_arguments.Tie as tie
+use Rattle.arena.proofs.links.link_arguments.Statement.{statement}
+use Rattle.arena.proofs.links.link_arguments.Tie as tie
 
 abbrev Inv-loop : tie.InvT-loop
 Inv-loop words links₀ room a b count left right end i₀ links i = (left ≡ a + 1) × (right ≡ b + 1) × (end ≡ count) × (i ≤ count) × Pairs room words links₀ a b count links i true

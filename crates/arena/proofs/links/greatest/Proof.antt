@@ -1,7 +1,7 @@
 -- `greatest` meets its contract.
 use Rattle.arena.proofs.Linking.{greatest-first, greatest-second}
-use Rattle.arena.proofs.greatest.Statement.{statement}
-use Rattle.arena.proofs.greatest.Tie as tie
+use Rattle.arena.proofs.links.greatest.Statement.{statement}
+use Rattle.arena.proofs.links.greatest.Tie as tie
 
 returns : tie.Need-returns
 returns c = greatest-second (c .before .args .a) (c .before .args .b) (c .if1 .taken)

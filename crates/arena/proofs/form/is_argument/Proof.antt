@@ -3,8 +3,8 @@ use mathlib.Core.Path.{_≡_, sym}
 use Rattle.arena.specs.Form.{Place}
 use Rattle.arena.proofs.Checking.{argument-variable, argument-outside, argument-node, argument-above}
 use borrow.Author.Needs.{needs}
-use Rattle.arena.proofs.is_argument.Statement.{statement}
-use Rattle.arena.proofs.is_argument.Tie as tie
+use Rattle.arena.proofs.form.is_argument.Statement.{statement}
+use Rattle.arena.proofs.form.is_argument.Tie as tie
 
 returns : tie.Need-returns
 returns c =

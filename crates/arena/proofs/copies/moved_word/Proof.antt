@@ -5,8 +5,8 @@ use lib.ListN.{length}
 use Rattle.arena.specs.CopyLaws.{moved-variable, moved-node, moved-header}
 use native.Mathlib.Omega.{arith}
 use borrow.Author.Needs.{needs}
-use Rattle.arena.proofs.moved_word.Statement.{statement}
-use Rattle.arena.proofs.moved_word.Tie as tie
+use Rattle.arena.proofs.copies.moved_word.Statement.{statement}
+use Rattle.arena.proofs.copies.moved_word.Tie as tie
 
 mul-result : tie.Need-mul-result
 mul-result c = search needs

@@ -5,8 +5,8 @@ use lib.ListN.{length, length-set}
 use Rattle.arena.proofs.Linking.{Linking, link-start, link-order, link-in, link-same, link-clash, link-new, link-step, link-falls, order-sum, least-low}
 use borrow.Author.Needs.{needs}
 use native.Mathlib.Omega.{arith}
-use Rattle.arena.proofs.link.Statement.{statement}
-use Rattle.arena.proofs.link.Tie as tie
+use Rattle.arena.proofs.links.link.Statement.{statement}
+use Rattle.arena.proofs.links.link.Tie as tie
 
 abbrev Inv-loop : tie.InvT-loop
 Inv-loop links₀ room a b p₀ q₀ links p q = Linking room links₀ a b links p q

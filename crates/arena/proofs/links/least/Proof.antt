@@ -1,7 +1,7 @@
 -- `least` meets its contract.
 use Rattle.arena.proofs.Linking.{least-first, least-second}
-use Rattle.arena.proofs.least.Statement.{statement}
-use Rattle.arena.proofs.least.Tie as tie
+use Rattle.arena.proofs.links.least.Statement.{statement}
+use Rattle.arena.proofs.links.least.Tie as tie
 
 returns : tie.Need-returns
 returns c = least-first (c .before .args .a) (c .before .args .b) (c .if1 .taken)
