@@ -204,6 +204,13 @@ module _ (pattern : List ℕ) (from count : ℕ) (places words : List ℕ) (room
       copy-formed room k nv nv′ from count used counter places (cells pattern) (cells words) (cells result) formed old more few (asked .small) (asked .low)
       inst-frame copy number (asked .inside) (asked .address)
 
+  -- A reference of the part's first n words, moved, is a reference of as many words more.
+  pub inst-reference-below : (n r : ℕ) → n ≤ count → PartReference places counter nv′ from (cells pattern) n r
+      → Reference room (cells result) nv′ (used + n) (moved places counter (patternRoom + from) (room + used) r)
+  inst-reference-below n r b h =
+      moved-reference room k nv nv′ from count used counter places (cells pattern) (cells words) (cells result) formed old more few (asked .small) (asked .low)
+      inst-frame copy number (asked .inside) (asked .address) n r b h
+
   -- A reference of the part, moved, is a reference of the result, and denotes the instance.
   pub inst-reference : (r : ℕ) → PartReference places counter nv′ from (cells pattern) count r
       → Reference room (cells result) nv′ (used + count) (moved places counter (patternRoom + from) (room + used) r)
