@@ -1,17 +1,17 @@
 -- Linking two references: the loop's invariant, its step, and its ways out.
-use Prim.Native.Nat.{ℕ, zero, suc, _+_, _-_, _≤_, _<_}
+use Prim.Native.Nat.{ℕ, suc, _+_, _-_, _≤_, _<_}
 use native.Mathlib.Omega.{arith}
 use mathlib.Core.Path.{_≡_, refl, sym, ap, _∙_, subst}
-use mathlib.Core.Bool.{Bool, true, false, cond}
-use mathlib.Core.Logic.{_⊎_, inl, inr, ⊎-elim, _≢_}
+use mathlib.Core.Bool.{Bool, true, false}
+use mathlib.Core.Logic.{_≢_}
 use mathlib.Core.List.{List}
 use lib.ListN.{length, getD, set, length-set}
 use lib.Seq.{getD-set-same, getD-set-other}
 use borrow.Author.Count.{below-more}
-use Rattle.terms.specs.Numbers.{less, less-yes, less-no, by-less, by-same, true-false}
+use Rattle.terms.specs.Numbers.{less-yes, less-no, by-less, by-same, true-false}
 use Rattle.terms.specs.Term.{Term}
-use Rattle.arena.specs.Cells.{Cells, cells}
-use Rattle.arena.specs.Links.{least, greatest, Descending, Agrees, Each, Apart, Joined, Linkable, Arguments}
+use Rattle.arena.specs.Cells.{cells}
+use Rattle.arena.specs.Links.{least, greatest, Descending, Agrees, Each, Joined, Linkable, Arguments}
 
 -- The lesser is one of the two, and at most the other; likewise the greater.
 pub least-is : (P : ℕ → Type 0) (a b : ℕ) → (a < b → P a) → (b ≤ a → P b) → P (least a b)
@@ -20,6 +20,9 @@ least-is P a b f g = by-less a b (λ l e. rw e (f l)) (λ l e. rw e (g l))
 
 pub least-low : (a b v : ℕ) → v ≡ least a b → v ≤ a
 least-low a b v e = rw e (least-is (λ x. x ≤ a) a b (λ l. omega arith) (λ l. l))
+
+pub least-high : (a b v : ℕ) → v ≡ least a b → v ≤ b
+least-high a b v e = rw e (least-is (λ x. x ≤ b) a b (λ l. omega arith) (λ l. omega arith))
 
 pub ordered : (P : ℕ → ℕ → Type 0) (a b : ℕ) → (a < b → P b a) → (b ≤ a → P a b) → P (greatest a b) (least a b)
 unfolding least greatest
@@ -64,6 +67,7 @@ module _ (room : ℕ) (L₀ : List ℕ) (a b : ℕ) where
     pub form : Descending room (cells L)
     pub bound : (t : ℕ) → a < t → b < t → (p < t) × (q < t)
     pub above : (t : ℕ) → a < t → b < t → (i : ℕ) → t ≤ room + i → cells L i ≡ cells L₀ i
+    pub floor : (l : ℕ) → ((i : ℕ) → i < l → cells L₀ i ≡ 0) → (i : ℕ) → i < l → cells L i ≡ 0
     pub good : (test : ℕ → Bool) → Each room test (cells L₀) → test a ≡ true → test b ≡ true → Each room test (cells L) × (test p ≡ true) × (test q ≡ true)
     pub back : (g : ℕ → Term) → Agrees room g (cells L) → g p ≡ g q → Agrees room g (cells L₀) × (g a ≡ g b)
     pub forth : (g : ℕ → Term) → Agrees room g (cells L₀) → g a ≡ g b → Agrees room g (cells L) × (g p ≡ g q)
@@ -74,6 +78,7 @@ module _ (room : ℕ) (L₀ : List ℕ) (a b : ℕ) where
     form = h .form;
     bound = λ t u v. let k = h .bound t u v in (k .1, k .0);
     above = h .above;
+    floor = h .floor;
     good = λ test e u v. let k = h .good test e u v in (k .0, k .2, k .1);
     back = λ g u v. h .back g u (sym v);
     forth = λ g u v. let k = h .forth g u v in (k .0, sym (k .1));
@@ -87,31 +92,33 @@ module _ (room : ℕ) (L₀ : List ℕ) (a b : ℕ) where
   link-in L p q h k = let t = h .bound (room + length L₀) (k .left) (k .right) in let l = h .long in omega arith
 
   -- Ways out.
-  pub link-same : (L : List ℕ) (p q : ℕ) → Linking L p q → p ≡ q → Joined room L₀ L 1 (λ _. a) (λ _. b) true
-  link-same L p q h e = record {
+  pub link-same : (L : List ℕ) (p q low : ℕ) → Linking L p q → p ≡ q → Joined room L₀ L 1 (λ _. a) (λ _. b) low low true
+  link-same L p q low h e = record {
     long = h .long;
     form = h .form;
     above = λ t k. h .above t (k 0 (omega arith) .0) (k 0 (omega arith) .1);
+    floor = h .floor low;
     good = λ test u k. h .good test u (k 0 (omega arith) .0) (k 0 (omega arith) .1) .0;
     back = λ _ g u. let k = h .back g u (ap g e) in (k .0, λ i l. k .1);
     forth = λ _ g u k. h .forth g u (k 0 (omega arith)) .0;
     no = λ f. true-false refl f;
   }
 
-  pub link-clash : (L : List ℕ) (p q : ℕ) → Linking L p q → q < p → q < room → Joined room L₀ L 1 (λ _. a) (λ _. b) false
-  link-clash L p q h l m = record {
+  pub link-clash : (L : List ℕ) (p q low : ℕ) → Linking L p q → q < p → q < room → Joined room L₀ L 1 (λ _. a) (λ _. b) low low false
+  link-clash L p q low h l m = record {
     long = h .long;
     form = h .form;
     above = λ t k. h .above t (k 0 (omega arith) .0) (k 0 (omega arith) .1);
+    floor = h .floor low;
     good = λ test u k. h .good test u (k 0 (omega arith) .0) (k 0 (omega arith) .1) .0;
     back = λ f. true-false f refl;
     forth = λ f. true-false f refl;
     no = λ _ g s u k. s p q m l (h .forth g u (k 0 (omega arith)) .1);
   }
 
-  pub link-new : (L : List ℕ) (p q : ℕ) → Linking L p q → q < p → room ≤ q → p < room + length L → cells L (p - room) ≡ 0
-      → Joined room L₀ (set L (p - room) (q + 1)) 1 (λ _. a) (λ _. b) true
-  link-new L p q h l m s z =
+  pub link-new : (L : List ℕ) (p q low low′ : ℕ) → Linking L p q → q < p → room ≤ q → p < room + length L → cells L (p - room) ≡ 0 → low′ ≡ least low (p - room)
+      → Joined room L₀ (set L (p - room) (q + 1)) 1 (λ _. a) (λ _. b) low low′ true
+  link-new L p q low low′ h l m s z small =
       let j : room + (p - room) ≡ p = omega arith in
       let s′ : p - room < length L = omega arith in
       record {
@@ -122,6 +129,8 @@ module _ (room : ℕ) (L₀ : List ℕ) (a b : ℕ) where
         };
         above = λ t k i u. let v = h .bound t (k 0 (omega arith) .0) (k 0 (omega arith) .1) in
             set-other L (p - room) (q + 1) i (λ e. omega arith) ∙ h .above t (k 0 (omega arith) .0) (k 0 (omega arith) .1) i u;
+        floor = λ k i u. let d = least-low low (p - room) low′ small in let e = least-high low (p - room) low′ small in
+            set-other L (p - room) (q + 1) i (λ c. omega arith) ∙ h .floor low k i (omega arith);
         good = λ test u k. let v = h .good test u (k 0 (omega arith) .0) (k 0 (omega arith) .1) in
             λ i y e. set-link L (p - room) q i y s′ e (λ c d. (rw (c, j) (v .1), rw d at (v .2))) (λ c d. v .0 i y d);
         back = λ _ g u. let here : g p ≡ g q = rw j at (u (p - room) q (set-here L (p - room) (q + 1) s′ ∙ (let e : q + 1 ≡ suc q = omega arith in e))) in
@@ -152,6 +161,7 @@ module _ (room : ℕ) (L₀ : List ℕ) (a b : ℕ) where
         };
         bound = λ t u v. let k = h .bound t u v in (omega arith, k .1);
         above = λ t u v i w. let k = h .bound t u v in set-other L (p - room) (least q y + 1) i (λ e. omega arith) ∙ h .above t u v i w;
+        floor = λ t k i u. let c = h .floor t k in set-other L (p - room) (least q y + 1) i (λ e. let x : cells L (p - room) ≡ 0 = rw e at (c i u) in omega arith) ∙ c i u;
         good = λ test e u v. let k = h .good test e u v in
             let ky = k .0 (p - room) y z in
             let kl : test (least q y) ≡ true = least-is (λ x. test x ≡ true) q y (λ _. k .2) (λ _. ky .1) in
@@ -179,26 +189,29 @@ module _ (room : ℕ) (L₀ : List ℕ) (a b : ℕ) where
 
 pub link-start : (room : ℕ) (L : List ℕ) (a b : ℕ) → Descending room (cells L) → Linking room L a b L a b
 link-start room L a b f = record
-    { long = refl; form = f; bound = λ t u v. (u, v); above = λ t u v i w. refl; good = λ test e u v. (e, u, v); back = λ g u e. (u, e); forth = λ g u e. (u, e) }
+    { long = refl; form = f; bound = λ t u v. (u, v); above = λ t u v i w. refl; floor = λ l k. k; good = λ test e u v. (e, u, v); back = λ g u e. (u, e); forth = λ g u e. (u, e) }
 
 -- Pairs one after another.
 module _ (room : ℕ) (L₀ : List ℕ) (x y : ℕ → ℕ) where
-  pub joined-none : Descending room (cells L₀) → Joined room L₀ L₀ 0 x y true
-  joined-none f = record {
+  pub joined-none : (low : ℕ) → Descending room (cells L₀) → Joined room L₀ L₀ 0 x y low low true
+  joined-none low f = record {
     long = refl;
     form = f;
     above = λ t k i u. refl;
+    floor = λ k. k;
     good = λ test e k. e;
     back = λ _ g u. (u, λ i l. let z : ⊥ = omega arith in absurd z);
     forth = λ _ g u k. u;
     no = λ e. true-false refl e;
   }
 
-  pub joined-more : (L L′ : List ℕ) (n : ℕ) (r : Bool) → Joined room L₀ L n x y true → Joined room L L′ 1 (λ _. x n) (λ _. y n) r → Joined room L₀ L′ (n + 1) x y r
-  joined-more L L′ n r h k = record {
+  pub joined-more : (L L′ : List ℕ) (n low low₁ low₂ : ℕ) (r : Bool) → Joined room L₀ L n x y low low₁ true → Joined room L L′ 1 (λ _. x n) (λ _. y n) low₁ low₂ r
+      → Joined room L₀ L′ (n + 1) x y low low₂ r
+  joined-more L L′ n low low₁ low₂ r h k = record {
     long = k .long ∙ h .long;
     form = k .form;
     above = λ t b i u. k .above t (λ _ _. b n (omega arith)) i u ∙ h .above t (λ i l. b i (omega arith)) i u;
+    floor = λ u. k .floor (h .floor u);
     good = λ test e b. k .good test (h .good test e (λ i l. b i (omega arith))) (λ _ _. b n (omega arith));
     back = λ a g u. let v = k .back a g u in let w = h .back refl g (v .0) in
         (w .0, below-more (λ i. g (x i) ≡ g (y i)) n (w .1) (v .1 0 (omega arith)));
@@ -207,11 +220,12 @@ module _ (room : ℕ) (L₀ : List ℕ) (x y : ℕ → ℕ) where
   }
 
   -- Where some of the pairs cannot hold, all cannot.
-  pub joined-stop : (L : List ℕ) (n m : ℕ) → n ≤ m → Joined room L₀ L n x y false → Joined room L₀ L m x y false
-  joined-stop L n m l h = record {
+  pub joined-stop : (L : List ℕ) (n m low low′ : ℕ) → n ≤ m → Joined room L₀ L n x y low low′ false → Joined room L₀ L m x y low low′ false
+  joined-stop L n m low low′ l h = record {
     long = h .long;
     form = h .form;
     above = λ t b. h .above t (λ i k. b i (omega arith));
+    floor = h .floor;
     good = λ test e b. h .good test e (λ i k. b i (omega arith));
     back = λ a. true-false a refl;
     forth = λ a. true-false a refl;
@@ -219,12 +233,13 @@ module _ (room : ℕ) (L₀ : List ℕ) (x y : ℕ → ℕ) where
   }
 
 -- The arguments of two nodes, one pair after another.
-module _ (room : ℕ) (w L₀ : List ℕ) (a b count : ℕ) where
-  abbrev pub Pairs : List ℕ → ℕ → Bool → Type 0
-  Pairs L n r = Joined room L₀ L n (λ i. cells w (a + suc i)) (λ i. cells w (b + suc i)) r
+module _ (room : ℕ) (w L₀ : List ℕ) (a b count low : ℕ) where
+  abbrev pub Pairs : List ℕ → ℕ → ℕ → Bool → Type 0
+  Pairs L n low′ r = Joined room L₀ L n (λ i. cells w (a + suc i)) (λ i. cells w (b + suc i)) low low′ r
 
-  pub pair-linkable : (L : List ℕ) (i : ℕ) (r : Bool) → Arguments room w L₀ a b count → Pairs L i r → i < count → Linkable room L (getD w (a + 1 + i) 0) (getD w (b + 1 + i) 0)
-  pair-linkable L i r k h l =
+  pub pair-linkable : (L : List ℕ) (i low′ : ℕ) (r : Bool) → Arguments room w L₀ a b count → Pairs L i low′ r → i < count
+      → Linkable room L (getD w (a + 1 + i) 0) (getD w (b + 1 + i) 0)
+  pair-linkable L i low′ r k h l =
       let e : a + 1 + i ≡ a + suc i = omega arith in
       let d : b + 1 + i ≡ b + suc i = omega arith in
       let n = h .long in
@@ -232,13 +247,18 @@ module _ (room : ℕ) (w L₀ : List ℕ) (a b count : ℕ) where
       let q = k .rights i l in
       record { form = h .form; left = rw e (omega arith); right = rw d (omega arith) }
 
-  pub pair-next : (L L′ : List ℕ) (i : ℕ) (r : Bool) → Pairs L i true → Joined room L L′ 1 (λ _. getD w (a + 1 + i) 0) (λ _. getD w (b + 1 + i) 0) r → Pairs L′ (i + 1) r
-  pair-next L L′ i r h k =
-      let e : a + 1 + i ≡ a + suc i = omega arith in
-      let d : b + 1 + i ≡ b + suc i = omega arith in
-      joined-more room L₀ (λ i. cells w (a + suc i)) (λ i. cells w (b + suc i)) L L′ i r h (rw (e, d) at k)
+  module _ (L L′ : List ℕ) (i low₁ low₂ : ℕ) (r : Bool) (h : Pairs L i low₁ true)
+      (k : Joined room L L′ 1 (λ _. getD w (a + 1 + i) 0) (λ _. getD w (b + 1 + i) 0) low₁ low₂ r) where
+    pair-next : Pairs L′ (i + 1) low₂ r
+    pair-next =
+        let e : a + 1 + i ≡ a + suc i = omega arith in
+        let d : b + 1 + i ≡ b + suc i = omega arith in
+        joined-more room L₀ (λ i. cells w (a + suc i)) (λ i. cells w (b + suc i)) L L′ i low low₁ low₂ r h (rw (e, d) at k)
 
-  pub pair-stop : (L L′ : List ℕ) (i : ℕ) (r : Bool) → i < count → r ≡ false → Pairs L i true
-      → Joined room L L′ 1 (λ _. getD w (a + 1 + i) 0) (λ _. getD w (b + 1 + i) 0) r → Pairs L′ count false
-  pair-stop L L′ i r l e h k =
-      joined-stop room L₀ (λ i. cells w (a + suc i)) (λ i. cells w (b + suc i)) L′ (i + 1) count (omega arith) (rw e at (pair-next L L′ i r h k))
+    pub pair-linked : r ≡ true → Pairs L′ (i + 1) low₂ true
+    pair-linked e = subst (λ r. Pairs L′ (i + 1) low₂ r) e pair-next
+
+    pub pair-stop : i < count → r ≡ false → Pairs L′ count low₂ r
+    pair-stop l e =
+        subst (λ r. Pairs L′ count low₂ r) (sym e)
+        (joined-stop room L₀ (λ i. cells w (a + suc i)) (λ i. cells w (b + suc i)) L′ (i + 1) count low low₂ (omega arith) (subst (λ r. Pairs L′ (i + 1) low₂ r) e pair-next))

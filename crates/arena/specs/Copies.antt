@@ -40,22 +40,32 @@ pub record Movable (places : List ℕ) (counter first base x : ℕ) : Type 0 whe
   -- and its new reference fits.
   pub address : patternRoom ≤ x → x < headers → base + (x - first) < headers
 
--- What copying a part asks: there is room, and each of its words is a header, or a variable whose new number has room, or refers to a node of the part.
+-- What copying a part asks: there is room, and each of its words is a header, a variable or a reference to a node of the part.
 pub record Copyable (pattern : List ℕ) (from count : ℕ) (places words : List ℕ) (room used counter : ℕ) : Type 0 where
+  -- the part lies in the pattern,
   pub part : from + count ≤ length pattern
+  -- and the copy in the words;
   pub space : used + count ≤ length words
-  -- all references are below the headers, the pattern's and the new ones
+  -- all references are below the headers, the pattern's and the new ones;
   pub low : patternRoom + from + count ≤ headers
   pub small : room + used + count ≤ headers
+  -- a variable has a place,
   pub listed : (i : ℕ) → i < count → getD pattern (from + i) 0 < patternRoom → getD pattern (from + i) 0 < length places
+  -- and a new number that has room;
   pub number : (i : ℕ) → i < count → getD pattern (from + i) 0 < patternRoom → counter + getD places (getD pattern (from + i) 0) 0 < room
+  -- a node is not before the part,
   pub inside : (i : ℕ) → i < count → patternRoom ≤ getD pattern (from + i) 0 → getD pattern (from + i) 0 < headers → patternRoom + from ≤ getD pattern (from + i) 0
+  -- and not behind it.
   pub address : (i : ℕ) → i < count → patternRoom ≤ getD pattern (from + i) 0 → getD pattern (from + i) 0 < headers
       → getD pattern (from + i) 0 < patternRoom + from + count
 
 -- A reference of the part that starts at `from`, to one of its first n words: a variable whose new number is below nv, or a node's.
 pub record PartReference (places : List ℕ) (counter nv from : ℕ) (pattern : Cells) (n r : ℕ) : Type 0 where
+  -- a variable's new number is below nv;
   pub variable : r < patternRoom → counter + getD places r 0 < nv
+  -- a node is not before the part,
   pub from-on : patternRoom ≤ r → patternRoom + from ≤ r
+  -- is among its first n words,
   pub node : patternRoom ≤ r → r < patternRoom + from + n
+  -- and has a header.
   pub header : patternRoom ≤ r → headers ≤ pattern (r - patternRoom)

@@ -1,6 +1,6 @@
 -- The form of stored words (document 01, refusal 1): nodes one after another, each a header of a known symbol with that symbol's own arity, at most 16,
 -- and then its arguments, each a variable or an earlier node. It is a test that computes, by one pass over the words.
-use Prim.Native.Nat.{ℕ, zero, suc, _+_, _-_, _≤_, _<_}
+use Prim.Native.Nat.{ℕ, zero, suc, _+_, _-_}
 use mathlib.Core.Bool.{Bool, true, false, _&&_, not, cond}
 use mathlib.Core.List.{List, [], _∷_}
 use lib.ListN.{getD, length}
@@ -17,11 +17,15 @@ unfoldable pub isHeader : List ℕ → ℕ → Bool
 isHeader arities h =
     not (less h headers) && (less (symbolOf h) (length arities) && (same (arityOf h) (getD arities (symbolOf h) 0) && not (less inputs (arityOf h))))
 
--- Where words are read: the words, the room for variables in references, how many variables there are, and the address from which nodes may be used.
+-- What an argument is tested against.
 pub record Place : Type 0 where
+  -- the words
   pub words : List ℕ
+  -- the room for variables: references from it on are nodes
   pub room : ℕ
+  -- how many variables there are
   pub variables : ℕ
+  -- the address from which nodes may be arguments
   pub from : ℕ
 
 -- May the word be an argument of the node at the address a: a variable that there is, or a node at an address from `from` on and below a?

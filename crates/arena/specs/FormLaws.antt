@@ -1,16 +1,16 @@
 -- Laws of words in form: they are well formed, each header is a known symbol's with its own arity, and each other word refers to a variable or to a
 -- node of the same part.
-use Prim.Native.Nat.{ℕ, zero, suc, _+_, _-_, _*_, _/_, _%_, _≤_, _<_}
+use Prim.Native.Nat.{ℕ, zero, suc, _+_, _-_, _≤_, _<_}
 use native.Mathlib.Omega.{arith}
 use native.Mathlib.Nat.{not-suc-le-zero}
-use mathlib.Core.Path.{_≡_, refl, sym, ap, ap₂, _∙_, subst}
-use mathlib.Core.Bool.{Bool, true, false, _&&_, not, cond}
+use mathlib.Core.Path.{_≡_, refl, _∙_, subst}
+use mathlib.Core.Bool.{Bool, true, false, _&&_, not}
 use mathlib.Core.List.{List, [], _∷_}
-use mathlib.Core.Logic.{_⊎_, inl, inr, ⊎-elim}
+use mathlib.Core.Logic.{⊎-elim}
 use lib.ListN.{getD, length, take}
 use lib.Seq.{slice, getD-take, getD-drop, length-slice}
-use Rattle.terms.specs.Numbers.{same, less, less-yes, less-no, by-less, by-bool, true-false, same-true}
-use Rattle.arena.specs.Cells.{headers, Cells, symbolOf, arityOf, Reference, WellFormed, low-or-high, reference-up, cells}
+use Rattle.terms.specs.Numbers.{same, less, less-yes, less-no, by-less, true-false, same-true}
+use Rattle.arena.specs.Cells.{headers, symbolOf, arityOf, Reference, WellFormed, low-or-high, cells}
 use Rattle.arena.specs.NodeLaws.{formed-node}
 use Rattle.arena.specs.Form.{inputs, isHeader, Place, isArgument, nodes, inForm}
 
@@ -31,9 +31,13 @@ is-less x y e = by-less x y (λ l q. l) (λ l q. true-false e q)
 
 -- A header that the test accepts.
 pub record Header (arities : List ℕ) (h : ℕ) : Type 0 where
+  -- it is above all references,
   pub high : headers ≤ h
+  -- its symbol is known,
   pub known : symbolOf h < length arities
+  -- its arity is the symbol's own,
   pub own : arityOf h ≡ getD arities (symbolOf h) 0
+  -- and at most 16.
   pub few : arityOf h ≤ inputs
 
 pub header-accepted : (arities : List ℕ) (h : ℕ) → isHeader arities h ≡ true → Header arities h
@@ -69,10 +73,21 @@ argument-from p a r e l =
     let e₀ : (not (less r (p .room + p .from)) && (less r (p .room + a) && not (less (getD (p .words) (r - p .room) 0) headers))) ≡ true = rw q at e in
     not-less r (p .room + p .from) (and-left (not (less r (p .room + p .from))) _ e₀)
 
+-- The test accepts every reference in form that is not before `from`.
+pub reference-accepted : (p : Place) (a r : ℕ) → Reference (p .room) (cells (p .words)) (p .variables) a r → (p .room ≤ r → p .room + p .from ≤ r) → isArgument p a r ≡ true
+unfolding isArgument
+reference-accepted p a r h f =
+    by-less r (p .room)
+    (λ l q. rw q (less-yes (h .variable l)))
+    (λ l q. rw (q, less-no (f l), less-yes (h .node l), less-no (h .header l)))
+
 -- A word of the part that starts at `from`, below the address a: a header of a known symbol, or a variable, or a node from `from` on.
 pub record Word (arities : List ℕ) (room variables from a x : ℕ) : Type 0 where
+  -- a header is a known symbol's;
   pub header : headers ≤ x → Header arities x
+  -- a variable is one of those counted;
   pub variable : x < room → x < variables
+  -- a node is not before the part, and is an earlier one.
   pub from-on : room ≤ x → x < headers → room + from ≤ x
   pub below : room ≤ x → x < headers → x < room + a
 

@@ -24,7 +24,7 @@ pub fn is_header(arities: &[u32], word: u32) -> bool
     false
 }
 
-// Whether a word may be an argument of the node at the address `node`.
+// Whether a word may be an argument of the node at the address `node`; with the number of words in use for `node`, whether it is a reference in form.
 pub fn is_argument(
     words: &[u32],
     from: u32,

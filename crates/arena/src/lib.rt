@@ -8,8 +8,8 @@ mod form; // the tests on one word
 mod links; // nodes that have to denote the same term
 
 pub use copies::moved_word;
-use form::is_argument;
-use form::is_header;
+pub use form::is_argument;
+pub use form::is_header;
 pub use format::HEADERS;
 pub use format::INPUTS;
 pub use format::PATTERN_ROOM;
@@ -26,7 +26,7 @@ ghost use lib.Seq.{sets};
 ghost use Rattle.arena.specs.Cells.{headers, cells};
 ghost use Rattle.arena.specs.Copies.{copied, Copyable};
 ghost use Rattle.arena.specs.Form.{inForm};
-ghost use Rattle.arena.specs.Links.{Ready, Compared};
+ghost use Rattle.arena.specs.Equality.{Ready, Compared};
 
 // Writes a node, its header and its arguments, from the address `used` on.
 pub fn push_node(words: &mut [u32], used: u32, header: u32, arguments: &[u32])
@@ -118,7 +118,7 @@ pub fn clear(words: &mut [u32], from: u32)
     }
 }
 
-// Whether two references denote the same term, in one pass from the greater one's address down; the links are zero before and after.
+// Whether two references denote the same term, in one pass from the greater one's address down to the least that is linked; the links are zero before and after.
 pub fn equal(
     words: &[u32],
     links: &mut [u32],
@@ -132,11 +132,15 @@ pub fn equal(
     requires { ⌜ Ready room (now words) (now links) variables used a b ⌝ }
     ensures { λ r. ⌜ Compared room (cells (now (words .entry))) (now (links .entry)) (now (links .exit)) a b r ⌝ }
 {
-    let mut same = link(links, room, a, b);
     let mut at = past(room, greatest(a, b));
-    while at > 0 {
+    let first = link(links, room, a, b, at);
+    let mut same = first.same;
+    let mut low = first.low;
+    while at > low {
         at -= 1;
-        same = settle(words, links, room, variables, used, at, same);
+        let step = settle(words, links, room, variables, used, at, same, low);
+        same = step.same;
+        low = step.low;
     }
     same
 }

@@ -8,7 +8,7 @@ use lib.ListN.{getD, length}
 use Rattle.terms.specs.Term.{Term, sub}
 use Rattle.terms.specs.Unification.{fails, unified, unify}
 use Rattle.arena.specs.Cells.{headers, denote, Reference, Same, cells, termsOf}
-use Rattle.arena.specs.Copies.{patternRoom, numbered}
+use Rattle.arena.specs.Copies.{patternRoom, numbered, moved}
 use Rattle.unifier.specs.Tables.{Rows, column, undone}
 use Rattle.unifier.specs.Stored.{held, Form}
 use Rattle.unifier.specs.Contracts.{Scratch}
@@ -43,13 +43,13 @@ attemptOf room words rows Exceeded = exceeded
 attemptOf room words rows (Missed counter) = missed counter
 attemptOf room words rows (Entered counter bound used) = entered (held room words rows bound) counter used
 
--- Where a node of the pattern is found, when the part from `from` on was copied to the address `used`.
-abbrev pub copiedAt : ℕ → ℕ → ℕ → ℕ → ℕ
-copiedAt from room used r = room + used + (r - (patternRoom + from))
+-- What a pattern's reference becomes, when the part from `from` on was copied to the address `used` with new variables from the counter on.
+abbrev pub copiedAt : List ℕ → ℕ → ℕ → ℕ → ℕ → ℕ → ℕ
+copiedAt places counter from room used r = moved places counter (patternRoom + from) (room + used) r
 
--- Where a premise is found after an attempt from `used` words on: copied with the others behind the conclusion.
-abbrev pub premiseAt : Stored → ℕ → ℕ → ℕ → ℕ
-premiseAt stored room used r = copiedAt (stored .from + stored .head) room (used + stored .head) r
+-- What a premise's reference becomes by an attempt from `used` words on: the premises are copied behind the conclusion.
+abbrev pub premiseAt : List ℕ → ℕ → Stored → ℕ → ℕ → ℕ → ℕ
+premiseAt places counter stored room used r = copiedAt places counter (stored .from + stored .head) room (used + stored .head) r
 
 -- Nothing stays but the counter's advance: the rows are those at entry, and the state is in form with as many words and bindings as at entry.
 pub record Back (room : ℕ) (words′ : List ℕ) (rows rows′ : Rows) (counter used bound : ℕ) : Type 0 where
@@ -64,22 +64,22 @@ pub record Added (rows rows′ : Rows) (bound bound′ : ℕ) : Type 0 where
   pub back : undone rows′ bound (bound′ - bound) ≡ rows
 
 -- The rule was entered: the state is in form with the counts of the answer, and the premises stand in it.
-pub record Inside (room : ℕ) (premises : List ℕ) (stored : Stored) (R : Rule) (words′ : List ℕ) (rows rows′ : Rows)
+pub record Inside (room : ℕ) (premises places : List ℕ) (stored : Stored) (R : Rule) (words′ : List ℕ) (rows rows′ : Rows)
     (counter used bound counter′ used′ bound′ : ℕ) : Type 0 where
   pub form : Form room words′ rows′ counter′ used′ bound′
   pub later : counter ≤ counter′
   pub longer : used ≤ used′
   pub added : Added rows rows′ bound bound′
   -- each premise's reference is in form, and in order they denote the instances of the premises
-  pub references : (i : ℕ) → i < length premises → Reference room (cells words′) counter′ used′ (premiseAt stored room used (getD premises i 0))
-  pub denoted : termsOf (denote room (cells words′)) (map (premiseAt stored room used) premises) ≡ body counter R
+  pub references : (i : ℕ) → i < length premises → Reference room (cells words′) counter′ used′ (premiseAt places counter stored room used (getD premises i 0))
+  pub denoted : termsOf (denote room (cells words′)) (map (premiseAt places counter stored room used) premises) ≡ body counter R
 
 -- What an answer leaves.
-abbrev pub Left : ℕ → List ℕ → Stored → Rule → List ℕ → Rows → Rows → ℕ → ℕ → ℕ → Tried → Type 0
-Left room premises stored R words′ rows rows′ counter used bound Exceeded = Back room words′ rows rows′ counter used bound
-Left room premises stored R words′ rows rows′ counter used bound (Missed counter′) = (counter ≤ counter′) × Back room words′ rows rows′ counter′ used bound
-Left room premises stored R words′ rows rows′ counter used bound (Entered counter′ bound′ used′) =
-    Inside room premises stored R words′ rows rows′ counter used bound counter′ used′ bound′
+abbrev pub Left : ℕ → List ℕ → List ℕ → Stored → Rule → List ℕ → Rows → Rows → ℕ → ℕ → ℕ → Tried → Type 0
+Left room premises places stored R words′ rows rows′ counter used bound Exceeded = Back room words′ rows rows′ counter used bound
+Left room premises places stored R words′ rows rows′ counter used bound (Missed counter′) = (counter ≤ counter′) × Back room words′ rows rows′ counter′ used bound
+Left room premises places stored R words′ rows rows′ counter used bound (Entered counter′ bound′ used′) =
+    Inside room premises places stored R words′ rows rows′ counter used bound counter′ used′ bound′
 
 -- `try_rule` tried a rule with a goal.
 pub record Attempted (room limit : ℕ) (pattern premises places : List ℕ) (stored : Stored) (words words′ : List ℕ)
@@ -91,7 +91,7 @@ pub record Attempted (room limit : ℕ) (pattern premises places : List ℕ) (st
   pub kept : Same room (cells words) (cells words′) used
   pub long : length words′ ≡ length words
   -- what the answer leaves
-  pub left : Left room premises stored (ruleOf pattern premises stored) words′ rows rows′ counter used bound answer
+  pub left : Left room premises places stored (ruleOf pattern premises stored) words′ rows rows′ counter used bound answer
   -- the scratch is as it was
   pub linksKept : links′ ≡ links
   pub marksKept : marks′ ≡ marks
@@ -103,7 +103,7 @@ pub record Attempted (room limit : ℕ) (pattern premises places : List ℕ) (st
 pub record HeadAsked (room limit : ℕ) (pattern places : List ℕ) (stored : Stored) (words : List ℕ) (rows links marks stack : Rows)
     (counter used bound goal : ℕ) : Type 0 where
   pub part : Part pattern places (stored .from) (stored .head) (stored .met)
-  pub root : Root pattern (stored .from) (stored .head) (stored .conclusion)
+  pub root : Root pattern places (stored .from) (stored .head) (stored .met) (stored .conclusion)
   pub few : stored .met ≤ patternRoom
   pub state : State room limit words rows links marks stack counter used bound
   pub refers : Reference room (cells words) counter used goal
@@ -161,10 +161,10 @@ pub record Copied (room : ℕ) (pattern places : List ℕ) (stored : Stored) (wo
   pub same : rows′ ≡ rows
   pub form : Form room words′ rows′ (counter + stored .variables) (used + stored .head + stored .body) bound
   pub bindings : held room words′ rows′ bound ≡ held room words rows bound
-  pub references : (r : ℕ) → Root pattern (stored .from + stored .head) (stored .body) r
-    → Reference room (cells words′) (counter + stored .variables) (used + stored .head + stored .body) (premiseAt stored room used r)
-  pub denotes : (r : ℕ) → Root pattern (stored .from + stored .head) (stored .body) r
-    → denote room (cells words′) (premiseAt stored room used r) ≡ sub (numbered places counter) (patternOf pattern r)
+  pub references : (r : ℕ) → Root pattern places (stored .from + stored .head) (stored .body) (stored .variables) r
+    → Reference room (cells words′) (counter + stored .variables) (used + stored .head + stored .body) (premiseAt places counter stored room used r)
+  pub denotes : (r : ℕ) → Root pattern places (stored .from + stored .head) (stored .body) (stored .variables) r
+    → denote room (cells words′) (premiseAt places counter stored room used r) ≡ sub (numbered places counter) (patternOf pattern r)
 
 -- What came of the premises: they were copied, or the limits refuse them and the bindings are undone to the mark.
 abbrev pub Done : ℕ → ℕ → List ℕ → List ℕ → Stored → List ℕ → List ℕ → Rows → Rows → ℕ → ℕ → ℕ → ℕ → Bool → Type 0

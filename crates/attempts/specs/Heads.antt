@@ -12,14 +12,14 @@ use Rattle.terms.specs.Bindings.{Bindings}
 use Rattle.terms.specs.Unification.{Outcome, fails, unified, unify}
 use Rattle.arena.specs.Cells.{headers, denote, Reference, Same, reference-up, frame-denote, cells}
 use Rattle.arena.specs.NodeLaws.{reference-same}
-use Rattle.arena.specs.Copies.{copied, Copyable}
+use Rattle.arena.specs.Copies.{copied, Copyable, Movable, patternRoom}
 use Rattle.unifier.specs.Tables.{Rows}
 use Rattle.unifier.specs.Stored.{held, Form}
 use Rattle.unifier.specs.Contracts.{Scratch, Unified, outcome}
 use Rattle.resolution.specs.Search.{within, over}
 use Rattle.attempts.specs.Contracts.{HeadAsked, HeadTried, instance, copiedAt}
 use Rattle.attempts.specs.Extending.{scratch-less}
-use Rattle.attempts.specs.Parts.{copyable, copied-kept, copied-long, copied-held, copied-form, copied-reference, copied-denotes}
+use Rattle.attempts.specs.Parts.{copyable, copied-kept, copied-long, copied-held, copied-form, copied-reference, copied-denotes, root-movable}
 use Rattle.attempts.specs.declared.Stored.{Stored}
 use Rattle.attempts.specs.declared.Meeting.the-variants.{Refused, Apart, Unifies}
 
@@ -64,6 +64,9 @@ module _ {room limit : ℕ} {pattern places : List ℕ} {stored : Stored} {words
     pub head-copyable : Copyable pattern (stored .from) (stored .head) places words room used counter
     head-copyable = copyable (asked .part) counter (asked .state .form) more few space small
 
+    pub head-movable : Movable places counter (patternRoom + stored .from) (room + used) (stored .conclusion)
+    head-movable = root-movable (asked .part) counter (asked .state .form) more few space small (stored .conclusion) (asked .root)
+
     pub head-scratch : Scratch room (used + stored .head) links marks stack
     head-scratch = scratch-less (used + stored .head) short (asked .state .scratch)
 
@@ -79,13 +82,13 @@ module _ {room limit : ℕ} {pattern places : List ℕ} {stored : Stored} {words
       pub head-goal : Reference room (cells words′) (counter + stored .met) (used + stored .head) goal
       head-goal = reference-up room more (omega arith) (reference-same room kept (asked .refers))
 
-      pub head-conclusion : Reference room (cells words′) (counter + stored .met) (used + stored .head) (copiedAt (stored .from) room used (stored .conclusion))
+      pub head-conclusion : Reference room (cells words′) (counter + stored .met) (used + stored .head) (copiedAt places counter (stored .from) room used (stored .conclusion))
       head-conclusion = copied-reference (asked .part) counter (asked .state .form) more few space small words′ written (stored .conclusion) (asked .root)
 
       -- The same bindings, the same goal and the copied conclusion.
       same : unify (counter + stored .met) (held room words rows bound) (denote room (cells words) goal) (instance pattern places stored counter)
         ≡ unify (counter + stored .met) (held room words′ rows bound) (denote room (cells words′) goal)
-          (denote room (cells words′) (copiedAt (stored .from) room used (stored .conclusion)))
+          (denote room (cells words′) (copiedAt places counter (stored .from) room used (stored .conclusion)))
       same =
           ap (λ (β : Bindings). unify (counter + stored .met) β (denote room (cells words) goal) (instance pattern places stored counter))
             (sym (copied-held (asked .part) counter (asked .state .form) more few space small words′ written))
@@ -95,7 +98,7 @@ module _ {room limit : ℕ} {pattern places : List ℕ} {stored : Stored} {words
 
       module _ {rows′ links′ marks′ stack′ : Rows} {bound′ : ℕ} {answer : Bool}
           (h : Unified room words′ rows rows′ links links′ marks marks′ stack stack′ (counter + stored .met) (used + stored .head) bound bound′
-            goal (copiedAt (stored .from) room used (stored .conclusion)) answer) where
+            goal (copiedAt places counter (stored .from) room used (stored .conclusion)) answer) where
         -- They do not unify.
         pub head-apart : answer ≡ false
           → HeadTried room limit pattern places stored words words′ rows rows′ links links′ marks marks′ stack stack′ counter used bound goal Apart

@@ -183,7 +183,7 @@ module _ {room limit : ℕ} {pattern premises places : List ℕ} {stored : Store
               form = k .done .1 .form; later = omega arith; longer = omega arith;
               added = subst (λ (b : Rows). Added rows b bound n) (sym (k .done .1 .same)) (h .came .2 .added);
               references = λ i l. k .done .1 .references (getD premises i 0) (rule .premise i l);
-              denoted = terms-moved (numbered places counter) (premiseAt stored room used) (patternOf pattern) (denote room (cells words″)) premises
+              denoted = terms-moved (numbered places counter) (premiseAt places counter stored room used) (patternOf pattern) (denote room (cells words″)) premises
                 (λ i l. k .done .1 .denotes (getD premises i 0) (rule .premise i l))
                 ∙ instance-body pattern premises places stored rule counter
             };

@@ -7,9 +7,8 @@ use lib.ListN.{getD, length}
 use lib.Seq.{sets, length-sets}
 use Rattle.terms.specs.Term.{sub}
 use Rattle.arena.specs.Cells.{headers, denote, Reference, WellFormed, Same, cells}
-use Rattle.arena.specs.Copies.{patternRoom, moved, copied, numbered, Copyable}
-use Rattle.arena.specs.CopyLaws.{moved-node, inst-frame, inst-formed, inst-reference, inst-denotes}
-use Rattle.arena.specs.PartLaws.{root-reference}
+use Rattle.arena.specs.Copies.{patternRoom, moved, copied, numbered, Copyable, Movable, PartReference}
+use Rattle.arena.specs.CopyLaws.{inst-frame, inst-formed, inst-reference, inst-denotes}
 use Rattle.unifier.specs.Tables.{Rows}
 use Rattle.unifier.specs.Stored.{held, Form}
 use Rattle.attempts.specs.StoredRules.{patternOf, Part, Root}
@@ -27,6 +26,17 @@ module _ {pattern places : List ℕ} {from count n : ℕ} (part : Part pattern p
 
   number : (i : ℕ) → i < count → getD pattern (from + i) 0 < patternRoom → counter + getD places (getD pattern (from + i) 0) 0 < counter + n
   number i l v = let x = part .numbered i l v in omega arith
+
+  within-part : (r : ℕ) → Root pattern places from count n r → PartReference places counter (counter + n) from (cells pattern) count r
+  within-part r root = record { variable = λ v. let x = root .numbered v in omega arith; from-on = root .from-on; node = root .below; header = root .header }
+
+  -- It can be moved: no sum is too large.
+  pub root-movable : (r : ℕ) → Root pattern places from count n r → Movable places counter (patternRoom + from) (room + used) r
+  root-movable r root = record
+    { listed = root .listed
+    ; number = λ v. let x = root .numbered v in omega arith
+    ; inside = λ v h. root .from-on v
+    ; address = λ v h. let a = root .from-on v in let b = root .below v in omega arith }
 
   module _ (words′ : List ℕ) (written : words′ ≡ sets words used (copied pattern from count places room used counter)) where
     -- The words in use stand, and there are as many words.
@@ -52,21 +62,14 @@ module _ {pattern places : List ℕ} {from count n : ℕ} (part : Part pattern p
         let e = copied-long in
         form-extended form words′ copied-kept (counter + n) (used + count) formed more few (omega arith) (omega arith) (omega arith) lent
 
-    module _ (r : ℕ) (root : Root pattern from count r) where
-      at : moved places counter (patternRoom + from) (room + used) r ≡ copiedAt from room used r
-      at = let a = root .from-on in let b = root .below in let l = part .low in
-          moved-node places counter (patternRoom + from) (room + used) r (omega arith) (omega arith)
-
-      -- A node of the part is found in the copy, and denotes the instance.
-      pub copied-reference : Reference room (cells words′) (counter + n) (used + count) (copiedAt from room used r)
+    module _ (r : ℕ) (root : Root pattern places from count n r) where
+      -- A judgment's reference is found in the copy, and denotes the instance.
+      pub copied-reference : Reference room (cells words′) (counter + n) (used + count) (copiedAt places counter from room used r)
       copied-reference =
-          subst (λ (x : ℕ). Reference room (cells words′) (counter + n) (used + count) x) at
-          (subst (λ (w : List ℕ). Reference room (cells w) (counter + n) (used + count) (moved places counter (patternRoom + from) (room + used) r)) (sym written)
-            (inst-reference pattern from count places words room used counter patternRoom variables (counter + n) copyable (part .formed) (form .words) more few number r
-              (root-reference pattern from count places words room used counter (counter + n) r copyable (root .from-on) (root .below) (root .header))))
+          subst (λ (w : List ℕ). Reference room (cells w) (counter + n) (used + count) (moved places counter (patternRoom + from) (room + used) r)) (sym written)
+          (inst-reference pattern from count places words room used counter patternRoom variables (counter + n) copyable (part .formed) (form .words) more few number r (within-part r root))
 
-      pub copied-denotes : denote room (cells words′) (copiedAt from room used r) ≡ sub (numbered places counter) (patternOf pattern r)
+      pub copied-denotes : denote room (cells words′) (copiedAt places counter from room used r) ≡ sub (numbered places counter) (patternOf pattern r)
       copied-denotes =
-          ap (denote room (cells words′)) (sym at) ∙ ap (λ (w : List ℕ). denote room (cells w) (moved places counter (patternRoom + from) (room + used) r)) written
-          ∙ inst-denotes pattern from count places words room used counter patternRoom variables (counter + n) copyable (part .formed) (form .words) more few number r
-            (root-reference pattern from count places words room used counter (counter + n) r copyable (root .from-on) (root .below) (root .header))
+          ap (λ (w : List ℕ). denote room (cells w) (moved places counter (patternRoom + from) (room + used) r)) written
+          ∙ inst-denotes pattern from count places words room used counter patternRoom variables (counter + n) copyable (part .formed) (form .words) more few number r (within-part r root)

@@ -37,11 +37,13 @@ pub record Part (pattern places : List ℕ) (from count n : ℕ) : Type 0 where
   pub address : (i : ℕ) → i < count → patternRoom ≤ getD pattern (from + i) 0 → getD pattern (from + i) 0 < headers
     → getD pattern (from + i) 0 < patternRoom + from + count
 
--- A reference to a node of the part: judgments are never variables.
-pub record Root (pattern : List ℕ) (from count r : ℕ) : Type 0 where
-  pub from-on : patternRoom + from ≤ r
-  pub below : r < patternRoom + from + count
-  pub header : headers ≤ getD pattern (r - patternRoom) 0
+-- The reference of a judgment: a variable whose place is below n, or a node of the part.
+pub record Root (pattern places : List ℕ) (from count n r : ℕ) : Type 0 where
+  pub listed : r < patternRoom → r < length places
+  pub numbered : r < patternRoom → getD places r 0 < n
+  pub from-on : patternRoom ≤ r → patternRoom + from ≤ r
+  pub below : patternRoom ≤ r → r < patternRoom + from + count
+  pub header : patternRoom ≤ r → headers ≤ getD pattern (r - patternRoom) 0
 
 -- A stored rule in form.
 pub record StoredRule (pattern premises places : List ℕ) (stored : Stored) : Type 0 where
@@ -49,8 +51,8 @@ pub record StoredRule (pattern premises places : List ℕ) (stored : Stored) : T
   pub headPart : Part pattern places (stored .from) (stored .head) (stored .met)
   pub bodyPart : Part pattern places (stored .from + stored .head) (stored .body) (stored .variables)
   -- the conclusion is one of the first, and each premise one of the second
-  pub conclusion : Root pattern (stored .from) (stored .head) (stored .conclusion)
-  pub premise : (i : ℕ) → i < length premises → Root pattern (stored .from + stored .head) (stored .body) (getD premises i 0)
+  pub conclusion : Root pattern places (stored .from) (stored .head) (stored .met) (stored .conclusion)
+  pub premise : (i : ℕ) → i < length premises → Root pattern places (stored .from + stored .head) (stored .body) (stored .variables) (getD premises i 0)
   -- each node of the terms is stored once, and no other: the counts are document 01's
   pub headWords : stored .head ≡ words (ruleOf pattern premises stored .conclusion)
   pub bodyWords : stored .body ≡ words (ruleOf pattern premises stored .premises)

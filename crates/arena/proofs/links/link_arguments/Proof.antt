@@ -1,20 +1,20 @@
--- `link_arguments` meets its contract. The loop's invariant: the first i pairs are linked.
-use mathlib.Core.Path.{_≡_, refl, sym, _∙_, subst}
+-- `link_arguments` meets its contract. The loop's invariant: the first i pairs are linked, and there are no links below `floor`.
+use mathlib.Core.Path.{_≡_, refl, _∙_}
 use mathlib.Core.Bool.{true}
-use Prim.Native.Nat.{ℕ, _≤_, _<_, _-_, _+_}
-use lib.ListN.{length}
+use Prim.Native.Nat.{_≤_, _-_, _+_}
+use mathlib.Core.Path.{subst}
 use borrow.Author.Tests.{not-true, not-false}
-use Rattle.arena.proofs.Linking.{Pairs, pair-linkable, pair-next, pair-stop, joined-none}
+use Rattle.arena.proofs.Linking.{Pairs, pair-linkable, pair-linked, pair-stop, joined-none}
 use borrow.Author.Needs.{needs}
 use native.Mathlib.Omega.{arith}
 use Rattle.arena.proofs.links.link_arguments.Statement.{statement}
 use Rattle.arena.proofs.links.link_arguments.Tie as tie
 
 abbrev Inv-loop : tie.InvT-loop
-Inv-loop words links₀ room a b count left right end i₀ links i = (left ≡ a + 1) × (right ≡ b + 1) × (end ≡ count) × (i ≤ count) × Pairs room words links₀ a b count links i true
+Inv-loop words links₀ room a b count low left right end floor₀ i₀ links floor i = (left ≡ a + 1) × (right ≡ b + 1) × (end ≡ count) × (i ≤ count) × Pairs room words links₀ a b count low links i floor true
 
 abbrev μ-loop : tie.MeasureT-loop
-μ-loop words links₀ room a b count left right end i₀ links i = count - i
+μ-loop words links₀ room a b count low left right end floor₀ i₀ links floor i = count - i
 
 add-left : tie.Need-add-left Inv-loop μ-loop
 add-left c = omega (arith, (c .before .before .pre .left))
@@ -23,7 +23,7 @@ add-right : tie.Need-add-right Inv-loop μ-loop
 add-right c = omega (arith, (c .before .before .pre .right))
 
 loop-holds : tie.Need-loop-holds Inv-loop μ-loop
-loop-holds c = (refl, refl, refl, search needs, joined-none _ _ _ _ (c .before .before .pre .form))
+loop-holds c = (refl, refl, refl, search needs, joined-none _ _ _ _ _ (c .before .before .pre .form))
 
 add-link : tie.Need-add-link Inv-loop μ-loop
 add-link c = omega (arith, (c .before .before .before .before .before .pre .left))
@@ -48,18 +48,19 @@ link-requires c κs =
     let args = c .before .before .before .before .before .before .before .args in
     let loop = c .before .before .before .before .loop in
     let pre = c .before .before .before .before .before .before .before .pre in
-    pair-linkable (args .room) (args .words .now) (args .links .now) (args .a) (args .b) (args .count) (loop .links) (loop .i) true pre (loop .inv .4) (search needs)
+    pair-linkable (args .room) (args .words .now) (args .links .now) (args .a) (args .b) (args .count) (args .low) (loop .links) (loop .i) (loop .floor) true pre (loop .inv .4) (search needs)
 
 same-length : tie.Need-same-length Inv-loop μ-loop
-same-length c = (c .before .before .before .link .ensures .long) ∙ (c .before .before .before .before .before .before .before .before .loop .inv .4 .long)
+same-length c =
+    (c .before .before .before .before .link .ensures .long) ∙ (c .before .before .before .before .before .before .before .before .before .loop .inv .4 .long)
 
 returns : tie.Need-returns Inv-loop μ-loop
 returns c =
-    let args = c .before .before .before .before .before .before .before .before .before .before .before .args in
-    let loop = c .before .before .before .before .before .before .before .before .loop in
-    let link = c .before .before .before .link in
+    let args = c .before .before .before .before .before .before .before .before .before .before .before .before .args in
+    let loop = c .before .before .before .before .before .before .before .before .before .loop in
+    let link = c .before .before .before .before .link in
     let if1 = c .if1 in
-    pair-stop (args .room) (args .words .now) (args .links .now) (args .a) (args .b) (args .count) (loop .links) _ (loop .i) (link .result) (search needs) (not-true _ (if1 .taken)) (loop .inv .4) (link .ensures)
+    pair-stop (args .room) (args .words .now) (args .links .now) (args .a) (args .b) (args .count) (args .low) (loop .links) _ (loop .i) (loop .floor) _ _ (loop .inv .4) (link .ensures) (search needs) (not-true _ (if1 .taken))
 
 add-i : tie.Need-add-i Inv-loop μ-loop
 add-i c = search needs
@@ -69,11 +70,11 @@ loop-less c = search needs
 
 loop-again : tie.Need-loop-again Inv-loop μ-loop
 loop-again c =
-    let args = c .before .before .before .before .before .before .before .before .before .before .before .args in
-    let link = c .before .before .before .link in
-    let loop = c .before .before .before .before .before .before .before .before .loop in
+    let args = c .before .before .before .before .before .before .before .before .before .before .before .before .args in
+    let loop = c .before .before .before .before .before .before .before .before .before .loop in
+    let link = c .before .before .before .before .link in
     let if1 = c .if1 in
-    (refl, refl, refl, search needs, subst (λ r. Pairs (args .room) (args .words .now) (args .links .now) (args .a) (args .b) (args .count) (link .last .0) ((loop .i) + 1) r) (not-false _ (if1 .left)) (pair-next (args .room) (args .words .now) (args .links .now) (args .a) (args .b) (args .count) (loop .links) _ (loop .i) (link .result) (loop .inv .4) (link .ensures)))
+    (refl, refl, refl, search needs, pair-linked (args .room) (args .words .now) (args .links .now) (args .a) (args .b) (args .count) (args .low) (loop .links) _ (loop .i) (loop .floor) _ _ (loop .inv .4) (link .ensures) (not-false _ (if1 .left)))
 
 same-length-2 : tie.Need-same-length-2 Inv-loop μ-loop
 same-length-2 c = (c .before .loop .inv .4 .long)
@@ -82,7 +83,7 @@ returns-2 : tie.Need-returns-2 Inv-loop μ-loop
 returns-2 c =
     let args = c .before .before .before .before .args in
     let loop = c .before .loop in
-    subst (λ n. Pairs (args .room) (args .words .now) (args .links .now) (args .a) (args .b) (args .count) (loop .links) n true) (let e : (loop .i) ≡ (args .count) = omega arith in
+    subst (λ n. Pairs (args .room) (args .words .now) (args .links .now) (args .a) (args .b) (args .count) (args .low) (loop .links) n (loop .floor) true) (let e : (loop .i) ≡ (args .count) = omega arith in
     e) (loop .inv .4)
 
 pub link-arguments-spec : {M : Type 1} → statement M

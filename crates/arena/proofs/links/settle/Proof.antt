@@ -1,7 +1,6 @@
 -- `settle` meets its contract: each way out is one law.
-use mathlib.Core.Path.{_≡_, refl, sym, _∙_}
-use Prim.Native.Nat.{ℕ, _≤_, _<_, _-_, _+_}
-use lib.ListN.{length, length-set}
+use mathlib.Core.Path.{refl, _∙_}
+use lib.ListN.{length-set}
 use Rattle.arena.proofs.Settling.{settle-none, settle-no, settle-clash, settle-linked, lower, room-for, arguments-linkable}
 use native.Mathlib.Omega.{arith}
 use borrow.Author.Needs.{needs}
@@ -19,7 +18,7 @@ returns c =
     let args = c .before .before .before .before .args in
     let pre = c .before .before .before .before .pre in
     let if1 = c .if1 in
-    settle-none (args .room) (args .words .now) (args .links .now) (args .variables) (args .used) (args .at) (pre .0) (pre .1) (args .same) (if1 .taken)
+    settle-none (args .room) (args .words .now) (args .links .now) (args .variables) (args .used) (args .at) (pre .0) (pre .1) (args .same) (args .low) (if1 .taken)
 
 mul-links : tie.Need-mul-links
 mul-links c = search needs
@@ -48,21 +47,21 @@ cast-if3 c =
     let args = c .before .before .before .before .before .before .args in
     let pre = c .before .before .before .before .before .before .pre in
     let if1 = c .before .before .if1 in
-    omega (arith, lower (args .room) (args .words .now) (args .links .now) (args .variables) (args .used) (args .at) (pre .0) (pre .1) _ _ refl (if1 .left) refl, (pre .0 .words), (pre .1))
+    omega (arith, lower (args .room) (args .words .now) (args .links .now) (args .variables) (args .used) (args .at) (pre .0) (pre .1) _ _ refl (if1 .left) refl, (pre .0 .words-in), (pre .1))
 
 mul-if3 : tie.Need-mul-if3
 mul-if3 c =
     let args = c .before .before .before .before .before .before .args in
     let pre = c .before .before .before .before .before .before .pre in
     let if1 = c .before .before .if1 in
-    omega (arith, lower (args .room) (args .words .now) (args .links .now) (args .variables) (args .used) (args .at) (pre .0) (pre .1) _ _ refl (if1 .left) refl, (pre .0 .words), (pre .1))
+    omega (arith, lower (args .room) (args .words .now) (args .links .now) (args .variables) (args .used) (args .at) (pre .0) (pre .1) _ _ refl (if1 .left) refl, (pre .0 .words-in), (pre .1))
 
 shared-slice-read-if3 : tie.Need-shared-slice-read-if3
 shared-slice-read-if3 c =
     let args = c .before .before .before .before .before .before .before .args in
     let pre = c .before .before .before .before .before .before .before .pre in
     let if1 = c .before .before .before .if1 in
-    omega (arith, lower (args .room) (args .words .now) (args .links .now) (args .variables) (args .used) (args .at) (pre .0) (pre .1) _ _ refl (if1 .left) refl, (pre .0 .words), (pre .1))
+    omega (arith, lower (args .room) (args .words .now) (args .links .now) (args .variables) (args .used) (args .at) (pre .0) (pre .1) _ _ refl (if1 .left) refl, (pre .0 .words-in), (pre .1))
 
 link-arguments-requires : tie.Need-link-arguments-requires
 link-arguments-requires c κs =
@@ -83,7 +82,7 @@ returns-2 c =
     let if3 = c .before .before .before .before .if3 in
     let link-arguments = c .before .before .link-arguments in
     let if2 = c .before .before .before .before .before .before .before .if2 in
-    settle-linked (args .room) (args .words .now) (args .links .now) (args .variables) (args .used) (args .at) (pre .0) (pre .1) _ _ refl (if1 .left) refl (if3 .taken) _ (link-arguments .result) (link-arguments .ensures) (args .same) (if2 .taken)
+    settle-linked (args .room) (args .words .now) (args .links .now) (args .variables) (args .used) (args .at) (pre .0) (pre .1) _ _ refl (if1 .left) refl (if3 .taken) _ (args .low) _ _ (link-arguments .ensures) (args .same) (if2 .taken)
 
 same-length-2 : tie.Need-same-length-2
 same-length-2 c = search needs
@@ -94,7 +93,7 @@ returns-3 c =
     let pre = c .before .before .before .before .before .before .before .before .pre in
     let if1 = c .before .before .before .before .if1 in
     let if3 = c .if3 in
-    settle-clash (args .room) (args .words .now) (args .links .now) (args .variables) (args .used) (args .at) (pre .0) (pre .1) _ _ refl (if1 .left) refl (args .same) (if3 .left)
+    settle-clash (args .room) (args .words .now) (args .links .now) (args .variables) (args .used) (args .at) (pre .0) (pre .1) _ _ refl (if1 .left) refl (args .same) (args .low) (if3 .left)
 
 same-length-3 : tie.Need-same-length-3
 same-length-3 c = search needs
@@ -104,7 +103,7 @@ returns-4 c =
     let args = c .before .before .before .before .before .args in
     let pre = c .before .before .before .before .before .pre in
     let if2 = c .if2 in
-    settle-no (args .room) (args .words .now) (args .links .now) (args .variables) (args .used) (args .at) (pre .0) (pre .1) (args .same) (if2 .left)
+    settle-no (args .room) (args .words .now) (args .links .now) (args .variables) (args .used) (args .at) (pre .0) (pre .1) (args .same) (args .low) (if2 .left)
 
 pub settle-spec : {M : Type 1} → statement M
 settle-spec =
