@@ -24,7 +24,7 @@ module _ {room limit : ℕ} {pattern places : List ℕ} {stored : Stored} {words
 
   -- The limits refuse the premises, and the bindings are undone.
   pub body-refused : {rows′ : Rows} → over (within room limit) (counter + stored .variables) (used + stored .head + stored .body) ≡ true
-    → rows′ ≡ undone rows mark (bound - mark) → BodyTried room limit pattern places stored words words rows rows′ counter used mark bound false
+      → rows′ ≡ undone rows mark (bound - mark) → BodyTried room limit pattern places stored words words rows rows′ counter used mark bound false
   body-refused e u = record { done = (e, u); kept = λ i l. refl; long = refl }
 
   module _ (fits : over (within room limit) (counter + stored .variables) (used + stored .head + stored .body) ≡ false) where
@@ -48,15 +48,18 @@ module _ {room limit : ℕ} {pattern places : List ℕ} {stored : Stored} {words
 
     -- The premises were copied.
     pub body-copied : {words′ : List ℕ} → words′ ≡ sets words (used + stored .head) (copied pattern (stored .from + stored .head) (stored .body) places room (used + stored .head) counter)
-      → BodyTried room limit pattern places stored words words′ rows rows counter used mark bound true
+        → BodyTried room limit pattern places stored words words′ rows rows counter used mark bound true
     body-copied {words′} w = record {
-        done = (fits, record {
+      done = (
+        fits,
+        record {
           same = refl;
           form = let a = few in let b = asked .lentRows in copied-form (asked .part) counter (asked .form) more few space small words′ w (omega arith);
           bindings = copied-held (asked .part) counter (asked .form) more few space small words′ w;
           references = λ r h. copied-reference (asked .part) counter (asked .form) more few space small words′ w r h;
-          denotes = λ r h. copied-denotes (asked .part) counter (asked .form) more few space small words′ w r h
-        });
-        kept = copied-kept (asked .part) counter (asked .form) more few space small words′ w;
-        long = copied-long (asked .part) counter (asked .form) more few space small words′ w
-      }
+          denotes = λ r h. copied-denotes (asked .part) counter (asked .form) more few space small words′ w r h;
+        },
+      );
+      kept = copied-kept (asked .part) counter (asked .form) more few space small words′ w;
+      long = copied-long (asked .part) counter (asked .form) more few space small words′ w;
+    }

@@ -86,7 +86,7 @@ pub record Attempted (room limit : ℕ) (pattern premises places : List ℕ) (st
     (rows rows′ links links′ marks marks′ stack stack′ : Rows) (counter used bound goal : ℕ) (answer : Tried) : Type 0 where
   -- the answer is the theory's
   pub is : attemptOf room words′ rows′ answer
-    ≡ attempt (within room limit) (held room words rows bound) (denote room (cells words) goal) used counter (ruleOf pattern premises stored)
+      ≡ attempt (within room limit) (held room words rows bound) (denote room (cells words) goal) used counter (ruleOf pattern premises stored)
   -- the words that were in use stand, and there are as many
   pub kept : Same room (cells words) (cells words′) used
   pub long : length words′ ≡ length words
@@ -128,7 +128,7 @@ Met room limit pattern places stored words words′ rows rows′ counter used bo
 Met room limit pattern places stored words words′ rows rows′ counter used bound goal (Unifies bound′) =
     (over (within room limit) (counter + stored .met) (used + stored .head) ≡ false)
     × (unify (counter + stored .met) (held room words rows bound) (denote room (cells words) goal) (instance pattern places stored counter)
-      ≡ unified (held room words′ rows′ bound′))
+    ≡ unified (held room words′ rows′ bound′))
     × Joined room words′ rows rows′ (counter + stored .met) (used + stored .head) bound bound′
 
 -- `try_head` copied the conclusion and unified the goal with it.
@@ -162,9 +162,9 @@ pub record Copied (room : ℕ) (pattern places : List ℕ) (stored : Stored) (wo
   pub form : Form room words′ rows′ (counter + stored .variables) (used + stored .head + stored .body) bound
   pub bindings : held room words′ rows′ bound ≡ held room words rows bound
   pub references : (r : ℕ) → Root pattern places (stored .from + stored .head) (stored .body) (stored .variables) r
-    → Reference room (cells words′) (counter + stored .variables) (used + stored .head + stored .body) (premiseAt places counter stored room used r)
+      → Reference room (cells words′) (counter + stored .variables) (used + stored .head + stored .body) (premiseAt places counter stored room used r)
   pub denotes : (r : ℕ) → Root pattern places (stored .from + stored .head) (stored .body) (stored .variables) r
-    → denote room (cells words′) (premiseAt places counter stored room used r) ≡ sub (numbered places counter) (patternOf pattern r)
+      → denote room (cells words′) (premiseAt places counter stored room used r) ≡ sub (numbered places counter) (patternOf pattern r)
 
 -- What came of the premises: they were copied, or the limits refuse them and the bindings are undone to the mark.
 abbrev pub Done : ℕ → ℕ → List ℕ → List ℕ → Stored → List ℕ → List ℕ → Rows → Rows → ℕ → ℕ → ℕ → ℕ → Bool → Type 0

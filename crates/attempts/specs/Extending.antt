@@ -19,7 +19,7 @@ use Rattle.unifier.specs.Holding.{Holds, form-holds}
 
 -- Bindings to references that denote the same in both words.
 bindings-kept : (N : ℕ) (w w′ values trail : Cells) (variables k : ℕ) → ((v r : ℕ) → v < variables → values v ≡ suc r → denote N w′ r ≡ denote N w r)
-  → BelowB variables (bindings N w values trail k) → ((i : ℕ) → i < k → values (trail i) ≡ 0 → ⊥) → bindings N w′ values trail k ≡ bindings N w values trail k
+    → BelowB variables (bindings N w values trail k) → ((i : ℕ) → i < k → values (trail i) ≡ 0 → ⊥) → bindings N w′ values trail k ≡ bindings N w values trail k
 bindings-kept N w w′ values trail variables zero d b f = refl
 bindings-kept N w w′ values trail variables (suc k) d b f =
     ap₂ (λ (t : Term) (β : Bindings). bind (trail k) t β) (value (values (trail k)) refl)
@@ -48,18 +48,22 @@ module _ {N : ℕ} {w : List ℕ} {b : Rows} {variables used k : ℕ} (form : Fo
 
     pub form-extended : Form N w′ b variables′ used′ k
     form-extended = record {
-        words = formed; few = few; low = low; lentWords = lentWords; lentRows = lentRows;
-        references = λ v r _ e. old-or-new (λ (v : ℕ). column 0 b v ≡ suc r → Reference N (cells w′) variables′ used′ r)
+      words = formed;
+      few = few;
+      low = low;
+      lentWords = lentWords;
+      lentRows = lentRows;
+      references = λ v r _ e. old-or-new (λ (v : ℕ). column 0 b v ≡ suc r → Reference N (cells w′) variables′ used′ r)
           (λ v l e. reference-up N more longer (reference-same N same (form .references v r l e)))
           (λ v l e. let z = form .unbound v l in let x : ⊥ = omega arith in absurd x) v e;
-        lookups = λ v _. ap (λ (β : Bindings). lookup β v) held-kept ∙ old-or-new (λ (v : ℕ). lookup (held N w b k) v ≡ lookupAt N (cells w′) (column 0 b v))
+      lookups = λ v _. ap (λ (β : Bindings). lookup β v) held-kept ∙ old-or-new (λ (v : ℕ). lookup (held N w b k) v ≡ lookupAt N (cells w′) (column 0 b v))
           (λ v l. form .lookups v l ∙ lookup-kept v (column 0 b v) l refl)
           (λ v l. lookup-above variables (held N w b k) (form .below) v l ∙ ap (lookupAt N (cells w′)) (sym (form .unbound v l))) v;
-        acyclic = subst (λ (β : Bindings). Acyclic β) (sym held-kept) (form .acyclic);
-        below = subst (λ (β : Bindings). BelowB variables′ β) (sym held-kept) (belowB-le more (held N w b k) (form .below));
-        unbound = λ v l. form .unbound v (omega arith);
-        rest = form .rest
-      }
+      acyclic = subst (λ (β : Bindings). Acyclic β) (sym held-kept) (form .acyclic);
+      below = subst (λ (β : Bindings). BelowB variables′ β) (sym held-kept) (belowB-le more (held N w b k) (form .below));
+      unbound = λ v l. form .unbound v (omega arith);
+      rest = form .rest;
+    }
 
   -- As many words are in use, and the variables are more.
   pub form-back : (variables′ : ℕ) → variables ≤ variables′ → variables′ ≤ N → variables′ ≤ length b → length w′ ≡ length w → Form N w′ b variables′ used k
@@ -75,5 +79,5 @@ scratch-less used l h =
       linksFree = record { lent = omega arith; empty = h .linksFree .empty };
       marksFree = record { lent = omega arith; empty = h .marksFree .empty };
       stackLent = omega arith;
-      stackEmpty = h .stackEmpty
+      stackEmpty = h .stackEmpty;
     }

@@ -42,7 +42,7 @@ module _ {room limit : ℕ} {pattern places : List ℕ} {stored : Stored} {words
     (asked : HeadAsked room limit pattern places stored words rows links marks stack counter used bound goal) where
   -- The limits refuse the conclusion, and nothing was done.
   pub head-refused : over (within room limit) (counter + stored .met) (used + stored .head) ≡ true
-    → HeadTried room limit pattern places stored words words rows rows links links marks marks stack stack counter used bound goal Refused
+      → HeadTried room limit pattern places stored words words rows rows links links marks marks stack stack counter used bound goal Refused
   head-refused e = record { came = (e, refl); kept = λ i l. refl; long = refl; linksKept = refl; marksKept = refl; stackKept = refl }
 
   module _ (fits : over (within room limit) (counter + stored .met) (used + stored .head) ≡ false) where
@@ -87,35 +87,42 @@ module _ {room limit : ℕ} {pattern places : List ℕ} {stored : Stored} {words
 
       -- The same bindings, the same goal and the copied conclusion.
       same : unify (counter + stored .met) (held room words rows bound) (denote room (cells words) goal) (instance pattern places stored counter)
-        ≡ unify (counter + stored .met) (held room words′ rows bound) (denote room (cells words′) goal)
+          ≡ unify (counter + stored .met) (held room words′ rows bound) (denote room (cells words′) goal)
           (denote room (cells words′) (copiedAt places counter (stored .from) room used (stored .conclusion)))
       same =
           ap (λ (β : Bindings). unify (counter + stored .met) β (denote room (cells words) goal) (instance pattern places stored counter))
-            (sym (copied-held (asked .part) counter (asked .state .form) more few space small words′ written))
+          (sym (copied-held (asked .part) counter (asked .state .form) more few space small words′ written))
           ∙ ap₂ (λ (g h : Term). unify (counter + stored .met) (held room words′ rows bound) g h)
-            (frame-denote room (cells words) counter used (asked .state .form .words) (cells words′) kept goal (asked .refers))
-            (sym (copied-denotes (asked .part) counter (asked .state .form) more few space small words′ written (stored .conclusion) (asked .root)))
+          (frame-denote room (cells words) counter used (asked .state .form .words) (cells words′) kept goal (asked .refers))
+          (sym (copied-denotes (asked .part) counter (asked .state .form) more few space small words′ written (stored .conclusion) (asked .root)))
 
       module _ {rows′ links′ marks′ stack′ : Rows} {bound′ : ℕ} {answer : Bool}
           (h : Unified room words′ rows rows′ links links′ marks marks′ stack stack′ (counter + stored .met) (used + stored .head) bound bound′
-            goal (copiedAt places counter (stored .from) room used (stored .conclusion)) answer) where
+          goal (copiedAt places counter (stored .from) room used (stored .conclusion)) answer) where
         -- They do not unify.
         pub head-apart : answer ≡ false
-          → HeadTried room limit pattern places stored words words′ rows rows′ links links′ marks marks′ stack stack′ counter used bound goal Apart
+            → HeadTried room limit pattern places stored words words′ rows rows′ links links′ marks marks′ stack stack′ counter used bound goal Apart
         head-apart e = record {
-            came = (fits, same ∙ h .is ∙ ap (λ (a : Bool). outcome a (held room words′ rows′ bound′)) e, h .failed e .0);
-            kept = kept;
-            long = copied-long (asked .part) counter (asked .state .form) more few space small words′ written;
-            linksKept = h .links; marksKept = h .marks; stackKept = h .stack
-          }
+          came = (fits, same ∙ h .is ∙ ap (λ (a : Bool). outcome a (held room words′ rows′ bound′)) e, h .failed e .0);
+          kept = kept;
+          long = copied-long (asked .part) counter (asked .state .form) more few space small words′ written;
+          linksKept = h .links;
+          marksKept = h .marks;
+          stackKept = h .stack;
+        }
 
         -- They unify.
         pub head-unifies : answer ≡ true
-          → HeadTried room limit pattern places stored words words′ rows rows′ links links′ marks marks′ stack stack′ counter used bound goal (Unifies bound′)
+            → HeadTried room limit pattern places stored words words′ rows rows′ links links′ marks marks′ stack stack′ counter used bound goal (Unifies bound′)
         head-unifies e = record {
-            came = (fits, same ∙ h .is ∙ ap (λ (a : Bool). outcome a (held room words′ rows′ bound′)) e,
-              record { form = h .form; added = record { more = h .more; kept = h .kept; still = h .still; back = h .back } });
-            kept = kept;
-            long = copied-long (asked .part) counter (asked .state .form) more few space small words′ written;
-            linksKept = h .links; marksKept = h .marks; stackKept = h .stack
-          }
+          came = (
+            fits,
+            same ∙ h .is ∙ ap (λ (a : Bool). outcome a (held room words′ rows′ bound′)) e,
+            record { form = h .form; added = record { more = h .more; kept = h .kept; still = h .still; back = h .back } },
+          );
+          kept = kept;
+          long = copied-long (asked .part) counter (asked .state .form) more few space small words′ written;
+          linksKept = h .links;
+          marksKept = h .marks;
+          stackKept = h .stack;
+        }

@@ -63,11 +63,11 @@ module _ {pattern premises places : List ℕ} {stored : Stored} (rule : StoredRu
   unfolding attempt
   stored-counts =
       ap₂ (λ (v : ℕ) (h : Term). first room limit β g m c (c + v) (m + words (head c R)) h (c + length (allVars R)) (m + words (head c R) + words (body c R)))
-        (sym (rule .headVariables)) (sym (instance-head pattern premises places stored rule c))
+      (sym (rule .headVariables)) (sym (instance-head pattern premises places stored rule c))
       ∙ ap₂ (λ (u u′ : ℕ). first room limit β g m c (c + stored .met) (m + u) (instance pattern places stored c) (c + length (allVars R)) (m + u + u′))
-        (head-words pattern premises places stored rule c) (body-words pattern premises places stored rule c)
+      (head-words pattern premises places stored rule c) (body-words pattern premises places stored rule c)
       ∙ ap (λ (v : ℕ). first room limit β g m c (c + stored .met) (m + stored .head) (instance pattern places stored c) (c + v) (m + stored .head + stored .body))
-        (sym (rule .allVariables))
+      (sym (rule .allVariables))
 
   head-exceeds : head-over ≡ true → tried ≡ exceeded
   head-exceeds e = stored-counts ∙ guard-refuses head-over _ e
@@ -98,19 +98,21 @@ module _ {room limit : ℕ} {pattern premises places : List ℕ} {stored : Store
   -- What `try_head` asks.
   pub head-asked : HeadAsked room limit pattern places stored words rows links marks stack counter used bound goal
   head-asked = record {
-      part = rule .headPart; root = rule .conclusion;
-      few = let a = rule .few in let b = variables-le pattern premises places stored rule counter in omega arith;
-      state = asked .state; refers = asked .refers
-    }
+    part = rule .headPart;
+    root = rule .conclusion;
+    few = let a = rule .few in let b = variables-le pattern premises places stored rule counter in omega arith;
+    state = asked .state;
+    refers = asked .refers;
+  }
 
   -- Back at the entry, with the words in use as they were.
   back : (counter′ : ℕ) {words′ : List ℕ} {rows′ : Rows} → counter ≤ counter′ → counter′ ≤ room → Same room (cells words) (cells words′) used → length words′ ≡ length words → rows′ ≡ rows
-    → Back room words′ rows rows′ counter′ used bound
+      → Back room words′ rows rows′ counter′ used bound
   back counter′ {words′} {rows′} more few kept long e =
       let l = asked .state .lentRows in
       record {
         same = e;
-        form = subst (λ (b : Rows). Form room words′ b counter′ used bound) (sym e) (form-back form words′ kept counter′ more few (omega arith) long)
+        form = subst (λ (b : Rows). Form room words′ b counter′ used bound) (sym e) (form-back form words′ kept counter′ more few (omega arith) long);
       }
 
   -- No sum is too large.
@@ -126,22 +128,28 @@ module _ {room limit : ℕ} {pattern premises places : List ℕ} {stored : Store
     known a e = subst (λ (a : Meeting). HeadTried room limit pattern places stored words words′ rows rows′ links links′ marks marks′ stack stack′ counter used bound goal a) e told
 
     pub refused-way : answer ≡ Refused
-      → Attempted room limit pattern premises places stored words words′ rows rows′ links links′ marks marks′ stack stack′ counter used bound goal Exceeded
+        → Attempted room limit pattern premises places stored words words′ rows rows′ links links′ marks marks′ stack stack′ counter used bound goal Exceeded
     refused-way e = let h = known Refused e in record {
-        is = sym (head-exceeds rule room limit (held room words rows bound) (denote room (cells words) goal) used counter (h .came .0));
-        kept = h .kept; long = h .long;
-        left = back counter (le-refl counter) (form .few) (h .kept) (h .long) (h .came .1);
-        linksKept = h .linksKept; marksKept = h .marksKept; stackKept = h .stackKept
-      }
+      is = sym (head-exceeds rule room limit (held room words rows bound) (denote room (cells words) goal) used counter (h .came .0));
+      kept = h .kept;
+      long = h .long;
+      left = back counter (le-refl counter) (form .few) (h .kept) (h .long) (h .came .1);
+      linksKept = h .linksKept;
+      marksKept = h .marksKept;
+      stackKept = h .stackKept;
+    }
 
     pub missed-way : answer ≡ Apart
-      → Attempted room limit pattern premises places stored words words′ rows rows′ links links′ marks marks′ stack stack′ counter used bound goal (Missed (counter + stored .met))
+        → Attempted room limit pattern premises places stored words words′ rows rows′ links links′ marks marks′ stack stack′ counter used bound goal (Missed (counter + stored .met))
     missed-way e = let h = known Apart e in record {
-        is = sym (misses rule room limit (held room words rows bound) (denote room (cells words) goal) used counter (h .came .0) (h .came .1));
-        kept = h .kept; long = h .long;
-        left = (omega arith, back (counter + stored .met) (omega arith) (allowed room limit (counter + stored .met) (used + stored .head) (h .came .0) .0) (h .kept) (h .long) (h .came .2));
-        linksKept = h .linksKept; marksKept = h .marksKept; stackKept = h .stackKept
-      }
+      is = sym (misses rule room limit (held room words rows bound) (denote room (cells words) goal) used counter (h .came .0) (h .came .1));
+      kept = h .kept;
+      long = h .long;
+      left = (omega arith, back (counter + stored .met) (omega arith) (allowed room limit (counter + stored .met) (used + stored .head) (h .came .0) .0) (h .kept) (h .long) (h .came .2));
+      linksKept = h .linksKept;
+      marksKept = h .marksKept;
+      stackKept = h .stackKept;
+    }
 
     module _ (n : ℕ) (e : answer ≡ Unifies n) (rowsLong : length rows′ ≡ length rows) where
       h : HeadTried room limit pattern places stored words words′ rows rows′ links links′ marks marks′ stack stack′ counter used bound goal (Unifies n)
@@ -152,9 +160,14 @@ module _ {room limit : ℕ} {pattern premises places : List ℕ} {stored : Store
       body-asked =
           let l = told .long in let a = asked .state .lentWords in let b = asked .state .lentRows in
           record {
-            part = rule .bodyPart; few = rule .few; grows = variables-le pattern premises places stored rule counter;
-            form = h .came .2 .form; marked = h .came .2 .added .more;
-            lentWords = omega arith; lentRows = omega arith; low = asked .state .low
+            part = rule .bodyPart;
+            few = rule .few;
+            grows = variables-le pattern premises places stored rule counter;
+            form = h .came .2 .form;
+            marked = h .came .2 .added .more;
+            lentWords = omega arith;
+            lentRows = omega arith;
+            low = asked .state .low;
           }
 
       kept-both : (words″ : List ℕ) → Same room (cells words′) (cells words″) (used + stored .head) → Same room (cells words) (cells words″) used
@@ -162,30 +175,38 @@ module _ {room limit : ℕ} {pattern premises places : List ℕ} {stored : Store
 
       module _ {words″ : List ℕ} {rows″ : Rows} {copied : Bool} (done : BodyTried room limit pattern places stored words′ words″ rows′ rows″ counter used bound n copied) where
         pub exceeded-way : copied ≡ false
-          → Attempted room limit pattern premises places stored words words″ rows rows″ links links′ marks marks′ stack stack′ counter used bound goal Exceeded
+            → Attempted room limit pattern premises places stored words words″ rows rows″ links links′ marks marks′ stack stack′ counter used bound goal Exceeded
         exceeded-way f = let k = subst (λ (a : Bool). BodyTried room limit pattern places stored words′ words″ rows′ rows″ counter used bound n a) f done in record {
-            is = sym (body-exceeds rule room limit (held room words rows bound) (denote room (cells words) goal) used counter
+          is = sym (body-exceeds rule room limit (held room words rows bound) (denote room (cells words) goal) used counter
               (held room words′ rows′ n) (h .came .0) (h .came .1) (k .done .0));
-            kept = kept-both words″ (k .kept); long = k .long ∙ h .long;
-            left = back counter (le-refl counter) (form .few) (kept-both words″ (k .kept)) (k .long ∙ h .long) (k .done .1 ∙ h .came .2 .added .back);
-            linksKept = h .linksKept; marksKept = h .marksKept; stackKept = h .stackKept
-          }
+          kept = kept-both words″ (k .kept);
+          long = k .long ∙ h .long;
+          left = back counter (le-refl counter) (form .few) (kept-both words″ (k .kept)) (k .long ∙ h .long) (k .done .1 ∙ h .came .2 .added .back);
+          linksKept = h .linksKept;
+          marksKept = h .marksKept;
+          stackKept = h .stackKept;
+        }
 
         pub entered-way : copied ≡ true
-          → Attempted room limit pattern premises places stored words words″ rows rows″ links links′ marks marks′ stack stack′ counter used bound goal
+            → Attempted room limit pattern premises places stored words words″ rows rows″ links links′ marks marks′ stack stack′ counter used bound goal
             (Entered (counter + stored .variables) n (used + stored .head + stored .body))
         entered-way f = let k = subst (λ (a : Bool). BodyTried room limit pattern places stored words′ words″ rows′ rows″ counter used bound n a) f done in record {
-            is = ap (λ (β : Bindings). entered β (counter + stored .variables) (used + stored .head + stored .body)) (k .done .1 .bindings)
+          is = ap (λ (β : Bindings). entered β (counter + stored .variables) (used + stored .head + stored .body)) (k .done .1 .bindings)
               ∙ sym (enters rule room limit (held room words rows bound) (denote room (cells words) goal) used counter
-                (held room words′ rows′ n) (h .came .0) (h .came .1) (k .done .0));
-            kept = kept-both words″ (k .kept); long = k .long ∙ h .long;
-            left = record {
-              form = k .done .1 .form; later = omega arith; longer = omega arith;
-              added = subst (λ (b : Rows). Added rows b bound n) (sym (k .done .1 .same)) (h .came .2 .added);
-              references = λ i l. k .done .1 .references (getD premises i 0) (rule .premise i l);
-              denoted = terms-moved (numbered places counter) (premiseAt places counter stored room used) (patternOf pattern) (denote room (cells words″)) premises
+              (held room words′ rows′ n) (h .came .0) (h .came .1) (k .done .0));
+          kept = kept-both words″ (k .kept);
+          long = k .long ∙ h .long;
+          left = record {
+            form = k .done .1 .form;
+            later = omega arith;
+            longer = omega arith;
+            added = subst (λ (b : Rows). Added rows b bound n) (sym (k .done .1 .same)) (h .came .2 .added);
+            references = λ i l. k .done .1 .references (getD premises i 0) (rule .premise i l);
+            denoted = terms-moved (numbered places counter) (premiseAt places counter stored room used) (patternOf pattern) (denote room (cells words″)) premises
                 (λ i l. k .done .1 .denotes (getD premises i 0) (rule .premise i l))
-                ∙ instance-body pattern premises places stored rule counter
-            };
-            linksKept = h .linksKept; marksKept = h .marksKept; stackKept = h .stackKept
-          }
+                ∙ instance-body pattern premises places stored rule counter;
+          };
+          linksKept = h .linksKept;
+          marksKept = h .marksKept;
+          stackKept = h .stackKept;
+        }

@@ -19,10 +19,16 @@ module _ {pattern places : List ℕ} {from count n : ℕ} (part : Part pattern p
     {words : List ℕ} {rows : Rows} {room used variables bound : ℕ} (counter : ℕ) (form : Form room words rows variables used bound)
     (more : variables ≤ counter + n) (few : counter + n ≤ room) (space : used + count ≤ length words) (small : room + used + count ≤ headers) where
   pub copyable : Copyable pattern from count places words room used counter
-  copyable = record
-    { part = part .there; space = space; low = part .low; small = small; listed = part .listed
-    ; number = λ i l v. let x = part .numbered i l v in omega arith
-    ; inside = part .inside; address = part .address }
+  copyable = record {
+    part = part .there;
+    space = space;
+    low = part .low;
+    small = small;
+    listed = part .listed;
+    number = λ i l v. let x = part .numbered i l v in omega arith;
+    inside = part .inside;
+    address = part .address;
+  }
 
   number : (i : ℕ) → i < count → getD pattern (from + i) 0 < patternRoom → counter + getD places (getD pattern (from + i) 0) 0 < counter + n
   number i l v = let x = part .numbered i l v in omega arith
@@ -32,11 +38,12 @@ module _ {pattern places : List ℕ} {from count n : ℕ} (part : Part pattern p
 
   -- It can be moved: no sum is too large.
   pub root-movable : (r : ℕ) → Root pattern places from count n r → Movable places counter (patternRoom + from) (room + used) r
-  root-movable r root = record
-    { listed = root .listed
-    ; number = λ v. let x = root .numbered v in omega arith
-    ; inside = λ v h. root .from-on v
-    ; address = λ v h. let a = root .from-on v in let b = root .below v in omega arith }
+  root-movable r root = record {
+    listed = root .listed;
+    number = λ v. let x = root .numbered v in omega arith;
+    inside = λ v h. root .from-on v;
+    address = λ v h. let a = root .from-on v in let b = root .below v in omega arith;
+  }
 
   module _ (words′ : List ℕ) (written : words′ ≡ sets words used (copied pattern from count places room used counter)) where
     -- The words in use stand, and there are as many words.

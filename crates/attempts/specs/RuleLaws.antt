@@ -25,7 +25,7 @@ bare premises conclusion = record { name = []; sorts = []; premises = premises; 
 
 -- An attempt looks at nothing but a rule's premises and conclusion.
 pub attempt-looks : (l : Limits) (β : Bindings) (g : Term) (m c : ℕ) (R S : Rule) → R .premises ≡ S .premises → R .conclusion ≡ S .conclusion
-  → attempt l β g m c R ≡ attempt l β g m c S
+    → attempt l β g m c R ≡ attempt l β g m c S
 unfolding attempt
 attempt-looks l β g m c R S p q = ap₂ (λ (ts : Terms) (t : Term). attempt l β g m c (bare ts t)) p q
 
@@ -42,7 +42,7 @@ words-renamed c e (cons t ts) = ap₂ _+_ (words-renamed c e t) (words-renamed c
 
 -- Where the table agrees with the places among e, it numbers what e covers as the theory does.
 pub numbered-fresh : {s : Kind} (places : List ℕ) (c : ℕ) (e : List ℕ) → ((x : ℕ) → elem x e ≡ true → getD places x 0 ≡ place e x)
-  → (t : Syn s) → Covers e t → sub (numbered places c) t ≡ sub (fresh c e) t
+    → (t : Syn s) → Covers e t → sub (numbered places c) t ≡ sub (fresh c e) t
 numbered-fresh places c e h (var x) k = ap (λ (n : ℕ). var (c + n)) (h x k)
 numbered-fresh places c e h (app f ts) k = ap (app f) (numbered-fresh places c e h ts k)
 numbered-fresh places c e h nil k = refl
@@ -50,7 +50,7 @@ numbered-fresh places c e h (cons t ts) k = ap₂ cons (numbered-fresh places c 
 
 -- Moved references that denote instances, in order.
 pub terms-moved : (σ : Subst) (f : ℕ → ℕ) (g h : ℕ → Term) (rs : List ℕ) → ((i : ℕ) → i < length rs → h (f (getD rs i 0)) ≡ sub σ (g (getD rs i 0)))
-  → termsOf h (map f rs) ≡ sub σ (termsOf g rs)
+    → termsOf h (map f rs) ≡ sub σ (termsOf g rs)
 terms-moved σ f g h [] k = refl
 terms-moved σ f g h (r ∷ rs) k = ap₂ cons (k 0 (omega arith)) (terms-moved σ f g h rs (λ i l. k (suc i) (omega arith)))
 
@@ -63,7 +63,7 @@ module _ (pattern premises places : List ℕ) (stored : Stored) (rule : StoredRu
   unfolding ruleOf
   instance-head =
       numbered-fresh places c (allVars R) (rule .placed) (R .conclusion)
-        (covers-grows (R .conclusion) (headVars R) (allVars R) (metBack-grows (R .premises) (headVars R)) (met-covers (R .conclusion) []))
+      (covers-grows (R .conclusion) (headVars R) (allVars R) (metBack-grows (R .premises) (headVars R)) (met-covers (R .conclusion) []))
       ∙ head-all c R
 
   pub instance-body : sub (numbered places c) (termsOf (patternOf pattern) premises) ≡ body c (ruleOf pattern premises stored)

@@ -35,7 +35,7 @@ pub record Part (pattern places : List ℕ) (from count n : ℕ) : Type 0 where
   -- a node that is referred to belongs to the part
   pub inside : (i : ℕ) → i < count → patternRoom ≤ getD pattern (from + i) 0 → getD pattern (from + i) 0 < headers → patternRoom + from ≤ getD pattern (from + i) 0
   pub address : (i : ℕ) → i < count → patternRoom ≤ getD pattern (from + i) 0 → getD pattern (from + i) 0 < headers
-    → getD pattern (from + i) 0 < patternRoom + from + count
+      → getD pattern (from + i) 0 < patternRoom + from + count
 
 -- The reference of a judgment: a variable whose place is below n, or a node of the part.
 pub record Root (pattern places : List ℕ) (from count n r : ℕ) : Type 0 where

@@ -4,6 +4,7 @@ ghost use Prim.Native.Nat.{_+_};
 ghost use Rattle.resolution.specs.Search.{within, over};
 ghost use Rattle.attempts.specs.Contracts.{Asked, Attempted, HeadAsked, HeadTried, BodyAsked, BodyTried};
 use arena::inst;
+use arena::moved_word;
 use unifier::undo;
 use unifier::unify;
 
@@ -52,11 +53,26 @@ fn exceeds(room: u32, limit: u32, variables: u32, words: u32) -> bool
 }
 
 // Copies the conclusion behind the used words, if the limits allow it, and unifies the goal with it.
-fn try_head(pattern: &[u32], stored: Stored, places: &[u32], words: &mut [u32], bindings: &mut [[u32; 2]], links: &mut [[u32; 2]], marks: &mut [[u32; 2]], stack: &mut [[u32; 3]], room: u32, limit: u32, counter: u32, used: u32, bound: u32, goal: u32) -> Meeting
+fn try_head(
+    pattern: &[u32],
+    stored: Stored,
+    places: &[u32],
+    words: &mut [u32],
+    bindings: &mut [[u32; 2]],
+    links: &mut [[u32; 2]],
+    marks: &mut [[u32; 2]],
+    stack: &mut [[u32; 3]],
+    room: u32,
+    limit: u32,
+    counter: u32,
+    used: u32,
+    bound: u32,
+    goal: u32,
+) -> Meeting
     requires { ⌜ HeadAsked room limit (now pattern) (now places) stored (now words) (now bindings) (now links) (now marks) (now stack) counter used bound goal ⌝ }
     ensures { λ r. ⌜ HeadTried room limit (now (pattern .entry)) (now (places .entry)) stored (now (words .entry)) (now (words .exit))
-      (now (bindings .entry)) (now (bindings .exit)) (now (links .entry)) (now (links .exit)) (now (marks .entry)) (now (marks .exit))
-      (now (stack .entry)) (now (stack .exit)) counter used bound goal r ⌝ }
+        (now (bindings .entry)) (now (bindings .exit)) (now (links .entry)) (now (links .exit)) (now (marks .entry)) (now (marks .exit))
+        (now (stack .entry)) (now (stack .exit)) counter used bound goal r ⌝ }
 {
     let from = stored.from;
     let count = stored.head;
@@ -65,9 +81,27 @@ fn try_head(pattern: &[u32], stored: Stored, places: &[u32], words: &mut [u32], 
     if exceeds(room, limit, variables, top) {
         return Meeting::Refused;
     }
-    let conclusion = room + used + (stored.conclusion - (PATTERN_ROOM + from));
+    let conclusion = moved_word(
+        stored.conclusion,
+        places,
+        counter,
+        PATTERN_ROOM + from,
+        room + used,
+    );
     inst(pattern, from, count, places, words, room, used, counter);
-    let ended = unify(words, bindings, links, marks, stack, room, variables, top, bound, goal, conclusion);
+    let ended = unify(
+        words,
+        bindings,
+        links,
+        marks,
+        stack,
+        room,
+        variables,
+        top,
+        bound,
+        goal,
+        conclusion,
+    );
     if ended.unified {
         return Meeting::Unifies(ended.bound);
     }
@@ -75,10 +109,22 @@ fn try_head(pattern: &[u32], stored: Stored, places: &[u32], words: &mut [u32], 
 }
 
 // Copies the premises behind the conclusion, if the limits allow it; else the bindings are undone to the mark.
-fn try_body(pattern: &[u32], stored: Stored, places: &[u32], words: &mut [u32], bindings: &mut [[u32; 2]], room: u32, limit: u32, counter: u32, used: u32, mark: u32, bound: u32) -> bool
+fn try_body(
+    pattern: &[u32],
+    stored: Stored,
+    places: &[u32],
+    words: &mut [u32],
+    bindings: &mut [[u32; 2]],
+    room: u32,
+    limit: u32,
+    counter: u32,
+    used: u32,
+    mark: u32,
+    bound: u32,
+) -> bool
     requires { ⌜ BodyAsked room limit (now pattern) (now places) stored (now words) (now bindings) counter used mark bound ⌝ }
     ensures { λ r. ⌜ BodyTried room limit (now (pattern .entry)) (now (places .entry)) stored (now (words .entry)) (now (words .exit))
-      (now (bindings .entry)) (now (bindings .exit)) counter used mark bound r ⌝ }
+        (now (bindings .entry)) (now (bindings .exit)) counter used mark bound r ⌝ }
 {
     let from = stored.from + stored.head;
     let count = stored.body;
@@ -93,18 +139,65 @@ fn try_body(pattern: &[u32], stored: Stored, places: &[u32], words: &mut [u32], 
 
 // One attempt: the goal with a rule, under the first `bound` bindings, with new variables from the counter on. The premises' references are named only
 // in the contract: where they are found in the words is `premiseAt`.
-pub fn try_rule(pattern: &[u32], stored: Stored, premises: &[u32], places: &[u32], words: &mut [u32], bindings: &mut [[u32; 2]], links: &mut [[u32; 2]], marks: &mut [[u32; 2]], stack: &mut [[u32; 3]], room: u32, limit: u32, counter: u32, used: u32, bound: u32, goal: u32) -> Tried
+pub fn try_rule(
+    pattern: &[u32],
+    stored: Stored,
+    premises: &[u32],
+    places: &[u32],
+    words: &mut [u32],
+    bindings: &mut [[u32; 2]],
+    links: &mut [[u32; 2]],
+    marks: &mut [[u32; 2]],
+    stack: &mut [[u32; 3]],
+    room: u32,
+    limit: u32,
+    counter: u32,
+    used: u32,
+    bound: u32,
+    goal: u32,
+) -> Tried
     requires { ⌜ Asked room limit (now pattern) (now premises) (now places) stored (now words) (now bindings) (now links) (now marks) (now stack) counter used bound goal ⌝ }
     ensures { λ r. ⌜ Attempted room limit (now (pattern .entry)) (now (premises .entry)) (now (places .entry)) stored (now (words .entry)) (now (words .exit))
-      (now (bindings .entry)) (now (bindings .exit)) (now (links .entry)) (now (links .exit)) (now (marks .entry)) (now (marks .exit))
-      (now (stack .entry)) (now (stack .exit)) counter used bound goal r ⌝ }
+        (now (bindings .entry)) (now (bindings .exit)) (now (links .entry)) (now (links .exit)) (now (marks .entry)) (now (marks .exit))
+        (now (stack .entry)) (now (stack .exit)) counter used bound goal r ⌝ }
 {
-    match try_head(pattern, stored, places, words, bindings, links, marks, stack, room, limit, counter, used, bound, goal) {
+    match try_head(
+        pattern,
+        stored,
+        places,
+        words,
+        bindings,
+        links,
+        marks,
+        stack,
+        room,
+        limit,
+        counter,
+        used,
+        bound,
+        goal,
+    ) {
         Meeting::Refused => Tried::Exceeded,
         Meeting::Apart => Tried::Missed(counter + stored.met),
         Meeting::Unifies(n) => {
-            if try_body(pattern, stored, places, words, bindings, room, limit, counter, used, bound, n) {
-                return Tried::Entered(counter + stored.variables, n, used + stored.head + stored.body);
+            if try_body(
+                pattern,
+                stored,
+                places,
+                words,
+                bindings,
+                room,
+                limit,
+                counter,
+                used,
+                bound,
+                n,
+            ) {
+                return Tried::Entered(
+                    counter + stored.variables,
+                    n,
+                    used + stored.head + stored.body,
+                );
             }
             Tried::Exceeded
         }
