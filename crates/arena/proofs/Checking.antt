@@ -2,14 +2,14 @@
 use Prim.Native.Nat.{ℕ, zero, suc, _+_, _-_, _≤_, _<_}
 use native.Mathlib.Omega.{arith}
 use native.Mathlib.Numerals.{add-one}
-use mathlib.Core.Path.{_≡_, refl, sym, ap, _∙_}
-use mathlib.Core.Bool.{Bool, true, false, _&&_, not, cond}
-use mathlib.Core.List.{List, [], _∷_}
+use mathlib.Core.Path.{_≡_, refl}
+use mathlib.Core.Bool.{true, false, not}
+use mathlib.Core.List.{List}
 use lib.ListN.{getD, length}
 use lib.Seq.{slice, slice-cons, slice-empty}
 use lib.Dec.{eqb, leb, ltb}
-use borrow.Author.Tests.{eq-eqb, ne-eqb, le-leb, lt-leb}
-use Rattle.terms.specs.Numbers.{same, less, less-yes, less-no, by-less, same-refl, same-ne}
+use borrow.Author.Tests.{ne-eqb, le-leb, lt-leb}
+use Rattle.terms.specs.Numbers.{less, less-yes, less-no, by-less, same-refl, same-ne}
 use Rattle.arena.specs.Cells.{headers, symbolOf, arityOf}
 use Rattle.arena.specs.Form.{inputs, isHeader, Place, isArgument, nodes}
 

@@ -1,17 +1,17 @@
 -- Linking two references: the loop's invariant, its step, and its ways out.
-use Prim.Native.Nat.{ℕ, zero, suc, _+_, _-_, _≤_, _<_}
+use Prim.Native.Nat.{ℕ, suc, _+_, _-_, _≤_, _<_}
 use native.Mathlib.Omega.{arith}
 use mathlib.Core.Path.{_≡_, refl, sym, ap, _∙_, subst}
-use mathlib.Core.Bool.{Bool, true, false, cond}
-use mathlib.Core.Logic.{_⊎_, inl, inr, ⊎-elim, _≢_}
+use mathlib.Core.Bool.{Bool, true, false}
+use mathlib.Core.Logic.{_≢_}
 use mathlib.Core.List.{List}
 use lib.ListN.{length, getD, set, length-set}
 use lib.Seq.{getD-set-same, getD-set-other}
 use borrow.Author.Count.{below-more}
-use Rattle.terms.specs.Numbers.{less, less-yes, less-no, by-less, by-same, true-false}
+use Rattle.terms.specs.Numbers.{less-yes, less-no, by-less, by-same, true-false}
 use Rattle.terms.specs.Term.{Term}
-use Rattle.arena.specs.Cells.{Cells, cells}
-use Rattle.arena.specs.Links.{least, greatest, Descending, Agrees, Each, Apart, Joined, Linkable, Arguments}
+use Rattle.arena.specs.Cells.{cells}
+use Rattle.arena.specs.Links.{least, greatest, Descending, Agrees, Each, Joined, Linkable, Arguments}
 
 -- The lesser is one of the two, and at most the other; likewise the greater.
 pub least-is : (P : ℕ → Type 0) (a b : ℕ) → (a < b → P a) → (b ≤ a → P b) → P (least a b)

@@ -1,18 +1,17 @@
 -- Taking up a link, and the pass over all: ways out and the loop's invariant.
-use Prim.Native.Nat.{ℕ, zero, suc, _+_, _-_, _*_, _/_, _%_, _≤_, _<_}
+use Prim.Native.Nat.{ℕ, suc, _+_, _-_, _≤_, _<_}
 use native.Mathlib.Omega.{arith}
-use mathlib.Core.Path.{_≡_, refl, sym, ap, _∙_, subst}
+use mathlib.Core.Path.{_≡_, refl, sym, _∙_}
 use mathlib.Core.Bool.{Bool, true, false}
 use mathlib.Core.Logic.{_⊎_, inl, inr, ⊎-elim, _≢_}
 use mathlib.Core.List.{List}
-use lib.ListN.{length, getD, set, length-set}
-use lib.Seq.{getD-set-same, getD-set-other, ext-getD}
-use Rattle.terms.specs.Numbers.{less, less-yes, less-no, by-less, by-same, by-bool, true-false}
-use Rattle.terms.specs.Term.{Term}
-use Rattle.arena.specs.Cells.{headers, Cells, cells, arityOf, denote, Reference, WellFormed, low-or-high, reference-up, reference-below}
-use Rattle.arena.specs.Form.{Place, isArgument}
+use lib.ListN.{length, set, length-set}
+use lib.Seq.{ext-getD}
+use Rattle.terms.specs.Numbers.{by-same, by-bool, true-false}
+use Rattle.arena.specs.Cells.{headers, cells, arityOf, denote, Reference, low-or-high, reference-up}
+use Rattle.arena.specs.Form.{isArgument}
 use Rattle.arena.specs.FormLaws.{argument-reference, reference-accepted}
-use Rattle.arena.specs.Links.{Descending, Agrees, Each, Apart, Joined, Linkable, Arguments, Comparable, Settled, greatest}
+use Rattle.arena.specs.Links.{Descending, Agrees, Each, Joined, Linkable, Arguments, Comparable, Settled, greatest}
 use Rattle.arena.specs.Equality.{Ready, Compared}
 use Rattle.arena.specs.EqualityLaws.{alike-same, alike-not, variable-apart, nodes-equal, equal-headers, equal-arguments}
 use Rattle.arena.proofs.Linking.{set-other, set-here, ordered}

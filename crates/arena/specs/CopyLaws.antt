@@ -1,18 +1,18 @@
 -- Laws of a copied part: earlier words and terms stay, the words stay well formed, and a moved reference denotes the instance of what the pattern's
 -- reference denotes. As many words are written as are copied.
-use Prim.Native.Nat.{ℕ, zero, suc, _+_, _-_, _*_, _/_, _%_, _≤_, _<_}
+use Prim.Native.Nat.{ℕ, zero, suc, _+_, _-_, _≤_, _<_}
 use native.Mathlib.Omega.{arith}
 use native.Mathlib.Nat.{not-suc-le-zero}
-use mathlib.Core.Path.{_≡_, refl, sym, ap, ap₂, _∙_, subst}
-use mathlib.Core.Bool.{Bool, true, false, cond}
+use mathlib.Core.Path.{_≡_, refl, sym, ap, ap₂, _∙_}
+use mathlib.Core.Bool.{true}
 use mathlib.Core.List.{List, [], _∷_, map}
-use mathlib.Core.Logic.{_⊎_, inl, inr, ⊎-elim}
-use lib.ListN.{getD, length, drop, take, length-map, length-drop, List·getD-map}
+use mathlib.Core.Logic.{⊎-elim}
+use lib.ListN.{getD, length, take, length-map}
 use lib.Seq.{sets, slice, getD-take, getD-drop, length-slice}
-use Rattle.terms.specs.Numbers.{less, less-yes, less-no}
-use Rattle.terms.specs.Term.{Term, Terms, Subst, var, app, nil, cons, sub, mem}
+use Rattle.terms.specs.Numbers.{less-yes, less-no}
+use Rattle.terms.specs.Term.{Term, Subst, var, app, cons, sub, mem}
 use Rattle.terms.specs.TermLaws.{sub-mem}
-use Rattle.arena.specs.Cells.{headers, Cells, symbolOf, arityOf, args, denote, Reference, WellFormed, Same, low-or-high, reference-up, reference-below, reference-argument, denote-node, denote-variable, frame-denote, cells}
+use Rattle.arena.specs.Cells.{headers, Cells, symbolOf, arityOf, args, denote, Reference, WellFormed, Same, low-or-high, denote-node, denote-variable, frame-denote, cells}
 use Rattle.arena.specs.NodeLaws.{sets-below, sets-within, formed-same, formed-up}
 use Rattle.arena.specs.Copies.{patternRoom, moved, copied, numbered, Movable, Copyable, PartReference}
 
@@ -203,6 +203,13 @@ module _ (pattern : List ℕ) (from count : ℕ) (places words : List ℕ) (room
   inst-formed =
       copy-formed room k nv nv′ from count used counter places (cells pattern) (cells words) (cells result) formed old more few (asked .small) (asked .low)
       inst-frame copy number (asked .inside) (asked .address)
+
+  -- A reference of the part's first n words, moved, is a reference of as many words more.
+  pub inst-reference-below : (n r : ℕ) → n ≤ count → PartReference places counter nv′ from (cells pattern) n r
+      → Reference room (cells result) nv′ (used + n) (moved places counter (patternRoom + from) (room + used) r)
+  inst-reference-below n r b h =
+      moved-reference room k nv nv′ from count used counter places (cells pattern) (cells words) (cells result) formed old more few (asked .small) (asked .low)
+      inst-frame copy number (asked .inside) (asked .address) n r b h
 
   -- A reference of the part, moved, is a reference of the result, and denotes the instance.
   pub inst-reference : (r : ℕ) → PartReference places counter nv′ from (cells pattern) count r

@@ -1,16 +1,16 @@
 -- Laws of equal terms: the test says true exactly of the same terms. And of equal stored terms: two nodes denote the same term exactly where their headers are the same and their arguments denote the same terms, and a
 -- variable denotes another term than any other reference.
-use Prim.Native.Nat.{ℕ, zero, suc, _+_, _-_, _*_, _/_, _%_, _≤_, _<_}
+use Prim.Native.Nat.{ℕ, zero, suc, _+_, _-_, _≤_, _<_}
 use native.Mathlib.Omega.{arith}
 use native.Mathlib.Nat.{not-suc-le-zero}
 use mathlib.Core.Path.{_≡_, refl, sym, ap, ap₂, _∙_, subst}
 use mathlib.Core.Bool.{Bool, true, false, _&&_}
-use mathlib.Core.Logic.{_⊎_, inl, inr, ⊎-elim, _≢_}
+use mathlib.Core.Logic.{⊎-elim}
 use Rattle.terms.specs.Numbers.{same, same-refl, same-true, by-bool, true-false}
-use Rattle.terms.specs.Term.{Kind, Syn, Term, Terms, var, app, nil, cons, count}
+use Rattle.terms.specs.Term.{Kind, Syn, Term, var, app, nil, cons, count}
 use Rattle.arena.specs.Equality.{alike}
 use Rattle.terms.specs.TermLaws.{app-inj, cons-inj, var-inj, var-app}
-use Rattle.arena.specs.Cells.{headers, Cells, symbolOf, arityOf, args, decode, denote, Reference, WellFormed, low-or-high, decode-node, denote-node, denote-variable}
+use Rattle.arena.specs.Cells.{headers, Cells, symbolOf, arityOf, args, denote, Reference, WellFormed, low-or-high, decode-node, denote-node, denote-variable}
 
 -- The test.
 alike-refl : {s : Kind} (t : Syn s) → alike t t ≡ true

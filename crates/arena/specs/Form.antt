@@ -1,6 +1,6 @@
 -- The form of stored words (document 01, refusal 1): nodes one after another, each a header of a known symbol with that symbol's own arity, at most 16,
 -- and then its arguments, each a variable or an earlier node. It is a test that computes, by one pass over the words.
-use Prim.Native.Nat.{ℕ, zero, suc, _+_, _-_, _≤_, _<_}
+use Prim.Native.Nat.{ℕ, zero, suc, _+_, _-_}
 use mathlib.Core.Bool.{Bool, true, false, _&&_, not, cond}
 use mathlib.Core.List.{List, [], _∷_}
 use lib.ListN.{getD, length}

@@ -1,16 +1,16 @@
 -- Laws of words in form: they are well formed, each header is a known symbol's with its own arity, and each other word refers to a variable or to a
 -- node of the same part.
-use Prim.Native.Nat.{ℕ, zero, suc, _+_, _-_, _*_, _/_, _%_, _≤_, _<_}
+use Prim.Native.Nat.{ℕ, zero, suc, _+_, _-_, _≤_, _<_}
 use native.Mathlib.Omega.{arith}
 use native.Mathlib.Nat.{not-suc-le-zero}
-use mathlib.Core.Path.{_≡_, refl, sym, ap, ap₂, _∙_, subst}
-use mathlib.Core.Bool.{Bool, true, false, _&&_, not, cond}
+use mathlib.Core.Path.{_≡_, refl, _∙_, subst}
+use mathlib.Core.Bool.{Bool, true, false, _&&_, not}
 use mathlib.Core.List.{List, [], _∷_}
-use mathlib.Core.Logic.{_⊎_, inl, inr, ⊎-elim}
+use mathlib.Core.Logic.{⊎-elim}
 use lib.ListN.{getD, length, take}
 use lib.Seq.{slice, getD-take, getD-drop, length-slice}
-use Rattle.terms.specs.Numbers.{same, less, less-yes, less-no, by-less, by-bool, true-false, same-true}
-use Rattle.arena.specs.Cells.{headers, Cells, symbolOf, arityOf, Reference, WellFormed, low-or-high, reference-up, cells}
+use Rattle.terms.specs.Numbers.{same, less, less-yes, less-no, by-less, true-false, same-true}
+use Rattle.arena.specs.Cells.{headers, symbolOf, arityOf, Reference, WellFormed, low-or-high, cells}
 use Rattle.arena.specs.NodeLaws.{formed-node}
 use Rattle.arena.specs.Form.{inputs, isHeader, Place, isArgument, nodes, inForm}
 

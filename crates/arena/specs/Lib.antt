@@ -6,6 +6,7 @@ pub mod CopyLaws
 pub mod Form
 pub mod FormLaws
 pub mod PartLaws
+pub mod FormKept
 pub mod Equality
 pub mod EqualityLaws
 pub mod Links

@@ -1,6 +1,6 @@
 -- Contracts of the functions inside `equal`, which compares stored terms without recursion. Two references have to denote the same term: the greater, a node, is linked to the lesser, and from the
 -- greatest address down each linked node passes the demand on to its arguments, which lie below it. A link is 0, or one more than a reference.
-use Prim.Native.Nat.{ℕ, suc, _+_, _-_, _≤_, _<_}
+use Prim.Native.Nat.{ℕ, suc, _+_, _≤_, _<_}
 use mathlib.Core.Path.{_≡_}
 use mathlib.Core.Bool.{Bool, true, false, cond}
 use mathlib.Core.Logic.{_⊎_}

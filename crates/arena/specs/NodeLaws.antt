@@ -1,14 +1,14 @@
 -- Laws of words written behind the used part: earlier words and terms stay, the words stay well formed, and a node that is written denotes its symbol
 -- applied to what its arguments denoted. It takes one word and one for each argument.
-use Prim.Native.Nat.{ℕ, zero, suc, _+_, _-_, _*_, _/_, _%_, _≤_, _<_}
+use Prim.Native.Nat.{ℕ, zero, suc, _+_, _-_, _*_, _≤_, _<_}
 use native.Mathlib.Omega.{arith}
 use native.Mathlib.Nat.{not-suc-le-zero}
-use mathlib.Core.Path.{_≡_, refl, sym, ap, ap₂, _∙_, subst}
+use mathlib.Core.Path.{_≡_, refl, sym, ap, ap₂, _∙_}
 use mathlib.Core.List.{List, [], _∷_}
 use mathlib.Core.Logic.{_⊎_, inl, inr, ⊎-elim}
 use lib.ListN.{getD, length, set, length-set}
-use lib.Seq.{sets, length-sets, getD-set-same, getD-set-other}
-use Rattle.terms.specs.Term.{Term, Terms, app, nil, cons}
+use lib.Seq.{sets, getD-set-same, getD-set-other}
+use Rattle.terms.specs.Term.{Term, app, cons}
 use Rattle.arena.specs.Cells.{headers, Cells, symbolOf, arityOf, args, denote, Reference, WellFormed, Same, low-or-high, reference-up, denote-node, frame-denote, cells, termsOf}
 
 -- A list with other words written over it.

@@ -1,6 +1,6 @@
 -- Laws of a signature's rule: a part of the pattern's words that `check_words` accepts can be copied, and its conclusion and premises are references of
 -- the part.
-use Prim.Native.Nat.{ℕ, suc, _+_, _-_, _≤_, _<_}
+use Prim.Native.Nat.{ℕ, _+_, _-_, _≤_, _<_}
 use native.Mathlib.Omega.{arith}
 use mathlib.Core.Path.{_≡_}
 use mathlib.Core.Bool.{true}

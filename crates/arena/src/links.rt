@@ -140,6 +140,7 @@ pub fn settle(
 
 // The number of addresses up to that of a reference, 0 for a variable.
 pub fn past(room: u32, reference: u32) -> u32
+    // The sum fits.
     requires { ⌜ reference < headers ⌝ }
     ensures { λ r. ⌜ r ≡ suc reference - room ⌝ }
 {

@@ -135,7 +135,7 @@ fn visit(m: &mut [[u32; 2]], limit: u32, t: u32, y: u32) -> u32
 // Visits the n arguments of the node at address a.
 fn visit_args(w: &[u32], m: &mut [[u32; 2]], limit: u32, a: usize, n: usize, t: u32) -> u32
     requires { ⌜ Entries (now m) limit t ⌝ ∗ ⌜ (a + n < length (now w)) × (limit ≤ length (now m)) ⌝
-      ∗ ⌜ ((i : ℕ) → i < n → cells (now w) (suc a + i) < limit) ⌝ }
+        ∗ ⌜ ((i : ℕ) → i < n → cells (now w) (suc a + i) < limit) ⌝ }
     ensures { λ s. ⌜ Grown limit (ArgumentOf (now (w .entry)) a n) (now (m .entry)) t (now (m .exit)) s ⌝ }
 {
     let mut s = t;
@@ -148,9 +148,19 @@ fn visit_args(w: &[u32], m: &mut [[u32; 2]], limit: u32, a: usize, n: usize, t: 
 }
 
 // Visits all that one step down from r leads to.
-fn visit_edges(w: &[u32], b: &[[u32; 2]], m: &mut [[u32; 2]], room: u32, variables: u32, used: u32, k: u32, t: u32, r: u32) -> u32
+fn visit_edges(
+    w: &[u32],
+    b: &[[u32; 2]],
+    m: &mut [[u32; 2]],
+    room: u32,
+    variables: u32,
+    used: u32,
+    k: u32,
+    t: u32,
+    r: u32,
+) -> u32
     requires { ⌜ Form room (now w) (now b) variables used k ⌝ ∗ ⌜ Reference room (cells (now w)) variables used r ⌝
-      ∗ ⌜ Entries (now m) (room + used) t ⌝ ∗ ⌜ room + used ≤ length (now m) ⌝ }
+        ∗ ⌜ Entries (now m) (room + used) t ⌝ ∗ ⌜ room + used ≤ length (now m) ⌝ }
     ensures { λ s. ⌜ Grown (room + used) (Edge room (cells (now (w .entry))) (column 0 (now (b .entry))) r) (now (m .entry)) t (now (m .exit)) s ⌝ }
 {
     if r < room {
@@ -166,9 +176,19 @@ fn visit_edges(w: &[u32], b: &[[u32; 2]], m: &mut [[u32; 2]], room: u32, variabl
 }
 
 // Whether the unbound variable x occurs in what r denotes, the bindings put in: a search that visits each reachable reference once.
-pub fn occurs(w: &[u32], b: &[[u32; 2]], m: &mut [[u32; 2]], room: u32, variables: u32, used: u32, k: u32, x: u32, r: u32) -> bool
+pub fn occurs(
+    w: &[u32],
+    b: &[[u32; 2]],
+    m: &mut [[u32; 2]],
+    room: u32,
+    variables: u32,
+    used: u32,
+    k: u32,
+    x: u32,
+    r: u32,
+) -> bool
     requires { ⌜ Form room (now w) (now b) variables used k ⌝ ∗ ⌜ Reference room (cells (now w)) variables used r ⌝
-      ∗ ⌜ (x < variables) × (column 0 (now b) x ≡ 0) ⌝ ∗ ⌜ Free room used (now m) ⌝ }
+        ∗ ⌜ (x < variables) × (column 0 (now b) x ≡ 0) ⌝ ∗ ⌜ Free room used (now m) ⌝ }
     ensures { λ answer. ⌜ Checked room (now (w .entry)) (now (b .entry)) (now (m .entry)) (now (m .exit)) k x r answer ⌝ }
 {
     let mut t = visit(m, room + used, 0, r);
@@ -216,10 +236,21 @@ fn link(links: &mut [[u32; 2]], c: u32, x: u32, y: u32)
 }
 
 // What is to be done with x and y.
-fn decide(w: &[u32], b: &[[u32; 2]], links: &[[u32; 2]], m: &mut [[u32; 2]], room: u32, variables: u32, used: u32, k: u32, x: u32, y: u32) -> Decision
+fn decide(
+    w: &[u32],
+    b: &[[u32; 2]],
+    links: &[[u32; 2]],
+    m: &mut [[u32; 2]],
+    room: u32,
+    variables: u32,
+    used: u32,
+    k: u32,
+    x: u32,
+    y: u32,
+) -> Decision
     requires { ⌜ Form room (now w) (now b) variables used k ⌝
-      ∗ ⌜ (Reference room (cells (now w)) variables used x) × (Reference room (cells (now w)) variables used y) ⌝
-      ∗ ⌜ Falling (now links) ⌝ ∗ ⌜ room + used ≤ length (now links) ⌝ ∗ ⌜ Free room used (now m) ⌝ }
+        ∗ ⌜ (Reference room (cells (now w)) variables used x) × (Reference room (cells (now w)) variables used y) ⌝
+        ∗ ⌜ Falling (now links) ⌝ ∗ ⌜ room + used ≤ length (now links) ⌝ ∗ ⌜ Free room used (now m) ⌝ }
     ensures { λ d. ⌜ Decided room (now (w .entry)) (now (b .entry)) (now (links .entry)) (now (m .entry)) (now (m .exit)) k x y d ⌝ }
 {
     let p = walk(w, b, room, variables, used, k, x);
@@ -251,8 +282,7 @@ fn decide(w: &[u32], b: &[[u32; 2]], links: &[[u32; 2]], m: &mut [[u32; 2]], roo
 // A row of three numbers has three numbers.
 fn three(row: [u32; 3])
     ensures { λ _. ⌜ length row ≡ 3 ⌝ }
-{
-}
+{}
 
 // Puts a pair at place d of the stack.
 fn put_pair(s: &mut [[u32; 3]], d: u32, p: Pair)
@@ -271,9 +301,17 @@ fn pair_at(s: &[[u32; 3]], d: u32) -> Pair
 {
     let i = d as usize;
     if i < s.len() {
-        return Pair { left: s[i][0], right: s[i][1], taken: s[i][2] };
+        return Pair {
+            left: s[i][0],
+            right: s[i][1],
+            taken: s[i][2],
+        };
     }
-    Pair { left: 0, right: 0, taken: 0 }
+    Pair {
+        left: 0,
+        right: 0,
+        taken: 0,
+    }
 }
 
 // The number of arguments of the node r.
@@ -301,12 +339,24 @@ fn argument(w: &[u32], room: u32, r: u32, i: u32) -> u32
 }
 
 // Makes r and t equal under the first k bindings, if that can be, the pairs in the Rust's order; each pair of nodes is opened at most once.
-fn equate(w: &[u32], b: &mut [[u32; 2]], links: &mut [[u32; 2]], m: &mut [[u32; 2]], s: &mut [[u32; 3]], room: u32, variables: u32, used: u32, k: u32, r: u32, t: u32) -> Ending
+fn equate(
+    w: &[u32],
+    b: &mut [[u32; 2]],
+    links: &mut [[u32; 2]],
+    m: &mut [[u32; 2]],
+    s: &mut [[u32; 3]],
+    room: u32,
+    variables: u32,
+    used: u32,
+    k: u32,
+    r: u32,
+    t: u32,
+) -> Ending
     requires { ⌜ Form room (now w) (now b) variables used k ⌝
-      ∗ ⌜ (Reference room (cells (now w)) variables used r) × (Reference room (cells (now w)) variables used t) ⌝
-      ∗ ⌜ Scratch room used (now links) (now m) (now s) ⌝ }
+        ∗ ⌜ (Reference room (cells (now w)) variables used r) × (Reference room (cells (now w)) variables used t) ⌝
+        ∗ ⌜ Scratch room used (now links) (now m) (now s) ⌝ }
     ensures { λ e. ⌜ Equated room (now (w .entry)) (now (b .entry)) (now (b .exit)) (now (links .entry)) (now (links .exit)) (now (m .entry)) (now (m .exit))
-      (now (s .entry)) (now (s .exit)) variables used k r t (e .equal) (e .bound) (e .linked) (e .open) ⌝ }
+        (now (s .entry)) (now (s .exit)) variables used k r t (e .equal) (e .bound) (e .linked) (e .open) ⌝ }
 {
     let mut x = r;
     let mut y = t;
@@ -326,31 +376,65 @@ fn equate(w: &[u32], b: &mut [[u32; 2]], links: &mut [[u32; 2]], m: &mut [[u32; 
                     pending = false;
                 }
                 Decision::Open(p, q) => {
-                    put_pair(s, d, Pair { left: p, right: q, taken: 0 });
+                    put_pair(
+                        s,
+                        d,
+                        Pair {
+                            left: p,
+                            right: q,
+                            taken: 0,
+                        },
+                    );
                     d += 1;
                     pending = false;
                 }
                 Decision::Clash => {
-                    return Ending { equal: false, bound: n, linked: c, open: d };
+                    return Ending {
+                        equal: false,
+                        bound: n,
+                        linked: c,
+                        open: d,
+                    };
                 }
             }
         } else {
             if d == 0 {
-                return Ending { equal: true, bound: n, linked: c, open: d };
+                return Ending {
+                    equal: true,
+                    bound: n,
+                    linked: c,
+                    open: d,
+                };
             }
             let f = pair_at(s, d - 1);
             let left = f.left;
             let right = f.right;
             let taken = f.taken;
             if taken < arity(w, room, left) {
-                put_pair(s, d - 1, Pair { left: left, right: right, taken: taken + 1 });
+                put_pair(
+                    s,
+                    d - 1,
+                    Pair {
+                        left: left,
+                        right: right,
+                        taken: taken + 1,
+                    },
+                );
                 x = argument(w, room, left, taken);
                 y = argument(w, room, right, taken);
                 pending = true;
             } else {
                 link(links, c, left, right);
                 c += 1;
-                put_pair(s, d - 1, Pair { left: 0, right: 0, taken: 0 });
+                put_pair(
+                    s,
+                    d - 1,
+                    Pair {
+                        left: 0,
+                        right: 0,
+                        taken: 0,
+                    },
+                );
                 d -= 1;
             }
         }
@@ -370,12 +454,24 @@ fn clear(s: &mut [[u32; 3]], d: u32)
 }
 
 // Unifies what r and t denote under the first k bindings; without success the bindings are undone to k, and the scratch is left as it was.
-pub fn unify(w: &[u32], b: &mut [[u32; 2]], links: &mut [[u32; 2]], m: &mut [[u32; 2]], s: &mut [[u32; 3]], room: u32, variables: u32, used: u32, k: u32, r: u32, t: u32) -> Ended
+pub fn unify(
+    w: &[u32],
+    b: &mut [[u32; 2]],
+    links: &mut [[u32; 2]],
+    m: &mut [[u32; 2]],
+    s: &mut [[u32; 3]],
+    room: u32,
+    variables: u32,
+    used: u32,
+    k: u32,
+    r: u32,
+    t: u32,
+) -> Ended
     requires { ⌜ Form room (now w) (now b) variables used k ⌝
-      ∗ ⌜ (Reference room (cells (now w)) variables used r) × (Reference room (cells (now w)) variables used t) ⌝
-      ∗ ⌜ Scratch room used (now links) (now m) (now s) ⌝ }
+        ∗ ⌜ (Reference room (cells (now w)) variables used r) × (Reference room (cells (now w)) variables used t) ⌝
+        ∗ ⌜ Scratch room used (now links) (now m) (now s) ⌝ }
     ensures { λ e. ⌜ Unified room (now (w .entry)) (now (b .entry)) (now (b .exit)) (now (links .entry)) (now (links .exit)) (now (m .entry)) (now (m .exit))
-      (now (s .entry)) (now (s .exit)) variables used k (e .bound) r t (e .unified) ⌝ }
+        (now (s .entry)) (now (s .exit)) variables used k (e .bound) r t (e .unified) ⌝ }
 {
     let e = equate(w, b, links, m, s, room, variables, used, k, r, t);
     let equal = e.equal;
@@ -385,8 +481,14 @@ pub fn unify(w: &[u32], b: &mut [[u32; 2]], links: &mut [[u32; 2]], m: &mut [[u3
     undo(links, c, 0);
     clear(s, d);
     if equal {
-        return Ended { unified: true, bound: n };
+        return Ended {
+            unified: true,
+            bound: n,
+        };
     }
     undo(b, n, k);
-    Ended { unified: false, bound: k }
+    Ended {
+        unified: false,
+        bound: k,
+    }
 }

@@ -1,10 +1,9 @@
 -- `check_words` meets its contract. The loop's invariant: what is left to be read from `at` on decides as the whole does.
 use mathlib.Core.Path.{_≡_, refl, sym, _∙_}
-use Prim.Native.Nat.{ℕ, _≤_, _<_, _-_, _+_}
-use lib.ListN.{length}
+use Prim.Native.Nat.{_≤_, _-_}
 use lib.Seq.{slice}
 use borrow.Author.Tests.{not-true, not-false}
-use Rattle.arena.specs.Form.{Place, nodes, inForm}
+use Rattle.arena.specs.Form.{nodes, inForm}
 use Rattle.arena.proofs.Checking.{header-step, header-stop, argument-step, argument-stop, end-step}
 use borrow.Author.Needs.{needs}
 use native.Mathlib.Omega.{arith}

@@ -1,7 +1,7 @@
 -- `clear` meets its contract. The loop's invariant: zeroes from `at` on give what zeroes from `from` on give.
 use mathlib.Core.Path.{_≡_, refl, sym, _∙_}
 use mathlib.Core.List.{_++_}
-use Prim.Native.Nat.{ℕ, _≤_, _<_, _-_, _+_}
+use Prim.Native.Nat.{_-_, _+_}
 use lib.ListN.{length, take, replicate, length-set}
 use Rattle.arena.proofs.Writing.{clear-step, clear-end}
 use borrow.Author.Needs.{needs}

@@ -1,7 +1,7 @@
 -- `equal` meets its contract. The loop's invariant: the two references denote the same term exactly where the answer is still true and the links that are
 -- left, all from `low` on and below `at`, hold.
-use mathlib.Core.Path.{_≡_, refl, sym, ap, _∙_}
-use Prim.Native.Nat.{ℕ, suc, _≤_, _<_, _-_, _+_}
+use mathlib.Core.Path.{_≡_, refl, ap, _∙_}
+use Prim.Native.Nat.{suc, _-_}
 use lib.ListN.{length}
 use Rattle.arena.proofs.Settling.{Passing, pass-start, pass-step, pass-end, ready-linkable, ready-low}
 use borrow.Author.Needs.{needs}

@@ -1,7 +1,7 @@
 -- `inst` meets its contract. The loop's invariant: writing the copied words from i on completes the copy.
-use mathlib.Core.Path.{_≡_, refl, sym, ap, _∙_}
-use Prim.Native.Nat.{ℕ, suc, _≤_, _<_, _-_, _+_}
-use lib.ListN.{length, length-set, drop, set}
+use mathlib.Core.Path.{_≡_, refl, sym, _∙_}
+use Prim.Native.Nat.{_≤_, _-_, _+_}
+use lib.ListN.{length, length-set, drop}
 use lib.Seq.{sets}
 use Rattle.arena.specs.Copies.{copied}
 use Rattle.arena.specs.CopyLaws.{copied-length, copied-at, movable}

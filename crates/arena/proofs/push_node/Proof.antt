@@ -1,8 +1,7 @@
 -- `push_node` meets its contract. The loop's invariant: writing the arguments from i on completes the node.
-use mathlib.Core.Path.{_≡_, refl, sym, ap, _∙_}
-use mathlib.Core.List.{_∷_}
-use Prim.Native.Nat.{ℕ, suc, _≤_, _<_, _-_, _+_}
-use lib.ListN.{length, length-set, drop, set}
+use mathlib.Core.Path.{_≡_, refl, sym, _∙_}
+use Prim.Native.Nat.{suc, _≤_, _-_, _+_}
+use lib.ListN.{length, length-set, drop}
 use lib.Seq.{sets}
 use Rattle.arena.proofs.Writing.{write-step, write-end}
 use borrow.Author.Needs.{needs}

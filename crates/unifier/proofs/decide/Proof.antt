@@ -37,7 +37,7 @@ returns-2 c =
     let if3 = c .if3 in
     record {
       says = inSecond _ _ (ways (walk .ensures) (walk2 .ensures)) (if2 .taken) (if1 .left) (sym (occurs .ensures .is) ∙ (if3 .taken));
-      marks = (occurs .ensures .marks)
+      marks = (occurs .ensures .marks);
     }
 
 same-length-2 : tie.Need-same-length-2
@@ -53,7 +53,7 @@ returns-3 c =
     let if3 = c .if3 in
     record {
       says = ofFirst (ways (walk .ensures) (walk2 .ensures)) (if2 .taken) (if1 .left) (sym (occurs .ensures .is) ∙ (if3 .left));
-      marks = (occurs .ensures .marks)
+      marks = (occurs .ensures .marks);
     }
 
 occurs-requires-2 : tie.Need-occurs-requires-2
@@ -76,7 +76,7 @@ returns-4 c =
     let if5 = c .if5 in
     record {
       says = inFirst _ _ (ways (walk .ensures) (walk2 .ensures)) (search needs) (if4 .taken) (sym (occurs2 .ensures .is) ∙ (if5 .taken));
-      marks = (occurs2 .ensures .marks)
+      marks = (occurs2 .ensures .marks);
     }
 
 same-length-4 : tie.Need-same-length-4
@@ -91,7 +91,7 @@ returns-5 c =
     let if5 = c .if5 in
     record {
       says = ofSecond (ways (walk .ensures) (walk2 .ensures)) (search needs) (if4 .taken) (sym (occurs2 .ensures .is) ∙ (if5 .left));
-      marks = (occurs2 .ensures .marks)
+      marks = (occurs2 .ensures .marks);
     }
 
 find-requires : tie.Need-find-requires
@@ -111,7 +111,7 @@ returns-6 c =
     let if6 = c .if6 in
     record {
       says = alike-linked (walk .ensures) (walk2 .ensures) (find .ensures .0) (find2 .ensures .0) (if6 .taken);
-      marks = refl
+      marks = refl;
     }
 
 cast-if7 : tie.Need-cast-if7
@@ -144,7 +144,7 @@ returns-7 c =
     let if6 = c .before .before .before .if6 in
     record {
       says = opened (walk .ensures) (walk2 .ensures) (search needs) (search needs) (if7 .taken) (find .ensures .0) (find2 .ensures .0) (if6 .left);
-      marks = refl
+      marks = refl;
     }
 
 returns-8 : tie.Need-returns-8
@@ -154,7 +154,7 @@ returns-8 c =
     let if7 = c .if7 in
     record {
       says = heads _ _ (ways (walk .ensures) (walk2 .ensures)) (search needs) (search needs) (if7 .left);
-      marks = refl
+      marks = refl;
     }
 
 pub decide-spec : {M : Type 1} → statement M

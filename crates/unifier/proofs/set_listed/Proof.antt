@@ -29,7 +29,7 @@ returns : tie.Need-returns
 returns c =
     record {
       is = ap (λ (x : ℕ). set (c .before .before .args .t .now) (c .before .before .args .n) (x ∷ (c .before .before .args .key) ∷ [])) (c .first .ensures .0);
-      wide = (c .first .ensures .1)
+      wide = (c .first .ensures .1);
     }
 
 pub set-listed-spec : {M : Type 1} → statement M

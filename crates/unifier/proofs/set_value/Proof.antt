@@ -29,7 +29,7 @@ returns : tie.Need-returns
 returns c =
     record {
       is = ap (λ (x : ℕ). set (c .before .before .args .t .now) (c .before .before .args .key) ((c .before .before .args .value) ∷ x ∷ [])) (c .second .ensures .0);
-      wide = (c .second .ensures .1)
+      wide = (c .second .ensures .1);
     }
 
 pub set-value-spec : {M : Type 1} → statement M

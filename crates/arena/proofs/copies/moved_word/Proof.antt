@@ -1,7 +1,5 @@
 -- `moved_word` meets its contract: each way out is one case of the definition.
-use mathlib.Core.Path.{_≡_, sym}
-use Prim.Native.Nat.{_+_}
-use lib.ListN.{length}
+use mathlib.Core.Path.{sym}
 use Rattle.arena.specs.CopyLaws.{moved-variable, moved-node, moved-header}
 use native.Mathlib.Omega.{arith}
 use borrow.Author.Needs.{needs}

@@ -1,6 +1,5 @@
 -- `is_argument` meets its contract: each way out is one case of the definition.
-use mathlib.Core.Path.{_≡_, sym}
-use Rattle.arena.specs.Form.{Place}
+use mathlib.Core.Path.{sym}
 use Rattle.arena.proofs.Checking.{argument-variable, argument-outside, argument-node, argument-above}
 use borrow.Author.Needs.{needs}
 use Rattle.arena.proofs.form.is_argument.Statement.{statement}

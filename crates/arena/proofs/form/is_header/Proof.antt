@@ -1,5 +1,5 @@
 -- `is_header` meets its contract: each way out is one case of the definition.
-use mathlib.Core.Path.{_≡_, sym}
+use mathlib.Core.Path.{sym}
 use Rattle.arena.proofs.Checking.{header-low, header-unknown, header-other, header-own}
 use borrow.Author.Needs.{needs}
 use Rattle.arena.proofs.form.is_header.Statement.{statement}

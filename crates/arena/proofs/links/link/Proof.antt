@@ -1,7 +1,7 @@
 -- `link` meets its contract. The loop's invariant: p and q have to be the same, by the links, exactly where a and b have to be, by the first links.
-use mathlib.Core.Path.{_≡_, refl, sym, _∙_}
-use Prim.Native.Nat.{ℕ, _≤_, _<_, _-_, _+_}
-use lib.ListN.{length, length-set}
+use mathlib.Core.Path.{refl, _∙_}
+use Prim.Native.Nat.{_+_}
+use lib.ListN.{length-set}
 use Rattle.arena.proofs.Linking.{Linking, link-start, link-order, link-in, link-same, link-clash, link-new, link-step, link-falls, order-sum, least-low}
 use borrow.Author.Needs.{needs}
 use native.Mathlib.Omega.{arith}

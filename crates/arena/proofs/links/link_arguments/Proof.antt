@@ -1,9 +1,8 @@
 -- `link_arguments` meets its contract. The loop's invariant: the first i pairs are linked, and there are no links below `floor`.
-use mathlib.Core.Path.{_≡_, refl, sym, _∙_}
+use mathlib.Core.Path.{_≡_, refl, _∙_}
 use mathlib.Core.Bool.{true}
-use Prim.Native.Nat.{ℕ, _≤_, _<_, _-_, _+_}
+use Prim.Native.Nat.{_≤_, _-_, _+_}
 use mathlib.Core.Path.{subst}
-use lib.ListN.{length}
 use borrow.Author.Tests.{not-true, not-false}
 use Rattle.arena.proofs.Linking.{Pairs, pair-linkable, pair-linked, pair-stop, joined-none}
 use borrow.Author.Needs.{needs}

@@ -1,7 +1,6 @@
 -- `settle` meets its contract: each way out is one law.
-use mathlib.Core.Path.{_≡_, refl, sym, _∙_}
-use Prim.Native.Nat.{ℕ, _≤_, _<_, _-_, _+_}
-use lib.ListN.{length, length-set}
+use mathlib.Core.Path.{refl, _∙_}
+use lib.ListN.{length-set}
 use Rattle.arena.proofs.Settling.{settle-none, settle-no, settle-clash, settle-linked, lower, room-for, arguments-linkable}
 use native.Mathlib.Omega.{arith}
 use borrow.Author.Needs.{needs}

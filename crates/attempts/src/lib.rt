@@ -1,0 +1,205 @@
+// One attempt with a rule (document 01, "Search"): its conclusion is copied with new variables and unified with a goal, and then its premises are copied.
+ghost use mathlib.Core.Path.{_≡_};
+ghost use Prim.Native.Nat.{_+_};
+ghost use Rattle.resolution.specs.Search.{within, over};
+ghost use Rattle.attempts.specs.Contracts.{Asked, Attempted, HeadAsked, HeadTried, BodyAsked, BodyTried};
+use arena::inst;
+use arena::moved_word;
+use unifier::undo;
+use unifier::unify;
+
+// The room for variables in patterns: a rule has at most 64 (document 01, refusal 28).
+const PATTERN_ROOM: u32 = 64;
+
+// A stored rule: where its words start among the pattern's, how many its conclusion takes and how many its premises behind them, the reference of its
+// conclusion, and how many variables are met in the conclusion and in all.
+pub struct Stored {
+    pub from: u32,
+    pub head: u32,
+    pub body: u32,
+    pub conclusion: u32,
+    pub met: u32,
+    pub variables: u32,
+}
+
+// What came of the goal and a rule's conclusion.
+pub enum Meeting {
+    // The limits refuse the conclusion.
+    Refused,
+    // They do not unify.
+    Apart,
+    // They unify, with so many bindings.
+    Unifies(u32),
+}
+
+// What came of an attempt.
+pub enum Tried {
+    // The limits refuse it.
+    Exceeded,
+    // The conclusion does not unify; the counter has moved on.
+    Missed(u32),
+    // The rule is entered, with the counter, the number of bindings and the words in use.
+    Entered(u32, u32, u32),
+}
+
+// Whether so many variables and words are too many (document 01, refusal 37).
+fn exceeds(room: u32, limit: u32, variables: u32, words: u32) -> bool
+    ensures { λ r. ⌜ r ≡ over (within room limit) variables words ⌝ }
+{
+    if room < variables {
+        return true;
+    }
+    limit < words
+}
+
+// Copies the conclusion behind the used words, if the limits allow it, and unifies the goal with it.
+fn try_head(
+    pattern: &[u32],
+    stored: Stored,
+    places: &[u32],
+    words: &mut [u32],
+    bindings: &mut [[u32; 2]],
+    links: &mut [[u32; 2]],
+    marks: &mut [[u32; 2]],
+    stack: &mut [[u32; 3]],
+    room: u32,
+    limit: u32,
+    counter: u32,
+    used: u32,
+    bound: u32,
+    goal: u32,
+) -> Meeting
+    requires { ⌜ HeadAsked room limit (now pattern) (now places) stored (now words) (now bindings) (now links) (now marks) (now stack) counter used bound goal ⌝ }
+    ensures { λ r. ⌜ HeadTried room limit (now (pattern .entry)) (now (places .entry)) stored (now (words .entry)) (now (words .exit))
+        (now (bindings .entry)) (now (bindings .exit)) (now (links .entry)) (now (links .exit)) (now (marks .entry)) (now (marks .exit))
+        (now (stack .entry)) (now (stack .exit)) counter used bound goal r ⌝ }
+{
+    let from = stored.from;
+    let count = stored.head;
+    let variables = counter + stored.met;
+    let top = used + count;
+    if exceeds(room, limit, variables, top) {
+        return Meeting::Refused;
+    }
+    let conclusion = moved_word(
+        stored.conclusion,
+        places,
+        counter,
+        PATTERN_ROOM + from,
+        room + used,
+    );
+    inst(pattern, from, count, places, words, room, used, counter);
+    let ended = unify(
+        words,
+        bindings,
+        links,
+        marks,
+        stack,
+        room,
+        variables,
+        top,
+        bound,
+        goal,
+        conclusion,
+    );
+    if ended.unified {
+        return Meeting::Unifies(ended.bound);
+    }
+    Meeting::Apart
+}
+
+// Copies the premises behind the conclusion, if the limits allow it; else the bindings are undone to the mark.
+fn try_body(
+    pattern: &[u32],
+    stored: Stored,
+    places: &[u32],
+    words: &mut [u32],
+    bindings: &mut [[u32; 2]],
+    room: u32,
+    limit: u32,
+    counter: u32,
+    used: u32,
+    mark: u32,
+    bound: u32,
+) -> bool
+    requires { ⌜ BodyAsked room limit (now pattern) (now places) stored (now words) (now bindings) counter used mark bound ⌝ }
+    ensures { λ r. ⌜ BodyTried room limit (now (pattern .entry)) (now (places .entry)) stored (now (words .entry)) (now (words .exit))
+        (now (bindings .entry)) (now (bindings .exit)) counter used mark bound r ⌝ }
+{
+    let from = stored.from + stored.head;
+    let count = stored.body;
+    let behind = used + stored.head;
+    if exceeds(room, limit, counter + stored.variables, behind + count) {
+        undo(bindings, bound, mark);
+        return false;
+    }
+    inst(pattern, from, count, places, words, room, behind, counter);
+    true
+}
+
+// One attempt: the goal with a rule, under the first `bound` bindings, with new variables from the counter on. The premises' references are named only
+// in the contract: where they are found in the words is `premiseAt`.
+pub fn try_rule(
+    pattern: &[u32],
+    stored: Stored,
+    premises: &[u32],
+    places: &[u32],
+    words: &mut [u32],
+    bindings: &mut [[u32; 2]],
+    links: &mut [[u32; 2]],
+    marks: &mut [[u32; 2]],
+    stack: &mut [[u32; 3]],
+    room: u32,
+    limit: u32,
+    counter: u32,
+    used: u32,
+    bound: u32,
+    goal: u32,
+) -> Tried
+    requires { ⌜ Asked room limit (now pattern) (now premises) (now places) stored (now words) (now bindings) (now links) (now marks) (now stack) counter used bound goal ⌝ }
+    ensures { λ r. ⌜ Attempted room limit (now (pattern .entry)) (now (premises .entry)) (now (places .entry)) stored (now (words .entry)) (now (words .exit))
+        (now (bindings .entry)) (now (bindings .exit)) (now (links .entry)) (now (links .exit)) (now (marks .entry)) (now (marks .exit))
+        (now (stack .entry)) (now (stack .exit)) counter used bound goal r ⌝ }
+{
+    match try_head(
+        pattern,
+        stored,
+        places,
+        words,
+        bindings,
+        links,
+        marks,
+        stack,
+        room,
+        limit,
+        counter,
+        used,
+        bound,
+        goal,
+    ) {
+        Meeting::Refused => Tried::Exceeded,
+        Meeting::Apart => Tried::Missed(counter + stored.met),
+        Meeting::Unifies(n) => {
+            if try_body(
+                pattern,
+                stored,
+                places,
+                words,
+                bindings,
+                room,
+                limit,
+                counter,
+                used,
+                bound,
+                n,
+            ) {
+                return Tried::Entered(
+                    counter + stored.variables,
+                    n,
+                    used + stored.head + stored.body,
+                );
+            }
+            Tried::Exceeded
+        }
+    }
+}
