@@ -18,3 +18,4 @@ pub mod Turns
 pub mod Bounds
 pub mod Equating
 pub mod Ending
+pub mod Descent
