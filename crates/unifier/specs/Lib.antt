@@ -19,3 +19,4 @@ pub mod Bounds
 pub mod Equating
 pub mod Ending
 pub mod Descent
+pub mod Cycles

@@ -29,7 +29,7 @@ module _ (N : ℕ) where
   mem-args x σ w p (suc n) (suc i) l m = let e : p + suc i ≡ suc p + i = omega arith in
       or-right (mem x (sub σ (denote N w (w p)))) _ (mem-args x σ w (suc p) n i (omega arith) (rw e at m))
 
-  args-mem : (x : ℕ) (σ : Subst) (w : Cells) (p n : ℕ) → mem x (sub σ (args (denote N w) w p n)) ≡ true
+  pub args-mem : (x : ℕ) (σ : Subst) (w : Cells) (p n : ℕ) → mem x (sub σ (args (denote N w) w p n)) ≡ true
     → (i : ℕ) × (i < n) × (mem x (sub σ (denote N w (w (p + i)))) ≡ true) × (size (sub σ (denote N w (w (p + i)))) < size (sub σ (args (denote N w) w p n)))
   unfolding mem
   args-mem x σ w p zero m = true-false m refl
@@ -43,7 +43,7 @@ module _ {N : ℕ} where
     res-walks : {r q : ℕ} → Reference N w variables used r → WalksTo N values r q → res β (denote N w r) ≡ res β (denote N w q)
     res-walks {r} rr v = sym (res-walk β (h .acyclic) (denote N w r)) ∙ ap (res β) (walks wf h rr v)
 
-    res-bound : (r x : ℕ) → Reference N w variables used r → r < N → values r ≡ suc x → res β (denote N w r) ≡ res β (denote N w x)
+    pub res-bound : (r x : ℕ) → Reference N w variables used r → r < N → values r ≡ suc x → res β (denote N w r) ≡ res β (denote N w x)
     res-bound r x rr l e = let (q, v) = walk-is wf h (walkLength β (denote N w x)) x (h .references r x (rr .variable l) e) (le-refl _) in
         res-walks rr (bound l e v) ∙ sym (res-walks (h .references r x (rr .variable l) e) v)
 
