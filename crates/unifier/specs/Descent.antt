@@ -91,6 +91,10 @@ on-new {from} {from′} {a} x same n (up {t = t} o) =
     let e = same t off in
     up (subst (λ (z : ℕ). On from′ a z) (sym e) (on-new x same (λ q. n (up q)) o))
 
+on-same : {from from′ : Cells} {a t : ℕ} → ((b : ℕ) → from′ b ≡ from b) → On from a t → On from′ a t
+on-same e at = at
+on-same {from} {from′} {a} e (up {t = t} o) = up (subst (λ (z : ℕ). On from′ a z) (sym (e t)) (on-same e o))
+
 on-under : {from : Cells} {a q t : ℕ} → On from a t → On from q (from a) → On from q t
 on-under at k = up k
 on-under (up o) k = up (on-under o k)
@@ -220,6 +224,15 @@ module _ {N : ℕ} {w values : Cells} {variables used : ℕ} where
           next = λ x q. let z : ⊥ = omega arith in absurd z;
           edge = λ x s q. let z : ⊥ = omega arith in absurd z
         }
+
+  -- `from` said otherwise
+  pub descent-from : {numbers from from′ : Cells} {t p : ℕ} → ((a : ℕ) → from′ a ≡ from a) → Descent N w values numbers from variables used t p → Descent N w values numbers from′ variables used t p
+  descent-from {numbers} {from} {from′} e h = record {
+      most = h .most; done = h .done;
+      opened = λ a n₁ n₂. on-same e (h .opened a n₁ n₂);
+      way = way-same (λ a o. (refl, e a, λ q. on-same (λ b. sym (e b)) q)) (h .way);
+      next = h .next; edge = h .edge
+    }
 
   -- 6. a new variable, from nowhere
   pub descent-root : {numbers from : Cells} (v : ℕ) → Descent N w values numbers from variables used 0 0 → Reference N w variables used v → Descent N w values numbers from variables used 0 (suc v)

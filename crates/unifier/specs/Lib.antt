@@ -19,4 +19,5 @@ pub mod Bounds
 pub mod Equating
 pub mod Ending
 pub mod Descent
+pub mod Descending
 pub mod Cycles
