@@ -21,3 +21,4 @@ pub mod Ending
 pub mod Descent
 pub mod Descending
 pub mod Cycles
+pub mod Checking
