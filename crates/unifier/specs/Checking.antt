@@ -131,6 +131,11 @@ listed-at N w b (suc j) v n = by-same v (column 1 b j)
     (λ p q. (j, omega arith, sym p))
     (λ p q. let (i, l, e) = listed-at N w b j v (λ z. n (rw q z)) in (i, omega arith, e))
 
+-- What `check_trail` answered.
+pub record TrailChecked (N : ℕ) (w : List ℕ) (b m m′ : Rows) (variables used k : ℕ) (answer : Bool) : Type 0 where
+  pub tells : Tells answer (Trailed N w b variables used k)
+  pub marks : m′ ≡ m
+
 -- The parts make the form.
 module _ {N : ℕ} {w : List ℕ} {b : Rows} {variables used k : ℕ} where
   pub trailed-sound : WellFormed N (cells w) variables used → variables ≤ N → N + used ≤ headers → used ≤ length w → variables ≤ length b → Trailed N w b variables used k → Sound N w b variables used
@@ -183,3 +188,19 @@ module _ {N : ℕ} {w : List ℕ} {b : Rows} {variables used k : ℕ} where
 
   pub form-ends : Form N w b variables used k → AllEnd N w b variables used
   form-ends f = acyclic-ends (f .words) (form-holds f)
+
+-- The ways out of `check_bindings`.
+module _ {N : ℕ} {w : List ℕ} {b m₀ : Rows} {variables used k : ℕ} where
+  pub checked-no : (Form N w b variables used k → ⊥) → (m : Rows) → m ≡ m₀ → BindingsChecked N w b m₀ m variables used k false
+  checked-no n m e = record { tells = tells-no n; marks = e }
+
+  pub checked-last : {trail rest cycles : Bool} {m₁ m₂ : Rows} → WellFormed N (cells w) variables used → (variables ≤ N) × (N + used ≤ headers) × (used ≤ length w) → variables ≤ length b
+    → TrailChecked N w b m₀ m₁ variables used k trail → trail ≡ true → Tells rest ((i : ℕ) → k ≤ i → column 1 b i ≡ 0) → rest ≡ true
+    → CyclesChecked N w b m₁ m₂ variables used cycles → BindingsChecked N w b m₀ m₂ variables used k cycles
+  checked-last wf (few, low, lw) lb t et r er c = record {
+      tells = record {
+        yes = λ e. form-checked (trailed-sound wf few low lw lb (t .tells .yes et)) (t .tells .yes et) (r .yes er) (c .tells .yes e);
+        back = λ f. c .tells .back (form-ends f)
+      };
+      marks = c .marks ∙ t .marks
+    }

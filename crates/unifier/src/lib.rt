@@ -1,15 +1,20 @@
 // Unification over stored terms (the Rust's `walk`, `occurs`, `unify` and the undoing of its trail), on lent slices.
 ghost use mathlib.Core.Path.{_≡_};
+ghost use mathlib.Core.Logic.{_≢_};
+ghost use Rattle.unifier.specs.Tables.{Empty};
 ghost use mathlib.Core.List.{[], _∷_};
 ghost use Prim.Native.Nat.{ℕ, suc, _+_, _-_, _<_, _≤_};
 ghost use lib.ListN.{length, getD, set};
-ghost use Rattle.arena.specs.Cells.{headers, arityOf, Reference};
+ghost use Rattle.arena.specs.Cells.{headers, arityOf, Reference, WellFormed};
 ghost use Rattle.unifier.specs.Tables.{column, valued, listed, undone};
-ghost use Rattle.unifier.specs.Stored.{cells, Form, Edge, LeadsTo};
-ghost use Rattle.unifier.specs.Contracts.{Replaced, Entered, Undoable, Walked, Free, Checked, Falling, Decided, Joined, Scratch, Unified, cleared};
+ghost use Rattle.unifier.specs.Stored.{cells, Form, Sound, Edge, LeadsTo};
+ghost use Rattle.unifier.specs.Contracts.{Replaced, Entered, Undoable, Walked, Free, Checked, Falling, Decided, Joined, Scratch, Unified, cleared, Tells, Trailed, BindingsChecked};
 ghost use Rattle.unifier.specs.Entries.{Entries};
 ghost use Rattle.unifier.specs.Search.{Grown, ArgumentOf};
 ghost use Rattle.unifier.specs.Equating.{Equated};
+ghost use Rattle.unifier.specs.Descent.{EdgeAt};
+ghost use Rattle.unifier.specs.Descending.{Descended, Wiped};
+ghost use Rattle.unifier.specs.Checking.{CyclesChecked, TrailEntered, GoodValue, TrailChecked};
 
 // What is to be done with two references that are to be made equal.
 pub enum Decision {
@@ -389,4 +394,225 @@ pub fn unify(w: &[u32], b: &mut [[u32; 2]], links: &mut [[u32; 2]], m: &mut [[u3
     }
     undo(b, n, k);
     Ended { unified: false, bound: k }
+}
+
+// Puts a row of two numbers.
+fn put_row(m: &mut [[u32; 2]], x: u32, left: u32, right: u32)
+    requires { ⌜ x < length (now m) ⌝ }
+    ensures { λ _. ⌜ Replaced (now (m .entry)) (now (m .exit)) x 2 (set (now (m .entry)) x (left ∷ right ∷ [])) ⌝ }
+{
+    let i = x as usize;
+    let row = m[i];
+    let old = second(row);
+    m[i] = [left, right];
+}
+
+// The place to which the edge i from r leads: 1 + a reference, or 0 where there is none.
+fn edge_at(w: &[u32], b: &[[u32; 2]], room: u32, variables: u32, used: u32, r: u32, i: u32) -> u32
+    requires { ⌜ Sound room (now w) (now b) variables used ⌝ ∗ ⌜ Reference room (cells (now w)) variables used r ⌝ }
+    ensures { λ e. ⌜ EdgeAt room (cells (now (w .entry))) (column 0 (now (b .entry))) r i e ⌝ }
+{
+    if r < room {
+        if i == 0 {
+            return b[r as usize][0];
+        }
+        return 0;
+    }
+    if i < arity(w, room, r) {
+        return argument(w, room, r, i) + 1;
+    }
+    0
+}
+
+// Whether all that the variables reach ends: a search in depth that takes each edge once.
+fn descend(w: &[u32], b: &[[u32; 2]], m: &mut [[u32; 2]], room: u32, variables: u32, used: u32) -> bool
+    requires { ⌜ Sound room (now w) (now b) variables used ⌝ ∗ ⌜ Free room used (now m) ⌝ }
+    ensures { λ answer. ⌜ Descended room (now (w .entry)) (now (b .entry)) (now (m .entry)) (now (m .exit)) variables used answer ⌝ }
+{
+    let mut v = 0;
+    let mut t = 0;
+    let mut p = 0;
+    loop {
+        if p != 0 {
+            let x = p - 1;
+            let i = m[x as usize][0];
+            if i == 34 {
+                p = 0;
+            } else if i == 0 {
+                put_row(m, x, 1, t);
+                t = p;
+                p = 0;
+            } else {
+                return false;
+            }
+        } else if t != 0 {
+            let r = t - 1;
+            let row = m[r as usize];
+            let i = first(row) - 1;
+            let up = second(row);
+            let e = edge_at(w, b, room, variables, used, r, i);
+            if e == 0 {
+                set_value(m, r, 34);
+                t = up;
+            } else {
+                set_value(m, r, i + 2);
+                p = e;
+            }
+        } else {
+            if v == variables {
+                return true;
+            }
+            v += 1;
+            p = v;
+        }
+    }
+}
+
+// Sets the rows below the limit to 0.
+fn wipe(m: &mut [[u32; 2]], limit: u32)
+    requires { ⌜ limit ≤ length (now m) ⌝ }
+    ensures { λ _. ⌜ Wiped (now (m .entry)) (now (m .exit)) limit ⌝ }
+{
+    let mut i = 0;
+    while i < limit {
+        put_row(m, i, 0, 0);
+        i += 1;
+    }
+}
+
+// Whether no binding leads back to its own variable.
+fn check_acyclic(w: &[u32], b: &[[u32; 2]], m: &mut [[u32; 2]], room: u32, variables: u32, used: u32) -> bool
+    requires { ⌜ Sound room (now w) (now b) variables used ⌝ ∗ ⌜ Free room used (now m) ⌝ }
+    ensures { λ answer. ⌜ CyclesChecked room (now (w .entry)) (now (b .entry)) (now (m .entry)) (now (m .exit)) variables used answer ⌝ }
+{
+    let answer = descend(w, b, m, room, variables, used);
+    wipe(m, room + used);
+    answer
+}
+
+// Enters the variables of the trail as marks, until one is out of use, or unbound, or entered already; answers how many.
+fn enter_trail(b: &[[u32; 2]], m: &mut [[u32; 2]], variables: u32, k: u32) -> u32
+    requires { ⌜ (k ≤ length (now b)) × (variables ≤ length (now b)) × (variables ≤ length (now m)) ⌝ ∗ ⌜ Empty (now m) ⌝ }
+    ensures { λ n. ⌜ TrailEntered (now (b .entry)) (now (m .entry)) (now (m .exit)) variables k n ⌝ }
+{
+    let mut i = 0;
+    while i < k {
+        let key = b[i as usize][1];
+        if variables <= key {
+            return i;
+        }
+        if b[key as usize][0] == 0 {
+            return i;
+        }
+        if m[key as usize][0] != 0 {
+            return i;
+        }
+        enter(m, i, key, 1);
+        i += 1;
+    }
+    i
+}
+
+// Whether r is a reference in form.
+fn in_form(w: &[u32], room: u32, variables: u32, used: u32, r: u32) -> bool
+    requires { ⌜ used ≤ length (now w) ⌝ }
+    ensures { λ answer. ⌜ Tells answer (Reference room (cells (now (w .entry))) variables used r) ⌝ }
+{
+    if r < room {
+        if r < variables {
+            return true;
+        }
+        return false;
+    }
+    let a = r - room;
+    if used <= a {
+        return false;
+    }
+    if w[a as usize] < 1048576 {
+        return false;
+    }
+    true
+}
+
+// Whether the value of v is 0 or in form.
+fn good_value(w: &[u32], b: &[[u32; 2]], m: &[[u32; 2]], room: u32, variables: u32, used: u32, v: usize) -> bool
+    requires { ⌜ (used ≤ length (now w)) × (v < length (now b)) × (variables ≤ length (now m)) ⌝ }
+    ensures { λ answer. ⌜ Tells answer (GoodValue room (now (w .entry)) (now (b .entry)) (now (m .entry)) variables used v) ⌝ }
+{
+    let value = b[v][0];
+    if value == 0 {
+        return true;
+    }
+    if (variables as usize) <= v {
+        return false;
+    }
+    if m[v][0] == 0 {
+        return false;
+    }
+    in_form(w, room, variables, used, value - 1)
+}
+
+// Whether all values are 0 or in form.
+fn check_values(w: &[u32], b: &[[u32; 2]], m: &[[u32; 2]], room: u32, variables: u32, used: u32) -> bool
+    requires { ⌜ (used ≤ length (now w)) × (variables ≤ length (now m)) ⌝ }
+    ensures { λ answer. ⌜ Tells answer ((v : ℕ) → GoodValue room (now (w .entry)) (now (b .entry)) (now (m .entry)) variables used v) ⌝ }
+{
+    let mut v = 0;
+    while v < b.len() {
+        if good_value(w, b, m, room, variables, used, v) {
+            v += 1;
+        } else {
+            return false;
+        }
+    }
+    true
+}
+
+// Whether the trail is 0 from position k on.
+fn check_rest(b: &[[u32; 2]], k: u32) -> bool
+    ensures { λ answer. ⌜ Tells answer ((i : ℕ) → k ≤ i → column 1 (now (b .entry)) i ≡ 0) ⌝ }
+{
+    let mut i = k as usize;
+    while i < b.len() {
+        if b[i][1] != 0 {
+            return false;
+        }
+        i += 1;
+    }
+    true
+}
+
+// Whether the first k entries of the trail are the bound variables, each once, and their values are in form.
+fn check_trail(w: &[u32], b: &[[u32; 2]], m: &mut [[u32; 2]], room: u32, variables: u32, used: u32, k: u32) -> bool
+    requires { ⌜ (used ≤ length (now w)) × (k ≤ length (now b)) × (variables ≤ length (now b)) × (variables ≤ room) ⌝ ∗ ⌜ Free room used (now m) ⌝ }
+    ensures { λ answer. ⌜ TrailChecked room (now (w .entry)) (now (b .entry)) (now (m .entry)) (now (m .exit)) variables used k answer ⌝ }
+{
+    let n = enter_trail(b, m, variables, k);
+    if n < k {
+        undo(m, n, 0);
+        return false;
+    }
+    let answer = check_values(w, b, m, room, variables, used);
+    undo(m, n, 0);
+    answer
+}
+
+// Whether rows of any contents are bindings in form over words in form.
+pub fn check_bindings(w: &[u32], b: &[[u32; 2]], m: &mut [[u32; 2]], room: u32, variables: u32, used: u32, k: u32) -> bool
+    requires { ⌜ WellFormed room (cells (now w)) variables used ⌝ ∗ ⌜ (variables ≤ room) × (room + used ≤ headers) × (used ≤ length (now w)) ⌝ ∗ ⌜ Free room used (now m) ⌝ }
+    ensures { λ answer. ⌜ BindingsChecked room (now (w .entry)) (now (b .entry)) (now (m .entry)) (now (m .exit)) variables used k answer ⌝ }
+{
+    if b.len() < variables as usize {
+        return false;
+    }
+    if variables < k {
+        return false;
+    }
+    if check_trail(w, b, m, room, variables, used, k) {
+        if check_rest(b, k) {
+            return check_acyclic(w, b, m, room, variables, used);
+        }
+        return false;
+    }
+    false
 }
