@@ -59,8 +59,8 @@ module _ {N : ℕ} where
   stack-in {w} {values} {trail} {links} {lefts} {rights} {taken} {variables} {used} {k} {d} {β} h = pigeonhole used d (λ j. lefts j - N)
       (λ i l. let (a, b) = stack-nodes (h .stack) i l in omega arith)
       (λ i j li lj e. let (a, b) = stack-nodes (h .stack) i li in let (a′, b′) = stack-nodes (h .stack) j lj in
-        let e′ : lefts i ≡ lefts j = omega arith in
-        by-order i j (λ ij. absurd (no i j ij lj e′)) (λ ij. by-order j i (λ ji. absurd (no j i ji li (sym e′))) (λ ji. omega arith)))
+      let e′ : lefts i ≡ lefts j = omega arith in
+      by-order i j (λ ij. absurd (no i j ij lj e′)) (λ ij. by-order j i (λ ji. absurd (no j i ji li (sym e′))) (λ ji. omega arith)))
     where
       no : (i j : ℕ) → i < j → j < d → lefts i ≡ lefts j → ⊥
       no i j ij lj e =

@@ -41,14 +41,14 @@ pub record CyclesChecked (N : ℕ) (w : List ℕ) (b m m′ : Rows) (variables u
   pub marks : m′ ≡ m
 
 pub cycles-checked : {N : ℕ} {w : List ℕ} {b m₀ m m′ : Rows} {variables used : ℕ} {answer : Bool} → Sound N w b variables used → Free N used m₀
-  → Descended N w b m₀ m variables used answer → Wiped m m′ (N + used) → CyclesChecked N w b m₀ m′ variables used answer
+    → Descended N w b m₀ m variables used answer → Wiped m m′ (N + used) → CyclesChecked N w b m₀ m′ variables used answer
 cycles-checked {answer = answer} s fr h g = record {
-    tells = record {
-      yes = λ e r k. all-end (s .words) (s .references) (h .yes e) (suc r) r (omega arith) k;
-      back = λ all. by-bool answer (λ e. e) (λ e. absurd (h .other e all))
-    };
-    marks = wiped-back (fr .empty) (h .table) g
-  }
+  tells = record {
+    yes = λ e r k. all-end (s .words) (s .references) (h .yes e) (suc r) r (omega arith) k;
+    back = λ all. by-bool answer (λ e. e) (λ e. absurd (h .other e all));
+  };
+  marks = wiped-back (fr .empty) (h .table) g;
+}
 
 -- The trail entered among the marks.
 pub record Entering (b m₀ m : Rows) (variables n : ℕ) : Type 0 where
@@ -68,9 +68,14 @@ pub record TrailEntered (b m₀ m : Rows) (variables k n : ℕ) : Type 0 where
 
 pub entering-start : (b m : Rows) (variables : ℕ) → Empty m → Entering b m m variables 0
 entering-start b m variables z = record {
-    entries = entries-none m variables z; long = refl; undo = undone-zero m 0;
-    same = λ i l. absurd (not-suc-le-zero l); inUse = λ i l. absurd (not-suc-le-zero l); bound = λ i l. absurd (not-suc-le-zero l); distinct = λ i j a l. absurd (not-suc-le-zero l)
-  }
+  entries = entries-none m variables z;
+  long = refl;
+  undo = undone-zero m 0;
+  same = λ i l. absurd (not-suc-le-zero l);
+  inUse = λ i l. absurd (not-suc-le-zero l);
+  bound = λ i l. absurd (not-suc-le-zero l);
+  distinct = λ i j a l. absurd (not-suc-le-zero l);
+}
 
 module _ {b m₀ m : Rows} {variables n : ℕ} (h : Entering b m₀ m variables n) (low : column 1 b n < variables) (free : column 0 m (column 1 b n) ≡ 0) where
   pub entering-room : variables ≤ length m₀ → (n < length m) × (column 1 b n < length m)
@@ -89,7 +94,7 @@ module _ {b m₀ m : Rows} {variables n : ℕ} (h : Entering b m₀ m variables 
         inUse = λ i q. by-order i n (λ a. h .inUse i a) (λ a. let e : i ≡ n = omega arith in subst (λ (j : ℕ). column 1 b j < variables) (sym e) low);
         bound = λ i q. by-order i n (λ a. h .bound i a) (λ a. let e : i ≡ n = omega arith in subst (λ (j : ℕ). column 0 b (column 1 b j) ≢ 0) (sym e) bd);
         distinct = λ i j a q. by-order j n (λ c. h .distinct i j a c)
-          (λ c d. let e : j ≡ n = omega arith in h .entries .filled i (omega arith) (ap (column 0 m) (h .same i (omega arith) ∙ d ∙ ap (column 1 b) e) ∙ free))
+            (λ c d. let e : j ≡ n = omega arith in h .entries .filled i (omega arith) (ap (column 0 m) (h .same i (omega arith) ∙ d ∙ ap (column 1 b) e) ∙ free));
       }
 
 -- A value in form: its variable is in use and entered.
@@ -114,15 +119,15 @@ module _ {N : ℕ} {w : List ℕ} {b m₀ m : Rows} {variables used k n : ℕ} (
 
   pub trailed-tells : {answer : Bool} → k ≤ n → Tells answer ((v : ℕ) → GoodValue N w b m variables used v) → Tells answer (Trailed N w b variables used k)
   trailed-tells l g = record {
-      yes = λ e. let f = g .yes e in record {
-        inUse = λ i p. h .entering .inUse i (omega arith);
-        bound = λ i p. h .entering .bound i (omega arith);
-        distinct = λ i j a p. h .entering .distinct i j a (omega arith);
-        values = λ v ne. let (u, mk, rf) = f v ne in let (i, li, q) = h .entering .entries .all v mk in let nk = trail-all h l in (u, (i, omega arith, sym (h .entering .same i li) ∙ q), rf)
-      };
-      back = λ t. g .back (λ v ne. let (u, ix, rf) = t .values v ne in let (i, li, q) = ix in let nk = trail-all h l in
-        (u, (λ z. h .entering .entries .filled i (omega arith) (ap (column 0 m) (h .entering .same i (omega arith) ∙ q) ∙ z)), rf))
-    }
+    yes = λ e. let f = g .yes e in record {
+      inUse = λ i p. h .entering .inUse i (omega arith);
+      bound = λ i p. h .entering .bound i (omega arith);
+      distinct = λ i j a p. h .entering .distinct i j a (omega arith);
+      values = λ v ne. let (u, mk, rf) = f v ne in let (i, li, q) = h .entering .entries .all v mk in let nk = trail-all h l in (u, (i, omega arith, sym (h .entering .same i li) ∙ q), rf);
+    };
+    back = λ t. g .back (λ v ne. let (u, ix, rf) = t .values v ne in let (i, li, q) = ix in let nk = trail-all h l in
+        (u, (λ z. h .entering .entries .filled i (omega arith) (ap (column 0 m) (h .entering .same i (omega arith) ∙ q) ∙ z)), rf));
+  }
 
 -- a variable that is found is listed
 listed-at : (N : ℕ) (w : List ℕ) (b : Rows) (j v : ℕ) → lookup (held N w b j) v ≢ none → (i : ℕ) × (i < j) × (column 1 b i ≡ v)
@@ -140,9 +145,13 @@ pub record TrailChecked (N : ℕ) (w : List ℕ) (b m m′ : Rows) (variables us
 module _ {N : ℕ} {w : List ℕ} {b : Rows} {variables used k : ℕ} where
   pub trailed-sound : WellFormed N (cells w) variables used → variables ≤ N → N + used ≤ headers → used ≤ length w → variables ≤ length b → Trailed N w b variables used k → Sound N w b variables used
   trailed-sound wf few low lw lb t = record {
-      words = wf; few = few; low = low; lentWords = lw; lentRows = lb;
-      references = λ v r l e. let z : column 0 b v - 1 ≡ r = omega arith in subst (Reference N (cells w) variables used) z (t .values v (λ q. omega arith) .2)
-    }
+    words = wf;
+    few = few;
+    low = low;
+    lentWords = lw;
+    lentRows = lb;
+    references = λ v r l e. let z : column 0 b v - 1 ≡ r = omega arith in subst (Reference N (cells w) variables used) z (t .values v (λ q. omega arith) .2);
+  }
 
   -- a listed variable is found
   bindings-some : (j : ℕ) → j ≤ k → Trailed N w b variables used k → (i : ℕ) → i < j → lookup (held N w b j) (column 1 b i) ≡ some (denote N (cells w) (column 0 b (column 1 b i) - 1))
@@ -154,15 +163,20 @@ module _ {N : ℕ} {w : List ℕ} {b : Rows} {variables used k : ℕ} where
   pub form-checked : Sound N w b variables used → Trailed N w b variables used k → ((i : ℕ) → k ≤ i → column 1 b i ≡ 0) → AllEnd N w b variables used → Form N w b variables used k
   form-checked s t rest all =
       let lists : (i : ℕ) → i < k → (column 1 b i < variables) × (column 0 b (column 1 b i) ≢ 0) × Reference N (cells w) variables used (column 0 b (column 1 b i) - 1) =
-        λ i l. (t .inUse i l, t .bound i l, t .values (column 1 b i) (t .bound i l) .2) in
+      λ i l. (t .inUse i l, t .bound i l, t .values (column 1 b i) (t .bound i l) .2) in
       record {
-        words = s .words; few = s .few; low = s .low; lentWords = s .lentWords; lentRows = s .lentRows; references = s .references;
+        words = s .words;
+        few = s .few;
+        low = s .low;
+        lentWords = s .lentWords;
+        lentRows = s .lentRows;
+        references = s .references;
         lookups = λ v l. at v (column 0 b v) refl;
         acyclic = acyclic-made N (cells w) (column 0 b) (column 1 b) variables used (s .words) (s .few) k lists (t .distinct)
-          (λ v l. all v (let few = s .few in record { variable = λ _. l; node = λ g. absurd (omega arith); header = λ g. absurd (omega arith) }));
+            (λ v l. all v (let few = s .few in record { variable = λ _. l; node = λ g. absurd (omega arith); header = λ g. absurd (omega arith) }));
         below = below-made N (cells w) (column 0 b) (column 1 b) variables used (s .words) (s .few) k lists;
         unbound = λ v l. ⊎-elim (λ e. e) (λ e. let u = t .values v e .0 in absurd (omega arith)) (same-or-not (column 0 b v) 0);
-        rest = rest
+        rest = rest;
       }
     where
       at : (v z : ℕ) → column 0 b v ≡ z → lookup (held N w b k) v ≡ lookupAt N (cells w) (column 0 b v)
@@ -175,13 +189,13 @@ module _ {N : ℕ} {w : List ℕ} {b : Rows} {variables used k : ℕ} where
 
   pub form-trailed : Form N w b variables used k → Trailed N w b variables used k
   form-trailed f = record {
-      inUse = bindings-low N (cells w) (column 0 b) (column 1 b) variables k (f .below);
-      bound = form-holds f .filled;
-      distinct = bindings-one N (cells w) (column 0 b) (column 1 b) k (f .acyclic);
-      values = λ v n. let low : v < variables = by-order v variables (λ a. a) (λ a. absurd (n (f .unbound v a))) in
+    inUse = bindings-low N (cells w) (column 0 b) (column 1 b) variables k (f .below);
+    bound = form-holds f .filled;
+    distinct = bindings-one N (cells w) (column 0 b) (column 1 b) k (f .acyclic);
+    values = λ v n. let low : v < variables = by-order v variables (λ a. a) (λ a. absurd (n (f .unbound v a))) in
         let e = not-zero (column 0 b v) n in
-        (low, listed-at N w b k v (λ z. some-none {P = ⊥} (f .lookups v low ∙ ap (lookupAt N (cells w)) e) z), f .references v (column 0 b v - 1) low e)
-    }
+        (low, listed-at N w b k v (λ z. some-none {P = ⊥} (f .lookups v low ∙ ap (lookupAt N (cells w)) e) z), f .references v (column 0 b v - 1) low e);
+  }
 
   pub form-few : Form N w b variables used k → k ≤ variables
   form-few f = trail-in (form-holds f)
@@ -195,12 +209,12 @@ module _ {N : ℕ} {w : List ℕ} {b m₀ : Rows} {variables used k : ℕ} where
   checked-no n m e = record { tells = tells-no n; marks = e }
 
   pub checked-last : {trail rest cycles : Bool} {m₁ m₂ : Rows} → WellFormed N (cells w) variables used → (variables ≤ N) × (N + used ≤ headers) × (used ≤ length w) → variables ≤ length b
-    → TrailChecked N w b m₀ m₁ variables used k trail → trail ≡ true → Tells rest ((i : ℕ) → k ≤ i → column 1 b i ≡ 0) → rest ≡ true
-    → CyclesChecked N w b m₁ m₂ variables used cycles → BindingsChecked N w b m₀ m₂ variables used k cycles
+      → TrailChecked N w b m₀ m₁ variables used k trail → trail ≡ true → Tells rest ((i : ℕ) → k ≤ i → column 1 b i ≡ 0) → rest ≡ true
+      → CyclesChecked N w b m₁ m₂ variables used cycles → BindingsChecked N w b m₀ m₂ variables used k cycles
   checked-last wf (few, low, lw) lb t et r er c = record {
-      tells = record {
-        yes = λ e. form-checked (trailed-sound wf few low lw lb (t .tells .yes et)) (t .tells .yes et) (r .yes er) (c .tells .yes e);
-        back = λ f. c .tells .back (form-ends f)
-      };
-      marks = c .marks ∙ t .marks
-    }
+    tells = record {
+      yes = λ e. form-checked (trailed-sound wf few low lw lb (t .tells .yes et)) (t .tells .yes et) (r .yes er) (c .tells .yes e);
+      back = λ f. c .tells .back (form-ends f);
+    };
+    marks = c .marks ∙ t .marks;
+  }

@@ -36,12 +36,12 @@ module _ (N : ℕ) (w values trail : Cells) (variables used : ℕ) (wf : WellFor
   term-reach (suc n) r z l h e = ⊎-elim
       (λ lr. let m : mem z (var r) ≡ true = ap (mem z) (sym (denote-variable N w r lr)) ∙ e in subst (λ (y : ℕ). Reaches N w values r y) (sym (mem-var m)) here)
       (λ lr. let m : mem z (args (denote N w) w (suc (r - N)) (arityOf (w (r - N)))) ≡ true = ap (mem z) (sym (denote-node N w variables used wf r h lr)) ∙ e in
-        let (i, li, mi, si) = args-mem N z var w (suc (r - N)) (arityOf (w (r - N))) (ap (mem z) (sub-var (args (denote N w) w (suc (r - N)) (arityOf (w (r - N))))) ∙ m) in
-        let nd = h .node lr in
-        let d : r - N + suc i ≡ suc (r - N) + i = omega arith in
-        let x : Reference N w variables (r - N) (w (suc (r - N) + i)) = subst (λ (y : ℕ). Reference N w variables (r - N) (w y)) d (wf .arguments (r - N) i (omega arith) (h .header lr) li) in
-        let q = reference-below N lr x in
-        step (argument i lr li) (term-reach n (w (suc (r - N) + i)) z (omega arith) (reference-argument N w variables used wf r i h lr li) (ap (mem z) (sym (sub-var (denote N w (w (suc (r - N) + i))))) ∙ mi)))
+      let (i, li, mi, si) = args-mem N z var w (suc (r - N)) (arityOf (w (r - N))) (ap (mem z) (sub-var (args (denote N w) w (suc (r - N)) (arityOf (w (r - N))))) ∙ m) in
+      let nd = h .node lr in
+      let d : r - N + suc i ≡ suc (r - N) + i = omega arith in
+      let x : Reference N w variables (r - N) (w (suc (r - N) + i)) = subst (λ (y : ℕ). Reference N w variables (r - N) (w y)) d (wf .arguments (r - N) i (omega arith) (h .header lr) li) in
+      let q = reference-below N lr x in
+      step (argument i lr li) (term-reach n (w (suc (r - N) + i)) z (omega arith) (reference-argument N w variables used wf r i h lr li) (ap (mem z) (sym (sub-var (denote N w (w (suc (r - N) + i))))) ∙ mi)))
       (low-or-high r N)
 
   -- the first k entries of the trail are bound variables in use
@@ -57,11 +57,11 @@ module _ (N : ℕ) (w values trail : Cells) (variables used : ℕ) (wf : WellFor
       let p = mem-through z (upd (trail k) (res (bindings N w values trail k) (denote N w (values (trail k) - 1))) var) (full (bindings N w values trail k) y) e in
       by-same (p .y) (trail k)
       (λ q s. let m : mem z (res (bindings N w values trail k) (denote N w (values (trail k) - 1))) ≡ true = rw s at (p .there) in
-        let t = mem-through z (full (bindings N w values trail k)) (denote N w (values (trail k) - 1)) m in
-        let b = below-mem variables (denote N w (values (trail k) - 1)) (below-denote N w variables used wf (values (trail k) - 1) rv) (t .y) (t .here) in
-        reach-trans (subst (λ (x : ℕ). Reaches N w values y x) q (ih y (p .y) l (p .here)))
-        (step (into (omega arith) (not-zero (values (trail k)) nv))
-        (reach-trans (term-reach (suc (values (trail k) - 1)) (values (trail k) - 1) (t .y) (omega arith) rv (t .here)) (ih (t .y) z (omega arith) (t .there)))))
+      let t = mem-through z (full (bindings N w values trail k)) (denote N w (values (trail k) - 1)) m in
+      let b = below-mem variables (denote N w (values (trail k) - 1)) (below-denote N w variables used wf (values (trail k) - 1) rv) (t .y) (t .here) in
+      reach-trans (subst (λ (x : ℕ). Reaches N w values y x) q (ih y (p .y) l (p .here)))
+      (step (into (omega arith) (not-zero (values (trail k)) nv))
+      (reach-trans (term-reach (suc (values (trail k) - 1)) (values (trail k) - 1) (t .y) (omega arith) rv (t .here)) (ih (t .y) z (omega arith) (t .there)))))
       (λ q s. let m : z ≡ p .y = mem-var (rw s at (p .there)) in subst (λ (x : ℕ). Reaches N w values y x) (sym m) (ih y (p .y) l (p .here)))
 
   -- where all variables end, the bindings are acyclic
@@ -69,15 +69,16 @@ module _ (N : ℕ) (w values trail : Cells) (variables used : ℕ) (wf : WellFor
   acyclic-made zero h d f = tt
   acyclic-made (suc k) h d f =
       let (lv, nv, rv) = h k (omega arith) in
-      let h′ : Listed k = λ i l. h i (omega arith) in
-      (bindings-none N w values trail k (trail k) (λ i l. d i k l (omega arith)),
+      let h′ : Listed k = λ i l. h i (omega arith) in (
+        bindings-none N w values trail k (trail k) (λ i l. d i k l (omega arith)),
         by-bool (occurs (bindings N w values trail k) (trail k) (denote N w (values (trail k) - 1)))
-          (λ e. let t = mem-through (trail k) (full (bindings N w values trail k)) (denote N w (values (trail k) - 1)) e in
+            (λ e. let t = mem-through (trail k) (full (bindings N w values trail k)) (denote N w (values (trail k) - 1)) e in
             let b = below-mem variables (denote N w (values (trail k) - 1)) (below-denote N w variables used wf (values (trail k) - 1) rv) (t .y) (t .here) in
             absurd (no-cycle (f (trail k) lv) (into (omega arith) (not-zero (values (trail k)) nv))
-              (reach-trans (term-reach (suc (values (trail k) - 1)) (values (trail k) - 1) (t .y) (omega arith) rv (t .here)) (full-reach k h′ (t .y) (trail k) (omega arith) (t .there)))))
-          (λ e. e),
-        acyclic-made k h′ (λ i j l m. d i j l (omega arith)) f)
+            (reach-trans (term-reach (suc (values (trail k) - 1)) (values (trail k) - 1) (t .y) (omega arith) rv (t .here)) (full-reach k h′ (t .y) (trail k) (omega arith) (t .there)))))
+            (λ e. e),
+        acyclic-made k h′ (λ i j l m. d i j l (omega arith)) f,
+      )
 
   pub below-made : (k : ℕ) → Listed k → BelowB variables (bindings N w values trail k)
   below-made zero h = tt
@@ -86,7 +87,7 @@ module _ (N : ℕ) (w values trail : Cells) (variables used : ℕ) (wf : WellFor
 -- Acyclic bindings end.
 module _ {N : ℕ} {w values trail : Cells} {variables used k : ℕ} {β : Bindings} (wf : WellFormed N w variables used) (h : Holds N w values trail variables used k β) where
   ends-walk : (n : ℕ) → ((r : ℕ) → Reference N w variables used r → size (res β (denote N w r)) ≤ n → Ends N w values r)
-    → (m r : ℕ) → Reference N w variables used r → size (res β (denote N w r)) ≤ suc n → walkLength β (denote N w r) ≤ m → Ends N w values r
+      → (m r : ℕ) → Reference N w variables used r → size (res β (denote N w r)) ≤ suc n → walkLength β (denote N w r) ≤ m → Ends N w values r
   ends-walk n ih zero r rr l lm = ends (λ y e. go y e)
     where
       go : (y : ℕ) → Edge N w values r y → Ends N w values y

@@ -32,12 +32,12 @@ zero-row m x z w = two (getD m x []) w ∙ ap₂ (λ (a b : ℕ). a ∷ b ∷ []
 
 pub replaceable-set : {limit : ℕ} {m₀ m : Rows} → Replaceable limit m₀ m → Empty m₀ → (x : ℕ) (row : List ℕ) → x < limit → length (getD m x []) ≡ 2 → Replaceable limit m₀ (set m x row)
 replaceable-set {limit} {m₀} {m} h z x row l w = record {
-    long = length-set m x row ∙ h .long;
-    rows = λ j. by-same j x
+  long = length-set m x row ∙ h .long;
+  rows = λ j. by-same j x
       (λ p _. inr (subst (λ (i : ℕ). getD m₀ i [] ≡ 0 ∷ 0 ∷ []) (sym p) (⊎-elim (λ e. zero-row m₀ x z (ap length (sym e) ∙ w)) (λ e. e) (h .rows x))))
       (λ p _. ⊎-elim (λ e. inl (getD-set-other m x j row [] p ∙ e)) (λ e. inr e) (h .rows j));
-    above = λ j p. getD-set-other m x j row [] (λ q. omega arith) ∙ h .above j p
-  }
+  above = λ j p. getD-set-other m x j row [] (λ q. omega arith) ∙ h .above j p;
+}
 
 -- The rows below the limit were set to 0.
 pub record Wiped (m m′ : Rows) (limit : ℕ) : Type 0 where
@@ -51,21 +51,21 @@ wiped-none m = record { long = refl; below = λ j l. absurd (not-suc-le-zero l);
 
 pub wiped-more : {m m′ : Rows} {i : ℕ} → Wiped m m′ i → i < length m → length (getD m′ i []) ≡ 2 → Wiped m (set m′ i (0 ∷ 0 ∷ [])) (i + 1)
 wiped-more {m} {m′} {i} h l w = record {
-    long = length-set m′ i _ ∙ h .long;
-    below = λ j p. by-same j i
+  long = length-set m′ i _ ∙ h .long;
+  below = λ j p. by-same j i
       (λ q _. subst (λ (n : ℕ). getD (set m′ i (0 ∷ 0 ∷ [])) n [] ≡ 0 ∷ 0 ∷ []) (sym q) (getD-set-same m′ i _ [] (let e = h .long in omega arith)))
       (λ q _. getD-set-other m′ i j _ [] q ∙ h .below j (by-order j i (λ a. a) (λ a. absurd (q (omega arith)))));
-    wide = λ j p. by-same j i
+  wide = λ j p. by-same j i
       (λ q _. subst (λ (n : ℕ). length (getD m n []) ≡ 2) (sym q) (ap length (sym (h .above i (le-refl i))) ∙ w))
       (λ q _. h .wide j (by-order j i (λ a. a) (λ a. absurd (q (omega arith)))));
-    above = λ j p. getD-set-other m′ i j _ [] (λ q. omega arith) ∙ h .above j (omega arith)
-  }
+  above = λ j p. getD-set-other m′ i j _ [] (λ q. omega arith) ∙ h .above j (omega arith);
+}
 
 pub wiped-back : {limit : ℕ} {m₀ m m′ : Rows} → Empty m₀ → Replaceable limit m₀ m → Wiped m m′ limit → m′ ≡ m₀
 wiped-back {limit} {m₀} {m} {m′} z h g = ext-getD [] m′ m₀ (g .long ∙ h .long)
     (λ i _. by-order i limit
-      (λ p. g .below i p ∙ sym (⊎-elim (λ e. zero-row m₀ i z (ap length (sym e) ∙ g .wide i p)) (λ e. e) (h .rows i)))
-      (λ p. g .above i p ∙ h .above i p))
+    (λ p. g .below i p ∙ sym (⊎-elim (λ e. zero-row m₀ i z (ap length (sym e) ∙ g .wide i p)) (λ e. e) (h .rows i)))
+    (λ p. g .above i p ∙ h .above i p))
 
 -- How far the numbers of the first n references are from 34.
 abbrev pub remaining : Cells → ℕ → ℕ
@@ -140,8 +140,12 @@ module _ {N : ℕ} {w : List ℕ} {b m₀ : Rows} {variables used : ℕ} (s : So
       place-row = let a = place-in in let b = long in omega arith
 
       pub turn-skip : column 0 m (p - 1) ≡ 34 → Descending N w b m₀ m variables used v t 0
-      turn-skip e = record { table = h .table; le = h .le; state = descent-skip (p - 1) state₁ e;
-          seen = λ x l q. let a = h .seen x l q in let b : x ≡ p - 1 = omega arith in let c : column 0 m x ≡ 34 = ap (column 0 m) b ∙ e in let z : ⊥ = omega arith in absurd z }
+      turn-skip e = record {
+        table = h .table;
+        le = h .le;
+        state = descent-skip (p - 1) state₁ e;
+        seen = λ x l q. let a = h .seen x l q in let b : x ≡ p - 1 = omega arith in let c : column 0 m x ≡ 34 = ap (column 0 m) b ∙ e in let z : ⊥ = omega arith in absurd z;
+      }
 
       module _ (wide : length (getD m (p - 1) []) ≡ 2) (e : column 0 m (p - 1) ≡ 0) where
         abbrev m⁺ : Rows
@@ -149,14 +153,15 @@ module _ {N : ℕ} {w : List ℕ} {b m₀ : Rows} {variables used : ℕ} (s : So
 
         pub turn-down : Descending N w b m₀ (set m (p - 1) (1 ∷ t ∷ [])) variables used v p 0
         turn-down = record {
-            table = replaceable-set (h .table) (fr .empty) (p - 1) _ place-in wide; le = h .le;
-            state = subst (λ (k : ℕ). Descent N (cells w) (column 0 b) (column 0 m⁺) (column 1 m⁺) variables used k 0) (sym ps)
+          table = replaceable-set (h .table) (fr .empty) (p - 1) _ place-in wide;
+          le = h .le;
+          state = subst (λ (k : ℕ). Descent N (cells w) (column 0 b) (column 0 m⁺) (column 1 m⁺) variables used k 0) (sym ps)
               (descent-enter (column 0 m⁺) (column 1 m⁺) (p - 1) state₁ e (column-same 0 m (p - 1) _ place-row) (λ a q. column-other 0 m (p - 1) a _ q)
-                (column-same 1 m (p - 1) _ place-row) (λ a q. column-other 1 m (p - 1) a _ q));
-            seen = λ x l q. by-same x (p - 1)
+              (column-same 1 m (p - 1) _ place-row) (λ a q. column-other 1 m (p - 1) a _ q));
+          seen = λ x l q. by-same x (p - 1)
               (λ y _. let z : column 0 m⁺ x ≡ 1 = ap (column 0 m⁺) y ∙ column-same 0 m (p - 1) _ place-row in let bad : ⊥ = omega arith in absurd bad)
-              (λ y _. let a = h .seen x l (sym (column-other 0 m (p - 1) x _ y) ∙ q) in let bad : ⊥ = y (omega arith) in absurd bad)
-          }
+              (λ y _. let a = h .seen x l (sym (column-other 0 m (p - 1) x _ y) ∙ q) in let bad : ⊥ = y (omega arith) in absurd bad);
+        }
 
         pub less-down : effort (column 0 (set m (p - 1) (1 ∷ t ∷ []))) (N + used) variables v 0 < effort (column 0 m) (N + used) variables v p
         less-down = effort-less (column 0 m) (column 0 m⁺) (N + used) variables v (p - 1) p 0 place-in (let q = column-same 0 m (p - 1) (1 ∷ t ∷ []) place-row in omega arith)
@@ -199,10 +204,11 @@ module _ {N : ℕ} {w : List ℕ} {b m₀ : Rows} {variables used : ℕ} (s : So
             let a₀ : EdgeAt N (cells w) (column 0 b) (t - 1) (column 0 m (t - 1) - 1) 0 = subst (λ (i : ℕ). EdgeAt N (cells w) (column 0 b) (t - 1) (column 0 m (t - 1) - 1) i) q a in
             let i1 = top-number .0 in
             record {
-              table = replaceable-set (h .table) (fr .empty) (t - 1) _ (reference-low top-in) wide; le = h .le;
+              table = replaceable-set (h .table) (fr .empty) (t - 1) _ (reference-low top-in) wide;
+              le = h .le;
               state = subst (λ (i : ℕ). Descent N (cells w) (column 0 b) (column 0 m⁻) (column 1 m⁻) variables used (column 1 m (t - 1)) i) (sym z)
-                (from-same 0 (descent-close (column 0 m⁻) (column 0 m (t - 1) - 1) state₂ (omega arith) a₀ (valued-at m (t - 1) k top-row ∙ kk) (λ x y. valued-off m (t - 1) k top-row x y)));
-              seen = kept p
+                  (from-same 0 (descent-close (column 0 m⁻) (column 0 m (t - 1) - 1) state₂ (omega arith) a₀ (valued-at m (t - 1) k top-row ∙ kk) (λ x y. valued-off m (t - 1) k top-row x y)));
+              seen = kept p;
             }
 
         pub turn-take : (e : ℕ) → EdgeAt N (cells w) (column 0 b) (t - 1) (column 0 m (t - 1) - 1) e → e ≢ 0 → k ≡ column 0 m (t - 1) - 1 + 2 → Descending N w b m₀ (valued m (t - 1) k) variables used v t e
@@ -210,11 +216,12 @@ module _ {N : ℕ} {w : List ℕ} {b m₀ : Rows} {variables used : ℕ} (s : So
         turn-take (suc y) a ne′ kk =
             let i1 = top-number .0 in
             record {
-              table = replaceable-set (h .table) (fr .empty) (t - 1) _ (reference-low top-in) wide; le = h .le;
+              table = replaceable-set (h .table) (fr .empty) (t - 1) _ (reference-low top-in) wide;
+              le = h .le;
               state = subst (λ (i : ℕ). Descent N (cells w) (column 0 b) (column 0 m⁻) (column 1 m⁻) variables used i (suc y)) (sym ts)
-                (from-same (suc y) (descent-take (column 0 m⁻) (column 0 m (t - 1) - 1) y state₂ (omega arith) (a .2) (a .0) (a .1) (sound-edge s top-in (nth-edge (a .0)))
+                  (from-same (suc y) (descent-take (column 0 m⁻) (column 0 m (t - 1) - 1) y state₂ (omega arith) (a .2) (a .0) (a .1) (sound-edge s top-in (nth-edge (a .0)))
                   (let q = valued-at m (t - 1) k top-row in omega arith) (λ x y. valued-off m (t - 1) k top-row x y)));
-              seen = kept (suc y)
+              seen = kept (suc y);
             }
 
         pub less-top : (q : ℕ) → column 0 m (t - 1) < k → k ≤ 34 → effort (column 0 (valued m (t - 1) k)) (N + used) variables v q < effort (column 0 m) (N + used) variables v p
@@ -229,15 +236,16 @@ module _ {N : ℕ} {w : List ℕ} {b m₀ : Rows} {variables used : ℕ} (s : So
         let d₀ : Descent N (cells w) (column 0 b) (column 0 m) (column 1 m) variables used 0 0 = subst (λ (k : ℕ). Descent N (cells w) (column 0 b) (column 0 m) (column 1 m) variables used k 0) y (subst (λ (k : ℕ). Descent N (cells w) (column 0 b) (column 0 m) (column 1 m) variables used t k) z (h .state)) in
         let e₁ : v + 1 ≡ suc v = omega arith in
         record {
-          table = h .table; le = by-order v variables (λ g. omega arith) (λ g. absurd (n (omega arith)));
+          table = h .table;
+          le = by-order v variables (λ g. omega arith) (λ g. absurd (n (omega arith)));
           state = rw (e₁, y) (descent-root v d₀ r);
-          seen = λ x l q. by-order x v (λ g. let b = h .seen x g q in let bad : ⊥ = omega arith in absurd bad) (λ g. omega arith)
+          seen = λ x l q. by-order x v (λ g. let b = h .seen x g q in let bad : ⊥ = omega arith in absurd bad) (λ g. omega arith);
         }
 
     pub turn-all : p ≡ 0 → t ≡ 0 → v ≡ variables → Descended N w b m₀ m variables used true
     turn-all z y e = record {
-        yes = λ _ x l. by-same (column 0 m x) 34 (λ q _. h .state .done x q)
+      yes = λ _ x l. by-same (column 0 m x) 34 (λ q _. h .state .done x q)
           (λ q _. absurd (on-none (h .state .opened x (λ o. let a = h .seen x (omega arith) o in omega arith) q) y));
-        other = λ f. true-false refl f;
-        table = h .table
-      }
+      other = λ f. true-false refl f;
+      table = h .table;
+    }

@@ -36,7 +36,7 @@ pub record Stop (N : ℕ) (w values numbers from : Cells) (variables used t i : 
 pub data Way (N : ℕ) (w values numbers from : Cells) (variables used : ℕ) : ℕ → ℕ → Type 0 where
   bottom : {p : ℕ} → Way N w values numbers from variables used 0 p
   stop : {t p : ℕ} (i : ℕ) → Stop N w values numbers from variables used t i → ((j y : ℕ) → j < i → Nth N w values t j y → Ends N w values y ⊎ (p ≡ suc y))
-    → Way N w values numbers from variables used (from t) (suc t) → Way N w values numbers from variables used (suc t) p
+      → Way N w values numbers from variables used (from t) (suc t) → Way N w values numbers from variables used (suc t) p
 
 -- The state of the search.
 pub record Descent (N : ℕ) (w values numbers from : Cells) (variables used t p : ℕ) : Type 0 where
@@ -124,52 +124,59 @@ module _ {N : ℕ} {w values : Cells} {variables used : ℕ} where
   way-drop p′ h (stop i g k c) = stop i g (λ j y l n. ⊎-elim (λ e. inl e) (λ e. h y e) (k j y l n)) c
 
   way-same : {numbers from numbers′ from′ : Cells} {t p : ℕ}
-    → ((a : ℕ) → On from a t → (numbers′ a ≡ numbers a) × (from′ a ≡ from a) × (On from′ a (from a) → On from a (from a)))
-    → Way N w values numbers from variables used t p → Way N w values numbers′ from′ variables used t p
+      → ((a : ℕ) → On from a t → (numbers′ a ≡ numbers a) × (from′ a ≡ from a) × (On from′ a (from a) → On from a (from a)))
+      → Way N w values numbers from variables used t p → Way N w values numbers′ from′ variables used t p
   way-same k bottom = bottom
   way-same {numbers} {from} {numbers′} {from′} k (stop {t = t} i g h c) =
       let (e₁, e₂, e₃) = k t at in
       let c′ : Way N w values numbers′ from′ variables used (from t) (suc t) = way-same (λ a o. k a (up o)) c in
-      stop i (record { inForm = g .inForm; number = e₁ ∙ g .number; few = g .few;
-          fresh = λ o. g .fresh (e₃ (subst (λ (z : ℕ). On from′ t z) e₂ o)); came = λ s e. g .came s (sym e₂ ∙ e) }) h
-        (subst (λ (z : ℕ). Way N w values numbers′ from′ variables used z (suc t)) (sym e₂) c′)
+      stop i (record {
+        inForm = g .inForm;
+        number = e₁ ∙ g .number;
+        few = g .few;
+        fresh = λ o. g .fresh (e₃ (subst (λ (z : ℕ). On from′ t z) e₂ o));
+        came = λ s e. g .came s (sym e₂ ∙ e);
+      }) h
+      (subst (λ (z : ℕ). Way N w values numbers′ from′ variables used z (suc t)) (sym e₂) c′)
 
   pub way-top : {numbers from : Cells} {t p : ℕ} → Way N w values numbers from variables used (suc t) p
-    → (i : ℕ) × Stop N w values numbers from variables used t i × ((j y : ℕ) → j < i → Nth N w values t j y → Ends N w values y ⊎ (p ≡ suc y)) × Way N w values numbers from variables used (from t) (suc t)
+      → (i : ℕ) × Stop N w values numbers from variables used t i × ((j y : ℕ) → j < i → Nth N w values t j y → Ends N w values y ⊎ (p ≡ suc y)) × Way N w values numbers from variables used (from t) (suc t)
   way-top (stop i g k c) = (i, g, k, c)
 
   module _ {numbers from : Cells} {t : ℕ} where
     -- 1. what is to be entered has been found to end
     pub descent-skip : (x : ℕ) → Descent N w values numbers from variables used t (suc x) → numbers x ≡ 34 → Descent N w values numbers from variables used t 0
     descent-skip x h e = record {
-        most = h .most; done = h .done; opened = h .opened;
-        way = way-drop 0 (λ y q. let d : x ≡ y = omega arith in inl (subst (Ends N w values) d (h .done x e))) (h .way);
-        next = λ x e. let n : ⊥ = omega arith in absurd n;
-        edge = λ x s e q. let n : ⊥ = omega arith in absurd n
-      }
+      most = h .most;
+      done = h .done;
+      opened = h .opened;
+      way = way-drop 0 (λ y q. let d : x ≡ y = omega arith in inl (subst (Ends N w values) d (h .done x e))) (h .way);
+      next = λ x e. let n : ⊥ = omega arith in absurd n;
+      edge = λ x s e q. let n : ⊥ = omega arith in absurd n;
+    }
 
     -- 2. it is entered
     pub descent-enter : (numbers′ from′ : Cells) (x : ℕ) → Descent N w values numbers from variables used t (suc x) → numbers x ≡ 0
-      → numbers′ x ≡ 1 → ((a : ℕ) → a ≢ x → numbers′ a ≡ numbers a) → from′ x ≡ t → ((a : ℕ) → a ≢ x → from′ a ≡ from a) → Descent N w values numbers′ from′ variables used (suc x) 0
+        → numbers′ x ≡ 1 → ((a : ℕ) → a ≢ x → numbers′ a ≡ numbers a) → from′ x ≡ t → ((a : ℕ) → a ≢ x → from′ a ≡ from a) → Descent N w values numbers′ from′ variables used (suc x) 0
     descent-enter numbers′ from′ x h e nx keep fx fo =
         let rx = h .next x refl in
         let off : On from x t → ⊥ = (λ o. let (i, g) = on-open (h .way) o in let q = g .number in omega arith) in
         let other : (a : ℕ) → On from a t → a ≢ x = (λ a o m. off (subst (λ (k : ℕ). On from k t) m o)) in
         let c′ : Way N w values numbers′ from′ variables used t (suc x) =
-              way-same (λ a o. (keep a (other a o), fo a (other a o), λ q. on-old x fo (λ k. off (on-under o k)) q)) (h .way) in
+        way-same (λ a o. (keep a (other a o), fo a (other a o), λ q. on-old x fo (λ k. off (on-under o k)) q)) (h .way) in
         record {
           most = λ a. by-same a x (λ m _. let z : numbers′ a ≡ 1 = ap numbers′ m ∙ nx in omega arith) (λ m _. let z = keep a m in let y = h .most a in omega arith);
           done = λ a q. by-same a x (λ m _. let z : numbers′ a ≡ 1 = ap numbers′ m ∙ nx in let n : ⊥ = omega arith in absurd n) (λ m _. h .done a (sym (keep a m) ∙ q));
           opened = λ a n₁ n₂. by-same a x
-            (λ m _. let q : On from′ x (suc x) = at in subst (λ (k : ℕ). On from′ k (suc x)) (sym m) q)
-            (λ m _. let e′ = keep a m in
+              (λ m _. let q : On from′ x (suc x) = at in subst (λ (k : ℕ). On from′ k (suc x)) (sym m) q)
+              (λ m _. let e′ = keep a m in
               let o : On from a t = h .opened a (λ q. n₁ (e′ ∙ q)) (λ q. n₂ (e′ ∙ q)) in
               up (subst (λ (k : ℕ). On from′ a k) (sym fx) (on-new x fo off o)));
           way = stop 0
-            (record { inForm = rx; number = nx; few = omega arith; fresh = λ o. off (on-old x fo off (subst (λ (k : ℕ). On from′ x k) fx o)); came = λ s q. h .edge x s refl (sym fx ∙ q) })
-            (λ j y l n. let z : ⊥ = omega arith in absurd z) (subst (λ (k : ℕ). Way N w values numbers′ from′ variables used k (suc x)) (sym fx) c′);
+              (record { inForm = rx; number = nx; few = omega arith; fresh = λ o. off (on-old x fo off (subst (λ (k : ℕ). On from′ x k) fx o)); came = λ s q. h .edge x s refl (sym fx ∙ q) })
+              (λ j y l n. let z : ⊥ = omega arith in absurd z) (subst (λ (k : ℕ). Way N w values numbers′ from′ variables used k (suc x)) (sym fx) c′);
           next = λ x e. let n : ⊥ = omega arith in absurd n;
-          edge = λ x s e q. let n : ⊥ = omega arith in absurd n
+          edge = λ x s e q. let n : ⊥ = omega arith in absurd n;
         }
 
     -- 3. it is on the way: a cycle
@@ -186,7 +193,7 @@ module _ {N : ℕ} {w values : Cells} {variables used : ℕ} where
 
     -- 4. the next edge of the topmost is taken
     pub descent-take : (numbers′ : Cells) (i y : ℕ) → Descent N w values numbers from variables used (suc t) 0 → numbers t ≡ suc i → i < 32 → Nth N w values t i y → ((y′ : ℕ) → Nth N w values t i y′ → y′ ≡ y)
-      → Reference N w variables used y → numbers′ t ≡ suc (suc i) → ((a : ℕ) → a ≢ t → numbers′ a ≡ numbers a) → Descent N w values numbers′ from variables used (suc t) (suc y)
+        → Reference N w variables used y → numbers′ t ≡ suc (suc i) → ((a : ℕ) → a ≢ t → numbers′ a ≡ numbers a) → Descent N w values numbers′ from variables used (suc t) (suc y)
     descent-take numbers′ i y h e li n one ry nt keep =
         let (i′, g, k, c) = way-top (h .way) in
         let ei : i′ ≡ i = (let q = g .number in omega arith) in
@@ -194,21 +201,21 @@ module _ {N : ℕ} {w values : Cells} {variables used : ℕ} where
           most = λ a. by-same a t (λ m _. let z : numbers′ a ≡ suc (suc i) = ap numbers′ m ∙ nt in omega arith) (λ m _. let z = keep a m in let q = h .most a in omega arith);
           done = λ a q. by-same a t (λ m _. let z : numbers′ a ≡ suc (suc i) = ap numbers′ m ∙ nt in let n : ⊥ = omega arith in absurd n) (λ m _. h .done a (sym (keep a m) ∙ q));
           opened = λ a n₁ n₂. by-same a t
-            (λ m _. let q : On from t (suc t) = at in subst (λ (k : ℕ). On from k (suc t)) (sym m) q)
-            (λ m _. h .opened a (λ q. n₁ (keep a m ∙ q)) (λ q. n₂ (keep a m ∙ q)));
+              (λ m _. let q : On from t (suc t) = at in subst (λ (k : ℕ). On from k (suc t)) (sym m) q)
+              (λ m _. h .opened a (λ q. n₁ (keep a m ∙ q)) (λ q. n₂ (keep a m ∙ q)));
           way = stop (suc i)
-            (record { inForm = g .inForm; number = nt; few = li; fresh = g .fresh; came = g .came })
-            (λ j z l q. by-order j i
+              (record { inForm = g .inForm; number = nt; few = li; fresh = g .fresh; came = g .came })
+              (λ j z l q. by-order j i
               (λ lt. ⊎-elim (λ en. inl en) (λ e. let bad : ⊥ = omega arith in absurd bad) (k j z (omega arith) q))
               (λ ge. let m : j ≡ i = omega arith in inr (ap suc (sym (one z (subst (λ (k : ℕ). Nth N w values t k z) m q))))))
-            (way-same (λ a o. (keep a (λ m. g .fresh (subst (λ (k : ℕ). On from k (from t)) m o)), refl, λ q. q)) c);
+              (way-same (λ a o. (keep a (λ m. g .fresh (subst (λ (k : ℕ). On from k (from t)) m o)), refl, λ q. q)) c);
           next = λ x q. let d : y ≡ x = omega arith in subst (Reference N w variables used) d ry;
-          edge = λ x s q q₂. let d : y ≡ x = omega arith in let d₂ : t ≡ s = omega arith in subst (λ (z : ℕ). Edge N w values z x) d₂ (subst (λ (z : ℕ). Edge N w values t z) d (nth-edge n))
+          edge = λ x s q q₂. let d : y ≡ x = omega arith in let d₂ : t ≡ s = omega arith in subst (λ (z : ℕ). Edge N w values z x) d₂ (subst (λ (z : ℕ). Edge N w values t z) d (nth-edge n));
         }
 
     -- 5. it has no more: it ends
     pub descent-close : (numbers′ : Cells) (i : ℕ) → Descent N w values numbers from variables used (suc t) 0 → numbers t ≡ suc i → ((y : ℕ) → Edge N w values t y → (j : ℕ) × (j < i) × Nth N w values t j y)
-      → numbers′ t ≡ 34 → ((a : ℕ) → a ≢ t → numbers′ a ≡ numbers a) → Descent N w values numbers′ from variables used (from t) 0
+        → numbers′ t ≡ 34 → ((a : ℕ) → a ≢ t → numbers′ a ≡ numbers a) → Descent N w values numbers′ from variables used (from t) 0
     descent-close numbers′ i h e all nt keep =
         let (i′, g, k, c) = way-top (h .way) in
         let ei : i′ ≡ i = (let q = g .number in omega arith) in
@@ -217,45 +224,50 @@ module _ {N : ℕ} {w values : Cells} {variables used : ℕ} where
           most = λ a. by-same a t (λ m _. let z : numbers′ a ≡ 34 = ap numbers′ m ∙ nt in omega arith) (λ m _. let z = keep a m in let q = h .most a in omega arith);
           done = λ a q. by-same a t (λ m _. subst (Ends N w values) (sym m) en) (λ m _. h .done a (sym (keep a m) ∙ q));
           opened = λ a n₁ n₂. by-same a t
-            (λ m _. absurd (n₂ (ap numbers′ m ∙ nt)))
-            (λ m _. on-next m (h .opened a (λ q. n₁ (keep a m ∙ q)) (λ q. n₂ (keep a m ∙ q))));
+              (λ m _. absurd (n₂ (ap numbers′ m ∙ nt)))
+              (λ m _. on-next m (h .opened a (λ q. n₁ (keep a m ∙ q)) (λ q. n₂ (keep a m ∙ q))));
           way = way-drop 0 (λ y q. let d : t ≡ y = omega arith in inl (subst (Ends N w values) d en))
-            (way-same (λ a o. (keep a (λ m. g .fresh (subst (λ (k : ℕ). On from k (from t)) m o)), refl, λ q. q)) c);
+              (way-same (λ a o. (keep a (λ m. g .fresh (subst (λ (k : ℕ). On from k (from t)) m o)), refl, λ q. q)) c);
           next = λ x q. let z : ⊥ = omega arith in absurd z;
-          edge = λ x s q. let z : ⊥ = omega arith in absurd z
+          edge = λ x s q. let z : ⊥ = omega arith in absurd z;
         }
 
   -- `from` said otherwise
   pub descent-from : {numbers from from′ : Cells} {t p : ℕ} → ((a : ℕ) → from′ a ≡ from a) → Descent N w values numbers from variables used t p → Descent N w values numbers from′ variables used t p
   descent-from {numbers} {from} {from′} e h = record {
-      most = h .most; done = h .done;
-      opened = λ a n₁ n₂. on-same e (h .opened a n₁ n₂);
-      way = way-same (λ a o. (refl, e a, λ q. on-same (λ b. sym (e b)) q)) (h .way);
-      next = h .next; edge = h .edge
-    }
+    most = h .most;
+    done = h .done;
+    opened = λ a n₁ n₂. on-same e (h .opened a n₁ n₂);
+    way = way-same (λ a o. (refl, e a, λ q. on-same (λ b. sym (e b)) q)) (h .way);
+    next = h .next;
+    edge = h .edge;
+  }
 
   -- 6. a new variable, from nowhere
   pub descent-root : {numbers from : Cells} (v : ℕ) → Descent N w values numbers from variables used 0 0 → Reference N w variables used v → Descent N w values numbers from variables used 0 (suc v)
   descent-root v h r = record {
-      most = h .most; done = h .done; opened = h .opened; way = bottom;
-      next = λ x e. let d : v ≡ x = omega arith in subst (Reference N w variables used) d r;
-      edge = λ x s e q. let z : ⊥ = omega arith in absurd z
-    }
+    most = h .most;
+    done = h .done;
+    opened = h .opened;
+    way = bottom;
+    next = λ x e. let d : v ≡ x = omega arith in subst (Reference N w variables used) d r;
+    edge = λ x s e q. let z : ⊥ = omega arith in absurd z;
+  }
 
   -- nothing entered
   pub descent-start : {numbers from : Cells} → ((a : ℕ) → numbers a ≡ 0) → Descent N w values numbers from variables used 0 0
   descent-start z = record {
-      most = λ a. let q = z a in omega arith;
-      done = λ a e. let q = z a in let n : ⊥ = omega arith in absurd n;
-      opened = λ a n₁ n₂. absurd (n₁ (z a));
-      way = bottom;
-      next = λ x e. let n : ⊥ = omega arith in absurd n;
-      edge = λ x s e q. let n : ⊥ = omega arith in absurd n
-    }
+    most = λ a. let q = z a in omega arith;
+    done = λ a e. let q = z a in let n : ⊥ = omega arith in absurd n;
+    opened = λ a n₁ n₂. absurd (n₁ (z a));
+    way = bottom;
+    next = λ x e. let n : ⊥ = omega arith in absurd n;
+    edge = λ x s e q. let n : ⊥ = omega arith in absurd n;
+  }
 
   -- where all variables end, all references do
   pub all-end : WellFormed N w variables used → ((v r : ℕ) → v < variables → values v ≡ suc r → Reference N w variables used r) → ((v : ℕ) → v < variables → Ends N w values v)
-    → (n r : ℕ) → r < n → Reference N w variables used r → Ends N w values r
+      → (n r : ℕ) → r < n → Reference N w variables used r → Ends N w values r
   all-end wf rf h zero r b k = let z : ⊥ = omega arith in absurd z
   all-end wf rf h (suc n) r b k =
       ⊎-elim (λ l. h r (k .variable l))

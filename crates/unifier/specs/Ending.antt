@@ -48,10 +48,10 @@ pub record Clearing (s₀ : Rows) (d : ℕ) (s : Rows) (i : ℕ) : Type 0 where
 pub clear-step : {s₀ s : Rows} {d i : ℕ} → Clearing s₀ d s i → 0 < i → Clearing s₀ d (set s (i - 1) (0 ∷ 0 ∷ 0 ∷ [])) (i - 1)
 unfolding cleared
 clear-step {s₀} {s} {d} {i} h l = let e : i ≡ suc (i - 1) = omega arith in let w = h .within in record {
-    long = length-set s (i - 1) _ ∙ h .long;
-    within = omega arith;
-    is = sym (ap (cleared s) e) ∙ h .is
-  }
+  long = length-set s (i - 1) _ ∙ h .long;
+  within = omega arith;
+  is = sym (ap (cleared s) e) ∙ h .is;
+}
 
 pub clear-end : {s₀ s : Rows} {d i : ℕ} → Clearing s₀ d s i → i ≤ 0 → s ≡ cleared s₀ d
 unfolding cleared
@@ -73,20 +73,28 @@ module _ {N : ℕ} {w : List ℕ} {b₀ b l₀ l m₀ m s₀ s : Rows} {variable
 
     pub ended-yes : answer ≡ true → Unified N w b₀ b l₀ l′ m₀ m s₀ s′ variables used k n r t true
     ended-yes e = record {
-        is = subst (λ (a : Bool). whole N w b₀ variables k r t ≡ Rattle.unifier.specs.Contracts.outcome a (held N w b n)) e (h .is);
-        form = h .form; more = h .binding .more; kept = h .binding .kept; still = h .binding .still; back = h .binding .back;
-        failed = λ f. true-false refl f;
-        links = links-back; marks = h .marks; stack = es ∙ stack-back (h .stacking) (h .within)
-      }
+      is = subst (λ (a : Bool). whole N w b₀ variables k r t ≡ Rattle.unifier.specs.Contracts.outcome a (held N w b n)) e (h .is);
+      form = h .form;
+      more = h .binding .more;
+      kept = h .binding .kept;
+      still = h .binding .still;
+      back = h .binding .back;
+      failed = λ f. true-false refl f;
+      links = links-back;
+      marks = h .marks;
+      stack = es ∙ stack-back (h .stacking) (h .within);
+    }
 
     pub ended-no : answer ≡ false → Form N w b₀ variables used k → (b′ : Rows) → b′ ≡ undone b k (n - k) → Unified N w b₀ b′ l₀ l′ m₀ m s₀ s′ variables used k k r t false
     ended-no e f b′ eb = let g : b′ ≡ b₀ = eb ∙ h .binding .back in record {
-        is = subst (λ (a : Bool). whole N w b₀ variables k r t ≡ Rattle.unifier.specs.Contracts.outcome a (held N w b n)) e (h .is);
-        form = subst (λ (x : Rows). Form N w x variables used k) (sym g) f;
-        more = le-refl k;
-        kept = λ i l. ap (λ (x : Rows). column 1 x i) g;
-        still = λ v n. ap (λ (x : Rows). column 0 x v) g;
-        back = undone-none b′ k ∙ g;
-        failed = λ _. (g, refl);
-        links = links-back; marks = h .marks; stack = es ∙ stack-back (h .stacking) (h .within)
-      }
+      is = subst (λ (a : Bool). whole N w b₀ variables k r t ≡ Rattle.unifier.specs.Contracts.outcome a (held N w b n)) e (h .is);
+      form = subst (λ (x : Rows). Form N w x variables used k) (sym g) f;
+      more = le-refl k;
+      kept = λ i l. ap (λ (x : Rows). column 1 x i) g;
+      still = λ v n. ap (λ (x : Rows). column 0 x v) g;
+      back = undone-none b′ k ∙ g;
+      failed = λ _. (g, refl);
+      links = links-back;
+      marks = h .marks;
+      stack = es ∙ stack-back (h .stacking) (h .within);
+    }

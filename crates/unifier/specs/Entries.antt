@@ -30,7 +30,7 @@ pub zeros-less : (f g : ℕ → ℕ) (n p q : ℕ) → p < n → f p ≡ 0 → g
 zeros-less f g zero p q l e e′ h = absurd (not-suc-le-zero l)
 zeros-less f g (suc n) p q l e e′ h = by-same n p
     (λ r _. let a : isZero (f n) ≡ 1 = ap isZero (ap f r ∙ e) in let b : isZero (g n) ≡ 0 = ap isZero (ap g r ∙ e′) in
-      let s = zeros-above f g n p (omega arith) h in omega arith)
+    let s = zeros-above f g n p (omega arith) h in omega arith)
     (λ r _. let a : isZero (g n) ≡ isZero (f n) = ap isZero (h n r) in let ih = zeros-less f g n p q (omega arith) e e′ h in omega arith)
 
 pub zeros-all : (f : ℕ → ℕ) (n : ℕ) → ((a : ℕ) → f a ≡ 0) → zeros f n ≡ n
@@ -47,12 +47,12 @@ pub record Entries (m : Rows) (size t : ℕ) : Type 0 where
 
 pub entries-none : (m : Rows) (size : ℕ) → Empty m → Entries m size 0
 entries-none m size h = record {
-    count = let z = zeros-all (column 0 m) size (λ a. h 0 a) in omega arith;
-    filled = λ i l. absurd (not-suc-le-zero l);
-    all = λ y n. absurd (n (h 0 y));
-    low = λ y n. absurd (n (h 0 y));
-    rest = λ i l. h 1 i
-  }
+  count = let z = zeros-all (column 0 m) size (λ a. h 0 a) in omega arith;
+  filled = λ i l. absurd (not-suc-le-zero l);
+  all = λ y n. absurd (n (h 0 y));
+  low = λ y n. absurd (n (h 0 y));
+  rest = λ i l. h 1 i;
+}
 
 pub entries-few : {m : Rows} {size t : ℕ} → Entries m size t → t ≤ size
 entries-few h = let c = h .count in omega arith
@@ -70,18 +70,18 @@ entries-room {m} {size} {t} h key l e = let c = h .count in let z = some (column
 -- One entry more.
 pub entries-more : {m m′ : Rows} {size t : ℕ} → Entries m size t → (key value : ℕ) → key < size → column 0 m key ≡ 0 → Changed m m′ t key (suc value) → Entries m′ size (t + 1)
 entries-more {m} {m′} {size} {t} h key value l e ch = record {
-    count = let c = h .count in let z = zeros-less (column 0 m) (column 0 m′) size key value l e (ch .at) (ch .off) in omega arith;
-    filled = λ i p. by-order i t
+  count = let c = h .count in let z = zeros-less (column 0 m) (column 0 m′) size key value l e (ch .at) (ch .off) in omega arith;
+  filled = λ i p. by-order i t
       (λ q. let o = ch .others i (λ r. omega arith) in
-        let n : column 1 m i ≢ key = λ r. h .filled i q (ap (column 0 m) r ∙ e) in
-        λ z. h .filled i q (sym (ch .off (column 1 m i) n) ∙ ap (column 0 m′) (sym o) ∙ z))
+      let n : column 1 m i ≢ key = λ r. h .filled i q (ap (column 0 m) r ∙ e) in
+      λ z. h .filled i q (sym (ch .off (column 1 m i) n) ∙ ap (column 0 m′) (sym o) ∙ z))
       (λ q z. let it : i ≡ t = omega arith in let w : column 0 m′ (column 1 m′ i) ≡ suc value = ap (λ (j : ℕ). column 0 m′ (column 1 m′ j)) it ∙ ap (column 0 m′) (ch .list) ∙ ch .at in omega arith);
-    all = λ y n. by-same y key
+  all = λ y n. by-same y key
       (λ p _. (t, omega arith, ch .list ∙ sym p))
       (λ p _. let (i, q, r) = h .all y (λ z. n (ch .off y p ∙ z)) in (i, omega arith, ch .others i (λ s. omega arith) ∙ r));
-    low = λ y n. by-same y key (λ p _. omega arith) (λ p _. h .low y (λ z. n (ch .off y p ∙ z)));
-    rest = λ i p. ch .others i (λ s. omega arith) ∙ h .rest i (omega arith)
-  }
+  low = λ y n. by-same y key (λ p _. omega arith) (λ p _. h .low y (λ z. n (ch .off y p ∙ z)));
+  rest = λ i p. ch .others i (λ s. omega arith) ∙ h .rest i (omega arith);
+}
 
 -- All entries can be taken back.
 pub entries-undoable : {m : Rows} {size t : ℕ} → Entries m size t → size ≤ length m → Undoable m t 0

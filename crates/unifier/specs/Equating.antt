@@ -92,15 +92,20 @@ pub record Equated (N : ℕ) (w : List ℕ) (b₀ b l₀ l m₀ m s₀ s : Rows)
 
 -- Storage is again in form.
 pub form-made : {N : ℕ} {w : List ℕ} {b₀ l₀ m₀ s₀ b : Rows} {variables used k n : ℕ} {β : Bindings} → WellFormed N (cells w) variables used
-  → Holds N (cells w) (column 0 b) (column 1 b) variables used n β → Fixed N w b₀ l₀ m₀ s₀ variables used → BoundFrom b₀ b variables k n → Form N w b variables used n
+    → Holds N (cells w) (column 0 b) (column 1 b) variables used n β → Fixed N w b₀ l₀ m₀ s₀ variables used → BoundFrom b₀ b variables k n → Form N w b variables used n
 form-made {variables = variables} wf h f g = record {
-    words = wf; few = h .few; low = f .low; lentWords = f .lentWords; lentRows = let a = f .lentRows in let e = g .long in omega arith;
-    references = h .references;
-    lookups = λ v l. ap (λ (γ : Bindings). lookup γ v) (sym (h .is)) ∙ h .lookups v l;
-    acyclic = subst (λ (γ : Bindings). Acyclic γ) (h .is) (h .acyclic);
-    below = subst (λ (γ : Bindings). BelowB variables γ) (h .is) (h .below);
-    unbound = g .unbound; rest = g .rest
-  }
+  words = wf;
+  few = h .few;
+  low = f .low;
+  lentWords = f .lentWords;
+  lentRows = let a = f .lentRows in let e = g .long in omega arith;
+  references = h .references;
+  lookups = λ v l. ap (λ (γ : Bindings). lookup γ v) (sym (h .is)) ∙ h .lookups v l;
+  acyclic = subst (λ (γ : Bindings). Acyclic γ) (h .is) (h .acyclic);
+  below = subst (λ (γ : Bindings). BelowB variables γ) (h .is) (h .below);
+  unbound = g .unbound;
+  rest = g .rest;
+}
 
 -- A row of three numbers that are 0.
 zero-row : (row : List ℕ) → length row ≡ 3 → ((c : ℕ) → getD row c 0 ≡ 0) → row ≡ 0 ∷ 0 ∷ 0 ∷ []
@@ -114,55 +119,72 @@ zero-row (x ∷ y ∷ z ∷ u ∷ l) e h = absurd (omega arith)
 module _ {s₀ s : Rows} {d : ℕ} (h : StackedFrom s₀ s d) where
   pub stacked-more : Empty s₀ → (row : List ℕ) → length (getD s d []) ≡ 3 → StackedFrom s₀ (set s d row) (d + 1)
   stacked-more z row e = record {
-      long = length-set s d row ∙ h .long;
-      above = λ j l. getD-set-other s d j row [] (λ q. omega arith) ∙ h .above j (omega arith);
-      zero = λ j l. by-order j d (λ p. h .zero j p)
+    long = length-set s d row ∙ h .long;
+    above = λ j l. getD-set-other s d j row [] (λ q. omega arith) ∙ h .above j (omega arith);
+    zero = λ j l. by-order j d (λ p. h .zero j p)
         (λ p. let q : j ≡ d = omega arith in subst (λ (i : ℕ). getD s₀ i [] ≡ 0 ∷ 0 ∷ 0 ∷ []) (sym q)
-          (zero-row (getD s₀ d []) (ap length (sym (h .above d (le-refl d))) ∙ e) (λ c. z c d)))
-    }
+        (zero-row (getD s₀ d []) (ap length (sym (h .above d (le-refl d))) ∙ e) (λ c. z c d)));
+  }
 
   pub stacked-same : (row : List ℕ) → d ≢ 0 → StackedFrom s₀ (set s (d - 1) row) d
   stacked-same row n = let e = not-zero d n in record {
-      long = length-set s (d - 1) row ∙ h .long;
-      above = λ j l. getD-set-other s (d - 1) j row [] (λ q. omega arith) ∙ h .above j l;
-      zero = h .zero
-    }
+    long = length-set s (d - 1) row ∙ h .long;
+    above = λ j l. getD-set-other s (d - 1) j row [] (λ q. omega arith) ∙ h .above j l;
+    zero = h .zero;
+  }
 
   pub stacked-less : d ≢ 0 → d ≤ length s → StackedFrom s₀ (set s (d - 1) (0 ∷ 0 ∷ 0 ∷ [])) (d - 1)
   stacked-less n l = let e = not-zero d n in record {
-      long = length-set s (d - 1) _ ∙ h .long;
-      above = λ j p. by-same j (d - 1)
+    long = length-set s (d - 1) _ ∙ h .long;
+    above = λ j p. by-same j (d - 1)
         (λ q _. ap (λ (i : ℕ). getD (set s (d - 1) (0 ∷ 0 ∷ 0 ∷ [])) i []) q ∙ getD-set-same s (d - 1) _ [] (omega arith) ∙ sym (h .zero (d - 1) (omega arith)) ∙ ap (λ (i : ℕ). getD s₀ i []) (sym q))
         (λ q _. getD-set-other s (d - 1) j _ [] q ∙ h .above j (by-order j d (λ a. absurd (q (omega arith))) (λ a. a)));
-      zero = λ j p. h .zero j (omega arith)
-    }
+    zero = λ j p. h .zero j (omega arith);
+  }
 
 -- Columns that are the same below d.
 module _ {N : ℕ} where
   pending-same : {w values trail links lefts rights taken lefts′ rights′ : Cells} {variables used n d x y : ℕ} {o : Outcome} → ((j : ℕ) → j < d → lefts′ j ≡ lefts j) → ((j : ℕ) → j < d → rights′ j ≡ rights j)
-    → Pending N w values trail links lefts rights taken variables used n d x y o → Pending N w values trail links lefts′ rights′ taken variables used n d x y o
+      → Pending N w values trail links lefts rights taken variables used n d x y o → Pending N w values trail links lefts′ rights′ taken variables used n d x y o
   pending-same {links = links} p q h = record {
-      β = h .β; es = h .es; leftIn = h .leftIn; rightIn = h .rightIn; comes = h .comes;
-      smallest = λ j jl σ so. let z = h .smallest j jl σ so in rw (p j jl) z;
-      state = record {
-        words = h .state .words; holds = h .state .holds; below = h .state .below; equalLinks = h .state .equalLinks; linksIn = h .state .linksIn;
-        stack = stack-same p q (λ j _. refl) (h .state .stack);
-        smaller = λ i j a c σ so. let z = h .state .smaller i j a c σ so in let e = p i (omega arith) in let e′ = p j c in rw (e, e′) z;
-        apart = λ j jl root a c. h .state .apart j jl root (subst (λ (z : ℕ). LeadsTo links z root) (p j jl) a) (subst (λ (z : ℕ). LeadsTo links z root) (q j jl) c)
-      }
-    }
+    β = h .β;
+    es = h .es;
+    leftIn = h .leftIn;
+    rightIn = h .rightIn;
+    comes = h .comes;
+    smallest = λ j jl σ so. let z = h .smallest j jl σ so in rw (p j jl) z;
+    state = record {
+      words = h .state .words;
+      holds = h .state .holds;
+      below = h .state .below;
+      equalLinks = h .state .equalLinks;
+      linksIn = h .state .linksIn;
+      stack = stack-same p q (λ j _. refl) (h .state .stack);
+      smaller = λ i j a c σ so. let z = h .state .smaller i j a c σ so in let e = p i (omega arith) in let e′ = p j c in rw (e, e′) z;
+      apart = λ j jl root a c. h .state .apart j jl root (subst (λ (z : ℕ). LeadsTo links z root) (p j jl) a) (subst (λ (z : ℕ). LeadsTo links z root) (q j jl) c);
+    };
+  }
 
   resuming-same : {w values trail links lefts rights taken lefts′ rights′ taken′ : Cells} {variables used n d : ℕ} {o : Outcome} → ((j : ℕ) → j < d → lefts′ j ≡ lefts j) → ((j : ℕ) → j < d → rights′ j ≡ rights j)
-    → ((j : ℕ) → j < d → taken′ j ≡ taken j) → Resuming N w values trail links lefts rights taken variables used n d o → Resuming N w values trail links lefts′ rights′ taken′ variables used n d o
+      → ((j : ℕ) → j < d → taken′ j ≡ taken j) → Resuming N w values trail links lefts rights taken variables used n d o → Resuming N w values trail links lefts′ rights′ taken′ variables used n d o
   resuming-same {links = links} p q r h = record {
-      β = h .β; X = h .X; Y = h .Y; es = h .es; equal = h .equal; comes = h .comes;
-      state = record {
-        words = h .state .words; holds = h .state .holds; below = h .state .below; equalLinks = h .state .equalLinks; linksIn = h .state .linksIn;
-        stack = stack-same p q r (h .state .stack);
-        smaller = λ i j a c σ so. let z = h .state .smaller i j a c σ so in let e = p i (omega arith) in let e′ = p j c in rw (e, e′) z;
-        apart = λ j jl root a c. h .state .apart j jl root (subst (λ (z : ℕ). LeadsTo links z root) (p j jl) a) (subst (λ (z : ℕ). LeadsTo links z root) (q j jl) c)
-      }
-    }
+    β = h .β;
+    X = h .X;
+    Y = h .Y;
+    es = h .es;
+    equal = h .equal;
+    comes = h .comes;
+    state = record {
+      words = h .state .words;
+      holds = h .state .holds;
+      below = h .state .below;
+      equalLinks = h .state .equalLinks;
+      linksIn = h .state .linksIn;
+      stack = stack-same p q r (h .state .stack);
+      smaller = λ i j a c σ so. let z = h .state .smaller i j a c σ so in let e = p i (omega arith) in let e′ = p j c in rw (e, e′) z;
+      apart = λ j jl root a c. h .state .apart j jl root (subst (λ (z : ℕ). LeadsTo links z root) (p j jl) a) (subst (λ (z : ℕ). LeadsTo links z root) (q j jl) c);
+    };
+  }
 
   pending-at : {w values trail links lefts rights taken : Cells} {variables used n d x y x′ y′ : ℕ} {o : Outcome} → x ≡ x′ → y ≡ y′ → Pending N w values trail links lefts rights taken variables used n d x y o → Pending N w values trail links lefts rights taken variables used n d x′ y′ o
   pending-at {w} {values} {trail} {links} {lefts} {rights} {taken} {variables} {used} {n} {d} {x} {y} {x′} {y′} {o} p q h =
@@ -175,15 +197,15 @@ less-stage N links taken used d false e = true-false (sym (sym e)) refl
 
 -- The start.
 pub loop-start : {N : ℕ} {w : List ℕ} {b l m s : Rows} {variables used k r t : ℕ} → Form N w b variables used k → Reference N (cells w) variables used r → Reference N (cells w) variables used t
-  → Free N used l → Free N used m → used ≤ length s → Empty s → Loop N w b l m s variables used k r t b l m s r t 0 k 0 true
+    → Free N used l → Free N used m → used ≤ length s → Empty s → Loop N w b l m s variables used k r t b l m s r t 0 k 0 true
 loop-start {N} {w} {b} {l} {m} {s} {variables} {used} {k} f fr ft fl fm ls es = record {
-    fixed = record { low = f .low; lentWords = f .lentWords; lentRows = f .lentRows; lentLinks = fl .lent; lentStack = ls; emptyStack = es; free = fm };
-    binding = record { long = refl; unbound = f .unbound; rest = f .rest; more = le-refl k; kept = λ i l. refl; still = λ v n. refl; back = undone-none b k };
-    linking = record { long = refl; entries = entries-none l (N + used) (fl .empty); back = undone-zero l 0; falls = λ a z e. absurd (let q = fl .empty 0 a in omega arith) };
-    stacking = record { long = refl; above = λ j p. refl; zero = λ j p. absurd (not-suc-le-zero p) };
-    marks = refl;
-    stage = first-state (f .words) (form-holds f) (λ a. fl .empty 0 a) fr ft
-  }
+  fixed = record { low = f .low; lentWords = f .lentWords; lentRows = f .lentRows; lentLinks = fl .lent; lentStack = ls; emptyStack = es; free = fm };
+  binding = record { long = refl; unbound = f .unbound; rest = f .rest; more = le-refl k; kept = λ i l. refl; still = λ v n. refl; back = undone-none b k };
+  linking = record { long = refl; entries = entries-none l (N + used) (fl .empty); back = undone-zero l 0; falls = λ a z e. absurd (let q = fl .empty 0 a in omega arith) };
+  stacking = record { long = refl; above = λ j p. refl; zero = λ j p. absurd (not-suc-le-zero p) };
+  marks = refl;
+  stage = first-state (f .words) (form-holds f) (λ a. fl .empty 0 a) fr ft;
+}
 
 module _ {N : ℕ} {w : List ℕ} {b₀ l₀ m₀ s₀ : Rows} {variables used k r t : ℕ} {b l m s : Rows} {x y d n c : ℕ} {pending : Bool}
     (h : Loop N w b₀ l₀ m₀ s₀ variables used k r t b l m s x y d n c pending) where
@@ -233,12 +255,15 @@ module _ {N : ℕ} {w : List ℕ} {b₀ l₀ m₀ s₀ : Rows} {variables used k
 
       pub turn-open : (p q : ℕ) → Says N w b l n x y (Open p q) → d < length s → length (getD s d []) ≡ 3 → Loop N w b₀ l₀ m₀ s₀ variables used k r t b l m′ (set s d (p ∷ q ∷ 0 ∷ [])) x y (d + 1) n c false
       turn-open p q a ds wide = record {
-          fixed = h .fixed; binding = h .binding; linking = h .linking; marks = em ∙ h .marks;
-          stacking = stacked-more (h .stacking) (h .fixed .emptyStack) _ wide;
-          stage = let e₁ : d + 1 ≡ suc d = omega arith in rw e₁
+        fixed = h .fixed;
+        binding = h .binding;
+        linking = h .linking;
+        marks = em ∙ h .marks;
+        stacking = stacked-more (h .stacking) (h .fixed .emptyStack) _ wide;
+        stage = let e₁ : d + 1 ≡ suc d = omega arith in rw e₁
             (open-pair now (a .ways .first) (a .ways .second) (column 0 s′) (column 1 s′) (column 2 s′) (off 0) (off 1) (off 2)
-              (column-same 0 s d _ ds) (column-same 1 s d _ ds) (column-same 2 s d _ ds) (a .firstNode) (a .secondNode) (a .alike) (a .apart))
-        }
+            (column-same 0 s d _ ds) (column-same 1 s d _ ds) (column-same 2 s d _ ds) (a .firstNode) (a .secondNode) (a .alike) (a .apart));
+      }
         where
           s′ : Rows
           s′ = set s d (p ∷ q ∷ 0 ∷ [])
@@ -247,26 +272,29 @@ module _ {N : ℕ} {w : List ℕ} {b₀ l₀ m₀ s₀ : Rows} {variables used k
           off i j jl = column-other i s d j _ (λ z. omega arith)
 
       pub turn-bind : (v z : ℕ) → Says N w b l n x y (Bind v z) → (b′ : Rows) → Changed b b′ n v (z + 1) → undone b′ k (n + 1 - k) ≡ undone b k (n - k) → v < variables → column 0 b v ≡ 0
-        → Loop N w b₀ l₀ m₀ s₀ variables used k r t b′ l m′ s x y d (n + 1) c false
+          → Loop N w b₀ l₀ m₀ s₀ variables used k r t b′ l m′ s x y d (n + 1) c false
       turn-bind v z a b′ ch back vn vz = record {
-          fixed = h .fixed; linking = h .linking; stacking = h .stacking; marks = em ∙ h .marks;
-          binding = let g = h .binding in let mo = g .more in record {
-            long = ch .long ∙ g .long;
-            unbound = λ i l. ch .off i (λ q. omega arith) ∙ g .unbound i l;
-            rest = λ i l. ch .others i (λ q. omega arith) ∙ g .rest i (omega arith);
-            more = omega arith;
-            kept = λ i l. ch .others i (λ q. omega arith) ∙ g .kept i l;
-            still = λ i ne. ch .off i (λ q. ne (sym (g .still i ne) ∙ ap (column 0 b) q ∙ vz)) ∙ g .still i ne;
-            back = back ∙ g .back
-          };
-          stage = let e₁ : n + 1 ≡ suc n = omega arith in rw e₁ (go a (ch .list) (let e₂ : z + 1 ≡ suc z = omega arith in ch .at ∙ e₂) (ch .off))
-        }
+        fixed = h .fixed;
+        linking = h .linking;
+        stacking = h .stacking;
+        marks = em ∙ h .marks;
+        binding = let g = h .binding in let mo = g .more in record {
+          long = ch .long ∙ g .long;
+          unbound = λ i l. ch .off i (λ q. omega arith) ∙ g .unbound i l;
+          rest = λ i l. ch .others i (λ q. omega arith) ∙ g .rest i (omega arith);
+          more = omega arith;
+          kept = λ i l. ch .others i (λ q. omega arith) ∙ g .kept i l;
+          still = λ i ne. ch .off i (λ q. ne (sym (g .still i ne) ∙ ap (column 0 b) q ∙ vz)) ∙ g .still i ne;
+          back = back ∙ g .back;
+        };
+        stage = let e₁ : n + 1 ≡ suc n = omega arith in rw e₁ (go a (ch .list) (let e₂ : z + 1 ≡ suc z = omega arith in ch .at ∙ e₂) (ch .off));
+      }
         where
           low : (i : ℕ) → i < n → column 1 b′ i ≡ column 1 b i
           low i il = ch .others i (λ q. omega arith)
 
           go : {v z : ℕ} → Binding N w b n x y v z → column 1 b′ n ≡ v → column 0 b′ v ≡ suc z → ((i : ℕ) → i ≢ v → column 0 b′ i ≡ column 0 b i)
-            → Resuming N (cells w) (column 0 b′) (column 1 b′) (column 0 l) (column 0 s) (column 1 s) (column 2 s) variables used (suc n) d (whole N w b₀ variables k r t)
+              → Resuming N (cells w) (column 0 b′) (column 1 b′) (column 0 l) (column 0 s) (column 1 s) (column 2 s) variables used (suc n) d (whole N w b₀ variables k r t)
           go {v} {z} (ofFirst ws lp ne o) tv bv bo = bind-first now (ws .first) (ws .second) (column 0 b′) (column 1 b′) low tv bv bo lp ne (checked false v z o)
           go {v} {z} (ofSecond ws lp lq o) tv bv bo = bind-second now (ws .first) (ws .second) (column 0 b′) (column 1 b′) low tv bv bo lp lq (checked false v z o)
 
@@ -306,14 +334,14 @@ module _ {N : ℕ} {w : List ℕ} {b₀ l₀ m₀ s₀ : Rows} {variables used k
     pub less-open : (p q : ℕ) → Says N w b l n x y (Open p q) → measure N (column 0 l) (column 2 (set s d (p ∷ q ∷ 0 ∷ []))) used (d + 1) false < measure N (column 0 l) (column 2 s) used d pending
     less-open p q a = let e₁ : d + 1 ≡ suc d = omega arith in
         rw (e₁, e) (open-falls N (column 0 l) (column 2 s) (column 2 (set s d (p ∷ q ∷ 0 ∷ []))) used d (open-in p q a)
-          (λ j jl. column-other 2 s d j _ (λ q. omega arith)) (column-same 2 s d _ (open-room p q a)))
+        (λ j jl. column-other 2 s d j _ (λ q. omega arith)) (column-same 2 s d _ (open-room p q a)))
 
     -- the terms do not unify
     clash : Clashing N w b n x y → whole N w b₀ variables k r t ≡ outcome false (held N w b n)
     clash (inSecond p q v lp ne o) =
         ⊎-elim
         (λ lq. let wq : walk (now .β) (denote N (cells w) q) ≡ var q = walks (now .state .words) (now .state .holds) (second-in v) (free lq (second-free v lq)) ∙ denote-variable N (cells w) q lq in
-          true-false (checked true p q o) (occurs-var (now .β) (now .state .holds .acyclic) p (denote N (cells w) q) q wq ∙ same-ne ne))
+        true-false (checked true p q o) (occurs-var (now .β) (now .state .holds .acyclic) p (denote N (cells w) q) q wq ∙ same-ne ne))
         (λ lq. occurs-in-second now (v .first) (v .second) lp lq (checked true p q o))
         (low-or-high q N)
     clash (inFirst p q v lp lq o) = occurs-in-first now (v .first) (v .second) lp lq (checked true q p o)
@@ -333,10 +361,14 @@ module _ {N : ℕ} {w : List ℕ} {b₀ l₀ m₀ s₀ : Rows} {variables used k
 
     pub turn-done : d ≡ 0 → Equated N w b₀ b l₀ l m₀ m s₀ s variables used k r t true n c d
     turn-done z = record {
-        is = all-done (subst (λ (j : ℕ). Resuming N (cells w) (column 0 b) (column 1 b) (column 0 l) (column 0 s) (column 1 s) (column 2 s) variables used n j (whole N w b₀ variables k r t)) z on);
-        form = form-made (on .state .words) (on .state .holds) (h .fixed) (h .binding);
-        binding = h .binding; linking = h .linking; stacking = h .stacking; within = omega arith; marks = h .marks
-      }
+      is = all-done (subst (λ (j : ℕ). Resuming N (cells w) (column 0 b) (column 1 b) (column 0 l) (column 0 s) (column 1 s) (column 2 s) variables used n j (whole N w b₀ variables k r t)) z on);
+      form = form-made (on .state .words) (on .state .holds) (h .fixed) (h .binding);
+      binding = h .binding;
+      linking = h .linking;
+      stacking = h .stacking;
+      within = omega arith;
+      marks = h .marks;
+    }
 
     module _ (z : d ≢ 0) where
       d-suc : d ≡ suc (d - 1)
@@ -378,14 +410,17 @@ module _ {N : ℕ} {w : List ℕ} {b₀ l₀ m₀ s₀ : Rows} {variables used k
 
         pub turn-next : i < arityOf (cells w (a - N)) → Loop N w b₀ l₀ m₀ s₀ variables used k r t b l m (set s (d - 1) (a ∷ q ∷ (i + 1) ∷ [])) (cells w (suc (a - N) + i)) (cells w (suc (q - N) + i)) d n c true
         turn-next li = record {
-            fixed = h .fixed; binding = h .binding; linking = h .linking; marks = h .marks;
-            stacking = stacked-same (h .stacking) _ z;
-            stage = let xe : cells w (suc (column 0 s (d - 1) - N) + column 2 s (d - 1)) ≡ cells w (suc (a - N) + i) = ap₂ (λ (p g : ℕ). cells w (suc (p - N) + g)) (sym ea) (sym ei) in
+          fixed = h .fixed;
+          binding = h .binding;
+          linking = h .linking;
+          marks = h .marks;
+          stacking = stacked-same (h .stacking) _ z;
+          stage = let xe : cells w (suc (column 0 s (d - 1) - N) + column 2 s (d - 1)) ≡ cells w (suc (a - N) + i) = ap₂ (λ (p g : ℕ). cells w (suc (p - N) + g)) (sym ea) (sym ei) in
               let ye : cells w (suc (column 1 s (d - 1) - N) + column 2 s (d - 1)) ≡ cells w (suc (q - N) + i) = ap₂ (λ (p g : ℕ). cells w (suc (p - N) + g)) (sym eq) (sym ei) in
               pending-at xe ye (pending-same (λ j _. row0 j) (λ j _. row1 j) (subst (λ (j : ℕ). Pending N (cells w) (column 0 b) (column 1 b) (column 0 l) (column 0 s) (column 1 s) (column 2 s⁺) variables used n j
               (cells w (suc (column 0 s (d - 1) - N) + column 2 s (d - 1))) (cells w (suc (column 1 s (d - 1) - N) + column 2 s (d - 1))) (whole N w b₀ variables k r t)) (sym d-suc)
-              (next-arguments on′ (column 2 s⁺) row2 row2′ (rw (ea, ei) at li))))
-          }
+              (next-arguments on′ (column 2 s⁺) row2 row2′ (rw (ea, ei) at li))));
+        }
 
         pub less-next : i < arityOf (cells w (a - N)) → measure N (column 0 l) (column 2 (set s (d - 1) (a ∷ q ∷ (i + 1) ∷ []))) used d true < measure N (column 0 l) (column 2 s) used d pending
         less-next li = rw e (subst (λ (j : ℕ). measure N (column 0 l) (column 2 s⁺) used j true < measure N (column 0 l) (column 2 s) used j false) (sym d-suc)
@@ -436,14 +471,14 @@ module _ {N : ℕ} {w : List ℕ} {b₀ l₀ m₀ s₀ : Rows} {variables used k
 
           links-more : LinkedFrom (N + used) l₀ l′ (c + 1)
           links-more = record {
-              long = changed .long ∙ h .linking .long;
-              entries = entries-more (h .linking .entries) (j .from) (j .to) from-in zero-from changed;
-              back = let p : c + 1 - 0 ≡ c + 1 = omega arith in let p′ : c - 0 ≡ c = omega arith in
+            long = changed .long ∙ h .linking .long;
+            entries = entries-more (h .linking .entries) (j .from) (j .to) from-in zero-from changed;
+            back = let p : c + 1 - 0 ≡ c + 1 = omega arith in let p′ : c - 0 ≡ c = omega arith in
                 ap (undone l′ 0) (sym p) ∙ enter-back {mark = 0} (j .entered) zero-le zero-from (h .linking .entries .rest c (le-refl c)) ∙ ap (undone l 0) p′ ∙ h .linking .back;
-              falls = λ p g f. by-same p (j .from)
+            falls = λ p g f. by-same p (j .from)
                 (λ pf _. let z₁ : suc (j .to) ≡ suc g = sym (changed .at) ∙ ap (column 0 l′) (sym pf) ∙ f in let lo = lower in omega arith)
-                (λ pf _. h .linking .falls p g (sym (changed .off p pf) ∙ f))
-            }
+                (λ pf _. h .linking .falls p g (sym (changed .off p pf) ∙ f));
+          }
 
           abbrev s⁻ : Rows
           s⁻ = set s (d - 1) (0 ∷ 0 ∷ 0 ∷ [])
@@ -457,18 +492,21 @@ module _ {N : ℕ} {w : List ℕ} {b₀ l₀ m₀ s₀ : Rows} {variables used k
               let eX : EqualUnder (on′ .β) (denote N (cells w) (column 0 s (d - 1))) (denote N (cells w) (j .rootX)) = leads-eq N (cells w) (on′ .β) (on′ .state .equalLinks) jx in
               let eY : EqualUnder (on′ .β) (denote N (cells w) (column 0 s (d - 1))) (denote N (cells w) (j .rootY)) = λ σ so. equal on′ li′ σ so ∙ leads-eq N (cells w) (on′ .β) (on′ .state .equalLinks) jy σ so in
               record {
-                fixed = h .fixed; binding = h .binding; linking = links-more; marks = h .marks;
+                fixed = h .fixed;
+                binding = h .binding;
+                linking = links-more;
+                marks = h .marks;
                 stacking = stacked-less (h .stacking) z deep-in;
                 stage = resuming-same (same-below 0) (same-below 1) (same-below 2)
-                  (close-pair on′ li′ (j .from) (j .to) zero-from (both (λ x y. column 0 l y ≡ 0) (leads-root jy) (leads-root jx)) (λ p. let lo = lower in omega arith)
-                  (both (λ x y. EqualUnder (on′ .β) (denote N (cells w) (column 0 s (d - 1))) (denote N (cells w) x)) eX eY)
-                  (both (λ x y. EqualUnder (on′ .β) (denote N (cells w) (column 0 s (d - 1))) (denote N (cells w) y)) eY eX)
-                  (both (λ x y. Reference N (cells w) variables used y) rootY-in rootX-in) (column 0 l′) (changed .at) (changed .off))
+                    (close-pair on′ li′ (j .from) (j .to) zero-from (both (λ x y. column 0 l y ≡ 0) (leads-root jy) (leads-root jx)) (λ p. let lo = lower in omega arith)
+                    (both (λ x y. EqualUnder (on′ .β) (denote N (cells w) (column 0 s (d - 1))) (denote N (cells w) x)) eX eY)
+                    (both (λ x y. EqualUnder (on′ .β) (denote N (cells w) (column 0 s (d - 1))) (denote N (cells w) y)) eY eX)
+                    (both (λ x y. Reference N (cells w) variables used y) rootY-in rootX-in) (column 0 l′) (changed .at) (changed .off));
               }
 
           pub less-close : measure N (column 0 l′) (column 2 (set s (d - 1) (0 ∷ 0 ∷ 0 ∷ []))) used (d - 1) pending < measure N (column 0 l) (column 2 s) used d pending
           less-close =
               let u = untaken-same (column 2 s) (column 2 s⁻) (d - 1) (same-below 2) in
               let f : measure N (column 0 l′) (column 2 s) used (d - 1) false < measure N (column 0 l) (column 2 s) used (suc (d - 1)) false =
-                close-falls N (column 0 l) (column 0 l′) (column 2 s) used (d - 1) (j .from) (j .to) from-in zero-from (changed .at) (changed .off) in
+              close-falls N (column 0 l) (column 0 l′) (column 2 s) used (d - 1) (j .from) (j .to) from-in zero-from (changed .at) (changed .off) in
               rw (e, u) (subst (λ (k : ℕ). measure N (column 0 l′) (column 2 s) used (d - 1) false < measure N (column 0 l) (column 2 s) used k false) (sym d-suc) f)

@@ -80,23 +80,23 @@ module _ {N : ℕ} where
 
     -- one more binding
     pub bindings-more : (values′ trail′ : Cells) (x z : ℕ) → x < variables → values x ≡ 0 → Reference N w variables used z → mem x (res β (denote N w z)) ≡ false
-      → values′ x ≡ suc z → ((v : ℕ) → v ≢ x → values′ v ≡ values v) → trail′ k ≡ x → ((i : ℕ) → i < k → trail′ i ≡ trail i)
-      → Holds N w values′ trail′ variables used (suc k) (bind x (denote N w z) β)
+        → values′ x ≡ suc z → ((v : ℕ) → v ≢ x → values′ v ≡ values v) → trail′ k ≡ x → ((i : ℕ) → i < k → trail′ i ≡ trail i)
+        → Holds N w values′ trail′ variables used (suc k) (bind x (denote N w z) β)
     bindings-more values′ trail′ x z xn e rz m bx bo tk to = record {
-        is = let sz : suc z - 1 ≡ z = omega arith in sym (ap₂ (λ (y : ℕ) (γ : Bindings). bind y (denote N w (values′ y - 1)) γ) tk
-            (sym (bindings-same N w values values′ trail trail′ k (λ i l. sym (to i l)) (λ i l. sym (bo (trail i) (λ q. h .filled i l (ap values q ∙ e))))) ∙ sym (h .is))
-            ∙ ap (λ (y : ℕ). bind x (denote N w (y - 1)) β) bx ∙ ap (λ (y : ℕ). bind x (denote N w y) β) sz);
-        lookups = λ v l. by-same v x (λ p q. rw q (ap (lookupAt N w) (sym (ap values′ p ∙ bx)))) (λ p q. rw q (h .lookups v l ∙ ap (lookupAt N w) (sym (bo v p))));
-        filled = λ i l p. by-order i k
+      is = let sz : suc z - 1 ≡ z = omega arith in sym (ap₂ (λ (y : ℕ) (γ : Bindings). bind y (denote N w (values′ y - 1)) γ) tk
+          (sym (bindings-same N w values values′ trail trail′ k (λ i l. sym (to i l)) (λ i l. sym (bo (trail i) (λ q. h .filled i l (ap values q ∙ e))))) ∙ sym (h .is))
+          ∙ ap (λ (y : ℕ). bind x (denote N w (y - 1)) β) bx ∙ ap (λ (y : ℕ). bind x (denote N w y) β) sz);
+      lookups = λ v l. by-same v x (λ p q. rw q (ap (lookupAt N w) (sym (ap values′ p ∙ bx)))) (λ p q. rw q (h .lookups v l ∙ ap (lookupAt N w) (sym (bo v p))));
+      filled = λ i l p. by-order i k
           (λ li. h .filled i li (sym (bo (trail i) (λ q. h .filled i li (ap values q ∙ e))) ∙ ap values′ (sym (to i li)) ∙ p))
           (λ li. let ik : i ≡ k = omega arith in let z : values′ (trail′ k) ≡ 0 = subst (λ n. values′ (trail′ n) ≡ 0) ik p in let z′ : values′ (trail′ k) ≡ suc _ = ap values′ tk ∙ bx in omega arith);
-        references = λ v r l p. by-same v x
+      references = λ v r l p. by-same v x
           (λ q _. let s : suc z ≡ suc r = sym bx ∙ ap values′ (sym q) ∙ p in let s′ : z ≡ r = omega arith in subst (Reference N w variables used) s′ rz)
           (λ q _. h .references v r l (sym (bo v q) ∙ p));
-        few = h .few;
-        acyclic = (h .lookups x xn ∙ ap (lookupAt N w) e, m, h .acyclic);
-        below = (xn, below-denote N w variables used wf z rz, h .below)
-      }
+      few = h .few;
+      acyclic = (h .lookups x xn ∙ ap (lookupAt N w) e, m, h .acyclic);
+      below = (xn, below-denote N w variables used wf z rz, h .below);
+    }
 
     -- Walks end: the number of bindings that a walk meets falls.
     -- one step of a walk
@@ -127,14 +127,20 @@ module _ {N : ℕ} where
   -- storage in form holds its bindings, and the other way round
   pub form-holds : {w : List ℕ} {b : Rows} {variables used k : ℕ} → Form N w b variables used k → Holds N (cells w) (column 0 b) (column 1 b) variables used k (held N w b k)
   form-holds {w} {b} {variables} {used} {k} h = record {
-      is = refl; lookups = h .lookups; references = h .references; few = h .few; acyclic = h .acyclic; below = h .below;
-      filled = λ i l e. bindings-has N (cells w) (column 0 b) (column 1 b) k i l
-        (h .lookups (column 1 b i) (bindings-low N (cells w) (column 0 b) (column 1 b) variables k (h .below) i l) ∙ ap (lookupAt N (cells w)) e)
-    }
+    is = refl;
+    lookups = h .lookups;
+    references = h .references;
+    few = h .few;
+    acyclic = h .acyclic;
+    below = h .below;
+    filled = λ i l e. bindings-has N (cells w) (column 0 b) (column 1 b) k i l
+        (h .lookups (column 1 b i) (bindings-low N (cells w) (column 0 b) (column 1 b) variables k (h .below) i l) ∙ ap (lookupAt N (cells w)) e);
+  }
 
   -- the bindings above a mark can be undone
   pub form-undoable : {w : List ℕ} {b : Rows} {variables used k mark : ℕ} → Form N w b variables used k → mark ≤ k → Undoable b k mark
   form-undoable {w} {b} {variables} {used} {k} h l = let f = trail-in (form-holds h) in let g = h .lentRows in record {
-      above = l; within = omega arith;
-      keys = λ i p q. let z = bindings-low N (cells w) (column 0 b) (column 1 b) variables k (h .below) i q in omega arith
-    }
+    above = l;
+    within = omega arith;
+    keys = λ i p q. let z = bindings-low N (cells w) (column 0 b) (column 1 b) variables k (h .below) i q in omega arith;
+  }

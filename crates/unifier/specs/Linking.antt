@@ -49,5 +49,14 @@ pub join-up : {links links′ : Rows} {c x y p q : ℕ} → LeadsTo (column 0 li
 join-up {p = p} {q = q} lp lq l e = record { rootX = p; rootY = q; leadsX = lp; leadsY = lq; from = q; to = p; either = inr (refl, refl); falls = inr l; entered = e }
 
 pub join-down : {links links′ : Rows} {c x y p q : ℕ} → LeadsTo (column 0 links) x p → LeadsTo (column 0 links) y q → q ≤ p → Entered links links′ c p (q + 1) → Joined links links′ c x y
-join-down {p = p} {q = q} lp lq l e = record { rootX = p; rootY = q; leadsX = lp; leadsY = lq; from = p; to = q; either = inl (refl, refl);
-    falls = by-same p q (λ d _. inl d) (λ d _. inr (by-order q p (λ a. a) (λ a. absurd (d (omega arith))))); entered = e }
+join-down {p = p} {q = q} lp lq l e = record {
+  rootX = p;
+  rootY = q;
+  leadsX = lp;
+  leadsY = lq;
+  from = p;
+  to = q;
+  either = inl (refl, refl);
+  falls = by-same p q (λ d _. inl d) (λ d _. inr (by-order q p (λ a. a) (λ a. absurd (d (omega arith)))));
+  entered = e;
+}

@@ -30,7 +30,7 @@ module _ (N : ℕ) where
       or-right (mem x (sub σ (denote N w (w p)))) _ (mem-args x σ w (suc p) n i (omega arith) (rw e at m))
 
   pub args-mem : (x : ℕ) (σ : Subst) (w : Cells) (p n : ℕ) → mem x (sub σ (args (denote N w) w p n)) ≡ true
-    → (i : ℕ) × (i < n) × (mem x (sub σ (denote N w (w (p + i)))) ≡ true) × (size (sub σ (denote N w (w (p + i)))) < size (sub σ (args (denote N w) w p n)))
+      → (i : ℕ) × (i < n) × (mem x (sub σ (denote N w (w (p + i)))) ≡ true) × (size (sub σ (denote N w (w (p + i)))) < size (sub σ (args (denote N w) w p n)))
   unfolding mem
   args-mem x σ w p zero m = true-false m refl
   args-mem x σ w p (suc n) m = ⊎-elim
@@ -76,12 +76,12 @@ module _ {N : ℕ} where
         let rq = walks-ref wf h rr v in
         let e = res-walks rr v in
         walk-reach v (⊎-elim
-          (λ lq. let mq : mem x (res β (denote N w q)) ≡ true = ap (λ (t : Term). mem x t) (sym e) ∙ m in
-            let f : res β (denote N w q) ≡ var q = ap (res β) (denote-variable N w q lq) ∙ full-unbound β q (h .lookups q (rq .variable lq) ∙ ap (lookupAt N w) (walks-end wf h v lq)) in
-            let s : same x q ≡ true = ap (λ (t : Term). mem x t) (sym f) ∙ mq in
-            subst (λ (z : ℕ). Reaches N w values q z) (sym (same-true s)) here)
-          (λ lq. let f = e ∙ ap (res β) (denote-node N w variables used wf q rq lq) in
-            let z = ap (λ (t : Term). size t) f in
-            let (i, li, mi, taken) = args-mem N x (full β) w (suc (q - N)) (arityOf (w (q - N))) (ap (λ (t : Term). mem x t) (sym f) ∙ m) in
-            step (argument i lq li) (mem-reach x n (w (suc (q - N) + i)) (reference-argument N w variables used wf q i rq lq li) (omega arith) mi))
-          (low-or-high q N))
+        (λ lq. let mq : mem x (res β (denote N w q)) ≡ true = ap (λ (t : Term). mem x t) (sym e) ∙ m in
+        let f : res β (denote N w q) ≡ var q = ap (res β) (denote-variable N w q lq) ∙ full-unbound β q (h .lookups q (rq .variable lq) ∙ ap (lookupAt N w) (walks-end wf h v lq)) in
+        let s : same x q ≡ true = ap (λ (t : Term). mem x t) (sym f) ∙ mq in
+        subst (λ (z : ℕ). Reaches N w values q z) (sym (same-true s)) here)
+        (λ lq. let f = e ∙ ap (res β) (denote-node N w variables used wf q rq lq) in
+        let z = ap (λ (t : Term). size t) f in
+        let (i, li, mi, taken) = args-mem N x (full β) w (suc (q - N)) (arityOf (w (q - N))) (ap (λ (t : Term). mem x t) (sym f) ∙ m) in
+        step (argument i lq li) (mem-reach x n (w (suc (q - N) + i)) (reference-argument N w variables used wf q i rq lq li) (omega arith) mi))
+        (low-or-high q N))

@@ -46,19 +46,19 @@ pigeonhole n zero f b inj = zero-le
 pigeonhole zero (suc k) f b inj = let h = b 0 (omega arith) in omega arith
 pigeonhole (suc n) (suc k) f b inj =
     let ih : k ≤ n = pigeonhole n k (swap f n k)
-          (λ i p. ⊎-elim
-            (λ e. let x = b k (omega arith) in let s = swap-at f n k i e in
-              let ne : f k ≡ n → ⊥ = (λ q. let z = inj i k (omega arith) (omega arith) (e ∙ sym q) in omega arith) in omega arith)
-            (λ e. let x = b i (omega arith) in let s = swap-off f n k i e in omega arith)
-            (same-or-not (f i) n))
-          (λ i j p q s. ⊎-elim
-            (λ e. ⊎-elim
-              (λ d. inj i j (omega arith) (omega arith) (e ∙ sym d))
-              (λ d. let z = inj k j (omega arith) (omega arith) (sym (swap-at f n k i e) ∙ s ∙ swap-off f n k j d) in omega arith)
-              (same-or-not (f j) n))
-            (λ e. ⊎-elim
-              (λ d. let z = inj i k (omega arith) (omega arith) (sym (swap-off f n k i e) ∙ s ∙ swap-at f n k j d) in omega arith)
-              (λ d. inj i j (omega arith) (omega arith) (sym (swap-off f n k i e) ∙ s ∙ swap-off f n k j d))
-              (same-or-not (f j) n))
-            (same-or-not (f i) n)) in
+    (λ i p. ⊎-elim
+    (λ e. let x = b k (omega arith) in let s = swap-at f n k i e in
+    let ne : f k ≡ n → ⊥ = (λ q. let z = inj i k (omega arith) (omega arith) (e ∙ sym q) in omega arith) in omega arith)
+    (λ e. let x = b i (omega arith) in let s = swap-off f n k i e in omega arith)
+    (same-or-not (f i) n))
+    (λ i j p q s. ⊎-elim
+    (λ e. ⊎-elim
+    (λ d. inj i j (omega arith) (omega arith) (e ∙ sym d))
+    (λ d. let z = inj k j (omega arith) (omega arith) (sym (swap-at f n k i e) ∙ s ∙ swap-off f n k j d) in omega arith)
+    (same-or-not (f j) n))
+    (λ e. ⊎-elim
+    (λ d. let z = inj i k (omega arith) (omega arith) (sym (swap-off f n k i e) ∙ s ∙ swap-at f n k j d) in omega arith)
+    (λ d. inj i j (omega arith) (omega arith) (sym (swap-off f n k i e) ∙ s ∙ swap-off f n k j d))
+    (same-or-not (f j) n))
+    (same-or-not (f i) n)) in
     omega arith

@@ -46,8 +46,8 @@ pub record OpenPair (N : ℕ) (w : Cells) (variables used a b i : ℕ) : Type 0 
 pub data Stack (N : ℕ) (w lefts rights taken : Cells) (β : Bindings) (variables used : ℕ) : ℕ → Term → Term → List Eqn → Type 0 where
   bottom : {X Y : Term} → Stack N w lefts rights taken β variables used 0 X Y []
   pair : {d : ℕ} {X Y : Term} {es : List Eqn} (a b i : ℕ) → lefts d ≡ a → rights d ≡ b → taken d ≡ i → OpenPair N w variables used a b i
-    → ((σ : Subst) → Solves σ β → sub σ X ≡ sub σ Y → (j : ℕ) → j < i → sub σ (argumentAt N w a j) ≡ sub σ (argumentAt N w b j))
-    → Stack N w lefts rights taken β variables used d (denote N w a) (denote N w b) es → Stack N w lefts rights taken β variables used (suc d) X Y (eqns (argumentsFrom N w a i) (argumentsFrom N w b i) ∷ es)
+      → ((σ : Subst) → Solves σ β → sub σ X ≡ sub σ Y → (j : ℕ) → j < i → sub σ (argumentAt N w a j) ≡ sub σ (argumentAt N w b j))
+      → Stack N w lefts rights taken β variables used d (denote N w a) (denote N w b) es → Stack N w lefts rights taken β variables used (suc d) X Y (eqns (argumentsFrom N w a i) (argumentsFrom N w b i) ∷ es)
 
 pub record State (N : ℕ) (w values trail links lefts rights taken : Cells) (variables used k d : ℕ) (β : Bindings) (X Y : Term) (es : List Eqn) : Type 0 where
   pub words : WellFormed N w variables used
@@ -92,12 +92,12 @@ module _ {N : ℕ} where
   stack-bind x t (pair a b i ea eb ei f h fs) = pair a b i ea eb ei f (λ σ s e. h σ (s .1) e) (stack-bind x t fs)
 
   pub stack-same : {w lefts rights taken lefts′ rights′ taken′ : Cells} {β : Bindings} {variables used d : ℕ} {X Y : Term} {es : List Eqn}
-    → ((j : ℕ) → j < d → lefts′ j ≡ lefts j) → ((j : ℕ) → j < d → rights′ j ≡ rights j) → ((j : ℕ) → j < d → taken′ j ≡ taken j)
-    → Stack N w lefts rights taken β variables used d X Y es → Stack N w lefts′ rights′ taken′ β variables used d X Y es
+      → ((j : ℕ) → j < d → lefts′ j ≡ lefts j) → ((j : ℕ) → j < d → rights′ j ≡ rights j) → ((j : ℕ) → j < d → taken′ j ≡ taken j)
+      → Stack N w lefts rights taken β variables used d X Y es → Stack N w lefts′ rights′ taken′ β variables used d X Y es
   stack-same p q r bottom = bottom
   stack-same p q r (pair {d = d} a b i ea eb ei f h fs) =
       pair a b i (p d (omega arith) ∙ ea) (q d (omega arith) ∙ eb) (r d (omega arith) ∙ ei) f h
-        (stack-same (λ j l. p j (omega arith)) (λ j l. q j (omega arith)) (λ j l. r j (omega arith)) fs)
+      (stack-same (λ j l. p j (omega arith)) (λ j l. q j (omega arith)) (λ j l. r j (omega arith)) fs)
 
 module _ (N : ℕ) where
   -- a node's arguments
@@ -118,7 +118,7 @@ module _ (N : ℕ) where
       let e : p + 0 ≡ p = omega arith in let e′ : q + 0 ≡ q = omega arith in
       let h₀ : sub σ (denote N w (w (p + 0))) ≡ sub σ (denote N w (w (q + 0))) = h 0 (omega arith) in
       ap₂ cons (rw (e, e′) at h₀) (sub-args σ w (suc p) (suc q) n (λ j l. let d : p + suc j ≡ suc p + j = omega arith in let d′ : q + suc j ≡ suc q + j = omega arith in
-        let h₁ : sub σ (denote N w (w (p + suc j))) ≡ sub σ (denote N w (w (q + suc j))) = h (suc j) (omega arith) in rw (d, d′) at h₁))
+      let h₁ : sub σ (denote N w (w (p + suc j))) ≡ sub σ (denote N w (w (q + suc j))) = h (suc j) (omega arith) in rw (d, d′) at h₁))
 
   size-args : (σ : Subst) (w : Cells) (p n j : ℕ) → j < n → size (sub σ (denote N w (w (p + j)))) < size (sub σ (args (denote N w) w p n))
   size-args σ w p zero j l = absurd (not-suc-le-zero l)

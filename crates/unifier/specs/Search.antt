@@ -54,22 +54,32 @@ mark-one {limit} m m′ t y h l r e en =
       keep = λ i p. ch .others i (λ q. omega arith);
       new = λ i p q. let s : i ≡ t = omega arith in ap (column 1 m′) s ∙ ch .list;
       hit = λ z s n. let w : column 0 m′ z ≡ 1 = ap (column 0 m′) s ∙ ch .at in omega arith;
-      back = ap (undone m′ 0) (sym d) ∙ b ∙ ap (undone m 0) d′
+      back = ap (undone m′ 0) (sym d) ∙ b ∙ ap (undone m 0) d′;
     }
 
 -- no new mark
 pub mark-none : {limit : ℕ} (P : ℕ → Type 0) (m : Rows) (t : ℕ) → Entries m limit t → ((y : ℕ) → P y → column 0 m y ≢ 0) → Grown limit P m t m t
 mark-none P m t h f = record {
-    entries = h; long = refl; up = omega arith; keep = λ i l. refl;
-    new = λ i l k. let z : ⊥ = omega arith in absurd z; hit = f; back = refl
-  }
+  entries = h;
+  long = refl;
+  up = omega arith;
+  keep = λ i l. refl;
+  new = λ i l k. let z : ⊥ = omega arith in absurd z;
+  hit = f;
+  back = refl;
+}
 
 -- the same marks, said otherwise
 pub grown-iff : {limit : ℕ} {P Q : ℕ → Type 0} {m m′ : Rows} {t t′ : ℕ} → ((y : ℕ) → P y → Q y) → ((y : ℕ) → Q y → P y) → Grown limit P m t m′ t′ → Grown limit Q m t m′ t′
 grown-iff f g h = record {
-    entries = h .entries; long = h .long; up = h .up; keep = h .keep;
-    new = λ i l k. f _ (h .new i l k); hit = λ y p. h .hit y (g y p); back = h .back
-  }
+  entries = h .entries;
+  long = h .long;
+  up = h .up;
+  keep = h .keep;
+  new = λ i l k. f _ (h .new i l k);
+  hit = λ y p. h .hit y (g y p);
+  back = h .back;
+}
 
 -- what was marked stays marked
 pub stays : {limit : ℕ} {P : ℕ → Type 0} {m m′ : Rows} {t t′ : ℕ} (y : ℕ) → Entries m limit t → Grown limit P m t m′ t′ → column 0 m y ≢ 0 → column 0 m′ y ≢ 0
@@ -89,16 +99,16 @@ grown-then {m = m} {m′ = m′} {m″ = m″} {t = t} {t′ = t′} {t″ = t�
       up = omega arith;
       keep = λ i l. h .keep i (omega arith) ∙ g .keep i l;
       new = λ i l k. ⊎-elim
-        (λ n. inl (rw (h .keep i n) (g .new i l n)))
-        (λ n. inr (h .new i n k))
-        (low-or-high i t′);
+          (λ n. inl (rw (h .keep i n) (g .new i l n)))
+          (λ n. inr (h .new i n k))
+          (low-or-high i t′);
       hit = λ y. ⊎-elim (λ p. stays y (g .entries) h (g .hit y p)) (λ p. h .hit y p);
-      back = h .back ∙ g .back
+      back = h .back ∙ g .back;
     }
 
 -- one argument more
 pub args-more : {limit : ℕ} (w : List ℕ) (a i : ℕ) {m m′ m″ : Rows} {t t′ t″ : ℕ} → Grown limit (ArgumentOf w a i) m t m′ t′
-  → Grown limit (λ y. y ≡ cells w (a + 1 + i)) m′ t′ m″ t″ → Grown limit (ArgumentOf w a (i + 1)) m t m″ t″
+    → Grown limit (λ y. y ≡ cells w (a + 1 + i)) m′ t′ m″ t″ → Grown limit (ArgumentOf w a (i + 1)) m t m″ t″
 args-more w a i g h =
     let e : a + 1 + i ≡ suc a + i = omega arith in
     grown-iff
@@ -151,7 +161,7 @@ module _ {N : ℕ} where
         grown-iff (λ y d. rw d (into l e)) (λ y d. edge-into l e d) g
 
     pub edges-arguments : {m m′ : Rows} {t t′ : ℕ} → N ≤ r
-      → Grown (N + used) (ArgumentOf w (r - N) (arityOf (cells w (r - N)))) m t m′ t′ → Grown (N + used) (Edge N (cells w) (column 0 b) r) m t m′ t′
+        → Grown (N + used) (ArgumentOf w (r - N) (arityOf (cells w (r - N)))) m t m′ t′ → Grown (N + used) (Edge N (cells w) (column 0 b) r) m t m′ t′
     edges-arguments l g = grown-iff (λ y d. argument-edge w (column 0 b) r y l d) (λ y d. edge-argument w l d) g
 
     -- what following them asks
@@ -182,15 +192,19 @@ pub record Searched (N : ℕ) (w : List ℕ) (b m₀ m : Rows) (variables used r
 module _ (N : ℕ) (w : List ℕ) (b m₀ : Rows) (variables used r x : ℕ) where
   pub search-start : (m : Rows) (t : ℕ) → Reference N (cells w) variables used r → Grown (N + used) (λ z. z ≡ r) m₀ 0 m t → Searched N w b (undone m 0 t) m variables used r x 0 t
   search-start m t f g = record {
-      entries = g .entries; long = g .long ∙ ap length (sym (g .back ∙ undone-zero m₀ 0)); back = refl; le = zero-le; start = g .hit r refl;
-      queued = λ i l. rw (g .new i zero-le l) f;
-      come = λ i l. rw (g .new i zero-le l) here;
-      done = λ i l. absurd (not-suc-le-zero l);
-      other = λ i l. absurd (not-suc-le-zero l)
-    }
+    entries = g .entries;
+    long = g .long ∙ ap length (sym (g .back ∙ undone-zero m₀ 0));
+    back = refl;
+    le = zero-le;
+    start = g .hit r refl;
+    queued = λ i l. rw (g .new i zero-le l) f;
+    come = λ i l. rw (g .new i zero-le l) here;
+    done = λ i l. absurd (not-suc-le-zero l);
+    other = λ i l. absurd (not-suc-le-zero l);
+  }
 
   pub search-step : {k : ℕ} (m m′ : Rows) (h t t′ : ℕ) → Form N w b variables used k → Searched N w b m₀ m variables used r x h t → h < t → column 1 m h ≢ x
-    → Grown (N + used) (Edge N (cells w) (column 0 b) (column 1 m h)) m t m′ t′ → Searched N w b m₀ m′ variables used r x (h + 1) t′
+      → Grown (N + used) (Edge N (cells w) (column 0 b) (column 1 m h)) m t m′ t′ → Searched N w b m₀ m′ variables used r x (h + 1) t′
   search-step m m′ h t t′ st s l n g =
       let up = g .up in
       record {
@@ -202,11 +216,11 @@ module _ (N : ℕ) (w : List ℕ) (b m₀ : Rows) (variables used r x : ℕ) whe
         queued = λ i k. ⊎-elim (λ o. rw (g .keep i o) (s .queued i o)) (λ o. edge-reference st (s .queued h l) (g .new i o k)) (low-or-high i t);
         come = λ i k. ⊎-elim (λ o. rw (g .keep i o) (s .come i o)) (λ o. reaches-more (s .come h l) (g .new i o k)) (low-or-high i t);
         done = below-more (λ i. (y : ℕ) → Edge N (cells w) (column 0 b) (column 1 m′ i) y → column 0 m′ y ≢ 0) h
-          (λ i k y e. stays y (s .entries) g (s .done i k y (rw (g .keep i (let a = s .le in omega arith)) at e)))
-          (λ y e. g .hit y (rw (g .keep h l) at e));
+            (λ i k y e. stays y (s .entries) g (s .done i k y (rw (g .keep i (let a = s .le in omega arith)) at e)))
+            (λ y e. g .hit y (rw (g .keep h l) at e));
         other = below-more (λ i. column 1 m′ i ≢ x) h
-          (λ i k e. s .other i k (sym (g .keep i (let a = s .le in omega arith)) ∙ e))
-          (λ e. n (sym (g .keep h l) ∙ e))
+            (λ i k e. s .other i k (sym (g .keep i (let a = s .le in omega arith)) ∙ e))
+            (λ e. n (sym (g .keep h l) ∙ e));
       }
 
   -- at the end what is marked is closed under edges

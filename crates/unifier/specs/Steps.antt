@@ -48,7 +48,7 @@ length-args σ g w p (suc n) = ap suc (length-args σ g w (suc p) n)
 
 -- a header is its symbol and its number of arguments
 heads : (a b : ℕ) → headers ≤ a → headers ≤ b → (σ : Subst) (f g : ℕ → Terms) → ((n : ℕ) → len (sub σ (f n)) ≡ n) → ((n : ℕ) → len (sub σ (g n)) ≡ n)
-  → sub σ (app (symbolOf a) (f (arityOf a))) ≡ sub σ (app (symbolOf b) (g (arityOf b))) → a ≡ b
+    → sub σ (app (symbolOf a) (f (arityOf a))) ≡ sub σ (app (symbolOf b) (g (arityOf b))) → a ≡ b
 heads a b la lb σ f g lf lg e =
     let i = app-inj (symbolOf a) (symbolOf b) (sub σ (f (arityOf a))) (sub σ (g (arityOf b))) e in
     let n : a % 32 ≡ b % 32 = sym (lf (arityOf a)) ∙ ap (λ (t : Terms). len t) (i .1) ∙ lg (arityOf b) in
@@ -71,10 +71,15 @@ module _ {N : ℕ} where
     -- a pair that is equal is skipped
     pub skip-equal : EqualUnder (h .β) (denote N w x) (denote N w y) → Resuming N w values trail links lefts rights taken variables used k d o
     skip-equal e = record {
-        β = h .β; X = denote N w x; Y = denote N w y; es = h .es; state = h .state; equal = e;
-        comes = h .comes ∙ skips variables (h .β) (h .state .holds .acyclic) (h .state .holds .below) (size (res (h .β) (denote N w x))) (eqn (denote N w x) (denote N w y))
-          (e (full (h .β)) (full-solves (h .β) (h .state .holds .acyclic))) (le-refl _) (h .es) bel
-      }
+      β = h .β;
+      X = denote N w x;
+      Y = denote N w y;
+      es = h .es;
+      state = h .state;
+      equal = e;
+      comes = h .comes ∙ skips variables (h .β) (h .state .holds .acyclic) (h .state .holds .below) (size (res (h .β) (denote N w x))) (eqn (denote N w x) (denote N w y))
+          (e (full (h .β)) (full-solves (h .β) (h .state .holds .acyclic))) (le-refl _) (h .es) bel;
+    }
 
     module _ {p q : ℕ} (vx : WalksTo N values x p) (vy : WalksTo N values y q) where
       wx : walk (h .β) (denote N w x) ≡ denote N w p
@@ -107,11 +112,11 @@ module _ {N : ℕ} where
       left-next : p < N → p ≢ q → mem p (res (h .β) (denote N w q)) ≡ false → unifies variables (h .β) (eqn (denote N w x) (denote N w y) ∷ (h .es)) ≡ unifies variables (bind p (denote N w q) (h .β)) (h .es)
       left-next l n m = ⊎-elim
           (λ lq. (let nx = meets (var p) (var q) (denote-variable N w p l) (denote-variable N w q lq) in rw (same-ne n) at nx)
-            ∙ ap (λ (t : Term). unifies variables (bind p t (h .β)) (h .es)) (sym (denote-variable N w q lq)))
+          ∙ ap (λ (t : Term). unifies variables (bind p t (h .β)) (h .es)) (sym (denote-variable N w q lq)))
           (λ lq. let e = denote-node N w variables used (h .state .words) q rq lq in
-            let nx = meets (var p) (app (symbolOf (w (q - N))) (args (denote N w) w (suc (q - N)) (arityOf (w (q - N))))) (denote-variable N w p l) e in
-            let m′ = rw e at m in (rw m′ at nx)
-            ∙ ap (λ (t : Term). unifies variables (bind p t (h .β)) (h .es)) (sym e))
+          let nx = meets (var p) (app (symbolOf (w (q - N))) (args (denote N w) w (suc (q - N)) (arityOf (w (q - N))))) (denote-variable N w p l) e in
+          let m′ = rw e at m in (rw m′ at nx)
+          ∙ ap (λ (t : Term). unifies variables (bind p t (h .β)) (h .es)) (sym e))
           (low-or-high q N)
 
       right-next : N ≤ p → q < N → mem q (res (h .β) (denote N w p)) ≡ false → unifies variables (h .β) (eqn (denote N w x) (denote N w y) ∷ (h .es)) ≡ unifies variables (bind q (denote N w p) (h .β)) (h .es)
@@ -124,23 +129,26 @@ module _ {N : ℕ} where
       -- a binding of v to z is made
       module _ (values′ trail′ : Cells) (tk : (i : ℕ) → i < k → trail′ i ≡ trail i) where
         bound : (v z : ℕ) → trail′ k ≡ v → values′ v ≡ suc z → ((y : ℕ) → y ≢ v → values′ y ≡ values y) → v < variables → values v ≡ 0 → Reference N w variables used z → mem v (res (h .β) (denote N w z)) ≡ false
-          → EqualUnder (bind v (denote N w z) (h .β)) (denote N w x) (denote N w y)
-          → unifies variables (h .β) (eqn (denote N w x) (denote N w y) ∷ (h .es)) ≡ unifies variables (bind v (denote N w z) (h .β)) (h .es) → Resuming N w values′ trail′ links lefts rights taken variables used (suc k) d o
+            → EqualUnder (bind v (denote N w z) (h .β)) (denote N w x) (denote N w y)
+            → unifies variables (h .β) (eqn (denote N w x) (denote N w y) ∷ (h .es)) ≡ unifies variables (bind v (denote N w z) (h .β)) (h .es) → Resuming N w values′ trail′ links lefts rights taken variables used (suc k) d o
         bound v z tv bv bo vn e rz m eq nx = record {
-            β = bind v (denote N w z) (h .β); X = denote N w x; Y = denote N w y; es = h .es;
-            state = record {
-              words = h .state .words;
-              holds = bindings-more (h .state .words) (h .state .holds) values′ trail′ v z vn e rz m bv bo tv tk;
-              stack = stack-bind v (denote N w z) (h .state .stack);
-              below = h .state .below;
-              equalLinks = λ a z l σ s. h .state .equalLinks a z l σ (s .1);
-              linksIn = h .state .linksIn;
-              smaller = λ i j a b σ s. h .state .smaller i j a b σ (s .1);
-              apart = h .state .apart
-            };
-            equal = eq;
-            comes = h .comes ∙ nx
-          }
+          β = bind v (denote N w z) (h .β);
+          X = denote N w x;
+          Y = denote N w y;
+          es = h .es;
+          state = record {
+            words = h .state .words;
+            holds = bindings-more (h .state .words) (h .state .holds) values′ trail′ v z vn e rz m bv bo tv tk;
+            stack = stack-bind v (denote N w z) (h .state .stack);
+            below = h .state .below;
+            equalLinks = λ a z l σ s. h .state .equalLinks a z l σ (s .1);
+            linksIn = h .state .linksIn;
+            smaller = λ i j a b σ s. h .state .smaller i j a b σ (s .1);
+            apart = h .state .apart;
+          };
+          equal = eq;
+          comes = h .comes ∙ nx;
+        }
 
         pub bind-first : trail′ k ≡ p → values′ p ≡ suc q → ((y : ℕ) → y ≢ p → values′ y ≡ values y) → p < N → p ≢ q → mem p (res (h .β) (denote N w q)) ≡ false → Resuming N w values′ trail′ links lefts rights taken variables used (suc k) d o
         bind-first tv bv bo l n m = bound p q tv bv bo (rp .variable l) (walks-end (h .state .words) (h .state .holds) vx l) rq m
@@ -166,27 +174,32 @@ module _ {N : ℕ} where
           (rw t at nx) ∙ ap₂ (λ (a b : Terms). unifies variables (h .β) (eqns a b ∷ (h .es))) (sym (arguments-zero p)) (sym (arguments-zero q))
 
       pub open-pair : (lefts′ rights′ taken′ : Cells) → ((j : ℕ) → j < d → lefts′ j ≡ lefts j) → ((j : ℕ) → j < d → rights′ j ≡ rights j) → ((j : ℕ) → j < d → taken′ j ≡ taken j)
-        → lefts′ d ≡ p → rights′ d ≡ q → taken′ d ≡ 0 → N ≤ p → N ≤ q → w (p - N) ≡ w (q - N) → ((P : ℕ) → LeadsTo links p P → LeadsTo links q P → ⊥)
-        → Resuming N w values trail links lefts′ rights′ taken′ variables used k (suc d) o
+          → lefts′ d ≡ p → rights′ d ≡ q → taken′ d ≡ 0 → N ≤ p → N ≤ q → w (p - N) ≡ w (q - N) → ((P : ℕ) → LeadsTo links p P → LeadsTo links q P → ⊥)
+          → Resuming N w values trail links lefts′ rights′ taken′ variables used k (suc d) o
       open-pair lefts′ rights′ taken′ ka kb ki ea eb ei lp lq e ap′ = record {
-          β = h .β; X = denote N w p; Y = denote N w p; es = eqns (argumentsFrom N w p 0) (argumentsFrom N w q 0) ∷ (h .es);
-          state = record {
-            words = h .state .words; holds = h .state .holds;
-            stack = pair p q 0 ea eb ei (record { leftIn = rp; rightIn = rq; leftNode = lp; rightNode = lq; alike = e; within = omega arith })
+        β = h .β;
+        X = denote N w p;
+        Y = denote N w p;
+        es = eqns (argumentsFrom N w p 0) (argumentsFrom N w q 0) ∷ (h .es);
+        state = record {
+          words = h .state .words;
+          holds = h .state .holds;
+          stack = pair p q 0 ea eb ei (record { leftIn = rp; rightIn = rq; leftNode = lp; rightNode = lq; alike = e; within = omega arith })
               (λ σ s e j l. absurd (not-suc-le-zero l)) (stack-equal ex ey (stack-same ka kb ki (h .state .stack)));
-            below = (below-argumentsFrom p rp lp, below-argumentsFrom q rq lq, h .state .below);
-            equalLinks = h .state .equalLinks; linksIn = h .state .linksIn;
-            smaller = λ i j a b σ s. by-order j d
+          below = (below-argumentsFrom p rp lp, below-argumentsFrom q rq lq, h .state .below);
+          equalLinks = h .state .equalLinks;
+          linksIn = h .state .linksIn;
+          smaller = λ i j a b σ s. by-order j d
               (λ jd. let z = h .state .smaller i j a jd σ s in let ei = ka i (omega arith) in let ej = ka j jd in rw (ei, ej) z)
               (λ jd. let jj : j ≡ d = omega arith in let z = h .smallest i (omega arith) σ s in let ei = ka i (omega arith) in let ej : lefts′ j ≡ p = ap lefts′ jj ∙ ea in
-                rw (ei, ej, ← ex σ s) z);
-            apart = λ j l P a b. by-order j d
+              rw (ei, ej, ← ex σ s) z);
+          apart = λ j l P a b. by-order j d
               (λ jd. h .state .apart j jd P (subst (λ (z : ℕ). LeadsTo links z P) (ka j jd) a) (subst (λ (z : ℕ). LeadsTo links z P) (kb j jd) b))
-              (λ jd. let jj : j ≡ d = omega arith in ap′ P (subst (λ (z : ℕ). LeadsTo links z P) (ap lefts′ jj ∙ ea) a) (subst (λ (z : ℕ). LeadsTo links z P) (ap rights′ jj ∙ eb) b))
-          };
-          equal = λ σ s. refl;
-          comes = h .comes ∙ open-next lp lq e
-        }
+              (λ jd. let jj : j ≡ d = omega arith in ap′ P (subst (λ (z : ℕ). LeadsTo links z P) (ap lefts′ jj ∙ ea) a) (subst (λ (z : ℕ). LeadsTo links z P) (ap rights′ jj ∙ eb) b));
+        };
+        equal = λ σ s. refl;
+        comes = h .comes ∙ open-next lp lq e;
+      }
 
       -- where the outcome is failure
       pub occurs-in-second : p < N → N ≤ q → mem p (res (h .β) (denote N w q)) ≡ true → o ≡ fails

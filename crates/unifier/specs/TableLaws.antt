@@ -63,12 +63,12 @@ module _ (t : Rows) (n key value : ℕ) (ln : n < length t) (lk : key < length t
   pub entered-changed : Changed t (entered t n key value) n key value
   unfolding entered
   entered-changed = record {
-      long = length-set (valued t key value) n _ ∙ length-set t key _;
-      at = listed-values (valued t key value) n key within key ∙ valued-at t key value lk;
-      off = λ y p. listed-values (valued t key value) n key within y ∙ valued-off t key value lk y p;
-      list = listed-at (valued t key value) n key within;
-      others = λ i p. listed-off (valued t key value) n key within i p ∙ valued-list t key value lk i
-    }
+    long = length-set (valued t key value) n _ ∙ length-set t key _;
+    at = listed-values (valued t key value) n key within key ∙ valued-at t key value lk;
+    off = λ y p. listed-values (valued t key value) n key within y ∙ valued-off t key value lk y p;
+    list = listed-at (valued t key value) n key within;
+    others = λ i p. listed-off (valued t key value) n key within i p ∙ valued-list t key value lk i;
+  }
 
 -- What is changed by taking an entry back.
 pub record Dropped (t t′ : Rows) (n : ℕ) : Type 0 where
@@ -89,7 +89,7 @@ removed-dropped t n ln lk =
       at = listed-values (valued t (column 1 t n) 0) n 0 l (column 1 t n) ∙ valued-at t (column 1 t n) 0 lk;
       off = λ y p. listed-values (valued t (column 1 t n) 0) n 0 l y ∙ valued-off t (column 1 t n) 0 lk y p;
       list = listed-at (valued t (column 1 t n) 0) n 0 l;
-      others = λ i p. listed-off (valued t (column 1 t n) 0) n 0 l i p ∙ valued-list t (column 1 t n) 0 lk i
+      others = λ i p. listed-off (valued t (column 1 t n) 0) n 0 l i p ∙ valued-list t (column 1 t n) 0 lk i;
     }
 
 -- An entry of what was empty, taken back, gives the very same rows.
@@ -126,11 +126,11 @@ module _ (t : Rows) (n key value : ℕ) (ln : n < length t) (lk : key < length t
   unfolding entered
   each j = by-same j n
       (λ p _. ap (λ (i : ℕ). getD (listed d n 0) i []) p ∙ getD-set-same d n _ [] (let q = ld in omega arith)
-        ∙ ap₂ (λ (x y : ℕ). x ∷ y ∷ []) col-n (sym zn) ∙ sym whole-n ∙ ap (λ (i : ℕ). getD t i []) (sym p))
+      ∙ ap₂ (λ (x y : ℕ). x ∷ y ∷ []) col-n (sym zn) ∙ sym whole-n ∙ ap (λ (i : ℕ). getD t i []) (sym p))
       (λ p _. getD-set-other d n j _ [] p ∙ by-same j key
-        (λ q _. ap (λ (i : ℕ). getD d i []) q ∙ getD-set-same (entered t n key value) key _ [] (let z = le in omega arith)
-          ∙ ap₂ (λ (x y : ℕ). x ∷ y ∷ []) (sym zk) (ch .others key (λ z. p (q ∙ z))) ∙ sym (two (getD t key []) wk) ∙ ap (λ (i : ℕ). getD t i []) (sym q))
-        (λ q _. getD-set-other (entered t n key value) key j _ [] q ∙ getD-set-other (valued t key value) n j _ [] p ∙ getD-set-other t key j _ [] q))
+      (λ q _. ap (λ (i : ℕ). getD d i []) q ∙ getD-set-same (entered t n key value) key _ [] (let z = le in omega arith)
+      ∙ ap₂ (λ (x y : ℕ). x ∷ y ∷ []) (sym zk) (ch .others key (λ z. p (q ∙ z))) ∙ sym (two (getD t key []) wk) ∙ ap (λ (i : ℕ). getD t i []) (sym q))
+      (λ q _. getD-set-other (entered t n key value) key j _ [] q ∙ getD-set-other (valued t key value) n j _ [] p ∙ getD-set-other t key j _ [] q))
 
   pub restored : removed (entered t n key value) n ≡ t
   unfolding removed
@@ -144,7 +144,7 @@ entered-is t t₁ t₂ n key value ln lk p q =
     let e : t₂ ≡ entered t n key value = q .is ∙ ap (λ (s : Rows). listed s n key) (p .is) in
     record {
       is = e;
-      back = λ zk zn. ap (λ (s : Rows). removed s n) e ∙ restored t n key value ln lk (p .wide) (ap (λ (s : Rows). length (getD s n [])) (sym (p .is)) ∙ q .wide) zk zn
+      back = λ zk zn. ap (λ (s : Rows). removed s n) e ∙ restored t n key value ln lk (p .wide) (ap (λ (s : Rows). length (getD s n [])) (sym (p .is)) ∙ q .wide) zk zn;
     }
 
 pub removed-is : (t t₁ t₂ : Rows) (n key : ℕ) → key ≡ column 1 t n → t₁ ≡ valued t key 0 → t₂ ≡ listed t₁ n 0 → t₂ ≡ removed t n
@@ -185,7 +185,7 @@ undo-step {t₀} {n₀} {mark} {t} {n} h l =
       long = d .long ∙ h .long;
       within = omega arith;
       keys = λ i p q. let x = d .others i (λ e. omega arith) in let y = h .keys i p (omega arith) in omega arith;
-      is = sym z ∙ ap (λ (j : ℕ). undone t mark (j - mark)) q ∙ h .is
+      is = sym z ∙ ap (λ (j : ℕ). undone t mark (j - mark)) q ∙ h .is;
     }
 
 pub undo-end : {t₀ : Rows} {n₀ mark : ℕ} {t : Rows} {n : ℕ} → Undoing t₀ n₀ mark t n → n ≤ mark → t ≡ undone t₀ mark (n₀ - mark)

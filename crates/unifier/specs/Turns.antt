@@ -48,19 +48,25 @@ module _ {N : ℕ} where
 
   -- the start
   pub first-state : {w values trail links lefts rights taken : Cells} {variables used k x y : ℕ} {β : Bindings} → WellFormed N w variables used → Holds N w values trail variables used k β → ((a : ℕ) → links a ≡ 0) → Reference N w variables used x → Reference N w variables used y
-    → Pending N w values trail links lefts rights taken variables used k 0 x y (unifies variables (bindings N w values trail k) (eqn (denote N w x) (denote N w y) ∷ []))
+      → Pending N w values trail links lefts rights taken variables used k 0 x y (unifies variables (bindings N w values trail k) (eqn (denote N w x) (denote N w y) ∷ []))
   first-state {w} {values} {trail} {links} {variables = variables} {k = k} {x = x} {y = y} {β = β} wf h z rx ry = record {
-      β = β; es = [];
-      state = record {
-        words = wf; holds = h; stack = bottom; below = tt;
-        equalLinks = λ a b e. let c : ⊥ = let e₀ = z a in omega arith in absurd c;
-        linksIn = λ a b e. let c : ⊥ = let e₀ = z a in omega arith in absurd c;
-        smaller = λ j m a b. absurd (not-suc-le-zero b);
-        apart = λ j l. absurd (not-suc-le-zero l)
-      };
-      leftIn = rx; rightIn = ry; smallest = λ j l. absurd (not-suc-le-zero l);
-      comes = ap (λ (γ : Bindings). unifies variables γ (eqn (denote N w x) (denote N w y) ∷ [])) (sym (h .is))
-    }
+    β = β;
+    es = [];
+    state = record {
+      words = wf;
+      holds = h;
+      stack = bottom;
+      below = tt;
+      equalLinks = λ a b e. let c : ⊥ = let e₀ = z a in omega arith in absurd c;
+      linksIn = λ a b e. let c : ⊥ = let e₀ = z a in omega arith in absurd c;
+      smaller = λ j m a b. absurd (not-suc-le-zero b);
+      apart = λ j l. absurd (not-suc-le-zero l);
+    };
+    leftIn = rx;
+    rightIn = ry;
+    smallest = λ j l. absurd (not-suc-le-zero l);
+    comes = ap (λ (γ : Bindings). unifies variables γ (eqn (denote N w x) (denote N w y) ∷ [])) (sym (h .is));
+  }
 
   module _ {w values trail links lefts rights taken : Cells} {variables used k d : ℕ} {o : Outcome} (h : Resuming N w values trail links lefts rights taken variables used k (suc d) o) where
     tp : Topmost N w lefts rights taken (h .β) variables used d (h .X) (h .Y) (h .es) (lefts d) (rights d) (taken d)
@@ -71,32 +77,37 @@ module _ {N : ℕ} where
 
     -- the next pair of arguments
     pub next-arguments : (taken′ : Cells) → ((j : ℕ) → j < d → taken′ j ≡ taken j) → taken′ d ≡ suc (taken d) → taken d < arityOf (w (lefts d - N))
-      → Pending N w values trail links lefts rights taken′ variables used k (suc d) (w (suc (lefts d - N) + taken d)) (w (suc (rights d - N) + taken d)) o
+        → Pending N w values trail links lefts rights taken′ variables used k (suc d) (w (suc (lefts d - N) + taken d)) (w (suc (rights d - N) + taken d)) o
     next-arguments taken′ ki ei l =
         let l′ : taken d < arityOf (w (rights d - N)) = subst (λ (z : ℕ). taken d < arityOf z) (tp .pair .alike) l in
         let ca = arguments-cons N w (lefts d) (taken d) l in
         let cb = arguments-cons N w (rights d) (taken d) l′ in
         let b₀ : BelowE variables (eqns (cons (argumentAt N w (lefts d) (taken d)) (argumentsFrom N w (lefts d) (suc (taken d)))) (cons (argumentAt N w (rights d) (taken d)) (argumentsFrom N w (rights d) (suc (taken d)))) ∷ (tp .es′)) =
-          (subst (λ (t : Terms). Below variables t) ca (bes .0), subst (λ (t : Terms). Below variables t) cb (bes .1), bes .2) in
+        (subst (λ (t : Terms). Below variables t) ca (bes .0), subst (λ (t : Terms). Below variables t) cb (bes .1), bes .2) in
         record {
-          β = h .β; es = eqns (argumentsFrom N w (lefts d) (suc (taken d))) (argumentsFrom N w (rights d) (suc (taken d))) ∷ (tp .es′);
+          β = h .β;
+          es = eqns (argumentsFrom N w (lefts d) (suc (taken d))) (argumentsFrom N w (rights d) (suc (taken d))) ∷ (tp .es′);
           state = record {
-            words = h .state .words; holds = h .state .holds;
+            words = h .state .words;
+            holds = h .state .holds;
             stack = pair (lefts d) (rights d) (suc (taken d)) refl refl ei
-              (record { leftIn = tp .pair .leftIn; rightIn = tp .pair .rightIn; leftNode = tp .pair .leftNode; rightNode = tp .pair .rightNode; alike = tp .pair .alike; within = l })
-              (λ σ s e j (jl : j < suc (taken d)). by-order j (taken d) (λ b. tp .done σ s (h .equal σ s) j b) (λ b. let q : j ≡ taken d = omega arith in rw q e))
-              (stack-same (λ j l. refl) (λ j l. refl) ki (tp .up));
+                (record { leftIn = tp .pair .leftIn; rightIn = tp .pair .rightIn; leftNode = tp .pair .leftNode; rightNode = tp .pair .rightNode; alike = tp .pair .alike; within = l })
+                (λ σ s e j (jl : j < suc (taken d)). by-order j (taken d) (λ b. tp .done σ s (h .equal σ s) j b) (λ b. let q : j ≡ taken d = omega arith in rw q e))
+                (stack-same (λ j l. refl) (λ j l. refl) ki (tp .up));
             below = (b₀ .0 .1, b₀ .1 .1, b₀ .2);
-            equalLinks = h .state .equalLinks; linksIn = h .state .linksIn; smaller = h .state .smaller; apart = h .state .apart
+            equalLinks = h .state .equalLinks;
+            linksIn = h .state .linksIn;
+            smaller = h .state .smaller;
+            apart = h .state .apart;
           };
           leftIn = reference-argument N w variables used (h .state .words) (lefts d) (taken d) (tp .pair .leftIn) (tp .pair .leftNode) l;
           rightIn = reference-argument N w variables used (h .state .words) (rights d) (taken d) (tp .pair .rightIn) (tp .pair .rightNode) l′;
           smallest = λ j jl σ s. let z = argument-less (h .state .words) (lefts d) (taken d) (tp .pair .leftIn) (tp .pair .leftNode) l σ in
-            by-order j d (λ jd. let y = h .state .smaller j d jd (omega arith) σ s in omega arith) (λ jd. let jj : j ≡ d = omega arith in rw jj z);
+              by-order j d (λ jd. let y = h .state .smaller j d jd (omega arith) σ s in omega arith) (λ jd. let jj : j ≡ d = omega arith in rw jj z);
           comes = h .comes ∙ ap (unifies variables (h .β)) (tp .is)
-            ∙ ap₂ (λ (a b : Terms). unifies variables (h .β) (eqns a b ∷ (tp .es′))) ca cb
-            ∙ unify-next variables (h .β) (eqns (cons (argumentAt N w (lefts d) (taken d)) (argumentsFrom N w (lefts d) (suc (taken d)))) (cons (argumentAt N w (rights d) (taken d)) (argumentsFrom N w (rights d) (suc (taken d))))) (tp .es′)
-                (h .state .holds .acyclic) (h .state .holds .below) b₀
+              ∙ ap₂ (λ (a b : Terms). unifies variables (h .β) (eqns a b ∷ (tp .es′))) ca cb
+              ∙ unify-next variables (h .β) (eqns (cons (argumentAt N w (lefts d) (taken d)) (argumentsFrom N w (lefts d) (suc (taken d)))) (cons (argumentAt N w (rights d) (taken d)) (argumentsFrom N w (rights d) (suc (taken d))))) (tp .es′)
+              (h .state .holds .acyclic) (h .state .holds .below) b₀;
         }
 
     module _ (l : arityOf (w (lefts d - N)) ≤ taken d) where
@@ -127,8 +138,10 @@ module _ {N : ℕ} where
         after {a} (stay e) = by-same a F (λ p _. absurd (let z : links′ a ≡ suc T = ap links′ p ∙ new in omega arith)) (λ p _. inl (stay (sym (old a p) ∙ e)))
         after {a} {R} (go {x = x} e m) = by-same a F
             (λ p _. let z : suc T ≡ suc x = sym new ∙ ap links′ (sym p) ∙ e in let z′ : x ≡ T = omega arith in
-              inr (subst (λ (b : ℕ). LeadsTo links b F) (sym p) (stay zF),
-                atT (subst (λ (b : ℕ). LeadsTo links′ b R) z′ m)))
+            inr (
+              subst (λ (b : ℕ). LeadsTo links b F) (sym p) (stay zF),
+              atT (subst (λ (b : ℕ). LeadsTo links′ b R) z′ m),
+            ))
             (λ p _. ⊎-elim (λ m′. inl (go (sym (old a p) ∙ e) m′)) (λ m′. inr (go (sym (old a p) ∙ e) (m′ .0), m′ .1)) (after m))
           where
             atT : {R : ℕ} → LeadsTo links′ T R → R ≡ T
@@ -143,21 +156,27 @@ module _ {N : ℕ} where
 
         pub close-pair : Resuming N w values trail links′ lefts rights taken variables used k d o
         close-pair = record {
-            β = h .β; X = denote N w (lefts d); Y = denote N w (rights d); es = tp .es′;
-            state = record {
-              words = h .state .words; holds = h .state .holds; stack = tp .up; below = bes .2;
-              equalLinks = λ a z e. by-same a F
+          β = h .β;
+          X = denote N w (lefts d);
+          Y = denote N w (rights d);
+          es = tp .es′;
+          state = record {
+            words = h .state .words;
+            holds = h .state .holds;
+            stack = tp .up;
+            below = bes .2;
+            equalLinks = λ a z e. by-same a F
                 (λ p _. let z₁ : suc T ≡ suc z = sym new ∙ ap links′ (sym p) ∙ e in let z₂ : T ≡ z = omega arith in
-                  λ σ s. ap (λ (r : ℕ). sub σ (denote N w r)) p ∙ sym (eF σ s) ∙ eT σ s ∙ ap (λ (r : ℕ). sub σ (denote N w r)) z₂)
+                λ σ s. ap (λ (r : ℕ). sub σ (denote N w r)) p ∙ sym (eF σ s) ∙ eT σ s ∙ ap (λ (r : ℕ). sub σ (denote N w r)) z₂)
                 (λ p _. h .state .equalLinks a z (sym (old a p) ∙ e));
-              linksIn = λ a z e. by-same a F
+            linksIn = λ a z e. by-same a F
                 (λ p _. let z₁ : suc T ≡ suc z = sym new ∙ ap links′ (sym p) ∙ e in let z₂ : T ≡ z = omega arith in subst (Reference N w variables used) z₂ rT)
                 (λ p _. h .state .linksIn a z (sym (old a p) ∙ e));
-              smaller = λ j m a b. h .state .smaller j m a (omega arith);
-              apart = λ j jd R a b. ⊎-elim
+            smaller = λ j m a b. h .state .smaller j m a (omega arith);
+            apart = λ j jd R a b. ⊎-elim
                 (λ a′. ⊎-elim (λ b′. h .state .apart j (omega arith) R a′ b′) (λ b′. notT j jd (subst (λ (z : ℕ). LeadsTo links (lefts j) z) (b′ .1) a′)) (after b))
-                (λ a′. notF j jd (a′ .0)) (after a)
-            };
-            equal = equal;
-            comes = close-next
-          }
+                (λ a′. notF j jd (a′ .0)) (after a);
+          };
+          equal = equal;
+          comes = close-next;
+        }

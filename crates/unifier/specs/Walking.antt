@@ -30,10 +30,11 @@ module _ {N : ℕ} {w : List ℕ} {b : Rows} {variables used k r q : ℕ} (h : W
 
   pub walk-next : q < N → column 0 b q ≢ 0 → Walking N w b variables used k r (column 0 b q - 1)
   walk-next l n = let e = not-zero (column 0 b q) n in record {
-      form = h .form; first = h .first;
-      inForm = h .form .references q (column 0 b q - 1) (h .inForm .variable l) e;
-      on = λ p m. h .on p (bound l e m)
-    }
+    form = h .form;
+    first = h .first;
+    inForm = h .form .references q (column 0 b q - 1) (h .inForm .variable l) e;
+    on = λ p m. h .on p (bound l e m);
+  }
 
   pub walk-less : q < N → column 0 b q ≢ 0 → ahead N w b k (column 0 b q - 1) < ahead N w b k q
   walk-less l n = let e = not-zero (column 0 b q) n in
@@ -41,8 +42,8 @@ module _ {N : ℕ} {w : List ℕ} {b : Rows} {variables used k r q : ℕ} (h : W
 
   pub walk-end : WalksTo N (column 0 b) q q → Walked N w b variables used k r q
   walk-end v = record {
-      is = walks (h .form .words) (form-holds (h .form)) (h .first) (h .on q v);
-      way = h .on q v;
-      inForm = h .inForm;
-      ends = walks-end (h .form .words) (form-holds (h .form)) v
-    }
+    is = walks (h .form .words) (form-holds (h .form)) (h .first) (h .on q v);
+    way = h .on q v;
+    inForm = h .inForm;
+    ends = walks-end (h .form .words) (form-holds (h .form)) v;
+  }

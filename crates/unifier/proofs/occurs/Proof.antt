@@ -73,7 +73,7 @@ returns c =
     let visit = c .before .before .before .before .before .before .before .before .visit in
     record {
       is = sym (occurs-yes (pre .0) (pre .1 .0) (pre .1 .1 .0 .0) (pre .1 .1 .0 .1) (rw (if1 .taken) at ((loop .inv .come) (loop .h) (loop-test .taken))));
-      marks = (undo .ensures) ∙ searched-back (loop .inv) ((visit .ensures .back) ∙ undone-zero _ 0)
+      marks = (undo .ensures) ∙ searched-back (loop .inv) ((visit .ensures .back) ∙ undone-zero _ 0);
     }
 
 visit-edges-requires : tie.Need-visit-edges-requires Inv-loop μ-loop
@@ -81,9 +81,17 @@ visit-edges-requires c κs =
     let pre = c .before .before .before .before .before .before .before .before .before .pre in
     let loop = c .before .before .before .before .loop in
     let loop-test = c .before .before .before .loop-test in
-    let visit = c .before .before .before .before .before .before .visit in
-    ((pre .0), ((loop .inv .queued) (loop .h) (loop-test .taken), ((loop .inv .entries), searched-lent (loop .inv) ((visit .ensures .back)
-        ∙ undone-zero _ 0) (pre .1 .1 .1 .lent))))
+    let visit = c .before .before .before .before .before .before .visit in (
+      (pre .0),
+      (
+        (loop .inv .queued) (loop .h) (loop-test .taken),
+        (
+          (loop .inv .entries),
+          searched-lent (loop .inv) ((visit .ensures .back)
+              ∙ undone-zero _ 0) (pre .1 .1 .1 .lent),
+        ),
+      ),
+    )
 
 add-h : tie.Need-add-h Inv-loop μ-loop
 add-h c =
@@ -131,7 +139,7 @@ returns-2 c =
     let visit = c .before .before .before .before .before .before .visit in
     record {
       is = sym (occurs-no (pre .0) (pre .1 .0) (search-end (args .room) (args .w .now) (args .b .now) _ (args .variables) (args .used) (args .r) (args .x) _ _ _ (loop .inv) (search needs)));
-      marks = (undo2 .ensures) ∙ searched-back (loop .inv) ((visit .ensures .back) ∙ undone-zero _ 0)
+      marks = (undo2 .ensures) ∙ searched-back (loop .inv) ((visit .ensures .back) ∙ undone-zero _ 0);
     }
 
 pub occurs-spec : {M : Type 1} → statement M
