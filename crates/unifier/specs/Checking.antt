@@ -4,23 +4,22 @@ use native.Mathlib.Omega.{arith}
 use native.Mathlib.Nat.{not-suc-le-zero, le-refl}
 use mathlib.Core.Path.{_≡_, refl, sym, ap, subst, _∙_}
 use mathlib.Core.Bool.{Bool, true, false}
-use mathlib.Core.Logic.{_⊎_, inl, inr, ⊎-elim, _≢_}
-use mathlib.Core.Option.{Option, none, some}
-use mathlib.Core.List.{List, [], _∷_}
-use lib.ListN.{getD, length}
-use Rattle.terms.specs.Numbers.{by-bool, by-same, true-false, some-none, none-some, same-refl}
+use mathlib.Core.Logic.{_⊎_, ⊎-elim, _≢_}
+use mathlib.Core.Option.{none, some}
+use mathlib.Core.List.{List}
+use lib.ListN.{length}
+use Rattle.terms.specs.Numbers.{by-bool, by-same, true-false, some-none}
 use Rattle.terms.specs.Bindings.{lookup}
-use Rattle.arena.specs.Cells.{Cells, headers, denote, Reference, WellFormed}
+use Rattle.arena.specs.Cells.{headers, denote, Reference, WellFormed}
 use Rattle.unifier.specs.Tables.{Rows, column, Empty, undone}
-use Rattle.unifier.specs.Stored.{cells, lookupAt, bindings, held, Form, Sound}
+use Rattle.unifier.specs.Stored.{cells, lookupAt, held, Form, Sound}
 use Rattle.unifier.specs.Contracts.{Entered, Undoable, Free, Tells, Trailed, BindingsChecked}
 use Rattle.unifier.specs.Orders.{by-order, same-or-not, not-zero}
-use Rattle.unifier.specs.TableLaws.{Changed, column-past}
 use Rattle.unifier.specs.Entries.{Entries, entries-none, entries-room, entries-more, entries-undoable, enter-changed, enter-back}
 use Rattle.unifier.specs.Search.{undone-zero}
-use Rattle.unifier.specs.Holding.{form-holds, bindings-has, bindings-low, bindings-one, trail-in}
+use Rattle.unifier.specs.Holding.{form-holds, bindings-low, bindings-one, trail-in}
 use Rattle.unifier.specs.Descent.{Ends, all-end}
-use Rattle.unifier.specs.Descending.{Descended, Replaceable, Wiped, wiped-back}
+use Rattle.unifier.specs.Descending.{Descended, Wiped, wiped-back}
 use Rattle.unifier.specs.Cycles.{bindings-none, acyclic-made, below-made, acyclic-ends}
 
 pub tells-no : {P : Type 0} → (P → ⊥) → Tells false P

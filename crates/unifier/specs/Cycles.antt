@@ -3,17 +3,17 @@ use Prim.Native.Nat.{ℕ, zero, suc, _+_, _-_, _≤_, _<_}
 use native.Mathlib.Omega.{arith}
 use native.Mathlib.Nat.{not-suc-le-zero, le-refl}
 use mathlib.Core.Path.{_≡_, refl, sym, ap, subst, _∙_}
-use mathlib.Core.Bool.{Bool, true, false}
-use mathlib.Core.Logic.{_⊎_, inl, inr, ⊎-elim, _≢_}
+use mathlib.Core.Bool.{true}
+use mathlib.Core.Logic.{_⊎_, ⊎-elim, _≢_}
 use mathlib.Core.Option.{none}
 use Rattle.terms.specs.Numbers.{by-bool, by-same, same-ne}
-use Rattle.terms.specs.Term.{var, app, Term, mem, size, sub, upd, Below}
+use Rattle.terms.specs.Term.{var, Term, mem, size, upd}
 use Rattle.terms.specs.TermLaws.{mem-through, mem-var, sub-var, size-pos, below-mem}
 use Rattle.terms.specs.Bindings.{Bindings, lookup, full, res, occurs, Acyclic, BelowB}
 use Rattle.terms.specs.Loops.{walkLength}
 use Rattle.arena.specs.Cells.{Cells, arityOf, args, denote, Reference, WellFormed, denote-node, denote-variable, reference-argument, reference-below, below-denote}
 use Rattle.unifier.specs.Stored.{bindings, Edge, into, argument, Reaches, here, step}
-use Rattle.unifier.specs.Orders.{by-order, low-or-high, not-zero}
+use Rattle.unifier.specs.Orders.{low-or-high, not-zero}
 use Rattle.unifier.specs.Holding.{Holds, walk-falls}
 use Rattle.unifier.specs.Occurrence.{args-mem, res-bound}
 use Rattle.unifier.specs.Pairs.{argument-less}

@@ -9,14 +9,14 @@ use mathlib.Core.List.{List, [], _∷_}
 use lib.ListN.{getD, length, set, length-set}
 use lib.Seq.{getD-set-same, getD-set-other, ext-getD}
 use Rattle.terms.specs.Numbers.{by-same, true-false}
-use Rattle.arena.specs.Cells.{Cells, headers, arityOf, Reference, reference-argument}
+use Rattle.arena.specs.Cells.{Cells, Reference, reference-argument}
 use Rattle.unifier.specs.Tables.{Rows, column, Empty, valued}
 use Rattle.unifier.specs.Stored.{cells, Sound, Edge, into, argument}
 use Rattle.unifier.specs.Contracts.{Free}
 use Rattle.unifier.specs.Orders.{by-order, not-zero}
 use Rattle.unifier.specs.TableLaws.{column-same, column-other, two, valued-at, valued-off, valued-list}
 use Rattle.unifier.specs.Search.{reference-low}
-use Rattle.unifier.specs.Descent.{Ends, Descent, EdgeAt, Nth, nth-edge, on-none, way-top, descent-skip, descent-enter, descent-cycle, descent-take, descent-close, descent-root, descent-start, descent-from, all-end, edge-bound, edge-past, edge-each, edge-full}
+use Rattle.unifier.specs.Descent.{Ends, Descent, EdgeAt, nth-edge, on-none, way-top, descent-skip, descent-enter, descent-cycle, descent-take, descent-close, descent-root, descent-start, descent-from}
 
 -- Rows below the limit may have been replaced; each was a row of two numbers that were 0.
 pub record Replaceable (limit : ℕ) (m₀ m : Rows) : Type 0 where

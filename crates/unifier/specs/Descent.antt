@@ -4,11 +4,10 @@ use Prim.Native.Nat.{ℕ, zero, suc, _+_, _-_, _≤_, _<_}
 use native.Mathlib.Omega.{arith}
 use mathlib.Core.Path.{_≡_, refl, sym, ap, subst, _∙_}
 use mathlib.Core.Logic.{_⊎_, inl, inr, ⊎-elim, _≢_}
-use mathlib.Core.List.{List}
 use Rattle.terms.specs.Numbers.{by-same}
 use Rattle.arena.specs.Cells.{Cells, arityOf, Reference, WellFormed, reference-argument, reference-below}
 use Rattle.unifier.specs.Stored.{Edge, into, argument, Reaches, here, step}
-use Rattle.unifier.specs.Orders.{by-order, low-or-high, same-or-not}
+use Rattle.unifier.specs.Orders.{by-order, low-or-high}
 
 -- All that r reaches ends: there is no way without end down from it.
 pub data Ends (N : ℕ) (w values : Cells) : ℕ → Type 0 where

@@ -1,20 +1,19 @@
 -- The bindings that storage holds: where its values lead is where the theory's `walk` leads, an entry more is a binding more, and the trail is no
 -- longer than there are variables.
-use Prim.Native.Nat.{ℕ, zero, suc, _+_, _-_, _*_, _≤_, _<_}
+use Prim.Native.Nat.{ℕ, zero, suc, _-_, _≤_, _<_}
 use native.Mathlib.Omega.{arith}
-use native.Mathlib.Nat.{not-suc-le-zero, le-refl}
+use native.Mathlib.Nat.{not-suc-le-zero}
 use mathlib.Core.Path.{_≡_, refl, sym, ap, ap₂, _∙_, subst}
-use mathlib.Core.Bool.{Bool, true, false, cond, _||_}
-use mathlib.Core.Logic.{_⊎_, inl, inr, ⊎-elim, _≢_}
-use mathlib.Core.Option.{Option, none, some}
-use mathlib.Core.List.{List, [], _∷_}
+use mathlib.Core.Bool.{false}
+use mathlib.Core.Logic.{_⊎_, ⊎-elim, _≢_}
+use mathlib.Core.Option.{none}
+use mathlib.Core.List.{List}
 use Rattle.terms.specs.Numbers.{by-same, some-none}
-use Rattle.terms.specs.Term.{Term, mem}
-use Rattle.terms.specs.Bindings.{Bindings, start, bind, lookup, walk, res, Acyclic, BelowB}
+use Rattle.terms.specs.Term.{mem}
+use Rattle.terms.specs.Bindings.{Bindings, bind, lookup, walk, res, Acyclic, BelowB}
 use Rattle.terms.specs.BindingLaws.{walk-app, walk-unbound, walk-bound}
 use Rattle.terms.specs.Loops.{walkLength, walkLength-bound}
 use Rattle.arena.specs.Cells.{Cells, denote, Reference, WellFormed, denote-node, denote-variable, below-denote}
-use lib.ListN.{length}
 use Rattle.unifier.specs.Orders.{by-order, low-or-high, pigeonhole}
 use Rattle.unifier.specs.Tables.{Rows, column}
 use Rattle.unifier.specs.Contracts.{Undoable}

@@ -22,3 +22,5 @@ pub mod Descent
 pub mod Descending
 pub mod Cycles
 pub mod Checking
+-- What callers need of it:
+pub mod Growth

@@ -1,6 +1,5 @@
 -- `check_bindings` meets its contract: its parts hold together exactly where the rows are in form.
 use mathlib.Core.Path.{refl, sym, subst}
-use Rattle.unifier.specs.Tables.{Rows}
 use Rattle.unifier.specs.Contracts.{Free}
 use Rattle.unifier.specs.Checking.{checked-no, checked-last, trailed-sound, tells-false, form-trailed, form-few}
 use native.Mathlib.Omega.{arith}

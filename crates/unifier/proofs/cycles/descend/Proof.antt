@@ -1,7 +1,7 @@
 -- `descend` meets its contract. The loop's invariant: what is on the way is open, what is done ends, and every variable passed was entered or is to be
 -- entered. What falls: the edges not taken, whether a place is to be entered, and the variables left.
 use Prim.Native.Nat.{ℕ, _+_, _-_}
-use mathlib.Core.Path.{_≡_, refl, ap}
+use mathlib.Core.Path.{refl, ap}
 use Rattle.unifier.specs.Tables.{column}
 use Rattle.unifier.specs.Orders.{not-zero}
 use Rattle.unifier.specs.Search.{reference-low}

@@ -1,6 +1,6 @@
 -- `edge_at` meets its contract: each way out is one case of an edge.
-use Prim.Native.Nat.{ℕ, suc, _+_, _-_, _≤_}
-use mathlib.Core.Path.{_≡_, refl, sym, ap, subst, _∙_}
+use Prim.Native.Nat.{suc, _+_, _-_}
+use mathlib.Core.Path.{_≡_, refl, subst}
 use Rattle.unifier.specs.Tables.{column}
 use Rattle.unifier.specs.Stored.{cells, argument as leads-to}
 use Rattle.unifier.specs.Search.{reference-low}

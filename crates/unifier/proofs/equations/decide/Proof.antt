@@ -1,5 +1,4 @@
 -- `decide` meets its contract: each way out is one case of it.
-use Prim.Native.Nat.{_≤_}
 use mathlib.Core.Path.{refl, sym, _∙_}
 use Rattle.unifier.specs.Contracts.{ofFirst, ofSecond, inFirst, inSecond, heads}
 use Rattle.unifier.specs.Deciding.{ways, alike-met, alike-linked, opened, header-in, root-in}

@@ -1,6 +1,6 @@
 -- `equate` meets its contract. The loop's invariant: what is left to be made equal, under the bindings held, comes to what the whole comes to; links
 -- join equal terms; bindings, links and open pairs were only added. What falls: links still possible, room on the stack, arguments left, the stage.
-use mathlib.Core.Path.{_≡_, subst}
+use mathlib.Core.Path.{subst}
 use Rattle.unifier.specs.Tables.{column}
 use Rattle.unifier.specs.Contracts.{Says}
 use Rattle.unifier.specs.declared.Decision.{Decision}

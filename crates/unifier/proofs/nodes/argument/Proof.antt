@@ -1,5 +1,5 @@
 -- `argument` meets its contract: past the end of the words everything is 0.
-use Prim.Native.Nat.{ℕ, suc, _+_, _-_}
+use Prim.Native.Nat.{suc, _+_, _-_}
 use mathlib.Core.Path.{_≡_, sym, ap}
 use lib.ListN.{List·getD-eq-default}
 use Rattle.unifier.specs.Stored.{cells}

@@ -1,6 +1,6 @@
 -- `check_rest` meets its contract. The loop's invariant: the positions passed are 0.
 use Prim.Native.Nat.{ℕ, _-_, _≤_, _<_}
-use mathlib.Core.Path.{_≡_, ap, sym, _∙_}
+use mathlib.Core.Path.{_≡_, ap, _∙_}
 use lib.ListN.{length}
 use Rattle.unifier.specs.Orders.{by-order}
 use Rattle.unifier.specs.Tables.{column}
