@@ -61,7 +61,7 @@ pub struct Ended {
     pub bound: u32,
 }
 
-// Where the bindings lead from r.
+// Where the bindings lead from r; only `b` and `room` are read, the rest serves the contract.
 pub fn walk(w: &[u32], b: &[[u32; 2]], room: u32, variables: u32, used: u32, k: u32, r: u32) -> u32
     requires { ⌜ Form room (now w) (now b) variables used k ⌝ ∗ ⌜ Reference room (cells (now w)) variables used r ⌝ }
     ensures { λ q. ⌜ Walked room (now (w .entry)) (now (b .entry)) variables used k r q ⌝ }
