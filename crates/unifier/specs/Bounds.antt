@@ -2,26 +2,19 @@
 -- has room, since the left terms on it strictly shrink.
 use Prim.Native.Nat.{ℕ, zero, suc, _+_, _-_, _*_, _≤_, _<_}
 use native.Mathlib.Omega.{arith}
-use native.Mathlib.Nat.{not-suc-le-zero, le-refl}
-use mathlib.Core.Path.{_≡_, refl, sym, ap, ap₂, _∙_, subst}
-use mathlib.Core.Bool.{Bool, true, false, cond, _||_}
-use mathlib.Core.Logic.{_⊎_, inl, inr, ⊎-elim, _≢_}
-use mathlib.Core.Option.{Option, none, some}
-use mathlib.Core.List.{List, [], _∷_}
-use Rattle.terms.specs.Numbers.{same, by-bool, by-same, same-refl, same-ne, true-false}
-use Rattle.terms.specs.Term.{Kind, Syn, var, app, nil, cons, Term, Terms, Subst, sub, mem, size, Below}
-use Rattle.terms.specs.Bindings.{Bindings, bind, full, res, walk, Acyclic, Solves}
-use Rattle.terms.specs.Unification.{Eqn, eqn, eqns, meet, Outcome, unfinished, fails, unified, unifies, BelowE}
-use Rattle.terms.specs.TermLaws.{app-inj}
-use Rattle.terms.specs.BindingLaws.{full-solves, res-walk, solves-res, solves-walk, unbound-le}
-use Rattle.terms.specs.UnificationLaws.{Answers, Over, unifies-ok, unifies-over}
-use Rattle.terms.specs.Loops.{Next, unify-next}
-use Rattle.terms.specs.Skips.{skips}
-use Rattle.arena.specs.Cells.{Cells, headers, symbolOf, arityOf, args, denote, Reference, WellFormed, denote-node, denote-variable, reference-argument, below-denote}
-use Rattle.unifier.specs.Orders.{by-order, low-or-high, pigeonhole}
-use Rattle.unifier.specs.Stored.{bindings, WalksTo, LeadsTo, stay, go}
+use native.Mathlib.Nat.{not-suc-le-zero}
+use mathlib.Core.Path.{_≡_, refl, sym, ap, ap₂, _∙_}
+use mathlib.Core.Bool.{Bool, true, false}
+use mathlib.Core.Logic.{_≢_}
+use mathlib.Core.List.{List}
+use Rattle.terms.specs.Term.{Term, sub, size}
+use Rattle.terms.specs.Bindings.{Bindings, full}
+use Rattle.terms.specs.Unification.{Eqn}
+use Rattle.terms.specs.BindingLaws.{full-solves}
+use Rattle.arena.specs.Cells.{Cells, denote}
+use Rattle.unifier.specs.Orders.{by-order, pigeonhole}
 use Rattle.unifier.specs.Entries.{zeros, zeros-less}
-use Rattle.unifier.specs.Pairs.{EqualUnder, argumentsFrom, argumentAt, OpenPair, Stack, bottom, pair, State, Pending, Resuming, walked, stack-equal, stack-bind, stack-same, arguments-cons, arguments-nil, argument-less, all-equal}
+use Rattle.unifier.specs.Pairs.{Stack, bottom, pair, State}
 
 abbrev pub untaken : Cells → ℕ → ℕ
 untaken taken zero = 0

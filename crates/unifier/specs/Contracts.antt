@@ -152,3 +152,22 @@ pub record Unified (N : ℕ) (w : List ℕ) (b b′ l l′ m m′ s s′ : Rows)
   pub links : l′ ≡ l
   pub marks : m′ ≡ m
   pub stack : s′ ≡ s
+
+-- The answer tells whether P holds.
+pub record Tells (answer : Bool) (P : Type 0) : Type 0 where
+  pub yes : answer ≡ true → P
+  pub back : P → answer ≡ true
+
+-- The table lists its entries: the first k positions have different variables in use, each bound, and they are all the bound variables; the values
+-- are references in form.
+pub record Trailed (N : ℕ) (w : List ℕ) (b : Rows) (variables used k : ℕ) : Type 0 where
+  pub inUse : (i : ℕ) → i < k → column 1 b i < variables
+  pub bound : (i : ℕ) → i < k → column 0 b (column 1 b i) ≢ 0
+  pub distinct : (i j : ℕ) → i < j → j < k → column 1 b i ≢ column 1 b j
+  pub values : (v : ℕ) → column 0 b v ≢ 0 → (v < variables) × ((i : ℕ) × (i < k) × (column 1 b i ≡ v)) × Reference N (cells w) variables used (column 0 b v - 1)
+
+-- `check_bindings` answered whether words that are in form and any rows are in form together.
+pub record BindingsChecked (N : ℕ) (w : List ℕ) (b m m′ : Rows) (variables used k : ℕ) (answer : Bool) : Type 0 where
+  pub tells : Tells answer (Form N w b variables used k)
+  -- the marks at exit are those at entry
+  pub marks : m′ ≡ m

@@ -10,12 +10,12 @@ use lib.Seq.{getD-set-same, getD-set-other, ext-getD}
 use Rattle.terms.specs.Numbers.{true-false}
 use Rattle.unifier.specs.Tables.{Rows, column, undone}
 use Rattle.unifier.specs.Stored.{held, Form}
-use Rattle.unifier.specs.Contracts.{Undoable, Scratch, Unified, cleared}
+use Rattle.unifier.specs.Contracts.{Undoable, Unified, cleared}
 use Rattle.unifier.specs.Orders.{by-order}
 use Rattle.unifier.specs.TableLaws.{undone-none}
 use Rattle.unifier.specs.Entries.{entries-undoable}
 use Rattle.unifier.specs.Holding.{form-undoable}
-use Rattle.unifier.specs.Equating.{StackedFrom, LinkedFrom, Equated, whole}
+use Rattle.unifier.specs.Equating.{StackedFrom, Equated, whole}
 
 cleared-long : (s : Rows) (d : ℕ) → length (cleared s d) ≡ length s
 unfolding cleared

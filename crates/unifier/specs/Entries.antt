@@ -3,14 +3,13 @@ use Prim.Native.Nat.{ℕ, zero, suc, _+_, _-_, _≤_, _<_, zero-le}
 use native.Mathlib.Omega.{arith}
 use native.Mathlib.Nat.{not-suc-le-zero}
 use mathlib.Core.Path.{_≡_, refl, sym, ap, ap₂, _∙_, subst}
-use mathlib.Core.Logic.{_⊎_, inl, inr, ⊎-elim, _≢_}
-use mathlib.Core.List.{List, [], _∷_}
-use lib.ListN.{getD, length}
+use mathlib.Core.Logic.{_≢_}
+use lib.ListN.{length}
 use Rattle.terms.specs.Numbers.{by-same}
-use Rattle.unifier.specs.Tables.{Rows, column, Empty, removed, undone}
+use Rattle.unifier.specs.Tables.{Rows, column, Empty, undone}
 use Rattle.unifier.specs.Contracts.{Entered, Undoable}
 use Rattle.unifier.specs.Orders.{by-order}
-use Rattle.unifier.specs.TableLaws.{Changed, column-past, entered-changed, undone-more}
+use Rattle.unifier.specs.TableLaws.{Changed, entered-changed, undone-more}
 
 abbrev isZero : ℕ → ℕ
 isZero zero = 1

@@ -1,30 +1,30 @@
 -- The loop of unification: its invariant, what each turn changes, and what is known at its end.
-use Prim.Native.Nat.{ℕ, zero, suc, _+_, _-_, _*_, _≤_, _<_, zero-le}
+use Prim.Native.Nat.{ℕ, zero, suc, _+_, _-_, _≤_, _<_, zero-le}
 use native.Mathlib.Omega.{arith}
 use native.Mathlib.Nat.{not-suc-le-zero, le-refl}
 use mathlib.Core.Path.{_≡_, refl, sym, ap, ap₂, _∙_, subst}
 use mathlib.Core.Bool.{Bool, true, false}
-use mathlib.Core.Logic.{_⊎_, inl, inr, ⊎-elim, _≢_}
+use mathlib.Core.Logic.{_⊎_, ⊎-elim, _≢_}
 use mathlib.Core.List.{List, [], _∷_}
 use lib.ListN.{getD, length, set, length-set}
-use lib.Seq.{getD-set-same, getD-set-other, ext-getD}
+use lib.Seq.{getD-set-same, getD-set-other}
 use Rattle.terms.specs.Numbers.{by-same, true-false, same-ne}
-use Rattle.terms.specs.Term.{var, Term, mem}
+use Rattle.terms.specs.Term.{var, mem}
 use Rattle.terms.specs.Bindings.{Bindings, lookup, walk, res, occurs, Acyclic, BelowB}
 use Rattle.terms.specs.Unification.{Outcome, unify}
 use Rattle.terms.specs.Loops.{occurs-var}
 use Rattle.arena.specs.Cells.{Cells, headers, arityOf, denote, Reference, WellFormed, denote-variable}
 use Rattle.unifier.specs.Tables.{Rows, column, Empty, undone}
-use Rattle.unifier.specs.Stored.{cells, bindings, held, Form, WalksTo, free, LeadsTo, stay}
-use Rattle.unifier.specs.Contracts.{Entered, Undoable, Replaced, Free, Falling, Ways, Alike, met, linked, Binding, ofFirst, ofSecond, Opening, Clashing, inFirst, inSecond, heads, Says, Joined, outcome, cleared}
+use Rattle.unifier.specs.Stored.{cells, held, Form, free, LeadsTo}
+use Rattle.unifier.specs.Contracts.{Entered, Free, Falling, Ways, Alike, met, linked, Binding, ofFirst, ofSecond, Clashing, inFirst, inSecond, heads, Says, Joined, outcome}
 use Rattle.unifier.specs.declared.Decision.the-variants.{Same, Bind, Open, Clash}
 use Rattle.unifier.specs.Orders.{by-order, low-or-high, not-zero, put, put-at, put-off}
 use Rattle.unifier.specs.TableLaws.{Changed, column-same, column-other, undone-none}
-use Rattle.unifier.specs.Entries.{Entries, entries-none, entries-few, entries-room, entries-more, enter-changed, enter-back}
+use Rattle.unifier.specs.Entries.{Entries, entries-none, entries-room, entries-more, enter-changed, enter-back}
 use Rattle.unifier.specs.Holding.{Holds, form-holds, walks, walks-ref, walks-end, bindings-more, trail-in}
 use Rattle.unifier.specs.Search.{reference-low, undone-zero}
-use Rattle.unifier.specs.Linking.{leads-one, lead-is}
-use Rattle.unifier.specs.Pairs.{EqualUnder, OpenPair, State, Pending, Resuming, stack-same}
+use Rattle.unifier.specs.Linking.{lead-is}
+use Rattle.unifier.specs.Pairs.{EqualUnder, OpenPair, Pending, Resuming, stack-same}
 use Rattle.unifier.specs.Steps.{leads-eq, leads-ref, leads-root, skip-linked, bind-first, bind-second, open-pair, occurs-in-first, occurs-in-second, heads-differ}
 use Rattle.unifier.specs.Turns.{top, all-done, first-state, next-arguments, equal, close-pair}
 use Rattle.unifier.specs.Bounds.{measure, untaken-same, stack-in, open-falls, next-falls, close-falls}

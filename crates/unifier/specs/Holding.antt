@@ -1,20 +1,19 @@
 -- The bindings that storage holds: where its values lead is where the theory's `walk` leads, an entry more is a binding more, and the trail is no
 -- longer than there are variables.
-use Prim.Native.Nat.{ℕ, zero, suc, _+_, _-_, _*_, _≤_, _<_}
+use Prim.Native.Nat.{ℕ, zero, suc, _-_, _≤_, _<_}
 use native.Mathlib.Omega.{arith}
-use native.Mathlib.Nat.{not-suc-le-zero, le-refl}
+use native.Mathlib.Nat.{not-suc-le-zero}
 use mathlib.Core.Path.{_≡_, refl, sym, ap, ap₂, _∙_, subst}
-use mathlib.Core.Bool.{Bool, true, false, cond, _||_}
-use mathlib.Core.Logic.{_⊎_, inl, inr, ⊎-elim, _≢_}
-use mathlib.Core.Option.{Option, none, some}
-use mathlib.Core.List.{List, [], _∷_}
+use mathlib.Core.Bool.{false}
+use mathlib.Core.Logic.{_⊎_, ⊎-elim, _≢_}
+use mathlib.Core.Option.{none}
+use mathlib.Core.List.{List}
 use Rattle.terms.specs.Numbers.{by-same, some-none}
-use Rattle.terms.specs.Term.{Term, mem}
-use Rattle.terms.specs.Bindings.{Bindings, start, bind, lookup, walk, res, Acyclic, BelowB}
+use Rattle.terms.specs.Term.{mem}
+use Rattle.terms.specs.Bindings.{Bindings, bind, lookup, walk, res, Acyclic, BelowB}
 use Rattle.terms.specs.BindingLaws.{walk-app, walk-unbound, walk-bound}
 use Rattle.terms.specs.Loops.{walkLength, walkLength-bound}
 use Rattle.arena.specs.Cells.{Cells, denote, Reference, WellFormed, denote-node, denote-variable, below-denote}
-use lib.ListN.{length}
 use Rattle.unifier.specs.Orders.{by-order, low-or-high, pigeonhole}
 use Rattle.unifier.specs.Tables.{Rows, column}
 use Rattle.unifier.specs.Contracts.{Undoable}
@@ -41,17 +40,17 @@ module _ (N : ℕ) where
       ap₂ (λ (x : ℕ) (β : Bindings). bind x (denote N w (values (trail k) - 1)) β) e ih ∙ ap (λ (x : ℕ). bind (trail′ k) (denote N w (x - 1)) (bindings N w values′ trail′ k)) d′
 
   -- what stands on the trail is bound
-  bindings-has : (w values trail : Cells) (k i : ℕ) → i < k → lookup (bindings N w values trail k) (trail i) ≡ none → ⊥
+  pub bindings-has : (w values trail : Cells) (k i : ℕ) → i < k → lookup (bindings N w values trail k) (trail i) ≡ none → ⊥
   bindings-has w values trail zero i l e = not-suc-le-zero l
   bindings-has w values trail (suc k) i l e = by-same (trail i) (trail k)
       (λ p q. some-none refl (rw q at e))
       (λ p q. bindings-has w values trail k i (let z : i ≢ k = (λ ik. p (ap trail ik)) in by-order i k (λ a. a) (λ a. absurd (z (omega arith)))) (rw q at e))
 
-  bindings-low : (w values trail : Cells) (variables k : ℕ) → BelowB variables (bindings N w values trail k) → (i : ℕ) → i < k → trail i < variables
+  pub bindings-low : (w values trail : Cells) (variables k : ℕ) → BelowB variables (bindings N w values trail k) → (i : ℕ) → i < k → trail i < variables
   bindings-low w values trail variables zero b i l = absurd (not-suc-le-zero l)
   bindings-low w values trail variables (suc k) b i l = by-order i k (λ a. bindings-low w values trail variables k (b .2) i a) (λ a. let e : i ≡ k = omega arith in rw e (b .0))
 
-  bindings-one : (w values trail : Cells) (k : ℕ) → Acyclic (bindings N w values trail k) → (i j : ℕ) → i < j → j < k → trail i ≡ trail j → ⊥
+  pub bindings-one : (w values trail : Cells) (k : ℕ) → Acyclic (bindings N w values trail k) → (i j : ℕ) → i < j → j < k → trail i ≡ trail j → ⊥
   bindings-one w values trail zero ac i j l m e = not-suc-le-zero m
   bindings-one w values trail (suc k) ac i j l m e = by-order j k (λ a. bindings-one w values trail k (ac .2) i j l a e)
       (λ a. let q : j ≡ k = omega arith in bindings-has w values trail k i (omega arith) (subst (λ (z : ℕ). lookup (bindings N w values trail k) z ≡ none) (sym (e ∙ ap trail q)) (ac .0)))

@@ -1,9 +1,8 @@
 -- Links: where they lead is one root, which is found, and two roots are joined.
 use Prim.Native.Nat.{ℕ, zero, suc, _+_, _-_, _≤_, _<_}
 use native.Mathlib.Omega.{arith}
-use native.Mathlib.Nat.{le-refl}
-use mathlib.Core.Path.{_≡_, refl, sym, ap, subst, _∙_}
-use mathlib.Core.Logic.{_⊎_, inl, inr, _≢_}
+use mathlib.Core.Path.{_≡_, refl, sym, subst, _∙_}
+use mathlib.Core.Logic.{inl, inr, _≢_}
 use lib.ListN.{length}
 use Rattle.terms.specs.Numbers.{by-same}
 use Rattle.arena.specs.Cells.{Cells}

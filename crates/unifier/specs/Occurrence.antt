@@ -1,20 +1,18 @@
 -- The occurs check on storage: an unbound variable occurs in a term with the bindings put in exactly if it is reached from the term's reference.
-use Prim.Native.Nat.{ℕ, zero, suc, _+_, _-_, _*_, _≤_, _<_}
+use Prim.Native.Nat.{ℕ, zero, suc, _+_, _-_, _≤_, _<_}
 use native.Mathlib.Omega.{arith}
 use native.Mathlib.Nat.{not-suc-le-zero, le-refl}
-use mathlib.Core.Path.{_≡_, refl, sym, ap, ap₂, _∙_, subst}
-use mathlib.Core.Bool.{Bool, true, false, cond, _||_}
-use mathlib.Core.Logic.{_⊎_, inl, inr, ⊎-elim, _≢_}
-use mathlib.Core.Option.{Option, none, some}
-use mathlib.Core.List.{List, [], _∷_}
-use Rattle.terms.specs.Numbers.{same, by-bool, same-refl, same-true, true-false, or-left, or-right}
-use Rattle.terms.specs.Term.{var, app, nil, cons, Term, Terms, Subst, sub, mem, size}
-use Rattle.terms.specs.Bindings.{Bindings, full, res, occurs}
+use mathlib.Core.Path.{_≡_, refl, sym, ap, _∙_, subst}
+use mathlib.Core.Bool.{Bool, true, false, _||_}
+use mathlib.Core.Logic.{_⊎_, inl, inr, ⊎-elim}
+use Rattle.terms.specs.Numbers.{same, same-refl, same-true, true-false, or-left, or-right}
+use Rattle.terms.specs.Term.{var, app, Term, Subst, sub, mem, size}
+use Rattle.terms.specs.Bindings.{Bindings, full, res}
 use Rattle.terms.specs.BindingLaws.{full-unbound, res-walk}
 use Rattle.terms.specs.Loops.{walkLength}
 use Rattle.arena.specs.Cells.{Cells, args, arityOf, denote, Reference, WellFormed, denote-node, denote-variable, reference-argument}
 use Rattle.unifier.specs.Orders.{low-or-high}
-use Rattle.unifier.specs.Stored.{lookupAt, WalksTo, free, bound, node, Edge, into, argument, Reaches, here, step}
+use Rattle.unifier.specs.Stored.{lookupAt, WalksTo, free, bound, node, into, argument, Reaches, here, step}
 use Rattle.unifier.specs.Holding.{Holds, walks, walks-ref, walks-end, walk-is}
 
 or-true : (a b : Bool) → (a || b) ≡ true → (a ≡ true) ⊎ (b ≡ true)
@@ -29,7 +27,7 @@ module _ (N : ℕ) where
   mem-args x σ w p (suc n) (suc i) l m = let e : p + suc i ≡ suc p + i = omega arith in
       or-right (mem x (sub σ (denote N w (w p)))) _ (mem-args x σ w (suc p) n i (omega arith) (rw e at m))
 
-  args-mem : (x : ℕ) (σ : Subst) (w : Cells) (p n : ℕ) → mem x (sub σ (args (denote N w) w p n)) ≡ true
+  pub args-mem : (x : ℕ) (σ : Subst) (w : Cells) (p n : ℕ) → mem x (sub σ (args (denote N w) w p n)) ≡ true
       → (i : ℕ) × (i < n) × (mem x (sub σ (denote N w (w (p + i)))) ≡ true) × (size (sub σ (denote N w (w (p + i)))) < size (sub σ (args (denote N w) w p n)))
   unfolding mem
   args-mem x σ w p zero m = true-false m refl
@@ -43,7 +41,7 @@ module _ {N : ℕ} where
     res-walks : {r q : ℕ} → Reference N w variables used r → WalksTo N values r q → res β (denote N w r) ≡ res β (denote N w q)
     res-walks {r} rr v = sym (res-walk β (h .acyclic) (denote N w r)) ∙ ap (res β) (walks wf h rr v)
 
-    res-bound : (r x : ℕ) → Reference N w variables used r → r < N → values r ≡ suc x → res β (denote N w r) ≡ res β (denote N w x)
+    pub res-bound : (r x : ℕ) → Reference N w variables used r → r < N → values r ≡ suc x → res β (denote N w r) ≡ res β (denote N w x)
     res-bound r x rr l e = let (q, v) = walk-is wf h (walkLength β (denote N w x)) x (h .references r x (rr .variable l) e) (le-refl _) in
         res-walks rr (bound l e v) ∙ sym (res-walks (h .references r x (rr .variable l) e) v)
 

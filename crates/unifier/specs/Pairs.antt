@@ -1,26 +1,17 @@
 -- The state of unification over stored terms. Links join nodes whose pair was unified completely, and serve only to skip. Open pairs stand on a
 -- stack: the walked references of the pair, and how many arguments were taken. Every equality is stated for every solution of the bindings.
-use Prim.Native.Nat.{ℕ, zero, suc, _+_, _-_, _*_, _≤_, _<_}
+use Prim.Native.Nat.{ℕ, zero, suc, _+_, _-_, _≤_, _<_}
 use native.Mathlib.Omega.{arith}
-use native.Mathlib.Nat.{not-suc-le-zero, le-refl}
-use mathlib.Core.Path.{_≡_, refl, sym, ap, ap₂, _∙_, subst}
-use mathlib.Core.Bool.{Bool, true, false, cond, _||_}
-use mathlib.Core.Logic.{_⊎_, inl, inr, ⊎-elim, _≢_}
-use mathlib.Core.Option.{Option, none, some}
+use native.Mathlib.Nat.{not-suc-le-zero}
+use mathlib.Core.Path.{_≡_, refl, sym, ap, ap₂, _∙_}
 use mathlib.Core.List.{List, [], _∷_}
-use Rattle.terms.specs.Numbers.{same, by-bool, by-same, same-refl, same-ne, true-false}
-use Rattle.terms.specs.Term.{Kind, Syn, var, app, nil, cons, Term, Terms, Subst, sub, mem, size, Below}
-use Rattle.terms.specs.Bindings.{Bindings, bind, full, res, walk, Acyclic, Solves}
-use Rattle.terms.specs.Unification.{Eqn, eqn, eqns, meet, Outcome, unfinished, fails, unified, unifies, BelowE}
-use Rattle.terms.specs.TermLaws.{app-inj}
-use Rattle.terms.specs.BindingLaws.{full-solves, res-walk, solves-res, solves-walk, unbound-le}
-use Rattle.terms.specs.UnificationLaws.{Answers, Over, unifies-ok, unifies-over}
-use Rattle.terms.specs.Loops.{Next, unify-next}
-use Rattle.terms.specs.Skips.{skips}
-use Rattle.arena.specs.Cells.{Cells, headers, symbolOf, arityOf, args, denote, Reference, WellFormed, denote-node, denote-variable, reference-argument, below-denote}
-use Rattle.unifier.specs.Orders.{by-order, low-or-high, pigeonhole}
-use Rattle.unifier.specs.Stored.{bindings, WalksTo, LeadsTo, stay, go}
-use Rattle.unifier.specs.Holding.{Holds, walks, walks-ref, walks-end, bindings-more}
+use Rattle.terms.specs.Term.{app, nil, cons, Term, Terms, Subst, sub, size}
+use Rattle.terms.specs.Bindings.{Bindings, bind, walk, Acyclic, Solves}
+use Rattle.terms.specs.Unification.{Eqn, eqn, eqns, Outcome, unifies, BelowE}
+use Rattle.terms.specs.BindingLaws.{solves-walk}
+use Rattle.arena.specs.Cells.{Cells, symbolOf, arityOf, args, denote, Reference, WellFormed, denote-node}
+use Rattle.unifier.specs.Stored.{LeadsTo, go}
+use Rattle.unifier.specs.Holding.{Holds}
 
 -- equal for whatever agrees with the bindings
 abbrev pub EqualUnder : Bindings → Term → Term → Type 0

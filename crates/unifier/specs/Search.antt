@@ -1,23 +1,22 @@
 -- The search of the occurs check: a table of marks by reference, whose list is the queue of a search through all that a reference reaches.
-use Prim.Native.Nat.{ℕ, zero, suc, _+_, _-_, _≤_, _<_, zero-le}
+use Prim.Native.Nat.{ℕ, suc, _+_, _-_, _≤_, _<_, zero-le}
 use native.Mathlib.Omega.{arith}
 use native.Mathlib.Nat.{not-suc-le-zero, le-refl}
-use mathlib.Core.Path.{_≡_, refl, sym, ap, subst, _∙_}
-use mathlib.Core.Bool.{Bool, true, false}
+use mathlib.Core.Path.{_≡_, refl, sym, ap, _∙_}
+use mathlib.Core.Bool.{true, false}
 use mathlib.Core.Logic.{_⊎_, inl, inr, ⊎-elim, _≢_}
-use mathlib.Core.List.{List, [], _∷_}
+use mathlib.Core.List.{List}
 use borrow.Author.Count.{below-more}
-use lib.ListN.{getD, length}
+use lib.ListN.{length}
 use Rattle.terms.specs.Numbers.{by-bool}
-use Rattle.terms.specs.Term.{mem, size}
+use Rattle.terms.specs.Term.{size}
 use Rattle.terms.specs.Bindings.{res, occurs}
-use Rattle.arena.specs.Cells.{Cells, headers, arityOf, denote, Reference, WellFormed, reference-up, reference-argument}
-use Rattle.unifier.specs.Tables.{Rows, column, Empty, undone}
+use Rattle.arena.specs.Cells.{Cells, arityOf, denote, Reference, reference-argument}
+use Rattle.unifier.specs.Tables.{Rows, column, undone}
 use Rattle.unifier.specs.Stored.{cells, held, Form, Edge, into, argument, Reaches, here, step}
 use Rattle.unifier.specs.Contracts.{Entered, Undoable}
-use Rattle.unifier.specs.Orders.{by-order, low-or-high, same-or-not, not-zero}
-use Rattle.unifier.specs.TableLaws.{Changed, undone-none}
-use Rattle.unifier.specs.Entries.{Entries, entries-none, entries-few, entries-room, entries-more, entries-undoable, enter-changed, enter-back}
+use Rattle.unifier.specs.Orders.{low-or-high, not-zero}
+use Rattle.unifier.specs.Entries.{Entries, entries-room, entries-more, entries-undoable, enter-changed, enter-back}
 use Rattle.unifier.specs.Holding.{form-holds}
 use Rattle.unifier.specs.Occurrence.{reach-mem, mem-reach}
 

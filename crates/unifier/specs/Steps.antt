@@ -1,26 +1,25 @@
 -- What each decision about a pair of references comes to: skipping what is equal, binding a variable, opening a pair of nodes, and failing.
-use Prim.Native.Nat.{ℕ, zero, suc, _+_, _-_, _*_, _/_, _%_, _≤_, _<_}
+use Prim.Native.Nat.{ℕ, zero, suc, _+_, _-_, _/_, _%_, _≤_, _<_}
 use native.Mathlib.Omega.{arith}
 use native.Mathlib.Nat.{not-suc-le-zero, le-refl}
 use mathlib.Core.Path.{_≡_, refl, sym, ap, ap₂, _∙_, subst}
-use mathlib.Core.Bool.{Bool, true, false, cond, _||_}
-use mathlib.Core.Logic.{_⊎_, inl, inr, ⊎-elim, _≢_}
-use mathlib.Core.Option.{Option, none, some}
+use mathlib.Core.Bool.{true, false}
+use mathlib.Core.Logic.{_⊎_, ⊎-elim, _≢_}
 use mathlib.Core.List.{List, [], _∷_}
-use Rattle.terms.specs.Numbers.{same, by-bool, by-same, same-refl, same-ne, true-false}
+use Rattle.terms.specs.Numbers.{same, same-refl, same-ne}
 use Rattle.terms.specs.Term.{Kind, Syn, var, app, nil, cons, Term, Terms, Subst, sub, mem, size, Below}
-use Rattle.terms.specs.Bindings.{Bindings, bind, full, res, walk, Acyclic, Solves}
+use Rattle.terms.specs.Bindings.{Bindings, bind, full, res, walk, Solves}
 use Rattle.terms.specs.Unification.{Eqn, eqn, eqns, meet, Outcome, unfinished, fails, unified, unifies, BelowE}
 use Rattle.terms.specs.TermLaws.{app-inj}
-use Rattle.terms.specs.BindingLaws.{full-solves, res-walk, solves-res, solves-walk, unbound-le}
+use Rattle.terms.specs.BindingLaws.{full-solves, unbound-le}
 use Rattle.terms.specs.UnificationLaws.{Answers, Over, unifies-ok, unifies-over}
 use Rattle.terms.specs.Loops.{Next, unify-next}
 use Rattle.terms.specs.Skips.{skips}
-use Rattle.arena.specs.Cells.{Cells, headers, symbolOf, arityOf, args, denote, Reference, WellFormed, denote-node, denote-variable, reference-argument, below-denote}
-use Rattle.unifier.specs.Orders.{by-order, low-or-high, pigeonhole}
-use Rattle.unifier.specs.Stored.{bindings, WalksTo, LeadsTo, stay, go}
-use Rattle.unifier.specs.Holding.{Holds, walks, walks-ref, walks-end, bindings-more}
-use Rattle.unifier.specs.Pairs.{EqualUnder, argumentsFrom, argumentAt, OpenPair, Stack, bottom, pair, State, Pending, Resuming, walked, stack-equal, stack-bind, stack-same, arguments-cons, arguments-nil, argument-less, all-equal}
+use Rattle.arena.specs.Cells.{Cells, headers, symbolOf, arityOf, args, denote, Reference, denote-node, denote-variable, below-denote}
+use Rattle.unifier.specs.Orders.{by-order, low-or-high}
+use Rattle.unifier.specs.Stored.{WalksTo, LeadsTo, stay, go}
+use Rattle.unifier.specs.Holding.{walks, walks-ref, walks-end, bindings-more}
+use Rattle.unifier.specs.Pairs.{EqualUnder, argumentsFrom, pair, State, Pending, Resuming, walked, stack-equal, stack-bind, stack-same}
 
 module _ (N : ℕ) where
   pub leads-eq : (w : Cells) (β : Bindings) {links : Cells} {a q : ℕ} → ((a z : ℕ) → links a ≡ suc z → EqualUnder β (denote N w a) (denote N w z)) → LeadsTo links a q → EqualUnder β (denote N w a) (denote N w q)

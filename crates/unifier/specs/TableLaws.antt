@@ -1,5 +1,5 @@
 -- Laws of tables: what an entry changes, and that taking it back gives the very same rows.
-use Prim.Native.Nat.{ℕ, zero, suc, _+_, _-_, _≤_, _<_}
+use Prim.Native.Nat.{ℕ, suc, _+_, _-_, _≤_, _<_}
 use native.Mathlib.Omega.{arith}
 use mathlib.Core.Path.{_≡_, refl, sym, ap, ap₂, _∙_, subst}
 use mathlib.Core.Logic.{_≢_}
@@ -7,9 +7,8 @@ use mathlib.Core.List.{List, [], _∷_}
 use lib.ListN.{getD, length, set, length-set, List·getD-eq-default}
 use lib.Seq.{getD-set-same, getD-set-other, ext-getD}
 use Rattle.terms.specs.Numbers.{by-same}
-use Rattle.unifier.specs.Orders.{by-order}
 use Rattle.unifier.specs.Contracts.{Replaced, Entered, Undoable}
-use Rattle.unifier.specs.Tables.{Rows, column, Empty, valued, listed, entered, removed, undone}
+use Rattle.unifier.specs.Tables.{Rows, column, valued, listed, entered, removed, undone}
 
 pub column-same : (c : ℕ) (t : Rows) (d : ℕ) (row : List ℕ) → d < length t → column c (set t d row) d ≡ getD row c 0
 column-same c t d row l = ap (λ (z : List ℕ). getD z c 0) (getD-set-same t d row [] l)

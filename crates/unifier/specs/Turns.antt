@@ -1,27 +1,22 @@
 -- What the open pairs come to: the next pair of arguments, and a pair that is closed and linked.
-use Prim.Native.Nat.{ℕ, zero, suc, _+_, _-_, _*_, _≤_, _<_}
+use Prim.Native.Nat.{ℕ, suc, _+_, _-_, _≤_, _<_}
 use native.Mathlib.Omega.{arith}
-use native.Mathlib.Nat.{not-suc-le-zero, le-refl}
+use native.Mathlib.Nat.{not-suc-le-zero}
 use mathlib.Core.Path.{_≡_, refl, sym, ap, ap₂, _∙_, subst}
-use mathlib.Core.Bool.{Bool, true, false, cond, _||_}
 use mathlib.Core.Logic.{_⊎_, inl, inr, ⊎-elim, _≢_}
-use mathlib.Core.Option.{Option, none, some}
 use mathlib.Core.List.{List, [], _∷_}
-use Rattle.terms.specs.Numbers.{same, by-bool, by-same, same-refl, same-ne, true-false}
-use Rattle.terms.specs.Term.{Kind, Syn, var, app, nil, cons, Term, Terms, Subst, sub, mem, size, Below}
-use Rattle.terms.specs.Bindings.{Bindings, bind, full, res, walk, Acyclic, Solves}
-use Rattle.terms.specs.Unification.{Eqn, eqn, eqns, meet, Outcome, unfinished, fails, unified, unifies, BelowE}
-use Rattle.terms.specs.TermLaws.{app-inj}
-use Rattle.terms.specs.BindingLaws.{full-solves, res-walk, solves-res, solves-walk, unbound-le}
-use Rattle.terms.specs.UnificationLaws.{Answers, Over, unifies-ok, unifies-over}
-use Rattle.terms.specs.Loops.{Next, unify-next}
-use Rattle.terms.specs.Skips.{skips}
-use Rattle.arena.specs.Cells.{Cells, headers, symbolOf, arityOf, args, denote, Reference, WellFormed, denote-node, denote-variable, reference-argument, below-denote}
-use Rattle.unifier.specs.Orders.{by-order, low-or-high, pigeonhole}
-use Rattle.unifier.specs.Stored.{bindings, WalksTo, LeadsTo, stay, go}
-use Rattle.unifier.specs.Holding.{Holds, walks, walks-ref, walks-end, bindings-more}
-use Rattle.unifier.specs.Pairs.{EqualUnder, argumentsFrom, argumentAt, OpenPair, Stack, bottom, pair, State, Pending, Resuming, walked, stack-equal, stack-bind, stack-same, arguments-cons, arguments-nil, argument-less, all-equal}
-use Rattle.unifier.specs.Steps.{leads-eq, leads-ref, leads-root, unifies-done}
+use Rattle.terms.specs.Numbers.{by-same}
+use Rattle.terms.specs.Term.{nil, cons, Term, Terms, Subst, sub, size, Below}
+use Rattle.terms.specs.Bindings.{Bindings, full, Solves}
+use Rattle.terms.specs.Unification.{Eqn, eqn, eqns, Outcome, unified, unifies, BelowE}
+use Rattle.terms.specs.BindingLaws.{full-solves}
+use Rattle.terms.specs.Loops.{unify-next}
+use Rattle.arena.specs.Cells.{Cells, arityOf, denote, Reference, WellFormed, reference-argument}
+use Rattle.unifier.specs.Orders.{by-order}
+use Rattle.unifier.specs.Stored.{bindings, LeadsTo, stay, go}
+use Rattle.unifier.specs.Holding.{Holds}
+use Rattle.unifier.specs.Pairs.{EqualUnder, argumentsFrom, argumentAt, OpenPair, Stack, bottom, pair, Pending, Resuming, stack-same, arguments-cons, arguments-nil, argument-less, all-equal}
+use Rattle.unifier.specs.Steps.{leads-eq, unifies-done}
 
 -- the last open pair
 pub record Topmost (N : ℕ) (w lefts rights taken : Cells) (β : Bindings) (variables used d : ℕ) (X Y : Term) (es : List Eqn) (a b i : ℕ) : Type 0 where

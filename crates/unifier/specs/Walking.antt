@@ -1,7 +1,6 @@
 -- The loop of `walk`: it goes the way that the values lead, and the number of bindings still to meet falls.
-use Prim.Native.Nat.{ℕ, suc, _+_, _-_, _≤_, _<_}
+use Prim.Native.Nat.{ℕ, _-_, _<_}
 use native.Mathlib.Omega.{arith}
-use mathlib.Core.Path.{_≡_, refl, sym, _∙_}
 use mathlib.Core.Logic.{_≢_}
 use mathlib.Core.List.{List}
 use lib.ListN.{length}
@@ -11,7 +10,7 @@ use Rattle.unifier.specs.Tables.{Rows, column}
 use Rattle.unifier.specs.Stored.{cells, held, Form, WalksTo, bound}
 use Rattle.unifier.specs.Contracts.{Walked}
 use Rattle.unifier.specs.Orders.{not-zero}
-use Rattle.unifier.specs.Holding.{form-holds, walks, walks-ref, walks-end, walk-falls}
+use Rattle.unifier.specs.Holding.{form-holds, walks, walks-end, walk-falls}
 
 -- From q on it goes as from r.
 pub record Walking (N : ℕ) (w : List ℕ) (b : Rows) (variables used k r q : ℕ) : Type 0 where
