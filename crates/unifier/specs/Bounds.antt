@@ -16,14 +16,17 @@ use Rattle.unifier.specs.Orders.{by-order, pigeonhole}
 use Rattle.unifier.specs.Entries.{zeros, zeros-less}
 use Rattle.unifier.specs.Pairs.{Stack, bottom, pair, State}
 
+-- Twice the arguments not taken, of the first d open pairs.
 abbrev pub untaken : Cells → ℕ → ℕ
 untaken taken zero = 0
 untaken taken (suc d) = 2 * (32 - taken d) + untaken taken d
 
+-- One where a pair is to be made equal.
 abbrev pub bit : Bool → ℕ
 bit true = 1
 bit false = 0
 
+-- The number that falls with each turn.
 abbrev pub measure : ℕ → Cells → Cells → ℕ → ℕ → Bool → ℕ
 measure N links taken used d b = 200 * zeros links (N + used) + 100 * (used - d) + untaken taken d + bit b
 

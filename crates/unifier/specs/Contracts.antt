@@ -29,8 +29,11 @@ pub record Entered (t t′ : Rows) (n key value : ℕ) : Type 0 where
 
 -- The entries from position `mark` to n can be taken back: the list is that long, and its keys are in the table.
 pub record Undoable (t : Rows) (n mark : ℕ) : Type 0 where
+  -- the mark is no newer than the last entry
   pub above : mark ≤ n
+  -- the list has n positions
   pub within : n ≤ length t
+  -- its keys from the mark on are in the table
   pub keys : (i : ℕ) → mark ≤ i → i < n → column 1 t i < length t
 
 -- `walk` led from the reference r to the reference q.
@@ -39,13 +42,16 @@ pub record Walked (N : ℕ) (w : List ℕ) (b : Rows) (variables used k r q : �
   pub is : walk (held N w b k) (denote N (cells w) r) ≡ denote N (cells w) q
   -- by the values, so that q is the very reference that is stored
   pub way : WalksTo N (column 0 b) r q
+  -- q is a reference in form
   pub inForm : Reference N (cells w) variables used q
   -- a variable at the end is unbound
   pub ends : q < N → column 0 b q ≡ 0
 
 -- A table for every reference, with nothing in it.
 pub record Free (N used : ℕ) (m : Rows) : Type 0 where
+  -- a row for every reference
   pub lent : N + used ≤ length m
+  -- every number is 0
   pub empty : Empty m
 
 -- `occurs` answered whether the unbound variable x occurs in what r denotes.
@@ -61,7 +67,9 @@ Falling links = (a z : ℕ) → column 0 links a ≡ suc z → z < a
 
 -- The references x and y lead to p and q.
 pub record Ways (N : ℕ) (b : Rows) (x y p q : ℕ) : Type 0 where
+  -- from x to p
   pub first : WalksTo N (column 0 b) x p
+  -- from y to q
   pub second : WalksTo N (column 0 b) y q
 
 -- x and y need not be made equal: they lead to the same reference, or to linked ones.
@@ -76,7 +84,9 @@ pub data Binding (N : ℕ) (w : List ℕ) (b : Rows) (k x y : ℕ) : ℕ → ℕ
 
 -- The arguments of two nodes are to be made equal.
 pub record Opening (N : ℕ) (w : List ℕ) (b links : Rows) (x y p q : ℕ) : Type 0 where
+  -- p and q are where x and y lead
   pub ways : Ways N b x y p q
+  -- both are nodes
   pub firstNode : N ≤ p
   pub secondNode : N ≤ q
   -- the same symbol and arity
@@ -99,21 +109,25 @@ Says N w b links k x y Clash = Clashing N w b k x y
 
 -- `decide` decided what is to be done with x and y.
 pub record Decided (N : ℕ) (w : List ℕ) (b links m m′ : Rows) (k x y : ℕ) (d : Decision) : Type 0 where
+  -- what the decision says holds
   pub says : Says N w b links k x y d
   -- the marks at exit are those at entry
   pub marks : m′ ≡ m
 
 -- The roots of x and y were linked, the greater to the smaller, as the entry at position c.
 pub record Joined (links links′ : Rows) (c x y : ℕ) : Type 0 where
+  -- the two roots
   pub rootX : ℕ
   pub rootY : ℕ
   pub leadsX : LeadsTo (column 0 links) x rootX
   pub leadsY : LeadsTo (column 0 links) y rootY
-  -- the link
+  -- the link leads from one root to the other
   pub from : ℕ
   pub to : ℕ
   pub either : ((from ≡ rootX) × (to ≡ rootY)) ⊎ ((from ≡ rootY) × (to ≡ rootX))
+  -- from the greater to the smaller
   pub falls : (rootX ≡ rootY) ⊎ (to < from)
+  -- it is entered with the list of links
   pub entered : Entered links links′ c from (to + 1)
 
 -- The theory's outcome for an answer and the bindings that then stand.
@@ -128,10 +142,12 @@ cleared s (suc d) = cleared (set s d (0 ∷ 0 ∷ 0 ∷ [])) d
 
 -- The scratch of `unify`: a table for links and one for marks, and a stack, with nothing in them.
 pub record Scratch (N used : ℕ) (links marks stack : Rows) : Type 0 where
+  -- no links and no marks
   pub linksFree : Free N used links
   pub marksFree : Free N used marks
   -- no more pairs are open together than there are words in use
   pub stackLent : used ≤ length stack
+  -- and none is open
   pub stackEmpty : Empty stack
 
 -- `unify` of what r and t denote under the first k bindings answered whether they unify; k′ bindings stand at exit.
@@ -142,7 +158,9 @@ pub record Unified (N : ℕ) (w : List ℕ) (b b′ l l′ m m′ s s′ : Rows)
   pub form : Form N w b′ variables used k′
   -- bindings are only added
   pub more : k ≤ k′
+  -- the trail below the mark k is as it was
   pub kept : (i : ℕ) → i < k → column 1 b′ i ≡ column 1 b i
+  -- and so is every value that stood
   pub still : (v : ℕ) → column 0 b v ≢ 0 → column 0 b′ v ≡ column 0 b v
   -- undoing to the mark k gives the very rows at entry
   pub back : undone b′ k (k′ - k) ≡ b
@@ -155,19 +173,26 @@ pub record Unified (N : ℕ) (w : List ℕ) (b b′ l l′ m m′ s s′ : Rows)
 
 -- The answer tells whether P holds.
 pub record Tells (answer : Bool) (P : Type 0) : Type 0 where
+  -- yes: it holds
   pub yes : answer ≡ true → P
+  -- where it holds, the answer is yes
   pub back : P → answer ≡ true
 
 -- The table lists its entries: the first k positions have different variables in use, each bound, and they are all the bound variables; the values
 -- are references in form.
 pub record Trailed (N : ℕ) (w : List ℕ) (b : Rows) (variables used k : ℕ) : Type 0 where
+  -- the variables of the trail are in use
   pub inUse : (i : ℕ) → i < k → column 1 b i < variables
+  -- and bound
   pub bound : (i : ℕ) → i < k → column 0 b (column 1 b i) ≢ 0
+  -- and none stands twice
   pub distinct : (i j : ℕ) → i < j → j < k → column 1 b i ≢ column 1 b j
+  -- a value is that of a variable in use, which the trail lists, and is a reference in form
   pub values : (v : ℕ) → column 0 b v ≢ 0 → (v < variables) × ((i : ℕ) × (i < k) × (column 1 b i ≡ v)) × Reference N (cells w) variables used (column 0 b v - 1)
 
 -- `check_bindings` answered whether words that are in form and any rows are in form together.
 pub record BindingsChecked (N : ℕ) (w : List ℕ) (b m m′ : Rows) (variables used k : ℕ) (answer : Bool) : Type 0 where
+  -- accepted exactly where they are in form
   pub tells : Tells answer (Form N w b variables used k)
   -- the marks at exit are those at entry
   pub marks : m′ ≡ m

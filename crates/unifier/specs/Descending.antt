@@ -82,10 +82,12 @@ remaining-less f g (suc n) p l a b h = by-same n p
     (λ q _. let s = remaining-same f g n (λ i j. h i (λ r. omega arith)) in let x : f n ≡ f p = ap f q in let y : g n ≡ g p = ap g q in omega arith)
     (λ q _. let s = h n q in let ih = remaining-less f g n p (by-order p n (λ x. x) (λ x. absurd (q (omega arith)))) a b h in omega arith)
 
+-- One where a place is to be entered.
 abbrev pub entering : ℕ → ℕ
 entering zero = 0
 entering (suc p) = 1
 
+-- The number that falls with each turn.
 abbrev pub effort : Cells → ℕ → ℕ → ℕ → ℕ → ℕ
 effort numbers limit variables v p = 3 * remaining numbers limit + entering p + 2 * (variables - v)
 

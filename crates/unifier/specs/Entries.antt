@@ -11,6 +11,7 @@ use Rattle.unifier.specs.Contracts.{Entered, Undoable}
 use Rattle.unifier.specs.Orders.{by-order}
 use Rattle.unifier.specs.TableLaws.{Changed, entered-changed, undone-more}
 
+-- One for 0.
 abbrev isZero : ℕ → ℕ
 isZero zero = 1
 isZero (suc n) = 0

@@ -13,14 +13,15 @@ use Rattle.arena.specs.Cells.{Cells, symbolOf, arityOf, args, denote, Reference
 use Rattle.unifier.specs.Stored.{LeadsTo, go}
 use Rattle.unifier.specs.Holding.{Holds}
 
--- equal for whatever agrees with the bindings
+-- Equal for whatever agrees with the bindings.
 abbrev pub EqualUnder : Bindings → Term → Term → Type 0
 EqualUnder β s t = (σ : Subst) → Solves σ β → sub σ s ≡ sub σ t
 
--- the arguments of r from the i-th on, and the j-th
+-- The arguments of r from the i-th on.
 abbrev pub argumentsFrom : ℕ → Cells → ℕ → ℕ → Terms
 argumentsFrom N w r i = args (denote N w) w (suc (r - N) + i) (arityOf (w (r - N)) - i)
 
+-- Argument j of r.
 abbrev pub argumentAt : ℕ → Cells → ℕ → ℕ → Term
 argumentAt N w r j = denote N w (w (suc (r - N) + j))
 
@@ -40,6 +41,7 @@ pub data Stack (N : ℕ) (w lefts rights taken : Cells) (β : Bindings) (variabl
       → ((σ : Subst) → Solves σ β → sub σ X ≡ sub σ Y → (j : ℕ) → j < i → sub σ (argumentAt N w a j) ≡ sub σ (argumentAt N w b j))
       → Stack N w lefts rights taken β variables used d (denote N w a) (denote N w b) es → Stack N w lefts rights taken β variables used (suc d) X Y (eqns (argumentsFrom N w a i) (argumentsFrom N w b i) ∷ es)
 
+-- The bindings held, the open pairs, and the links.
 pub record State (N : ℕ) (w values trail links lefts rights taken : Cells) (variables used k d : ℕ) (β : Bindings) (X Y : Term) (es : List Eqn) : Type 0 where
   pub words : WellFormed N w variables used
   pub holds : Holds N w values trail variables used k β

@@ -35,6 +35,7 @@ pub leads-root : {links : Cells} {a q : ℕ} → LeadsTo links a q → links q �
 leads-root (stay e) = e
 leads-root (go e l) = leads-root l
 
+-- How many terms stand in a list.
 abbrev len : {s : Kind} → Syn s → ℕ
 len (var x) = 0
 len (app f ts) = 0

@@ -51,7 +51,7 @@ pub record Form (N : ℕ) (w : List ℕ) (b : Rows) (variables used k : ℕ) : T
   pub unbound : (v : ℕ) → variables ≤ v → column 0 b v ≡ 0
   pub rest : (i : ℕ) → k ≤ i → column 1 b i ≡ 0
 
--- The part of the form that says nothing of the trail and of cycles.
+-- The part of the form that says nothing of the trail and of cycles; each part as there.
 pub record Sound (N : ℕ) (w : List ℕ) (b : Rows) (variables used : ℕ) : Type 0 where
   pub words : WellFormed N (cells w) variables used
   pub few : variables ≤ N
