@@ -1,10 +1,10 @@
 -- The premises: what copying and undoing ask, and what came of them.
-use Prim.Native.Nat.{ℕ, zero, suc, _+_, _-_, _≤_, _<_}
+use Prim.Native.Nat.{ℕ, _+_, _-_, _≤_}
 use native.Mathlib.Omega.{arith}
-use mathlib.Core.Path.{_≡_, refl, sym, ap, ap₂, _∙_, subst}
-use mathlib.Core.Bool.{Bool, true, false}
+use mathlib.Core.Path.{_≡_, refl}
+use mathlib.Core.Bool.{true, false}
 use mathlib.Core.List.{List}
-use lib.ListN.{getD, length}
+use lib.ListN.{length}
 use lib.Seq.{sets}
 use Rattle.arena.specs.Cells.{headers}
 use Rattle.arena.specs.Copies.{copied, Copyable}

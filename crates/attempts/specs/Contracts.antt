@@ -14,7 +14,7 @@ use Rattle.unifier.specs.Stored.{held, Form}
 use Rattle.unifier.specs.Contracts.{Scratch}
 use Rattle.resolution.specs.Rules.{Rule}
 use Rattle.resolution.specs.Fresh.{body}
-use Rattle.resolution.specs.Search.{Limits, within, over, Attempt, exceeded, missed, entered, attempt}
+use Rattle.resolution.specs.Search.{within, over, Attempt, exceeded, missed, entered, attempt}
 use Rattle.attempts.specs.StoredRules.{patternOf, ruleOf, Part, Root, StoredRule}
 use Rattle.attempts.specs.declared.Stored.{Stored}
 use Rattle.attempts.specs.declared.Tried.{Tried}

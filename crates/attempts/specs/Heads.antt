@@ -1,15 +1,15 @@
 -- The goal and the conclusion: what copying and `unify` ask, and what came of them.
-use Prim.Native.Nat.{ℕ, zero, suc, _+_, _-_, _≤_, _<_}
+use Prim.Native.Nat.{ℕ, _+_, _-_, _≤_, _<_}
 use native.Mathlib.Omega.{arith}
 use mathlib.Core.Path.{_≡_, refl, sym, ap, ap₂, _∙_, subst}
 use mathlib.Core.Bool.{Bool, true, false, _||_}
 use mathlib.Core.List.{List}
-use lib.ListN.{getD, length}
+use lib.ListN.{length}
 use lib.Seq.{sets}
 use Rattle.terms.specs.Numbers.{less, less-yes, less-no, by-less, or-false, or-left, true-false}
 use Rattle.terms.specs.Term.{Term}
 use Rattle.terms.specs.Bindings.{Bindings}
-use Rattle.terms.specs.Unification.{Outcome, fails, unified, unify}
+use Rattle.terms.specs.Unification.{unify}
 use Rattle.arena.specs.Cells.{headers, denote, Reference, Same, reference-up, frame-denote, cells}
 use Rattle.arena.specs.NodeLaws.{reference-same}
 use Rattle.arena.specs.Copies.{copied, Copyable, Movable, patternRoom}
@@ -82,28 +82,30 @@ module _ {room limit : ℕ} {pattern places : List ℕ} {stored : Stored} {words
       pub head-goal : Reference room (cells words′) (counter + stored .met) (used + stored .head) goal
       head-goal = reference-up room more (omega arith) (reference-same room kept (asked .refers))
 
-      pub head-conclusion : Reference room (cells words′) (counter + stored .met) (used + stored .head) (copiedAt places counter (stored .from) room used (stored .conclusion))
-      head-conclusion = copied-reference (asked .part) counter (asked .state .form) more few space small words′ written (stored .conclusion) (asked .root)
+      pub head-conclusion : (t : ℕ) → t ≡ copiedAt places counter (stored .from) room used (stored .conclusion) → Reference room (cells words′) (counter + stored .met) (used + stored .head) t
+      head-conclusion t e =
+          subst (λ (x : ℕ). Reference room (cells words′) (counter + stored .met) (used + stored .head) x) (sym e)
+          (copied-reference (asked .part) counter (asked .state .form) more few space small words′ written (stored .conclusion) (asked .root))
 
       -- The same bindings, the same goal and the copied conclusion.
-      same : unify (counter + stored .met) (held room words rows bound) (denote room (cells words) goal) (instance pattern places stored counter)
-          ≡ unify (counter + stored .met) (held room words′ rows bound) (denote room (cells words′) goal)
-          (denote room (cells words′) (copiedAt places counter (stored .from) room used (stored .conclusion)))
-      same =
+      same : (t : ℕ) → t ≡ copiedAt places counter (stored .from) room used (stored .conclusion)
+          → unify (counter + stored .met) (held room words rows bound) (denote room (cells words) goal) (instance pattern places stored counter)
+          ≡ unify (counter + stored .met) (held room words′ rows bound) (denote room (cells words′) goal) (denote room (cells words′) t)
+      same t e =
           ap (λ (β : Bindings). unify (counter + stored .met) β (denote room (cells words) goal) (instance pattern places stored counter))
           (sym (copied-held (asked .part) counter (asked .state .form) more few space small words′ written))
           ∙ ap₂ (λ (g h : Term). unify (counter + stored .met) (held room words′ rows bound) g h)
           (frame-denote room (cells words) counter used (asked .state .form .words) (cells words′) kept goal (asked .refers))
-          (sym (copied-denotes (asked .part) counter (asked .state .form) more few space small words′ written (stored .conclusion) (asked .root)))
+          (sym (ap (denote room (cells words′)) e ∙ copied-denotes (asked .part) counter (asked .state .form) more few space small words′ written (stored .conclusion) (asked .root)))
 
-      module _ {rows′ links′ marks′ stack′ : Rows} {bound′ : ℕ} {answer : Bool}
+      module _ {t : ℕ} (found : t ≡ copiedAt places counter (stored .from) room used (stored .conclusion)) {rows′ links′ marks′ stack′ : Rows} {bound′ : ℕ} {answer : Bool}
           (h : Unified room words′ rows rows′ links links′ marks marks′ stack stack′ (counter + stored .met) (used + stored .head) bound bound′
-          goal (copiedAt places counter (stored .from) room used (stored .conclusion)) answer) where
+          goal t answer) where
         -- They do not unify.
         pub head-apart : answer ≡ false
             → HeadTried room limit pattern places stored words words′ rows rows′ links links′ marks marks′ stack stack′ counter used bound goal Apart
         head-apart e = record {
-          came = (fits, same ∙ h .is ∙ ap (λ (a : Bool). outcome a (held room words′ rows′ bound′)) e, h .failed e .0);
+          came = (fits, same t found ∙ h .is ∙ ap (λ (a : Bool). outcome a (held room words′ rows′ bound′)) e, h .failed e .0);
           kept = kept;
           long = copied-long (asked .part) counter (asked .state .form) more few space small words′ written;
           linksKept = h .links;
@@ -117,7 +119,7 @@ module _ {room limit : ℕ} {pattern places : List ℕ} {stored : Stored} {words
         head-unifies e = record {
           came = (
             fits,
-            same ∙ h .is ∙ ap (λ (a : Bool). outcome a (held room words′ rows′ bound′)) e,
+            same t found ∙ h .is ∙ ap (λ (a : Bool). outcome a (held room words′ rows′ bound′)) e,
             record { form = h .form; added = record { more = h .more; kept = h .kept; still = h .still; back = h .back } },
           );
           kept = kept;

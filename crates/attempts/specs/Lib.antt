@@ -8,3 +8,5 @@ pub mod Parts
 pub mod Heads
 pub mod Bodies
 pub mod Outcomes
+pub mod Keeping
+pub mod Accepting

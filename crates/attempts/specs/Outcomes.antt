@@ -1,24 +1,24 @@
 -- The theory's attempt over the stored counts, in its four ways, and what each way out of an attempt leaves.
-use Prim.Native.Nat.{ℕ, zero, suc, _+_, _-_, _≤_, _<_}
+use Prim.Native.Nat.{ℕ, _+_, _-_, _≤_}
 use native.Mathlib.Omega.{arith}
 use native.Mathlib.Nat.{le-refl}
 use mathlib.Core.Path.{_≡_, refl, sym, ap, ap₂, _∙_, subst}
 use mathlib.Core.Bool.{Bool, true, false}
-use mathlib.Core.List.{List, map}
+use mathlib.Core.List.{List}
 use lib.ListN.{getD, length}
 use Rattle.terms.specs.Numbers.{true-false}
-use Rattle.terms.specs.Term.{Term, sub}
+use Rattle.terms.specs.Term.{Term}
 use Rattle.terms.specs.Bindings.{Bindings}
 use Rattle.terms.specs.Unification.{Outcome, fails, unified, unify}
 use Rattle.arena.specs.Cells.{headers, denote, Same, cells}
 use Rattle.arena.specs.Copies.{patternRoom, numbered}
-use Rattle.unifier.specs.Tables.{Rows, undone}
+use Rattle.unifier.specs.Tables.{Rows}
 use Rattle.unifier.specs.Stored.{held, Form}
 use Rattle.resolution.specs.Rules.{Rule}
-use Rattle.resolution.specs.Fresh.{headVars, allVars, head, body}
+use Rattle.resolution.specs.Fresh.{allVars, head, body}
 use Rattle.resolution.specs.Search.{words, within, over, Attempt, exceeded, missed, entered, guard, unifying, attempt}
 use Rattle.attempts.specs.StoredRules.{patternOf, ruleOf, StoredRule}
-use Rattle.attempts.specs.Contracts.{Asked, Back, Added, Inside, Attempted, HeadAsked, HeadTried, instance, BodyAsked, BodyTried, premiseAt}
+use Rattle.attempts.specs.Contracts.{Asked, Back, Added, Attempted, HeadAsked, HeadTried, instance, BodyAsked, BodyTried, premiseAt}
 use Rattle.attempts.specs.RuleLaws.{terms-moved, instance-head, instance-body, head-words, body-words, variables-le}
 use Rattle.attempts.specs.Extending.{form-back}
 use Rattle.attempts.specs.Heads.{allowed}

@@ -1,7 +1,7 @@
 -- A part of a stored rule, copied behind the used words of a state in form: what the state is then, and what the references to the copy denote.
-use Prim.Native.Nat.{ℕ, zero, suc, _+_, _-_, _≤_, _<_}
+use Prim.Native.Nat.{ℕ, _+_, _-_, _≤_, _<_}
 use native.Mathlib.Omega.{arith}
-use mathlib.Core.Path.{_≡_, refl, sym, ap, ap₂, _∙_, subst}
+use mathlib.Core.Path.{_≡_, sym, ap, _∙_, subst}
 use mathlib.Core.List.{List}
 use lib.ListN.{getD, length}
 use lib.Seq.{sets, length-sets}
@@ -11,9 +11,10 @@ use Rattle.arena.specs.Copies.{patternRoom, moved, copied, numbered, Copyable, 
 use Rattle.arena.specs.CopyLaws.{inst-frame, inst-formed, inst-reference, inst-denotes}
 use Rattle.unifier.specs.Tables.{Rows}
 use Rattle.unifier.specs.Stored.{held, Form}
+use Rattle.unifier.specs.Growth.{form-grows}
 use Rattle.attempts.specs.StoredRules.{patternOf, Part, Root}
 use Rattle.attempts.specs.Contracts.{copiedAt}
-use Rattle.attempts.specs.Extending.{held-kept, form-extended}
+use Rattle.attempts.specs.Extending.{held-kept}
 
 module _ {pattern places : List ℕ} {from count n : ℕ} (part : Part pattern places from count n)
     {words : List ℕ} {rows : Rows} {room used variables bound : ℕ} (counter : ℕ) (form : Form room words rows variables used bound)
@@ -67,7 +68,7 @@ module _ {pattern places : List ℕ} {from count n : ℕ} (part : Part pattern p
     pub copied-form : counter + n ≤ length rows → Form room words′ rows (counter + n) (used + count) bound
     copied-form lent =
         let e = copied-long in
-        form-extended form words′ copied-kept (counter + n) (used + count) formed more few (omega arith) (omega arith) (omega arith) lent
+        form-grows form words′ copied-kept more (omega arith) formed few (omega arith) (omega arith) lent
 
     module _ (r : ℕ) (root : Root pattern places from count n r) where
       -- A judgment's reference is found in the copy, and denotes the instance.

@@ -1,12 +1,12 @@
 -- Laws of stored rules: an attempt looks only at a rule's terms, a renamed term takes as many words, and the table of places carries out the theory's
 -- fresh instances.
-use Prim.Native.Nat.{ℕ, zero, suc, _+_, _≤_, _<_}
+use Prim.Native.Nat.{ℕ, suc, _+_, _≤_, _<_}
 use native.Mathlib.Omega.{arith}
-use mathlib.Core.Path.{_≡_, refl, sym, ap, ap₂, _∙_, subst}
+use mathlib.Core.Path.{_≡_, refl, sym, ap, ap₂, _∙_}
 use mathlib.Core.Bool.{true}
 use mathlib.Core.List.{List, [], _∷_, map}
 use lib.ListN.{getD, length}
-use Rattle.terms.specs.Term.{Kind, Syn, var, app, nil, cons, Term, Terms, Subst, sub, count}
+use Rattle.terms.specs.Term.{Kind, Syn, var, app, nil, cons, Term, Terms, Subst, sub}
 use Rattle.terms.specs.TermLaws.{count-sub}
 use Rattle.terms.specs.Bindings.{Bindings}
 use Rattle.arena.specs.Cells.{termsOf}

@@ -1,7 +1,9 @@
 // One attempt with a rule (document 01, "Search"): its conclusion is copied with new variables and unified with a goal, and then its premises are copied.
 ghost use mathlib.Core.Path.{_≡_};
-ghost use Prim.Native.Nat.{_+_};
+ghost use Prim.Native.Nat.{_+_, _<_, _≤_};
 ghost use Rattle.resolution.specs.Search.{within, over};
+ghost use Rattle.arena.specs.Cells.{headers};
+ghost use Rattle.arena.specs.Copies.{patternRoom};
 ghost use Rattle.attempts.specs.Contracts.{Asked, Attempted, HeadAsked, HeadTried, BodyAsked, BodyTried};
 use arena::inst;
 use arena::moved_word;
@@ -81,7 +83,9 @@ fn try_head(
     if exceeds(room, limit, variables, top) {
         return Meeting::Refused;
     }
-    let conclusion = moved_word(
+    // Of two variables the first is bound: the goal's.
+    let first = goal;
+    let second = moved_word(
         stored.conclusion,
         places,
         counter,
@@ -99,8 +103,8 @@ fn try_head(
         variables,
         top,
         bound,
-        goal,
-        conclusion,
+        first,
+        second,
     );
     if ended.unified {
         return Meeting::Unifies(ended.bound);
@@ -129,7 +133,9 @@ fn try_body(
     let from = stored.from + stored.head;
     let count = stored.body;
     let behind = used + stored.head;
-    if exceeds(room, limit, counter + stored.variables, behind + count) {
+    let variables = counter + stored.variables;
+    let end = behind + count;
+    if exceeds(room, limit, variables, end) {
         undo(bindings, bound, mark);
         return false;
     }
@@ -138,7 +144,7 @@ fn try_body(
 }
 
 // One attempt: the goal with a rule, under the first `bound` bindings, with new variables from the counter on. The premises' references are named only
-// in the contract: where they are found in the words is `premiseAt`.
+// in the contract: what they become is `premiseAt`, which `arena::moved_word` computes.
 pub fn try_rule(
     pattern: &[u32],
     stored: Stored,
@@ -161,6 +167,7 @@ pub fn try_rule(
         (now (bindings .entry)) (now (bindings .exit)) (now (links .entry)) (now (links .exit)) (now (marks .entry)) (now (marks .exit))
         (now (stack .entry)) (now (stack .exit)) counter used bound goal r ⌝ }
 {
+    let met = counter + stored.met;
     match try_head(
         pattern,
         stored,
@@ -178,7 +185,7 @@ pub fn try_rule(
         goal,
     ) {
         Meeting::Refused => Tried::Exceeded,
-        Meeting::Apart => Tried::Missed(counter + stored.met),
+        Meeting::Apart => Tried::Missed(met),
         Meeting::Unifies(n) => {
             if try_body(
                 pattern,

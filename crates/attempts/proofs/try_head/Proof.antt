@@ -1,6 +1,5 @@
 -- `try_head` meets its contract: the limits refuse the conclusion, or it is copied and the goal is unified with it.
-use mathlib.Core.Path.{refl, sym, subst, _∙_}
-use Prim.Native.Nat.{ℕ}
+use mathlib.Core.Path.{sym, _∙_}
 use Rattle.attempts.specs.Heads.{head-refused, head-copyable, head-movable, head-scratch, head-form, head-goal, head-conclusion, head-apart, head-unifies}
 use borrow.Author.Needs.{needs}
 use Rattle.attempts.proofs.try_head.Statement.{statement}
@@ -41,7 +40,7 @@ unify-requires c κs =
     let moved-word = c .before .before .before .before .before .before .before .before .before .moved-word in (
       head-form pre (sym (exceeds .ensures)
           ∙ (if1 .left)) _ (inst .ensures),
-      ((head-goal pre (sym (exceeds .ensures) ∙ (if1 .left)) _ (inst .ensures), rw (moved-word .ensures) (head-conclusion pre (sym (exceeds .ensures) ∙ (if1 .left)) _ (inst .ensures))), head-scratch pre (sym (exceeds .ensures) ∙ (if1 .left))),
+      ((head-goal pre (sym (exceeds .ensures) ∙ (if1 .left)) _ (inst .ensures), head-conclusion pre (sym (exceeds .ensures) ∙ (if1 .left)) _ (inst .ensures) _ (moved-word .ensures)), head-scratch pre (sym (exceeds .ensures) ∙ (if1 .left))),
     )
 
 same-length : tie.Need-same-length
@@ -68,7 +67,7 @@ returns-2 c =
     let moved-word = c .before .before .before .before .before .before .before .before .before .before .before .before .before .before .before .moved-word in
     let unify = c .before .before .before .before .before .unify in
     let if2 = c .if2 in
-    head-unifies pre (sym (exceeds .ensures) ∙ (if1 .left)) _ (inst .ensures) (rw (moved-word .ensures) at (unify .ensures)) (if2 .taken)
+    head-unifies pre (sym (exceeds .ensures) ∙ (if1 .left)) _ (inst .ensures) (moved-word .ensures) (unify .ensures) (if2 .taken)
 
 same-length-6 : tie.Need-same-length-6
 same-length-6 c = (c .before .before .before .before .before .before .before .before .before .before .before .before .before .inst .kept .1 .1 .1 .1 .0)
@@ -94,7 +93,7 @@ returns-3 c =
     let moved-word = c .before .before .before .before .before .before .before .before .before .before .before .before .before .before .before .moved-word in
     let unify = c .before .before .before .before .before .unify in
     let if2 = c .if2 in
-    head-apart pre (sym (exceeds .ensures) ∙ (if1 .left)) _ (inst .ensures) (rw (moved-word .ensures) at (unify .ensures)) (if2 .left)
+    head-apart pre (sym (exceeds .ensures) ∙ (if1 .left)) _ (inst .ensures) (moved-word .ensures) (unify .ensures) (if2 .left)
 
 pub try-head-spec : {M : Type 1} → statement M
 try-head-spec =
