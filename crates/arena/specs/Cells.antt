@@ -58,7 +58,7 @@ module _ (N : ℕ) where
       let e : p + 0 ≡ p = omega arith in
       let h₀ : g (w (p + 0)) ≡ g′ (w′ (p + 0)) = h 0 (omega arith) in
       ap₂ cons (rw e at h₀) (args-same g g′ w w′ (suc p) n (λ i l. let d : p + suc i ≡ suc p + i = omega arith in
-        let h₁ : g (w (p + suc i)) ≡ g′ (w′ (p + suc i)) = h (suc i) (omega arith) in rw d at h₁))
+      let h₁ : g (w (p + suc i)) ≡ g′ (w′ (p + suc i)) = h (suc i) (omega arith) in rw d at h₁))
 
   pub decode-variable : (k : ℕ) (w : Cells) (r : ℕ) → r < N → decode k w r ≡ var r
   unfolding decode
@@ -95,17 +95,17 @@ module _ (N : ℕ) where
     enough (suc k) (suc k′) r h p q =
         ⊎-elim (λ l. decode-variable (suc k) w r l ∙ sym (decode-variable (suc k′) w r l))
         (λ l. decode-node k w r l ∙ ap (app (symbolOf (w (r - N)))) (args-same (decode k w) (decode k′ w) w w (suc (r - N)) (arityOf (w (r - N)))
-          (λ i b. let y = reference-below l (argument-at r i h l b) in
-            enough k k′ (w (suc (r - N) + i)) (reference-argument r i h l b) (omega arith) (omega arith)))
-          ∙ sym (decode-node k′ w r l))
+        (λ i b. let y = reference-below l (argument-at r i h l b) in
+        enough k k′ (w (suc (r - N) + i)) (reference-argument r i h l b) (omega arith) (omega arith)))
+        ∙ sym (decode-node k′ w r l))
         (low-or-high r N)
 
     pub denote-node : (r : ℕ) → Reference w nv u r → N ≤ r → denote w r ≡ app (symbolOf (w (r - N))) (args (denote w) w (suc (r - N)) (arityOf (w (r - N))))
     unfolding denote
     denote-node r h l =
         decode-node r w r l ∙ ap (app (symbolOf (w (r - N)))) (args-same (decode r w) (denote w) w w (suc (r - N)) (arityOf (w (r - N)))
-          (λ i b. let y = reference-below l (argument-at r i h l b) in
-            enough r (suc (w (suc (r - N) + i))) (w (suc (r - N) + i)) (reference-argument r i h l b) y (omega arith)))
+        (λ i b. let y = reference-below l (argument-at r i h l b) in
+        enough r (suc (w (suc (r - N) + i))) (w (suc (r - N) + i)) (reference-argument r i h l b) y (omega arith)))
 
     -- the frame: words past the used part are of no concern
     pub frame : (w′ : Cells) → Same w w′ u → (k r : ℕ) → Reference w nv u r → decode k w r ≡ decode k w′ r
@@ -114,11 +114,11 @@ module _ (N : ℕ) where
     frame w′ s (suc k) r h =
         ⊎-elim (λ l. decode-variable (suc k) w r l ∙ sym (decode-variable (suc k) w′ r l))
         (λ l. let n = h .node l in let b = h .header l in let e = s (r - N) (omega arith) in
-          let f = wf .fits (r - N) (omega arith) b in
-          decode-node k w r l ∙ ap (app (symbolOf (w (r - N)))) (args-same (decode k w) (decode k w′) w w′ (suc (r - N)) (arityOf (w (r - N)))
-            (λ i j. frame w′ s k (w (suc (r - N) + i)) (reference-argument r i h l j) ∙ ap (decode k w′) (s (suc (r - N) + i) (omega arith))))
-          ∙ ap (λ (h : ℕ). app (symbolOf h) (args (decode k w′) w′ (suc (r - N)) (arityOf h))) e
-          ∙ sym (decode-node k w′ r l))
+        let f = wf .fits (r - N) (omega arith) b in
+        decode-node k w r l ∙ ap (app (symbolOf (w (r - N)))) (args-same (decode k w) (decode k w′) w w′ (suc (r - N)) (arityOf (w (r - N)))
+        (λ i j. frame w′ s k (w (suc (r - N) + i)) (reference-argument r i h l j) ∙ ap (decode k w′) (s (suc (r - N) + i) (omega arith))))
+        ∙ ap (λ (h : ℕ). app (symbolOf h) (args (decode k w′) w′ (suc (r - N)) (arityOf h))) e
+        ∙ sym (decode-node k w′ r l))
         (low-or-high r N)
 
     pub frame-denote : (w′ : Cells) → Same w w′ u → (r : ℕ) → Reference w nv u r → denote w r ≡ denote w′ r
@@ -130,16 +130,18 @@ module _ (N : ℕ) where
     below-args g p zero h = tt
     below-args g p (suc n) h =
         let e : p + 0 ≡ p = omega arith in
-        let h₀ : Below nv (g (w (p + 0))) = h 0 (omega arith) in
-        (rw e at h₀, below-args g (suc p) n (λ i l. let d : p + suc i ≡ suc p + i = omega arith in
-          let h₁ : Below nv (g (w (p + suc i))) = h (suc i) (omega arith) in rw d at h₁))
+        let h₀ : Below nv (g (w (p + 0))) = h 0 (omega arith) in (
+          rw e at h₀,
+          below-args g (suc p) n (λ i l. let d : p + suc i ≡ suc p + i = omega arith in
+              let h₁ : Below nv (g (w (p + suc i))) = h (suc i) (omega arith) in rw d at h₁),
+        )
 
     below-decode : (k r : ℕ) → Reference w nv u r → r < k → Below nv (decode k w r)
     below-decode zero r h p = absurd (not-suc-le-zero p)
     below-decode (suc k) r h p =
         ⊎-elim (λ l. subst (Below nv) (sym (decode-variable (suc k) w r l)) (h .variable l))
         (λ l. subst (Below nv) (sym (decode-node k w r l)) (below-args (decode k w) (suc (r - N)) (arityOf (w (r - N)))
-          (λ i b. let y = reference-below l (argument-at r i h l b) in below-decode k (w (suc (r - N) + i)) (reference-argument r i h l b) (omega arith))))
+        (λ i b. let y = reference-below l (argument-at r i h l b) in below-decode k (w (suc (r - N) + i)) (reference-argument r i h l b) (omega arith))))
         (low-or-high r N)
 
     pub below-denote : (r : ℕ) → Reference w nv u r → Below nv (denote w r)

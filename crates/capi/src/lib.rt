@@ -44,12 +44,24 @@ pub extern "C" fn horn_unify(
     right: u32,
 ) -> u64
     requires { ⌜ Form room (now words) (now bindings) variables used bound ⌝
-      ∗ ⌜ (Reference room (cells (now words)) variables used left) × (Reference room (cells (now words)) variables used right) ⌝
-      ∗ ⌜ Scratch room used (now links) (now marks) (now stack) ⌝ }
+        ∗ ⌜ (Reference room (cells (now words)) variables used left) × (Reference room (cells (now words)) variables used right) ⌝
+        ∗ ⌜ Scratch room used (now links) (now marks) (now stack) ⌝ }
     ensures { λ r. ⌜ UnifiedAs room (now (words .entry)) (now (bindings .entry)) (now (bindings .exit)) (now (links .entry)) (now (links .exit))
-      (now (marks .entry)) (now (marks .exit)) (now (stack .entry)) (now (stack .exit)) variables used bound left right r ⌝ }
+        (now (marks .entry)) (now (marks .exit)) (now (stack .entry)) (now (stack .exit)) variables used bound left right r ⌝ }
 {
-    let ended = unifier::unify(words, bindings, links, marks, stack, room, variables, used, bound, left, right);
+    let ended = unifier::unify(
+        words,
+        bindings,
+        links,
+        marks,
+        stack,
+        room,
+        variables,
+        used,
+        bound,
+        left,
+        right,
+    );
     if ended.unified {
         return 0x1_0000_0000 + (ended.bound as u64);
     }

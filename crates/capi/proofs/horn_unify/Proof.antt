@@ -36,7 +36,7 @@ returns c =
       unified = (unify .result .unified);
       bound = (unify .result .bound);
       packed = sym (ap (λ u. packedUnify u (unify .result .bound)) (if1 .taken));
-      ended = (unify .ensures)
+      ended = (unify .ensures);
     }
 
 cast-result-2 : tie.Need-cast-result-2
@@ -62,7 +62,7 @@ returns-2 c =
       unified = (unify .result .unified);
       bound = (unify .result .bound);
       packed = sym (ap (λ u. packedUnify u (unify .result .bound)) (if1 .left));
-      ended = (unify .ensures)
+      ended = (unify .ensures);
     }
 
 pub horn-unify-spec : {M : Type 1} → statement M
