@@ -8,7 +8,8 @@ use mathlib.Core.Bool.{Bool}
 use lib.ListN.{getD, length, set, length-set, List·getD-eq-default}
 use lib.Seq.{getD-set-same, getD-set-other, ext-getD}
 use Rattle.terms.specs.Numbers.{by-same, by-less}
-use Rattle.acyclicity.specs.Contract.{Rows, Ready}
+use Rattle.arena.specs.Rows.{Rows}
+use Rattle.acyclicity.specs.Contract.{Ready}
 use Rattle.acyclicity.specs.Edges.{Searchable, Searched, Cleared}
 
 pub cleared-none : (rows : Rows) (from : ℕ) → Cleared rows from from rows

@@ -7,7 +7,8 @@ use mathlib.Core.List.{List}
 use lib.ListN.{length}
 use Rattle.terms.specs.Numbers.{less-yes, less-no, same-refl, same-ne, by-same, by-less}
 use Rattle.arena.specs.Cells.{Cells, cells, arityOf, Reference, low-or-high, reference-up}
-use Rattle.acyclicity.specs.Contract.{Rows, column, Stored}
+use Rattle.arena.specs.Rows.{Rows, column}
+use Rattle.acyclicity.specs.Contract.{Stored}
 use Rattle.acyclicity.specs.Edges.{edge, Outside}
 
 module _ (N : ℕ) (w bound : Cells) (r : ℕ) where

@@ -13,7 +13,8 @@ use Rattle.terms.specs.Term.{Kind, Syn, var, app, nil, cons, Term, Terms, mem}
 use Rattle.terms.specs.Bindings.{Bindings, lookup, Acyclic}
 use Rattle.terms.specs.Order.{ranked-acyclic, acyclic-ranked, rank}
 use Rattle.arena.specs.Cells.{Cells, cells, arityOf, args, denote, Reference, low-or-high, reference-below, denote-node, denote-variable}
-use Rattle.acyclicity.specs.Contract.{Rows, column, bindingOf, Held, Stored}
+use Rattle.arena.specs.Rows.{Rows, column}
+use Rattle.acyclicity.specs.Contract.{bindingOf, Held, Stored}
 use Rattle.acyclicity.specs.Edges.{edge}
 use Rattle.acyclicity.proofs.EdgeLaws.{edge-variable, edge-argument, by-edge, edge-reference, variable-reference}
 use Rattle.acyclicity.proofs.Depth.{Path}

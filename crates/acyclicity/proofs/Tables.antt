@@ -8,7 +8,7 @@ use mathlib.Core.List.{List, []}
 use lib.ListN.{getD, length, set}
 use lib.Seq.{getD-set-same, getD-set-other}
 use Rattle.terms.specs.Numbers.{by-same, by-less}
-use Rattle.acyclicity.specs.Contract.{Rows, column}
+use Rattle.arena.specs.Rows.{Rows, column}
 
 -- The second table is the first, but v at x.
 pub record Changed (f : ℕ → ℕ) (x v : ℕ) (f′ : ℕ → ℕ) : Type 0 where

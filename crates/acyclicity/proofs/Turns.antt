@@ -10,7 +10,8 @@ use lib.Seq.{getD-set-other}
 use Rattle.terms.specs.Numbers.{by-less}
 use Rattle.terms.specs.Bindings.{Bindings, Acyclic}
 use Rattle.arena.specs.Cells.{cells, Reference}
-use Rattle.acyclicity.specs.Contract.{Rows, column, Held, Stored}
+use Rattle.arena.specs.Rows.{Rows, column}
+use Rattle.acyclicity.specs.Contract.{Held, Stored}
 use Rattle.acyclicity.specs.Edges.{edge, Outside, Searchable}
 use Rattle.acyclicity.proofs.Tables.{column-changed, all-changed, total, total-changed, total-most}
 use Rattle.acyclicity.proofs.Depth.{State, skip, enter, cycle, begin, away, at-top, follow, close, nothing}

@@ -11,14 +11,7 @@ use Rattle.terms.specs.Term.{Term}
 use Rattle.terms.specs.Bindings.{Bindings, lookup, Acyclic}
 use Rattle.terms.specs.Order.{Distinct}
 use Rattle.arena.specs.Cells.{Cells, cells, denote, Reference, WellFormed}
-
--- Rows of numbers.
-abbrev pub Rows : Type 0
-Rows = List (List ℕ)
-
--- A column of rows, by row number; past the end it reads as 0.
-abbrev pub column : ℕ → Rows → Cells
-column k rows a = getD (getD rows a []) k 0
+use Rattle.arena.specs.Rows.{Rows, column}
 
 -- The term that a stored word binds a variable to.
 abbrev pub bindingOf : ℕ → Cells → ℕ → Option Term

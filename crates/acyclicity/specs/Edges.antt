@@ -9,7 +9,8 @@ use lib.ListN.{getD, length}
 use Rattle.terms.specs.Numbers.{same, less}
 use Rattle.terms.specs.Bindings.{Bindings, Acyclic}
 use Rattle.arena.specs.Cells.{Cells, cells, arityOf, Reference}
-use Rattle.acyclicity.specs.Contract.{Rows, column, Held, Stored}
+use Rattle.arena.specs.Rows.{Rows, column}
+use Rattle.acyclicity.specs.Contract.{Held, Stored}
 
 -- Where edge number i from the reference r leads: 0 if there is none, else 1 + a reference.
 unfoldable pub edge : ℕ → Cells → Cells → ℕ → ℕ → ℕ

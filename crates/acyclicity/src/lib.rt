@@ -5,7 +5,8 @@ ghost use mathlib.Core.Path.{_≡_};
 ghost use Prim.Native.Nat.{_+_, _≤_};
 ghost use lib.ListN.{length};
 ghost use Rattle.arena.specs.Cells.{cells};
-ghost use Rattle.acyclicity.specs.Contract.{column, Ready, Decided};
+ghost use Rattle.arena.specs.Rows.{column};
+ghost use Rattle.acyclicity.specs.Contract.{Ready, Decided};
 ghost use Rattle.acyclicity.specs.Edges.{edge, Followable, Searchable, Searched, Cleared};
 
 // The mark of a reference from which all edges were followed, and which no cycle was found through. Any other mark is 0 where the search has not been,

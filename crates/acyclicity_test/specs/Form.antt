@@ -4,7 +4,7 @@ use mathlib.Core.Path.{_≡_}
 use mathlib.Core.List.{List, [], _∷_}
 use lib.ListN.{getD, length}
 use Rattle.arena.specs.Cells.{Cells, cells, headers, arityOf, Reference, WellFormed}
-use Rattle.acyclicity.specs.Contract.{Rows, column}
+use Rattle.arena.specs.Rows.{Rows, column}
 
 -- If the word at the address a is a header, its node is in form.
 pub record NodeInForm (N : ℕ) (w : Cells) (variables used a : ℕ) : Type 0 where

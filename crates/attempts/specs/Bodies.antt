@@ -8,7 +8,8 @@ use lib.ListN.{length}
 use lib.Seq.{sets}
 use Rattle.arena.specs.Cells.{headers}
 use Rattle.arena.specs.Copies.{copied, Copyable}
-use Rattle.unifier.specs.Tables.{Rows, undone}
+use Rattle.arena.specs.Rows.{Rows}
+use Rattle.unifier.specs.Tables.{undone}
 use Rattle.unifier.specs.Contracts.{Undoable}
 use Rattle.unifier.specs.Holding.{form-undoable}
 use Rattle.resolution.specs.Search.{within, over}

@@ -9,7 +9,8 @@ use Rattle.terms.specs.Term.{Term, sub}
 use Rattle.terms.specs.Unification.{fails, unified, unify}
 use Rattle.arena.specs.Cells.{headers, denote, Reference, Same, cells, termsOf}
 use Rattle.arena.specs.Copies.{patternRoom, numbered, moved}
-use Rattle.unifier.specs.Tables.{Rows, column, undone}
+use Rattle.arena.specs.Rows.{Rows, column}
+use Rattle.unifier.specs.Tables.{undone}
 use Rattle.unifier.specs.Stored.{held, Form}
 use Rattle.unifier.specs.Contracts.{Scratch}
 use Rattle.resolution.specs.Rules.{Rule}

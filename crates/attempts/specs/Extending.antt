@@ -9,8 +9,10 @@ use Rattle.terms.specs.Term.{Term}
 use Rattle.terms.specs.Bindings.{Bindings, bind}
 use Rattle.arena.specs.Cells.{headers, Cells, denote, Same, frame-denote, cells}
 use Rattle.arena.specs.NodeLaws.{formed-same, formed-up}
-use Rattle.unifier.specs.Tables.{Rows, column, Empty}
-use Rattle.unifier.specs.Stored.{lookupAt, bindings, held, Form}
+use Rattle.arena.specs.Rows.{Rows, column}
+use Rattle.acyclicity.specs.Contract.{bindingOf}
+use Rattle.unifier.specs.Tables.{Empty}
+use Rattle.unifier.specs.Stored.{bindings, held, Form}
 use Rattle.unifier.specs.Contracts.{Scratch}
 use Rattle.unifier.specs.Holding.{form-holds, bindings-low}
 use Rattle.unifier.specs.Growth.{form-grows}
@@ -66,7 +68,7 @@ start-form N w b variables empty few low lent = record {
   lentWords = omega arith;
   lentRows = lent;
   references = λ v r l e. let q = empty 0 v in let z : ⊥ = omega arith in absurd z;
-  lookups = λ v l. ap (lookupAt N (cells w)) (sym (empty 0 v));
+  lookups = λ v l. ap (bindingOf N (cells w)) (sym (empty 0 v));
   acyclic = tt;
   below = tt;
   unbound = λ v l. empty 0 v;

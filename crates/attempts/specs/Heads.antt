@@ -13,7 +13,7 @@ use Rattle.terms.specs.Unification.{unify}
 use Rattle.arena.specs.Cells.{headers, denote, Reference, Same, reference-up, frame-denote, cells}
 use Rattle.arena.specs.NodeLaws.{reference-same}
 use Rattle.arena.specs.Copies.{copied, Copyable, Movable, patternRoom}
-use Rattle.unifier.specs.Tables.{Rows}
+use Rattle.arena.specs.Rows.{Rows}
 use Rattle.unifier.specs.Stored.{held, Form}
 use Rattle.unifier.specs.Contracts.{Scratch, Unified, outcome}
 use Rattle.resolution.specs.Search.{within, over}

@@ -5,7 +5,8 @@ use mathlib.Core.Path.{_≡_, refl, sym, ap, _∙_, subst}
 use mathlib.Core.List.{List}
 use lib.ListN.{length}
 use Rattle.arena.specs.Cells.{denote, Reference, Same, frame-denote, cells}
-use Rattle.unifier.specs.Tables.{Rows, column, undone}
+use Rattle.arena.specs.Rows.{Rows, column}
+use Rattle.unifier.specs.Tables.{undone}
 use Rattle.unifier.specs.Stored.{held, Form}
 use Rattle.unifier.specs.Contracts.{Scratch}
 use Rattle.unifier.specs.Holding.{bindings-same, form-holds}

@@ -12,7 +12,7 @@ use Rattle.terms.specs.Bindings.{Bindings}
 use Rattle.terms.specs.Unification.{Outcome, fails, unified, unify}
 use Rattle.arena.specs.Cells.{headers, denote, Same, cells}
 use Rattle.arena.specs.Copies.{patternRoom, numbered}
-use Rattle.unifier.specs.Tables.{Rows}
+use Rattle.arena.specs.Rows.{Rows}
 use Rattle.unifier.specs.Stored.{held, Form}
 use Rattle.resolution.specs.Rules.{Rule}
 use Rattle.resolution.specs.Fresh.{allVars, head, body}

@@ -9,7 +9,7 @@ use Rattle.terms.specs.Term.{sub}
 use Rattle.arena.specs.Cells.{headers, denote, Reference, WellFormed, Same, cells}
 use Rattle.arena.specs.Copies.{patternRoom, moved, copied, numbered, Copyable, Movable, PartReference}
 use Rattle.arena.specs.CopyLaws.{inst-frame, inst-formed, inst-reference, inst-denotes}
-use Rattle.unifier.specs.Tables.{Rows}
+use Rattle.arena.specs.Rows.{Rows}
 use Rattle.unifier.specs.Stored.{held, Form}
 use Rattle.unifier.specs.Growth.{form-grows}
 use Rattle.attempts.specs.StoredRules.{patternOf, Part, Root}

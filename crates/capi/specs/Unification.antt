@@ -3,7 +3,7 @@ use mathlib.Core.Path.{_≡_}
 use mathlib.Core.Bool.{Bool, true, false}
 use mathlib.Core.List.{List}
 use Prim.Native.Nat.{ℕ, _+_, _^_}
-use Rattle.unifier.specs.Tables.{Rows}
+use Rattle.arena.specs.Rows.{Rows}
 use Rattle.unifier.specs.Contracts.{Unified}
 
 -- How many variables are bound, and 2^32 more where the terms unify.

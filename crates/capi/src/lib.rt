@@ -1,10 +1,10 @@
 // The functions that programs in other languages call: numbers, byte slices and rows.
 ghost use mathlib.Core.Path.{_≡_};
-ghost use Rattle.arena.specs.Cells.{Reference};
+ghost use Rattle.arena.specs.Cells.{cells, Reference};
 ghost use Rattle.capi.specs.Unification.{UnifiedAs};
 ghost use Rattle.capi.specs.Words.{packed, textLimit};
 ghost use Rattle.unifier.specs.Contracts.{Scratch};
-ghost use Rattle.unifier.specs.Stored.{cells, Form};
+ghost use Rattle.unifier.specs.Stored.{Form};
 ghost use Rattle.words.specs.Lexer.{lexAnswer, lexRows};
 
 // `words::lex` under a limit on the text's bytes. The answer is the number of tokens, or 2^32 times the refusal's number and its line.

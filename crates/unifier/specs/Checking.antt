@@ -10,9 +10,11 @@ use mathlib.Core.List.{List}
 use lib.ListN.{length}
 use Rattle.terms.specs.Numbers.{by-bool, by-same, true-false, some-none}
 use Rattle.terms.specs.Bindings.{lookup}
-use Rattle.arena.specs.Cells.{headers, denote, Reference, WellFormed}
-use Rattle.unifier.specs.Tables.{Rows, column, Empty, undone}
-use Rattle.unifier.specs.Stored.{cells, lookupAt, held, Form, Sound}
+use Rattle.arena.specs.Cells.{cells, headers, denote, Reference, WellFormed}
+use Rattle.arena.specs.Rows.{Rows, column}
+use Rattle.acyclicity.specs.Contract.{bindingOf}
+use Rattle.unifier.specs.Tables.{Empty, undone}
+use Rattle.unifier.specs.Stored.{held, Form, Sound}
 use Rattle.unifier.specs.Contracts.{Entered, Undoable, Free, Tells, Trailed, BindingsChecked}
 use Rattle.unifier.specs.Orders.{by-order, same-or-not, not-zero}
 use Rattle.unifier.specs.Entries.{Entries, entries-none, entries-room, entries-more, entries-undoable, enter-changed, enter-back}
@@ -178,13 +180,13 @@ module _ {N : ℕ} {w : List ℕ} {b : Rows} {variables used k : ℕ} where
         rest = rest;
       }
     where
-      at : (v z : ℕ) → column 0 b v ≡ z → lookup (held N w b k) v ≡ lookupAt N (cells w) (column 0 b v)
-      at v zero e = bindings-none N (cells w) (column 0 b) (column 1 b) k v (λ i l q. t .bound i l (ap (column 0 b) q ∙ e)) ∙ ap (lookupAt N (cells w)) (sym e)
+      at : (v z : ℕ) → column 0 b v ≡ z → lookup (held N w b k) v ≡ bindingOf N (cells w) (column 0 b v)
+      at v zero e = bindings-none N (cells w) (column 0 b) (column 1 b) k v (λ i l q. t .bound i l (ap (column 0 b) q ∙ e)) ∙ ap (bindingOf N (cells w)) (sym e)
       at v (suc r) e =
           let (u, ix, rf) = t .values v (λ q. omega arith) in let (i, li, q) = ix in
           let d : column 0 b v - 1 ≡ r = omega arith in
           subst (λ (y : ℕ). lookup (held N w b k) y ≡ some (denote N (cells w) (column 0 b y - 1))) q (bindings-some k (le-refl k) t i li)
-          ∙ ap (λ (y : ℕ). some (denote N (cells w) y)) d ∙ ap (lookupAt N (cells w)) (sym e)
+          ∙ ap (λ (y : ℕ). some (denote N (cells w) y)) d ∙ ap (bindingOf N (cells w)) (sym e)
 
   pub form-trailed : Form N w b variables used k → Trailed N w b variables used k
   form-trailed f = record {
@@ -193,7 +195,7 @@ module _ {N : ℕ} {w : List ℕ} {b : Rows} {variables used k : ℕ} where
     distinct = bindings-one N (cells w) (column 0 b) (column 1 b) k (f .acyclic);
     values = λ v n. let low : v < variables = by-order v variables (λ a. a) (λ a. absurd (n (f .unbound v a))) in
         let e = not-zero (column 0 b v) n in
-        (low, listed-at N w b k v (λ z. some-none {P = ⊥} (f .lookups v low ∙ ap (lookupAt N (cells w)) e) z), f .references v (column 0 b v - 1) low e);
+        (low, listed-at N w b k v (λ z. some-none {P = ⊥} (f .lookups v low ∙ ap (bindingOf N (cells w)) e) z), f .references v (column 0 b v - 1) low e);
   }
 
   pub form-few : Form N w b variables used k → k ≤ variables

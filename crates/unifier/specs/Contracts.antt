@@ -7,9 +7,10 @@ use mathlib.Core.List.{List, [], _∷_}
 use lib.ListN.{getD, length, set}
 use Rattle.terms.specs.Bindings.{Bindings, walk, occurs}
 use Rattle.terms.specs.Unification.{Outcome, fails, unified, unify}
-use Rattle.arena.specs.Cells.{denote, Reference}
-use Rattle.unifier.specs.Tables.{Rows, column, Empty, entered, removed, undone}
-use Rattle.unifier.specs.Stored.{cells, held, Form, WalksTo, LeadsTo}
+use Rattle.arena.specs.Cells.{cells, denote, Reference}
+use Rattle.arena.specs.Rows.{Rows, column}
+use Rattle.unifier.specs.Tables.{Empty, entered, removed, undone}
+use Rattle.unifier.specs.Stored.{held, Form, WalksTo, LeadsTo}
 use Rattle.unifier.specs.declared.Decision.{Decision}
 use Rattle.unifier.specs.declared.Decision.the-variants.{Same, Bind, Open, Clash}
 

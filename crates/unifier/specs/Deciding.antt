@@ -5,8 +5,9 @@ use mathlib.Core.Path.{_≡_, sym, subst, _∙_}
 use mathlib.Core.Logic.{_≢_}
 use mathlib.Core.List.{List}
 use lib.ListN.{length}
-use Rattle.unifier.specs.Tables.{Rows, column}
-use Rattle.unifier.specs.Stored.{cells, Form, WalksTo, LeadsTo}
+use Rattle.arena.specs.Cells.{cells}
+use Rattle.arena.specs.Rows.{Rows, column}
+use Rattle.unifier.specs.Stored.{Form, WalksTo, LeadsTo}
 use Rattle.unifier.specs.Contracts.{Walked, Ways, Alike, met, linked, Opening}
 use Rattle.unifier.specs.Linking.{leads-one}
 use Rattle.unifier.specs.Search.{reference-low}

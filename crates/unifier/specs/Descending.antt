@@ -9,9 +9,10 @@ use mathlib.Core.List.{List, [], _∷_}
 use lib.ListN.{getD, length, set, length-set}
 use lib.Seq.{getD-set-same, getD-set-other, ext-getD}
 use Rattle.terms.specs.Numbers.{by-same, true-false}
-use Rattle.arena.specs.Cells.{Cells, Reference, reference-argument}
-use Rattle.unifier.specs.Tables.{Rows, column, Empty, valued}
-use Rattle.unifier.specs.Stored.{cells, Sound, Edge, into, argument}
+use Rattle.arena.specs.Cells.{Cells, cells, Reference, reference-argument}
+use Rattle.arena.specs.Rows.{Rows, column}
+use Rattle.unifier.specs.Tables.{Empty, valued}
+use Rattle.unifier.specs.Stored.{Sound, Edge, into, argument}
 use Rattle.unifier.specs.Contracts.{Free}
 use Rattle.unifier.specs.Orders.{by-order, not-zero}
 use Rattle.unifier.specs.TableLaws.{column-same, column-other, two, valued-at, valued-off, valued-list}

@@ -6,7 +6,8 @@ use mathlib.Core.Path.{_≡_, refl, sym, ap, ap₂, _∙_, subst}
 use mathlib.Core.Logic.{_≢_}
 use lib.ListN.{length}
 use Rattle.terms.specs.Numbers.{by-same}
-use Rattle.unifier.specs.Tables.{Rows, column, Empty, undone}
+use Rattle.arena.specs.Rows.{Rows, column}
+use Rattle.unifier.specs.Tables.{Empty, undone}
 use Rattle.unifier.specs.Contracts.{Entered, Undoable}
 use Rattle.unifier.specs.Orders.{by-order}
 use Rattle.unifier.specs.TableLaws.{Changed, entered-changed, undone-more}

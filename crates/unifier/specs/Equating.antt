@@ -13,9 +13,10 @@ use Rattle.terms.specs.Term.{var, mem}
 use Rattle.terms.specs.Bindings.{Bindings, lookup, walk, res, occurs, Acyclic, BelowB}
 use Rattle.terms.specs.Unification.{Outcome, unify}
 use Rattle.terms.specs.Loops.{occurs-var}
-use Rattle.arena.specs.Cells.{Cells, headers, arityOf, denote, Reference, WellFormed, denote-variable}
-use Rattle.unifier.specs.Tables.{Rows, column, Empty, undone}
-use Rattle.unifier.specs.Stored.{cells, held, Form, free, LeadsTo}
+use Rattle.arena.specs.Cells.{Cells, cells, headers, arityOf, denote, Reference, WellFormed, denote-variable}
+use Rattle.arena.specs.Rows.{Rows, column}
+use Rattle.unifier.specs.Tables.{Empty, undone}
+use Rattle.unifier.specs.Stored.{held, Form, free, LeadsTo}
 use Rattle.unifier.specs.Contracts.{Entered, Free, Falling, Ways, Alike, met, linked, Binding, ofFirst, ofSecond, Clashing, inFirst, inSecond, heads, Says, Joined, outcome}
 use Rattle.unifier.specs.declared.Decision.the-variants.{Same, Bind, Open, Clash}
 use Rattle.unifier.specs.Orders.{by-order, low-or-high, not-zero, put, put-at, put-off}

@@ -9,9 +9,11 @@ use lib.ListN.{length}
 use Rattle.terms.specs.Term.{Term}
 use Rattle.terms.specs.Bindings.{Bindings, bind, lookup, Acyclic, BelowB}
 use Rattle.terms.specs.BindingLaws.{lookup-above, belowB-le}
-use Rattle.arena.specs.Cells.{Cells, headers, denote, Reference, WellFormed, frame-denote}
-use Rattle.unifier.specs.Tables.{Rows, column, removed, undone}
-use Rattle.unifier.specs.Stored.{cells, lookupAt, bindings, held, Form}
+use Rattle.arena.specs.Cells.{Cells, cells, headers, denote, Reference, WellFormed, frame-denote}
+use Rattle.arena.specs.Rows.{Rows, column}
+use Rattle.acyclicity.specs.Contract.{bindingOf}
+use Rattle.unifier.specs.Tables.{removed, undone}
+use Rattle.unifier.specs.Stored.{bindings, held, Form}
 use Rattle.unifier.specs.Orders.{by-order, not-zero}
 use Rattle.unifier.specs.Holding.{form-holds, bindings-low}
 
@@ -52,16 +54,16 @@ module _ {N : ℕ} {w : List ℕ} {b : Rows} {variables used k : ℕ} (f : Form 
           (λ a. absurd (let z = f .unbound v a in omega arith));
       lookups = λ v l. ap (λ (β : Bindings). lookup β v) (sym held-grows) ∙ by-order v variables
           (λ a. f .lookups v a ∙ at v a (column 0 b v) refl)
-          (λ a. lookup-above variables (held N w b k) (f .below) v a ∙ ap (lookupAt N (cells w′)) (sym (f .unbound v a)));
+          (λ a. lookup-above variables (held N w b k) (f .below) v a ∙ ap (bindingOf N (cells w′)) (sym (f .unbound v a)));
       acyclic = subst (λ (β : Bindings). Acyclic β) held-grows (f .acyclic);
       below = subst (λ (β : Bindings). BelowB variables′ β) held-grows (belowB-le vs (held N w b k) (f .below));
       unbound = λ v l. f .unbound v (omega arith);
       rest = f .rest;
     }
       where
-        at : (v : ℕ) → v < variables → (z : ℕ) → column 0 b v ≡ z → lookupAt N (cells w) (column 0 b v) ≡ lookupAt N (cells w′) (column 0 b v)
-        at v l zero e = ap (lookupAt N (cells w)) e ∙ ap (lookupAt N (cells w′)) (sym e)
-        at v l (suc r) e = ap (lookupAt N (cells w)) e ∙ ap some (denote-grows r (f .references v r l e)) ∙ ap (lookupAt N (cells w′)) (sym e)
+        at : (v : ℕ) → v < variables → (z : ℕ) → column 0 b v ≡ z → bindingOf N (cells w) (column 0 b v) ≡ bindingOf N (cells w′) (column 0 b v)
+        at v l zero e = ap (bindingOf N (cells w)) e ∙ ap (bindingOf N (cells w′)) (sym e)
+        at v l (suc r) e = ap (bindingOf N (cells w)) e ∙ ap some (denote-grows r (f .references v r l e)) ∙ ap (bindingOf N (cells w′)) (sym e)
 
 undone-then : (t : Rows) (mark a c : ℕ) → undone t mark (a + c) ≡ undone (undone t (mark + a) c) mark a
 unfolding undone

@@ -13,16 +13,17 @@ use Rattle.terms.specs.Term.{mem}
 use Rattle.terms.specs.Bindings.{Bindings, bind, lookup, walk, res, Acyclic, BelowB}
 use Rattle.terms.specs.BindingLaws.{walk-app, walk-unbound, walk-bound}
 use Rattle.terms.specs.Loops.{walkLength, walkLength-bound}
-use Rattle.arena.specs.Cells.{Cells, denote, Reference, WellFormed, denote-node, denote-variable, below-denote}
+use Rattle.arena.specs.Cells.{Cells, cells, denote, Reference, WellFormed, denote-node, denote-variable, below-denote}
+use Rattle.arena.specs.Rows.{Rows, column}
+use Rattle.acyclicity.specs.Contract.{bindingOf}
 use Rattle.unifier.specs.Orders.{by-order, low-or-high, pigeonhole}
-use Rattle.unifier.specs.Tables.{Rows, column}
 use Rattle.unifier.specs.Contracts.{Undoable}
-use Rattle.unifier.specs.Stored.{cells, lookupAt, bindings, held, Form, WalksTo, free, bound, node}
+use Rattle.unifier.specs.Stored.{bindings, held, Form, WalksTo, free, bound, node}
 
 -- The first k positions hold the bindings β.
 pub record Holds (N : ℕ) (w values trail : Cells) (variables used k : ℕ) (β : Bindings) : Type 0 where
   pub is : β ≡ bindings N w values trail k
-  pub lookups : (v : ℕ) → v < variables → lookup β v ≡ lookupAt N w (values v)
+  pub lookups : (v : ℕ) → v < variables → lookup β v ≡ bindingOf N w (values v)
   pub filled : (i : ℕ) → i < k → values (trail i) ≡ 0 → ⊥
   pub references : (v r : ℕ) → v < variables → values v ≡ suc r → Reference N w variables used r
   pub few : variables ≤ N
@@ -64,9 +65,9 @@ module _ {N : ℕ} where
 
     pub walks : {r q : ℕ} → Reference N w variables used r → WalksTo N values r q → walk β (denote N w r) ≡ denote N w q
     walks {r} rr (free l e) =
-        ap (walk β) (denote-variable N w r l) ∙ walk-unbound β r (h .lookups r (rr .variable l) ∙ ap (lookupAt N w) e) ∙ sym (denote-variable N w r l)
+        ap (walk β) (denote-variable N w r l) ∙ walk-unbound β r (h .lookups r (rr .variable l) ∙ ap (bindingOf N w) e) ∙ sym (denote-variable N w r l)
     walks {r} {q} rr (bound {x = x} l e p) =
-        ap (walk β) (denote-variable N w r l) ∙ walk-bound β (h .acyclic) r (denote N w x) (h .lookups r (rr .variable l) ∙ ap (lookupAt N w) e) ∙ walks (h .references _ _ (rr .variable l) e) p
+        ap (walk β) (denote-variable N w r l) ∙ walk-bound β (h .acyclic) r (denote N w x) (h .lookups r (rr .variable l) ∙ ap (bindingOf N w) e) ∙ walks (h .references _ _ (rr .variable l) e) p
     walks {r} rr (node l) =
         let e = denote-node N w variables used wf r rr l in
         ap (walk β) e ∙ walk-app β _ _ ∙ sym e
@@ -85,7 +86,7 @@ module _ {N : ℕ} where
       is = let sz : suc z - 1 ≡ z = omega arith in sym (ap₂ (λ (y : ℕ) (γ : Bindings). bind y (denote N w (values′ y - 1)) γ) tk
           (sym (bindings-same N w values values′ trail trail′ k (λ i l. sym (to i l)) (λ i l. sym (bo (trail i) (λ q. h .filled i l (ap values q ∙ e))))) ∙ sym (h .is))
           ∙ ap (λ (y : ℕ). bind x (denote N w (y - 1)) β) bx ∙ ap (λ (y : ℕ). bind x (denote N w y) β) sz);
-      lookups = λ v l. by-same v x (λ p q. rw q (ap (lookupAt N w) (sym (ap values′ p ∙ bx)))) (λ p q. rw q (h .lookups v l ∙ ap (lookupAt N w) (sym (bo v p))));
+      lookups = λ v l. by-same v x (λ p q. rw q (ap (bindingOf N w) (sym (ap values′ p ∙ bx)))) (λ p q. rw q (h .lookups v l ∙ ap (bindingOf N w) (sym (bo v p))));
       filled = λ i l p. by-order i k
           (λ li. h .filled i li (sym (bo (trail i) (λ q. h .filled i li (ap values q ∙ e))) ∙ ap values′ (sym (to i li)) ∙ p))
           (λ li. let ik : i ≡ k = omega arith in let z : values′ (trail′ k) ≡ 0 = subst (λ n. values′ (trail′ n) ≡ 0) ik p in let z′ : values′ (trail′ k) ≡ suc _ = ap values′ tk ∙ bx in omega arith);
@@ -93,14 +94,14 @@ module _ {N : ℕ} where
           (λ q _. let s : suc z ≡ suc r = sym bx ∙ ap values′ (sym q) ∙ p in let s′ : z ≡ r = omega arith in subst (Reference N w variables used) s′ rz)
           (λ q _. h .references v r l (sym (bo v q) ∙ p));
       few = h .few;
-      acyclic = (h .lookups x xn ∙ ap (lookupAt N w) e, m, h .acyclic);
+      acyclic = (h .lookups x xn ∙ ap (bindingOf N w) e, m, h .acyclic);
       below = (xn, below-denote N w variables used wf z rz, h .below);
     }
 
     -- Walks end: the number of bindings that a walk meets falls.
     -- one step of a walk
     pub walk-falls : (r x : ℕ) → Reference N w variables used r → r < N → values r ≡ suc x → suc (walkLength β (denote N w x)) ≡ walkLength β (denote N w r)
-    walk-falls r x rr l e = sym (walkLength-bound β (h .acyclic) r (denote N w x) (h .lookups r (rr .variable l) ∙ ap (lookupAt N w) e)) ∙ ap (walkLength β) (sym (denote-variable N w r l))
+    walk-falls r x rr l e = sym (walkLength-bound β (h .acyclic) r (denote N w x) (h .lookups r (rr .variable l) ∙ ap (bindingOf N w) e)) ∙ ap (walkLength β) (sym (denote-variable N w r l))
 
     pub walk-is : (n r : ℕ) → Reference N w variables used r → walkLength β (denote N w r) ≤ n → (q : ℕ) × WalksTo N values r q
     walk-is zero r rr l = ⊎-elim (λ v. at (values r) refl v) (λ v. (r, node v)) (low-or-high r N)
@@ -133,7 +134,7 @@ module _ {N : ℕ} where
     acyclic = h .acyclic;
     below = h .below;
     filled = λ i l e. bindings-has N (cells w) (column 0 b) (column 1 b) k i l
-        (h .lookups (column 1 b i) (bindings-low N (cells w) (column 0 b) (column 1 b) variables k (h .below) i l) ∙ ap (lookupAt N (cells w)) e);
+        (h .lookups (column 1 b i) (bindings-low N (cells w) (column 0 b) (column 1 b) variables k (h .below) i l) ∙ ap (bindingOf N (cells w)) e);
   }
 
   -- the bindings above a mark can be undone

@@ -6,7 +6,7 @@ use mathlib.Core.Logic.{inl, inr, _≢_}
 use lib.ListN.{length}
 use Rattle.terms.specs.Numbers.{by-same}
 use Rattle.arena.specs.Cells.{Cells}
-use Rattle.unifier.specs.Tables.{Rows, column}
+use Rattle.arena.specs.Rows.{Rows, column}
 use Rattle.unifier.specs.Stored.{LeadsTo, stay, go}
 use Rattle.unifier.specs.Contracts.{Falling, Entered, Joined}
 use Rattle.unifier.specs.Orders.{by-order, not-zero}

@@ -11,8 +11,9 @@ use Rattle.terms.specs.Bindings.{Bindings, full, res}
 use Rattle.terms.specs.BindingLaws.{full-unbound, res-walk}
 use Rattle.terms.specs.Loops.{walkLength}
 use Rattle.arena.specs.Cells.{Cells, args, arityOf, denote, Reference, WellFormed, denote-node, denote-variable, reference-argument}
+use Rattle.acyclicity.specs.Contract.{bindingOf}
 use Rattle.unifier.specs.Orders.{low-or-high}
-use Rattle.unifier.specs.Stored.{lookupAt, WalksTo, free, bound, node, into, argument, Reaches, here, step}
+use Rattle.unifier.specs.Stored.{WalksTo, free, bound, node, into, argument, Reaches, here, step}
 use Rattle.unifier.specs.Holding.{Holds, walks, walks-ref, walks-end, walk-is}
 
 or-true : (a b : Bool) → (a || b) ≡ true → (a ≡ true) ⊎ (b ≡ true)
@@ -54,7 +55,7 @@ module _ {N : ℕ} where
     pub reach-mem : (x : ℕ) → x < variables → values x ≡ 0 → {r : ℕ} → Reference N w variables used r → Reaches N w values r x → mem x (res β (denote N w r)) ≡ true
     unfolding mem
     reach-mem x l e rr here = let f = h .few in let lx : x < N = omega arith in
-        ap (λ (t : Term). mem x (res β t)) (denote-variable N w x lx) ∙ ap (λ (t : Term). mem x t) (full-unbound β x (h .lookups x l ∙ ap (lookupAt N w) e)) ∙ same-refl x
+        ap (λ (t : Term). mem x (res β t)) (denote-variable N w x lx) ∙ ap (λ (t : Term). mem x t) (full-unbound β x (h .lookups x l ∙ ap (bindingOf N w) e)) ∙ same-refl x
     reach-mem x l e {r} rr (step (into {x = y} v b) m) =
         ap (λ (t : Term). mem x t) (res-bound r y rr v b) ∙ reach-mem x l e (h .references r y (rr .variable v) b) m
     reach-mem x l e {r} rr (step (argument i v b) m) =
@@ -75,7 +76,7 @@ module _ {N : ℕ} where
         let e = res-walks rr v in
         walk-reach v (⊎-elim
         (λ lq. let mq : mem x (res β (denote N w q)) ≡ true = ap (λ (t : Term). mem x t) (sym e) ∙ m in
-        let f : res β (denote N w q) ≡ var q = ap (res β) (denote-variable N w q lq) ∙ full-unbound β q (h .lookups q (rq .variable lq) ∙ ap (lookupAt N w) (walks-end wf h v lq)) in
+        let f : res β (denote N w q) ≡ var q = ap (res β) (denote-variable N w q lq) ∙ full-unbound β q (h .lookups q (rq .variable lq) ∙ ap (bindingOf N w) (walks-end wf h v lq)) in
         let s : same x q ≡ true = ap (λ (t : Term). mem x t) (sym f) ∙ mq in
         subst (λ (z : ℕ). Reaches N w values q z) (sym (same-true s)) here)
         (λ lq. let f = e ∙ ap (res β) (denote-node N w variables used wf q rq lq) in

@@ -11,9 +11,10 @@ use lib.ListN.{length}
 use Rattle.terms.specs.Numbers.{by-bool}
 use Rattle.terms.specs.Term.{size}
 use Rattle.terms.specs.Bindings.{res, occurs}
-use Rattle.arena.specs.Cells.{Cells, arityOf, denote, Reference, reference-argument}
-use Rattle.unifier.specs.Tables.{Rows, column, undone}
-use Rattle.unifier.specs.Stored.{cells, held, Form, Edge, into, argument, Reaches, here, step}
+use Rattle.arena.specs.Cells.{Cells, cells, arityOf, denote, Reference, reference-argument}
+use Rattle.arena.specs.Rows.{Rows, column}
+use Rattle.unifier.specs.Tables.{undone}
+use Rattle.unifier.specs.Stored.{held, Form, Edge, into, argument, Reaches, here, step}
 use Rattle.unifier.specs.Contracts.{Entered, Undoable}
 use Rattle.unifier.specs.Orders.{low-or-high, not-zero}
 use Rattle.unifier.specs.Entries.{Entries, entries-room, entries-more, entries-undoable, enter-changed, enter-back}

@@ -3,21 +3,11 @@
 use Prim.Native.Nat.{ℕ, zero, suc, _+_, _-_, _≤_, _<_}
 use mathlib.Core.Path.{_≡_}
 use mathlib.Core.List.{List}
-use mathlib.Core.Option.{Option, none, some}
-use lib.ListN.{getD, length}
-use Rattle.terms.specs.Term.{Term}
+use lib.ListN.{length}
 use Rattle.terms.specs.Bindings.{Bindings, start, bind, lookup, Acyclic, BelowB}
-use Rattle.arena.specs.Cells.{headers, Cells, arityOf, denote, Reference, WellFormed}
-use Rattle.unifier.specs.Tables.{Rows, column}
-
--- A list of words, read at any place.
-abbrev pub cells : List ℕ → Cells
-cells l i = getD l i 0
-
--- What a value says of its variable.
-abbrev pub lookupAt : ℕ → Cells → ℕ → Option Term
-lookupAt N w zero = none
-lookupAt N w (suc r) = some (denote N w r)
+use Rattle.arena.specs.Cells.{headers, Cells, cells, arityOf, denote, Reference, WellFormed}
+use Rattle.arena.specs.Rows.{Rows, column}
+use Rattle.acyclicity.specs.Contract.{bindingOf}
 
 -- The bindings at the first k positions of the trail, newest first.
 abbrev pub bindings : ℕ → Cells → Cells → Cells → ℕ → Bindings
@@ -42,7 +32,7 @@ pub record Form (N : ℕ) (w : List ℕ) (b : Rows) (variables used k : ℕ) : T
   -- a bound variable is bound to a reference in form
   pub references : (v r : ℕ) → v < variables → column 0 b v ≡ suc r → Reference N (cells w) variables used r
   -- the trail lists exactly the bound variables
-  pub lookups : (v : ℕ) → v < variables → lookup (held N w b k) v ≡ lookupAt N (cells w) (column 0 b v)
+  pub lookups : (v : ℕ) → v < variables → lookup (held N w b k) v ≡ bindingOf N (cells w) (column 0 b v)
   -- no binding leads back to its own variable, and none is bound twice
   pub acyclic : Acyclic (held N w b k)
   -- the bindings are of variables in use

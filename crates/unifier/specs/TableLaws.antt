@@ -8,7 +8,8 @@ use lib.ListN.{getD, length, set, length-set, List·getD-eq-default}
 use lib.Seq.{getD-set-same, getD-set-other, ext-getD}
 use Rattle.terms.specs.Numbers.{by-same}
 use Rattle.unifier.specs.Contracts.{Replaced, Entered, Undoable}
-use Rattle.unifier.specs.Tables.{Rows, column, valued, listed, entered, removed, undone}
+use Rattle.arena.specs.Rows.{Rows, column}
+use Rattle.unifier.specs.Tables.{valued, listed, entered, removed, undone}
 
 pub column-same : (c : ℕ) (t : Rows) (d : ℕ) (row : List ℕ) → d < length t → column c (set t d row) d ≡ getD row c 0
 column-same c t d row l = ap (λ (z : List ℕ). getD z c 0) (getD-set-same t d row [] l)

@@ -3,15 +3,9 @@
 -- and links with their list are kept so.
 use Prim.Native.Nat.{ℕ, zero, suc, _+_}
 use mathlib.Core.Path.{_≡_}
-use mathlib.Core.List.{List, [], _∷_}
-use lib.ListN.{getD, set}
-
-abbrev pub Rows : Type 0
-Rows = List (List ℕ)
-
--- The number in column c of row j; 0 outside the table.
-abbrev pub column : ℕ → Rows → ℕ → ℕ
-column c t j = getD (getD t j []) c 0
+use mathlib.Core.List.{[], _∷_}
+use lib.ListN.{set}
+use Rattle.arena.specs.Rows.{Rows, column}
 
 -- Every number of the table is 0.
 abbrev pub Empty : Rows → Type 0

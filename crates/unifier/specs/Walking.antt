@@ -5,9 +5,9 @@ use mathlib.Core.Logic.{_≢_}
 use mathlib.Core.List.{List}
 use lib.ListN.{length}
 use Rattle.terms.specs.Loops.{walkLength}
-use Rattle.arena.specs.Cells.{denote, Reference}
-use Rattle.unifier.specs.Tables.{Rows, column}
-use Rattle.unifier.specs.Stored.{cells, held, Form, WalksTo, bound}
+use Rattle.arena.specs.Cells.{cells, denote, Reference}
+use Rattle.arena.specs.Rows.{Rows, column}
+use Rattle.unifier.specs.Stored.{held, Form, WalksTo, bound}
 use Rattle.unifier.specs.Contracts.{Walked}
 use Rattle.unifier.specs.Orders.{not-zero}
 use Rattle.unifier.specs.Holding.{form-holds, walks, walks-end, walk-falls}

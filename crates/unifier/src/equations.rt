@@ -13,8 +13,8 @@ use super::tables::enter;
 use super::walk;
 ghost use Prim.Native.Nat.{_+_, _≤_};
 ghost use lib.ListN.{length};
-ghost use Rattle.arena.specs.Cells.{Reference};
-ghost use Rattle.unifier.specs.Stored.{cells, Form};
+ghost use Rattle.arena.specs.Cells.{cells, Reference};
+ghost use Rattle.unifier.specs.Stored.{Form};
 ghost use Rattle.unifier.specs.Contracts.{Free, Falling, Decided, Scratch};
 ghost use Rattle.unifier.specs.Equating.{Equated};
 

@@ -23,9 +23,9 @@ use visits::visit_edges;
 ghost use mathlib.Core.Path.{_≡_};
 ghost use Prim.Native.Nat.{_+_, _<_, _≤_};
 ghost use lib.ListN.{length};
-ghost use Rattle.arena.specs.Cells.{headers, Reference, WellFormed};
-ghost use Rattle.unifier.specs.Tables.{column};
-ghost use Rattle.unifier.specs.Stored.{cells, Form};
+ghost use Rattle.arena.specs.Cells.{cells, headers, Reference, WellFormed};
+ghost use Rattle.arena.specs.Rows.{column};
+ghost use Rattle.unifier.specs.Stored.{Form};
 ghost use Rattle.unifier.specs.Contracts.{Walked, Free, Checked, Scratch, Unified, BindingsChecked};
 
 // What is to be done with two references that are to be made equal.

@@ -3,7 +3,7 @@ use super::tables::enter;
 ghost use Prim.Native.Nat.{_<_, _≤_};
 ghost use lib.ListN.{length};
 ghost use Rattle.arena.specs.Cells.{headers};
-ghost use Rattle.unifier.specs.Tables.{column};
+ghost use Rattle.arena.specs.Rows.{column};
 ghost use Rattle.unifier.specs.Stored.{LeadsTo};
 ghost use Rattle.unifier.specs.Contracts.{Falling, Joined};
 

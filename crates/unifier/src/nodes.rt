@@ -1,8 +1,7 @@
 // The parts of a node.
 ghost use mathlib.Core.Path.{_≡_};
 ghost use Prim.Native.Nat.{suc, _+_, _-_, _<_, _≤_};
-ghost use Rattle.arena.specs.Cells.{headers, arityOf};
-ghost use Rattle.unifier.specs.Stored.{cells};
+ghost use Rattle.arena.specs.Cells.{cells, headers, arityOf};
 
 // The number of arguments of the node r.
 pub fn arity(w: &[u32], room: u32, r: u32) -> u32

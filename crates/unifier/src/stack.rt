@@ -4,7 +4,7 @@ ghost use mathlib.Core.Path.{_≡_};
 ghost use mathlib.Core.List.{[], _∷_};
 ghost use Prim.Native.Nat.{_<_, _≤_};
 ghost use lib.ListN.{length, set};
-ghost use Rattle.unifier.specs.Tables.{column};
+ghost use Rattle.arena.specs.Rows.{column};
 ghost use Rattle.unifier.specs.Contracts.{Replaced, cleared};
 
 // A row of three numbers has three numbers.

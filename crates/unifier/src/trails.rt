@@ -2,11 +2,11 @@
 use super::tables::enter;
 use super::tables::undo;
 ghost use mathlib.Core.Path.{_≡_};
-ghost use Rattle.unifier.specs.Tables.{Empty, column};
+ghost use Rattle.unifier.specs.Tables.{Empty};
 ghost use Prim.Native.Nat.{ℕ, _<_, _≤_};
 ghost use lib.ListN.{length};
-ghost use Rattle.arena.specs.Cells.{Reference};
-ghost use Rattle.unifier.specs.Stored.{cells};
+ghost use Rattle.arena.specs.Cells.{cells, Reference};
+ghost use Rattle.arena.specs.Rows.{column};
 ghost use Rattle.unifier.specs.Contracts.{Free, Tells};
 ghost use Rattle.unifier.specs.Checking.{TrailEntered, GoodValue, TrailChecked};
 

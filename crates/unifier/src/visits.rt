@@ -3,9 +3,9 @@ use super::tables::enter;
 ghost use mathlib.Core.Path.{_≡_};
 ghost use Prim.Native.Nat.{ℕ, suc, _+_, _<_, _≤_};
 ghost use lib.ListN.{length};
-ghost use Rattle.arena.specs.Cells.{Reference};
-ghost use Rattle.unifier.specs.Tables.{column};
-ghost use Rattle.unifier.specs.Stored.{cells, Form, Edge};
+ghost use Rattle.arena.specs.Cells.{cells, Reference};
+ghost use Rattle.arena.specs.Rows.{column};
+ghost use Rattle.unifier.specs.Stored.{Form, Edge};
 ghost use Rattle.unifier.specs.Entries.{Entries};
 ghost use Rattle.unifier.specs.Search.{Grown, ArgumentOf};
 

@@ -3,7 +3,7 @@ use Prim.Native.Nat.{_+_, _-_, suc}
 use native.Mathlib.Numerals.{add-one}
 use mathlib.Core.Path.{_≡_, sym}
 use Rattle.arena.specs.Cells.{cells}
-use Rattle.acyclicity.specs.Contract.{column}
+use Rattle.arena.specs.Rows.{column}
 use Rattle.acyclicity.proofs.EdgeLaws.{edge-variable, edge-second, edge-argument, edge-past, variable-row, node-words, argument-small}
 use native.Mathlib.Omega.{arith}
 use borrow.Author.Needs.{needs}

@@ -3,7 +3,7 @@
 use Prim.Native.Nat.{_+_, _-_}
 use mathlib.Core.Path.{refl}
 use Rattle.terms.specs.Numbers.{true-false}
-use Rattle.acyclicity.specs.Contract.{column}
+use Rattle.arena.specs.Rows.{column}
 use Rattle.acyclicity.proofs.Turns.{Turn, left, pending-most, pending-one, risen, turn-start, ahead-row, turn-skip, turn-enter, turn-refuse, top-row, turn-close, turn-follow, turn-begin, turn-accept}
 use borrow.Author.Needs.{needs}
 use native.Mathlib.Omega.{arith}

@@ -5,7 +5,7 @@ use lib.ListN.{length}
 use borrow.Author.Count.{below-more}
 use Rattle.terms.specs.Numbers.{true-false}
 use Rattle.arena.specs.Cells.{cells}
-use Rattle.acyclicity.specs.Contract.{column}
+use Rattle.arena.specs.Rows.{column}
 use Rattle.acyclicity_test.specs.Form.{BindingInForm}
 use borrow.Author.Tests.{not-false}
 use borrow.Author.Needs.{needs}

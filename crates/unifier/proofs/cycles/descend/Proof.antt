@@ -2,7 +2,7 @@
 -- entered. What falls: the edges not taken, whether a place is to be entered, and the variables left.
 use Prim.Native.Nat.{ℕ, _+_, _-_}
 use mathlib.Core.Path.{refl, ap}
-use Rattle.unifier.specs.Tables.{column}
+use Rattle.arena.specs.Rows.{column}
 use Rattle.unifier.specs.Orders.{not-zero}
 use Rattle.unifier.specs.Search.{reference-low}
 use Rattle.unifier.specs.Descending.{Descending, effort, entering-le, entering-one, descending-start, place-in, place-row, turn-skip, turn-down, less-down, turn-cycle, top-in, top-row, top-number, turn-up, turn-take, less-top, turn-root, turn-all}

@@ -1,8 +1,9 @@
 -- `edge_at` meets its contract: each way out is one case of an edge.
 use Prim.Native.Nat.{suc, _+_, _-_}
 use mathlib.Core.Path.{_≡_, refl, subst}
-use Rattle.unifier.specs.Tables.{column}
-use Rattle.unifier.specs.Stored.{cells, argument as leads-to}
+use Rattle.arena.specs.Cells.{cells}
+use Rattle.arena.specs.Rows.{column}
+use Rattle.unifier.specs.Stored.{argument as leads-to}
 use Rattle.unifier.specs.Search.{reference-low}
 use Rattle.unifier.specs.Descent.{EdgeAt, edge-bound, edge-past, edge-each, edge-full}
 use Rattle.unifier.specs.Descending.{sound-edge}

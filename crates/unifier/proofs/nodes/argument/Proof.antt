@@ -2,7 +2,7 @@
 use Prim.Native.Nat.{suc, _+_, _-_}
 use mathlib.Core.Path.{_≡_, sym, ap}
 use lib.ListN.{List·getD-eq-default}
-use Rattle.unifier.specs.Stored.{cells}
+use Rattle.arena.specs.Cells.{cells}
 use native.Mathlib.Omega.{arith}
 use borrow.Author.Needs.{needs}
 use Rattle.unifier.proofs.nodes.argument.Statement.{statement}

@@ -1,7 +1,7 @@
 -- `undo` meets its contract. The loop's invariant: what is left to take back comes to the rows that taking all back gives.
 use mathlib.Core.Path.{sym, subst}
 use Prim.Native.Nat.{_-_}
-use Rattle.unifier.specs.Tables.{Rows}
+use Rattle.arena.specs.Rows.{Rows}
 use Rattle.unifier.specs.TableLaws.{Undoing, undo-start, undo-step, undo-end, undo-in, removed-is}
 use borrow.Author.Needs.{needs}
 use native.Mathlib.Omega.{arith}

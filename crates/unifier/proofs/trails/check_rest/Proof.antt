@@ -3,7 +3,7 @@ use Prim.Native.Nat.{ℕ, _-_, _≤_, _<_}
 use mathlib.Core.Path.{_≡_, ap, _∙_}
 use lib.ListN.{length}
 use Rattle.unifier.specs.Orders.{by-order}
-use Rattle.unifier.specs.Tables.{column}
+use Rattle.arena.specs.Rows.{column}
 use Rattle.unifier.specs.TableLaws.{column-past}
 use Rattle.unifier.specs.Checking.{tells-yes, tells-no}
 use borrow.Author.Needs.{needs}
