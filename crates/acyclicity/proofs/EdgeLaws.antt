@@ -6,7 +6,7 @@ use mathlib.Core.Logic.{⊎-elim, _≢_}
 use mathlib.Core.List.{List}
 use lib.ListN.{length}
 use Rattle.terms.specs.Numbers.{less-yes, less-no, same-refl, same-ne, by-same, by-less}
-use Rattle.arena.specs.Cells.{Cells, cells, arityOf, Reference, low-or-high, reference-up}
+use Rattle.arena.specs.Cells.{headers, Cells, cells, arityOf, Reference, low-or-high, reference-up}
 use Rattle.arena.specs.Rows.{Rows, column}
 use Rattle.acyclicity.specs.Contract.{Stored}
 use Rattle.acyclicity.specs.Edges.{edge, Outside}
@@ -82,7 +82,7 @@ module _ {words : List ℕ} {bindings : Rows} {N variables used : ℕ} (s : Stor
   pub node-words : {r : ℕ} → Reference N (cells words) variables used r → N ≤ r → r - N + arityOf (cells words (r - N)) < length words
   node-words {r} h l = let n = h .node l in let f = s .formed .fits (r - N) (omega arith) (h .header l) in let k = s .within in omega arith
 
-  pub argument-small : {r : ℕ} (i : ℕ) → Reference N (cells words) variables used r → N ≤ r → i < arityOf (cells words (r - N)) → cells words (r - N + suc i) < 327680
+  pub argument-small : {r : ℕ} (i : ℕ) → Reference N (cells words) variables used r → N ≤ r → i < arityOf (cells words (r - N)) → cells words (r - N + suc i) < headers
   argument-small {r} i h l b =
       let k = reference-within (edge-reference i (cells words (r - N + suc i)) h (edge-argument N (cells words) (column 0 bindings) r i l b)) in
-      let a = s .room in let c = s .short in omega arith
+      let a = s .low in omega arith

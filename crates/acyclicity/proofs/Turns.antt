@@ -9,7 +9,7 @@ use lib.ListN.{getD, length, set, length-set}
 use lib.Seq.{getD-set-other}
 use Rattle.terms.specs.Numbers.{by-less}
 use Rattle.terms.specs.Bindings.{Bindings, Acyclic}
-use Rattle.arena.specs.Cells.{cells, Reference}
+use Rattle.arena.specs.Cells.{headers, cells, Reference}
 use Rattle.arena.specs.Rows.{Rows, column}
 use Rattle.acyclicity.specs.Contract.{Held, Stored}
 use Rattle.acyclicity.specs.Edges.{edge, Outside, Searchable}
@@ -86,9 +86,9 @@ module _ {words : List ℕ} {bindings : Rows} {N variables used : ℕ} {rows₀ 
     abbrev here : State edges Vertex (column 0 rows) (column 1 rows) top (suc (ahead - 1))
     here = subst (λ (k : ℕ). State edges Vertex (column 0 rows) (column 1 rows) top k) is (h .state)
 
-    pub ahead-row : (ahead - 1 < length rows) × (ahead ≤ 327680)
+    pub ahead-row : (ahead - 1 < length rows) × (ahead ≤ headers)
     ahead-row = let r = reference-within (h .stored) (h .state .target (ahead - 1) is) in
-        let a = h .room in let b = h .stored .room in let c = h .stored .short in (omega arith, omega arith)
+        let a = h .room in let b = h .stored .low in (omega arith, omega arith)
 
     pub turn-skip : column 0 rows (ahead - 1) ≡ 33 → Turn words bindings N variables used rows₀ rows next top 0
     turn-skip f = record {
@@ -129,10 +129,10 @@ module _ {words : List ℕ} {bindings : Rows} {N variables used : ℕ} {rows₀ 
     abbrev there : State edges Vertex (column 0 rows) (column 1 rows) (suc (top - 1)) 0
     there = subst (λ (k : ℕ). State edges Vertex (column 0 rows) (column 1 rows) k 0) is-top (subst (λ (k : ℕ). State edges Vertex (column 0 rows) (column 1 rows) top k) z (h .state))
 
-    pub top-row : Reference N (cells words) variables used (top - 1) × (top - 1 < length rows) × (top ≤ 327680) × (1 ≤ column 0 rows (top - 1)) × (column 0 rows (top - 1) ≤ 32)
+    pub top-row : Reference N (cells words) variables used (top - 1) × (top - 1 < length rows) × (top ≤ headers) × (1 ≤ column 0 rows (top - 1)) × (column 0 rows (top - 1) ≤ 32)
     top-row = let (v, a, b) = at-top edges Vertex there in
         let r = reference-within (h .stored) v in
-        let c = h .room in let d = h .stored .room in let f = h .stored .short in
+        let c = h .room in let d = h .stored .low in
         (v, omega arith, omega arith, a, b)
 
     entered : (v b : ℕ) → v ≢ 0 → (p x : ℕ) → x < next → column 0 (set rows (top - 1) (v ∷ b ∷ [])) x ≡ 0 → p ≡ suc x

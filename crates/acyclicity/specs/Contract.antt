@@ -10,7 +10,7 @@ use lib.ListN.{getD, length}
 use Rattle.terms.specs.Term.{Term}
 use Rattle.terms.specs.Bindings.{Bindings, lookup, Acyclic}
 use Rattle.terms.specs.Order.{Distinct}
-use Rattle.arena.specs.Cells.{Cells, cells, denote, Reference, WellFormed}
+use Rattle.arena.specs.Cells.{headers, Cells, cells, denote, Reference, WellFormed}
 use Rattle.arena.specs.Rows.{Rows, column}
 
 -- The term that a stored word binds a variable to.
@@ -29,12 +29,11 @@ pub record Held (N : ℕ) (w bound : Cells) (variables : ℕ) (β : Bindings) : 
 
 -- Words and bindings are in form, but for cycles.
 pub record Stored (words : List ℕ) (bindings : Rows) (N variables used : ℕ) : Type 0 where
-  -- The room for variables is at most 65,536; the variables in use have room, and a row each.
-  pub room : N ≤ 65536
+  -- References are below headers.
+  pub low : N + used ≤ headers
+  -- The variables in use have room, and a row each; the words in use are within the slice.
   pub few : variables ≤ N
   pub rows : variables ≤ length bindings
-  -- At most 262,144 words are in use.
-  pub short : used ≤ 262144
   pub within : used ≤ length words
   -- Among them each header has its node's arguments behind it: variables in use and earlier nodes.
   pub formed : WellFormed N (cells words) variables used

@@ -199,7 +199,7 @@ add-next : tie.Need-add-next Inv-loop μ-loop
 add-next c =
     let a = (c .before .before .before .loop .inv .few) in
     let b = (c .before .before .before .loop .inv .stored .few) in
-    let d = (c .before .before .before .loop .inv .stored .room) in
+    let d = (c .before .before .before .loop .inv .stored .low) in
     omega arith
 
 loop-less-5 : tie.Need-loop-less-5 Inv-loop μ-loop

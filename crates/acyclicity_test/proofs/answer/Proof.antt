@@ -45,7 +45,7 @@ is-acyclic-requires c κs =
     let words = (are-words .ensures) (not-false _ (if4 .left)) in
     let bound = (are-bindings .ensures) (not-false _ (if5 .left)) in
     record {
-      stored = record { room = search needs; few = search needs; rows = bound .rows; short = search needs; within = words .within; formed = words .formed; bound = λ v r l e. bound .bound v l r e };
+      stored = record { low = search needs; few = search needs; rows = bound .rows; within = words .within; formed = words .formed; bound = λ v r l e. bound .bound v l r e };
       long = omega (arith, (zero .kept .0));
       zeros = (zero .ensures);
     }
