@@ -1,16 +1,16 @@
 -- Rows set to zero one by one, and scratch restored: what the search leaves in the rows for references is zero again, and so is all the rest.
 use Prim.Native.Nat.{ℕ, _+_, _≤_, _<_}
 use native.Mathlib.Omega.{arith}
-use mathlib.Core.Path.{_≡_, refl, sym, ap, _∙_}
+use mathlib.Core.Path.{_≡_, refl, sym, ap, ap₂, _∙_}
 use mathlib.Core.Logic.{inl, inr, ⊎-elim, _≢_}
 use mathlib.Core.List.{List, [], _∷_}
 use mathlib.Core.Bool.{Bool}
-use lib.ListN.{getD, length, set, length-set, List·getD-eq-default}
+use lib.ListN.{getD, length, set, length-set}
 use lib.Seq.{getD-set-same, getD-set-other, ext-getD}
 use Rattle.terms.specs.Numbers.{by-same, by-less}
 use Rattle.arena.specs.Rows.{Rows}
 use Rattle.acyclicity.specs.Contract.{Ready}
-use Rattle.acyclicity.specs.Edges.{Searchable, Searched, Cleared}
+use Rattle.acyclicity.specs.Edges.{Searchable, Searched, Cleared, Pairs}
 
 pub cleared-none : (rows : Rows) (from : ℕ) → Cleared rows from from rows
 cleared-none rows from = record {
@@ -31,25 +31,26 @@ cleared-more {rows₀} {rows} {from} {i} h f l = record {
 }
 
 pub searchable : {words : List ℕ} {bindings : Rows} {N variables used : ℕ} {rows : Rows} → Ready words bindings N variables used rows → Searchable words bindings N variables used rows
-searchable {rows = rows} h = record {
-  stored = h .stored;
-  long = h .long;
-  unmarked = λ a. by-less a (length rows)
-      (λ l q. ap (λ (r : List ℕ). getD r 0 0) (h .zeros a l))
-      (λ l q. ap (λ (r : List ℕ). getD r 0 0) (List·getD-eq-default rows [] l));
-}
+searchable h = record { stored = h .stored; long = h .long; unmarked = h .zeros 0 }
 
-pub restored : {words : List ℕ} {bindings : Rows} {N variables used : ℕ} {rows rows₁ rows₂ rows₃ : Rows} {answer : Bool} → Ready words bindings N variables used rows
+-- A row of two numbers that are both 0.
+zero-row : (row : List ℕ) → length row ≡ 2 → getD row 0 0 ≡ 0 → getD row 1 0 ≡ 0 → row ≡ 0 ∷ 0 ∷ []
+zero-row [] l e d = let z : ⊥ = omega arith in absurd z
+zero-row (x ∷ []) l e d = let z : ⊥ = omega arith in absurd z
+zero-row (x ∷ y ∷ []) l e d = ap₂ (λ (a b : ℕ). a ∷ b ∷ []) e d
+zero-row (x ∷ y ∷ z ∷ r) l e d = let n : ⊥ = omega arith in absurd n
+
+pub restored : {words : List ℕ} {bindings : Rows} {N variables used : ℕ} {rows rows₁ rows₂ rows₃ : Rows} {answer : Bool} → Ready words bindings N variables used rows → Pairs rows (N + used)
     → Searched words bindings N variables used rows answer rows₁ → Cleared rows₁ 0 variables rows₂ → Cleared rows₂ N (N + used) rows₃ → rows₃ ≡ rows
-restored {N = N} {variables} {used} {rows} {rows₁} {rows₂} {rows₃} h s c d =
+restored {N = N} {variables} {used} {rows} {rows₁} {rows₂} {rows₃} h w s c d =
     let n : length rows₃ ≡ length rows = d .long ∙ (c .long ∙ s .long) in
     ext-getD [] rows₃ rows n (λ a l.
-    let zero-row : getD rows a [] ≡ 0 ∷ 0 ∷ [] = h .zeros a (omega arith) in
+    let before : a < N + used → 0 ∷ 0 ∷ [] ≡ getD rows a [] = λ k. sym (zero-row (getD rows a []) (w a k) (h .zeros 0 a) (h .zeros 1 a)) in
     by-less a N
     (λ p q. d .outside a (inl p) ∙ by-less a variables
-    (λ v r. c .inside a (omega arith) v ∙ sym zero-row)
+    (λ v r. c .inside a (omega arith) v ∙ before (omega arith))
     (λ v r. c .outside a (inr v) ∙ s .outside a (v, inl p)))
     (λ p q. by-less a (N + used)
-    (λ v r. d .inside a p v ∙ sym zero-row)
+    (λ v r. d .inside a p v ∙ before v)
     (λ v r. let f = h .stored .few in
     d .outside a (inr v) ∙ (c .outside a (inr (omega arith)) ∙ s .outside a (omega arith, inr v)))))

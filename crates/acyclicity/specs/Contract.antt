@@ -5,8 +5,8 @@ use Prim.Native.Nat.{ℕ, zero, suc, _+_, _≤_, _<_}
 use mathlib.Core.Path.{_≡_}
 use mathlib.Core.Bool.{Bool, true, false}
 use mathlib.Core.Option.{Option, none, some}
-use mathlib.Core.List.{List, [], _∷_}
-use lib.ListN.{getD, length}
+use mathlib.Core.List.{List}
+use lib.ListN.{length}
 use Rattle.terms.specs.Term.{Term}
 use Rattle.terms.specs.Bindings.{Bindings, lookup, Acyclic}
 use Rattle.terms.specs.Order.{Distinct}
@@ -44,9 +44,9 @@ pub record Stored (words : List ℕ) (bindings : Rows) (N variables used : ℕ) 
 pub record Ready (words : List ℕ) (bindings : Rows) (N variables used : ℕ) (scratch : Rows) : Type 0 where
   -- Words and bindings are in form.
   pub stored : Stored words bindings N variables used
-  -- There is a row of scratch for each reference, and all of scratch is zero.
+  -- There is a row of scratch for each reference, and every number in scratch is 0.
   pub long : N + used ≤ length scratch
-  pub zeros : (a : ℕ) → a < length scratch → getD scratch a [] ≡ 0 ∷ 0 ∷ []
+  pub zeros : (c a : ℕ) → column c scratch a ≡ 0
 
 -- What the check ensures.
 pub record Decided (words : List ℕ) (bindings : Rows) (N variables : ℕ) (scratch : Rows) (answer : Bool) (scratch′ : Rows) : Type 0 where

@@ -45,3 +45,7 @@ pub record Cleared (rows : Rows) (from to : ℕ) (rows′ : Rows) : Type 0 where
   pub long : length rows′ ≡ length rows
   pub inside : (a : ℕ) → from ≤ a → a < to → getD rows′ a [] ≡ 0 ∷ 0 ∷ []
   pub outside : (a : ℕ) → (a < from) ⊎ (to ≤ a) → getD rows′ a [] ≡ getD rows a []
+
+-- The rows before `end` have two numbers each.
+abbrev pub Pairs : Rows → ℕ → Type 0
+Pairs rows end = (a : ℕ) → a < end → length (getD rows a []) ≡ 2

@@ -7,7 +7,7 @@ ghost use lib.ListN.{length};
 ghost use Rattle.arena.specs.Cells.{cells};
 ghost use Rattle.arena.specs.Rows.{column};
 ghost use Rattle.acyclicity.specs.Contract.{Ready, Decided};
-ghost use Rattle.acyclicity.specs.Edges.{edge, Followable, Searchable, Searched, Cleared};
+ghost use Rattle.acyclicity.specs.Edges.{edge, Followable, Searchable, Searched, Cleared, Pairs};
 
 // The mark of a reference from which all edges were followed, and which no cycle was found through. Any other mark is 0 where the search has not been,
 // else 1 + the number of edges followed: below this, since a node has at most 31 arguments.
@@ -105,6 +105,23 @@ fn clear_rows(rows: &mut [[u32; 2]], from: u32, to: u32)
     }
 }
 
+// A row of two numbers has two numbers.
+fn two(row: [u32; 2])
+    ensures { λ _. ⌜ length row ≡ 2 ⌝ }
+{}
+
+// Says of the rows before `end` what their type says, that each has two numbers; nothing is computed.
+fn are_pairs(rows: &[[u32; 2]], end: u32)
+    requires { ⌜ end ≤ length (now rows) ⌝ }
+    ensures { λ _. ⌜ Pairs (now (rows .entry)) end ⌝ }
+{
+    let mut i = 0;
+    while i < end {
+        two(rows[i as usize]);
+        i += 1;
+    }
+}
+
 // Whether the stored bindings are acyclic: one search in depth through all that the variables lead to. `limit` is the room for variables. Scratch has a
 // row for each reference; it is zero before and after.
 pub fn is_acyclic(
@@ -118,6 +135,7 @@ pub fn is_acyclic(
     requires { ⌜ Ready (now words) (now bindings) limit variables used (now scratch) ⌝ }
     ensures { λ answer. ⌜ Decided (now (words .entry)) (now (bindings .entry)) limit variables (now (scratch .entry)) answer (now (scratch .exit)) ⌝ }
 {
+    are_pairs(scratch, limit + used);
     let answer = search(words, bindings, limit, variables, used, scratch);
     clear_rows(scratch, 0, variables);
     clear_rows(scratch, limit, limit + used);

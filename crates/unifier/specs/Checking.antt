@@ -8,21 +8,19 @@ use mathlib.Core.Logic.{_⊎_, ⊎-elim, _≢_}
 use mathlib.Core.Option.{none, some}
 use mathlib.Core.List.{List}
 use lib.ListN.{length}
-use Rattle.terms.specs.Numbers.{by-bool, by-same, true-false, some-none}
-use Rattle.terms.specs.Bindings.{lookup}
-use Rattle.arena.specs.Cells.{cells, headers, denote, Reference, WellFormed}
+use Rattle.terms.specs.Numbers.{by-bool, by-same, same-ne, true-false, some-none}
+use Rattle.terms.specs.Bindings.{lookup, Acyclic, BelowB}
+use Rattle.terms.specs.Order.{Distinct}
+use Rattle.arena.specs.Cells.{Cells, cells, headers, denote, Reference, WellFormed, below-denote}
 use Rattle.arena.specs.Rows.{Rows, column}
-use Rattle.acyclicity.specs.Contract.{bindingOf}
+use Rattle.acyclicity.specs.Contract.{bindingOf, Held, Stored, Decided}
 use Rattle.unifier.specs.Tables.{Empty, undone}
-use Rattle.unifier.specs.Stored.{held, Form, Sound}
-use Rattle.unifier.specs.Contracts.{Entered, Undoable, Free, Tells, Trailed, BindingsChecked}
+use Rattle.unifier.specs.Stored.{bindings, held, Form}
+use Rattle.unifier.specs.Contracts.{Entered, Undoable, Tells, Trailed, BindingsChecked}
 use Rattle.unifier.specs.Orders.{by-order, same-or-not, not-zero}
 use Rattle.unifier.specs.Entries.{Entries, entries-none, entries-room, entries-more, entries-undoable, enter-changed, enter-back}
 use Rattle.unifier.specs.Search.{undone-zero}
 use Rattle.unifier.specs.Holding.{form-holds, bindings-low, bindings-one, trail-in}
-use Rattle.unifier.specs.Descent.{Ends, all-end}
-use Rattle.unifier.specs.Descending.{Descended, Wiped, wiped-back}
-use Rattle.unifier.specs.Cycles.{bindings-none, acyclic-made, below-made, acyclic-ends}
 
 pub tells-no : {P : Type 0} → (P → ⊥) → Tells false P
 tells-no n = record { yes = λ e. true-false (sym (sym e)) refl; back = λ p. absurd (n p) }
@@ -32,24 +30,6 @@ tells-yes p = record { yes = λ _. p; back = λ _. refl }
 
 pub tells-false : {answer : Bool} {P : Type 0} → Tells answer P → answer ≡ false → P → ⊥
 tells-false h e p = true-false {P = ⊥} (h .back p) e
-
--- All references end.
-abbrev pub AllEnd : ℕ → List ℕ → Rows → ℕ → ℕ → Type 0
-AllEnd N w b variables used = (r : ℕ) → Reference N (cells w) variables used r → Ends N (cells w) (column 0 b) r
-
-pub record CyclesChecked (N : ℕ) (w : List ℕ) (b m m′ : Rows) (variables used : ℕ) (answer : Bool) : Type 0 where
-  pub tells : Tells answer (AllEnd N w b variables used)
-  pub marks : m′ ≡ m
-
-pub cycles-checked : {N : ℕ} {w : List ℕ} {b m₀ m m′ : Rows} {variables used : ℕ} {answer : Bool} → Sound N w b variables used → Free N used m₀
-    → Descended N w b m₀ m variables used answer → Wiped m m′ (N + used) → CyclesChecked N w b m₀ m′ variables used answer
-cycles-checked {answer = answer} s fr h g = record {
-  tells = record {
-    yes = λ e r k. all-end (s .words) (s .references) (h .yes e) (suc r) r (omega arith) k;
-    back = λ all. by-bool answer (λ e. e) (λ e. absurd (h .other e all));
-  };
-  marks = wiped-back (fr .empty) (h .table) g;
-}
 
 -- The trail entered among the marks.
 pub record Entering (b m₀ m : Rows) (variables n : ℕ) : Type 0 where
@@ -142,16 +122,21 @@ pub record TrailChecked (N : ℕ) (w : List ℕ) (b m m′ : Rows) (variables us
   pub tells : Tells answer (Trailed N w b variables used k)
   pub marks : m′ ≡ m
 
+-- A variable that the trail does not list is unbound.
+bindings-none : (N : ℕ) (w values trail : Cells) (k v : ℕ) → ((i : ℕ) → i < k → trail i ≢ v) → lookup (bindings N w values trail k) v ≡ none
+bindings-none N w values trail zero v h = refl
+bindings-none N w values trail (suc k) v h = rw (same-ne {x = v} {y = trail k} (λ e. h k (omega arith) (sym e))) (bindings-none N w values trail k v (λ i l. h i (omega arith)))
+
 -- The parts make the form.
 module _ {N : ℕ} {w : List ℕ} {b : Rows} {variables used k : ℕ} where
-  pub trailed-sound : WellFormed N (cells w) variables used → variables ≤ N → N + used ≤ headers → used ≤ length w → variables ≤ length b → Trailed N w b variables used k → Sound N w b variables used
-  trailed-sound wf few low lw lb t = record {
-    words = wf;
-    few = few;
+  pub trailed-stored : WellFormed N (cells w) variables used → (variables ≤ N) × (N + used ≤ headers) × (used ≤ length w) → variables ≤ length b → Trailed N w b variables used k → Stored w b N variables used
+  trailed-stored wf (few, low, lw) lb t = record {
     low = low;
-    lentWords = lw;
-    lentRows = lb;
-    references = λ v r l e. let z : column 0 b v - 1 ≡ r = omega arith in subst (Reference N (cells w) variables used) z (t .values v (λ q. omega arith) .2);
+    few = few;
+    rows = lb;
+    within = lw;
+    formed = wf;
+    bound = λ v r l e. let z : column 0 b v - 1 ≡ r = omega arith in subst (Reference N (cells w) variables used) z (t .values v (λ q. omega arith) .2);
   }
 
   -- a listed variable is found
@@ -161,24 +146,22 @@ module _ {N : ℕ} {w : List ℕ} {b : Rows} {variables used k : ℕ} where
       (λ p q. rw q (ap (λ (v : ℕ). some (denote N (cells w) (column 0 b v - 1))) (sym p)))
       (λ p q. rw q (bindings-some j (omega arith) t i (by-order i j (λ a. a) (λ a. absurd (p (let e : i ≡ j = omega arith in ap (column 1 b) e))))))
 
-  pub form-checked : Sound N w b variables used → Trailed N w b variables used k → ((i : ℕ) → k ≤ i → column 1 b i ≡ 0) → AllEnd N w b variables used → Form N w b variables used k
-  form-checked s t rest all =
-      let lists : (i : ℕ) → i < k → (column 1 b i < variables) × (column 0 b (column 1 b i) ≢ 0) × Reference N (cells w) variables used (column 0 b (column 1 b i) - 1) =
-      λ i l. (t .inUse i l, t .bound i l, t .values (column 1 b i) (t .bound i l) .2) in
-      record {
-        words = s .words;
-        few = s .few;
-        low = s .low;
-        lentWords = s .lentWords;
-        lentRows = s .lentRows;
-        references = s .references;
-        lookups = λ v l. at v (column 0 b v) refl;
-        acyclic = acyclic-made N (cells w) (column 0 b) (column 1 b) variables used (s .words) (s .few) k lists (t .distinct)
-            (λ v l. all v (let few = s .few in record { variable = λ _. l; node = λ g. absurd (omega arith); header = λ g. absurd (omega arith) }));
-        below = below-made N (cells w) (column 0 b) (column 1 b) variables used (s .words) (s .few) k lists;
-        unbound = λ v l. ⊎-elim (λ e. e) (λ e. let u = t .values v e .0 in absurd (omega arith)) (same-or-not (column 0 b v) 0);
-        rest = rest;
-      }
+  bindings-distinct : (j : ℕ) → j ≤ k → Trailed N w b variables used k → Distinct (held N w b j)
+  bindings-distinct zero l t = tt
+  bindings-distinct (suc j) l t = (bindings-none N (cells w) (column 0 b) (column 1 b) j (column 1 b j) (λ i p. t .distinct i j p l), bindings-distinct j (omega arith) t)
+
+  bindings-below : (j : ℕ) → j ≤ k → WellFormed N (cells w) variables used → Trailed N w b variables used k → BelowB variables (held N w b j)
+  bindings-below zero l wf t = tt
+  bindings-below (suc j) l wf t =
+      (t .inUse j l, below-denote N (cells w) variables used wf (column 0 b (column 1 b j) - 1) (t .values (column 1 b j) (t .bound j l) .2), bindings-below j (omega arith) wf t)
+
+  -- the trail's bindings are a list of those that the values hold
+  pub trailed-held : Trailed N w b variables used k → Held N (cells w) (column 0 b) variables (held N w b k)
+  trailed-held t = record {
+    distinct = bindings-distinct k (le-refl k) t;
+    below = λ v l. at v (column 0 b v) refl;
+    above = λ v l. bindings-none N (cells w) (column 0 b) (column 1 b) k v (λ i p q. let u = t .inUse i p in omega arith);
+  }
     where
       at : (v z : ℕ) → column 0 b v ≡ z → lookup (held N w b k) v ≡ bindingOf N (cells w) (column 0 b v)
       at v zero e = bindings-none N (cells w) (column 0 b) (column 1 b) k v (λ i l q. t .bound i l (ap (column 0 b) q ∙ e)) ∙ ap (bindingOf N (cells w)) (sym e)
@@ -187,6 +170,21 @@ module _ {N : ℕ} {w : List ℕ} {b : Rows} {variables used k : ℕ} where
           let d : column 0 b v - 1 ≡ r = omega arith in
           subst (λ (y : ℕ). lookup (held N w b k) y ≡ some (denote N (cells w) (column 0 b y - 1))) q (bindings-some k (le-refl k) t i li)
           ∙ ap (λ (y : ℕ). some (denote N (cells w) y)) d ∙ ap (bindingOf N (cells w)) (sym e)
+
+  pub form-checked : Stored w b N variables used → Trailed N w b variables used k → ((i : ℕ) → k ≤ i → column 1 b i ≡ 0) → Acyclic (held N w b k) → Form N w b variables used k
+  form-checked s t rest acyclic = record {
+    words = s .formed;
+    few = s .few;
+    low = s .low;
+    lentWords = s .within;
+    lentRows = s .rows;
+    references = s .bound;
+    lookups = trailed-held t .below;
+    acyclic = acyclic;
+    below = bindings-below k (le-refl k) (s .formed) t;
+    unbound = λ v l. ⊎-elim (λ e. e) (λ e. let u = t .values v e .0 in absurd (omega arith)) (same-or-not (column 0 b v) 0);
+    rest = rest;
+  }
 
   pub form-trailed : Form N w b variables used k → Trailed N w b variables used k
   form-trailed f = record {
@@ -201,21 +199,20 @@ module _ {N : ℕ} {w : List ℕ} {b : Rows} {variables used k : ℕ} where
   pub form-few : Form N w b variables used k → k ≤ variables
   form-few f = trail-in (form-holds f)
 
-  pub form-ends : Form N w b variables used k → AllEnd N w b variables used
-  form-ends f = acyclic-ends (f .words) (form-holds f)
-
 -- The ways out of `check_bindings`.
 module _ {N : ℕ} {w : List ℕ} {b m₀ : Rows} {variables used k : ℕ} where
   pub checked-no : (Form N w b variables used k → ⊥) → (m : Rows) → m ≡ m₀ → BindingsChecked N w b m₀ m variables used k false
   checked-no n m e = record { tells = tells-no n; marks = e }
 
-  pub checked-last : {trail rest cycles : Bool} {m₁ m₂ : Rows} → WellFormed N (cells w) variables used → (variables ≤ N) × (N + used ≤ headers) × (used ≤ length w) → variables ≤ length b
+  pub checked-last : {trail rest answer : Bool} {m₁ m₂ : Rows} → WellFormed N (cells w) variables used → (variables ≤ N) × (N + used ≤ headers) × (used ≤ length w) → variables ≤ length b
       → TrailChecked N w b m₀ m₁ variables used k trail → trail ≡ true → Tells rest ((i : ℕ) → k ≤ i → column 1 b i ≡ 0) → rest ≡ true
-      → CyclesChecked N w b m₁ m₂ variables used cycles → BindingsChecked N w b m₀ m₂ variables used k cycles
-  checked-last wf (few, low, lw) lb t et r er c = record {
-    tells = record {
-      yes = λ e. form-checked (trailed-sound wf few low lw lb (t .tells .yes et)) (t .tells .yes et) (r .yes er) (c .tells .yes e);
-      back = λ f. c .tells .back (form-ends f);
-    };
-    marks = c .marks ∙ t .marks;
-  }
+      → Decided w b N variables m₁ answer m₂ → BindingsChecked N w b m₀ m₂ variables used k answer
+  checked-last {answer = answer} wf sizes lb t et r er d =
+      let trailed = t .tells .yes et in
+      record {
+        tells = record {
+          yes = λ e. form-checked (trailed-stored wf sizes lb trailed) trailed (r .yes er) (d .accepted e (held N w b k) (trailed-held trailed));
+          back = λ f. by-bool answer (λ e. e) (λ e. absurd (d .refused e (held N w b k) (trailed-held trailed) (f .acyclic)));
+        };
+        marks = d .restored ∙ t .marks;
+      }

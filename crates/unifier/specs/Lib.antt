@@ -18,9 +18,6 @@ pub mod Turns
 pub mod Bounds
 pub mod Equating
 pub mod Ending
-pub mod Descent
-pub mod Descending
-pub mod Cycles
 pub mod Checking
 -- What callers need of it:
 pub mod Growth

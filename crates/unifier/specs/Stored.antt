@@ -41,15 +41,6 @@ pub record Form (N : ℕ) (w : List ℕ) (b : Rows) (variables used k : ℕ) : T
   pub unbound : (v : ℕ) → variables ≤ v → column 0 b v ≡ 0
   pub rest : (i : ℕ) → k ≤ i → column 1 b i ≡ 0
 
--- The part of the form that says nothing of the trail and of cycles; each part as there.
-pub record Sound (N : ℕ) (w : List ℕ) (b : Rows) (variables used : ℕ) : Type 0 where
-  pub words : WellFormed N (cells w) variables used
-  pub few : variables ≤ N
-  pub low : N + used ≤ headers
-  pub lentWords : used ≤ length w
-  pub lentRows : variables ≤ length b
-  pub references : (v r : ℕ) → v < variables → column 0 b v ≡ suc r → Reference N (cells w) variables used r
-
 -- Where the values lead from a reference: through bound variables to an unbound one or to a node.
 pub data WalksTo (N : ℕ) (values : Cells) : ℕ → ℕ → Type 0 where
   free : {r : ℕ} → r < N → values r ≡ 0 → WalksTo N values r r

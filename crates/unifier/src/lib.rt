@@ -10,10 +10,9 @@ mod links; // links between equal nodes
 mod nodes; // the parts of a node
 mod stack; // the stack of open pairs
 mod equations; // one decision, and the loop of unification
-mod cycles; // the search for a cycle
 mod trails; // the check of trail and values
 
-use cycles::check_acyclic;
+use acyclicity::is_acyclic;
 use equations::equate;
 use stack::clear;
 use trails::check_rest;
@@ -169,7 +168,7 @@ pub fn check_bindings(
     }
     if check_trail(w, b, m, room, variables, used, k) {
         if check_rest(b, k) {
-            return check_acyclic(w, b, m, room, variables, used);
+            return is_acyclic(w, b, room, variables, used, m);
         }
         return false;
     }

@@ -1,27 +1,26 @@
 // A table with the list of its entries: rows of two numbers, the value by key and the keys in order.
 ghost use mathlib.Core.Path.{_≡_};
-ghost use mathlib.Core.List.{[], _∷_};
 ghost use Prim.Native.Nat.{_-_, _<_};
-ghost use lib.ListN.{length, getD, set};
+ghost use lib.ListN.{length, getD};
 ghost use Rattle.unifier.specs.Tables.{valued, listed, undone};
 ghost use Rattle.unifier.specs.Contracts.{Replaced, Entered, Undoable};
 
 // The first number of a row.
-pub fn first(row: [u32; 2]) -> u32
+fn first(row: [u32; 2]) -> u32
     ensures { λ r. ⌜ (r ≡ getD row 0 0) × (length row ≡ 2) ⌝ }
 {
     row[0]
 }
 
 // The second number of a row.
-pub fn second(row: [u32; 2]) -> u32
+fn second(row: [u32; 2]) -> u32
     ensures { λ r. ⌜ (r ≡ getD row 1 0) × (length row ≡ 2) ⌝ }
 {
     row[1]
 }
 
 // Sets the value of a key.
-pub fn set_value(t: &mut [[u32; 2]], key: u32, value: u32)
+fn set_value(t: &mut [[u32; 2]], key: u32, value: u32)
     requires { ⌜ key < length (now t) ⌝ }
     ensures { λ _. ⌜ Replaced (now (t .entry)) (now (t .exit)) key 2 (valued (now (t .entry)) key value) ⌝ }
 {
@@ -40,17 +39,6 @@ fn set_listed(t: &mut [[u32; 2]], n: u32, key: u32)
     let row = t[i];
     let old = first(row);
     t[i] = [old, key];
-}
-
-// Puts a row of two numbers.
-pub fn put_row(m: &mut [[u32; 2]], x: u32, left: u32, right: u32)
-    requires { ⌜ x < length (now m) ⌝ }
-    ensures { λ _. ⌜ Replaced (now (m .entry)) (now (m .exit)) x 2 (set (now (m .entry)) x (left ∷ right ∷ [])) ⌝ }
-{
-    let i = x as usize;
-    let row = m[i];
-    let old = second(row);
-    m[i] = [left, right];
 }
 
 // Enters a key at position n of the list, with its value.

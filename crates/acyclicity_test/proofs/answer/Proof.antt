@@ -1,9 +1,26 @@
 -- `answer` is safe: the tests before the call are what the check requires.
+use Prim.Native.Nat.{ℕ, zero, suc}
+use mathlib.Core.Path.{_≡_, refl, ap, _∙_}
+use mathlib.Core.List.{List, [], _∷_}
+use lib.ListN.{getD, length, List·getD-eq-default}
+use Rattle.terms.specs.Numbers.{by-less}
+use Rattle.arena.specs.Rows.{Rows, column}
+use Rattle.acyclicity_test.specs.Form.{Zero}
 use borrow.Author.Tests.{not-false}
 use native.Mathlib.Omega.{arith}
 use borrow.Author.Needs.{needs}
 use Rattle.acyclicity_test.proofs.answer.Statement.{statement}
 use Rattle.acyclicity_test.proofs.answer.Tie as tie
+
+zero-pair : (c : ℕ) → _≡_ {A = ℕ} (getD (0 ∷ 0 ∷ []) c 0) 0
+zero-pair zero = refl
+zero-pair (suc zero) = refl
+zero-pair (suc (suc c)) = refl
+
+zero-numbers : (rows : Rows) → Zero rows → (c a : ℕ) → column c rows a ≡ 0
+zero-numbers rows z c a = by-less a (length rows)
+    (λ l q. ap (λ (r : List ℕ). getD r c 0) (z a l) ∙ zero-pair c)
+    (λ l q. ap (λ (r : List ℕ). getD r c 0) (List·getD-eq-default rows [] l))
 
 returns : tie.Need-returns
 returns c = search needs
@@ -47,7 +64,7 @@ is-acyclic-requires c κs =
     record {
       stored = record { low = search needs; few = search needs; rows = bound .rows; within = words .within; formed = words .formed; bound = λ v r l e. bound .bound v l r e };
       long = omega (arith, (zero .kept .0));
-      zeros = (zero .ensures);
+      zeros = zero-numbers (zero .last .0) (zero .ensures);
     }
 
 is-unmarked-requires : tie.Need-is-unmarked-requires

@@ -1,7 +1,7 @@
 -- `check_bindings` meets its contract: its parts hold together exactly where the rows are in form.
 use mathlib.Core.Path.{refl, sym, subst}
 use Rattle.unifier.specs.Contracts.{Free}
-use Rattle.unifier.specs.Checking.{checked-no, checked-last, trailed-sound, tells-false, form-trailed, form-few}
+use Rattle.unifier.specs.Checking.{checked-no, checked-last, trailed-stored, tells-false, form-trailed, form-few}
 use native.Mathlib.Omega.{arith}
 use borrow.Author.Needs.{needs}
 use Rattle.unifier.proofs.check_bindings.Statement.{statement}
@@ -19,13 +19,18 @@ check-trail-requires c κs = let a = (c .before .before .before .before .pre .1 
 check-rest-requires : tie.Need-check-rest-requires
 check-rest-requires c κs = search needs
 
-check-acyclic-requires : tie.Need-check-acyclic-requires
-check-acyclic-requires c κs =
+is-acyclic-requires : tie.Need-is-acyclic-requires
+is-acyclic-requires c κs =
     let pre = c .before .before .before .before .before .before .before .before .before .before .pre in
     let check-trail = c .before .before .before .before .before .check-trail in
     let if3 = c .before .before .before .if3 in
     let args = c .before .before .before .before .before .before .before .before .before .before .args in
-    (trailed-sound (pre .0) (pre .1 .0 .0) (pre .1 .0 .1) (pre .1 .0 .2) (search needs) ((check-trail .ensures .tells .yes) (if3 .taken)), subst (Free (args .room) (args .used)) (sym (check-trail .ensures .marks)) (pre .1 .1))
+    let free = subst (Free (args .room) (args .used)) (sym (check-trail .ensures .marks)) (pre .1 .1) in
+    record {
+      stored = trailed-stored (pre .0) (pre .1 .0) (search needs) ((check-trail .ensures .tells .yes) (if3 .taken));
+      long = free .lent;
+      zeros = free .empty;
+    }
 
 same-length : tie.Need-same-length
 same-length c = search needs
@@ -37,8 +42,8 @@ returns-3 c =
     let if3 = c .before .before .before .before .before .if3 in
     let check-rest = c .before .before .before .before .check-rest in
     let if4 = c .before .before .before .if4 in
-    let check-acyclic = c .before .check-acyclic in
-    checked-last (pre .0) (pre .1 .0) (search needs) (check-trail .ensures) (if3 .taken) (check-rest .ensures) (if4 .taken) (check-acyclic .ensures)
+    let is-acyclic = c .before .is-acyclic in
+    checked-last (pre .0) (pre .1 .0) (search needs) (check-trail .ensures) (if3 .taken) (check-rest .ensures) (if4 .taken) (is-acyclic .ensures)
 
 same-length-2 : tie.Need-same-length-2
 same-length-2 c = search needs
@@ -62,7 +67,7 @@ check-bindings-spec =
     returns-2
     check-trail-requires
     check-rest-requires
-    check-acyclic-requires
+    is-acyclic-requires
     same-length
     returns-3
     same-length-2
