@@ -7,7 +7,7 @@ use mathlib.Core.List.{List, [], _∷_}
 use lib.ListN.{getD, length, set}
 use Rattle.terms.specs.Bindings.{Bindings, walk, occurs}
 use Rattle.terms.specs.Unification.{Outcome, fails, unified, unify}
-use Rattle.arena.specs.Cells.{cells, denote, Reference}
+use Rattle.arena.specs.Cells.{cells, arityOf, denote, Reference}
 use Rattle.arena.specs.Rows.{Rows, column}
 use Rattle.unifier.specs.Tables.{Empty, entered, removed, undone}
 use Rattle.unifier.specs.Stored.{held, Form, WalksTo, LeadsTo}
@@ -73,10 +73,11 @@ pub record Ways (N : ℕ) (b : Rows) (x y p q : ℕ) : Type 0 where
   -- from y to q
   pub second : WalksTo N (column 0 b) y q
 
--- x and y need not be made equal: they lead to the same reference, or to linked ones.
-pub data Alike (N : ℕ) (b links : Rows) (x y : ℕ) : Type 0 where
-  met : (p : ℕ) → Ways N b x y p p → Alike N b links x y
-  linked : (p q root : ℕ) → Ways N b x y p q → LeadsTo (column 0 links) p root → LeadsTo (column 0 links) q root → Alike N b links x y
+-- x and y need not be made equal: they lead to the same reference, to the same constant, or to linked nodes.
+pub data Alike (N : ℕ) (w : List ℕ) (b links : Rows) (x y : ℕ) : Type 0 where
+  met : (p : ℕ) → Ways N b x y p p → Alike N w b links x y
+  constants : (p q : ℕ) → Ways N b x y p q → N ≤ p → N ≤ q → cells w (p - N) ≡ cells w (q - N) → arityOf (cells w (p - N)) ≡ 0 → Alike N w b links x y
+  linked : (p q root : ℕ) → Ways N b x y p q → LeadsTo (column 0 links) p root → LeadsTo (column 0 links) q root → Alike N w b links x y
 
 -- A variable is to be bound to a reference: of two variables the first one.
 pub data Binding (N : ℕ) (w : List ℕ) (b : Rows) (k x y : ℕ) : ℕ → ℕ → Type 0 where
@@ -103,7 +104,7 @@ pub data Clashing (N : ℕ) (w : List ℕ) (b : Rows) (k x y : ℕ) : Type 0 whe
 
 -- What a decision says.
 abbrev pub Says : ℕ → List ℕ → Rows → Rows → ℕ → ℕ → ℕ → Decision → Type 0
-Says N w b links k x y Same = Alike N b links x y
+Says N w b links k x y Same = Alike N w b links x y
 Says N w b links k x y (Bind v z) = Binding N w b k x y v z
 Says N w b links k x y (Open p q) = Opening N w b links x y p q
 Says N w b links k x y Clash = Clashing N w b k x y

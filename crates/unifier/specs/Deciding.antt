@@ -5,10 +5,10 @@ use mathlib.Core.Path.{_≡_, sym, subst, _∙_}
 use mathlib.Core.Logic.{_≢_}
 use mathlib.Core.List.{List}
 use lib.ListN.{length}
-use Rattle.arena.specs.Cells.{cells}
+use Rattle.arena.specs.Cells.{cells, arityOf}
 use Rattle.arena.specs.Rows.{Rows, column}
 use Rattle.unifier.specs.Stored.{Form, WalksTo, LeadsTo}
-use Rattle.unifier.specs.Contracts.{Walked, Ways, Alike, met, linked, Opening}
+use Rattle.unifier.specs.Contracts.{Walked, Ways, Alike, met, constants, linked, Opening}
 use Rattle.unifier.specs.Linking.{leads-one}
 use Rattle.unifier.specs.Search.{reference-low}
 
@@ -16,10 +16,13 @@ module _ {N : ℕ} {w : List ℕ} {b : Rows} {variables used k x y p q : ℕ} (v
   pub ways : Ways N b x y p q
   ways = record { first = vx .way; second = vy .way }
 
-  pub alike-met : {links : Rows} → p ≡ q → Alike N b links x y
+  pub alike-met : {links : Rows} → p ≡ q → Alike N w b links x y
   alike-met e = met p (record { first = vx .way; second = subst (λ (z : ℕ). WalksTo N (column 0 b) y z) (sym e) (vy .way) })
 
-  pub alike-linked : {links : Rows} {root root′ : ℕ} → LeadsTo (column 0 links) p root → LeadsTo (column 0 links) q root′ → root ≡ root′ → Alike N b links x y
+  pub alike-constants : {links : Rows} → N ≤ p → N ≤ q → cells w (p - N) ≡ cells w (q - N) → arityOf (cells w (p - N)) ≡ 0 → Alike N w b links x y
+  alike-constants lp lq e z = constants p q ways lp lq e z
+
+  pub alike-linked : {links : Rows} {root root′ : ℕ} → LeadsTo (column 0 links) p root → LeadsTo (column 0 links) q root′ → root ≡ root′ → Alike N w b links x y
   alike-linked {links} {root} l l′ e = linked p q root ways l (subst (λ (z : ℕ). LeadsTo (column 0 links) q z) (sym e) l′)
 
   pub opened : {links : Rows} {root root′ : ℕ} → N ≤ p → N ≤ q → cells w (p - N) ≡ cells w (q - N) → LeadsTo (column 0 links) p root → LeadsTo (column 0 links) q root′ → root ≢ root′ → Opening N w b links x y p q

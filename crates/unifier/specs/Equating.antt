@@ -17,7 +17,7 @@ use Rattle.arena.specs.Cells.{Cells, cells, headers, arityOf, denote, Reference
 use Rattle.arena.specs.Rows.{Rows, column}
 use Rattle.unifier.specs.Tables.{Empty, undone}
 use Rattle.unifier.specs.Stored.{held, Form, free, LeadsTo}
-use Rattle.unifier.specs.Contracts.{Entered, Free, Falling, Ways, Alike, met, linked, Binding, ofFirst, ofSecond, Clashing, inFirst, inSecond, heads, Says, Joined, outcome}
+use Rattle.unifier.specs.Contracts.{Entered, Free, Falling, Ways, Alike, met, constants, linked, Binding, ofFirst, ofSecond, Clashing, inFirst, inSecond, heads, Says, Joined, outcome}
 use Rattle.unifier.specs.declared.Decision.the-variants.{Same, Bind, Open, Clash}
 use Rattle.unifier.specs.Orders.{by-order, low-or-high, not-zero, put, put-at, put-off}
 use Rattle.unifier.specs.TableLaws.{Changed, column-same, column-other, undone-none}
@@ -26,7 +26,7 @@ use Rattle.unifier.specs.Holding.{Holds, form-holds, walks, walks-ref, w
 use Rattle.unifier.specs.Search.{reference-low, undone-zero}
 use Rattle.unifier.specs.Linking.{lead-is}
 use Rattle.unifier.specs.Pairs.{EqualUnder, OpenPair, Pending, Resuming, stack-same}
-use Rattle.unifier.specs.Steps.{leads-eq, leads-ref, leads-root, skip-linked, bind-first, bind-second, open-pair, occurs-in-first, occurs-in-second, heads-differ}
+use Rattle.unifier.specs.Steps.{leads-eq, leads-ref, leads-root, skip-constants, skip-linked, bind-first, bind-second, open-pair, occurs-in-first, occurs-in-second, heads-differ}
 use Rattle.unifier.specs.Turns.{top, all-done, first-state, next-arguments, equal, close-pair}
 use Rattle.unifier.specs.Bounds.{measure, untaken-same, stack-in, open-falls, next-falls, close-falls}
 
@@ -250,8 +250,9 @@ module _ {N : ℕ} {w : List ℕ} {b₀ l₀ m₀ s₀ : Rows} {variables used k
       pub turn-same : Says N w b l n x y Same → Loop N w b₀ l₀ m₀ s₀ variables used k r t b l m′ s x y d n c false
       turn-same a = record { fixed = h .fixed; binding = h .binding; linking = h .linking; stacking = h .stacking; marks = em ∙ h .marks; stage = go a }
         where
-          go : Alike N b l x y → Resuming N (cells w) (column 0 b) (column 1 b) (column 0 l) (column 0 s) (column 1 s) (column 2 s) variables used n d (whole N w b₀ variables k r t)
+          go : Alike N w b l x y → Resuming N (cells w) (column 0 b) (column 1 b) (column 0 l) (column 0 s) (column 1 s) (column 2 s) variables used n d (whole N w b₀ variables k r t)
           go (met p v) = let (root, lead) = lead-is (column 0 l) (h .linking .falls) p p (le-refl p) in skip-linked now (v .first) (v .second) root lead lead
+          go (constants p q v lp lq e z) = skip-constants now (v .first) (v .second) lp lq e z
           go (linked p q root v i j) = skip-linked now (v .first) (v .second) root i j
 
       pub turn-open : (p q : ℕ) → Says N w b l n x y (Open p q) → d < length s → length (getD s d []) ≡ 3 → Loop N w b₀ l₀ m₀ s₀ variables used k r t b l m′ (set s d (p ∷ q ∷ 0 ∷ [])) x y (d + 1) n c false

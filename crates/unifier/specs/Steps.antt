@@ -100,6 +100,13 @@ module _ {N : ℕ} where
       ey : EqualUnder (h .β) (denote N w y) (denote N w q)
       ey = walk-eq (h .state) (h .rightIn) vy
 
+      -- two constants with one header are the same term
+      pub skip-constants : N ≤ p → N ≤ q → w (p - N) ≡ w (q - N) → arityOf (w (p - N)) ≡ 0 → Resuming N w values trail links lefts rights taken variables used k d o
+      skip-constants lp lq e z = skip-equal (λ σ s. ex σ s ∙ ap (sub σ) (lone p rp lp z ∙ ap (λ (a : ℕ). app (symbolOf a) nil) e ∙ sym (lone q rq lq (ap arityOf (sym e) ∙ z))) ∙ sym (ey σ s))
+        where
+          lone : (r : ℕ) → Reference N w variables used r → N ≤ r → arityOf (w (r - N)) ≡ 0 → denote N w r ≡ app (symbolOf (w (r - N))) nil
+          lone r rr l none = denote-node N w variables used (h .state .words) r rr l ∙ ap (λ (n : ℕ). app (symbolOf (w (r - N))) (args (denote N w) w (suc (r - N)) n)) none
+
       pub skip-linked : (P : ℕ) → LeadsTo links p P → LeadsTo links q P → Resuming N w values trail links lefts rights taken variables used k d o
       skip-linked P l m = skip-equal (λ σ s. ex σ s ∙ leads-eq N w (h .β) (h .state .equalLinks) l σ s ∙ sym (leads-eq N w (h .β) (h .state .equalLinks) m σ s) ∙ sym (ey σ s))
 

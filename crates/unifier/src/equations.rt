@@ -53,13 +53,18 @@ fn decide(
         }
         return Decision::Bind(q, p);
     }
+    let header = w[(p - room) as usize];
+    if header != w[(q - room) as usize] {
+        return Decision::Clash;
+    }
+    // Constants have no arguments to be made equal, so two with one header need no links.
+    if header % 32 == 0 {
+        return Decision::Same;
+    }
     if find(links, p) == find(links, q) {
         return Decision::Same;
     }
-    if w[(p - room) as usize] == w[(q - room) as usize] {
-        return Decision::Open(p, q);
-    }
-    Decision::Clash
+    Decision::Open(p, q)
 }
 
 // Makes r and t equal under the first k bindings, if that can be, the pairs in the Rust's order; each pair of nodes is opened at most once.

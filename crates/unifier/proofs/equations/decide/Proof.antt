@@ -1,7 +1,7 @@
 -- `decide` meets its contract: each way out is one case of it.
 use mathlib.Core.Path.{refl, sym, _∙_}
 use Rattle.unifier.specs.Contracts.{ofFirst, ofSecond, inFirst, inSecond, heads}
-use Rattle.unifier.specs.Deciding.{ways, alike-met, alike-linked, opened, header-in, root-in}
+use Rattle.unifier.specs.Deciding.{ways, alike-met, alike-constants, alike-linked, opened, header-in, root-in}
 use borrow.Author.Needs.{needs}
 use Rattle.unifier.proofs.equations.decide.Statement.{statement}
 use Rattle.unifier.proofs.equations.decide.Tie as tie
@@ -93,66 +93,73 @@ returns-5 c =
       marks = (occurs2 .ensures .marks);
     }
 
-find-requires : tie.Need-find-requires
-find-requires c κs =
-    ((c .before .before .before .before .before .before .pre .1 .1 .0), root-in (c .before .before .before .before .walk .ensures) (c .before .before .before .before .before .before .pre .1 .1 .1 .0))
+cast-header : tie.Need-cast-header
+cast-header c = search needs
 
-find-requires-2 : tie.Need-find-requires-2
-find-requires-2 c κs =
-    ((c .before .before .before .before .before .before .before .pre .1 .1 .0), root-in (c .before .before .before .before .walk2 .ensures) (c .before .before .before .before .before .before .before .pre .1 .1 .1 .0))
+mul-header : tie.Need-mul-header
+mul-header c = search needs
+
+shared-slice-read-header : tie.Need-shared-slice-read-header
+shared-slice-read-header c = header-in (c .before .before .before .before .before .before .before .pre .0) (c .before .before .before .before .before .walk .ensures) (search needs)
+
+cast-if6 : tie.Need-cast-if6
+cast-if6 c = search needs
+
+mul-if6 : tie.Need-mul-if6
+mul-if6 c = search needs
+
+shared-slice-read-if6 : tie.Need-shared-slice-read-if6
+shared-slice-read-if6 c = header-in (c .before .before .before .before .before .before .before .before .pre .0) (c .before .before .before .before .before .walk2 .ensures) (search needs)
 
 returns-6 : tie.Need-returns-6
 returns-6 c =
     let walk = c .before .before .before .before .before .before .before .walk in
     let walk2 = c .before .before .before .before .before .before .walk2 in
-    let find = c .before .before .find in
-    let find2 = c .before .find2 in
     let if6 = c .if6 in
     record {
-      says = alike-linked (walk .ensures) (walk2 .ensures) (find .ensures .0) (find2 .ensures .0) (if6 .taken);
+      says = heads _ _ (ways (walk .ensures) (walk2 .ensures)) (search needs) (search needs) (if6 .taken);
       marks = refl;
     }
-
-cast-if7 : tie.Need-cast-if7
-cast-if7 c = search needs
-
-mul-if7 : tie.Need-mul-if7
-mul-if7 c = search needs
-
-shared-slice-read-if7 : tie.Need-shared-slice-read-if7
-shared-slice-read-if7 c =
-    header-in (c .before .before .before .before .before .before .before .before .before .before .pre .0) (c .before .before .before .before .before .before .before .before .walk .ensures) (search needs)
-
-cast-if7-2 : tie.Need-cast-if7-2
-cast-if7-2 c = search needs
-
-mul-if7-2 : tie.Need-mul-if7-2
-mul-if7-2 c = search needs
-
-shared-slice-read-if7-2 : tie.Need-shared-slice-read-if7-2
-shared-slice-read-if7-2 c =
-    header-in (c .before .before .before .before .before .before .before .before .before .before .before .pre .0) (c .before .before .before .before .before .before .before .before .walk2 .ensures) (search needs)
 
 returns-7 : tie.Need-returns-7
 returns-7 c =
-    let walk = c .before .before .before .before .before .before .before .before .before .before .walk in
-    let walk2 = c .before .before .before .before .before .before .before .before .before .walk2 in
+    let walk = c .before .before .before .before .before .before .before .before .walk in
+    let walk2 = c .before .before .before .before .before .before .before .walk2 in
+    let if6 = c .before .if6 in
     let if7 = c .if7 in
-    let find = c .before .before .before .before .before .find in
-    let find2 = c .before .before .before .before .find2 in
-    let if6 = c .before .before .before .if6 in
     record {
-      says = opened (walk .ensures) (walk2 .ensures) (search needs) (search needs) (if7 .taken) (find .ensures .0) (find2 .ensures .0) (if6 .left);
+      says = alike-constants (walk .ensures) (walk2 .ensures) (search needs) (search needs) (if6 .left) (if7 .taken);
       marks = refl;
     }
 
+find-requires : tie.Need-find-requires
+find-requires c κs = ((c .before .before .before .before .before .before .before .before .before .before .pre .1 .1 .0), root-in (c .before .before .before .before .before .before .before .before .walk .ensures) (c .before .before .before .before .before .before .before .before .before .before .pre .1 .1 .1 .0))
+
+find-requires-2 : tie.Need-find-requires-2
+find-requires-2 c κs = ((c .before .before .before .before .before .before .before .before .before .before .before .pre .1 .1 .0), root-in (c .before .before .before .before .before .before .before .before .walk2 .ensures) (c .before .before .before .before .before .before .before .before .before .before .before .pre .1 .1 .1 .0))
+
 returns-8 : tie.Need-returns-8
 returns-8 c =
-    let walk = c .before .before .before .before .before .before .before .before .before .before .walk in
-    let walk2 = c .before .before .before .before .before .before .before .before .before .walk2 in
-    let if7 = c .if7 in
+    let walk = c .before .before .before .before .before .before .before .before .before .before .before .walk in
+    let walk2 = c .before .before .before .before .before .before .before .before .before .before .walk2 in
+    let find = c .before .before .find in
+    let find2 = c .before .find2 in
+    let if8 = c .if8 in
     record {
-      says = heads _ _ (ways (walk .ensures) (walk2 .ensures)) (search needs) (search needs) (if7 .left);
+      says = alike-linked (walk .ensures) (walk2 .ensures) (find .ensures .0) (find2 .ensures .0) (if8 .taken);
+      marks = refl;
+    }
+
+returns-9 : tie.Need-returns-9
+returns-9 c =
+    let walk = c .before .before .before .before .before .before .before .before .before .before .before .walk in
+    let walk2 = c .before .before .before .before .before .before .before .before .before .before .walk2 in
+    let if6 = c .before .before .before .before .if6 in
+    let find = c .before .before .find in
+    let find2 = c .before .find2 in
+    let if8 = c .if8 in
+    record {
+      says = opened (walk .ensures) (walk2 .ensures) (search needs) (search needs) (if6 .left) (find .ensures .0) (find2 .ensures .0) (if8 .left);
       marks = refl;
     }
 
@@ -173,14 +180,15 @@ decide-spec =
     returns-4
     same-length-4
     returns-5
+    cast-header
+    mul-header
+    shared-slice-read-header
+    cast-if6
+    mul-if6
+    shared-slice-read-if6
+    returns-6
+    returns-7
     find-requires
     find-requires-2
-    returns-6
-    cast-if7
-    mul-if7
-    shared-slice-read-if7
-    cast-if7-2
-    mul-if7-2
-    shared-slice-read-if7-2
-    returns-7
-    returns-8)
+    returns-8
+    returns-9)
