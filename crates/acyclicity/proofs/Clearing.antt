@@ -8,7 +8,7 @@ use mathlib.Core.Bool.{Bool}
 use lib.ListN.{getD, length, set, length-set}
 use lib.Seq.{getD-set-same, getD-set-other, ext-getD}
 use Rattle.terms.specs.Numbers.{by-same, by-less}
-use Rattle.arena.specs.Rows.{Rows}
+use Rattle.arena.specs.Rows.{Rows, pair-is}
 use Rattle.acyclicity.specs.Contract.{Ready}
 use Rattle.acyclicity.specs.Edges.{Searchable, Searched, Cleared, Pairs}
 
@@ -33,19 +33,12 @@ cleared-more {rows₀} {rows} {from} {i} h f l = record {
 pub searchable : {words : List ℕ} {bindings : Rows} {N variables used : ℕ} {rows : Rows} → Ready words bindings N variables used rows → Searchable words bindings N variables used rows
 searchable h = record { stored = h .stored; long = h .long; unmarked = h .zeros 0 }
 
--- A row of two numbers that are both 0.
-zero-row : (row : List ℕ) → length row ≡ 2 → getD row 0 0 ≡ 0 → getD row 1 0 ≡ 0 → row ≡ 0 ∷ 0 ∷ []
-zero-row [] l e d = let z : ⊥ = omega arith in absurd z
-zero-row (x ∷ []) l e d = let z : ⊥ = omega arith in absurd z
-zero-row (x ∷ y ∷ []) l e d = ap₂ (λ (a b : ℕ). a ∷ b ∷ []) e d
-zero-row (x ∷ y ∷ z ∷ r) l e d = let n : ⊥ = omega arith in absurd n
-
 pub restored : {words : List ℕ} {bindings : Rows} {N variables used : ℕ} {rows rows₁ rows₂ rows₃ : Rows} {answer : Bool} → Ready words bindings N variables used rows → Pairs rows (N + used)
     → Searched words bindings N variables used rows answer rows₁ → Cleared rows₁ 0 variables rows₂ → Cleared rows₂ N (N + used) rows₃ → rows₃ ≡ rows
 restored {N = N} {variables} {used} {rows} {rows₁} {rows₂} {rows₃} h w s c d =
     let n : length rows₃ ≡ length rows = d .long ∙ (c .long ∙ s .long) in
     ext-getD [] rows₃ rows n (λ a l.
-    let before : a < N + used → 0 ∷ 0 ∷ [] ≡ getD rows a [] = λ k. sym (zero-row (getD rows a []) (w a k) (h .zeros 0 a) (h .zeros 1 a)) in
+    let before : a < N + used → 0 ∷ 0 ∷ [] ≡ getD rows a [] = λ k. sym (pair-is (getD rows a []) (w a k) ∙ ap₂ (λ (x y : ℕ). x ∷ y ∷ []) (h .zeros 0 a) (h .zeros 1 a)) in
     by-less a N
     (λ p q. d .outside a (inl p) ∙ by-less a variables
     (λ v r. c .inside a (omega arith) v ∙ before (omega arith))

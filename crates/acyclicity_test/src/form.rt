@@ -1,6 +1,7 @@
 // Whether storage is in the form that `acyclicity::is_acyclic` requires, so that a case may have any contents.
 ghost use mathlib.Core.Path.{_≡_};
 ghost use mathlib.Core.Bool.{true};
+ghost use mathlib.Core.List.{[], _∷_};
 ghost use Rattle.arena.specs.Cells.{cells, Reference};
 ghost use Rattle.acyclicity_test.specs.Form.{NodeInForm, WordsInForm, BindingInForm, BindingsInForm, Zero};
 
@@ -125,11 +126,26 @@ pub fn zero(rows: &mut [[u32; 2]])
     }
 }
 
-// Whether the first column of all rows is zero.
-pub fn is_unmarked(rows: &[[u32; 2]]) -> bool {
+// Whether both numbers of a row are zero.
+fn is_zero(row: [u32; 2]) -> bool
+    ensures { λ f. ⌜ (f ≡ true → row ≡ 0 ∷ 0 ∷ []) × (row ≡ 0 ∷ 0 ∷ [] → f ≡ true) ⌝ }
+{
+    if row[0] != 0 {
+        return false;
+    }
+    if row[1] != 0 {
+        return false;
+    }
+    true
+}
+
+// Whether all rows are zero.
+pub fn is_unmarked(rows: &[[u32; 2]]) -> bool
+    ensures { λ f. ⌜ (f ≡ true → Zero (now (rows .entry))) × (Zero (now (rows .entry)) → f ≡ true) ⌝ }
+{
     let mut i = 0;
     while i < rows.len() {
-        if rows[i][0] != 0 {
+        if !is_zero(rows[i]) {
             return false;
         }
         i += 1;

@@ -8,7 +8,7 @@ use lib.ListN.{getD, length, set, length-set, List·getD-eq-default}
 use lib.Seq.{getD-set-same, getD-set-other, ext-getD}
 use Rattle.terms.specs.Numbers.{by-same}
 use Rattle.unifier.specs.Contracts.{Replaced, Entered, Undoable}
-use Rattle.arena.specs.Rows.{Rows, column}
+use Rattle.arena.specs.Rows.{Rows, column, pair-is}
 use Rattle.unifier.specs.Tables.{valued, listed, entered, removed, undone}
 
 pub column-same : (c : ℕ) (t : Rows) (d : ℕ) (row : List ℕ) → d < length t → column c (set t d row) d ≡ getD row c 0
@@ -19,13 +19,6 @@ column-other c t d j row n = ap (λ (z : List ℕ). getD z c 0) (getD-set-other 
 
 pub column-past : (t : Rows) (c j : ℕ) → length t ≤ j → column c t j ≡ getD [] c 0
 column-past t c j p = ap (λ (z : List ℕ). getD z c 0) (List·getD-eq-default t [] p)
-
--- A row of two numbers is those two.
-pub two : (row : List ℕ) → length row ≡ 2 → row ≡ getD row 0 0 ∷ getD row 1 0 ∷ []
-two [] e = absurd (omega arith)
-two (x ∷ []) e = absurd (omega arith)
-two (x ∷ y ∷ []) e = refl
-two (x ∷ y ∷ z ∷ l) e = absurd (omega arith)
 
 -- A value set at a key, and a key set in the list.
 module _ (t : Rows) (key value : ℕ) (l : key < length t) where
@@ -112,7 +105,7 @@ module _ (t : Rows) (n key value : ℕ) (ln : n < length t) (lk : key < length t
 
   -- the row at n, where n is no key
   row-n : n ≢ key → getD t n [] ≡ column 0 t n ∷ column 1 t n ∷ []
-  row-n p = let q : getD (valued t key value) n [] ≡ getD t n [] = getD-set-other t key n _ [] p in two (getD t n []) (ap length (sym q) ∙ wn)
+  row-n p = let q : getD (valued t key value) n [] ≡ getD t n [] = getD-set-other t key n _ [] p in pair-is (getD t n []) (ap length (sym q) ∙ wn)
 
   col-n : column 0 d n ≡ column 0 t n
   col-n = by-same n key
@@ -120,7 +113,7 @@ module _ (t : Rows) (n key value : ℕ) (ln : n < length t) (lk : key < length t
       (λ p _. valued-off (entered t n key value) key 0 (let q = le in omega arith) n p ∙ ch .off n p)
 
   whole-n : getD t n [] ≡ column 0 t n ∷ column 1 t n ∷ []
-  whole-n = by-same n key (λ p _. subst (λ (j : ℕ). getD t j [] ≡ column 0 t j ∷ column 1 t j ∷ []) (sym p) (two (getD t key []) wk)) (λ p _. row-n p)
+  whole-n = by-same n key (λ p _. subst (λ (j : ℕ). getD t j [] ≡ column 0 t j ∷ column 1 t j ∷ []) (sym p) (pair-is (getD t key []) wk)) (λ p _. row-n p)
 
   each : (j : ℕ) → getD (listed d n 0) j [] ≡ getD t j []
   unfolding entered
@@ -129,7 +122,7 @@ module _ (t : Rows) (n key value : ℕ) (ln : n < length t) (lk : key < length t
       ∙ ap₂ (λ (x y : ℕ). x ∷ y ∷ []) col-n (sym zn) ∙ sym whole-n ∙ ap (λ (i : ℕ). getD t i []) (sym p))
       (λ p _. getD-set-other d n j _ [] p ∙ by-same j key
       (λ q _. ap (λ (i : ℕ). getD d i []) q ∙ getD-set-same (entered t n key value) key _ [] (let z = le in omega arith)
-      ∙ ap₂ (λ (x y : ℕ). x ∷ y ∷ []) (sym zk) (ch .others key (λ z. p (q ∙ z))) ∙ sym (two (getD t key []) wk) ∙ ap (λ (i : ℕ). getD t i []) (sym q))
+      ∙ ap₂ (λ (x y : ℕ). x ∷ y ∷ []) (sym zk) (ch .others key (λ z. p (q ∙ z))) ∙ sym (pair-is (getD t key []) wk) ∙ ap (λ (i : ℕ). getD t i []) (sym q))
       (λ q _. getD-set-other (entered t n key value) key j _ [] q ∙ getD-set-other (valued t key value) n j _ [] p ∙ getD-set-other t key j _ [] q))
 
   pub restored : removed (entered t n key value) n ≡ t
