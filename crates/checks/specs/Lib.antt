@@ -1,0 +1,2 @@
+-- What the tests of storage decide.
+pub mod Ready
