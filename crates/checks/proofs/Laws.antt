@@ -10,8 +10,9 @@ use Rattle.unifier.specs.Orders.{by-order}
 use Rattle.unifier.specs.Tables.{Rows, Empty}
 use Rattle.unifier.specs.TableLaws.{column-past}
 use Rattle.unifier.specs.Stored.{Form}
-use Rattle.unifier.specs.Contracts.{Free, Tells, BindingsChecked}
+use Rattle.unifier.specs.Contracts.{Tells, BindingsChecked}
 use Rattle.unifier.specs.Checking.{tells-no}
+use Rattle.checks.specs.ReadyLaws.{zeros-free}
 use Rattle.checks.specs.Ready.{ZeroRow, Zeros, Stored, Formed, FormTold, Ready, ReadyTold}
 
 pub zero-two : (row : List ℕ) → length row ≡ 2 → getD row 0 0 ≡ 0 → getD row 1 0 ≡ 0 → ZeroRow row
@@ -35,12 +36,6 @@ zero-three (x ∷ y ∷ z ∷ u ∷ l) n a b d c = absurd (omega arith)
 -- Rows that are zero below their number are zero.
 pub empty-rows : (rows : Rows) (i : ℕ) → length rows ≤ i → ((k : ℕ) → k < i → ZeroRow (getD rows k [])) → Empty rows
 empty-rows rows i l h c j = by-order j i (λ q. h j q c) (λ q. column-past rows c j (omega arith))
-
-pub zeros-free : {N used : ℕ} {rows : Rows} → Zeros rows (N + used) → Free N used rows
-zeros-free z = record { lent = z .lent; empty = z .empty }
-
-pub free-zeros : {N used : ℕ} {rows : Rows} → Free N used rows → Zeros rows (N + used)
-free-zeros f = record { lent = f .lent; empty = f .empty }
 
 pub form-stored : {N : ℕ} {w : List ℕ} {b : Rows} {variables used bound : ℕ} → Form N w b variables used bound → Stored N w variables used
 form-stored f = record { formed = f .words; few = f .few; low = f .low; lent = f .lentWords }
