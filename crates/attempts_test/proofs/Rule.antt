@@ -10,7 +10,7 @@ use Rattle.terms.specs.Numbers.{same, less, by-same, true-false}
 use Rattle.arena.specs.Cells.{headers, decode, denote, WellFormed, cells}
 use Rattle.arena.specs.Copies.{patternRoom}
 use Rattle.arena.specs.Form.{isHeader, isArgument, inForm}
-use Rattle.resolution.specs.Fresh.{elem, place, allVars}
+use Rattle.resolution.specs.Fresh.{elem, place}
 use Rattle.attempts.specs.StoredRules.{ruleOf, Part, Root, StoredRule}
 use Rattle.attempts.specs.Accepting.{part-accepted}
 use Rattle.attempts.specs.declared.Stored.{Stored}

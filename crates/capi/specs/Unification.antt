@@ -1,11 +1,10 @@
 -- What `horn_unify` answers on storage of any contents.
 use Prim.Native.Nat.{ℕ, _+_, _^_, _<_}
 use native.Mathlib.Omega.{arith}
-use mathlib.Core.Path.{_≡_, sym, subst}
+use mathlib.Core.Path.{_≡_}
 use mathlib.Core.Bool.{Bool, true, false}
 use mathlib.Core.List.{List}
 use Rattle.unifier.specs.Tables.{Rows}
-use Rattle.unifier.specs.Stored.{Form}
 use Rattle.unifier.specs.Checking.{form-few}
 use Rattle.checks.specs.Ready.{Ready}
 use Rattle.unifier_capi.specs.Unification.{packedUnify, UnifiedAs}

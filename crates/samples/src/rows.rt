@@ -41,7 +41,7 @@ pub fn are_same(left: &[[u32; 2]], right: &[[u32; 2]]) -> bool {
     true
 }
 
-// A number of a row; 0 where there is no such row.
+// The value of a variable; 0 where there is no such row.
 pub fn value(rows: &[[u32; 2]], at: u32) -> u32 {
     let i = at as usize;
     if i < rows.len() {
@@ -50,6 +50,7 @@ pub fn value(rows: &[[u32; 2]], at: u32) -> u32 {
     0
 }
 
+// The variable at a position of the trail; 0 where there is no such row.
 pub fn listed(rows: &[[u32; 2]], at: u32) -> u32 {
     let i = at as usize;
     if i < rows.len() {

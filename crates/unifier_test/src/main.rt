@@ -5,7 +5,7 @@ use cases::Towers;
 
 mod cases; // storage, call and line
 
-// The nodes of towers, by their height: with one argument from the address 2 on, with two likewise.
+// The nodes of towers that start at the address 2, by their height.
 const NODE_19000: u32 = ROOM + 2 * 19000;
 
 const NODE_59000: u32 = ROOM + 2 * 59000;
@@ -129,26 +129,26 @@ fn unify_towers() {
     );
 }
 
-// Unifications of terms of 2^1000 nodes and more.
+// Unifications of terms of 2^1000 leaves.
 fn unify_shared() {
     cases::unify(
-        b"2^1000 nodes",
+        b"2^1000 leaves",
         shared(CONSTANT, 1000, CONSTANT, SHARED_2000),
     );
     cases::unify(
-        b"2^1000 nodes on two variables",
+        b"2^1000 leaves on two variables",
         shared(0, 1000, 1, SHARED_2000),
     );
     cases::unify(
-        b"2^1000 nodes, another constant",
+        b"2^1000 leaves, another constant",
         shared(CONSTANT, 1000, OTHER, SHARED_2000),
     );
     cases::unify(
-        b"2^1000 and 2^999 nodes",
+        b"2^1000 and 2^999 leaves",
         shared(CONSTANT, 999, CONSTANT, SHARED_1999),
     );
     cases::unify(
-        b"2^1000 and 2^999 nodes on a variable",
+        b"2^1000 and 2^999 leaves on a variable",
         shared(0, 999, 0, SHARED_1999),
     );
 }
@@ -163,7 +163,10 @@ fn occur() {
         b"a variable in a tower of 100,000 on another",
         chain(100000, 0, 1, NODE_100000),
     );
-    cases::occurs(b"a variable in 2^1000 nodes on it", variable_shared(0));
+    cases::occurs(
+        b"a variable that is all of 2^1000 leaves",
+        variable_shared(0),
+    );
     cases::occurs(b"a bound variable", chain(19000, 0, 60, NODE_19000));
 }
 

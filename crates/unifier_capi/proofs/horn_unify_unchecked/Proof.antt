@@ -1,7 +1,5 @@
 -- `horn_unify_unchecked` meets its contract: the answer of `unify` as one number, and all that it leaves.
-use mathlib.Core.Path.{_≡_, refl, sym, ap, _∙_}
-use mathlib.Core.Bool.{true, false}
-use Prim.Native.Nat.{_+_}
+use mathlib.Core.Path.{sym, ap}
 use Rattle.unifier_capi.specs.Unification.{packedUnify}
 use borrow.Author.Needs.{needs}
 use Rattle.unifier_capi.proofs.horn_unify_unchecked.Statement.{statement}
