@@ -1,4 +1,4 @@
-//! Our side: the static library that `rt staticlib capi` makes, called as any foreign program would.
+//! Our side: the static libraries that `rt staticlib capi` and `rt staticlib unifier_capi` make, called as any foreign program would.
 
 #![allow(dead_code)] // each program calls some of it
 
@@ -8,6 +8,24 @@ use horn_oracle::unify::Problem;
 unsafe extern "C" {
     fn horn_lex(text: *const u8, text_length: usize, limit: u32, tokens: *mut Row, rows: usize) -> u64;
     fn horn_unify(
+        words: *const u32,
+        words_length: usize,
+        bindings: *mut [u32; 2],
+        bindings_rows: usize,
+        links: *mut [u32; 2],
+        links_rows: usize,
+        marks: *mut [u32; 2],
+        marks_rows: usize,
+        stack: *mut [u32; 3],
+        stack_rows: usize,
+        room: u32,
+        variables: u32,
+        used: u32,
+        bound: u32,
+        left: u32,
+        right: u32,
+    ) -> u64;
+    fn horn_unify_unchecked(
         words: *const u32,
         words_length: usize,
         bindings: *mut [u32; 2],
@@ -50,18 +68,51 @@ impl Storage {
             bindings[variable as usize][0] = reference + 1;
             bindings[position][1] = variable;
         }
-        Storage { bindings, links: vec![[0; 2]; references], marks: vec![[0; 2]; references], stack: vec![[0; 3]; references] }
+        Storage {
+            bindings,
+            links: vec![[0; 2]; references],
+            marks: vec![[0; 2]; references],
+            stack: vec![[0; 3]; references],
+        }
     }
 }
 
-/// How many variables are bound then, if the terms unify.
-pub fn unify(problem: &Problem, storage: &mut Storage) -> Option<usize> {
-    let Storage { bindings, links, marks, stack } = storage;
-    // The problem's words are in form, its bindings came from unifications, and the scratch is zero and as long as the words ask.
-    let answer = unsafe {
-        horn_unify(
-            problem.words.as_ptr(),
-            problem.words.len(),
+/// The counts and references of a call.
+#[derive(Clone)]
+pub struct Counts {
+    pub room: u32,
+    pub variables: u32,
+    pub used: u32,
+    pub bound: u32,
+    pub left: u32,
+    pub right: u32,
+}
+
+impl Counts {
+    pub fn new(problem: &Problem) -> Counts {
+        let (used, bound) = (problem.words.len() as u32, problem.bindings.len() as u32);
+        Counts {
+            room: problem.room,
+            variables: problem.variables,
+            used,
+            bound,
+            left: problem.left,
+            right: problem.right,
+        }
+    }
+}
+
+/// The answer of `horn_unify` where the storage is not in form.
+pub const REFUSED: u64 = (1 << 33) + 1;
+
+/// The arguments of a unification, as C passes them.
+macro_rules! call {
+    ($function:ident, $words:expr, $storage:expr, $counts:expr) => {{
+        let (words, counts): (&[u32], &Counts) = ($words, $counts);
+        let Storage { bindings, links, marks, stack } = $storage;
+        $function(
+            words.as_ptr(),
+            words.len(),
             bindings.as_mut_ptr(),
             bindings.len(),
             links.as_mut_ptr(),
@@ -70,13 +121,29 @@ pub fn unify(problem: &Problem, storage: &mut Storage) -> Option<usize> {
             marks.len(),
             stack.as_mut_ptr(),
             stack.len(),
-            problem.room,
-            problem.variables,
-            problem.words.len() as u32,
-            problem.bindings.len() as u32,
-            problem.left,
-            problem.right,
+            counts.room,
+            counts.variables,
+            counts.used,
+            counts.bound,
+            counts.left,
+            counts.right,
         )
-    };
+    }};
+}
+
+/// The number that `horn_unify` answers, on storage of any contents.
+pub fn unify(words: &[u32], storage: &mut Storage, counts: &Counts) -> u64 {
+    // All slices are lent whole for the length of the call, which is all that the contract asks.
+    unsafe { call!(horn_unify, words, storage, counts) }
+}
+
+/// The same without the test of the storage.
+pub fn unify_unchecked(problem: &Problem, storage: &mut Storage) -> Option<usize> {
+    // The problem's words are in form, its bindings came from unifications, and the scratch is zero and as long as the words ask.
+    bound(unsafe { call!(horn_unify_unchecked, &problem.words, storage, &Counts::new(problem)) })
+}
+
+/// How many variables are bound then, if the terms unify.
+pub fn bound(answer: u64) -> Option<usize> {
     (answer >> 32 == 1).then_some(answer as u32 as usize)
 }

@@ -1,10 +1,7 @@
 // The functions that programs in other languages call: numbers, byte slices and rows.
 ghost use mathlib.Core.Path.{_≡_};
-ghost use Rattle.arena.specs.Cells.{cells, Reference};
-ghost use Rattle.capi.specs.Unification.{UnifiedAs};
+ghost use Rattle.capi.specs.Unification.{Answered};
 ghost use Rattle.capi.specs.Words.{packed, textLimit};
-ghost use Rattle.unifier.specs.Contracts.{Scratch};
-ghost use Rattle.unifier.specs.Stored.{Form};
 ghost use Rattle.words.specs.Lexer.{lexAnswer, lexRows};
 
 // `words::lex` under a limit on the text's bytes. The answer is the number of tokens, or 2^32 times the refusal's number and its line.
@@ -27,8 +24,8 @@ pub extern "C" fn horn_lex(text: &[u8], limit: u32, tokens: &mut [[u32; 4]]) -> 
     }
 }
 
-// `unifier::unify`, for comparison with other unifications: the caller sees to what it asks. The answer is how many variables are bound, and 2^32 more
-// where the terms unify.
+// `unifier::unify` on storage of any contents. Where words, bindings, scratch and references are what it asks, the answer is how many variables are
+// bound, and 2^32 more where the terms unify. Else the answer is 2^33 + 1, refusal 1, and nothing is written.
 #[no_mangle]
 pub extern "C" fn horn_unify(
     words: &[u32],
@@ -43,13 +40,10 @@ pub extern "C" fn horn_unify(
     left: u32,
     right: u32,
 ) -> u64
-    requires { ⌜ Form room (now words) (now bindings) variables used bound ⌝
-        ∗ ⌜ (Reference room (cells (now words)) variables used left) × (Reference room (cells (now words)) variables used right) ⌝
-        ∗ ⌜ Scratch room used (now links) (now marks) (now stack) ⌝ }
-    ensures { λ r. ⌜ UnifiedAs room (now (words .entry)) (now (bindings .entry)) (now (bindings .exit)) (now (links .entry)) (now (links .exit))
+    ensures { λ r. ⌜ Answered room (now (words .entry)) (now (bindings .entry)) (now (bindings .exit)) (now (links .entry)) (now (links .exit))
         (now (marks .entry)) (now (marks .exit)) (now (stack .entry)) (now (stack .exit)) variables used bound left right r ⌝ }
 {
-    let ended = unifier::unify(
+    if !checks::is_ready(
         words,
         bindings,
         links,
@@ -61,9 +55,20 @@ pub extern "C" fn horn_unify(
         bound,
         left,
         right,
-    );
-    if ended.unified {
-        return 0x1_0000_0000 + (ended.bound as u64);
+    ) {
+        return 0x2_0000_0001;
     }
-    ended.bound as u64
+    unifier_capi::horn_unify_unchecked(
+        words,
+        bindings,
+        links,
+        marks,
+        stack,
+        room,
+        variables,
+        used,
+        bound,
+        left,
+        right,
+    )
 }

@@ -40,7 +40,7 @@ fn measured(name: &str, problems: &[Problem]) {
     for _ in 0..RUNS {
         our_times.push(seconds(|| {
             for ((problem, storage), before) in problems.iter().zip(&mut storages).zip(&before) {
-                black_box(ours::unify(problem, storage));
+                black_box(ours::unify_unchecked(problem, storage));
                 storage.bindings.copy_from_slice(&before.bindings);
             }
         }));
@@ -55,7 +55,7 @@ fn measured(name: &str, problems: &[Problem]) {
 fn towers(height: usize) -> String {
     let problem = Problem::stored_towers(height);
     let mut storage = Storage::new(&problem);
-    let ours = seconds(|| assert!(ours::unify(&problem, &mut storage).is_some(), "towers alike"));
+    let ours = seconds(|| assert!(ours::unify_unchecked(&problem, &mut storage).is_some(), "towers alike"));
     let rust = (height <= TALLEST).then(|| {
         let mut original = Problem::towers(height).original();
         seconds(|| assert!(original.unify(), "towers alike"))

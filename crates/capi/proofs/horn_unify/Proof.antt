@@ -1,20 +1,13 @@
--- `horn_unify` meets its contract: the answer of `unify` as one number, and all that it leaves.
-use mathlib.Core.Path.{_≡_, refl, sym, ap, _∙_}
-use mathlib.Core.Bool.{true, false}
-use Prim.Native.Nat.{_+_}
-use Rattle.capi.specs.Unification.{packedUnify}
+-- `horn_unify` meets its contract: storage that passes the test is what `unify` asks, and any other is refused.
+use borrow.Author.Tests.{not-false, not-true}
+use Rattle.checks.specs.ReadyLaws.{scratch-kept}
+use Rattle.capi.proofs.Laws.{answered-no, answered-yes}
 use borrow.Author.Needs.{needs}
 use Rattle.capi.proofs.horn_unify.Statement.{statement}
 use Rattle.capi.proofs.horn_unify.Tie as tie
 
-unify-requires : tie.Need-unify-requires
-unify-requires c κs = search needs
-
-cast-result : tie.Need-cast-result
-cast-result c = search needs
-
-add-result : tie.Need-add-result
-add-result c = search needs
+is-ready-requires : tie.Need-is-ready-requires
+is-ready-requires c κs = search needs
 
 same-length : tie.Need-same-length
 same-length c = search needs
@@ -30,17 +23,12 @@ same-length-4 c = search needs
 
 returns : tie.Need-returns
 returns c =
-    let unify = c .before .before .before .before .before .before .unify in
-    let if1 = c .before .if1 in
-    record {
-      unified = (unify .result .unified);
-      bound = (unify .result .bound);
-      packed = sym (ap (λ u. packedUnify u (unify .result .bound)) (if1 .taken));
-      ended = (unify .ensures);
-    }
+    answered-no (c .before .before .is-ready .ensures) (not-true _ (c .if1 .taken))
 
-cast-result-2 : tie.Need-cast-result-2
-cast-result-2 c = search needs
+horn-unify-unchecked-requires : tie.Need-horn-unify-unchecked-requires
+horn-unify-unchecked-requires c κs =
+    let r = (c .before .before .before .before .before .before .is-ready .ensures .tells .yes) (not-false _ (c .before .before .before .before .if1 .left)) in
+    (r .form, ((r .leftRefers, r .rightRefers), scratch-kept (c .before .before .before .before .before .before .is-ready .ensures .kept) (r .scratch)))
 
 same-length-5 : tie.Need-same-length-5
 same-length-5 c = search needs
@@ -56,28 +44,19 @@ same-length-8 c = search needs
 
 returns-2 : tie.Need-returns-2
 returns-2 c =
-    let unify = c .before .before .before .before .before .before .unify in
-    let if1 = c .before .if1 in
-    record {
-      unified = (unify .result .unified);
-      bound = (unify .result .bound);
-      packed = sym (ap (λ u. packedUnify u (unify .result .bound)) (if1 .left));
-      ended = (unify .ensures);
-    }
+    answered-yes (c .before .before .before .before .before .before .before .before .before .before .before .is-ready .ensures) (not-false _ (c .before .before .before .before .before .before .before .before .before .if1 .left)) (c .before .before .before .before .horn-unify-unchecked .ensures)
 
 pub horn-unify-spec : {M : Type 1} → statement M
 horn-unify-spec =
     tie.close
     (tie.spec
-    unify-requires
-    cast-result
-    add-result
+    is-ready-requires
     same-length
     same-length-2
     same-length-3
     same-length-4
     returns
-    cast-result-2
+    horn-unify-unchecked-requires
     same-length-5
     same-length-6
     same-length-7

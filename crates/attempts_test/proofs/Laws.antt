@@ -1,0 +1,18 @@
+-- What the tests of a search's storage find together.
+use Prim.Native.Nat.{ℕ}
+use mathlib.Core.Path.{_≡_, sym}
+use mathlib.Core.List.{List}
+use Rattle.arena.specs.Rows.{Rows}
+use Rattle.unifier.specs.Stored.{Form}
+use Rattle.attempts.specs.Contracts as contracts
+use Rattle.checks.specs.ReadyLaws.{scratch-kept}
+use Rattle.attempts_test.specs.Told.{Room}
+
+module _ {N limit : ℕ} {w : List ℕ} {b l m m′ s : Rows} {counter used bound : ℕ} (kept : m′ ≡ m) where
+  -- A form, and room for what the limits allow.
+  pub form-room : Form N w b counter used bound → Room N limit w b l m′ s → contracts.State N limit w b l m s counter used bound
+  form-room f r = record { form = f; scratch = scratch-kept (sym kept) (r .scratch); lentWords = r .lentWords; lentRows = r .lentRows; low = r .low }
+
+  -- The marks at exit are those at entry.
+  pub state-kept : contracts.State N limit w b l m s counter used bound → contracts.State N limit w b l m′ s counter used bound
+  state-kept h = record { form = h .form; scratch = scratch-kept kept (h .scratch); lentWords = h .lentWords; lentRows = h .lentRows; low = h .low }

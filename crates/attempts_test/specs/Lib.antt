@@ -1,0 +1,2 @@
+-- What the program's tests find.
+pub mod Told

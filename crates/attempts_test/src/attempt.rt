@@ -1,0 +1,174 @@
+// One call of `try_rule` on storage that is tested first. The rule: succ (succ (succ (succ x))) from pair x y and succ y, where x and y have the
+// numbers 1 and 0.
+use arena::HEADERS;
+use attempts::Stored;
+use attempts::Tried;
+use samples::unification;
+ghost use Rattle.attempts_test.specs.Told.{Room, StateTold};
+ghost use mathlib.Core.Path.{_≡_};
+ghost use mathlib.Core.Bool.{true};
+
+// The counts of a search, and a goal.
+pub struct State {
+    pub room: u32,
+    pub limit: u32,
+    pub counter: u32,
+    pub used: u32,
+    pub bound: u32,
+    pub goal: u32,
+}
+
+// What came of it.
+pub enum Came {
+    // The storage is not what the call asks.
+    NotReady,
+    // The scratch is not zero again.
+    ScratchLeft,
+    // As `try_rule` answers.
+    Exceeded,
+    Missed(u32),
+    Entered(u32, u32, u32),
+}
+
+// Whether storage has room for what the limits allow, and the scratch is zero.
+fn has_room(
+    words: &[u32],
+    bindings: &[[u32; 2]],
+    links: &[[u32; 2]],
+    marks: &[[u32; 2]],
+    stack: &[[u32; 3]],
+    room: u32,
+    limit: u32,
+) -> bool
+    ensures { λ r. ⌜ (r ≡ true → Room room limit (now (words .entry)) (now (bindings .entry)) (now (links .entry)) (now (marks .entry)) (now (stack .entry))) ⌝ }
+{
+    if HEADERS < room {
+        return false;
+    }
+    if HEADERS - room < limit {
+        return false;
+    }
+    if words.len() < limit as usize {
+        return false;
+    }
+    if bindings.len() < room as usize {
+        return false;
+    }
+    if !checks::are_zero_pairs(links, (room + limit) as usize) {
+        return false;
+    }
+    if !checks::are_zero_pairs(marks, (room + limit) as usize) {
+        return false;
+    }
+    checks::are_zero_triples(stack, limit as usize)
+}
+
+// Whether storage is what an attempt asks; the marks are left as they are.
+fn is_state(
+    words: &[u32],
+    bindings: &[[u32; 2]],
+    links: &[[u32; 2]],
+    marks: &mut [[u32; 2]],
+    stack: &[[u32; 3]],
+    state: State,
+) -> bool
+    ensures { λ r. ⌜ StateTold state (now (words .entry)) (now (bindings .entry)) (now (links .entry)) (now (marks .entry)) (now (marks .exit)) (now (stack .entry)) r ⌝ }
+{
+    let room = state.room;
+    let counter = state.counter;
+    let used = state.used;
+    let bound = state.bound;
+    let goal = state.goal;
+    if !checks::is_form(words, bindings, marks, room, counter, used, bound) {
+        return false;
+    }
+    if !checks::is_reference(words, room, counter, used, goal) {
+        return false;
+    }
+    has_room(words, bindings, links, marks, stack, room, state.limit)
+}
+
+// Tries the rule.
+pub fn attempt(
+    words: &mut [u32],
+    bindings: &mut [[u32; 2]],
+    links: &mut [[u32; 2]],
+    marks: &mut [[u32; 2]],
+    stack: &mut [[u32; 3]],
+    state: State,
+) -> Came {
+    if !is_state(words, bindings, links, marks, stack, state) {
+        return Came::NotReady;
+    }
+    let pattern = [
+        1048609u32,
+        1,
+        1048609,
+        64,
+        1048609,
+        66,
+        1048609,
+        68,
+        1048642,
+        1,
+        0,
+        1048609,
+        0,
+    ];
+    let premises = [72u32, 75];
+    let places = [1u32, 0];
+    let stored = Stored {
+        from: 0,
+        head: 8,
+        body: 5,
+        conclusion: 70,
+        met: 1,
+        variables: 2,
+    };
+    let tried = attempts::try_rule(
+        &pattern,
+        stored,
+        &premises,
+        &places,
+        words,
+        bindings,
+        links,
+        marks,
+        stack,
+        state.room,
+        state.limit,
+        state.counter,
+        state.used,
+        state.bound,
+        state.goal,
+    );
+    if !unification::is_clean(links, marks, stack) {
+        return Came::ScratchLeft;
+    }
+    match tried {
+        Tried::Exceeded => Came::Exceeded,
+        Tried::Missed(counter) => Came::Missed(counter),
+        Tried::Entered(counter, bound, used) => Came::Entered(counter, bound, used),
+    }
+}
+
+// What a premise's reference becomes by an attempt; 0 where no sum is sure to fit.
+pub fn premise(reference: u32, state: State) -> u32 {
+    let counter = state.counter;
+    let room = state.room;
+    let used = state.used;
+    if reference < 72 {
+        return 0;
+    }
+    if 75 < reference {
+        return 0;
+    }
+    if 65536 < room {
+        return 0;
+    }
+    if 262144 < used {
+        return 0;
+    }
+    let places = [1u32, 0];
+    arena::moved_word(reference, &places, counter, 64 + 8, room + used + 8)
+}

@@ -1,0 +1,19 @@
+-- What the test of the storage makes of the answer.
+use Prim.Native.Nat.{ℕ}
+use mathlib.Core.Path.{_≡_, refl, subst}
+use mathlib.Core.Bool.{Bool, true, false}
+use mathlib.Core.List.{List}
+use Rattle.arena.specs.Rows.{Rows}
+use Rattle.unifier.specs.Checking.{tells-false}
+use Rattle.checks.specs.Ready.{ReadyTold}
+use Rattle.unifier_capi.specs.Unification.{UnifiedAs}
+use Rattle.capi.specs.Unification.{refusal, Answered, accepted, refused}
+
+module _ {N : ℕ} {w : List ℕ} {b l m m₁ s : Rows} {variables used k r t : ℕ} {test : Bool} (told : ReadyTold N w b l m m₁ s variables used k r t test) where
+  pub answered-no : test ≡ false → Answered N w b b l l m m₁ s s variables used k r t refusal
+  answered-no e = refused (tells-false (told .tells) e) (record { is = refl; bindings = refl; links = refl; marks = told .kept; stack = refl })
+
+  pub answered-yes : {b′ l′ m′ s′ : Rows} {answer : ℕ} → test ≡ true → UnifiedAs N w b b′ l l′ m₁ m′ s s′ variables used k r t answer
+      → Answered N w b b′ l l′ m m′ s s′ variables used k r t answer
+  answered-yes {b′} {l′} {m′} {s′} {answer} e h =
+      accepted (told .tells .yes e) (subst (λ (z : Rows). UnifiedAs N w b b′ l l′ z m′ s s′ variables used k r t answer) (told .kept) h)

@@ -1,0 +1,3 @@
+-- What the tests of storage decide.
+pub mod Ready
+pub mod ReadyLaws

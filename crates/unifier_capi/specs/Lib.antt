@@ -1,0 +1,2 @@
+-- What the contract of `unifier_capi` cites.
+pub mod Unification

@@ -1,0 +1,45 @@
+// `unifier::unify` for programs in other languages that see to what it asks, as the measurements of its speed do. `capi::horn_unify` is the one for users.
+ghost use Rattle.arena.specs.Cells.{cells, Reference};
+ghost use Rattle.unifier.specs.Contracts.{Scratch};
+ghost use Rattle.unifier.specs.Stored.{Form};
+ghost use Rattle.unifier_capi.specs.Unification.{UnifiedAs};
+
+// The caller sees to what `unify` asks. The answer is how many variables are bound, and 2^32 more where the terms unify.
+#[no_mangle]
+pub extern "C" fn horn_unify_unchecked(
+    words: &[u32],
+    bindings: &mut [[u32; 2]],
+    links: &mut [[u32; 2]],
+    marks: &mut [[u32; 2]],
+    stack: &mut [[u32; 3]],
+    room: u32,
+    variables: u32,
+    used: u32,
+    bound: u32,
+    left: u32,
+    right: u32,
+) -> u64
+    requires { ⌜ Form room (now words) (now bindings) variables used bound ⌝
+        ∗ ⌜ (Reference room (cells (now words)) variables used left) × (Reference room (cells (now words)) variables used right) ⌝
+        ∗ ⌜ Scratch room used (now links) (now marks) (now stack) ⌝ }
+    ensures { λ r. ⌜ UnifiedAs room (now (words .entry)) (now (bindings .entry)) (now (bindings .exit)) (now (links .entry)) (now (links .exit))
+        (now (marks .entry)) (now (marks .exit)) (now (stack .entry)) (now (stack .exit)) variables used bound left right r ⌝ }
+{
+    let ended = unifier::unify(
+        words,
+        bindings,
+        links,
+        marks,
+        stack,
+        room,
+        variables,
+        used,
+        bound,
+        left,
+        right,
+    );
+    if ended.unified {
+        return 0x1_0000_0000 + (ended.bound as u64);
+    }
+    ended.bound as u64
+}
