@@ -17,9 +17,9 @@ use Rattle.words.specs.Names.{wordItem, ifFits}
 use Rattle.words.specs.Numerals.{allDigits, numeralOf}
 use Rattle.words.specs.Signs.{Sign, signs, signAmong, signItem}
 use Rattle.words.specs.Tokens.{Reading, andThen, isWord, wordOf, itemOf, itemLength, readItem, readAfter, readLines, outsideLine}
-use Rattle.words.specs.Rows.{outcome, countOf}
+use Rattle.words.specs.Rows.{outcome}
 use Rattle.words.specs.Tokens.Reading.{tokens, refused}
-use Rattle.words.specs.Lexer.{answerOf, rowsOf, zeroRow}
+use Rattle.words.specs.Lexer.{answerOf, rowsOf, zeroRow, countOf}
 use Rattle.words.specs.declared.NumeralValue.{NumeralValue}
 use Rattle.words.specs.declared.NumeralValue.the-variants.{Fits, TooLarge}
 use Rattle.words.specs.declared.Lexed.{Lexed}

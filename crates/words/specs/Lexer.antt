@@ -2,7 +2,7 @@
 use mathlib.Core.Path.{_≡_}
 use mathlib.Core.Bool.{cond}
 use mathlib.Core.List.{List, [], _∷_, _++_}
-use Prim.Native.Nat.{ℕ, zero, suc, _+_, _-_, min}
+use Prim.Native.Nat.{ℕ, zero, suc, _+_, _-_, _≤_, min}
 use lib.Dec.{leb, ltb}
 use lib.ListN.{length, take, drop, replicate}
 use Rattle.words.specs.Utf8.{isUtf8}
@@ -61,7 +61,13 @@ lexAnswer text limits rows = cond (ltb (length rows) (cappedOf limits .text)) (R
 abbrev pub lexRows : List ℕ → Limits → List (List ℕ) → List (List ℕ)
 lexRows text limits rows = cond (ltb (length rows) (cappedOf limits .text)) rows (rowsOf (length rows) (lexOf (cappedOf limits .text) text))
 
--- The promise of `lex`.
+-- How many rows an answer counts.
+abbrev pub countOf : Lexed → ℕ
+countOf (Tokens n) = n
+countOf (Refused r n) = 0
+
+-- The promise of `lex`: answer and rows as above, and no more tokens than the limit on the text's bytes.
 pub record Lexing (text : List ℕ) (limits : Limits) (before : List (List ℕ)) (r : Lexed) (after : List (List ℕ)) : Type 0 where
   pub answer : r ≡ lexAnswer text limits before
   pub rows : after ≡ lexRows text limits before
+  pub fits : countOf r ≤ cappedOf limits .text

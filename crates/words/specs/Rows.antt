@@ -4,6 +4,7 @@ use mathlib.Core.List.{List}
 use Prim.Native.Nat.{ℕ, _+_, _≤_}
 use lib.ListN.{length, take}
 use Rattle.words.specs.Characters.{classTable}
+use Rattle.words.specs.Lexer.{countOf}
 use Rattle.words.specs.Tokens.{Reading, andThen}
 use Rattle.words.specs.Tokens.Reading.{tokens, refused}
 use Rattle.words.specs.declared.Lexed.{Lexed}
@@ -13,11 +14,6 @@ use Rattle.words.specs.declared.Lexed.the-variants.{Tokens, Refused}
 abbrev pub outcome : Lexed → List (List ℕ) → Reading
 outcome (Tokens n) rows = tokens (take n rows)
 outcome (Refused r n) rows = refused r n
-
--- How many rows an answer counts.
-abbrev pub countOf : Lexed → ℕ
-countOf (Tokens n) = n
-countOf (Refused r n) = 0
 
 -- What a reader owes that was handed `count` rows: they and its reading are what it comes to, it counts at most `most` rows,
 -- and the rows stay as many.

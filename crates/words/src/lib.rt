@@ -2,6 +2,8 @@
 //
 // The entry points are `lex`, `word`, `numeral`, `number` and the methods of `Limits`. They ask nothing
 // of their caller, and each contract fixes the answer and every byte of the lent rows on all inputs.
+// `same` and `clear` serve the crates above.
+pub use bytes::same;
 pub use names::METAVARIABLE;
 pub use names::NAME;
 pub use names::NUMERAL;
@@ -134,8 +136,8 @@ pub fn numeral(text: &[u8], start: usize, length: usize) -> NumeralValue
     value(word(text, start, length))
 }
 
-// Zeroes the rows from a place on.
-fn clear(rows: &mut [Row], from: usize)
+// Zeroes the rows from a place on; for the crates above.
+pub fn clear(rows: &mut [Row], from: usize)
     requires { ⌜ from ≤ length (now rows) ⌝ }
     ensures { λ _. ⌜ now (rows .exit) ≡ take from (now (rows .entry)) ++ replicate (length (now (rows .entry)) - from) zeroRow ⌝ }
 {

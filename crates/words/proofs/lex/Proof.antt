@@ -3,8 +3,8 @@ use mathlib.Core.Path.{_≡_, sym, ap, _∙_}
 use Prim.Native.Nat.{min}
 use lib.ListN.{length}
 use borrow.Author.Tests.{lt-ltb, le-ltb}
-use Rattle.words.specs.Lexer.{lexOf, answerOf, rowsOf}
-use Rattle.words.specs.Rows.{outcome, countOf}
+use Rattle.words.specs.Lexer.{lexOf, answerOf, rowsOf, countOf}
+use Rattle.words.specs.Rows.{outcome}
 use Rattle.words.proofs.Readings.{then-nil, leaves}
 use native.Mathlib.Omega.{arith}
 use borrow.Author.Needs.{needs}
@@ -26,6 +26,7 @@ returns c =
     record {
       answer = sym (simp (← e, lt-ltb _ _ (if1 .taken)));
       rows = sym (simp (← e, lt-ltb _ _ (if1 .taken)));
+      fits = omega arith;
     }
 
 read-requires : tie.Need-read-requires
@@ -62,6 +63,7 @@ returns-2 c =
     record {
       answer = left .0 ∙ ap answerOf reads ∙ sym (simp (← e, le-ltb _ _ (if1 .left)));
       rows = left .1 ∙ ap (rowsOf (length (args .tokens .now))) reads ∙ sym (simp (← e, le-ltb _ _ (if1 .left)));
+      fits = omega arith;
     }
 
 clear-requires-2 : tie.Need-clear-requires-2
@@ -90,6 +92,7 @@ returns-3 c =
     record {
       answer = sym (r′ .given .1) ∙ left .0 ∙ ap answerOf reads ∙ sym (simp (← e, le-ltb _ _ (if1 .left)));
       rows = left .1 ∙ ap (rowsOf (length (args .tokens .now))) reads ∙ sym (simp (← e, le-ltb _ _ (if1 .left)));
+      fits = omega (arith, (read′ .ensures .fits));
     }
 
 pub lex-spec : {M : Type 1} → statement M
