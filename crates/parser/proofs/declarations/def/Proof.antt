@@ -1,0 +1,145 @@
+-- `def` meets its contract.
+use mathlib.Core.Path.{_≡_, refl, sym, ap, ap₂, _∙_}
+use Prim.Native.Nat.{_+_, _-_}
+use mathlib.Core.List.{List, [], _∷_, _++_, append-assoc}
+use native.Mathlib.Omega.{arith}
+use lib.ListN.{length, drop}
+use Rattle.parser.specs.Source.{sort, ctor, pred, rule, def, theorem, eval, check}
+use Rattle.parser.specs.Parsing.{kindOf, lastLine, parsed, plus, follow, repeat, signOf, behind}
+use Rattle.parser.specs.Grammar.{nameOf}
+use Rattle.parser.specs.Declarations.{separated, name, app, term, arrowsOf, namesOf, bindersOf, titleOf, sortOf, ctorOf, judgmentsOf, patternsOf, clauseOf, predOf, ruleOf, defOf, evalOf, checkOf}
+use Rattle.parser.specs.Rows.{row, declarationRows, nameRows, rowsOf, rowsOfAll, clauseRows, bindersRows, clauseKind, bindersKind}
+use Rattle.parser.proofs.TokenLaws.{token-there}
+use Rattle.parser.proofs.Readers.{stopped, got, moved, firm-repeat, firm-sign, Looped, loop-start, loop-turn}
+use Rattle.parser.proofs.TermLaws.{firm-term, firm-app, termAt, appAt, room-on}
+use Rattle.parser.proofs.ListLaws.{firm-name, firm-names, firm-title, firm-separated, firm-patterns, behind-is, behind-not, patterns-none, patterns-some, list-absent, list-refused}
+use Rattle.parser.proofs.PartLaws.{start, part, part-stopped, sign-part, sign-stopped, finish, room-along}
+use borrow.Author.Needs.{needs}
+use Rattle.parser.proofs.declarations.def.Statement.{statement}
+use Rattle.parser.proofs.declarations.def.Tie as tie
+
+add-title : tie.Need-add-title
+add-title c = search needs
+
+add-title-2 : tie.Need-add-title-2
+add-title-2 c = search needs
+
+title-requires : tie.Need-title-requires
+title-requires c κs = search needs
+
+enum-known-n : tie.Need-enum-known-n
+enum-known-n c = search needs
+
+same-length : tie.Need-same-length
+same-length c = search needs
+
+returns : tie.Need-returns
+returns c =
+    let args = c .before .before .before .before .before .args in
+    let pre = c .before .before .before .before .before .pre in
+    let title = c .before .before .title in
+    let match′ = c .match in
+    part-stopped (start (declarationRows (args .number)) (pre .0) (pre .1) (plus 1 (defOf (args .text .now) (lastLine (args .tokens .now)) (drop ((args .at) + 1) (args .tokens .now)))) (defOf (args .text .now) (lastLine (args .tokens .now)) (drop ((args .at) + 1) (args .tokens .now))) refl) (λ n us. follow (arrowsOf (lastLine (args .tokens .now)) us) us (λ ss vs. follow (repeat (clauseOf (args .text .now) (lastLine (args .tokens .now))) vs 0 0 []) vs (λ cs ws. parsed (def n ss cs) 0))) refl (title .ensures) (stopped (title .result) (match′ .keys2)) (firm-title (lastLine (args .tokens .now)) (drop ((args .at) + 1) (args .tokens .now)))
+
+arrows-requires : tie.Need-arrows-requires
+arrows-requires c κs =
+    let args = c .before .before .before .before .before .before .before .before .args in
+    let pre = c .before .before .before .before .before .before .before .before .pre in
+    let title = c .before .before .before .before .before .title in
+    let n = c .before .before .n in
+    room-along (part (start (declarationRows (args .number)) (pre .0) (pre .1) (plus 1 (defOf (args .text .now) (lastLine (args .tokens .now)) (drop ((args .at) + 1) (args .tokens .now)))) (defOf (args .text .now) (lastLine (args .tokens .now)) (drop ((args .at) + 1) (args .tokens .now))) refl) (λ n us. follow (arrowsOf (lastLine (args .tokens .now)) us) us (λ ss vs. follow (repeat (clauseOf (args .text .now) (lastLine (args .tokens .now))) vs 0 0 []) vs (λ cs ws. parsed (def n ss cs) 0))) refl (title .ensures) (n .given .1) (title .kept .1 .1 .0)) (pre .0)
+
+enum-known-sorts : tie.Need-enum-known-sorts
+enum-known-sorts c = search needs
+
+same-length-2 : tie.Need-same-length-2
+same-length-2 c = search needs
+
+returns-2 : tie.Need-returns-2
+returns-2 c =
+    let args = c .before .before .before .before .before .before .before .before .before .before .before .args in
+    let pre = c .before .before .before .before .before .before .before .before .before .before .before .pre in
+    let title = c .before .before .before .before .before .before .before .before .title in
+    let n = c .before .before .before .before .before .n in
+    let arrows = c .before .before .arrows in
+    let match2 = c .match2 in
+    part-stopped (part (start (declarationRows (args .number)) (pre .0) (pre .1) (plus 1 (defOf (args .text .now) (lastLine (args .tokens .now)) (drop ((args .at) + 1) (args .tokens .now)))) (defOf (args .text .now) (lastLine (args .tokens .now)) (drop ((args .at) + 1) (args .tokens .now))) refl) (λ n us. follow (arrowsOf (lastLine (args .tokens .now)) us) us (λ ss vs. follow (repeat (clauseOf (args .text .now) (lastLine (args .tokens .now))) vs 0 0 []) vs (λ cs ws. parsed (def n ss cs) 0))) refl (title .ensures) (n .given .1) (title .kept .1 .1 .0)) (λ ss vs. follow (repeat (clauseOf (args .text .now) (lastLine (args .tokens .now))) vs 0 0 []) vs (λ cs ws. parsed (def (got (title .ensures) (n .given .1) .item) ss cs) 0)) refl (arrows .ensures .answers) (stopped (arrows .result) (match2 .keys2)) (firm-separated 15 (nameOf (lastLine (args .tokens .now))) (firm-name (lastLine (args .tokens .now))) (drop (n .given .0 .0) (args .tokens .now)))
+
+clauses-requires : tie.Need-clauses-requires
+clauses-requires c κs =
+    let args = c .before .before .before .before .before .before .before .before .before .before .before .before .before .before .args in
+    let pre = c .before .before .before .before .before .before .before .before .before .before .before .before .before .before .pre in
+    let title = c .before .before .before .before .before .before .before .before .before .before .before .title in
+    let n = c .before .before .before .before .before .before .before .before .n in
+    let arrows = c .before .before .before .before .before .arrows in
+    let sorts = c .before .before .sorts in
+    room-along (part (part (start (declarationRows (args .number)) (pre .0) (pre .1) (plus 1 (defOf (args .text .now) (lastLine (args .tokens .now)) (drop ((args .at) + 1) (args .tokens .now)))) (defOf (args .text .now) (lastLine (args .tokens .now)) (drop ((args .at) + 1) (args .tokens .now))) refl) (λ n us. follow (arrowsOf (lastLine (args .tokens .now)) us) us (λ ss vs. follow (repeat (clauseOf (args .text .now) (lastLine (args .tokens .now))) vs 0 0 []) vs (λ cs ws. parsed (def n ss cs) 0))) refl (title .ensures) (n .given .1) (title .kept .1 .1 .0)) (λ ss vs. follow (repeat (clauseOf (args .text .now) (lastLine (args .tokens .now))) vs 0 0 []) vs (λ cs ws. parsed (def (got (title .ensures) (n .given .1) .item) ss cs) 0)) refl (arrows .ensures .answers) (sorts .given .1) (arrows .kept .1 .1 .0)) (pre .0)
+
+enum-known-all : tie.Need-enum-known-all
+enum-known-all c = search needs
+
+same-length-3 : tie.Need-same-length-3
+same-length-3 c = search needs
+
+returns-3 : tie.Need-returns-3
+returns-3 c =
+    let args = c .before .before .before .before .before .before .before .before .before .before .before .before .before .before .before .before .before .args in
+    let pre = c .before .before .before .before .before .before .before .before .before .before .before .before .before .before .before .before .before .pre in
+    let title = c .before .before .before .before .before .before .before .before .before .before .before .before .before .before .title in
+    let n = c .before .before .before .before .before .before .before .before .before .before .before .n in
+    let arrows = c .before .before .before .before .before .before .before .before .arrows in
+    let sorts = c .before .before .before .before .before .sorts in
+    let clauses = c .before .before .clauses in
+    let match3 = c .match3 in
+    part-stopped (part (part (start (declarationRows (args .number)) (pre .0) (pre .1) (plus 1 (defOf (args .text .now) (lastLine (args .tokens .now)) (drop ((args .at) + 1) (args .tokens .now)))) (defOf (args .text .now) (lastLine (args .tokens .now)) (drop ((args .at) + 1) (args .tokens .now))) refl) (λ n us. follow (arrowsOf (lastLine (args .tokens .now)) us) us (λ ss vs. follow (repeat (clauseOf (args .text .now) (lastLine (args .tokens .now))) vs 0 0 []) vs (λ cs ws. parsed (def n ss cs) 0))) refl (title .ensures) (n .given .1) (title .kept .1 .1 .0)) (λ ss vs. follow (repeat (clauseOf (args .text .now) (lastLine (args .tokens .now))) vs 0 0 []) vs (λ cs ws. parsed (def (got (title .ensures) (n .given .1) .item) ss cs) 0)) refl (arrows .ensures .answers) (sorts .given .1) (arrows .kept .1 .1 .0)) (λ cs ws. parsed (def (got (title .ensures) (n .given .1) .item) (got (arrows .ensures .answers) (sorts .given .1) .item) cs) 0) refl (clauses .ensures .answers) (stopped (clauses .result) (match3 .keys2)) (firm-repeat (clauseOf (args .text .now) (lastLine (args .tokens .now))) (drop (sorts .given .0 .0) (args .tokens .now)) 0 0 [])
+
+put-requires : tie.Need-put-requires
+put-requires c κs =
+    let args = c .before .before .before .before .before .before .before .before .before .before .before .before .before .before .before .before .before .before .before .before .args in
+    let pre = c .before .before .before .before .before .before .before .before .before .before .before .before .before .before .before .before .before .before .before .before .pre in
+    let title = c .before .before .before .before .before .before .before .before .before .before .before .before .before .before .before .before .before .title in
+    let n = c .before .before .before .before .before .before .before .before .before .before .before .before .before .before .n in
+    let arrows = c .before .before .before .before .before .before .before .before .before .before .before .arrows in
+    let sorts = c .before .before .before .before .before .before .before .before .sorts in
+    let clauses = c .before .before .before .before .before .clauses in
+    let all = c .before .before .all in
+    let w = (part (part (part (start (declarationRows (args .number)) (pre .0) (pre .1) (plus 1 (defOf (args .text .now) (lastLine (args .tokens .now)) (drop ((args .at) + 1) (args .tokens .now)))) (defOf (args .text .now) (lastLine (args .tokens .now)) (drop ((args .at) + 1) (args .tokens .now))) refl) (λ n us. follow (arrowsOf (lastLine (args .tokens .now)) us) us (λ ss vs. follow (repeat (clauseOf (args .text .now) (lastLine (args .tokens .now))) vs 0 0 []) vs (λ cs ws. parsed (def n ss cs) 0))) refl (title .ensures) (n .given .1) (title .kept .1 .1 .0)) (λ ss vs. follow (repeat (clauseOf (args .text .now) (lastLine (args .tokens .now))) vs 0 0 []) vs (λ cs ws. parsed (def (got (title .ensures) (n .given .1) .item) ss cs) 0)) refl (arrows .ensures .answers) (sorts .given .1) (arrows .kept .1 .1 .0)) (λ cs ws. parsed (def (got (title .ensures) (n .given .1) .item) (got (arrows .ensures .answers) (sorts .given .1) .item) cs) 0) refl (clauses .ensures .answers) (all .given .1) (clauses .kept .1 .1 .1 .0)) .long in
+    omega (arith, (pre .0 .lent), (pre .0 .below), (pre .1), w)
+
+same-length-4 : tie.Need-same-length-4
+same-length-4 c = search needs
+
+returns-4 : tie.Need-returns-4
+returns-4 c =
+    let args = c .before .before .before .before .before .before .before .before .before .before .before .before .before .before .before .before .before .before .before .before .before .before .args in
+    let pre = c .before .before .before .before .before .before .before .before .before .before .before .before .before .before .before .before .before .before .before .before .before .before .pre in
+    let title = c .before .before .before .before .before .before .before .before .before .before .before .before .before .before .before .before .before .before .before .title in
+    let n = c .before .before .before .before .before .before .before .before .before .before .before .before .before .before .before .before .n in
+    let arrows = c .before .before .before .before .before .before .before .before .before .before .before .before .before .arrows in
+    let sorts = c .before .before .before .before .before .before .before .before .before .before .sorts in
+    let clauses = c .before .before .before .before .before .before .before .clauses in
+    let all = c .before .before .before .before .all in
+    let put = c .before .put in
+    finish (part (part (part (start (declarationRows (args .number)) (pre .0) (pre .1) (plus 1 (defOf (args .text .now) (lastLine (args .tokens .now)) (drop ((args .at) + 1) (args .tokens .now)))) (defOf (args .text .now) (lastLine (args .tokens .now)) (drop ((args .at) + 1) (args .tokens .now))) refl) (λ n us. follow (arrowsOf (lastLine (args .tokens .now)) us) us (λ ss vs. follow (repeat (clauseOf (args .text .now) (lastLine (args .tokens .now))) vs 0 0 []) vs (λ cs ws. parsed (def n ss cs) 0))) refl (title .ensures) (n .given .1) (title .kept .1 .1 .0)) (λ ss vs. follow (repeat (clauseOf (args .text .now) (lastLine (args .tokens .now))) vs 0 0 []) vs (λ cs ws. parsed (def (got (title .ensures) (n .given .1) .item) ss cs) 0)) refl (arrows .ensures .answers) (sorts .given .1) (arrows .kept .1 .1 .0)) (λ cs ws. parsed (def (got (title .ensures) (n .given .1) .item) (got (arrows .ensures .answers) (sorts .given .1) .item) cs) 0) refl (clauses .ensures .answers) (all .given .1) (clauses .kept .1 .1 .1 .0)) (pre .0) refl (ap₂ (λ c e. (5 ∷ (args .number) ∷ c ∷ e ∷ []) ∷ (nameRows (got (title .ensures) (n .given .1) .item) ++ (rowsOfAll nameRows (got (arrows .ensures .answers) (sorts .given .1) .item) ++ rowsOfAll clauseRows (got (clauses .ensures .answers) (all .given .1) .item)))) (sym ((arrows .ensures .counted) _ _ _ (sorts .given .1) _ _ (got (arrows .ensures .answers) (sorts .given .1) .is))) (sym ((clauses .ensures .counted) _ _ _ (all .given .1) _ _ (got (clauses .ensures .answers) (all .given .1) .is)))) (put .ensures)
+
+pub def-spec : {M : Type 1} → statement M
+def-spec =
+    tie.close
+    (tie.spec
+    add-title
+    add-title-2
+    title-requires
+    enum-known-n
+    same-length
+    returns
+    arrows-requires
+    enum-known-sorts
+    same-length-2
+    returns-2
+    clauses-requires
+    enum-known-all
+    same-length-3
+    returns-3
+    put-requires
+    same-length-4
+    returns-4)

@@ -1,0 +1,109 @@
+-- `rule` meets its contract.
+use mathlib.Core.Path.{_≡_, refl, sym, ap, ap₂, _∙_}
+use Prim.Native.Nat.{_+_, _-_}
+use mathlib.Core.List.{List, [], _∷_, _++_, append-assoc}
+use native.Mathlib.Omega.{arith}
+use lib.ListN.{length, drop}
+use Rattle.parser.specs.Source.{sort, ctor, pred, rule, def, theorem, eval, check}
+use Rattle.parser.specs.Parsing.{kindOf, lastLine, parsed, plus, follow, repeat, signOf, behind}
+use Rattle.parser.specs.Grammar.{nameOf}
+use Rattle.parser.specs.Declarations.{separated, name, app, term, arrowsOf, namesOf, bindersOf, titleOf, sortOf, ctorOf, judgmentsOf, patternsOf, clauseOf, predOf, ruleOf, defOf, evalOf, checkOf}
+use Rattle.parser.specs.Rows.{row, declarationRows, nameRows, rowsOf, rowsOfAll, clauseRows, bindersRows, clauseKind, bindersKind}
+use Rattle.parser.proofs.TokenLaws.{token-there}
+use Rattle.parser.proofs.Readers.{stopped, got, moved, firm-repeat, firm-sign, Looped, loop-start, loop-turn}
+use Rattle.parser.proofs.TermLaws.{firm-term, firm-app, termAt, appAt, room-on}
+use Rattle.parser.proofs.ListLaws.{firm-name, firm-names, firm-title, firm-separated, firm-patterns, behind-is, behind-not, patterns-none, patterns-some, list-absent, list-refused}
+use Rattle.parser.proofs.PartLaws.{start, part, part-stopped, sign-part, sign-stopped, finish, room-along}
+use borrow.Author.Needs.{needs}
+use Rattle.parser.proofs.declarations.rule.Statement.{statement}
+use Rattle.parser.proofs.declarations.rule.Tie as tie
+
+add-title : tie.Need-add-title
+add-title c = search needs
+
+add-title-2 : tie.Need-add-title-2
+add-title-2 c = search needs
+
+title-requires : tie.Need-title-requires
+title-requires c κs = search needs
+
+enum-known-n : tie.Need-enum-known-n
+enum-known-n c = search needs
+
+same-length : tie.Need-same-length
+same-length c = search needs
+
+returns : tie.Need-returns
+returns c =
+    let args = c .before .before .before .before .before .args in
+    let pre = c .before .before .before .before .before .pre in
+    let title = c .before .before .title in
+    let match′ = c .match in
+    part-stopped (start (declarationRows (args .number)) (pre .0) (pre .1) (plus 1 (ruleOf (args .text .now) (lastLine (args .tokens .now)) (drop ((args .at) + 1) (args .tokens .now)))) (ruleOf (args .text .now) (lastLine (args .tokens .now)) (drop ((args .at) + 1) (args .tokens .now))) refl) (λ n us. follow (judgmentsOf (args .text .now) (lastLine (args .tokens .now)) us) us (λ js vs. parsed (rule n js) 0)) refl (title .ensures) (stopped (title .result) (match′ .keys2)) (firm-title (lastLine (args .tokens .now)) (drop ((args .at) + 1) (args .tokens .now)))
+
+judgments-requires : tie.Need-judgments-requires
+judgments-requires c κs =
+    let args = c .before .before .before .before .before .before .before .before .args in
+    let pre = c .before .before .before .before .before .before .before .before .pre in
+    let title = c .before .before .before .before .before .title in
+    let n = c .before .before .n in
+    room-along (part (start (declarationRows (args .number)) (pre .0) (pre .1) (plus 1 (ruleOf (args .text .now) (lastLine (args .tokens .now)) (drop ((args .at) + 1) (args .tokens .now)))) (ruleOf (args .text .now) (lastLine (args .tokens .now)) (drop ((args .at) + 1) (args .tokens .now))) refl) (λ n us. follow (judgmentsOf (args .text .now) (lastLine (args .tokens .now)) us) us (λ js vs. parsed (rule n js) 0)) refl (title .ensures) (n .given .1) (title .kept .1 .1 .0)) (pre .0)
+
+enum-known-terms : tie.Need-enum-known-terms
+enum-known-terms c = search needs
+
+same-length-2 : tie.Need-same-length-2
+same-length-2 c = search needs
+
+returns-2 : tie.Need-returns-2
+returns-2 c =
+    let args = c .before .before .before .before .before .before .before .before .before .before .before .args in
+    let pre = c .before .before .before .before .before .before .before .before .before .before .before .pre in
+    let title = c .before .before .before .before .before .before .before .before .title in
+    let n = c .before .before .before .before .before .n in
+    let judgments = c .before .before .judgments in
+    let match2 = c .match2 in
+    part-stopped (part (start (declarationRows (args .number)) (pre .0) (pre .1) (plus 1 (ruleOf (args .text .now) (lastLine (args .tokens .now)) (drop ((args .at) + 1) (args .tokens .now)))) (ruleOf (args .text .now) (lastLine (args .tokens .now)) (drop ((args .at) + 1) (args .tokens .now))) refl) (λ n us. follow (judgmentsOf (args .text .now) (lastLine (args .tokens .now)) us) us (λ js vs. parsed (rule n js) 0)) refl (title .ensures) (n .given .1) (title .kept .1 .1 .0)) (λ js vs. parsed (rule (got (title .ensures) (n .given .1) .item) js) 0) refl (judgments .ensures .answers) (stopped (judgments .result) (match2 .keys2)) (firm-separated 15 (termAt (args .text .now) (args .tokens .now) 64) (firm-term (args .text .now) (args .tokens .now) 64) (drop (n .given .0 .0) (args .tokens .now)))
+
+put-requires : tie.Need-put-requires
+put-requires c κs =
+    let args = c .before .before .before .before .before .before .before .before .before .before .before .before .before .before .args in
+    let pre = c .before .before .before .before .before .before .before .before .before .before .before .before .before .before .pre in
+    let title = c .before .before .before .before .before .before .before .before .before .before .before .title in
+    let n = c .before .before .before .before .before .before .before .before .n in
+    let judgments = c .before .before .before .before .before .judgments in
+    let terms = c .before .before .terms in
+    let w = (part (part (start (declarationRows (args .number)) (pre .0) (pre .1) (plus 1 (ruleOf (args .text .now) (lastLine (args .tokens .now)) (drop ((args .at) + 1) (args .tokens .now)))) (ruleOf (args .text .now) (lastLine (args .tokens .now)) (drop ((args .at) + 1) (args .tokens .now))) refl) (λ n us. follow (judgmentsOf (args .text .now) (lastLine (args .tokens .now)) us) us (λ js vs. parsed (rule n js) 0)) refl (title .ensures) (n .given .1) (title .kept .1 .1 .0)) (λ js vs. parsed (rule (got (title .ensures) (n .given .1) .item) js) 0) refl (judgments .ensures .answers) (terms .given .1) (judgments .kept .1 .1 .1 .0)) .long in
+    omega (arith, (pre .0 .lent), (pre .0 .below), (pre .1), w)
+
+same-length-3 : tie.Need-same-length-3
+same-length-3 c = search needs
+
+returns-3 : tie.Need-returns-3
+returns-3 c =
+    let args = c .before .before .before .before .before .before .before .before .before .before .before .before .before .before .before .before .args in
+    let pre = c .before .before .before .before .before .before .before .before .before .before .before .before .before .before .before .before .pre in
+    let title = c .before .before .before .before .before .before .before .before .before .before .before .before .before .title in
+    let n = c .before .before .before .before .before .before .before .before .before .before .n in
+    let judgments = c .before .before .before .before .before .before .before .judgments in
+    let terms = c .before .before .before .before .terms in
+    let put = c .before .put in
+    finish (part (part (start (declarationRows (args .number)) (pre .0) (pre .1) (plus 1 (ruleOf (args .text .now) (lastLine (args .tokens .now)) (drop ((args .at) + 1) (args .tokens .now)))) (ruleOf (args .text .now) (lastLine (args .tokens .now)) (drop ((args .at) + 1) (args .tokens .now))) refl) (λ n us. follow (judgmentsOf (args .text .now) (lastLine (args .tokens .now)) us) us (λ js vs. parsed (rule n js) 0)) refl (title .ensures) (n .given .1) (title .kept .1 .1 .0)) (λ js vs. parsed (rule (got (title .ensures) (n .given .1) .item) js) 0) refl (judgments .ensures .answers) (terms .given .1) (judgments .kept .1 .1 .1 .0)) (pre .0) refl (ap (λ c. (4 ∷ (args .number) ∷ c ∷ 0 ∷ []) ∷ (nameRows (got (title .ensures) (n .given .1) .item) ++ rowsOfAll rowsOf (got (judgments .ensures .answers) (terms .given .1) .item))) (sym ((judgments .ensures .counted) _ _ _ (terms .given .1) _ _ (got (judgments .ensures .answers) (terms .given .1) .is)))) (put .ensures)
+
+pub rule-spec : {M : Type 1} → statement M
+rule-spec =
+    tie.close
+    (tie.spec
+    add-title
+    add-title-2
+    title-requires
+    enum-known-n
+    same-length
+    returns
+    judgments-requires
+    enum-known-terms
+    same-length-2
+    returns-2
+    put-requires
+    same-length-3
+    returns-3)

@@ -1,0 +1,146 @@
+// Parser: from tokens to declarations. The Rust's `Parser` and `parse`, with the refusals 7 to 16.
+//
+// The entry points are `parse`, `parse_text` and `number`. They ask nothing of their caller, and each contract fixes the answer and every byte of the lent
+// rows on all inputs.
+mod tokens; // reading tokens and writing rows
+mod terms; // terms: the cycle of calls
+mod lists; // names, and lists of items
+mod declarations; // declarations
+
+use declarations::declarations;
+ghost use mathlib.Core.Path.{_≡_};
+ghost use Rattle.parser.specs.Parser.{numberOf, Parsing, ParsingText};
+
+// The kinds of rows beside those of tokens.
+pub const APPLICATION: u32 = 24;
+
+pub const CLAUSE: u32 = 25;
+
+pub const BINDERS: u32 = 26;
+
+// A token: the numbers of its row.
+pub struct Token {
+    pub kind: u32,
+    pub start: u32,
+    pub length: u32,
+    pub line: u32,
+}
+
+// Why a text is refused.
+pub enum Refusal {
+    // 1: the lent rows are fewer than the tokens, or than the limit on the text's bytes; or there are over 65,536 tokens.
+    Storage,
+    // 2 to 6: the text cannot be read.
+    Text(words::Refusal),
+    // 7: a 65th parenthesis would be open.
+    ParenthesisLimit,
+    // 8: a sign was expected.
+    SignExpected,
+    // 9: a name was expected.
+    NameExpected,
+    // 10: a term was expected.
+    TermExpected,
+    // 11: only a name can be applied.
+    OnlyNames,
+    // 12: the left of `=` is neither a name nor an application.
+    LeftOfEquals,
+    // 13: a declaration was expected.
+    DeclarationExpected,
+    // 14: a predicate's type does not end in `Prop`.
+    NoProp,
+    // 15: `by auto` or `by induction x` was expected.
+    ByForm,
+    // 16: another keyword where a declaration starts.
+    OtherKeyword,
+}
+
+// What a reader answers: the next place, how many rows there are, and how many items it read; that there is no such item; or the refusal and its line.
+pub enum Step {
+    At(usize, usize, u32),
+    Absent,
+    Refused(Refusal, u32),
+}
+
+// What `parse` answers: how many declarations there are and how many rows they take, or the refusal and its line.
+pub enum Answer {
+    Declarations(u32, usize),
+    Refused(Refusal, u32),
+}
+
+// The number of a refusal in document 01's table.
+pub fn number(r: Refusal) -> u32
+    ensures { λ n. ⌜ n ≡ numberOf r ⌝ }
+{
+    match r {
+        Refusal::Storage => 1,
+        Refusal::Text(w) => words::number(w),
+        Refusal::ParenthesisLimit => 7,
+        Refusal::SignExpected => 8,
+        Refusal::NameExpected => 9,
+        Refusal::TermExpected => 10,
+        Refusal::OnlyNames => 11,
+        Refusal::LeftOfEquals => 12,
+        Refusal::DeclarationExpected => 13,
+        Refusal::NoProp => 14,
+        Refusal::ByForm => 15,
+        Refusal::OtherKeyword => 16,
+    }
+}
+
+// Parses the tokens of a text into rows, of which there are as many as tokens. Any list of token rows will do.
+pub fn parse(text: &[u8], tokens: &[[u32; 4]], rows: &mut [[u32; 4]]) -> Answer
+    ensures { λ r. ⌜ Parsing (now (text .entry)) (now (tokens .entry)) (now (rows .entry)) r (now (rows .exit)) ⌝ }
+{
+    if 65536 < tokens.len() {
+        return Answer::Refused(Refusal::Storage, 0);
+    }
+    if rows.len() < tokens.len() {
+        return Answer::Refused(Refusal::Storage, 0);
+    }
+    match declarations(text, tokens, rows) {
+        Step::At(_, used, n) => {
+            words::clear(rows, used);
+            Answer::Declarations(n, used)
+        }
+        Step::Absent => {
+            words::clear(rows, 0);
+            Answer::Declarations(0, 0)
+        }
+        Step::Refused(refusal, line) => {
+            words::clear(rows, 0);
+            Answer::Refused(refusal, line)
+        }
+    }
+}
+
+// Reads a text and parses it. There are as many token rows and as many rows as the limit on the text's bytes.
+pub fn parse_text(
+    text: &[u8],
+    limits: words::Limits,
+    tokens: &mut [[u32; 4]],
+    rows: &mut [[u32; 4]],
+) -> Answer
+    ensures { λ r. ⌜ ParsingText (now (text .entry)) limits (now (tokens .entry)) (now (rows .entry)) r (now (tokens .exit)) (now (rows .exit)) ⌝ }
+{
+    let limit = limits.capped().text as usize;
+    if tokens.len() < limit {
+        return Answer::Refused(Refusal::Storage, 0);
+    }
+    if rows.len() < limit {
+        return Answer::Refused(Refusal::Storage, 0);
+    }
+    match words::lex(text, limits, tokens) {
+        words::Lexed::Refused(refusal, line) => {
+            words::clear(rows, 0);
+            Answer::Refused(Refusal::Text(refusal), line)
+        }
+        words::Lexed::Tokens(n) => {
+            let answer = parse(text, &tokens[0..n], rows);
+            let Answer::Declarations(_, _) = answer else {
+                words::clear(tokens, 0);
+                return answer;
+            };
+            answer
+        }
+    }
+}
