@@ -3,6 +3,7 @@
 use crate::damage::{damage_bytes, damage_tokens, soup};
 use crate::declarations::{declarations, written};
 use crate::random::Random;
+use crate::shrink::Question;
 use crate::tokens::TEXT_BYTES;
 
 /// A text, the limit that the caller sets, and how many rows it lends.
@@ -21,6 +22,22 @@ impl Case {
     /// The smallest limit and number of rows that the text needs.
     pub fn exact(text: &[u8]) -> Case {
         Case::new(text, text.len() as u32, text.len())
+    }
+}
+
+impl Question for Case {
+    fn text(&self) -> &[u8] {
+        &self.text
+    }
+
+    fn about(&self, text: Vec<u8>) -> Case {
+        Case { text, ..*self }
+    }
+
+    fn lowered(&self) -> Vec<Case> {
+        let exact = Case::exact(&self.text);
+        let one_more = Case { rows: exact.rows + 1, ..exact.clone() };
+        vec![exact, one_more]
     }
 }
 

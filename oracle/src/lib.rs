@@ -12,6 +12,7 @@ pub mod cases;
 pub mod damage;
 pub mod declarations;
 pub mod random;
+pub mod shrink;
 pub mod tokens;
 
 pub use original::lang::harness::{theory, unify, words};

@@ -6,6 +6,7 @@ mod ours;
 use horn_oracle::boundary::{boundaries, short_texts};
 use horn_oracle::cases::{Case, generated};
 use horn_oracle::random::Random;
+use horn_oracle::shrink::shrunk;
 use horn_oracle::tokens::{Answer, Row};
 use horn_oracle::words::reference;
 
@@ -33,7 +34,7 @@ fn main() {
     for case in boundaries().into_iter().chain(short_texts()).chain(seeded) {
         let answer = answer(&case);
         if differs(&case, &answer) {
-            report(&shrunk(case));
+            report(&shrunk(case, &still_differs));
             std::process::exit(1);
         }
         counts[answer.number()] += 1;
@@ -66,38 +67,6 @@ fn actual(case: &Case) -> Outcome {
 fn differs(case: &Case, answer: &Answer) -> bool {
     let (expected, actual) = (expected(case, answer), actual(case));
     expected.code != actual.code || expected.rows != actual.rows
-}
-
-/// Takes out ever smaller parts of the text while the sides still differ, then lowers limit and rows.
-fn shrunk(mut case: Case) -> Case {
-    let mut size = case.text.len();
-    while size > 0 {
-        let smaller = without_parts(&case, size);
-        let repeat = size == 1 && smaller.text.len() < case.text.len();
-        case = smaller;
-        size = if repeat { 1 } else { size / 2 };
-    }
-    lowered(&case).unwrap_or(case)
-}
-
-/// One pass from the end to the start, so that places not yet tried stay where they are.
-fn without_parts(case: &Case, size: usize) -> Case {
-    let mut case = case.clone();
-    for start in (0..case.text.len()).step_by(size).rev() {
-        let mut smaller = case.clone();
-        let end = smaller.text.len().min(start + size);
-        smaller.text.drain(start..end);
-        let differing = Some(smaller.clone()).filter(still_differs);
-        case = differing.or_else(|| lowered(&smaller)).unwrap_or(case);
-    }
-    case
-}
-
-/// The same text with the lowest limit and rows, if the sides differ there too.
-fn lowered(case: &Case) -> Option<Case> {
-    let exact = Case::exact(&case.text);
-    let one_more = Case { rows: exact.rows + 1, ..exact.clone() };
-    [exact, one_more].into_iter().find(still_differs)
 }
 
 fn still_differs(case: &Case) -> bool {
