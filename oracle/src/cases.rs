@@ -59,7 +59,8 @@ pub fn generated(random: &mut Random) -> Case {
     Case { text, limit: limit as u32, rows }
 }
 
-fn generated_text(random: &mut Random) -> Vec<u8> {
+/// A text for the lexer: declarations, often damaged by tokens or by bytes, or a soup.
+pub fn generated_text(random: &mut Random) -> Vec<u8> {
     if random.percent(20) {
         return soup(random);
     }

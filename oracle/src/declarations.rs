@@ -19,6 +19,19 @@ const COMMENTS: [&str; 7] = [
     "-- -- (twice",
 ];
 
+/// Values on both sides of what a row of a numeral holds and of what a numeral may be; the last is refused.
+const NUMERALS: [&str; 9] = [
+    "13",
+    "00",
+    "65536",
+    "4294967294",
+    "4294967295",
+    "4294967296",
+    "18446744073709551615",
+    "0000000000000000000000000000000000000000000018446744073709551615",
+    "18446744073709551616",
+];
+
 /// A declared constructor, predicate or function: its name and number of arguments.
 type Symbol = (String, usize);
 
@@ -35,11 +48,22 @@ struct Writer<'a> {
     random: &'a mut Random,
     scope: Scope,
     pieces: Pieces,
+    rich: bool,
 }
 
 /// A text of about `count` declarations.
 pub fn declarations(random: &mut Random, count: usize) -> Pieces {
-    let mut writer = Writer { random, scope: Scope::default(), pieces: Vec::new() };
+    text_of(random, count, false)
+}
+
+/// The same with all else that the parser reads: groups of binders, judgments as arguments, names and calls in
+/// parentheses, large numerals, and about 64 parentheses open together.
+pub fn rich_declarations(random: &mut Random, count: usize) -> Pieces {
+    text_of(random, count, true)
+}
+
+fn text_of(random: &mut Random, count: usize, rich: bool) -> Pieces {
+    let mut writer = Writer { random, scope: Scope::default(), pieces: Vec::new(), rich };
     writer.sort();
     writer.constructor(0);
     for _ in 2..count {
@@ -79,6 +103,11 @@ impl Writer<'_> {
             self.put(comment);
         }
         self.put("\n");
+    }
+
+    /// Whether a rich text takes its chance; other texts draw no number here and stay as they are.
+    fn chance(&mut self, percent: usize) -> bool {
+        self.rich && self.random.percent(percent)
     }
 
     fn fresh_name(&mut self) -> String {
@@ -167,6 +196,9 @@ impl Writer<'_> {
     }
 
     fn judgment(&mut self) {
+        if self.chance(15) && !self.scope.functions.is_empty() {
+            return self.rich_judgment();
+        }
         if self.random.percent(50) && !self.scope.functions.is_empty() {
             self.application(2, |scope| &scope.functions);
             self.put("=");
@@ -178,11 +210,48 @@ impl Writer<'_> {
         }
     }
 
+    /// `(f a) = b`, `f = g b`, `f a = g b`, `(f a = b)`.
+    fn rich_judgment(&mut self) {
+        match self.random.below(4) {
+            0 => {
+                self.put("(");
+                self.application(2, |scope| &scope.functions);
+                self.put_all(&[")", "="]);
+                self.argument(2);
+            }
+            1 => {
+                let (name, _) = self.random.pick(&self.scope.functions);
+                self.put_all(&[&name, "="]);
+                self.expression(2);
+            }
+            2 => {
+                self.application(2, |scope| &scope.functions);
+                self.put("=");
+                self.expression(2);
+            }
+            _ => {
+                self.put("(");
+                self.judgment();
+                self.put(")");
+            }
+        }
+    }
+
     fn theorem(&mut self) {
         let name = self.fresh_name();
         let variable = self.random.pick(&VARIABLES);
         let sort = self.random.pick(&self.scope.sorts);
-        self.put_all(&["theorem", &name, "(", variable, ":", &sort, ")", ":"]);
+        self.put_all(&["theorem", &name]);
+        let groups = if self.rich { self.random.below(4) } else { 1 };
+        for _ in 0..groups {
+            self.put_all(&["(", variable]);
+            while self.chance(40) {
+                let other = self.random.pick(&VARIABLES);
+                self.put(other);
+            }
+            self.put_all(&[":", &sort, ")"]);
+        }
+        self.put(":");
         self.judgments();
         let tactics: [&[&str]; 3] = [&[], &[":=", "by", "auto"], &[":=", "by", "induction", variable]];
         let tactic = self.random.pick(&tactics);
@@ -215,13 +284,20 @@ impl Writer<'_> {
     /// A name picked from `list` and its arguments.
     fn application(&mut self, depth: usize, list: fn(&Scope) -> &Vec<Symbol>) {
         let (name, arguments) = self.random.pick(list(&self.scope));
-        self.put(&name);
+        if self.chance(5) {
+            self.put_all(&["(", &name, ")"]);
+        } else {
+            self.put(&name);
+        }
         for _ in 0..arguments {
             self.argument(depth - 1);
         }
     }
 
     fn argument(&mut self, depth: usize) {
+        if self.chance(3) {
+            return self.nested(depth);
+        }
         if depth == 0 || self.random.percent(60) {
             return self.leaf();
         }
@@ -230,7 +306,27 @@ impl Writer<'_> {
         self.put(")");
     }
 
+    /// A judgment or a leaf in several parentheses, now and then in about as many as may be open.
+    fn nested(&mut self, depth: usize) {
+        let count = match self.random.below(20) {
+            0..3 => self.random.between(61, 66),
+            3..6 => self.random.between(5, 30),
+            _ => self.random.between(1, 4),
+        };
+        (0..count).for_each(|_| self.put("("));
+        if depth == 0 {
+            self.leaf();
+        } else {
+            self.judgment();
+        }
+        (0..count).for_each(|_| self.put(")"));
+    }
+
     fn leaf(&mut self) {
+        if self.chance(3) {
+            let numeral = self.random.pick(&NUMERALS);
+            return self.put(numeral);
+        }
         let variable = self.random.pick(&VARIABLES);
         let leaf = match self.random.below(8) {
             0..4 => variable.to_owned(),

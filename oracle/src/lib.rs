@@ -11,8 +11,13 @@ pub mod boundary;
 pub mod cases;
 pub mod damage;
 pub mod declarations;
+pub mod declared;
+pub mod definitions;
+pub mod parse_cases;
+pub mod parse_examples;
 pub mod random;
+pub mod rows;
 pub mod shrink;
 pub mod tokens;
 
-pub use original::lang::harness::{theory, unify, words};
+pub use original::lang::harness::{parse, theory, unify, words};

@@ -8,9 +8,13 @@ pub const NAME: u32 = 12;
 pub const METAVARIABLE: u32 = 13;
 pub const NUMERAL: u32 = 14;
 
+pub const OPEN: u32 = 18;
+pub const CLOSE: u32 = 19;
+pub const COLON: u32 = 20;
+
 /// The signs as the original's tokens spell them, with their kinds.
 pub const SIGNS: [(&str, u32); 9] =
-    [("→", 15), ("=>", 16), (":=", 17), ("(", 18), (")", 19), (":", 20), (",", 21), ("|", 22), ("=", 23)];
+    [("→", 15), ("=>", 16), (":=", 17), ("(", OPEN), (")", CLOSE), (":", COLON), (",", 21), ("|", 22), ("=", 23)];
 
 /// Document 01: a text has at most 65,536 bytes.
 pub const TEXT_BYTES: u32 = 65_536;
