@@ -7,6 +7,15 @@ use horn_oracle::unify::Problem;
 
 unsafe extern "C" {
     fn horn_lex(text: *const u8, text_length: usize, limit: u32, tokens: *mut Row, rows: usize) -> u64;
+    fn horn_parse(
+        text: *const u8,
+        text_length: usize,
+        limit: u32,
+        tokens: *mut Row,
+        token_rows: usize,
+        rows: *mut Row,
+        rows_count: usize,
+    ) -> u64;
     fn horn_unify(
         words: *const u32,
         words_length: usize,
@@ -48,6 +57,13 @@ unsafe extern "C" {
 pub fn lex(text: &[u8], limit: u32, rows: &mut [Row]) -> u64 {
     // Both slices are lent whole for the length of the call, which is all that the contract asks.
     unsafe { horn_lex(text.as_ptr(), text.len(), limit, rows.as_mut_ptr(), rows.len()) }
+}
+
+pub fn parse(text: &[u8], limit: u32, tokens: &mut [Row], rows: &mut [Row]) -> u64 {
+    // All three slices are lent whole for the length of the call, which is all that the contract asks.
+    unsafe {
+        horn_parse(text.as_ptr(), text.len(), limit, tokens.as_mut_ptr(), tokens.len(), rows.as_mut_ptr(), rows.len())
+    }
 }
 
 /// The storage of one unification: bindings with their trail, and scratch that is zero before and after.
