@@ -142,8 +142,10 @@ const REFUSED: &[(&str, u32, u32)] = &[
 
 /// The fixed texts with their answers, but for those about many parentheses.
 pub fn examples() -> Vec<Example> {
+    let long_word = (format!("by\n{}", "a".repeat(65)), 6, 2);
     let accepted = ACCEPTED.iter().map(|text| ((*text).to_owned(), 0, 0));
-    accepted.chain(REFUSED.iter().map(|(text, number, line)| ((*text).to_owned(), *number, *line))).collect()
+    let refused = REFUSED.iter().map(|(text, number, line)| ((*text).to_owned(), *number, *line));
+    accepted.chain(refused).chain([long_word]).collect()
 }
 
 fn open(count: usize) -> String {
