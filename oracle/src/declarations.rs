@@ -353,11 +353,25 @@ pub fn written(random: &mut Random, pieces: &Pieces) -> Vec<u8> {
     text
 }
 
+/// The same with nothing odd between pieces, so that all of them stay apart.
+pub fn plainly_written(pieces: &Pieces) -> Vec<u8> {
+    let ends = pieces.iter().skip(1).map(String::as_str).chain(["\n"]);
+    pieces
+        .iter()
+        .zip(ends)
+        .flat_map(|(piece, next)| [piece, plain_separator(piece, next)].concat().into_bytes())
+        .collect()
+}
+
 fn separator(random: &mut Random, piece: &str, next: &str) -> &'static str {
     const ODD: [&str; 8] = ["  ", "\t", "\u{b}", "\u{c}", "\r", " \r\n", "", "\n"];
     if random.percent(2) {
         return random.pick(&ODD);
     }
+    plain_separator(piece, next)
+}
+
+fn plain_separator(piece: &str, next: &str) -> &'static str {
     let tight = piece == "(" || next == ")" || next == "," || piece == "\n" || next == "\n";
     if tight { "" } else { " " }
 }

@@ -18,6 +18,7 @@ pub mod parse_examples;
 pub mod random;
 pub mod rows;
 pub mod shrink;
+pub mod timing;
 pub mod tokens;
 
 pub use original::lang::harness::{parse, theory, unify, words};

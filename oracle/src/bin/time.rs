@@ -5,12 +5,11 @@ mod ours;
 
 use horn_oracle::declarations::{declarations, written};
 use horn_oracle::random::Random;
+use horn_oracle::timing::{BYTES, repeated, speed, timed, whole_lines};
 use horn_oracle::tokens::{Row, TEXT_BYTES};
 use horn_oracle::words::{original_lex, reference};
 use std::hint::black_box;
-use std::time::{Duration, Instant};
 
-const BYTES: usize = TEXT_BYTES as usize;
 const RUNS: usize = 301;
 
 fn main() {
@@ -20,8 +19,8 @@ fn main() {
     );
     let texts = [
         ("declarations", declared()),
-        ("comments", repeated("-- a list of what holds, été → été\n")),
-        ("one-letter words", repeated("a b c d e f g h i j k l m n o p\n")),
+        ("comments", repeated("", "-- a list of what holds, été → été\n")),
+        ("one-letter words", repeated("", "a b c d e f g h i j k l m n o p\n")),
     ];
     for (name, text) in texts {
         println!("{}", measured(name, &text));
@@ -34,21 +33,10 @@ fn main() {
     );
 }
 
-/// Declarations up to the last line that fits, filled up with blanks.
 fn declared() -> String {
     let mut random = Random::new(1);
     let pieces = declarations(&mut random, BYTES / 8);
-    let mut text = written(&mut random, &pieces);
-    text.truncate(BYTES);
-    let end = text.iter().rposition(|&byte| byte == b'\n').expect("there are many lines");
-    text[end..].fill(b' ');
-    String::from_utf8(text).expect("a line ends between characters")
-}
-
-fn repeated(line: &str) -> String {
-    let mut text = line.repeat(BYTES / line.len());
-    text.extend(std::iter::repeat_n(' ', BYTES - text.len()));
-    text
+    whole_lines(written(&mut random, &pieces))
 }
 
 fn measured(name: &str, text: &str) -> String {
@@ -64,16 +52,4 @@ fn measured(name: &str, text: &str) -> String {
     let (ours, rust) = (speed(text, our_times), speed(text, rust_times));
     let (bytes, tokens) = (text.len(), answer.code());
     format!("{name:<17} {bytes:>6} {tokens:>7} {ours:>10.1} {rust:>10.1} {:>12.2}", ours / rust)
-}
-
-fn timed<T>(run: impl FnOnce() -> T) -> Duration {
-    let start = Instant::now();
-    black_box(run());
-    start.elapsed()
-}
-
-/// Megabytes a second at the median time, which a few disturbed runs do not move.
-fn speed(text: &str, mut times: Vec<Duration>) -> f64 {
-    times.sort();
-    text.len() as f64 / 1e6 / times[times.len() / 2].as_secs_f64()
 }
