@@ -429,8 +429,8 @@ fn binders_rows(b: &Binders) -> Vec<Row> {
 
 fn tactic_rows(t: &Tactic) -> Vec<Row> {
     match t {
-        Tactic::Auto => vec![[8, 0, 0, 0]],
-        Tactic::Induction(p) => vec![row(9, *p, 0)],
+        Tactic::Auto => vec![],
+        Tactic::Induction(p) => name_rows(p),
     }
 }
 
@@ -447,7 +447,8 @@ fn declared_rows(Declared { line, declaration }: &Declared) -> Vec<Row> {
         }
         Declaration::Theorem(n, bs, js, t) => {
             let (binders, judgments) = (rows_of_all(binders_rows, bs), rows_of_all(rows_of, js));
-            [head(6, bs.len(), js.len()), name_rows(n), binders, judgments, tactic_rows(t)].concat()
+            let tactic = tactic_rows(t);
+            [head(6, bs.len(), js.len()), vec![row(12, *n, tactic.len() as u32)], binders, judgments, tactic].concat()
         }
         Declaration::Eval(t) => [head(10, 0, 0), rows_of(t)].concat(),
         Declaration::Check(t) => [head(11, 0, 0), rows_of(t)].concat(),

@@ -257,7 +257,7 @@ impl Writer<'_> {
         self.rows[row][1..3].copy_from_slice(&[start, length]);
     }
 
-    /// The tactic `auto` may be left out; no declaration starts with `by`.
+    /// The tactic `auto` may be left out; no declaration starts with `by`. It has no row, `induction` has that of its name.
     fn tactic(&mut self, tactic: &Tactic) {
         let written = self.tokens.iter().find(|token| token[0] <= NUMERAL).is_some_and(|token| token[0] == BY);
         match tactic {
@@ -266,13 +266,11 @@ impl Writer<'_> {
                     self.keyword(BY);
                     self.keyword(AUTO);
                 }
-                self.push(AUTO, [0, 0], 0);
             }
             Tactic::Induction(variable) => {
                 self.keyword(BY);
                 self.keyword(INDUCTION);
-                let place = self.place(NAME, variable);
-                self.push(INDUCTION, place, 0);
+                self.name(variable);
             }
         }
     }
@@ -312,6 +310,7 @@ impl Writer<'_> {
                 self.rows[row][2] = self.binders(binders);
                 self.terms(&with_last(premises, conclusion));
                 self.tactic(tactic);
+                self.rows[row + 1][3] = matches!(tactic, Tactic::Induction(_)) as u32;
             }
             Decl::Eval(term) => {
                 self.head(EVAL, line, [0, 0], None);

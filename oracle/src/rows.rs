@@ -152,22 +152,22 @@ impl<'a> Reader<'a> {
         }
     }
 
-    /// What the induction is on; `by auto` may be left out.
-    fn tactic(&mut self) -> Read<Option<String>> {
+    /// The row of a theorem's name, and how many rows its tactic has.
+    fn theorem_name(&mut self) -> Read<(String, u32)> {
         match self.row()? {
-            [AUTO, 0, 0, 0] if self.next_is("by") => {
-                self.expect("by")?;
-                self.expect("auto")?;
-                Ok(None)
-            }
-            [AUTO, 0, 0, 0] => Ok(None),
-            [INDUCTION, start, length, 0] => {
-                self.expect("by")?;
-                self.expect("induction")?;
-                self.at(NAME, start, length).map(Some)
-            }
-            row => Err(format!("{row:?} where a tactic must be")),
+            [NAME, start, length, rows @ 0..=1] => Ok((self.at(NAME, start, length)?, rows)),
+            row => Err(format!("{row:?} where a theorem's name must be")),
         }
+    }
+
+    /// What the induction is on; `by auto`, which has no row, may be left out.
+    fn tactic(&mut self, rows: u32) -> Read<Option<String>> {
+        if rows == 0 && !self.next_is("by") {
+            return Ok(None);
+        }
+        self.expect("by")?;
+        self.expect(if rows == 0 { "auto" } else { "induction" })?;
+        (rows > 0).then(|| self.name()).transpose()
     }
 
     fn declaration(&mut self) -> Read<Listed> {
@@ -198,9 +198,9 @@ impl<'a> Reader<'a> {
                 Declaration::Def(name, sorts, (0..second).map(|_| self.clause()).collect::<Read<_>>()?)
             }
             (THEOREM, _, 1..) => {
-                let name = self.name()?;
+                let (name, tactic) = self.theorem_name()?;
                 let binders = (0..first).map(|_| self.binders()).collect::<Read<Vec<_>>>()?.concat();
-                Declaration::Theorem(name, binders, self.terms(second, 0)?, self.tactic()?)
+                Declaration::Theorem(name, binders, self.terms(second, 0)?, self.tactic(tactic)?)
             }
             (EVAL, 0, 0) => Declaration::Eval(self.term(0)?),
             (CHECK, 0, 0) => Declaration::Check(self.term(0)?),

@@ -1,3 +1,4 @@
 -- What the contracts of `capi` cite.
 pub mod Words
 pub mod Unification
+pub mod Declarations

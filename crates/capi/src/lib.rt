@@ -1,5 +1,6 @@
 // The functions that programs in other languages call: numbers, byte slices and rows.
 ghost use mathlib.Core.Path.{_≡_};
+ghost use Rattle.capi.specs.Declarations.{ParsedAs};
 ghost use Rattle.capi.specs.Unification.{Answered};
 ghost use Rattle.capi.specs.Words.{packed, textLimit};
 ghost use Rattle.words.specs.Lexer.{lexAnswer, lexRows};
@@ -21,6 +22,30 @@ pub extern "C" fn horn_lex(text: &[u8], limit: u32, tokens: &mut [[u32; 4]]) -> 
     match answer {
         words::Lexed::Tokens(n) => n as u64,
         words::Lexed::Refused(r, line) => (words::number(r) as u64) * 0x1_0000_0000 + (line as u64),
+    }
+}
+
+// `parser::parse_text` under a limit on the text's bytes. The answer is the number of declarations, or 2^32 times the refusal's number and its line.
+#[no_mangle]
+pub extern "C" fn horn_parse(
+    text: &[u8],
+    limit: u32,
+    tokens: &mut [[u32; 4]],
+    rows: &mut [[u32; 4]],
+) -> u64
+    ensures { λ r. ⌜ ParsedAs (now (text .entry)) limit (now (tokens .entry)) (now (rows .entry)) r (now (tokens .exit)) (now (rows .exit)) ⌝ }
+{
+    let limits = words::Limits {
+        text: limit,
+        nodes: 0,
+        steps: 0,
+        variables: 0,
+        words: 0,
+    };
+    let answer = parser::parse_text(text, limits, tokens, rows);
+    match answer {
+        parser::Answer::Declarations(n, _) => n as u64,
+        parser::Answer::Refused(r, line) => (parser::number(r) as u64) * 0x1_0000_0000 + (line as u64),
     }
 }
 
