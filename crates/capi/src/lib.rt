@@ -45,7 +45,8 @@ pub extern "C" fn horn_parse(
     let answer = parser::parse_text(text, limits, tokens, rows);
     match answer {
         parser::Answer::Declarations(n, _) => n as u64,
-        parser::Answer::Refused(r, line) => (parser::number(r) as u64) * 0x1_0000_0000 + (line as u64),
+        parser::Answer::Refused(r, line) => (parser::number(r) as u64) * 0x1_0000_0000
+            + (line as u64),
     }
 }
 

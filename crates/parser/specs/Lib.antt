@@ -4,5 +4,6 @@ pub mod Parsing
 pub mod Grammar
 pub mod Declarations
 pub mod Rows
+pub mod Standing
 pub mod Contracts
 pub mod Parser

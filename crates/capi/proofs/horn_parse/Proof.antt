@@ -44,7 +44,7 @@ returns c =
     record {
       given = (c .before .before .before .before .before .parse-text .result);
       is = sym (ap packedAnswer (c .before .answer .given .1));
-      parsing = (c .before .before .before .before .before .parse-text .ensures)
+      parsing = (c .before .before .before .before .before .parse-text .ensures);
     }
 
 same-length-3 : tie.Need-same-length-3
@@ -61,7 +61,7 @@ returns-2 c =
     record {
       given = (parse-text .result);
       is = ap (λ n. n * 4294967296 + (answer2 .given .0 .1 .0)) (number .ensures) ∙ sym (ap packedAnswer (answer2 .given .1));
-      parsing = (parse-text .ensures)
+      parsing = (parse-text .ensures);
     }
 
 pub horn-parse-spec : {M : Type 1} → statement M
