@@ -1,6 +1,7 @@
 // Declarations.
 use super::BINDERS;
 use super::CLAUSE;
+use super::PARENTHESES;
 use super::Refusal;
 use super::Step;
 use super::lists::arrows;
@@ -15,7 +16,13 @@ use super::tokens::line;
 use super::tokens::peek;
 use super::tokens::put;
 use super::tokens::sign;
+use words::BAR;
+use words::CLOSE;
+use words::COLON;
+use words::DEFINES;
+use words::DOUBLE_ARROW;
 use words::NAME;
+use words::OPEN;
 ghost use mathlib.Core.Path.{_≡_};
 ghost use mathlib.Core.List.{[]};
 ghost use Prim.Native.Nat.{_+_, _≤_, _<_};
@@ -26,18 +33,6 @@ ghost use Rattle.parser.specs.Parsing.{lastLine, repeat, plus};
 ghost use Rattle.parser.specs.Rows.{clauseRows, bindersRows, tacticRows, declarationRows, declaredRows};
 ghost use Rattle.parser.specs.Declarations.{propName, bindersOf, tacticOf, sortOf, ctorOf, clauseOf, predOf, ruleOf, defOf, theoremOf, evalOf, checkOf, declarationOf, parseOf};
 ghost use Rattle.parser.specs.Contracts.{Room, Answers, Lists, numbered};
-
-const DOUBLE_ARROW: u32 = 16;
-
-const DEFINES: u32 = 17;
-
-const OPEN: u32 = 18;
-
-const CLOSE: u32 = 19;
-
-const COLON: u32 = 20;
-
-const BAR: u32 = 22;
 
 const SORT: u32 = 1;
 
@@ -60,8 +55,6 @@ const INDUCTION: u32 = 9;
 const EVAL: u32 = 10;
 
 const CHECK: u32 = 11;
-
-const PARENTHESES: u32 = 64;
 
 // `| p, p => t`
 pub fn clause(

@@ -18,6 +18,9 @@ pub const CLAUSE: u32 = 25;
 
 pub const BINDERS: u32 = 26;
 
+// How many parentheses may be open together.
+const PARENTHESES: u32 = 64;
+
 // A token: the numbers of its row.
 pub struct Token {
     pub kind: u32,
@@ -87,7 +90,7 @@ pub fn number(r: Refusal) -> u32
     }
 }
 
-// Parses the tokens of a text into rows, of which there are as many as tokens. Any list of token rows will do.
+// Parses the tokens of a text into rows, of which there are at least as many as tokens. Any list of token rows will do.
 pub fn parse(text: &[u8], tokens: &[[u32; 4]], rows: &mut [[u32; 4]]) -> Answer
     ensures { λ r. ⌜ Parsing (now (text .entry)) (now (tokens .entry)) (now (rows .entry)) r (now (rows .exit)) ⌝ }
 {
@@ -113,7 +116,7 @@ pub fn parse(text: &[u8], tokens: &[[u32; 4]], rows: &mut [[u32; 4]]) -> Answer
     }
 }
 
-// Reads a text and parses it. There are as many token rows and as many rows as the limit on the text's bytes.
+// Reads a text and parses it. There are at least as many token rows, and as many rows, as the limit on the text's bytes.
 pub fn parse_text(
     text: &[u8],
     limits: words::Limits,

@@ -1,4 +1,5 @@
 // Names, and lists of items.
+use super::PARENTHESES;
 use super::Refusal;
 use super::Step;
 use super::terms::app;
@@ -7,6 +8,10 @@ use super::tokens::line;
 use super::tokens::peek;
 use super::tokens::push;
 use super::tokens::sign;
+use words::ARROW;
+use words::COLON;
+use words::COMMA;
+use words::DOUBLE_ARROW;
 use words::NAME;
 ghost use lib.ListN.{drop};
 ghost use Rattle.parser.specs.Parsing.{lastLine};
@@ -14,16 +19,6 @@ ghost use Rattle.parser.specs.Grammar.{nameOf};
 ghost use Rattle.parser.specs.Rows.{rowsOf, nameRows};
 ghost use Rattle.parser.specs.Declarations.{arrowsOf, namesOf, titleOf, separated, app, judgmentsOf, patternsOf};
 ghost use Rattle.parser.specs.Contracts.{Room, Answers, Lists};
-
-const ARROW: u32 = 15;
-
-const DOUBLE_ARROW: u32 = 16;
-
-const COLON: u32 = 20;
-
-const COMMA: u32 = 21;
-
-const PARENTHESES: u32 = 64;
 
 // A name that must be there.
 pub fn name(tokens: &[[u32; 4]], at: usize, out: &mut [[u32; 4]], used: usize) -> Step

@@ -8,9 +8,12 @@ use super::tokens::push;
 use super::tokens::required;
 use super::tokens::saturated;
 use super::tokens::sign;
+use words::CLOSE;
+use words::EQUALS;
 use words::METAVARIABLE;
 use words::NAME;
 use words::NUMERAL;
+use words::OPEN;
 ghost use mathlib.Core.Path.{_≡_};
 ghost use mathlib.Core.List.{[]};
 ghost use Prim.Native.Nat.{_<_};
@@ -19,12 +22,6 @@ ghost use Rattle.parser.specs.Parsing.{lastLine};
 ghost use Rattle.parser.specs.Grammar.{atomOf, appOf, termOf};
 ghost use Rattle.parser.specs.Rows.{applicationKind, rowsOf};
 ghost use Rattle.parser.specs.Contracts.{Room, Answers, Applying, Equating, inside, kindAt};
-
-const OPEN: u32 = 18;
-
-const CLOSE: u32 = 19;
-
-const EQUALS: u32 = 23;
 
 // The term whose rows start at `root`, applied to the terms behind it, of which there are `more`; the next token is at `at`.
 pub fn apply(
@@ -97,10 +94,11 @@ pub fn atom(
         return push(out, used, at, [NUMERAL, t.start, t.length, value]);
     }
     if t.kind == OPEN {
+        let inside = at + 1;
         if left == 0 {
-            return Step::Refused(Refusal::ParenthesisLimit, t.line);
+            return Step::Refused(Refusal::ParenthesisLimit, line(tokens, at));
         }
-        let r = term(text, tokens, at + 1, left - 1, out, used);
+        let r = term(text, tokens, inside, left - 1, out, used);
         let Step::At(next, k, _) = r else {
             return r;
         };

@@ -7,6 +7,15 @@ pub use bytes::same;
 pub use names::METAVARIABLE;
 pub use names::NAME;
 pub use names::NUMERAL;
+pub use signs::ARROW;
+pub use signs::BAR;
+pub use signs::CLOSE;
+pub use signs::COLON;
+pub use signs::COMMA;
+pub use signs::DEFINES;
+pub use signs::DOUBLE_ARROW;
+pub use signs::EQUALS;
+pub use signs::OPEN;
 pub use tokens::Row;
 
 mod bytes; // comparing and reading bytes

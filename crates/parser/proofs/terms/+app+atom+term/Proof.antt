@@ -8,7 +8,7 @@ use Rattle.parser.specs.Rows.{rowsOf}
 use Rattle.parser.specs.Contracts.{inside}
 use Rattle.parser.proofs.TokenLaws.{token-there, line-in}
 use Rattle.parser.proofs.Readers.{stopped, moved, required-answers, Looped, loop-start, loop-turn}
-use Rattle.parser.proofs.TermLaws.{room-on, there, line-is, is-name, is-meta, is-numeral, is-open, is-none, too-deep, inner-stopped, inner-closed, atomAt, app-stopped, app-refused, app-applied, term-stopped, term-plain, second-stopped, root-room, term-equated}
+use Rattle.parser.proofs.TermLaws.{room-on, there, is-name, is-meta, is-numeral, is-open, is-none, too-deep, inner-stopped, inner-closed, atomAt, app-stopped, app-refused, app-applied, term-stopped, term-plain, second-stopped, root-room, term-equated}
 use borrow.Author.Needs.{needs}
 use Prim.Native.Nat.{ℕ, _<_}
 use borrow.Fn.Kinds.{In}
@@ -24,6 +24,7 @@ use Rattle.parser.proofs.terms.term.Kinds as term-kinds
 use Rattle.parser.proofs.terms.+app+atom+term.Lts-term as term-lts
 use Rattle.parser.proofs.terms.apply.Reads as apply-reads
 use Rattle.parser.proofs.terms.equate.Reads as equate-reads
+use Rattle.parser.proofs.tokens.line.Reads as line-reads
 use Rattle.parser.proofs.tokens.peek.Reads as peek-reads
 use Rattle.parser.proofs.tokens.push.Reads as push-reads
 use Rattle.parser.proofs.tokens.required.Reads as required-reads
@@ -305,6 +306,8 @@ atom-peek-requires : (t : ℕ) → atom-lts.Need-peek-requires (
   push-reads.Learnt,
   saturated-reads.Asked,
   saturated-reads.Learnt,
+  line-reads.Asked,
+  line-reads.Learnt,
   term-below t,
   term.Post,
   sign-reads.Asked,
@@ -319,6 +322,8 @@ atom-push-requires : (t : ℕ) → atom-lts.Need-push-requires (
   push-reads.Learnt,
   saturated-reads.Asked,
   saturated-reads.Learnt,
+  line-reads.Asked,
+  line-reads.Learnt,
   term-below t,
   term.Post,
   sign-reads.Asked,
@@ -339,6 +344,8 @@ atom-same-length : (t : ℕ) → atom-lts.Need-same-length (
   push-reads.Learnt,
   saturated-reads.Asked,
   saturated-reads.Learnt,
+  line-reads.Asked,
+  line-reads.Learnt,
   term-below t,
   term.Post,
   sign-reads.Asked,
@@ -353,6 +360,8 @@ atom-returns : (t : ℕ) → atom-lts.Need-returns (
   push-reads.Learnt,
   saturated-reads.Asked,
   saturated-reads.Learnt,
+  line-reads.Asked,
+  line-reads.Learnt,
   term-below t,
   term.Post,
   sign-reads.Asked,
@@ -373,6 +382,8 @@ atom-push-requires-2 : (t : ℕ) → atom-lts.Need-push-requires-2 (
   push-reads.Learnt,
   saturated-reads.Asked,
   saturated-reads.Learnt,
+  line-reads.Asked,
+  line-reads.Learnt,
   term-below t,
   term.Post,
   sign-reads.Asked,
@@ -393,6 +404,8 @@ atom-same-length-2 : (t : ℕ) → atom-lts.Need-same-length-2 (
   push-reads.Learnt,
   saturated-reads.Asked,
   saturated-reads.Learnt,
+  line-reads.Asked,
+  line-reads.Learnt,
   term-below t,
   term.Post,
   sign-reads.Asked,
@@ -407,6 +420,8 @@ atom-returns-2 : (t : ℕ) → atom-lts.Need-returns-2 (
   push-reads.Learnt,
   saturated-reads.Asked,
   saturated-reads.Learnt,
+  line-reads.Asked,
+  line-reads.Learnt,
   term-below t,
   term.Post,
   sign-reads.Asked,
@@ -428,6 +443,8 @@ atom-saturated-requires : (t : ℕ) → atom-lts.Need-saturated-requires (
   push-reads.Learnt,
   saturated-reads.Asked,
   saturated-reads.Learnt,
+  line-reads.Asked,
+  line-reads.Learnt,
   term-below t,
   term.Post,
   sign-reads.Asked,
@@ -442,6 +459,8 @@ atom-push-requires-3 : (t : ℕ) → atom-lts.Need-push-requires-3 (
   push-reads.Learnt,
   saturated-reads.Asked,
   saturated-reads.Learnt,
+  line-reads.Asked,
+  line-reads.Learnt,
   term-below t,
   term.Post,
   sign-reads.Asked,
@@ -462,6 +481,8 @@ atom-same-length-3 : (t : ℕ) → atom-lts.Need-same-length-3 (
   push-reads.Learnt,
   saturated-reads.Asked,
   saturated-reads.Learnt,
+  line-reads.Asked,
+  line-reads.Learnt,
   term-below t,
   term.Post,
   sign-reads.Asked,
@@ -476,6 +497,8 @@ atom-returns-3 : (t : ℕ) → atom-lts.Need-returns-3 (
   push-reads.Learnt,
   saturated-reads.Asked,
   saturated-reads.Learnt,
+  line-reads.Asked,
+  line-reads.Learnt,
   term-below t,
   term.Post,
   sign-reads.Asked,
@@ -492,6 +515,44 @@ atom-returns-3 t c =
     let saturated = c .before .before .before .saturated in
     is-numeral (args .text .now) (args .tokens .now) (args .left) (pre .1) (peek .ensures) (push3 .ensures .0) (if1 .left) (if2 .left) (if3 .taken) (saturated .ensures) (push3 .ensures .1)
 
+atom-add-inside : (t : ℕ) → atom-lts.Need-add-inside (
+  peek-reads.Asked,
+  peek-reads.Learnt,
+  push-reads.Asked,
+  push-reads.Learnt,
+  saturated-reads.Asked,
+  saturated-reads.Learnt,
+  line-reads.Asked,
+  line-reads.Learnt,
+  term-below t,
+  term.Post,
+  sign-reads.Asked,
+  sign-reads.Learnt,
+) (atom-at t) atom.Post
+atom-add-inside t c =
+    let args = c .before .before .before .before .before .before .before .before .before .before .args in
+    let pre = c .before .before .before .before .before .before .before .before .before .before .pre in
+    let peek = c .before .before .before .before .before .before .before .before .peek in
+    let if4 = c .if4 in
+    let h = there (args .text .now) (args .tokens .now) (args .left) (pre .1) (peek .ensures) (if4 .taken) (omega arith) in
+    omega (arith, (pre .1 .small))
+
+atom-line-requires : (t : ℕ) → atom-lts.Need-line-requires (
+  peek-reads.Asked,
+  peek-reads.Learnt,
+  push-reads.Asked,
+  push-reads.Learnt,
+  saturated-reads.Asked,
+  saturated-reads.Learnt,
+  line-reads.Asked,
+  line-reads.Learnt,
+  term-below t,
+  term.Post,
+  sign-reads.Asked,
+  sign-reads.Learnt,
+) (atom-at t) atom.Post
+atom-line-requires t c κs = search needs
+
 atom-returns-4 : (t : ℕ) → atom-lts.Need-returns-4 (
   peek-reads.Asked,
   peek-reads.Learnt,
@@ -499,41 +560,24 @@ atom-returns-4 : (t : ℕ) → atom-lts.Need-returns-4 (
   push-reads.Learnt,
   saturated-reads.Asked,
   saturated-reads.Learnt,
+  line-reads.Asked,
+  line-reads.Learnt,
   term-below t,
   term.Post,
   sign-reads.Asked,
   sign-reads.Learnt,
 ) (atom-at t) atom.Post
 atom-returns-4 t c =
-    let args = c .before .before .before .before .before .before .before .before .before .before .before .args in
-    let pre = c .before .before .before .before .before .before .before .before .before .before .before .pre in
-    let peek = c .before .before .before .before .before .before .before .before .before .peek in
-    let if1 = c .before .before .before .before .before .before .before .if1 in
-    let if2 = c .before .before .before .before .before .if2 in
-    let if3 = c .before .before .before .if3 in
-    let if4 = c .before .if4 in
-    let if5 = c .if5 in
-    too-deep (args .text .now) (args .tokens .now) (args .at) (args .left) (args .used) _ (is-open (args .text .now) (args .tokens .now) (args .left) (pre .1) (peek .ensures) (if1 .left) (if2 .left) (if3 .left) (if4 .taken)) (if5 .taken) (line-is (args .text .now) (args .tokens .now) (args .left) (pre .1) (peek .ensures) (there (args .text .now) (args .tokens .now) (args .left) (pre .1) (peek .ensures) (if4 .taken) (omega arith)))
-
-atom-add-term : (t : ℕ) → atom-lts.Need-add-term (
-  peek-reads.Asked,
-  peek-reads.Learnt,
-  push-reads.Asked,
-  push-reads.Learnt,
-  saturated-reads.Asked,
-  saturated-reads.Learnt,
-  term-below t,
-  term.Post,
-  sign-reads.Asked,
-  sign-reads.Learnt,
-) (atom-at t) atom.Post
-atom-add-term t c =
-    let args = c .before .before .before .before .before .before .before .before .before .before .before .args in
-    let pre = c .before .before .before .before .before .before .before .before .before .before .before .pre in
-    let peek = c .before .before .before .before .before .before .before .before .before .peek in
-    let if4 = c .before .if4 in
-    let h = there (args .text .now) (args .tokens .now) (args .left) (pre .1) (peek .ensures) (if4 .taken) (omega arith) in
-    omega (arith, (pre .1 .small))
+    let args = c .before .before .before .before .before .before .before .before .before .before .before .before .args in
+    let pre = c .before .before .before .before .before .before .before .before .before .before .before .before .pre in
+    let peek = c .before .before .before .before .before .before .before .before .before .before .peek in
+    let if1 = c .before .before .before .before .before .before .before .before .if1 in
+    let if2 = c .before .before .before .before .before .before .if2 in
+    let if3 = c .before .before .before .before .if3 in
+    let if4 = c .before .before .if4 in
+    let if5 = c .before .if5 in
+    let line = c .line in
+    too-deep (args .text .now) (args .tokens .now) (args .at) (args .left) (args .used) _ (is-open (args .text .now) (args .tokens .now) (args .left) (pre .1) (peek .ensures) (if1 .left) (if2 .left) (if3 .left) (if4 .taken)) (if5 .taken) (line .ensures)
 
 atom-sub-term : (t : ℕ) → atom-lts.Need-sub-term (
   peek-reads.Asked,
@@ -542,6 +586,8 @@ atom-sub-term : (t : ℕ) → atom-lts.Need-sub-term (
   push-reads.Learnt,
   saturated-reads.Asked,
   saturated-reads.Learnt,
+  line-reads.Asked,
+  line-reads.Learnt,
   term-below t,
   term.Post,
   sign-reads.Asked,
@@ -556,6 +602,8 @@ atom-term-requires : (t : ℕ) → atom-lts.Need-term-requires (
   push-reads.Learnt,
   saturated-reads.Asked,
   saturated-reads.Learnt,
+  line-reads.Asked,
+  line-reads.Learnt,
   term-below t,
   term.Post,
   sign-reads.Asked,
@@ -576,6 +624,8 @@ atom-enum-known-r : (t : ℕ) → atom-lts.Need-enum-known-r (
   push-reads.Learnt,
   saturated-reads.Asked,
   saturated-reads.Learnt,
+  line-reads.Asked,
+  line-reads.Learnt,
   term-below t,
   term.Post,
   sign-reads.Asked,
@@ -590,6 +640,8 @@ atom-same-length-4 : (t : ℕ) → atom-lts.Need-same-length-4 (
   push-reads.Learnt,
   saturated-reads.Asked,
   saturated-reads.Learnt,
+  line-reads.Asked,
+  line-reads.Learnt,
   term-below t,
   term.Post,
   sign-reads.Asked,
@@ -604,6 +656,8 @@ atom-returns-5 : (t : ℕ) → atom-lts.Need-returns-5 (
   push-reads.Learnt,
   saturated-reads.Asked,
   saturated-reads.Learnt,
+  line-reads.Asked,
+  line-reads.Learnt,
   term-below t,
   term.Post,
   sign-reads.Asked,
@@ -629,6 +683,8 @@ atom-sign-requires : (t : ℕ) → atom-lts.Need-sign-requires (
   push-reads.Learnt,
   saturated-reads.Asked,
   saturated-reads.Learnt,
+  line-reads.Asked,
+  line-reads.Learnt,
   term-below t,
   term.Post,
   sign-reads.Asked,
@@ -643,6 +699,8 @@ atom-same-length-5 : (t : ℕ) → atom-lts.Need-same-length-5 (
   push-reads.Learnt,
   saturated-reads.Asked,
   saturated-reads.Learnt,
+  line-reads.Asked,
+  line-reads.Learnt,
   term-below t,
   term.Post,
   sign-reads.Asked,
@@ -657,6 +715,8 @@ atom-returns-6 : (t : ℕ) → atom-lts.Need-returns-6 (
   push-reads.Learnt,
   saturated-reads.Asked,
   saturated-reads.Learnt,
+  line-reads.Asked,
+  line-reads.Learnt,
   term-below t,
   term.Post,
   sign-reads.Asked,
@@ -683,6 +743,8 @@ atom-returns-7 : (t : ℕ) → atom-lts.Need-returns-7 (
   push-reads.Learnt,
   saturated-reads.Asked,
   saturated-reads.Learnt,
+  line-reads.Asked,
+  line-reads.Learnt,
   term-below t,
   term.Post,
   sign-reads.Asked,
@@ -943,6 +1005,8 @@ pub +app+atom+term-spec : {M : Type 1} → statement M
       push-reads.Learnt,
       saturated-reads.Asked,
       saturated-reads.Learnt,
+      line-reads.Asked,
+      line-reads.Learnt,
       term-below t,
       term.Post,
       sign-reads.Asked,
@@ -961,8 +1025,9 @@ pub +app+atom+term-spec : {M : Type 1} → statement M
     (atom-push-requires-3 t)
     (atom-same-length-3 t)
     (atom-returns-3 t)
+    (atom-add-inside t)
+    (atom-line-requires t)
     (atom-returns-4 t)
-    (atom-add-term t)
     (atom-sub-term t)
     (atom-term-requires t)
     (atom-enum-known-r t)
