@@ -6,21 +6,31 @@ use parser::Answer;
 use words::Lexed;
 use words::Limits;
 use words::Row;
+ghost use mathlib.Core.Bool.{_&&_};
+ghost use mathlib.Core.Path.{_≡_};
 ghost use Prim.Native.Nat.{_+_, _^_, _≤_, _<_};
+ghost use lib.Dec.{leb};
+ghost use lib.ListN.{drop, length, replicate};
+ghost use Rattle.parser_replay.specs.Rows.{areAll, isAll, rowOf};
 
 // What each number of the lent rows is before a call.
 const JUNK: u32 = 0xA5A5_A5A5;
 
-fn fill(rows: &mut [Row]) {
+// Makes each number of the rows the value.
+fn fill(rows: &mut [Row], value: u32)
+    ensures { λ _. ⌜ now (rows .exit) ≡ replicate (length (now (rows .entry))) (rowOf value) ⌝ }
+{
     let mut i = 0;
     while i < rows.len() {
-        rows[i] = [JUNK, JUNK, JUNK, JUNK];
+        rows[i] = [value, value, value, value];
         i += 1;
     }
 }
 
-// Whether there are rows from a place on, or it is their end, and each of their numbers is the value.
-fn are_all(rows: &[Row], from: usize, value: u32) -> bool {
+// Whether a place is within the rows or their end, and each number from there on is the value.
+fn are_all(rows: &[Row], from: usize, value: u32) -> bool
+    ensures { λ r. ⌜ r ≡ leb from (length (now (rows .entry))) && areAll value (drop from (now (rows .entry))) ⌝ }
+{
     if rows.len() < from {
         return false;
     }
@@ -34,7 +44,9 @@ fn are_all(rows: &[Row], from: usize, value: u32) -> bool {
     true
 }
 
-fn is_all(row: Row, value: u32) -> bool {
+fn is_all(row: Row, value: u32) -> bool
+    ensures { λ r. ⌜ r ≡ isAll value row ⌝ }
+{
     if row[0] != value {
         return false;
     }
@@ -120,8 +132,8 @@ fn count_tokens(text: &[u8], limits: Limits, tokens: &mut [Row]) -> usize {
 // Parses a text and lists the answer.
 fn list(text: &[u8], limits: Limits, tokens: &mut [Row], rows: &mut [Row]) {
     let count = count_tokens(text, limits, tokens);
-    fill(tokens);
-    fill(rows);
+    fill(tokens, JUNK);
+    fill(rows, JUNK);
     let answer = parser::parse_text(text, limits, tokens, rows);
     list_answer(answer, tokens, count, rows);
 }
