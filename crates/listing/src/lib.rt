@@ -1,4 +1,6 @@
 // The token listing of a text, written to standard output.
+pub mod recorded; // recorded lists of texts
+
 use libc::STDOUT_FILENO;
 use words::Lexed;
 use words::Limits;
@@ -12,14 +14,17 @@ pub fn list(text: &[u8], limits: Limits, rows: &mut [Row])
 {
     match words::lex(text, limits, rows) {
         Lexed::Tokens(n) => list_rows(text, rows, n),
-        Lexed::Refused(r, line) => {
-            io::write_all(STDOUT_FILENO, b"refused ");
-            io::print_decimal(STDOUT_FILENO, words::number(r) as u64);
-            io::write_all(STDOUT_FILENO, b" line ");
-            io::print_decimal(STDOUT_FILENO, line as u64);
-            io::write_all(STDOUT_FILENO, b"\n");
-        }
+        Lexed::Refused(r, line) => write_refusal(words::number(r), line),
     }
+}
+
+// Writes the line `refused N line L`.
+pub fn write_refusal(number: u32, line: u32) {
+    io::write_all(STDOUT_FILENO, b"refused ");
+    io::print_decimal(STDOUT_FILENO, number as u64);
+    io::write_all(STDOUT_FILENO, b" line ");
+    io::print_decimal(STDOUT_FILENO, line as u64);
+    io::write_all(STDOUT_FILENO, b"\n");
 }
 
 fn list_rows(text: &[u8], rows: &[Row], count: usize) {

@@ -7,19 +7,19 @@ use Rattle.words_replay.proofs.replay.Statement.{statement}
 use Rattle.words_replay.proofs.replay.Tie as tie
 
 abbrev Inv-loop : tie.InvT-loop
-Inv-loop list rows₀ at₀ number₀ rows at number = (number ≤ at + 1) × (length rows ≡ length rows₀)
+Inv-loop list rows₀ end at₀ number₀ rows at number = (number ≤ at + 1) × (length rows ≡ length rows₀)
 
 abbrev μ-loop : tie.MeasureT-loop
-μ-loop list rows₀ at₀ number₀ rows at number = length list - at
+μ-loop list rows₀ end at₀ number₀ rows at number = end - at
+
+end-requires : tie.Need-end-requires Inv-loop μ-loop
+end-requires c κs = search needs
 
 loop-holds : tie.Need-loop-holds Inv-loop μ-loop
 loop-holds c = search needs
 
-same-length : tie.Need-same-length Inv-loop μ-loop
-same-length c = search needs
-
-returns : tie.Need-returns Inv-loop μ-loop
-returns c = search needs
+write-heading-requires : tie.Need-write-heading-requires Inv-loop μ-loop
+write-heading-requires c κs = search needs
 
 replay-one-requires : tie.Need-replay-one-requires Inv-loop μ-loop
 replay-one-requires c κs = search needs
@@ -33,11 +33,11 @@ loop-less c = search needs
 loop-again : tie.Need-loop-again Inv-loop μ-loop
 loop-again c = search needs
 
-same-length-2 : tie.Need-same-length-2 Inv-loop μ-loop
-same-length-2 c = search needs
+same-length : tie.Need-same-length Inv-loop μ-loop
+same-length c = search needs
 
-returns-2 : tie.Need-returns-2 Inv-loop μ-loop
-returns-2 c = search needs
+returns : tie.Need-returns Inv-loop μ-loop
+returns c = search needs
 
 pub replay-spec : {M : Type 1} → statement M
 replay-spec =
@@ -45,12 +45,12 @@ replay-spec =
     (tie.spec
     Inv-loop
     μ-loop
+    end-requires
     loop-holds
-    same-length
-    returns
+    write-heading-requires
     replay-one-requires
     add-number
     loop-less
     loop-again
-    same-length-2
-    returns-2)
+    same-length
+    returns)

@@ -1,8 +1,8 @@
 -- `read_decimal` is safe and ends within 21 bytes: at most 20 digits are read, and the value stays small.
 use Prim.Native.Nat.{_≤_, _-_}
 use borrow.Author.Needs.{needs}
-use Rattle.words_replay.proofs.read_decimal.Statement.{statement}
-use Rattle.words_replay.proofs.read_decimal.Tie as tie
+use Rattle.listing.proofs.recorded.read_decimal.Statement.{statement}
+use Rattle.listing.proofs.recorded.read_decimal.Tie as tie
 
 abbrev Inv-loop : tie.InvT-loop
 Inv-loop list at value₀ i₀ value i = (i ≤ 20) × (value ≤ 1048576)

@@ -1,0 +1,2 @@
+-- What the proofs of `parser_replay` share.
+pub mod Laws

@@ -1,0 +1,2 @@
+-- What the contracts of `parser_replay` cite.
+pub mod Rows
