@@ -1,7 +1,15 @@
 // Rows of bindings.
+ghost use mathlib.Core.Path.{_≡_};
+ghost use mathlib.Core.List.{[], _∷_};
+ghost use lib.ListN.{set};
+ghost use Rattle.arena.specs.Rows.{column};
+ghost use Rattle.samples.specs.Same.{Same};
+ghost use Rattle.unifier.specs.Contracts.{Tells};
 
 // Writes a row, unless there is no such place.
-pub fn put(rows: &mut [[u32; 2]], at: u32, value: u32, listed: u32) {
+pub fn put(rows: &mut [[u32; 2]], at: u32, value: u32, listed: u32)
+    ensures { λ _. ⌜ now (rows .exit) ≡ set (now (rows .entry)) at (value ∷ listed ∷ []) ⌝ }
+{
     let i = at as usize;
     if i < rows.len() {
         rows[i] = [value, listed];
@@ -21,15 +29,14 @@ pub fn bind_chain(rows: &mut [[u32; 2]], count: u32) {
 }
 
 // Whether two lists of rows are the same.
-pub fn are_same(left: &[[u32; 2]], right: &[[u32; 2]]) -> bool {
+pub fn are_same(left: &[[u32; 2]], right: &[[u32; 2]]) -> bool
+    ensures { λ r. ⌜ Tells r (Same (now (left .entry)) (now (right .entry))) ⌝ }
+{
     if left.len() != right.len() {
         return false;
     }
     let mut i = 0;
     while i < left.len() {
-        if right.len() <= i {
-            return false;
-        }
         if left[i][0] != right[i][0] {
             return false;
         }
@@ -42,7 +49,9 @@ pub fn are_same(left: &[[u32; 2]], right: &[[u32; 2]]) -> bool {
 }
 
 // The value of a variable; 0 where there is no such row.
-pub fn value(rows: &[[u32; 2]], at: u32) -> u32 {
+pub fn value(rows: &[[u32; 2]], at: u32) -> u32
+    ensures { λ r. ⌜ r ≡ column 0 (now (rows .entry)) at ⌝ }
+{
     let i = at as usize;
     if i < rows.len() {
         return rows[i][0];
@@ -51,7 +60,9 @@ pub fn value(rows: &[[u32; 2]], at: u32) -> u32 {
 }
 
 // The variable at a position of the trail; 0 where there is no such row.
-pub fn listed(rows: &[[u32; 2]], at: u32) -> u32 {
+pub fn listed(rows: &[[u32; 2]], at: u32) -> u32
+    ensures { λ r. ⌜ r ≡ column 1 (now (rows .entry)) at ⌝ }
+{
     let i = at as usize;
     if i < rows.len() {
         return rows[i][1];

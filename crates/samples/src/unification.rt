@@ -1,6 +1,8 @@
 // One call of `unify`, `occurs` or `check_bindings` on storage that is tested first, and of `undo` after it.
 use super::report;
 use super::rows;
+ghost use Rattle.samples.specs.Same.{Clean};
+ghost use Rattle.unifier.specs.Contracts.{Tells};
 
 // The counts of storage, and two references.
 pub struct Case {
@@ -24,7 +26,9 @@ pub enum Found {
 }
 
 // Whether all scratch is zero.
-pub fn is_clean(links: &[[u32; 2]], marks: &[[u32; 2]], stack: &[[u32; 3]]) -> bool {
+pub fn is_clean(links: &[[u32; 2]], marks: &[[u32; 2]], stack: &[[u32; 3]]) -> bool
+    ensures { λ r. ⌜ Tells r (Clean (now (links .entry)) (now (marks .entry)) (now (stack .entry))) ⌝ }
+{
     if !checks::are_zero_pairs(links, 0) {
         return false;
     }
