@@ -1,15 +1,12 @@
 -- The ways out of `pred`, `theorem` and `declaration`.
-use mathlib.Core.Path.{_≡_, refl, sym, ap, ap₂, _∙_, subst}
+use mathlib.Core.Path.{_≡_, refl, sym, ap, ap₂, _∙_}
 use mathlib.Core.Logic.{_⊎_, inl, inr, _≢_}
-use mathlib.Core.Bool.{Bool, true, false}
-use mathlib.Core.List.{List, [], _∷_, _++_, append-assoc, append-nil}
+use mathlib.Core.List.{List, [], _∷_, _++_, append-assoc}
 use Prim.Native.Nat.{ℕ, zero, suc, _+_, _-_, _≤_, _<_}
-use native.Mathlib.Nat.{add-zero}
 use native.Mathlib.Omega.{arith}
-use borrow.Author.Tests.{eq-eqb, ne-eqb}
-use lib.Dec.{eqb}
+use borrow.Author.Tests.{ne-eqb}
 use native.Mathlib.Decide.{decLt}
-use lib.ListN.{length, take, drop, set, getD, length-append, length-set, length-take, drop-of-length-le}
+use lib.ListN.{length, take, drop, set, getD, length-append, length-set, drop-of-length-le}
 use lib.Seq.{drop-cons, take-set-lt, set-at, getD-at, getD-take, take-at, take-take, length-take-le}
 use Rattle.words.specs.Bytes.{sameBytes}
 use Rattle.words.specs.Lexer.{partOf}
@@ -18,13 +15,13 @@ use Rattle.parser.specs.declared.Refusal.{Refusal}
 use Rattle.parser.specs.declared.Refusal.the-variants.{OtherKeyword, DeclarationExpected}
 use Rattle.parser.specs.declared.Token.{Token}
 use Rattle.parser.specs.declared.Step.{Step}
-use Rattle.parser.specs.declared.Step.the-variants.{At, Absent, Refused}
+use Rattle.parser.specs.declared.Step.the-variants.{Refused}
 use Rattle.parser.specs.Source.{Place, place, Source, one, Binders, Tactic, Declaration, theorem}
-use Rattle.parser.specs.Parsing.{Tokens, tokenOf, kindOf, lineOf, lastLine, Parsed, parsed, absent, refused, plus, follow, continued, behind, repeat}
-use Rattle.parser.specs.Declarations.{propName, endsInProp, separated, Declared, sortOf, ctorOf, predOf, ruleOf, defOf, theoremOf, evalOf, checkOf, bodyOf, declarationOf}
+use Rattle.parser.specs.Parsing.{Tokens, tokenOf, lineOf, lastLine, Parsed, parsed, absent, refused, plus, follow, continued, behind, repeat}
+use Rattle.parser.specs.Declarations.{propName, endsInProp, separated, sortOf, ctorOf, predOf, ruleOf, defOf, theoremOf, evalOf, checkOf, bodyOf, declarationOf}
 use Rattle.parser.specs.Rows.{Rows, row, rowsOf, rowsOfAll, nameRows, bindersRows, tacticRows, declarationRows, declaredRows}
-use Rattle.parser.specs.Contracts.{Shown, on, nothing, no as stop, shown, told, Within, Answers, Room, numbered}
-use Rattle.parser.proofs.Readers.{no-path, got, moved}
+use Rattle.parser.specs.Contracts.{on, no as stop, told, Answers, Room, numbered}
+use Rattle.parser.proofs.Readers.{no-path}
 use Rattle.parser.proofs.PartLaws.{Along}
 
 -- Lists of names with a last one.

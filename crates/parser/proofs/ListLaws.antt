@@ -1,9 +1,8 @@
 -- Laws of lists of items, and of items behind a sign.
 use mathlib.Core.Path.{_≡_, refl, sym, ap, ap₂, _∙_, subst}
 use mathlib.Core.Logic.{_≢_}
-use mathlib.Core.Bool.{Bool, true, false}
 use mathlib.Core.List.{List, [], _∷_, _++_, append-assoc, append-nil}
-use Prim.Native.Nat.{ℕ, zero, suc, _+_, _-_, _≤_, _<_}
+use Prim.Native.Nat.{ℕ, suc, _+_, _-_, _≤_, _<_}
 use native.Mathlib.Omega.{arith}
 use borrow.Author.Tests.{eq-eqb, ne-eqb}
 use lib.Dec.{eqb}
@@ -12,7 +11,7 @@ use lib.Seq.{drop-drop}
 use Rattle.parser.specs.declared.Refusal.{Refusal}
 use Rattle.parser.specs.declared.Step.{Step}
 use Rattle.parser.specs.declared.Step.the-variants.{At, Absent, Refused}
-use Rattle.parser.specs.Parsing.{Tokens, tokenOf, kindOf, placeOf, lineOf, lastLine, signOf, when, Parsed, parsed, absent, refused, plus, follow, behind, repeat}
+use Rattle.parser.specs.Parsing.{Tokens, tokenOf, kindOf, placeOf, lineOf, lastLine, signOf, Parsed, parsed, absent, refused, plus, follow, behind, repeat}
 use Rattle.words.specs.Names.{nameKind}
 use Rattle.parser.specs.declared.Refusal.the-variants.{NameExpected}
 use Rattle.parser.specs.declared.Token.{Token}
@@ -22,8 +21,8 @@ use Rattle.parser.proofs.TokenLaws.{token-there}
 use Rattle.parser.proofs.TermLaws.{leaf, closes, appAt, firm-app}
 use Rattle.parser.specs.Rows.{Rows, rowsOf, rowsOfAll, nameRows}
 use Rattle.parser.specs.Source.{Source, one}
-use Rattle.parser.specs.Contracts.{Shown, on, nothing, no, shown, told, Within, Answers, Lists, Room, Signed}
-use Rattle.parser.proofs.Readers.{no-path, Firm, firmly, firm-plus, firm-follow, firm-repeat, firm-when, firm-sign, firm-parsed, firm-refused, Stopped, Got, got, moved, goes-on, passed, within-stopped, is-absent, is-refused, told-plus, Looped, repeat-end, repeat-refused}
+use Rattle.parser.specs.Contracts.{on, no, shown, told, Within, Answers, Lists, Room, Signed}
+use Rattle.parser.proofs.Readers.{no-path, Firm, firmly, firm-plus, firm-follow, firm-repeat, firm-when, firm-sign, firm-parsed, firm-refused, Stopped, got, moved, goes-on, passed, within-stopped, is-absent, is-refused, told-plus, Looped, repeat-end, repeat-refused}
 
 -- An item behind a sign.
 module _ {A : Type 0} (kind : ℕ) (item : Tokens → Parsed A) (ts : Tokens) (p : ℕ) where
@@ -141,13 +140,6 @@ module _ {A : Type 0} (item : Tokens → Parsed A) (rows : A → Rows) (ts : Tok
               (omega arith, l .to, l .above, l .fits);
           counted = λ next used m g a i z. let c = l .counted in let w : m ≡ n = cc in let v : a ≡ l .new = cc in let o : length a ≡ length (l .new) = ap length v in omega arith;
         }
-
-    pub list-stopped : {r : Step} {out′ : Rows} → Answers 1 rows (item (drop p ts)) ts p u out r out′ → Stopped r → Firm (item (drop p ts)) → Lists 0 rows (repeat item (drop q ts) 0 0 []) ts q k out₀ r out′
-    list-stopped {r} {out′} h s f = record {
-      answers = firmly 0 (rowsOfAll rows) (repeat item (drop q ts) 0 0 []) ts q k out₀ r out′ (firm-repeat item (drop q ts) 0 0 [])
-          (refusal-is h s f q (take k out₀) out′ (repeat item (drop q ts) 0 0 []) (λ _ _ e. l .same [] ∙ repeat-refused item (drop p ts) (p - q) (l .new) e)) (within-stopped 0 ts q k r s);
-      counted = λ _ _ _ g. absurd (subst Stopped g s);
-    }
 
     module _ {r : Step} {out′ : Rows} (h : Answers 1 rows (item (drop p ts)) ts p u out r out′) where
       pub list-absent : r ≡ Absent → Lists 0 rows (repeat item (drop q ts) 0 0 []) ts q k out₀ (At p u n) out′

@@ -1,14 +1,14 @@
 -- Laws of what is read part by part behind a row that is written at the end: clauses, binders and declarations.
 use mathlib.Core.Path.{_≡_, refl, sym, ap, ap₂, _∙_, subst}
 use mathlib.Core.List.{List, [], _∷_, _++_, append-assoc, append-nil}
-use Prim.Native.Nat.{ℕ, zero, suc, _+_, _-_, _≤_, _<_}
+use Prim.Native.Nat.{ℕ, _+_, _-_, _≤_, _<_}
 use native.Mathlib.Nat.{add-zero}
 use native.Mathlib.Numerals.{add-one}
 use native.Mathlib.Omega.{arith}
-use lib.ListN.{length, take, drop, set, getD, length-take}
+use lib.ListN.{length, take, drop, set, getD}
 use lib.Seq.{take-suc, take-set-lt, set-at, length-take-le, drop-drop}
 use Rattle.parser.specs.declared.Step.{Step}
-use Rattle.parser.specs.declared.Step.the-variants.{At, Absent, Refused}
+use Rattle.parser.specs.declared.Step.the-variants.{At, Refused}
 use borrow.Author.Tests.{eq-eqb, ne-eqb}
 use Rattle.words.specs.Names.{nameKind}
 use Rattle.parser.specs.declared.Refusal.the-variants.{NameExpected}
@@ -17,8 +17,8 @@ use Rattle.parser.specs.Grammar.{nameOf}
 use Rattle.parser.proofs.TokenLaws.{token-there}
 use Rattle.parser.specs.Parsing.{Tokens, kindOf, placeOf, lineOf, lastLine, Parsed, parsed, absent, refused, plus, follow, signOf}
 use Rattle.parser.specs.Rows.{Rows}
-use Rattle.parser.specs.Contracts.{Shown, on, nothing, no, shown, told, signed, Within, Answers, Room, Signed}
-use Rattle.parser.proofs.Readers.{no-path, Firm, firmly, Stopped, got, moved, goes-on, passed, within-stopped, is-absent, told-plus}
+use Rattle.parser.specs.Contracts.{on, no, told, signed, Answers, Room, Signed}
+use Rattle.parser.proofs.Readers.{no-path, Firm, Stopped, got, moved, goes-on, passed, within-stopped, is-absent, told-plus}
 
 -- From place p and u rows on, a reader took the tokens before q and wrote the rows in `body` behind a free one; what it comes to is what `rest` comes to.
 pub record Along {D : Type 0} (rowsD : D → Rows) (reader : Parsed D) (ts : Tokens) (p u : ℕ) (before : Rows) (q k : ℕ) (out : Rows) (rest : Parsed D) (body : Rows) : Type 0 where

@@ -3,11 +3,9 @@ use mathlib.Core.Path.{_≡_, refl, sym, ap, ap₂, _∙_, subst}
 use mathlib.Core.Logic.{⊎-elim}
 use mathlib.Core.List.{List, [], _∷_, _++_, append-assoc, append-nil}
 use Prim.Native.Nat.{ℕ, zero, suc, _+_, _-_, _≤_, _<_}
-use native.Mathlib.Nat.{add-zero, add-assoc}
-use native.Mathlib.Omega.{arith, by-contra}
-use native.Mathlib.Decide.{decLt}
-use lib.ListN.{length, getD, take, drop, drop-of-length-le, length-append, length-drop}
-use lib.Seq.{drop-cons, drop-drop}
+use native.Mathlib.Omega.{arith}
+use lib.ListN.{length, take, drop, length-append, length-drop}
+use lib.Seq.{drop-drop}
 use types.Run.{OneOf}
 use denote.Enum.Declared.{tagOf}
 use Rattle.parser.proofs.Step.{the-type}
@@ -19,7 +17,7 @@ use mathlib.Core.Bool.{Bool, true, false}
 use lib.Dec.{eqb}
 use Rattle.parser.specs.Parsing.{Tokens, kindOf, lineOf, when, Parsed, parsed, absent, refused, plus, follow, required, continued, repeat, signOf}
 use Rattle.parser.specs.Rows.{Rows, rowsOfAll}
-use Rattle.parser.specs.Contracts.{Shown, on, nothing, no, shown, told, Within, Answers, requiredStep, signed}
+use Rattle.parser.specs.Contracts.{on, nothing, no, shown, told, Within, Answers, requiredStep}
 
 pub no-path : {A : Type 0} → _≡_ {A = ℕ} 0 1 → A
 no-path e = absurd (omega arith)

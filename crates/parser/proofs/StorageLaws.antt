@@ -1,14 +1,14 @@
 -- The ways out of `parse` and `parse_text`.
 use mathlib.Core.Path.{_≡_, refl, sym, ap, ap₂, _∙_, subst}
 use mathlib.Core.Bool.{Bool, true, false, cond, _||_}
-use mathlib.Core.List.{List, [], _∷_, _++_}
-use Prim.Native.Nat.{ℕ, _+_, _-_, _≤_, _<_, min}
+use mathlib.Core.List.{List, _++_}
+use Prim.Native.Nat.{ℕ, _+_, _-_, _≤_, _<_}
 use native.Mathlib.Omega.{arith}
 use borrow.Author.Tests.{lt-ltb, le-ltb}
 use lib.Dec.{ltb}
-use lib.ListN.{length, take, drop, replicate, length-append, length-replicate}
+use lib.ListN.{length, take, replicate}
 use lib.Seq.{length-take-le, take-at}
-use Rattle.words.specs.Lexer.{countOf, cappedOf, lexOf, zeroRow, lexAnswer, lexRows, Lexing, answerOf as lexedOf, rowsOf as lexedRows}
+use Rattle.words.specs.Lexer.{countOf, cappedOf, lexOf, zeroRow, Lexing, answerOf as lexedOf, rowsOf as lexedRows}
 use Rattle.words.specs.Tokens.{Reading}
 use Rattle.words.specs.Tokens.Reading.{tokens, refused as unread}
 use Rattle.words.specs.declared.Limits.{Limits}
@@ -19,7 +19,7 @@ use Rattle.words.specs.declared.Refusal.the-variants.{Storage as unlent}
 use Rattle.parser.specs.Parsing.{Tokens, Parsed, parsed, absent, refused}
 use Rattle.parser.specs.Declarations.{Declared, parseOf}
 use Rattle.parser.specs.Rows.{Rows, rowsOfAll, declaredRows}
-use Rattle.parser.specs.Contracts.{Lists, Answers, Counted}
+use Rattle.parser.specs.Contracts.{Lists}
 use Rattle.parser.specs.Parser.{answerOf, rowsAfter, tooShort, Parsing, parsedText, tokensAfter, tokensOf, shortFor, textOf, ParsingText}
 use Rattle.parser.specs.declared.Refusal.{Refusal}
 use Rattle.parser.specs.declared.Refusal.the-variants.{Storage, Text}

@@ -1,8 +1,8 @@
 -- The ways out of `tactic`.
-use mathlib.Core.Path.{_≡_, refl, sym, ap, ap₂, _∙_, subst}
+use mathlib.Core.Path.{_≡_, refl, sym, ap, ap₂, _∙_}
 use mathlib.Core.Logic.{_≢_}
-use mathlib.Core.List.{List, [], _∷_, _++_, append-nil}
-use Prim.Native.Nat.{ℕ, _+_, _≤_, _<_}
+use mathlib.Core.List.{_++_, append-nil}
+use Prim.Native.Nat.{ℕ, _+_, _≤_}
 use native.Mathlib.Omega.{arith}
 use borrow.Author.Tests.{eq-eqb, ne-eqb}
 use lib.Dec.{eqb}
@@ -17,9 +17,9 @@ use Rattle.parser.specs.Parsing.{Tokens, when, kindOf, lineOf, lastLine,
 use Rattle.parser.specs.Grammar.{nameOf}
 use Rattle.parser.specs.Declarations.{byOf, tacticOf}
 use Rattle.parser.specs.Rows.{Rows, nameRows, tacticRows}
-use Rattle.parser.specs.Contracts.{Shown, on, nothing, no, shown, told, Within, Answers, Counted, Room}
+use Rattle.parser.specs.Contracts.{on, no, told, Within, Answers}
 use Rattle.parser.proofs.TokenLaws.{token-there}
-use Rattle.parser.proofs.Readers.{no-path, Firm, firmly, firm-plus, firm-parsed, firm-refused, firm-when, firm-follow, Stopped, got, moved, goes-on, passed, within-stopped, is-absent, is-refused, told-plus}
+use Rattle.parser.proofs.Readers.{no-path, Firm, firm-plus, firm-parsed, firm-refused, firm-when, firm-follow, told-plus}
 use Rattle.parser.proofs.ListLaws.{firm-name}
 
 -- the name's rows are the tactic's

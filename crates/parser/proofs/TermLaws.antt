@@ -1,6 +1,6 @@
 -- The ways out of `atom`, `app` and `term`.
 use mathlib.Core.Path.{_≡_, refl, sym, ap, ap₂, _∙_, subst}
-use mathlib.Core.Logic.{_⊎_, inl, inr, ⊎-elim, _≢_}
+use mathlib.Core.Logic.{_⊎_, inl, inr, _≢_}
 use mathlib.Core.List.{List, [], _∷_, _++_, append-assoc, append-nil}
 use Prim.Native.Nat.{ℕ, zero, suc, _+_, _-_, _≤_, _<_, min}
 use native.Mathlib.Nat.{add-zero}
@@ -8,24 +8,23 @@ use native.Mathlib.Numerals.{add-one}
 use native.Mathlib.Omega.{arith}
 use borrow.Author.Tests.{eq-eqb, ne-eqb}
 use lib.Dec.{eqb}
-use lib.ListN.{length, getD, take, drop, set, length-append, length-drop, length-take}
-use lib.Seq.{drop-cons, drop-drop, take-suc-set, take-set-lt, set-at, getD-at, getD-take, length-take-le}
+use lib.ListN.{length, getD, take, drop, set, length-append, length-take}
+use lib.Seq.{drop-drop, take-suc-set, take-set-lt, set-at, getD-at, getD-take, length-take-le}
 use Rattle.words.specs.Names.{nameKind, metavariableKind, numeralKind}
 use Rattle.parser.specs.declared.Refusal.{Refusal}
-use Rattle.parser.specs.declared.Refusal.the-variants.{ParenthesisLimit, TermExpected, OnlyNames, LeftOfEquals}
+use Rattle.parser.specs.declared.Refusal.the-variants.{ParenthesisLimit, TermExpected}
 use Rattle.words.specs.Numerals.{numeralOf}
 use Rattle.words.specs.Lexer.{partOf}
 use Rattle.parser.specs.declared.Token.{Token}
 use Rattle.parser.specs.declared.Step.{Step}
 use Rattle.parser.specs.declared.Step.the-variants.{At, Absent, Refused}
-use Rattle.parser.specs.Source.{Place, place, Arity, one, many, Source, numeral, metavariable, name, application, none, more, allOf, extend, count}
+use Rattle.parser.specs.Source.{place, one, many, Source, numeral, metavariable, name, application, none, more, allOf, extend, count}
 use Rattle.parser.specs.Parsing.{Tokens, tokenOf, kindOf, placeOf, lineOf, lastLine, when, Parsed, parsed, absent, refused, plus, follow, required, repeat, signOf}
 use Rattle.parser.specs.Grammar.{value, valueAt, applied, equated, atomOf, appOf, termOf, parenthesis}
 use Rattle.parser.specs.Rows.{Rows, row, applicationKind, rowsOf, rowsOfAll}
-use Rattle.parser.specs.Contracts.{Shown, on, nothing, no, shown, told, Within, Answers, Room, Signed, signed, inside, kindAt, grown, Applying, Equating}
-use mathlib.Core.Bool.{Bool, true, false}
-use Rattle.parser.proofs.TokenLaws.{token-there, line-in}
-use Rattle.parser.proofs.Readers.{no-path, Looped, Firm, firmly, firm-required, firm-plus, firm-follow, firm-repeat, firm-sign, firm-when, firm-parsed, Stopped, stopped, Got, got, moved, goes-on, passed, within-stopped, is-absent, is-refused, required-answers, told-plus, repeat-end, repeat-refused, repeat-turn}
+use Rattle.parser.specs.Contracts.{on, no, shown, told, Within, Answers, Room, Signed, signed, inside, kindAt, grown, Applying, Equating}
+use Rattle.parser.proofs.TokenLaws.{token-there}
+use Rattle.parser.proofs.Readers.{no-path, Looped, Firm, firmly, firm-required, firm-plus, firm-follow, firm-repeat, firm-sign, firm-when, firm-parsed, Stopped, got, moved, goes-on, passed, within-stopped, is-absent, is-refused, told-plus, repeat-end, repeat-refused}
 
 -- One row for one token.
 module _ {A : Type 0} (rows : A → Rows) {ts : Tokens} {p u : ℕ} {out : Rows} (room : Room ts p u out) (here : p < length ts) where
@@ -73,9 +72,6 @@ module _ (text : List ℕ) (ts : Tokens) (left : ℕ) {p u : ℕ} {out : Rows} (
 
   pub there : {k : ℕ} → t .kind ≡ k → 0 < k → p < length ts
   there e l = token-there ts p (let f = kind-is e in omega arith)
-
-  pub line-is : p < length ts → t .line ≡ lineOf (lastLine ts) (drop p ts)
-  line-is h = ap (λ x. x .line) te ∙ line-in ts p h
 
   abbrev reader : Parsed (Source one)
   reader = atomOf text (lastLine ts) (inside text ts left) (drop p ts)

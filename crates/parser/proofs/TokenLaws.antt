@@ -1,16 +1,14 @@
 -- Laws of the tokens at a place.
-use mathlib.Core.Path.{_≡_, refl, sym, ap, _∙_}
-use mathlib.Core.List.{List, [], _∷_}
-use mathlib.Core.Logic.{⊎-elim}
-use Prim.Native.Nat.{ℕ, suc, _+_, _-_, _≤_, _<_}
+use mathlib.Core.Path.{_≡_, sym, ap, _∙_}
+use mathlib.Core.List.{[]}
+use Prim.Native.Nat.{ℕ, _-_, _≤_, _<_}
 use native.Mathlib.Omega.{arith, by-contra}
 use native.Mathlib.Decide.{decLt}
 use lib.ListN.{length, getD, drop, drop-of-length-le}
 use lib.Seq.{drop-cons}
-use Rattle.parser.specs.declared.Token.{Token}
 use borrow.Author.Tests.{eq-eqb, ne-eqb}
 use Rattle.parser.specs.declared.Refusal.the-variants.{SignExpected}
-use Rattle.parser.specs.Parsing.{Tokens, tokenOf, kindOf, lineOf, lastLine, Parsed, parsed, refused, signOf}
+use Rattle.parser.specs.Parsing.{Tokens, tokenOf, kindOf, lineOf, lastLine, parsed, refused, signOf}
 
 module _ (ts : Tokens) (p : ℕ) where
   pub token-in : p < length ts

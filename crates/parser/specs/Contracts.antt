@@ -1,9 +1,7 @@
 -- What the parser's functions ask of and owe to each other: they write rows from a place on.
-use Prim.Native.Nat.{ℕ, zero, suc, _+_, _≤_, _<_}
-use mathlib.Core.Bool.{Bool, true, false}
+use Prim.Native.Nat.{ℕ, _+_, _≤_, _<_}
 use mathlib.Core.Path.{_≡_}
 use mathlib.Core.List.{List, [], _∷_, _++_}
-use lib.Dec.{eqb}
 use lib.ListN.{length, take, drop, getD, set}
 use Rattle.parser.specs.Source.{Source, one}
 use Rattle.parser.specs.Parsing.{Tokens, lineOf, lastLine, Parsed, parsed, absent, refused}

@@ -1,6 +1,5 @@
 -- The Rust's `Parser`: terms. Parentheses may be open 64 deep.
-use Prim.Native.Nat.{ℕ, zero, suc, _+_, _^_}
-use mathlib.Core.Bool.{Bool, true, false}
+use Prim.Native.Nat.{ℕ, zero, suc, _^_}
 use mathlib.Core.List.{List, [], _∷_}
 use lib.Dec.{eqb}
 use lib.ListN.{length, drop}
@@ -9,9 +8,8 @@ use Rattle.words.specs.Numerals.{numeralOf}
 use Rattle.words.specs.Lexer.{partOf}
 use Rattle.words.specs.declared.NumeralValue.{NumeralValue}
 use Rattle.words.specs.declared.NumeralValue.the-variants.{Fits, TooLarge}
-use Rattle.parser.specs.Source.{Place, place, Source, one, many, numeral, metavariable, name, application, none, more, allOf, extend}
-use Rattle.parser.specs.Parsing.{Tokens, tokenOf, kindOf, placeOf, lineOf, when, Parsed, parsed, absent, refused, plus, follow, required, signOf, behind, repeat}
-use Rattle.parser.specs.declared.Refusal.{Refusal}
+use Rattle.parser.specs.Source.{Place, Source, one, numeral, metavariable, name, application, none, more, allOf, extend}
+use Rattle.parser.specs.Parsing.{Tokens, tokenOf, kindOf, placeOf, lineOf, when, Parsed, parsed, absent, refused, plus, follow, required, signOf, repeat}
 use Rattle.parser.specs.declared.Refusal.the-variants.{ParenthesisLimit, NameExpected, TermExpected, OnlyNames, LeftOfEquals}
 
 -- The value of a numeral. A word that is none counts as 2^64.

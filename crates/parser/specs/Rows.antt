@@ -4,7 +4,7 @@ use Prim.Native.Nat.{ℕ, min}
 use mathlib.Core.List.{List, [], _∷_, _++_}
 use Rattle.words.specs.Names.{nameKind, metavariableKind, numeralKind}
 use lib.ListN.{length}
-use Rattle.parser.specs.Source.{Place, place, Arity, Source, one, many, numeral, metavariable, name, application, none, more, count, Clause, Binders, Tactic, auto, induction, Declaration, sort, ctor, pred, rule, def, theorem, eval, check}
+use Rattle.parser.specs.Source.{Place, place, Arity, Source, numeral, metavariable, name, application, none, more, count, Clause, Binders, Tactic, auto, induction, Declaration, sort, ctor, pred, rule, def, theorem, eval, check}
 use Rattle.parser.specs.Declarations.{Declared}
 
 abbrev pub Rows : Type 0

@@ -1,5 +1,4 @@
 -- `parse` meets its contract.
-use mathlib.Core.Path.{_≡_, _∙_}
 use native.Mathlib.Omega.{arith}
 use Rattle.parser.proofs.Readers.{moved}
 use Rattle.parser.proofs.StorageLaws.{over, few, parse-short, parse-end, parse-absent, parse-refused}

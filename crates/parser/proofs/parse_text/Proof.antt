@@ -1,7 +1,7 @@
 -- `parse_text` meets its contract.
-use mathlib.Core.Path.{_≡_, refl, sym, ap, _∙_}
+use mathlib.Core.Path.{_≡_, refl, ap}
 use native.Mathlib.Omega.{arith}
-use Prim.Native.Nat.{_≤_, _<_, min}
+use Prim.Native.Nat.{_≤_}
 use lib.ListN.{length}
 use Rattle.words.specs.Lexer.{cappedOf}
 use Rattle.parser.proofs.StorageLaws.{text-short, short-tokens, short-rows, text-unread, tokens-in, text-parsed, text-refused}

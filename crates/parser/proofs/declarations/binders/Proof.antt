@@ -1,19 +1,17 @@
 -- `binders` meets its contract.
 use mathlib.Core.Path.{_≡_, refl, sym, ap, ap₂, _∙_}
 use Prim.Native.Nat.{_+_, _-_}
-use mathlib.Core.List.{List, [], _∷_, _++_, append-assoc}
+use mathlib.Core.List.{[], _∷_}
 use native.Mathlib.Omega.{arith}
 use lib.ListN.{length, drop, take}
 use Rattle.parser.specs.Contracts.{told}
-use Rattle.parser.specs.Source.{sort, ctor, pred, rule, def, theorem, eval, check}
-use Rattle.parser.specs.Parsing.{kindOf, placeOf, lastLine, parsed, plus, follow, repeat, signOf, behind}
-use Rattle.parser.specs.Grammar.{nameOf}
-use Rattle.parser.specs.Declarations.{separated, name, app, term, arrowsOf, namesOf, behindOpen, bindersOf, titleOf, sortOf, ctorOf, judgmentsOf, patternsOf, behindBar, clauseOf, predOf, ruleOf, defOf, evalOf, checkOf}
-use Rattle.parser.specs.Rows.{row, declarationRows, nameRows, rowsOf, rowsOfAll, clauseRows, bindersRows, clauseKind, bindersKind}
+use Rattle.parser.specs.Source.{sort}
+use Rattle.parser.specs.Parsing.{kindOf, placeOf, lastLine, parsed, follow, signOf}
+use Rattle.parser.specs.Declarations.{name, behindOpen, bindersOf}
+use Rattle.parser.specs.Rows.{nameRows, rowsOfAll, bindersRows, bindersKind}
 use Rattle.parser.proofs.TokenLaws.{token-there}
-use Rattle.parser.proofs.Readers.{stopped, got, moved, firm-repeat, firm-sign, Looped, loop-start, loop-turn}
-use Rattle.parser.proofs.TermLaws.{firm-term, firm-app, termAt, appAt, room-on}
-use Rattle.parser.proofs.ListLaws.{firm-name, firm-names, firm-title, firm-separated, firm-patterns, behind-is, behind-not, patterns-none, patterns-some, list-absent, list-refused}
+use Rattle.parser.proofs.Readers.{stopped, got, firm-sign}
+use Rattle.parser.proofs.ListLaws.{firm-names, behind-is, behind-not}
 use Rattle.parser.proofs.PartLaws.{name-part, name-stopped, start, part, part-stopped, sign-part, sign-stopped, finish, room-along}
 use borrow.Author.Needs.{needs}
 use Rattle.parser.proofs.declarations.binders.Statement.{statement}

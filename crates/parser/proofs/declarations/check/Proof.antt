@@ -1,17 +1,15 @@
 -- `check` meets its contract.
-use mathlib.Core.Path.{_≡_, refl, sym, ap, _∙_}
+use mathlib.Core.Path.{refl}
 use Prim.Native.Nat.{_+_, _-_}
-use mathlib.Core.List.{List, [], _∷_, _++_}
 use native.Mathlib.Omega.{arith}
-use lib.ListN.{length, drop}
-use Rattle.parser.specs.Source.{sort, ctor, pred, rule, def, theorem, eval, check}
-use Rattle.parser.specs.Parsing.{lastLine, parsed, plus, follow, repeat, signOf}
+use lib.ListN.{drop}
+use Rattle.parser.specs.Source.{check}
+use Rattle.parser.specs.Parsing.{lastLine, parsed, plus}
 use Rattle.parser.specs.Declarations.{checkOf}
-use Rattle.parser.specs.Rows.{declarationRows, nameRows, rowsOf, rowsOfAll, clauseRows}
-use Rattle.parser.proofs.Readers.{stopped, got, firm-repeat}
+use Rattle.parser.specs.Rows.{declarationRows}
+use Rattle.parser.proofs.Readers.{stopped}
 use Rattle.parser.proofs.TermLaws.{firm-term}
-use Rattle.parser.proofs.ListLaws.{firm-name, firm-chain, firm-title}
-use Rattle.parser.proofs.PartLaws.{start, part, part-stopped, finish, room-along}
+use Rattle.parser.proofs.PartLaws.{start, part, part-stopped, finish}
 use borrow.Author.Needs.{needs}
 use Rattle.parser.proofs.declarations.check.Statement.{statement}
 use Rattle.parser.proofs.declarations.check.Tie as tie

@@ -1,19 +1,17 @@
 -- `ctor` meets its contract.
-use mathlib.Core.Path.{_≡_, refl, sym, ap, ap₂, _∙_}
+use mathlib.Core.Path.{refl, sym, ap}
 use Prim.Native.Nat.{_+_, _-_}
-use mathlib.Core.List.{List, [], _∷_, _++_, append-assoc}
+use mathlib.Core.List.{[], _∷_, _++_}
 use native.Mathlib.Omega.{arith}
-use lib.ListN.{length, drop}
-use Rattle.parser.specs.Source.{sort, ctor, pred, rule, def, theorem, eval, check}
-use Rattle.parser.specs.Parsing.{kindOf, lastLine, parsed, plus, follow, repeat, signOf, behind}
+use lib.ListN.{drop}
+use Rattle.parser.specs.Source.{ctor}
+use Rattle.parser.specs.Parsing.{lastLine, parsed, plus, follow}
 use Rattle.parser.specs.Grammar.{nameOf}
-use Rattle.parser.specs.Declarations.{separated, name, app, term, arrowsOf, namesOf, bindersOf, titleOf, sortOf, ctorOf, judgmentsOf, patternsOf, clauseOf, predOf, ruleOf, defOf, evalOf, checkOf}
-use Rattle.parser.specs.Rows.{row, declarationRows, nameRows, rowsOf, rowsOfAll, clauseRows, bindersRows, clauseKind, bindersKind}
-use Rattle.parser.proofs.TokenLaws.{token-there}
-use Rattle.parser.proofs.Readers.{stopped, got, moved, firm-repeat, firm-sign, Looped, loop-start, loop-turn}
-use Rattle.parser.proofs.TermLaws.{firm-term, firm-app, termAt, appAt, room-on}
-use Rattle.parser.proofs.ListLaws.{firm-name, firm-names, firm-title, firm-separated, firm-patterns, behind-is, behind-not, patterns-none, patterns-some, list-absent, list-refused}
-use Rattle.parser.proofs.PartLaws.{start, part, part-stopped, sign-part, sign-stopped, finish, room-along}
+use Rattle.parser.specs.Declarations.{arrowsOf, ctorOf}
+use Rattle.parser.specs.Rows.{declarationRows, nameRows, rowsOfAll}
+use Rattle.parser.proofs.Readers.{stopped, got}
+use Rattle.parser.proofs.ListLaws.{firm-name, firm-title, firm-separated}
+use Rattle.parser.proofs.PartLaws.{start, part, part-stopped, finish, room-along}
 use borrow.Author.Needs.{needs}
 use Rattle.parser.proofs.declarations.ctor.Statement.{statement}
 use Rattle.parser.proofs.declarations.ctor.Tie as tie

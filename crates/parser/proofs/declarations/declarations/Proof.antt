@@ -1,23 +1,14 @@
 -- `declarations` meets its contract.
-use mathlib.Core.Path.{_≡_, refl, sym, ap, ap₂, _∙_}
-use Prim.Native.Nat.{_+_, _-_}
-use mathlib.Core.List.{List, [], _∷_, _++_, append-assoc}
+use Prim.Native.Nat.{_-_}
 use native.Mathlib.Omega.{arith}
-use lib.ListN.{length, drop, take}
-use mathlib.Core.Logic.{inl, inr}
-use Rattle.parser.specs.Contracts.{told}
+use lib.ListN.{length}
 use Prim.Native.Nat.{zero-le}
-use Rattle.parser.specs.Source.{sort, ctor, pred, rule, def, theorem, eval, check}
-use Rattle.parser.specs.Parsing.{kindOf, lastLine, parsed, plus, follow, repeat, signOf, behind}
-use Rattle.parser.specs.Grammar.{nameOf}
-use Rattle.parser.specs.Declarations.{theoremOf, declarationOf, parseOf, separated, name, app, term, arrowsOf, namesOf, behindOpen, bindersOf, titleOf, sortOf, ctorOf, judgmentsOf, patternsOf, behindBar, clauseOf, predOf, ruleOf, defOf, evalOf, checkOf}
-use Rattle.parser.specs.Rows.{declaredRows, row, declarationRows, nameRows, rowsOf, rowsOfAll, clauseRows, bindersRows, clauseKind, bindersKind}
-use Rattle.parser.proofs.TokenLaws.{token-there, line-in}
-use Rattle.parser.proofs.Readers.{stopped, got, moved, firm-repeat, firm-sign, Looped, loop-start, loop-turn}
-use Rattle.parser.proofs.TermLaws.{firm-term, firm-app, termAt, appAt, room-on}
-use Rattle.parser.proofs.ListLaws.{firm-name, firm-names, firm-title, firm-separated, firm-patterns, behind-is, behind-not, patterns-none, patterns-some, list-absent, list-refused}
-use Rattle.parser.proofs.PartLaws.{start, part, part-stopped, sign-part, sign-stopped, finish, room-along}
-use Rattle.parser.proofs.DeclarationLaws.{up, declared, undeclared, no-declaration, starts-sort, starts-ctor, starts-pred, starts-rule, starts-def, starts-theorem, starts-eval, starts-check, starts-nothing, no-keyword}
+use Rattle.parser.specs.Parsing.{lastLine}
+use Rattle.parser.specs.Declarations.{declarationOf, parseOf}
+use Rattle.parser.specs.Rows.{declaredRows}
+use Rattle.parser.proofs.Readers.{moved, Looped, loop-start, loop-turn}
+use Rattle.parser.proofs.TermLaws.{room-on}
+use Rattle.parser.proofs.ListLaws.{list-absent, list-refused}
 use borrow.Author.Needs.{needs}
 use Rattle.parser.proofs.declarations.declarations.Statement.{statement}
 use Rattle.parser.proofs.declarations.declarations.Tie as tie

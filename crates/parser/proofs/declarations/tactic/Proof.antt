@@ -2,7 +2,7 @@
 use mathlib.Core.Path.{_≡_, refl, sym, ap, _∙_}
 use Prim.Native.Nat.{_+_}
 use native.Mathlib.Omega.{arith}
-use lib.ListN.{length, drop}
+use lib.ListN.{drop}
 use Rattle.parser.specs.Parsing.{kindOf}
 use Rattle.parser.proofs.TokenLaws.{token-there}
 use Rattle.parser.proofs.TermLaws.{room-on}

@@ -1,22 +1,18 @@
 -- `theorem` meets its contract.
-use mathlib.Core.Path.{_≡_, refl, sym, ap, ap₂, _∙_}
+use mathlib.Core.Path.{refl, _∙_}
 use Prim.Native.Nat.{_+_, _-_}
-use mathlib.Core.List.{List, [], _∷_, _++_, append-assoc}
+use mathlib.Core.List.{[]}
 use native.Mathlib.Omega.{arith}
-use lib.ListN.{length, drop, take}
-use Rattle.words.specs.Bytes.{sameBytes}
-use Rattle.parser.specs.declared.Refusal.the-variants.{NoProp}
-use Rattle.parser.specs.Source.{sort, ctor, pred, rule, def, theorem, eval, check}
-use Rattle.parser.specs.Parsing.{kindOf, lineOf, when, refused, lastLine, parsed, plus, follow, repeat, signOf, behind}
-use Rattle.parser.specs.Grammar.{nameOf}
-use Rattle.parser.specs.Declarations.{propName, endsInProp, theoremOf, tacticOf, separated, name, app, term, arrowsOf, namesOf, behindOpen, bindersOf, titleOf, sortOf, ctorOf, judgmentsOf, patternsOf, behindBar, clauseOf, predOf, ruleOf, defOf, evalOf, checkOf}
-use Rattle.parser.specs.Rows.{row, declarationRows, nameRows, rowsOf, rowsOfAll, clauseRows, bindersRows, clauseKind, bindersKind}
-use Rattle.parser.proofs.TokenLaws.{token-there}
-use Rattle.parser.proofs.Readers.{stopped, got, moved, firm-repeat, firm-sign, Looped, loop-start, loop-turn}
-use Rattle.parser.proofs.TermLaws.{firm-term, firm-app, termAt, appAt, room-on}
-use Rattle.parser.proofs.ListLaws.{firm-name, firm-names, firm-title, firm-separated, firm-patterns, behind-is, behind-not, patterns-none, patterns-some, list-absent, list-refused}
+use lib.ListN.{drop}
+use Rattle.parser.specs.Source.{theorem}
+use Rattle.parser.specs.Parsing.{lastLine, parsed, plus, follow, repeat, signOf}
+use Rattle.parser.specs.Declarations.{theoremOf, tacticOf, name, bindersOf, judgmentsOf}
+use Rattle.parser.specs.Rows.{declarationRows}
+use Rattle.parser.proofs.Readers.{stopped, got, moved, firm-repeat, firm-sign}
+use Rattle.parser.proofs.TermLaws.{firm-term, termAt}
+use Rattle.parser.proofs.ListLaws.{firm-name, firm-separated}
 use Rattle.parser.proofs.PartLaws.{start, part, part-stopped, sign-part, sign-stopped, finish, room-along}
-use Rattle.parser.proofs.DeclarationLaws.{separated-some, refuse, without-last, prop-is, init-long, marked, tactic-rows, theorem-rows}
+use Rattle.parser.proofs.DeclarationLaws.{marked, tactic-rows, theorem-rows}
 use Rattle.parser.proofs.TacticLaws.{firm-tactic}
 use borrow.Author.Needs.{needs}
 use Rattle.parser.proofs.declarations.theorem.Statement.{statement}

@@ -1,9 +1,9 @@
 -- `names` meets its contract: the loop reads names up to a colon.
-use mathlib.Core.Path.{_≡_, sym, ap, _∙_}
+use mathlib.Core.Path.{sym, ap, _∙_}
 use Prim.Native.Nat.{_-_}
 use lib.ListN.{length, drop}
 use native.Mathlib.Omega.{arith}
-use Rattle.parser.specs.Parsing.{kindOf, lastLine}
+use Rattle.parser.specs.Parsing.{lastLine}
 use Rattle.parser.specs.Declarations.{unless}
 use Rattle.parser.specs.Grammar.{nameOf}
 use Rattle.parser.specs.Rows.{nameRows}

@@ -1,12 +1,10 @@
 -- `atom`, `app` and `term` call each other in turn: the tokens left fall, and with the same tokens left the rank of the three.
-use Prim.Native.Nat.{_+_, _*_, _-_, _≤_}
-use mathlib.Core.Path.{_≡_, refl, sym, ap, _∙_}
+use Prim.Native.Nat.{_+_, _*_, _-_}
+use mathlib.Core.Path.{refl, sym, ap, _∙_}
 use native.Mathlib.Omega.{arith}
-use lib.ListN.{length, drop, take}
-use Rattle.parser.specs.Parsing.{kindOf, tokenOf, lineOf, lastLine}
+use lib.ListN.{length}
 use Rattle.parser.specs.Rows.{rowsOf}
-use Rattle.parser.specs.Contracts.{inside}
-use Rattle.parser.proofs.TokenLaws.{token-there, line-in}
+use Rattle.parser.proofs.TokenLaws.{token-there}
 use Rattle.parser.proofs.Readers.{stopped, moved, required-answers, Looped, loop-start, loop-turn}
 use Rattle.parser.proofs.TermLaws.{room-on, there, is-name, is-meta, is-numeral, is-open, is-none, too-deep, inner-stopped, inner-closed, atomAt, app-stopped, app-refused, app-applied, term-stopped, term-plain, second-stopped, root-room, term-equated}
 use borrow.Author.Needs.{needs}

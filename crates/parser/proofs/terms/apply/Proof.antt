@@ -1,5 +1,5 @@
 -- `apply` meets its contract.
-use mathlib.Core.Path.{_≡_, sym, ap, _∙_, refl}
+use mathlib.Core.Path.{ap, refl}
 use native.Mathlib.Omega.{arith}
 use Rattle.parser.specs.declared.Step.the-variants.{Refused}
 use Rattle.parser.specs.declared.Refusal.the-variants.{OnlyNames}

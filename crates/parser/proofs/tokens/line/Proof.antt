@@ -1,5 +1,5 @@
 -- `line` meets its contract.
-use mathlib.Core.Path.{_≡_, sym, ap, _∙_}
+use mathlib.Core.Path.{ap, _∙_}
 use Rattle.parser.proofs.TokenLaws.{line-in, line-out, line-none}
 use borrow.Author.Needs.{needs}
 use Rattle.parser.proofs.tokens.line.Statement.{statement}

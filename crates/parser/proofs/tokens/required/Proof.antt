@@ -1,5 +1,5 @@
 -- `required` meets its contract.
-use mathlib.Core.Path.{_≡_, sym, ap, _∙_}
+use mathlib.Core.Path.{sym, ap, _∙_}
 use Rattle.parser.specs.Contracts.{requiredStep}
 use Rattle.parser.specs.declared.Step.the-variants.{Refused}
 use Rattle.parser.specs.declared.Refusal.the-variants.{TermExpected}

@@ -1,6 +1,5 @@
 -- `saturated` meets its contract.
-use mathlib.Core.Path.{_≡_, sym, ap, _∙_}
-use Prim.Native.Nat.{min, _^_}
+use mathlib.Core.Path.{sym, ap, _∙_}
 use native.Mathlib.Omega.{arith}
 use Rattle.parser.specs.Grammar.{value}
 use borrow.Author.Needs.{needs}

@@ -1,7 +1,6 @@
 -- `sign` meets its contract.
 use mathlib.Core.Path.{_≡_, sym, ap, _∙_}
-use Prim.Native.Nat.{_<_}
-use lib.ListN.{length, drop}
+use lib.ListN.{drop}
 use Rattle.parser.specs.Parsing.{kindOf, lastLine}
 use native.Mathlib.Omega.{arith}
 use Rattle.parser.specs.Contracts.{signed}
