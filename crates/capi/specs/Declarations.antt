@@ -2,7 +2,7 @@
 use Prim.Native.Nat.{ℕ, _+_, _*_, _^_}
 use mathlib.Core.Path.{_≡_}
 use mathlib.Core.List.{List}
-use Rattle.parser.specs.Rows.{Rows}
+use Rattle.term_parser.specs.Rows.{Rows}
 use Rattle.parser.specs.Parser.{numberOf, ParsingText}
 use Rattle.parser.specs.declared.Answer.{Answer}
 use Rattle.parser.specs.declared.Answer.the-variants.{Declarations, Refused}

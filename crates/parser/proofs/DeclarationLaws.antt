@@ -11,17 +11,20 @@ use lib.Seq.{drop-cons, take-set-lt, set-at, getD-at, getD-take, take-at, take-t
 use Rattle.words.specs.Bytes.{sameBytes}
 use Rattle.words.specs.Lexer.{partOf}
 use Rattle.words.specs.Names.{nameKind}
-use Rattle.parser.specs.declared.Refusal.{Refusal}
-use Rattle.parser.specs.declared.Refusal.the-variants.{OtherKeyword, DeclarationExpected}
-use Rattle.parser.specs.declared.Token.{Token}
-use Rattle.parser.specs.declared.Step.{Step}
-use Rattle.parser.specs.declared.Step.the-variants.{Refused}
-use Rattle.parser.specs.Source.{Place, place, Source, one, Binders, Tactic, Declaration, theorem}
-use Rattle.parser.specs.Parsing.{Tokens, tokenOf, lineOf, lastLine, Parsed, parsed, absent, refused, plus, follow, continued, behind, repeat}
-use Rattle.parser.specs.Declarations.{propName, endsInProp, separated, sortOf, ctorOf, predOf, ruleOf, defOf, theoremOf, evalOf, checkOf, bodyOf, declarationOf}
-use Rattle.parser.specs.Rows.{Rows, row, rowsOf, rowsOfAll, nameRows, bindersRows, tacticRows, declarationRows, declaredRows}
-use Rattle.parser.specs.Contracts.{on, no as stop, told, Answers, Room, numbered}
-use Rattle.parser.proofs.Readers.{no-path}
+use Rattle.term_parser.specs.declared.Refusal.{Refusal}
+use Rattle.term_parser.specs.declared.Refusal.the-variants.{OtherKeyword, DeclarationExpected}
+use Rattle.term_parser.specs.declared.Token.{Token}
+use Rattle.term_parser.specs.declared.Step.{Step}
+use Rattle.term_parser.specs.declared.Step.the-variants.{Refused}
+use Rattle.term_parser.specs.Source.{Place, place, Source, one}
+use Rattle.parser.specs.Source.{Binders, Tactic, Declaration, theorem}
+use Rattle.term_parser.specs.Parsing.{Tokens, tokenOf, lineOf, lastLine, Parsed, parsed, absent, refused, plus, follow, continued, behind, repeat}
+use Rattle.term_parser.specs.Lists.{separated}
+use Rattle.parser.specs.Declarations.{propName, endsInProp, sortOf, ctorOf, predOf, ruleOf, defOf, theoremOf, evalOf, checkOf, bodyOf, declarationOf}
+use Rattle.term_parser.specs.Rows.{Rows, row, rowsOf, rowsOfAll, nameRows}
+use Rattle.parser.specs.Rows.{bindersRows, tacticRows, declarationRows, declaredRows, numbered}
+use Rattle.term_parser.specs.Contracts.{on, no as stop, told, Answers, Room}
+use Rattle.term_parser.proofs.Readers.{no-path}
 use Rattle.parser.proofs.PartLaws.{Along}
 
 -- Lists of names with a last one.

@@ -7,18 +7,18 @@ use native.Mathlib.Numerals.{add-one}
 use native.Mathlib.Omega.{arith}
 use lib.ListN.{length, take, drop, set, getD}
 use lib.Seq.{take-suc, take-set-lt, set-at, length-take-le, drop-drop}
-use Rattle.parser.specs.declared.Step.{Step}
-use Rattle.parser.specs.declared.Step.the-variants.{At, Refused}
+use Rattle.term_parser.specs.declared.Step.{Step}
+use Rattle.term_parser.specs.declared.Step.the-variants.{At, Refused}
 use borrow.Author.Tests.{eq-eqb, ne-eqb}
 use Rattle.words.specs.Names.{nameKind}
-use Rattle.parser.specs.declared.Refusal.the-variants.{NameExpected}
-use Rattle.parser.specs.Source.{Place}
-use Rattle.parser.specs.Grammar.{nameOf}
-use Rattle.parser.proofs.TokenLaws.{token-there}
-use Rattle.parser.specs.Parsing.{Tokens, kindOf, placeOf, lineOf, lastLine, Parsed, parsed, absent, refused, plus, follow, signOf}
-use Rattle.parser.specs.Rows.{Rows}
-use Rattle.parser.specs.Contracts.{on, no, told, signed, Answers, Room, Signed}
-use Rattle.parser.proofs.Readers.{no-path, Firm, Stopped, got, moved, goes-on, passed, within-stopped, is-absent, told-plus}
+use Rattle.term_parser.specs.declared.Refusal.the-variants.{NameExpected}
+use Rattle.term_parser.specs.Source.{Place}
+use Rattle.term_parser.specs.Grammar.{nameOf}
+use Rattle.term_parser.proofs.TokenLaws.{token-there}
+use Rattle.term_parser.specs.Parsing.{Tokens, kindOf, placeOf, lineOf, lastLine, Parsed, parsed, absent, refused, plus, follow, signOf}
+use Rattle.term_parser.specs.Rows.{Rows}
+use Rattle.term_parser.specs.Contracts.{on, no, told, signed, Answers, Room, Signed}
+use Rattle.term_parser.proofs.Readers.{no-path, Firm, Stopped, got, moved, goes-on, passed, within-stopped, is-absent, told-plus}
 
 -- From place p and u rows on, a reader took the tokens before q and wrote the rows in `body` behind a free one; what it comes to is what `rest` comes to.
 pub record Along {D : Type 0} (rowsD : D → Rows) (reader : Parsed D) (ts : Tokens) (p u : ℕ) (before : Rows) (q k : ℕ) (out : Rows) (rest : Parsed D) (body : Rows) : Type 0 where

@@ -16,18 +16,19 @@ use Rattle.words.specs.declared.Lexed.{Lexed}
 use Rattle.words.specs.declared.Lexed.the-variants as lexed
 use Rattle.words.specs.declared.Refusal.{Refusal as WordsRefusal}
 use Rattle.words.specs.declared.Refusal.the-variants.{Storage as unlent}
-use Rattle.parser.specs.Parsing.{Tokens, Parsed, parsed, absent, refused}
+use Rattle.term_parser.specs.Parsing.{Tokens, Parsed, parsed, absent, refused}
 use Rattle.parser.specs.Declarations.{Declared, parseOf}
-use Rattle.parser.specs.Rows.{Rows, rowsOfAll, declaredRows}
-use Rattle.parser.specs.Contracts.{Lists}
+use Rattle.term_parser.specs.Rows.{Rows, rowsOfAll}
+use Rattle.parser.specs.Rows.{declaredRows}
+use Rattle.term_parser.specs.Contracts.{Lists}
 use Rattle.parser.specs.Parser.{answerOf, rowsAfter, tooShort, Parsing, parsedText, tokensAfter, tokensOf, shortFor, textOf, ParsingText}
-use Rattle.parser.specs.declared.Refusal.{Refusal}
-use Rattle.parser.specs.declared.Refusal.the-variants.{Storage, Text}
-use Rattle.parser.specs.declared.Step.{Step}
-use Rattle.parser.specs.declared.Step.the-variants.{At, Absent, Refused}
+use Rattle.term_parser.specs.declared.Refusal.{Refusal}
+use Rattle.term_parser.specs.declared.Refusal.the-variants.{Storage, Text}
+use Rattle.term_parser.specs.declared.Step.{Step}
+use Rattle.term_parser.specs.declared.Step.the-variants.{At, Absent, Refused}
 use Rattle.parser.specs.declared.Answer.{Answer}
 use Rattle.parser.specs.declared.Answer.the-variants as answer
-use Rattle.parser.proofs.Readers.{no-path, got, moved, is-absent, is-refused}
+use Rattle.term_parser.proofs.Readers.{no-path, got, moved, is-absent, is-refused}
 
 either : (a b : Bool) → b ≡ true → (a || b) ≡ true
 either true b e = refl

@@ -9,18 +9,20 @@ use lib.Dec.{eqb}
 use mathlib.Core.Bool.{_&&_}
 use lib.ListN.{length, take, drop}
 use lib.Seq.{drop-drop}
-use Rattle.parser.specs.declared.Refusal.the-variants.{ByForm}
-use Rattle.parser.specs.declared.Step.{Step}
-use Rattle.parser.specs.declared.Step.the-variants.{At, Absent, Refused}
-use Rattle.parser.specs.Source.{Place, Tactic, auto, induction}
-use Rattle.parser.specs.Parsing.{Tokens, when, kindOf, lineOf, lastLine, Parsed, parsed, absent, refused, plus, follow}
-use Rattle.parser.specs.Grammar.{nameOf}
+use Rattle.term_parser.specs.declared.Refusal.the-variants.{ByForm}
+use Rattle.term_parser.specs.declared.Step.{Step}
+use Rattle.term_parser.specs.declared.Step.the-variants.{At, Absent, Refused}
+use Rattle.term_parser.specs.Source.{Place}
+use Rattle.parser.specs.Source.{Tactic, auto, induction}
+use Rattle.term_parser.specs.Parsing.{Tokens, when, kindOf, lineOf, lastLine, Parsed, parsed, absent, refused, plus, follow}
+use Rattle.term_parser.specs.Grammar.{nameOf}
 use Rattle.parser.specs.Declarations.{byOf, tacticOf}
-use Rattle.parser.specs.Rows.{Rows, nameRows, tacticRows}
-use Rattle.parser.specs.Contracts.{on, no, told, Within, Answers}
-use Rattle.parser.proofs.TokenLaws.{token-there}
-use Rattle.parser.proofs.Readers.{no-path, Firm, firm-plus, firm-parsed, firm-refused, firm-when, firm-follow, told-plus}
-use Rattle.parser.proofs.ListLaws.{firm-name}
+use Rattle.term_parser.specs.Rows.{Rows, nameRows}
+use Rattle.parser.specs.Rows.{tacticRows}
+use Rattle.term_parser.specs.Contracts.{on, no, told, Within, Answers}
+use Rattle.term_parser.proofs.TokenLaws.{token-there}
+use Rattle.term_parser.proofs.Readers.{no-path, Firm, firm-plus, firm-parsed, firm-refused, firm-when, firm-follow, told-plus}
+use Rattle.term_parser.proofs.ListLaws.{firm-name}
 
 -- the name's rows are the tactic's
 made-told : (q : ℕ) (before : Rows) (us : Tokens) (x : Parsed Place) → told tacticRows q before (follow x us (λ y vs. parsed (induction y) 0)) ≡ told nameRows q before x

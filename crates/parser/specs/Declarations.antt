@@ -6,18 +6,11 @@ use lib.Dec.{eqb}
 use lib.ListN.{length, take, drop, getD}
 use Rattle.words.specs.Bytes.{sameBytes}
 use Rattle.words.specs.Lexer.{partOf}
-use Rattle.parser.specs.Source.{Place, place, Source, one, Clause, Binders, Tactic, auto, induction, Declaration, sort, ctor, pred, rule, def, theorem, eval, check}
-use Rattle.parser.specs.Parsing.{Tokens, kindOf, lineOf, lastLine, when, Parsed, parsed, absent, refused, plus, follow, signOf, behind, repeat}
-use Rattle.parser.specs.Grammar.{nameOf, appOf, termOf, parenthesis}
-use Rattle.parser.specs.declared.Refusal.the-variants.{DeclarationExpected, NoProp, ByForm, OtherKeyword}
-
--- Items with a sign between them.
-abbrev pub separated : {A : Type 0} → ℕ → (Tokens → Parsed A) → Tokens → Parsed (List A)
-separated kind item ts = follow (item ts) ts (λ a us. repeat (behind kind item) us 0 0 (a ∷ []))
-
--- An item, unless a sign stands there.
-abbrev pub unless : {A : Type 0} → ℕ → (Tokens → Parsed A) → Tokens → Parsed A
-unless kind item ts = when (eqb (kindOf ts) kind) (λ _. absent) (λ _. item ts)
+use Rattle.term_parser.specs.Source.{Place, place}
+use Rattle.term_parser.specs.Parsing.{Tokens, kindOf, lineOf, lastLine, when, Parsed, parsed, absent, refused, plus, follow, signOf, behind, repeat}
+use Rattle.term_parser.specs.Lists.{name, titleOf, arrowsOf, namesOf, term, app, judgmentsOf, patternsOf}
+use Rattle.term_parser.specs.declared.Refusal.the-variants.{DeclarationExpected, NoProp, ByForm, OtherKeyword}
+use Rattle.parser.specs.Source.{Clause, Binders, Tactic, auto, induction, Declaration, sort, ctor, pred, rule, def, theorem, eval, check}
 
 abbrev pub propName : List ℕ
 propName = 80 ∷ 114 ∷ 111 ∷ 112 ∷ []
@@ -35,23 +28,12 @@ pub record Declared : Type 0 where
 
 -- What needs no text; the last token of all is in line `last`.
 module _ (last : ℕ) where
-  abbrev pub name : Tokens → Parsed Place
-  name = nameOf last
-
-  -- `A → B → C`
-  abbrev pub arrowsOf : Tokens → Parsed (List Place)
-  arrowsOf = separated 15 name
-
-  -- `x y z`, up to a colon
-  abbrev pub namesOf : Tokens → Parsed (List Place)
-  namesOf ts = follow (name ts) ts (λ x us. repeat (unless 20 name) us 0 0 (x ∷ []))
-
   -- `(x y z : S)`
   abbrev pub behindOpen : Tokens → Parsed Binders
   behindOpen ts =
-      follow (namesOf ts) ts
+      follow (namesOf last ts) ts
       (λ xs us. follow (signOf last 20 us) us
-      (λ _ vs. follow (name vs) vs
+      (λ _ vs. follow (name last vs) vs
       (λ s ws. follow (signOf last 19 ws) ws
       (λ _ ys. parsed (record { names = xs; sort = s }) 0))))
 
@@ -62,45 +44,26 @@ module _ (last : ℕ) where
   abbrev pub byOf : Tokens → Parsed Tactic
   byOf ts =
       when (eqb (kindOf ts) 7 && eqb (kindOf (drop 1 ts)) 8) (λ _. parsed auto 2)
-      (λ _. when (eqb (kindOf ts) 7 && eqb (kindOf (drop 1 ts)) 9) (λ _. plus 2 (follow (name (drop 2 ts)) (drop 2 ts) (λ x us. parsed (induction x) 0)))
+      (λ _. when (eqb (kindOf ts) 7 && eqb (kindOf (drop 1 ts)) 9) (λ _. plus 2 (follow (name last (drop 2 ts)) (drop 2 ts) (λ x us. parsed (induction x) 0)))
       (λ _. refused ByForm (lineOf last ts)))
 
   -- `:= by …`; without it the tactic is `auto`
   abbrev pub tacticOf : Tokens → Parsed Tactic
   tacticOf ts = when (eqb (kindOf ts) 17) (λ _. plus 1 (byOf (drop 1 ts))) (λ _. parsed auto 0)
 
-  -- `n :`
-  abbrev pub titleOf : Tokens → Parsed Place
-  titleOf ts = follow (name ts) ts (λ n us. follow (signOf last 20 us) us (λ _ vs. parsed n 0))
-
   abbrev pub sortOf : Tokens → Parsed Declaration
-  sortOf ts = follow (name ts) ts (λ n us. parsed (sort n) 0)
+  sortOf ts = follow (name last ts) ts (λ n us. parsed (sort n) 0)
 
   abbrev pub ctorOf : Tokens → Parsed Declaration
-  ctorOf ts = follow (titleOf ts) ts (λ n us. follow (arrowsOf us) us (λ ss vs. parsed (ctor n ss) 0))
+  ctorOf ts = follow (titleOf last ts) ts (λ n us. follow (arrowsOf last us) us (λ ss vs. parsed (ctor n ss) 0))
 
 module _ (text : List ℕ) (last : ℕ) where
-  -- 64 parentheses may be open together.
-  abbrev pub term : Tokens → Parsed (Source one)
-  term = termOf text last (parenthesis text last 64)
-
-  abbrev pub app : Tokens → Parsed (Source one)
-  app = appOf text last (parenthesis text last 64)
-
-  -- `J → J → J`
-  abbrev pub judgmentsOf : Tokens → Parsed (List (Source one))
-  judgmentsOf = separated 15 term
-
-  -- `p, p, p`, or nothing before `=>`
-  abbrev pub patternsOf : Tokens → Parsed (List (Source one))
-  patternsOf ts = when (eqb (kindOf ts) 16) (λ _. parsed [] 0) (λ _. separated 21 app ts)
-
   -- `| p, p => t`
   abbrev pub behindBar : Tokens → Parsed Clause
   behindBar ts =
-      follow (patternsOf ts) ts
+      follow (patternsOf text last ts) ts
       (λ ps us. follow (signOf last 16 us) us
-      (λ _ vs. follow (app vs) vs
+      (λ _ vs. follow (app text last vs) vs
       (λ t ws. parsed (record { patterns = ps; body = t }) 0)))
 
   abbrev pub clauseOf : Tokens → Parsed Clause
@@ -111,7 +74,7 @@ module _ (text : List ℕ) (last : ℕ) where
       (λ ss vs. when (endsInProp text ss) (λ _. parsed (pred n (take (length ss - 1) ss)) 0) (λ _. refused NoProp (lineOf last vs))))
 
   abbrev pub ruleOf : Tokens → Parsed Declaration
-  ruleOf ts = follow (titleOf last ts) ts (λ n us. follow (judgmentsOf us) us (λ js vs. parsed (rule n js) 0))
+  ruleOf ts = follow (titleOf last ts) ts (λ n us. follow (judgmentsOf text last us) us (λ js vs. parsed (rule n js) 0))
 
   abbrev pub defOf : Tokens → Parsed Declaration
   defOf ts = follow (titleOf last ts) ts (λ n us. follow (arrowsOf last us) us (λ ss vs. follow (repeat clauseOf vs 0 0 []) vs (λ cs ws. parsed (def n ss cs) 0)))
@@ -121,15 +84,15 @@ module _ (text : List ℕ) (last : ℕ) where
       follow (name last ts) ts
       (λ n us. follow (repeat (bindersOf last) us 0 0 []) us
       (λ bs vs. follow (signOf last 20 vs) vs
-      (λ _ ws. follow (judgmentsOf ws) ws
+      (λ _ ws. follow (judgmentsOf text last ws) ws
       (λ js xs. follow (tacticOf last xs) xs
       (λ t ys. parsed (theorem n bs js t) 0)))))
 
   abbrev pub evalOf : Tokens → Parsed Declaration
-  evalOf ts = follow (term ts) ts (λ t us. parsed (eval t) 0)
+  evalOf ts = follow (term text last ts) ts (λ t us. parsed (eval t) 0)
 
   abbrev pub checkOf : Tokens → Parsed Declaration
-  checkOf ts = follow (term ts) ts (λ t us. parsed (check t) 0)
+  checkOf ts = follow (term text last ts) ts (λ t us. parsed (check t) 0)
 
   -- What the keyword of a number starts, of which ts are the tokens from it on and us those behind it; `by`, `auto` and `induction` start nothing.
   unfoldable pub bodyOf : ℕ → Tokens → Tokens → Parsed Declaration

@@ -10,11 +10,12 @@ use Rattle.words.specs.Tokens.{Reading}
 use Rattle.words.specs.Tokens.Reading.{tokens, refused as unread}
 use Rattle.words.specs.Refusals.{numberOf as wordsNumber}
 use Rattle.words.specs.declared.Limits.{Limits}
-use Rattle.parser.specs.Parsing.{Tokens, Parsed, parsed, absent, refused}
+use Rattle.term_parser.specs.Parsing.{Tokens, Parsed, parsed, absent, refused}
 use Rattle.parser.specs.Declarations.{Declared, parseOf}
-use Rattle.parser.specs.Rows.{Rows, rowsOfAll, declaredRows}
-use Rattle.parser.specs.declared.Refusal.{Refusal}
-use Rattle.parser.specs.declared.Refusal.the-variants.{Storage, Text, ParenthesisLimit, SignExpected, NameExpected, TermExpected, OnlyNames, LeftOfEquals, DeclarationExpected, NoProp, ByForm, OtherKeyword}
+use Rattle.term_parser.specs.Rows.{Rows, rowsOfAll}
+use Rattle.parser.specs.Rows.{declaredRows}
+use Rattle.term_parser.specs.declared.Refusal.{Refusal}
+use Rattle.term_parser.specs.declared.Refusal.the-variants.{Storage, Text, ParenthesisLimit, SignExpected, NameExpected, TermExpected, OnlyNames, LeftOfEquals, DeclarationExpected, NoProp, ByForm, OtherKeyword}
 use Rattle.parser.specs.declared.Answer.{Answer}
 use Rattle.parser.specs.declared.Answer.the-variants.{Declarations, Refused}
 

@@ -1,43 +1,19 @@
--- Source terms and declarations as rows of four numbers, in preorder. A term's row: kind, start, length, and the number of arguments; of a numeral its
--- value, 2^32 - 1 for a larger one. A declaration's row: the keyword's number, the line, and how many parts of two kinds follow.
-use Prim.Native.Nat.{ℕ, min}
+-- Source declarations as rows of four numbers, in preorder, over the rows of terms and names that `term_parser` defines. A declaration's row: the keyword's
+-- number, the line, and how many parts of two kinds follow.
+use Prim.Native.Nat.{ℕ}
 use mathlib.Core.List.{List, [], _∷_, _++_}
-use Rattle.words.specs.Names.{nameKind, metavariableKind, numeralKind}
-use lib.ListN.{length}
-use Rattle.parser.specs.Source.{Place, place, Arity, Source, numeral, metavariable, name, application, none, more, count, Clause, Binders, Tactic, auto, induction, Declaration, sort, ctor, pred, rule, def, theorem, eval, check}
+use lib.ListN.{length, getD}
+use Rattle.words.specs.Names.{nameKind}
+use Rattle.term_parser.specs.Rows.{Rows, row, rowsOf, rowsOfAll, nameRows}
+use Rattle.parser.specs.Source.{Clause, Binders, Tactic, auto, induction, Declaration, sort, ctor, pred, rule, def, theorem, eval, check}
 use Rattle.parser.specs.Declarations.{Declared}
 
-abbrev pub Rows : Type 0
-Rows = List (List ℕ)
-
--- The kinds of rows beside those of tokens.
-abbrev pub applicationKind : ℕ
-applicationKind = 24
-
+-- The kinds of rows beside those of tokens and terms.
 abbrev pub clauseKind : ℕ
 clauseKind = 25
 
 abbrev pub bindersKind : ℕ
 bindersKind = 26
-
-abbrev pub row : ℕ → Place → ℕ → List ℕ
-row kind (place start n) k = kind ∷ start ∷ n ∷ k ∷ []
-
-unfoldable pub rowsOf : {n : Arity} → Source n → Rows
-rowsOf (numeral p v) = row numeralKind p (min v 4294967295) ∷ []
-rowsOf (metavariable p) = row metavariableKind p 0 ∷ []
-rowsOf (name p) = row nameKind p 0 ∷ []
-rowsOf (application p ts) = row applicationKind p (count ts) ∷ rowsOf ts
-rowsOf none = []
-rowsOf (more t ts) = rowsOf t ++ rowsOf ts
-
--- The rows of several items, in order.
-unfoldable pub rowsOfAll : {A : Type 0} → (A → Rows) → List A → Rows
-rowsOfAll rows [] = []
-rowsOfAll rows (a ∷ rest) = rows a ++ rowsOfAll rows rest
-
-abbrev pub nameRows : Place → Rows
-nameRows p = row nameKind p 0 ∷ []
 
 -- A clause: the number of its patterns, the patterns, the right side.
 abbrev pub clauseRows : Clause → Rows
@@ -66,3 +42,7 @@ declarationRows line (check t) = (11 ∷ line ∷ 0 ∷ 0 ∷ []) ∷ rowsOf t
 
 abbrev pub declaredRows : Declared → Rows
 declaredRows d = declarationRows (d .line) (d .declaration)
+
+-- A row with another number at its end.
+abbrev pub numbered : List ℕ → ℕ → List ℕ
+numbered line n = getD line 0 0 ∷ getD line 1 0 ∷ getD line 2 0 ∷ n ∷ []

@@ -2,67 +2,18 @@
 //
 // The entry points are `parse`, `parse_text` and `number`. They ask nothing of their caller, and each contract fixes the answer and every byte of the lent
 // rows on all inputs.
-mod tokens; // reading tokens and writing rows
-mod terms; // terms: the cycle of calls
-mod lists; // names, and lists of items
 mod declarations; // declarations
 
 use declarations::declarations;
+pub use term_parser::Refusal;
+use term_parser::Step;
 ghost use mathlib.Core.Path.{_≡_};
 ghost use Rattle.parser.specs.Parser.{numberOf, Parsing, ParsingText};
 
-// The kinds of rows beside those of tokens.
-pub const APPLICATION: u32 = 24;
-
+// The kinds of rows beside those of tokens and terms.
 pub const CLAUSE: u32 = 25;
 
 pub const BINDERS: u32 = 26;
-
-// How many parentheses may be open together.
-const PARENTHESES: u32 = 64;
-
-// A token: the numbers of its row.
-pub struct Token {
-    pub kind: u32,
-    pub start: u32,
-    pub length: u32,
-    pub line: u32,
-}
-
-// Why a text is refused.
-pub enum Refusal {
-    // 1: the lent rows are fewer than the tokens, or than the limit on the text's bytes; or there are over 65,536 tokens.
-    Storage,
-    // 2 to 6: the text cannot be read.
-    Text(words::Refusal),
-    // 7: a 65th parenthesis would be open.
-    ParenthesisLimit,
-    // 8: a sign was expected.
-    SignExpected,
-    // 9: a name was expected.
-    NameExpected,
-    // 10: a term was expected.
-    TermExpected,
-    // 11: only a name can be applied.
-    OnlyNames,
-    // 12: the left of `=` is neither a name nor an application.
-    LeftOfEquals,
-    // 13: a declaration was expected.
-    DeclarationExpected,
-    // 14: a predicate's type does not end in `Prop`.
-    NoProp,
-    // 15: `by auto` or `by induction x` was expected.
-    ByForm,
-    // 16: another keyword where a declaration starts.
-    OtherKeyword,
-}
-
-// What a reader answers: the next place, how many rows there are, and how many items it read; that there is no such item; or the refusal and its line.
-pub enum Step {
-    At(usize, usize, u32),
-    Absent,
-    Refused(Refusal, u32),
-}
 
 // What `parse` answers: how many declarations there are and how many rows they take, or the refusal and its line.
 pub enum Answer {

@@ -1,6 +1,6 @@
 -- `parse` meets its contract.
 use native.Mathlib.Omega.{arith}
-use Rattle.parser.proofs.Readers.{moved}
+use Rattle.term_parser.proofs.Readers.{moved}
 use Rattle.parser.proofs.StorageLaws.{over, few, parse-short, parse-end, parse-absent, parse-refused}
 use borrow.Author.Needs.{needs}
 use Rattle.parser.proofs.parse.Statement.{statement}

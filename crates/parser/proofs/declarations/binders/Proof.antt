@@ -4,14 +4,16 @@ use Prim.Native.Nat.{_+_, _-_}
 use mathlib.Core.List.{[], _∷_}
 use native.Mathlib.Omega.{arith}
 use lib.ListN.{length, drop, take}
-use Rattle.parser.specs.Contracts.{told}
+use Rattle.term_parser.specs.Contracts.{told}
 use Rattle.parser.specs.Source.{sort}
-use Rattle.parser.specs.Parsing.{kindOf, placeOf, lastLine, parsed, follow, signOf}
-use Rattle.parser.specs.Declarations.{name, behindOpen, bindersOf}
-use Rattle.parser.specs.Rows.{nameRows, rowsOfAll, bindersRows, bindersKind}
-use Rattle.parser.proofs.TokenLaws.{token-there}
-use Rattle.parser.proofs.Readers.{stopped, got, firm-sign}
-use Rattle.parser.proofs.ListLaws.{firm-names, behind-is, behind-not}
+use Rattle.term_parser.specs.Parsing.{kindOf, placeOf, lastLine, parsed, follow, signOf}
+use Rattle.term_parser.specs.Lists.{name}
+use Rattle.parser.specs.Declarations.{behindOpen, bindersOf}
+use Rattle.term_parser.specs.Rows.{nameRows, rowsOfAll}
+use Rattle.parser.specs.Rows.{bindersRows, bindersKind}
+use Rattle.term_parser.proofs.TokenLaws.{token-there}
+use Rattle.term_parser.proofs.Readers.{stopped, got, firm-sign}
+use Rattle.term_parser.proofs.ListLaws.{firm-names, behind-is, behind-not}
 use Rattle.parser.proofs.PartLaws.{name-part, name-stopped, start, part, part-stopped, sign-part, sign-stopped, finish, room-along}
 use borrow.Author.Needs.{needs}
 use Rattle.parser.proofs.declarations.binders.Statement.{statement}

@@ -4,14 +4,16 @@ use Prim.Native.Nat.{_+_, _-_}
 use mathlib.Core.List.{[], _∷_, _++_}
 use native.Mathlib.Omega.{arith}
 use lib.ListN.{drop, take}
-use Rattle.parser.specs.Contracts.{told}
-use Rattle.parser.specs.Parsing.{kindOf, lastLine, parsed, follow, signOf}
-use Rattle.parser.specs.Declarations.{app, behindBar, clauseOf}
-use Rattle.parser.specs.Rows.{rowsOf, rowsOfAll, clauseRows, clauseKind}
-use Rattle.parser.proofs.TokenLaws.{token-there}
-use Rattle.parser.proofs.Readers.{stopped, got, firm-sign}
-use Rattle.parser.proofs.TermLaws.{firm-app, appAt}
-use Rattle.parser.proofs.ListLaws.{firm-patterns, behind-is, behind-not}
+use Rattle.term_parser.specs.Contracts.{told}
+use Rattle.term_parser.specs.Parsing.{kindOf, lastLine, parsed, follow, signOf}
+use Rattle.term_parser.specs.Lists.{app}
+use Rattle.parser.specs.Declarations.{behindBar, clauseOf}
+use Rattle.term_parser.specs.Rows.{rowsOf, rowsOfAll}
+use Rattle.parser.specs.Rows.{clauseRows, clauseKind}
+use Rattle.term_parser.proofs.TokenLaws.{token-there}
+use Rattle.term_parser.proofs.Readers.{stopped, got, firm-sign}
+use Rattle.term_parser.proofs.TermLaws.{firm-app, appAt}
+use Rattle.term_parser.proofs.ListLaws.{firm-patterns, behind-is, behind-not}
 use Rattle.parser.proofs.PartLaws.{start, part, part-stopped, sign-part, sign-stopped, finish, room-along}
 use borrow.Author.Needs.{needs}
 use Rattle.parser.proofs.declarations.clause.Statement.{statement}

@@ -4,12 +4,12 @@ use Prim.Native.Nat.{_+_, _-_}
 use native.Mathlib.Omega.{arith}
 use lib.ListN.{drop, take}
 use mathlib.Core.Logic.{inl, inr}
-use Rattle.parser.specs.Contracts.{told}
+use Rattle.term_parser.specs.Contracts.{told}
 use Rattle.parser.specs.Source.{sort, ctor, pred, rule, def, theorem, eval, check}
-use Rattle.parser.specs.Parsing.{lastLine}
+use Rattle.term_parser.specs.Parsing.{lastLine}
 use Rattle.parser.specs.Declarations.{theoremOf, sortOf, ctorOf, predOf, ruleOf, defOf, evalOf, checkOf}
 use Rattle.parser.specs.Rows.{declaredRows}
-use Rattle.parser.proofs.TokenLaws.{line-in}
+use Rattle.term_parser.proofs.TokenLaws.{line-in}
 use Rattle.parser.proofs.DeclarationLaws.{up, declared, undeclared, no-declaration, starts-sort, starts-ctor, starts-pred, starts-rule, starts-def, starts-theorem, starts-eval, starts-check, starts-nothing, no-keyword}
 use borrow.Author.Needs.{needs}
 use Rattle.parser.proofs.declarations.declaration.Statement.{statement}

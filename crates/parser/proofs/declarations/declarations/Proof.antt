@@ -3,12 +3,12 @@ use Prim.Native.Nat.{_-_}
 use native.Mathlib.Omega.{arith}
 use lib.ListN.{length}
 use Prim.Native.Nat.{zero-le}
-use Rattle.parser.specs.Parsing.{lastLine}
+use Rattle.term_parser.specs.Parsing.{lastLine}
 use Rattle.parser.specs.Declarations.{declarationOf, parseOf}
 use Rattle.parser.specs.Rows.{declaredRows}
-use Rattle.parser.proofs.Readers.{moved, Looped, loop-start, loop-turn}
-use Rattle.parser.proofs.TermLaws.{room-on}
-use Rattle.parser.proofs.ListLaws.{list-absent, list-refused}
+use Rattle.term_parser.proofs.Readers.{moved, Looped, loop-start, loop-turn}
+use Rattle.term_parser.proofs.TermLaws.{room-on}
+use Rattle.term_parser.proofs.ListLaws.{list-absent, list-refused}
 use borrow.Author.Needs.{needs}
 use Rattle.parser.proofs.declarations.declarations.Statement.{statement}
 use Rattle.parser.proofs.declarations.declarations.Tie as tie

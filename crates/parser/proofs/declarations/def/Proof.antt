@@ -5,12 +5,14 @@ use mathlib.Core.List.{[], _∷_, _++_}
 use native.Mathlib.Omega.{arith}
 use lib.ListN.{drop}
 use Rattle.parser.specs.Source.{def}
-use Rattle.parser.specs.Parsing.{lastLine, parsed, plus, follow, repeat}
-use Rattle.parser.specs.Grammar.{nameOf}
-use Rattle.parser.specs.Declarations.{arrowsOf, clauseOf, defOf}
-use Rattle.parser.specs.Rows.{declarationRows, nameRows, rowsOfAll, clauseRows}
-use Rattle.parser.proofs.Readers.{stopped, got, firm-repeat}
-use Rattle.parser.proofs.ListLaws.{firm-name, firm-title, firm-separated}
+use Rattle.term_parser.specs.Parsing.{lastLine, parsed, plus, follow, repeat}
+use Rattle.term_parser.specs.Grammar.{nameOf}
+use Rattle.term_parser.specs.Lists.{arrowsOf}
+use Rattle.parser.specs.Declarations.{clauseOf, defOf}
+use Rattle.term_parser.specs.Rows.{nameRows, rowsOfAll}
+use Rattle.parser.specs.Rows.{declarationRows, clauseRows}
+use Rattle.term_parser.proofs.Readers.{stopped, got, firm-repeat}
+use Rattle.term_parser.proofs.ListLaws.{firm-name, firm-title, firm-separated}
 use Rattle.parser.proofs.PartLaws.{start, part, part-stopped, finish, room-along}
 use borrow.Author.Needs.{needs}
 use Rattle.parser.proofs.declarations.def.Statement.{statement}

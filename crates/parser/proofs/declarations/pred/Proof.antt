@@ -4,14 +4,16 @@ use Prim.Native.Nat.{_+_, _-_}
 use mathlib.Core.List.{[], _∷_, _++_}
 use native.Mathlib.Omega.{arith}
 use lib.ListN.{length, drop, take}
-use Rattle.parser.specs.declared.Refusal.the-variants.{NoProp}
+use Rattle.term_parser.specs.declared.Refusal.the-variants.{NoProp}
 use Rattle.parser.specs.Source.{pred}
-use Rattle.parser.specs.Parsing.{lineOf, when, refused, lastLine, parsed, plus, follow}
-use Rattle.parser.specs.Grammar.{nameOf}
-use Rattle.parser.specs.Declarations.{endsInProp, arrowsOf, predOf}
-use Rattle.parser.specs.Rows.{declarationRows, nameRows, rowsOfAll}
-use Rattle.parser.proofs.Readers.{stopped, got}
-use Rattle.parser.proofs.ListLaws.{firm-name, firm-title, firm-separated}
+use Rattle.term_parser.specs.Parsing.{lineOf, when, refused, lastLine, parsed, plus, follow}
+use Rattle.term_parser.specs.Grammar.{nameOf}
+use Rattle.term_parser.specs.Lists.{arrowsOf}
+use Rattle.parser.specs.Declarations.{endsInProp, predOf}
+use Rattle.term_parser.specs.Rows.{nameRows, rowsOfAll}
+use Rattle.parser.specs.Rows.{declarationRows}
+use Rattle.term_parser.proofs.Readers.{stopped, got}
+use Rattle.term_parser.proofs.ListLaws.{firm-name, firm-title, firm-separated}
 use Rattle.parser.proofs.PartLaws.{start, part, part-stopped, finish, room-along}
 use Rattle.parser.proofs.DeclarationLaws.{separated-some, refuse, without-last, prop-is, init-long}
 use borrow.Author.Needs.{needs}

@@ -4,11 +4,11 @@ use Prim.Native.Nat.{_+_, _-_}
 use native.Mathlib.Omega.{arith}
 use lib.ListN.{drop}
 use Rattle.parser.specs.Source.{sort}
-use Rattle.parser.specs.Parsing.{lastLine, parsed, plus}
+use Rattle.term_parser.specs.Parsing.{lastLine, parsed, plus}
 use Rattle.parser.specs.Declarations.{sortOf}
 use Rattle.parser.specs.Rows.{declarationRows}
-use Rattle.parser.proofs.Readers.{stopped}
-use Rattle.parser.proofs.ListLaws.{firm-name}
+use Rattle.term_parser.proofs.Readers.{stopped}
+use Rattle.term_parser.proofs.ListLaws.{firm-name}
 use Rattle.parser.proofs.PartLaws.{start, part, part-stopped, finish}
 use borrow.Author.Needs.{needs}
 use Rattle.parser.proofs.declarations.sort.Statement.{statement}

@@ -3,9 +3,9 @@ use mathlib.Core.Path.{_≡_, refl, sym, ap, _∙_}
 use Prim.Native.Nat.{_+_}
 use native.Mathlib.Omega.{arith}
 use lib.ListN.{drop}
-use Rattle.parser.specs.Parsing.{kindOf}
-use Rattle.parser.proofs.TokenLaws.{token-there}
-use Rattle.parser.proofs.TermLaws.{room-on}
+use Rattle.term_parser.specs.Parsing.{kindOf}
+use Rattle.term_parser.proofs.TokenLaws.{token-there}
+use Rattle.term_parser.proofs.TermLaws.{room-on}
 use Rattle.parser.proofs.TacticLaws.{no-tactic, no-by, by-auto, neither, by-induction}
 use borrow.Author.Needs.{needs}
 use Rattle.parser.proofs.declarations.tactic.Statement.{statement}

@@ -5,12 +5,13 @@ use mathlib.Core.List.{[]}
 use native.Mathlib.Omega.{arith}
 use lib.ListN.{drop}
 use Rattle.parser.specs.Source.{theorem}
-use Rattle.parser.specs.Parsing.{lastLine, parsed, plus, follow, repeat, signOf}
-use Rattle.parser.specs.Declarations.{theoremOf, tacticOf, name, bindersOf, judgmentsOf}
+use Rattle.term_parser.specs.Parsing.{lastLine, parsed, plus, follow, repeat, signOf}
+use Rattle.term_parser.specs.Lists.{name, judgmentsOf}
+use Rattle.parser.specs.Declarations.{theoremOf, tacticOf, bindersOf}
 use Rattle.parser.specs.Rows.{declarationRows}
-use Rattle.parser.proofs.Readers.{stopped, got, moved, firm-repeat, firm-sign}
-use Rattle.parser.proofs.TermLaws.{firm-term, termAt}
-use Rattle.parser.proofs.ListLaws.{firm-name, firm-separated}
+use Rattle.term_parser.proofs.Readers.{stopped, got, moved, firm-repeat, firm-sign}
+use Rattle.term_parser.proofs.TermLaws.{firm-term, termAt}
+use Rattle.term_parser.proofs.ListLaws.{firm-name, firm-separated}
 use Rattle.parser.proofs.PartLaws.{start, part, part-stopped, sign-part, sign-stopped, finish, room-along}
 use Rattle.parser.proofs.DeclarationLaws.{marked, tactic-rows, theorem-rows}
 use Rattle.parser.proofs.TacticLaws.{firm-tactic}
