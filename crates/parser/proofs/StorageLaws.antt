@@ -21,7 +21,7 @@ use Rattle.parser.specs.Declarations.{Declared, parseOf}
 use Rattle.term_parser.specs.Rows.{Rows, rowsOfAll}
 use Rattle.parser.specs.Rows.{declaredRows}
 use Rattle.term_parser.specs.Contracts.{Lists}
-use Rattle.parser.specs.Parser.{answerOf, rowsAfter, tooShort, Parsing, parsedText, tokensAfter, tokensOf, shortFor, textOf, ParsingText}
+use Rattle.parser.specs.Parser.{answerOf, rowsAfter, usedOf, tooShort, Parsing, parsedText, tokensAfter, tokensOf, shortFor, textOf, ParsingText}
 use Rattle.term_parser.specs.declared.Refusal.{Refusal}
 use Rattle.term_parser.specs.declared.Refusal.the-variants.{Storage, Text}
 use Rattle.term_parser.specs.declared.Step.{Step}
@@ -54,13 +54,15 @@ module _ (text : List ℕ) (ts : Tokens) (before : Rows) where
   parse-short e = record {
     answer = sym (ap (λ b. cond b (answer.Refused Storage 0) (answerOf (parseOf text ts))) e);
     rows = sym (ap (λ b. cond b before (rowsAfter (length before) (parseOf text ts))) e);
+    fits = omega arith;
   }
 
   module _ (h : length ts ≤ 65536) (k : length ts ≤ length before) where
-    parsing : (x : Parsed (List Declared)) → parseOf text ts ≡ x → {r : Answer} {after : Rows} → r ≡ answerOf x → after ≡ rowsAfter (length before) x → Parsing text ts before r after
-    parsing x e f g = record {
+    parsing : (x : Parsed (List Declared)) → parseOf text ts ≡ x → {r : Answer} {after : Rows} → r ≡ answerOf x → after ≡ rowsAfter (length before) x → usedOf r ≤ length ts → Parsing text ts before r after
+    parsing x e f g i = record {
       answer = f ∙ sym (ap (λ b. cond b (answer.Refused Storage 0) (answerOf (parseOf text ts))) (enough h k) ∙ ap answerOf e);
       rows = g ∙ sym (ap (λ b. cond b before (rowsAfter (length before) (parseOf text ts))) (enough h k) ∙ ap (rowsAfter (length before)) e);
+      fits = i;
     }
 
     module _ {r : Step} {out : Rows} (l : Lists 0 declaredRows (parseOf text ts) ts 0 0 before r out) (long : length out ≡ length before) where
@@ -72,13 +74,13 @@ module _ (text : List ℕ) (ts : Tokens) (before : Rows) where
           let t : take used out ≡ rowsOfAll declaredRows (g .item) = g .written in
           let u : used ≡ length (rowsOfAll declaredRows (g .item)) = sym (length-take-le used out (omega (arith, m))) ∙ ap length t in
           parsing (parsed (g .item) (g .taken)) (g .is) (ap₂ answer.Declarations c u)
-          (w ∙ ap₂ (λ z i. z ++ replicate i zeroRow) t (ap₂ _-_ long u))
+          (w ∙ ap₂ (λ z i. z ++ replicate i zeroRow) t (ap₂ _-_ long u)) (omega (arith, m))
 
       pub parse-absent : r ≡ Absent → {after : Rows} → after ≡ take 0 out ++ replicate (length out - 0) zeroRow → Parsing text ts before (answer.Declarations 0 0) after
-      parse-absent e w = parsing absent (is-absent (l .answers) e) refl (w ∙ (let z : length out - 0 ≡ length before = omega arith in ap (λ i. replicate i zeroRow) z))
+      parse-absent e w = parsing absent (is-absent (l .answers) e) refl (w ∙ (let z : length out - 0 ≡ length before = omega arith in ap (λ i. replicate i zeroRow) z)) (omega arith)
 
       pub parse-refused : {v : Refusal} {line : ℕ} → r ≡ Refused v line → {after : Rows} → after ≡ take 0 out ++ replicate (length out - 0) zeroRow → Parsing text ts before (answer.Refused v line) after
-      parse-refused {v} {line} e w = parsing (refused v line) (is-refused (l .answers) e) refl (w ∙ (let z : length out - 0 ≡ length before = omega arith in ap (λ i. replicate i zeroRow) z))
+      parse-refused {v} {line} e w = parsing (refused v line) (is-refused (l .answers) e) refl (w ∙ (let z : length out - 0 ≡ length before = omega arith in ap (λ i. replicate i zeroRow) z)) (omega arith)
 
 -- Whole texts.
 module _ (text : List ℕ) (limits : Limits) (toks rows : Rows) where
@@ -90,6 +92,7 @@ module _ (text : List ℕ) (limits : Limits) (toks rows : Rows) where
     answer = sym (ap (λ b. cond b (answer.Refused Storage 0) (answerOf (textOf text limits))) e);
     tokens = sym (ap (λ b. cond b toks (tokensAfter (length toks) (tokensOf (lexOf limit text)) (textOf text limits))) e);
     rows = sym (ap (λ b. cond b rows (rowsAfter (length rows) (textOf text limits))) e);
+    fits = omega arith;
   }
 
   pub short-tokens : length toks < limit → shortFor limits toks rows ≡ true
@@ -103,13 +106,14 @@ module _ (text : List ℕ) (limits : Limits) (toks rows : Rows) where
     long-enough = neither (ltb (length toks) limit) (ltb (length rows) limit) (le-ltb _ _ h) (le-ltb _ _ k)
 
     whole : (x : Reading) (y : Parsed (List Declared)) → lexOf limit text ≡ x → parsedText text x ≡ y → {r : Answer} {toks′ rows′ : Rows}
-        → r ≡ answerOf y → toks′ ≡ tokensAfter (length toks) (tokensOf x) y → rows′ ≡ rowsAfter (length rows) y → ParsingText text limits toks rows r toks′ rows′
-    whole x y e f a b c =
+        → r ≡ answerOf y → toks′ ≡ tokensAfter (length toks) (tokensOf x) y → rows′ ≡ rowsAfter (length rows) y → usedOf r ≤ limit → ParsingText text limits toks rows r toks′ rows′
+    whole x y e f a b c d =
         let z : textOf text limits ≡ y = ap (parsedText text) e ∙ f in
         record {
           answer = a ∙ sym (ap (λ b. cond b (answer.Refused Storage 0) (answerOf (textOf text limits))) long-enough ∙ ap answerOf z);
           tokens = b ∙ sym (ap (λ b. cond b toks (tokensAfter (length toks) (tokensOf (lexOf limit text)) (textOf text limits))) long-enough ∙ ap₂ (λ v w. tokensAfter (length toks) (tokensOf v) w) e z);
           rows = c ∙ sym (ap (λ b. cond b rows (rowsAfter (length rows) (textOf text limits))) long-enough ∙ ap (rowsAfter (length rows)) z);
+          fits = d;
         }
 
     module _ {r : Lexed} {toks′ : Rows} (l : Lexing text limits toks r toks′) where
@@ -131,7 +135,7 @@ module _ (text : List ℕ) (limits : Limits) (toks rows : Rows) where
           → ParsingText text limits toks rows (answer.Refused (Text q) line) toks′ rows′
       text-unread {q} {line} e w =
           let x = reading-is e in
-          whole (unread q line) (refused (Text q) line) x refl refl (lexed-rows ∙ ap (lexedRows (length toks)) x) (w ∙ (let z : length rows - 0 ≡ length rows = omega arith in ap (λ i. replicate i zeroRow) z))
+          whole (unread q line) (refused (Text q) line) x refl refl (lexed-rows ∙ ap (lexedRows (length toks)) x) (w ∙ (let z : length rows - 0 ≡ length rows = omega arith in ap (λ i. replicate i zeroRow) z)) (omega arith)
 
       -- or it is read
       module _ {n : ℕ} (e : r ≡ lexed.Tokens n) where
@@ -162,13 +166,16 @@ module _ (text : List ℕ) (limits : Limits) (toks rows : Rows) where
           parsing-rows : rows′ ≡ rowsAfter (length rows) (parseOf text (found .0))
           parsing-rows = subst (λ (z : Tokens). rows′ ≡ cond (tooShort z rows) rows (rowsAfter (length rows) (parseOf text z))) same-part (p .rows) ∙ ap (λ b. cond b rows (rowsAfter (length rows) (parseOf text (found .0)))) not-short
 
+          parsing-fits : usedOf a ≤ limit
+          parsing-fits = let b = p .fits in let l : length part ≡ length (found .0) = ap length same-part in let c = found .2 in let i = tokens-in in omega arith
+
           -- and parsed,
           pub text-parsed : {m i : ℕ} → a ≡ answer.Declarations m i → ParsingText text limits toks rows a toks′ rows′
           text-parsed {m} {i} f = go (parseOf text (found .0)) refl (sym f ∙ parsing-answer) parsing-answer parsing-rows
             where
               go : (y : Parsed (List Declared)) → parseOf text (found .0) ≡ y → answer.Declarations m i ≡ answerOf y → a ≡ answerOf y → rows′ ≡ rowsAfter (length rows) y → ParsingText text limits toks rows a toks′ rows′
-              go (parsed ds o) d z b c = whole (tokens (found .0)) (parsed ds o) (found .1) d b (found .3) c
-              go absent d z b c = whole (tokens (found .0)) absent (found .1) d b (found .3) c
+              go (parsed ds o) d z b c = whole (tokens (found .0)) (parsed ds o) (found .1) d b (found .3) c parsing-fits
+              go absent d z b c = whole (tokens (found .0)) absent (found .1) d b (found .3) c parsing-fits
               go (refused v o) d z b c = no-path cc
 
           -- or not
@@ -179,4 +186,4 @@ module _ (text : List ℕ) (limits : Limits) (toks rows : Rows) where
               go : (y : Parsed (List Declared)) → parseOf text (found .0) ≡ y → answer.Refused v line ≡ answerOf y → a ≡ answerOf y → rows′ ≡ rowsAfter (length rows) y → ParsingText text limits toks rows a toks″ rows′
               go (parsed ds o) d z b c = no-path cc
               go absent d z b c = no-path cc
-              go (refused u o) d z b c = whole (tokens (found .0)) (refused u o) (found .1) d b (w ∙ (let y : length toks′ - 0 ≡ length toks = omega arith in ap (λ i. replicate i zeroRow) y)) c
+              go (refused u o) d z b c = whole (tokens (found .0)) (refused u o) (found .1) d b (w ∙ (let y : length toks′ - 0 ≡ length toks = omega arith in ap (λ i. replicate i zeroRow) y)) c parsing-fits

@@ -2,7 +2,7 @@
 use mathlib.Core.Path.{_≡_}
 use mathlib.Core.Bool.{Bool, cond, _||_}
 use mathlib.Core.List.{List, [], _++_}
-use Prim.Native.Nat.{ℕ, _-_}
+use Prim.Native.Nat.{ℕ, _-_, _≤_}
 use lib.Dec.{ltb}
 use lib.ListN.{length, replicate}
 use Rattle.words.specs.Lexer.{cappedOf, lexOf, zeroRow}
@@ -45,13 +45,19 @@ rowsAfter m (parsed ds n) = rowsOfAll declaredRows ds ++ replicate (m - length (
 rowsAfter m absent = replicate m zeroRow
 rowsAfter m (refused r line) = replicate m zeroRow
 
--- `parse`: over 65,536 tokens, or fewer rows than tokens, give 1 and the rows are left as they are.
+-- How many rows an answer says are in use.
+abbrev pub usedOf : Answer → ℕ
+usedOf (Declarations n used) = used
+usedOf (Refused r line) = 0
+
+-- `parse`: over 65,536 tokens, or fewer rows than tokens, give 1 and the rows are left as they are. No more rows are used than there are tokens.
 abbrev pub tooShort : Tokens → Rows → Bool
 tooShort ts out = ltb 65536 (length ts) || ltb (length out) (length ts)
 
 pub record Parsing (text : List ℕ) (ts : Tokens) (before : Rows) (r : Answer) (after : Rows) : Type 0 where
   pub answer : r ≡ cond (tooShort ts before) (Refused Storage 0) (answerOf (parseOf text ts))
   pub rows : after ≡ cond (tooShort ts before) before (rowsAfter (length before) (parseOf text ts))
+  pub fits : usedOf r ≤ length ts
 
 -- A whole text: it is read to its end before it is parsed.
 abbrev pub parsedText : List ℕ → Reading → Parsed (List Declared)
@@ -68,7 +74,7 @@ abbrev pub tokensOf : Reading → Tokens
 tokensOf (tokens ts) = ts
 tokensOf (unread r line) = []
 
--- `parse_text`: fewer rows of either kind than the limit on the text's bytes give 1, and both are left as they are.
+-- `parse_text`: fewer rows of either kind than the limit on the text's bytes give 1, and both are left as they are. No more rows are used than the limit.
 abbrev pub shortFor : Limits → Tokens → Rows → Bool
 shortFor limits ts out = ltb (length ts) (cappedOf limits .text) || ltb (length out) (cappedOf limits .text)
 
@@ -79,3 +85,4 @@ pub record ParsingText (text : List ℕ) (limits : Limits) (tokensBefore rowsBef
   pub answer : r ≡ cond (shortFor limits tokensBefore rowsBefore) (Refused Storage 0) (answerOf (textOf text limits))
   pub tokens : tokensAfterwards ≡ cond (shortFor limits tokensBefore rowsBefore) tokensBefore (tokensAfter (length tokensBefore) (tokensOf (lexOf (cappedOf limits .text) text)) (textOf text limits))
   pub rows : rowsAfterwards ≡ cond (shortFor limits tokensBefore rowsBefore) rowsBefore (rowsAfter (length rowsBefore) (textOf text limits))
+  pub fits : usedOf r ≤ cappedOf limits .text
