@@ -1,4 +1,4 @@
-// Parser: from tokens to declarations. The Rust's `Parser` and `parse`, with the refusals 7 to 16.
+// Parser: from tokens to declarations. The Rust's `parse`, and the declarations of its `Parser`, with the refusals 7 to 16. Terms are read by `term_parser`.
 //
 // The entry points are `parse`, `parse_text` and `number`. They ask nothing of their caller, and each contract fixes the answer and every byte of the lent
 // rows on all inputs.
