@@ -1,5 +1,6 @@
-//! A third side: the definitions of crates/term_parser/specs and crates/parser/specs, word for word and under their names,
-//! so that they are compared with the original before anything is proved to follow them. Lists are slices and vectors; a refusal is its number.
+//! A third side: the definitions of crates/term_parser/specs and crates/parser/specs, word for word and under their
+//! names, so that they are compared with the original before anything is proved to follow them. Lists are slices and
+//! vectors; a refusal is its number.
 
 use crate::tokens::Row;
 
