@@ -41,7 +41,7 @@ elem-append : (x : ℕ) (e s : List ℕ) → elem x e ≡ true → elem x (e ++ 
 elem-append x [] s h = true-false h refl
 elem-append x (y ∷ e) s h = by-bool (same x y) (λ p. rw p) (λ p. rw p (elem-append x e s (rw p at h)))
 
-elem-last : (x : ℕ) (e : List ℕ) → elem x (e ++ (x ∷ [])) ≡ true
+pub elem-last : (x : ℕ) (e : List ℕ) → elem x (e ++ (x ∷ [])) ≡ true
 elem-last x [] = rw same-refl
 elem-last x (y ∷ e) = by-bool (same x y) (λ p. rw p) (λ p. rw p (elem-last x e))
 
@@ -61,15 +61,15 @@ pub metBack-covers : (ts : Terms) (e : List ℕ) → Covers (metBack ts e) ts
 metBack-covers nil e = tt
 metBack-covers (cons t ts) e = (met-covers t (metBack ts e), covers-grows ts (metBack ts e) (met t (metBack ts e)) (met-grows t (metBack ts e)) (metBack-covers ts e))
 
-place-append : (x : ℕ) (e s : List ℕ) → elem x e ≡ true → place (e ++ s) x ≡ place e x
+pub place-append : (x : ℕ) (e s : List ℕ) → elem x e ≡ true → place (e ++ s) x ≡ place e x
 place-append x [] s h = true-false h refl
 place-append x (y ∷ e) s h = by-bool (same x y) (λ p. rw p) (λ p. rw p (ap suc (place-append x e s (rw p at h))))
 
-place-lt : (x : ℕ) (e : List ℕ) → elem x e ≡ true → place e x < length e
+pub place-lt : (x : ℕ) (e : List ℕ) → elem x e ≡ true → place e x < length e
 place-lt x [] h = true-false h refl
 place-lt x (y ∷ e) h = by-bool (same x y) (λ p. rw p (omega arith)) (λ p. rw p (let i = place-lt x e (rw p at h) in omega arith))
 
-at-place : (x : ℕ) (e : List ℕ) → elem x e ≡ true → getD e (place e x) 0 ≡ x
+pub at-place : (x : ℕ) (e : List ℕ) → elem x e ≡ true → getD e (place e x) 0 ≡ x
 at-place x [] h = true-false h refl
 at-place x (y ∷ e) h = by-bool (same x y) (λ p. rw p (sym (same-true p))) (λ p. rw p (at-place x e (rw p at h)))
 
