@@ -12,7 +12,7 @@ use Rattle.terms.specs.Numbers.{same, by-bool, true-false, same-refl, same-true
 use Rattle.terms.specs.Term.{Kind, Syn, var, app, nil, cons, Below}
 use Rattle.arena.specs.Copies.{patternRoom}
 use Rattle.resolution.specs.Fresh.{elem, met, place}
-use Rattle.resolution.specs.FreshLaws.{elem-last, place-append, place-lt, at-place}
+use Rattle.resolution.specs.FreshLaws.{Grows, covers-grows, elem-last, place-append, place-lt, at-place}
 use Rattle.meeting.specs.Places.{Variables, Placed, Records, Given, inOrder, numbersBelow}
 
 -- A table in which no variable has a place.
@@ -34,7 +34,7 @@ variables-last x (y ∷ e) l h v =
     let (p, q) = or-false (same x y) (elem x e) h in
     (v .0, elem-other y x e (λ d. true-false (rw d (same-refl x)) p) ∙ v .1, variables-last x e l q (v .2))
 
--- Meeting a term keeps a list of variables one.
+-- Meeting a term makes no variable stand twice.
 pub met-variables : {s : Kind} (t : Syn s) (e : List ℕ) → Below patternRoom t → Variables e → Variables (met t e)
 met-variables (var x) e b v = by-bool (elem x e) (λ p. rw p v) (λ p. rw p (variables-last x e b p v))
 met-variables (app f ts) e b v = met-variables ts e b v
@@ -82,6 +82,21 @@ placed-yes e table x h l p = h x l ∙ rw p
 
 pub placed-no : (e table : List ℕ) (x : ℕ) → Placed e table → x < patternRoom → elem x e ≡ false → getD table x 0 ≡ patternRoom
 placed-no e table x h l p = h x l ∙ rw p
+
+-- A variable in the list has room.
+variables-small : (x : ℕ) (e : List ℕ) → Variables e → elem x e ≡ true → x < patternRoom
+variables-small x [] v p = true-false p refl
+variables-small x (y ∷ e) v p = by-bool (same x y) (λ q. let d = same-true q in let l = v .0 in omega arith) (λ q. variables-small x e (v .2) (rw q at p))
+
+-- Places given once stay: those of the first variables met are below their number.
+pub records-earlier : (e : List ℕ) {e′ table : List ℕ} {count : ℕ} → Records e′ table count → Grows e e′ → (x : ℕ) → elem x e ≡ true
+    → (getD table x 0 ≡ place e x) × (getD table x 0 < length e)
+records-earlier e {e′} {table} h g x p =
+    let p′ : elem x e′ ≡ true = covers-grows (var x) e e′ g p in
+    let at : getD table x 0 ≡ place e x = placed-yes e′ table x (h .placed) (variables-small x e′ (h .variables) p′) p′
+    ∙ ap (λ (l : List ℕ). place l x) (g .1) ∙ place-append x e (g .0) p in
+    let lt = place-lt x e p in
+    (at, omega arith)
 
 -- Meeting one variable: the table keeps its length,
 pub given-kept : (table : List ℕ) (x count count′ : ℕ) (table′ : List ℕ) → Given table x count count′ table′ → length table′ ≡ length table

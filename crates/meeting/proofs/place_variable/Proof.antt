@@ -1,6 +1,7 @@
 -- `place_variable` meets its contract: it writes exactly where the table says that the variable has no place.
-use mathlib.Core.Path.{refl, sym}
+use mathlib.Core.Path.{refl}
 use borrow.Author.Needs.{needs}
+use native.Mathlib.Omega.{arith}
 use Rattle.meeting.proofs.place_variable.Statement.{statement}
 use Rattle.meeting.proofs.place_variable.Tie as tie
 
@@ -11,7 +12,7 @@ slice-read-if1 : tie.Need-slice-read-if1
 slice-read-if1 c = search needs
 
 returns : tie.Need-returns
-returns c = record { new = λ q. absurd ((c .if1 .taken) q); old = λ q. (refl, refl) }
+returns c = record { new = λ q. let z : ⊥ = omega (arith, (c .if1 .taken)) in absurd z; old = λ q. (refl, refl) }
 
 mul-places : tie.Need-mul-places
 mul-places c = search needs
@@ -26,7 +27,7 @@ same-length : tie.Need-same-length
 same-length c = search needs
 
 returns-2 : tie.Need-returns-2
-returns-2 c = record { new = λ q. (refl, refl); old = λ q. absurd (q (c .if1 .left)) }
+returns-2 c = record { new = λ q. (refl, refl); old = λ q. let z : ⊥ = omega (arith, (c .if1 .left)) in absurd z }
 
 pub place-variable-spec : {M : Type 1} → statement M
 place-variable-spec =
