@@ -1,13 +1,13 @@
 -- What is left to be met: the rows of the stack as a list of terms, and how words and variables of such a list are counted.
 use Prim.Native.Nat.{ℕ, zero, suc, _+_, _*_, _≤_, _<_}
 use native.Mathlib.Omega.{arith}
-use mathlib.Core.Path.{_≡_, refl, sym, ap, ap₂, _∙_}
+use mathlib.Core.Path.{_≡_, refl, ap}
 use mathlib.Core.Bool.{Bool, true, false}
 use mathlib.Core.List.{List, [], _∷_}
 use lib.ListN.{getD, length, set}
 use lib.Seq.{getD-set-same, getD-set-other}
 use Rattle.terms.specs.Term.{nil, cons, Term, Terms, count, append}
-use Rattle.arena.specs.Cells.{Cells, args, denote, cells}
+use Rattle.arena.specs.Cells.{Cells, args, denote}
 use Rattle.arena.specs.Copies.{patternRoom}
 use Rattle.arena.specs.Rows.{Rows, column}
 use Rattle.resolution.specs.Fresh.{met}
@@ -46,13 +46,13 @@ args-count g w p zero = refl
 args-count g w p (suc n) = ap suc (args-count g w (suc p) n)
 
 -- Rows written at d or above leave the first d rows as they are.
-pub unmet-set : (w : Cells) (rows : Rows) (d i : ℕ) (row : List ℕ) → d ≤ i → unmet w (set rows i row) d ≡ unmet w rows d
+unmet-set : (w : Cells) (rows : Rows) (d i : ℕ) (row : List ℕ) → d ≤ i → unmet w (set rows i row) d ≡ unmet w rows d
 unmet-set w rows zero i row l = refl
 unmet-set w rows (suc d) i row l =
     let e : getD (set rows i row) d [] ≡ getD rows d [] = getD-set-other rows i d row [] (λ q. omega arith) in
     rw (e, unmet-set w rows d i row (omega arith))
 
-pub turns-set : (rows : Rows) (d i : ℕ) (row : List ℕ) → d ≤ i → turns (set rows i row) d ≡ turns rows d
+turns-set : (rows : Rows) (d i : ℕ) (row : List ℕ) → d ≤ i → turns (set rows i row) d ≡ turns rows d
 turns-set rows zero i row l = refl
 turns-set rows (suc d) i row l =
     let e : getD (set rows i row) d [] ≡ getD rows d [] = getD-set-other rows i d row [] (λ q. omega arith) in

@@ -1,16 +1,16 @@
 -- The turns of the walk's loop: each keeps what the whole comes to, and what is left to do falls.
-use Prim.Native.Nat.{ℕ, zero, suc, _+_, _-_, _*_, _≤_, _<_}
+use Prim.Native.Nat.{ℕ, suc, _+_, _-_, _*_, _≤_, _<_}
 use native.Mathlib.Omega.{arith}
 use native.Mathlib.Numerals.{add-one}
 use mathlib.Core.Path.{_≡_, refl, sym, ap, ap₂, _∙_, subst}
 use mathlib.Core.Logic.{_≢_}
 use mathlib.Core.Bool.{Bool, true, false}
 use mathlib.Core.List.{List, [], _∷_}
-use lib.ListN.{getD, length, set, length-set}
+use lib.ListN.{length, set, length-set}
 use lib.Seq.{getD-set-same, getD-set-other}
 use Rattle.terms.specs.Numbers.{by-same, by-less, true-false}
-use Rattle.terms.specs.Term.{var, app, nil, cons, Term, Terms, append}
-use Rattle.arena.specs.Cells.{headers, Cells, cells, arityOf, symbolOf, args, denote, Reference, denote-node, denote-variable, reference-argument}
+use Rattle.terms.specs.Term.{var, app, cons, Terms, append}
+use Rattle.arena.specs.Cells.{headers, cells, arityOf, symbolOf, args, denote, Reference, denote-node, denote-variable, reference-argument}
 use Rattle.arena.specs.Copies.{patternRoom}
 use Rattle.arena.specs.Rows.{Rows, column}
 use Rattle.resolution.specs.Fresh.{met}
@@ -18,9 +18,8 @@ use Rattle.resolution.specs.Search.{words}
 use Rattle.meeting.specs.Places.{Records, Given}
 use Rattle.meeting.specs.PlaceLaws.{variables-few, given-kept, records-met}
 use Rattle.meeting.specs.Contract.{termOf, Ready, Walked}
-use Rattle.meeting.specs.declared.Met.{Met}
-use Rattle.meeting.specs.declared.Met.the-variants.{Places, Over}
-use Rattle.meeting.proofs.Pending.{unmet, pending, turns, one, words-append, met-append, args-count, unmet-set, turns-set, unmet-put, turns-put}
+use Rattle.meeting.specs.declared.Met.the-variants.{Places}
+use Rattle.meeting.proofs.Pending.{unmet, pending, turns, one, words-append, met-append, args-count, unmet-put, turns-put}
 
 -- n references in use, from the address p on.
 pub record Row (pattern : List ℕ) (used p n : ℕ) : Type 0 where

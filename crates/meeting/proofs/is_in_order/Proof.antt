@@ -1,9 +1,7 @@
 -- `is_in_order` meets its contract. The loop's invariant: the places of the variables below `x` are their own numbers.
 use Prim.Native.Nat.{ℕ, _≤_, _<_, _-_}
-use mathlib.Core.Path.{_≡_, refl, sym}
-use mathlib.Core.Bool.{true}
-use native.Mathlib.Numerals.{add-one}
-use lib.ListN.{getD, length}
+use mathlib.Core.Path.{_≡_, sym}
+use lib.ListN.{getD}
 use borrow.Author.Count.{below-none, below-more}
 use Rattle.meeting.specs.PlaceLaws.{each-order, order-fails}
 use borrow.Author.Needs.{needs}

@@ -1,6 +1,5 @@
 -- `meet` meets its contract. The loop's invariant: the words spent and those of what is left are the whole term's, and meeting what is left, from the
 -- variables that the table records, comes to meeting the whole. What falls: words left to spend, arguments left on the stack, rows to close.
-use Prim.Native.Nat.{_≤_}
 use mathlib.Core.Path.{refl}
 use Rattle.meeting.proofs.Turns.{Turn, left, turn-start, few, long, less-one, turn-variable, node-words, turn-over, free-row, less-enter, turn-enter, turn-done, last-row, less-close, turn-close, less-next, turn-next}
 use borrow.Author.Needs.{needs}
