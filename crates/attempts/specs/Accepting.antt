@@ -32,15 +32,15 @@ part-accepted pattern places arities from count n there low accept before number
       address = λ i l v h. let b = each i (omega arith) .below v h in omega arith;
     }
 
--- The words: succ y at 0, succ x at 2, the conclusion at 4, the premise at 7.
+-- The words: the premise at 0, succ y at 3, succ x at 5, the conclusion at 7.
 abbrev pub examplePattern : List ℕ
-examplePattern = 1048577 ∷ 1 ∷ 1048577 ∷ 0 ∷ 1048610 ∷ 64 ∷ 66 ∷ 1048610 ∷ 1 ∷ 0 ∷ []
+examplePattern = 1048610 ∷ 1 ∷ 0 ∷ 1048577 ∷ 1 ∷ 1048577 ∷ 0 ∷ 1048610 ∷ 67 ∷ 69 ∷ []
 
 abbrev pub examplePlaces : List ℕ
 examplePlaces = 1 ∷ 0 ∷ []
 
 abbrev pub exampleStored : Stored
-exampleStored = record { from = 0; head = 7; body = 3; conclusion = 68; met = 2; variables = 2 }
+exampleStored = record { from = 0; head = 7; body = 3; conclusion = 71; met = 2; variables = 2 }
 
 nothing-formed : WellFormed patternRoom (cells examplePattern) patternRoom 0
 nothing-formed = record { fits = λ a l. let z : ⊥ = omega arith in absurd z; arguments = λ a i l. let z : ⊥ = omega arith in absurd z }
@@ -62,17 +62,17 @@ variables-two (suc (suc (suc (suc (suc (suc (suc (suc zero)))))))) l v = omega a
 variables-two (suc (suc (suc (suc (suc (suc (suc (suc (suc zero))))))))) l v = omega arith
 variables-two (suc (suc (suc (suc (suc (suc (suc (suc (suc (suc i)))))))))) l v = absurd (omega arith)
 
-head-part : Part examplePattern examplePlaces 0 7 2
+body-part : Part examplePattern examplePlaces 0 3 2
 unfolding inForm isHeader isArgument less same
-head-part = part-accepted examplePattern examplePlaces (1 ∷ 2 ∷ []) 0 7 2 (omega arith) (omega arith) refl nothing-formed (λ i l v. two (getD examplePattern (0 + i) 0) (variables-two (0 + i) (omega arith) v))
+body-part = part-accepted examplePattern examplePlaces (1 ∷ 2 ∷ []) 0 3 2 (omega arith) (omega arith) refl nothing-formed (λ i l v. two (getD examplePattern (0 + i) 0) (variables-two (0 + i) (omega arith) v))
 
-body-part : Part examplePattern examplePlaces 7 3 2
+head-part : Part examplePattern examplePlaces 3 7 2
 unfolding inForm isHeader isArgument less same
-body-part =
-    part-accepted examplePattern examplePlaces (1 ∷ 2 ∷ []) 7 3 2 (omega arith) (omega arith) refl (head-part .formed)
-    (λ i l v. two (getD examplePattern (7 + i) 0) (variables-two (7 + i) (omega arith) v))
+head-part =
+    part-accepted examplePattern examplePlaces (1 ∷ 2 ∷ []) 3 7 2 (omega arith) (omega arith) refl (body-part .formed)
+    (λ i l v. two (getD examplePattern (3 + i) 0) (variables-two (3 + i) (omega arith) v))
 
-met-two : allVars (ruleOf examplePattern (71 ∷ []) exampleStored) ≡ 1 ∷ 0 ∷ []
+met-two : allVars (ruleOf examplePattern (64 ∷ []) exampleStored) ≡ 1 ∷ 0 ∷ []
 unfolding ruleOf denote decode less same
 met-two = refl
 
@@ -80,13 +80,13 @@ places-met : (x : ℕ) → elem x (1 ∷ 0 ∷ []) ≡ true → getD examplePlac
 unfolding same
 places-met x h = by-same x 1 (λ p e. rw p refl) (λ p e. by-same x 0 (λ q f. rw q refl) (λ q f. true-false h (rw (e, f) refl)))
 
-pub stored-example : StoredRule examplePattern (71 ∷ []) examplePlaces exampleStored
+pub stored-example : StoredRule examplePattern (64 ∷ []) examplePlaces exampleStored
 unfolding ruleOf denote decode less same
 stored-example = record {
-  headPart = head-part;
   bodyPart = body-part;
-  conclusion = record { listed = λ v. absurd (omega arith); numbered = λ v. absurd (omega arith); from-on = λ v. omega arith; below = λ v. omega arith; header = λ v. omega arith };
+  headPart = head-part;
   premise = λ i l. let e : i ≡ 0 = omega arith in rw e (record { listed = λ v. absurd (omega arith); numbered = λ v. absurd (omega arith); from-on = λ v. omega arith; below = λ v. omega arith; header = λ v. omega arith });
+  conclusion = record { listed = λ v. absurd (omega arith); numbered = λ v. absurd (omega arith); from-on = λ v. omega arith; below = λ v. omega arith; header = λ v. omega arith };
   headWords = refl;
   bodyWords = refl;
   headVariables = refl;

@@ -44,11 +44,11 @@ module _ {room limit : ℕ} {pattern places : List ℕ} {stored : Stored} {words
     small : room + (used + stored .head) + stored .body ≤ headers
     small = let a = short in let b = asked .low in omega arith
 
-    pub body-copyable : Copyable pattern (stored .from + stored .head) (stored .body) places words room (used + stored .head) counter
+    pub body-copyable : Copyable pattern (stored .from) (stored .body) places words room (used + stored .head) counter
     body-copyable = copyable (asked .part) counter (asked .form) more few space small
 
     -- The premises were copied.
-    pub body-copied : {words′ : List ℕ} → words′ ≡ sets words (used + stored .head) (copied pattern (stored .from + stored .head) (stored .body) places room (used + stored .head) counter)
+    pub body-copied : {words′ : List ℕ} → words′ ≡ sets words (used + stored .head) (copied pattern (stored .from) (stored .body) places room (used + stored .head) counter)
         → BodyTried room limit pattern places stored words words′ rows rows counter used mark bound true
     body-copied {words′} w = record {
       done = (

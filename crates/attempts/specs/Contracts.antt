@@ -50,7 +50,7 @@ copiedAt places counter from room used r = moved places counter (patternRoom + f
 
 -- What a premise's reference becomes by an attempt from `used` words on: the premises are copied behind the conclusion.
 abbrev pub premiseAt : List ℕ → ℕ → Stored → ℕ → ℕ → ℕ → ℕ
-premiseAt places counter stored room used r = copiedAt places counter (stored .from + stored .head) room (used + stored .head) r
+premiseAt places counter stored room used r = copiedAt places counter (stored .from) room (used + stored .head) r
 
 -- Nothing stays but the counter's advance: the rows are those at entry, and the state is in form with as many words and bindings as at entry.
 pub record Back (room : ℕ) (words′ : List ℕ) (rows rows′ : Rows) (counter used bound : ℕ) : Type 0 where
@@ -103,8 +103,8 @@ pub record Attempted (room limit : ℕ) (pattern premises places : List ℕ) (st
 -- What copying the conclusion and unifying it asks: its words and its reference in form, a state, and a goal.
 pub record HeadAsked (room limit : ℕ) (pattern places : List ℕ) (stored : Stored) (words : List ℕ) (rows links marks stack : Rows)
     (counter used bound goal : ℕ) : Type 0 where
-  pub part : Part pattern places (stored .from) (stored .head) (stored .met)
-  pub root : Root pattern places (stored .from) (stored .head) (stored .met) (stored .conclusion)
+  pub part : Part pattern places (stored .from + stored .body) (stored .head) (stored .met)
+  pub root : Root pattern places (stored .from + stored .body) (stored .head) (stored .met) (stored .conclusion)
   pub few : stored .met ≤ patternRoom
   pub state : State room limit words rows links marks stack counter used bound
   pub refers : Reference room (cells words) counter used goal
@@ -148,7 +148,7 @@ pub record HeadTried (room limit : ℕ) (pattern places : List ℕ) (stored : St
 
 -- What copying the premises asks: their words in form, and a state in form with the conclusion in it; `mark` bindings stood at entry.
 pub record BodyAsked (room limit : ℕ) (pattern places : List ℕ) (stored : Stored) (words : List ℕ) (rows : Rows) (counter used mark bound : ℕ) : Type 0 where
-  pub part : Part pattern places (stored .from + stored .head) (stored .body) (stored .variables)
+  pub part : Part pattern places (stored .from) (stored .body) (stored .variables)
   pub few : stored .variables ≤ patternRoom
   pub grows : stored .met ≤ stored .variables
   pub form : Form room words rows (counter + stored .met) (used + stored .head) bound
@@ -162,9 +162,9 @@ pub record Copied (room : ℕ) (pattern places : List ℕ) (stored : Stored) (wo
   pub same : rows′ ≡ rows
   pub form : Form room words′ rows′ (counter + stored .variables) (used + stored .head + stored .body) bound
   pub bindings : held room words′ rows′ bound ≡ held room words rows bound
-  pub references : (r : ℕ) → Root pattern places (stored .from + stored .head) (stored .body) (stored .variables) r
+  pub references : (r : ℕ) → Root pattern places (stored .from) (stored .body) (stored .variables) r
       → Reference room (cells words′) (counter + stored .variables) (used + stored .head + stored .body) (premiseAt places counter stored room used r)
-  pub denotes : (r : ℕ) → Root pattern places (stored .from + stored .head) (stored .body) (stored .variables) r
+  pub denotes : (r : ℕ) → Root pattern places (stored .from) (stored .body) (stored .variables) r
       → denote room (cells words′) (premiseAt places counter stored room used r) ≡ sub (numbered places counter) (patternOf pattern r)
 
 -- What came of the premises: they were copied, or the limits refuse them and the bindings are undone to the mark.

@@ -61,16 +61,16 @@ module _ {room limit : ℕ} {pattern places : List ℕ} {stored : Stored} {words
     small : room + used + stored .head ≤ headers
     small = let a = short in let b = asked .state .low in omega arith
 
-    pub head-copyable : Copyable pattern (stored .from) (stored .head) places words room used counter
+    pub head-copyable : Copyable pattern (stored .from + stored .body) (stored .head) places words room used counter
     head-copyable = copyable (asked .part) counter (asked .state .form) more few space small
 
-    pub head-movable : Movable places counter (patternRoom + stored .from) (room + used) (stored .conclusion)
+    pub head-movable : Movable places counter (patternRoom + (stored .from + stored .body)) (room + used) (stored .conclusion)
     head-movable = root-movable (asked .part) counter (asked .state .form) more few space small (stored .conclusion) (asked .root)
 
     pub head-scratch : Scratch room (used + stored .head) links marks stack
     head-scratch = scratch-less (used + stored .head) short (asked .state .scratch)
 
-    module _ (words′ : List ℕ) (written : words′ ≡ sets words used (copied pattern (stored .from) (stored .head) places room used counter)) where
+    module _ (words′ : List ℕ) (written : words′ ≡ sets words used (copied pattern (stored .from + stored .body) (stored .head) places room used counter)) where
       kept : Same room (cells words) (cells words′) used
       kept = copied-kept (asked .part) counter (asked .state .form) more few space small words′ written
 
@@ -82,13 +82,13 @@ module _ {room limit : ℕ} {pattern places : List ℕ} {stored : Stored} {words
       pub head-goal : Reference room (cells words′) (counter + stored .met) (used + stored .head) goal
       head-goal = reference-up room more (omega arith) (reference-same room kept (asked .refers))
 
-      pub head-conclusion : (t : ℕ) → t ≡ copiedAt places counter (stored .from) room used (stored .conclusion) → Reference room (cells words′) (counter + stored .met) (used + stored .head) t
+      pub head-conclusion : (t : ℕ) → t ≡ copiedAt places counter (stored .from + stored .body) room used (stored .conclusion) → Reference room (cells words′) (counter + stored .met) (used + stored .head) t
       head-conclusion t e =
           subst (λ (x : ℕ). Reference room (cells words′) (counter + stored .met) (used + stored .head) x) (sym e)
           (copied-reference (asked .part) counter (asked .state .form) more few space small words′ written (stored .conclusion) (asked .root))
 
       -- The same bindings, the same goal and the copied conclusion.
-      same : (t : ℕ) → t ≡ copiedAt places counter (stored .from) room used (stored .conclusion)
+      same : (t : ℕ) → t ≡ copiedAt places counter (stored .from + stored .body) room used (stored .conclusion)
           → unify (counter + stored .met) (held room words rows bound) (denote room (cells words) goal) (instance pattern places stored counter)
           ≡ unify (counter + stored .met) (held room words′ rows bound) (denote room (cells words′) goal) (denote room (cells words′) t)
       same t e =
@@ -98,7 +98,7 @@ module _ {room limit : ℕ} {pattern places : List ℕ} {stored : Stored} {words
           (frame-denote room (cells words) counter used (asked .state .form .words) (cells words′) kept goal (asked .refers))
           (sym (ap (denote room (cells words′)) e ∙ copied-denotes (asked .part) counter (asked .state .form) more few space small words′ written (stored .conclusion) (asked .root)))
 
-      module _ {t : ℕ} (found : t ≡ copiedAt places counter (stored .from) room used (stored .conclusion)) {rows′ links′ marks′ stack′ : Rows} {bound′ : ℕ} {answer : Bool}
+      module _ {t : ℕ} (found : t ≡ copiedAt places counter (stored .from + stored .body) room used (stored .conclusion)) {rows′ links′ marks′ stack′ : Rows} {bound′ : ℕ} {answer : Bool}
           (h : Unified room words′ rows rows′ links links′ marks marks′ stack stack′ (counter + stored .met) (used + stored .head) bound bound′
           goal t answer) where
         -- They do not unify.

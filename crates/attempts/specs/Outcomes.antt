@@ -119,7 +119,7 @@ module _ {room limit : ℕ} {pattern premises places : List ℕ} {stored : Store
   pub small-counts : (counter + stored .met ≤ headers + patternRoom) × (counter + stored .variables ≤ headers + patternRoom) × (used + stored .head + stored .body ≤ headers + headers)
   small-counts =
       let a = form .few in let b = asked .state .low in let d = rule .few in let e = variables-le pattern premises places stored rule counter in
-      let f = form .low in let p = rule .bodyPart .low in
+      let f = form .low in let p = rule .headPart .low in
       (omega arith, omega arith, omega arith)
 
   module _ {words′ : List ℕ} {rows′ links′ marks′ stack′ : Rows} {answer : Meeting} (told : HeadTried room limit pattern places stored words words′ rows rows′ links links′ marks marks′ stack stack′ counter used bound goal answer) where

@@ -1,5 +1,5 @@
 -- What a stored rule stands for (the Rust's `Rule`), and when it is in form: its words are a part of the signature's pattern words, first those of the
--- conclusion and then those of the premises, and a table gives each variable its place in meeting order.
+-- premises and then those of the conclusion, and a table gives each variable its place in meeting order.
 use Prim.Native.Nat.{ℕ, _+_, _-_, _≤_, _<_}
 use mathlib.Core.Path.{_≡_}
 use mathlib.Core.Bool.{true}
@@ -47,12 +47,12 @@ pub record Root (pattern places : List ℕ) (from count n r : ℕ) : Type 0 wher
 
 -- A stored rule in form.
 pub record StoredRule (pattern premises places : List ℕ) (stored : Stored) : Type 0 where
-  -- the words of the conclusion, and those of the premises behind them
-  pub headPart : Part pattern places (stored .from) (stored .head) (stored .met)
-  pub bodyPart : Part pattern places (stored .from + stored .head) (stored .body) (stored .variables)
-  -- the conclusion is one of the first, and each premise one of the second
-  pub conclusion : Root pattern places (stored .from) (stored .head) (stored .met) (stored .conclusion)
-  pub premise : (i : ℕ) → i < length premises → Root pattern places (stored .from + stored .head) (stored .body) (stored .variables) (getD premises i 0)
+  -- the words of the premises, and those of the conclusion behind them
+  pub bodyPart : Part pattern places (stored .from) (stored .body) (stored .variables)
+  pub headPart : Part pattern places (stored .from + stored .body) (stored .head) (stored .met)
+  -- each premise is one of the first, and the conclusion one of the second
+  pub premise : (i : ℕ) → i < length premises → Root pattern places (stored .from) (stored .body) (stored .variables) (getD premises i 0)
+  pub conclusion : Root pattern places (stored .from + stored .body) (stored .head) (stored .met) (stored .conclusion)
   -- each node of the terms is stored once, and no other: the counts are document 01's
   pub headWords : stored .head ≡ words (ruleOf pattern premises stored .conclusion)
   pub bodyWords : stored .body ≡ words (ruleOf pattern premises stored .premises)

@@ -13,7 +13,7 @@ use unifier::unify;
 // The room for variables in patterns: a rule has at most 64 (document 01, refusal 28).
 const PATTERN_ROOM: u32 = 64;
 
-// A stored rule: where its words start among the pattern's, how many its conclusion takes and how many its premises behind them, the reference of its
+// A stored rule: where its words start among the pattern's, how many its conclusion takes and how many its premises before them, the reference of its
 // conclusion, and how many variables are met in the conclusion and in all.
 pub struct Stored {
     pub from: u32,
@@ -76,7 +76,7 @@ fn try_head(
         (now (bindings .entry)) (now (bindings .exit)) (now (links .entry)) (now (links .exit)) (now (marks .entry)) (now (marks .exit))
         (now (stack .entry)) (now (stack .exit)) counter used bound goal r ⌝ }
 {
-    let from = stored.from;
+    let from = stored.from + stored.body;
     let count = stored.head;
     let variables = counter + stored.met;
     let top = used + count;
@@ -130,7 +130,7 @@ fn try_body(
     ensures { λ r. ⌜ BodyTried room limit (now (pattern .entry)) (now (places .entry)) stored (now (words .entry)) (now (words .exit))
         (now (bindings .entry)) (now (bindings .exit)) counter used mark bound r ⌝ }
 {
-    let from = stored.from + stored.head;
+    let from = stored.from;
     let count = stored.body;
     let behind = used + stored.head;
     let variables = counter + stored.variables;

@@ -101,27 +101,27 @@ pub fn attempt(
         return Came::NotReady;
     }
     let pattern = [
-        1048609u32,
-        1,
-        1048609,
-        64,
-        1048609,
-        66,
-        1048609,
-        68,
-        1048642,
+        1048642u32,
         1,
         0,
         1048609,
         0,
+        1048609,
+        1,
+        1048609,
+        69,
+        1048609,
+        71,
+        1048609,
+        73,
     ];
-    let premises = [72u32, 75];
+    let premises = [64u32, 67];
     let places = [1u32, 0];
     let stored = Stored {
         from: 0,
         head: 8,
         body: 5,
-        conclusion: 70,
+        conclusion: 75,
         met: 1,
         variables: 2,
     };
@@ -157,10 +157,10 @@ pub fn premise(reference: u32, state: State) -> u32 {
     let counter = state.counter;
     let room = state.room;
     let used = state.used;
-    if reference < 72 {
+    if reference < 64 {
         return 0;
     }
-    if 75 < reference {
+    if 67 < reference {
         return 0;
     }
     if 65536 < room {
@@ -170,5 +170,5 @@ pub fn premise(reference: u32, state: State) -> u32 {
         return 0;
     }
     let places = [1u32, 0];
-    arena::moved_word(reference, &places, counter, 64 + 8, room + used + 8)
+    arena::moved_word(reference, &places, counter, 64, room + used + 8)
 }

@@ -66,9 +66,9 @@ fn no_state() -> State {
 // Writes the references of the premises.
 fn report_premises(state: State) {
     report::text(b", premises ");
-    report::number(attempt::premise(72, state));
+    report::number(attempt::premise(64, state));
     report::text(b" and ");
-    report::number(attempt::premise(75, state));
+    report::number(attempt::premise(67, state));
 }
 
 // Writes the line of an attempt.

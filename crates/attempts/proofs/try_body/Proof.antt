@@ -5,9 +5,6 @@ use borrow.Author.Needs.{needs}
 use Rattle.attempts.proofs.try_body.Statement.{statement}
 use Rattle.attempts.proofs.try_body.Tie as tie
 
-add-from : tie.Need-add-from
-add-from c = search needs
-
 add-behind : tie.Need-add-behind
 add-behind c = search needs
 
@@ -21,14 +18,14 @@ exceeds-requires : tie.Need-exceeds-requires
 exceeds-requires c κs = search needs
 
 undo-requires : tie.Need-undo-requires
-undo-requires c κs = body-undoable (c .before .before .before .before .before .before .before .before .before .pre)
+undo-requires c κs = body-undoable (c .before .before .before .before .before .before .before .before .pre)
 
 same-length : tie.Need-same-length
 same-length c = c .before .undo .kept .0
 
 returns : tie.Need-returns
 returns c =
-    let pre = c .before .before .before .before .before .before .before .before .before .before .before .pre in
+    let pre = c .before .before .before .before .before .before .before .before .before .before .pre in
     let exceeds = c .before .before .before .before .exceeds in
     let if1 = c .before .before .before .if1 in
     let undo = c .before .undo in
@@ -36,14 +33,14 @@ returns c =
 
 inst-requires : tie.Need-inst-requires
 inst-requires c κs =
-    body-copyable (c .before .before .before .before .before .before .before .before .before .pre) (sym (c .before .before .exceeds .ensures) ∙ (c .before .if1 .left))
+    body-copyable (c .before .before .before .before .before .before .before .before .pre) (sym (c .before .before .exceeds .ensures) ∙ (c .before .if1 .left))
 
 same-length-2 : tie.Need-same-length-2
 same-length-2 c = c .before .before .inst .kept .1 .1 .1 .1 .0
 
 returns-2 : tie.Need-returns-2
 returns-2 c =
-    let pre = c .before .before .before .before .before .before .before .before .before .before .before .before .pre in
+    let pre = c .before .before .before .before .before .before .before .before .before .before .before .pre in
     let exceeds = c .before .before .before .before .before .exceeds in
     let if1 = c .before .before .before .before .if1 in
     let inst = c .before .before .inst in
@@ -53,7 +50,6 @@ pub try-body-spec : {M : Type 1} → statement M
 try-body-spec =
     tie.close
     (tie.spec
-    add-from
     add-behind
     add-variables
     add-end

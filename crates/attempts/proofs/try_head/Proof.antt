@@ -5,6 +5,9 @@ use borrow.Author.Needs.{needs}
 use Rattle.attempts.proofs.try_head.Statement.{statement}
 use Rattle.attempts.proofs.try_head.Tie as tie
 
+add-from : tie.Need-add-from
+add-from c = search needs
+
 add-variables : tie.Need-add-variables
 add-variables c = search needs
 
@@ -15,7 +18,7 @@ exceeds-requires : tie.Need-exceeds-requires
 exceeds-requires c κs = search needs
 
 returns : tie.Need-returns
-returns c = head-refused (c .before .before .before .before .before .before .pre) (sym (c .before .exceeds .ensures) ∙ (c .if1 .taken))
+returns c = head-refused (c .before .before .before .before .before .before .before .pre) (sym (c .before .exceeds .ensures) ∙ (c .if1 .taken))
 
 add-moved-word : tie.Need-add-moved-word
 add-moved-word c = search needs
@@ -24,16 +27,16 @@ add-moved-word-2 : tie.Need-add-moved-word-2
 add-moved-word-2 c = search needs
 
 moved-word-requires : tie.Need-moved-word-requires
-moved-word-requires c κs = head-movable (c .before .before .before .before .before .before .pre) (sym (c .before .exceeds .ensures) ∙ (c .if1 .left))
+moved-word-requires c κs = head-movable (c .before .before .before .before .before .before .before .pre) (sym (c .before .exceeds .ensures) ∙ (c .if1 .left))
 
 inst-requires : tie.Need-inst-requires
 inst-requires c κs =
-    head-copyable (c .before .before .before .before .before .before .before .before .pre) (sym (c .before .before .before .exceeds .ensures)
+    head-copyable (c .before .before .before .before .before .before .before .before .before .pre) (sym (c .before .before .before .exceeds .ensures)
     ∙ (c .before .before .if1 .left))
 
 unify-requires : tie.Need-unify-requires
 unify-requires c κs =
-    let pre = c .before .before .before .before .before .before .before .before .before .before .before .before .before .before .before .before .pre in
+    let pre = c .before .before .before .before .before .before .before .before .before .before .before .before .before .before .before .before .before .pre in
     let exceeds = c .before .before .before .before .before .before .before .before .before .before .before .exceeds in
     let if1 = c .before .before .before .before .before .before .before .before .before .before .if1 in
     let inst = c .before .before .before .before .before .before .before .inst in
@@ -60,7 +63,7 @@ same-length-5 c = (c .before .before .before .before .before .unify .kept .1 .1 
 
 returns-2 : tie.Need-returns-2
 returns-2 c =
-    let pre = c .before .before .before .before .before .before .before .before .before .before .before .before .before .before .before .before .before .before .before .before .before .before .pre in
+    let pre = c .before .before .before .before .before .before .before .before .before .before .before .before .before .before .before .before .before .before .before .before .before .before .before .pre in
     let exceeds = c .before .before .before .before .before .before .before .before .before .before .before .before .before .before .before .before .before .exceeds in
     let if1 = c .before .before .before .before .before .before .before .before .before .before .before .before .before .before .before .before .if1 in
     let inst = c .before .before .before .before .before .before .before .before .before .before .before .before .before .inst in
@@ -86,7 +89,7 @@ same-length-10 c = (c .before .before .before .before .before .unify .kept .1 .1
 
 returns-3 : tie.Need-returns-3
 returns-3 c =
-    let pre = c .before .before .before .before .before .before .before .before .before .before .before .before .before .before .before .before .before .before .before .before .before .before .pre in
+    let pre = c .before .before .before .before .before .before .before .before .before .before .before .before .before .before .before .before .before .before .before .before .before .before .before .pre in
     let exceeds = c .before .before .before .before .before .before .before .before .before .before .before .before .before .before .before .before .before .exceeds in
     let if1 = c .before .before .before .before .before .before .before .before .before .before .before .before .before .before .before .before .if1 in
     let inst = c .before .before .before .before .before .before .before .before .before .before .before .before .before .inst in
@@ -99,6 +102,7 @@ pub try-head-spec : {M : Type 1} → statement M
 try-head-spec =
     tie.close
     (tie.spec
+    add-from
     add-variables
     add-top
     exceeds-requires
