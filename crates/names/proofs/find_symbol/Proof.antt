@@ -1,0 +1,107 @@
+-- `find_symbol` meets its contract. The loop's invariant: no row before the place i has the name.
+use mathlib.Core.Path.{_≡_, sym, ap, _∙_}
+use Prim.Native.Nat.{_≤_, _+_, _-_}
+use lib.ListN.{length, drop}
+use Rattle.words.specs.Bytes.{sameBytes}
+use Rattle.names.specs.Symbols.{Symbol, symbolOf, symbolsOf, symbolNumber}
+use Rattle.names.specs.Names.{Name, nameIn, find}
+use Rattle.names.specs.SearchLaws.{row-hit, row-step, row-end}
+use borrow.Author.Needs.{needs}
+use native.Mathlib.Omega.{arith}
+use Rattle.names.proofs.find_symbol.Statement.{statement}
+use Rattle.names.proofs.find_symbol.Tie as tie
+
+abbrev Inv-loop : tie.InvT-loop
+Inv-loop text symbols count w i₀ i = (i ≤ count) × (symbolNumber (symbolsOf text symbols count) w ≡ i + symbolNumber (drop i (symbolsOf text symbols count)) w)
+
+abbrev μ-loop : tie.MeasureT-loop
+μ-loop text symbols count w i₀ i = count - i
+
+loop-holds : tie.Need-loop-holds Inv-loop μ-loop
+loop-holds c = (omega arith, omega arith)
+
+mul-part : tie.Need-mul-part Inv-loop μ-loop
+mul-part c = search needs
+
+index-1-part : tie.Need-index-1-part Inv-loop μ-loop
+index-1-part c = search needs
+
+index-2-part : tie.Need-index-2-part Inv-loop μ-loop
+index-2-part c = search needs
+
+mul-part-2 : tie.Need-mul-part-2 Inv-loop μ-loop
+mul-part-2 c = search needs
+
+index-1-part-2 : tie.Need-index-1-part-2 Inv-loop μ-loop
+index-1-part-2 c = search needs
+
+index-2-part-2 : tie.Need-index-2-part-2 Inv-loop μ-loop
+index-2-part-2 c = search needs
+
+part-requires : tie.Need-part-requires Inv-loop μ-loop
+part-requires c κs = search needs
+
+same-requires : tie.Need-same-requires Inv-loop μ-loop
+same-requires c κs = search needs
+
+returns : tie.Need-returns Inv-loop μ-loop
+unfolding symbolsOf symbolOf
+returns c =
+    let args = c .before .before .before .before .before .before .before .before .before .args in
+    let pre = c .before .before .before .before .before .before .before .before .before .pre in
+    let loop = c .before .before .before .before .before .before .loop in
+    let loop-test = c .before .before .before .before .before .loop-test in
+    let same = c .before .same in
+    let part = c .before .before .part in
+    let if1 = c .if1 in
+    row-hit (symbolOf ((args .text .now))) (λ (f : Symbol). f .name) ((args .symbols .now)) ((args .count)) pre ((args .w .now)) ((loop .i)) ((loop .inv .1)) ((loop-test .taken)) (sym ((same .ensures) ∙ ap (λ (x : Name). sameBytes x ((args .w .now))) (part .ensures))
+        ∙ (if1 .taken))
+
+add-i : tie.Need-add-i Inv-loop μ-loop
+add-i c = search needs
+
+loop-less : tie.Need-loop-less Inv-loop μ-loop
+loop-less c = search needs
+
+loop-again : tie.Need-loop-again Inv-loop μ-loop
+unfolding symbolsOf symbolOf
+loop-again c =
+    let args = c .before .before .before .before .before .before .before .before .before .args in
+    let pre = c .before .before .before .before .before .before .before .before .before .pre in
+    let loop = c .before .before .before .before .before .before .loop in
+    let loop-test = c .before .before .before .before .before .loop-test in
+    let same = c .before .same in
+    let part = c .before .before .part in
+    let if1 = c .if1 in
+    (omega arith, row-step (symbolOf ((args .text .now))) (λ (f : Symbol). f .name) ((args .symbols .now)) ((args .count)) pre ((args .w .now)) ((loop .i)) ((loop .inv .1)) ((loop-test .taken)) (sym ((same .ensures) ∙ ap (λ (x : Name). sameBytes x ((args .w .now))) (part .ensures))
+        ∙ (if1 .left)))
+
+returns-2 : tie.Need-returns-2 Inv-loop μ-loop
+unfolding symbolsOf symbolOf
+returns-2 c =
+    let args = c .before .before .before .before .args in
+    let pre = c .before .before .before .before .pre in
+    let loop = c .before .loop in
+    let loop-test = c .loop-test in
+    row-end (symbolOf ((args .text .now))) (λ (f : Symbol). f .name) ((args .symbols .now)) ((args .count)) pre ((args .w .now)) ((loop .i)) ((loop .inv .1)) ((loop-test .left))
+
+pub find-symbol-spec : {M : Type 1} → statement M
+find-symbol-spec =
+    tie.close
+    (tie.spec
+    Inv-loop
+    μ-loop
+    loop-holds
+    mul-part
+    index-1-part
+    index-2-part
+    mul-part-2
+    index-1-part-2
+    index-2-part-2
+    part-requires
+    same-requires
+    returns
+    add-i
+    loop-less
+    loop-again
+    returns-2)

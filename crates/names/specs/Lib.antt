@@ -1,0 +1,4 @@
+-- What the contracts of `names` cite, in reading order.
+pub mod Names
+pub mod Symbols
+pub mod SearchLaws
