@@ -1,4 +1,5 @@
 -- What the contracts of `names` cite, in reading order.
 pub mod Names
 pub mod Symbols
+pub mod Standing
 pub mod SearchLaws

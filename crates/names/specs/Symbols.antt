@@ -73,3 +73,9 @@ symbolNumber symbols w = find (λ f. f .name) symbols w
 
 abbrev pub variableNumber : List Variable → Name → ℕ
 variableNumber variables w = find (λ v. v .name) variables w
+
+abbrev pub noSymbol : Symbol
+noSymbol = record { name = []; inputs = []; output = 0; function = 0; first = 0; clauses = 0 }
+
+abbrev pub symbolAt : List Symbol → ℕ → Symbol
+symbolAt symbols i = getD symbols i noSymbol

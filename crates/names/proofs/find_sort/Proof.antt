@@ -45,7 +45,7 @@ same-requires : tie.Need-same-requires Inv-loop μ-loop
 same-requires c κs = search needs
 
 returns : tie.Need-returns Inv-loop μ-loop
-unfolding sortsOf 
+unfolding sortsOf
 returns c =
     let args = c .before .before .before .before .before .before .before .before .before .args in
     let pre = c .before .before .before .before .before .before .before .before .before .pre in
@@ -55,7 +55,7 @@ returns c =
     let part = c .before .before .part in
     let if1 = c .if1 in
     row-hit (sortOf ((args .text .now))) (λ (s : Name). s) ((args .sorts .now)) ((args .count)) pre ((args .w .now)) ((loop .i)) ((loop .inv .1)) ((loop-test .taken)) (sym ((same .ensures) ∙ ap (λ (x : Name). sameBytes x ((args .w .now))) (part .ensures))
-        ∙ (if1 .taken))
+    ∙ (if1 .taken))
 
 add-i : tie.Need-add-i Inv-loop μ-loop
 add-i c = search needs
@@ -64,7 +64,7 @@ loop-less : tie.Need-loop-less Inv-loop μ-loop
 loop-less c = search needs
 
 loop-again : tie.Need-loop-again Inv-loop μ-loop
-unfolding sortsOf 
+unfolding sortsOf
 loop-again c =
     let args = c .before .before .before .before .before .before .before .before .before .args in
     let pre = c .before .before .before .before .before .before .before .before .before .pre in
@@ -72,12 +72,14 @@ loop-again c =
     let loop-test = c .before .before .before .before .before .loop-test in
     let same = c .before .same in
     let part = c .before .before .part in
-    let if1 = c .if1 in
-    (omega arith, row-step (sortOf ((args .text .now))) (λ (s : Name). s) ((args .sorts .now)) ((args .count)) pre ((args .w .now)) ((loop .i)) ((loop .inv .1)) ((loop-test .taken)) (sym ((same .ensures) ∙ ap (λ (x : Name). sameBytes x ((args .w .now))) (part .ensures))
-        ∙ (if1 .left)))
+    let if1 = c .if1 in (
+      omega arith,
+      row-step (sortOf ((args .text .now))) (λ (s : Name). s) ((args .sorts .now)) ((args .count)) pre ((args .w .now)) ((loop .i)) ((loop .inv .1)) ((loop-test .taken)) (sym ((same .ensures) ∙ ap (λ (x : Name). sameBytes x ((args .w .now))) (part .ensures))
+          ∙ (if1 .left)),
+    )
 
 returns-2 : tie.Need-returns-2 Inv-loop μ-loop
-unfolding sortsOf 
+unfolding sortsOf
 returns-2 c =
     let args = c .before .before .before .before .args in
     let pre = c .before .before .before .before .pre in

@@ -55,7 +55,7 @@ returns c =
     let part = c .before .before .part in
     let if1 = c .if1 in
     row-hit (symbolOf ((args .text .now))) (λ (f : Symbol). f .name) ((args .symbols .now)) ((args .count)) pre ((args .w .now)) ((loop .i)) ((loop .inv .1)) ((loop-test .taken)) (sym ((same .ensures) ∙ ap (λ (x : Name). sameBytes x ((args .w .now))) (part .ensures))
-        ∙ (if1 .taken))
+    ∙ (if1 .taken))
 
 add-i : tie.Need-add-i Inv-loop μ-loop
 add-i c = search needs
@@ -72,9 +72,11 @@ loop-again c =
     let loop-test = c .before .before .before .before .before .loop-test in
     let same = c .before .same in
     let part = c .before .before .part in
-    let if1 = c .if1 in
-    (omega arith, row-step (symbolOf ((args .text .now))) (λ (f : Symbol). f .name) ((args .symbols .now)) ((args .count)) pre ((args .w .now)) ((loop .i)) ((loop .inv .1)) ((loop-test .taken)) (sym ((same .ensures) ∙ ap (λ (x : Name). sameBytes x ((args .w .now))) (part .ensures))
-        ∙ (if1 .left)))
+    let if1 = c .if1 in (
+      omega arith,
+      row-step (symbolOf ((args .text .now))) (λ (f : Symbol). f .name) ((args .symbols .now)) ((args .count)) pre ((args .w .now)) ((loop .i)) ((loop .inv .1)) ((loop-test .taken)) (sym ((same .ensures) ∙ ap (λ (x : Name). sameBytes x ((args .w .now))) (part .ensures))
+          ∙ (if1 .left)),
+    )
 
 returns-2 : tie.Need-returns-2 Inv-loop μ-loop
 unfolding symbolsOf symbolOf

@@ -60,7 +60,7 @@ returns c =
     let is-named = c .before .is-named in
     let if1 = c .if1 in
     row-hit (variableOf ((args .text .now))) (λ (v : Variable). v .name) ((args .variables .now)) ((args .count)) pre ((args .w .now)) ((loop .i)) ((loop .inv .1)) ((loop-test .taken)) (sym ((is-named .ensures))
-        ∙ (if1 .taken))
+    ∙ (if1 .taken))
 
 add-i : tie.Need-add-i Inv-loop μ-loop
 add-i c = search needs
@@ -76,9 +76,11 @@ loop-again c =
     let loop = c .before .before .before .before .before .before .loop in
     let loop-test = c .before .before .before .before .before .loop-test in
     let is-named = c .before .is-named in
-    let if1 = c .if1 in
-    (omega arith, row-step (variableOf ((args .text .now))) (λ (v : Variable). v .name) ((args .variables .now)) ((args .count)) pre ((args .w .now)) ((loop .i)) ((loop .inv .1)) ((loop-test .taken)) (sym ((is-named .ensures))
-        ∙ (if1 .left)))
+    let if1 = c .if1 in (
+      omega arith,
+      row-step (variableOf ((args .text .now))) (λ (v : Variable). v .name) ((args .variables .now)) ((args .count)) pre ((args .w .now)) ((loop .i)) ((loop .inv .1)) ((loop-test .taken)) (sym ((is-named .ensures))
+          ∙ (if1 .left)),
+    )
 
 returns-2 : tie.Need-returns-2 Inv-loop μ-loop
 unfolding variablesOf variableOf nameIn

@@ -24,7 +24,7 @@ returns c =
     let part = c .before .part in
     let if1 = c .before .before .before .if1 in
     (find-symbol .ensures)
-        ∙ ap (λ (x : Name). symbolNumber (symbolsOf ((args .text .now)) ((args .symbols .now)) ((args .count))) x) ((part .ensures) ∙ rw (eq-eqb ((args .kind)) 27 ((if1 .taken))))
+    ∙ ap (λ (x : Name). symbolNumber (symbolsOf ((args .text .now)) ((args .symbols .now)) ((args .count))) x) ((part .ensures) ∙ rw (eq-eqb ((args .kind)) 27 ((if1 .taken))))
 
 part-requires-2 : tie.Need-part-requires-2
 part-requires-2 c κs = search needs
@@ -39,7 +39,7 @@ returns-2 c =
     let part2 = c .before .part2 in
     let if1 = c .before .before .if1 in
     (find-symbol2 .ensures)
-        ∙ ap (λ (x : Name). symbolNumber (symbolsOf ((args .text .now)) ((args .symbols .now)) ((args .count))) x) ((part2 .ensures) ∙ rw (ne-eqb ((args .kind)) 27 ((if1 .left))))
+    ∙ ap (λ (x : Name). symbolNumber (symbolsOf ((args .text .now)) ((args .symbols .now)) ((args .count))) x) ((part2 .ensures) ∙ rw (ne-eqb ((args .kind)) 27 ((if1 .left))))
 
 pub symbol-of-spec : {M : Type 1} → statement M
 symbol-of-spec =

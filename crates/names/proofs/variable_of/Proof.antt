@@ -24,7 +24,7 @@ returns c =
     let part = c .before .part in
     let if1 = c .before .before .before .if1 in
     (find-variable .ensures)
-        ∙ ap (λ (x : Name). variableNumber (variablesOf ((args .text .now)) ((args .variables .now)) ((args .count))) x) ((part .ensures) ∙ rw (eq-eqb ((args .kind)) 27 ((if1 .taken))))
+    ∙ ap (λ (x : Name). variableNumber (variablesOf ((args .text .now)) ((args .variables .now)) ((args .count))) x) ((part .ensures) ∙ rw (eq-eqb ((args .kind)) 27 ((if1 .taken))))
 
 part-requires-2 : tie.Need-part-requires-2
 part-requires-2 c κs = search needs
@@ -39,7 +39,7 @@ returns-2 c =
     let part2 = c .before .part2 in
     let if1 = c .before .before .if1 in
     (find-variable2 .ensures)
-        ∙ ap (λ (x : Name). variableNumber (variablesOf ((args .text .now)) ((args .variables .now)) ((args .count))) x) ((part2 .ensures) ∙ rw (ne-eqb ((args .kind)) 27 ((if1 .left))))
+    ∙ ap (λ (x : Name). variableNumber (variablesOf ((args .text .now)) ((args .variables .now)) ((args .count))) x) ((part2 .ensures) ∙ rw (ne-eqb ((args .kind)) 27 ((if1 .left))))
 
 pub variable-of-spec : {M : Type 1} → statement M
 variable-of-spec =
