@@ -1,0 +1,4 @@
+pub mod Symbols
+pub mod Variables
+pub mod Terms
+pub mod Numerals
