@@ -10,10 +10,10 @@ use lib.ListN.{length}
 use borrow.Author.Tests.{eq-eqb, ne-eqb}
 use Rattle.words.specs.Names.{nameKind, metavariableKind, numeralKind}
 use Rattle.words.specs.Lexer.{partOf}
-use Rattle.parser.specs.Source.{Arity, one, many}
-use Rattle.parser.specs.Rows.{applicationKind}
-use Rattle.parser.specs.Standing as parsed
-use Rattle.parser.specs.Standing.{Written, number, meta, called, applied, nil as none, cons as more, size}
+use Rattle.term_parser.specs.Source.{Arity, one, many}
+use Rattle.term_parser.specs.Rows.{applicationKind}
+use Rattle.term_parser.specs.Standing as parsed
+use Rattle.term_parser.specs.Standing.{Written, number, meta, called, applied, nil as none, cons as more, size}
 use Rattle.names.specs.Names.{Name, nameIn, resultKind, resultNames}
 use Rattle.names.specs.Symbols.{Rows, column, rowAt}
 

@@ -10,8 +10,8 @@ use lib.Seq.{sets, getD-drop, length-take-le, take-suc-set}
 use lib.Dec.{eqb, ltb}
 use borrow.Author.Tests.{eq-eqb, ne-eqb, lt-ltb, le-ltb, eqb-true}
 use Rattle.terms.specs.Term.{Kind, Syn, Term, Terms, var, app, nil, cons}
-use Rattle.parser.specs.Source.{Arity, one, many}
-use Rattle.parser.specs.Standing.{Written, number, meta, called, applied, nil as none, cons as more, size}
+use Rattle.term_parser.specs.Source.{Arity, one, many}
+use Rattle.term_parser.specs.Standing.{Written, number, meta, called, applied, nil as none, cons as more, size}
 use Rattle.names.specs.Names.{Name, nameOf, nameIn, find}
 use Rattle.names.specs.Symbols.{Rows, Symbol, Variable, column, rowAt, columns, symbolOf, symbolsOf, variableOf, variablesOf, symbolNumber, variableNumber, noSymbol, symbolAt}
 use Rattle.names.specs.Standing.{Named, Stands}
@@ -83,8 +83,8 @@ module _ (ss : List Symbol) (y z : ℕ) (vs : List Variable) where
   chain-bad (suc n) s m h = go (misfit (symbolAt ss y) s 1) m h (λ r g. chain-bad n (first (symbolAt ss y .inputs)) r g)
     where
       go : (e m : ℕ) → (orFull e m (λ r. refusal (symbolAt ss y) (symbolAt ss z) n (first (symbolAt ss y .inputs)) r) ≡ 0 → ⊥)
-        → ((r : ℕ) → (refusal (symbolAt ss y) (symbolAt ss z) n (first (symbolAt ss y .inputs)) r ≡ 0 → ⊥) → chain ss y z n (first (symbolAt ss y .inputs)) vs r ≡ bad (refusal (symbolAt ss y) (symbolAt ss z) n (first (symbolAt ss y .inputs)) r))
-        → unless e (λ _. spent m (λ r. bind (chain ss y z n (first (symbolAt ss y .inputs)) vs r) (λ t us q. good (app y (cons t nil)) us q))) ≡ bad (orFull e m (λ r. refusal (symbolAt ss y) (symbolAt ss z) n (first (symbolAt ss y .inputs)) r))
+          → ((r : ℕ) → (refusal (symbolAt ss y) (symbolAt ss z) n (first (symbolAt ss y .inputs)) r ≡ 0 → ⊥) → chain ss y z n (first (symbolAt ss y .inputs)) vs r ≡ bad (refusal (symbolAt ss y) (symbolAt ss z) n (first (symbolAt ss y .inputs)) r))
+          → unless e (λ _. spent m (λ r. bind (chain ss y z n (first (symbolAt ss y .inputs)) vs r) (λ t us q. good (app y (cons t nil)) us q))) ≡ bad (orFull e m (λ r. refusal (symbolAt ss y) (symbolAt ss z) n (first (symbolAt ss y .inputs)) r))
       go zero zero h ih = refl
       go zero (suc m) h ih = rw (ih m h)
       go (suc e) m h ih = refl
@@ -100,8 +100,8 @@ module _ (ss : List Symbol) (y z : ℕ) (vs : List Variable) where
   chain-good (suc n) s m h = go (misfit (symbolAt ss y) s 1) m h (λ r g. chain-good n (first (symbolAt ss y .inputs)) r g)
     where
       go : (e m : ℕ) → orFull e m (λ r. refusal (symbolAt ss y) (symbolAt ss z) n (first (symbolAt ss y .inputs)) r) ≡ 0
-        → ((r : ℕ) → refusal (symbolAt ss y) (symbolAt ss z) n (first (symbolAt ss y .inputs)) r ≡ 0 → (n < r) × (chain ss y z n (first (symbolAt ss y .inputs)) vs r ≡ good (tower y z n) vs (r - 1 - n)))
-        → (suc n < m) × (unless e (λ _. spent m (λ r. bind (chain ss y z n (first (symbolAt ss y .inputs)) vs r) (λ t us q. good (app y (cons t nil)) us q))) ≡ good (app y (cons (tower y z n) nil)) vs (m - 1 - suc n))
+          → ((r : ℕ) → refusal (symbolAt ss y) (symbolAt ss z) n (first (symbolAt ss y .inputs)) r ≡ 0 → (n < r) × (chain ss y z n (first (symbolAt ss y .inputs)) vs r ≡ good (tower y z n) vs (r - 1 - n)))
+          → (suc n < m) × (unless e (λ _. spent m (λ r. bind (chain ss y z n (first (symbolAt ss y .inputs)) vs r) (λ t us q. good (app y (cons t nil)) us q))) ≡ good (app y (cons (tower y z n) nil)) vs (m - 1 - suc n))
       go zero zero h ih = absurd (omega arith)
       go zero (suc m) h ih = let x = ih m h in (let x0 = x .0 in omega arith, let a : suc m - 1 - suc n ≡ m - 1 - n = omega arith in rw (x .1, a))
       go (suc e) m h ih = absurd (omega arith)
@@ -112,7 +112,7 @@ unfolding lay tower
 tower-start v u y z = let a : 1048576 + 32 * z + 0 ≡ 1048576 + 32 * z = omega arith in let b : u + 1 + 0 ≡ u + 1 = omega arith in rw (a, b)
 
 pub tower-step : (v : List ℕ) (u₀ y z k r : ℕ) (w : List ℕ) (u : ℕ) → lay (tower y z k) v u₀ ≡ laid (r ∷ []) w u
-  → lay (tower y z (k + 1)) v u₀ ≡ laid ((64 + u) ∷ []) (set (set w u (1048577 + 32 * y)) (u + 1) r) (u + 2)
+    → lay (tower y z (k + 1)) v u₀ ≡ laid ((64 + u) ∷ []) (set (set w u (1048577 + 32 * y)) (u + 1) r) (u + 2)
 unfolding lay tower
 tower-step v u₀ y z k r w u e =
     let a : 1048577 + 32 * y ≡ 1048576 + 32 * y + 1 = omega arith in
@@ -179,5 +179,5 @@ module _ (text : List ℕ) (sr : Rows) (n : ℕ) (hs : n ≤ length sr) (v s : �
             number-room = fine .0
 
             pub number-done : (r : ℕ) (wx : List ℕ) → lay (tower y z v) w u ≡ laid (r ∷ []) wx (u + 1 + 2 * v)
-              → yes (laid (r ∷ []) wx (u + 1 + 2 * v)) vs (m - 1 - v) ≡ stored [] (patternOf (symbolsOf text sr n) (number v) (s ∷ []) vs m) w u
+                → yes (laid (r ∷ []) wx (u + 1 + 2 * v)) vs (m - 1 - v) ≡ stored [] (patternOf (symbolsOf text sr n) (number v) (s ∷ []) vs m) w u
             number-done r wx l = rw (it-is, fine .1, l)

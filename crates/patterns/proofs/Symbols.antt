@@ -10,8 +10,8 @@ use lib.Seq.{sets, getD-drop, length-take-le, take-suc-set}
 use lib.Dec.{eqb, ltb}
 use borrow.Author.Tests.{eq-eqb, ne-eqb, lt-ltb, le-ltb, eqb-true}
 use Rattle.terms.specs.Term.{Kind, Syn, Term, Terms, var, app, nil, cons}
-use Rattle.parser.specs.Source.{Arity, one, many}
-use Rattle.parser.specs.Standing.{Written, number, meta, called, applied, nil as none, cons as more, size}
+use Rattle.term_parser.specs.Source.{Arity, one, many}
+use Rattle.term_parser.specs.Standing.{Written, number, meta, called, applied, nil as none, cons as more, size}
 use Rattle.names.specs.Names.{Name, nameOf, nameIn, find}
 use Rattle.names.specs.Symbols.{Rows, Symbol, Variable, column, rowAt, columns, symbolOf, symbolsOf, variableOf, variablesOf, symbolNumber, variableNumber, noSymbol, symbolAt}
 use Rattle.names.specs.Standing.{Named, Stands}

@@ -11,8 +11,8 @@ use lib.Dec.{eqb, ltb}
 use borrow.Author.Tests.{eq-eqb, ne-eqb, lt-ltb, le-ltb, eqb-true}
 use Rattle.terms.specs.Numbers.{by-less, true-false}
 use Rattle.terms.specs.Term.{Kind, Syn, Term, Terms, var, app, nil, cons}
-use Rattle.parser.specs.Source.{Arity, one, many}
-use Rattle.parser.specs.Standing.{Written, number, meta, called, applied, nil as none, cons as more, size}
+use Rattle.term_parser.specs.Source.{Arity, one, many}
+use Rattle.term_parser.specs.Standing.{Written, number, meta, called, applied, nil as none, cons as more, size}
 use Rattle.names.specs.Names.{Name, nameOf, nameIn, find}
 use Rattle.names.specs.Symbols.{Rows, Symbol, Variable, column, rowAt, columns, symbolOf, symbolsOf, variableOf, variablesOf, symbolNumber, variableNumber, noSymbol, symbolAt}
 use Rattle.names.specs.Standing.{Named, Stands}
@@ -84,7 +84,7 @@ first-drop l k = getD-drop k l 0 0 ∙ (let e : k + 0 ≡ k = omega arith in rw 
 module _ (text : List ℕ) (sr : Rows) (n : ℕ) (hs : n ≤ length sr) (i : ℕ) (hi : i < n) (s : ℕ) (vs : List Variable) (m : ℕ) where
   -- node: the symbol does not fit
   pub node-misfit : {e k : ℕ} → e ≡ misfit (symbolOf text (rowAt sr i)) s k → (e ≡ 0 → ⊥) → (ts : Written many) → size ts ≡ k → (w : List ℕ) (u : ℕ)
-    → no e ≡ stored [] (nodeOf (symbolsOf text sr n) i ts s vs m) w u
+      → no e ≡ stored [] (nodeOf (symbolsOf text sr n) i ts s vs m) w u
   unfolding nodeOf
   node-misfit {e} {k} q z ts c w u =
       let g : misfit (symbolAt (symbolsOf text sr n) i) s (size ts) ≡ e = rw (symbol-at text sr n hs i hi, c) (sym q) in
@@ -99,7 +99,7 @@ module _ (text : List ℕ) (sr : Rows) (n : ℕ) (hs : n ≤ length sr) (i : ℕ
     node-full y w u = simp (fits, y)
 
     pub node-open : 0 < m → nodeOf (symbolsOf text sr n) i ts s vs m
-      ≡ bind (patternOf (symbolsOf text sr n) ts (symbolAt (symbolsOf text sr n) i .inputs) vs (m - 1)) (λ us ws q. good (app i us) ws q)
+        ≡ bind (patternOf (symbolsOf text sr n) ts (symbolAt (symbolsOf text sr n) i .inputs) vs (m - 1)) (λ us ws q. good (app i us) ws q)
     unfolding nodeOf
     node-open l = rw fits (spent-some m (λ r. bind (patternOf (symbolsOf text sr n) ts (symbolAt (symbolsOf text sr n) i .inputs) vs r) (λ us ws q. good (app i us) ws q)) l)
 
@@ -119,12 +119,13 @@ module _ (ss : List Symbol) (t : Written one) (ts : Written many) (is : List ℕ
   turn-refused q = simp (stored-bad [] (patternOf ss t (first is ∷ []) vs m) w u _ q)
 
   pub turn : (r : ℕ) (w₁ : List ℕ) (u₁ : ℕ) (vs₁ : List Variable) (m₁ : ℕ) → yes (laid (r ∷ []) w₁ u₁) vs₁ m₁ ≡ stored [] (patternOf ss t (first is ∷ []) vs m) w u
-    → stored acc (patternOf ss (more t ts) is vs m) w u ≡ stored (acc ++ (r ∷ [])) (patternOf ss ts (rest is) vs₁ m₁) w₁ u₁
+      → stored acc (patternOf ss (more t ts) is vs m) w u ≡ stored (acc ++ (r ∷ [])) (patternOf ss ts (rest is) vs₁ m₁) w₁ u₁
   unfolding patternOf
   turn r w₁ u₁ vs₁ m₁ q = simp (g .is) (go (patternOf ss ts (rest is) vs₁ m₁))
     where
       g : Good (patternOf ss t (first is ∷ []) vs m) w u (laid (r ∷ []) w₁ u₁) vs₁ m₁
       g = stored-good (patternOf ss t (first is ∷ []) vs m) w u (laid (r ∷ []) w₁ u₁) vs₁ m₁ q
+
       go : (o : Out many) → stored {n = many} acc (bind o (λ us xs p. good (cons (g .it) us) xs p)) w u ≡ stored (acc ++ (r ∷ [])) o w₁ u₁
       go (bad e) = refl
       go (good us xs p) = ap (λ l. yes l xs p) (ap (after acc) (lay-more (g .it) us w u (r ∷ []) w₁ u₁ (g .lies)) ∙ after-after acc (r ∷ []) (lay us w₁ u₁))
@@ -135,19 +136,19 @@ module _ (o : Out many) (i : ℕ) (w : List ℕ) (u : ℕ) where
   app-refused q = rw (stored-bad [] o w u _ q)
 
   pub app-done : (rs w₁ : List ℕ) (u₁ : ℕ) (vs : List Variable) (m : ℕ) → yes (laid rs w₁ u₁) vs m ≡ stored [] o w u
-    → yes (laid ((64 + u₁) ∷ []) (sets w₁ u₁ (header i (length rs) ∷ rs)) (u₁ + 1 + length rs)) vs m ≡ stored {n = one} [] (bind o (λ us ws q. good (app i us) ws q)) w u
+      → yes (laid ((64 + u₁) ∷ []) (sets w₁ u₁ (header i (length rs) ∷ rs)) (u₁ + 1 + length rs)) vs m ≡ stored {n = one} [] (bind o (λ us ws q. good (app i us) ws q)) w u
   unfolding lay
   app-done rs w₁ u₁ vs m q =
       let g = stored-good o w u (laid rs w₁ u₁) vs m q in
       rw (g .is, g .lies)
 
 pub node-done : (o : Out many) (i : ℕ) (w : List ℕ) (u : ℕ) (refs : List ℕ) (args : ℕ) (w₁ : List ℕ) (u₁ : ℕ) (vs : List Variable) (m : ℕ) (wx : List ℕ) → args ≤ length refs
-  → wx ≡ sets w₁ u₁ (header i args ∷ take args refs) → yes (laid (take args refs) w₁ u₁) vs m ≡ stored [] o w u
-  → yes (laid ((64 + u₁) ∷ []) wx (u₁ + 1 + args)) vs m ≡ stored {n = one} [] (bind o (λ us ws q. good (app i us) ws q)) w u
+    → wx ≡ sets w₁ u₁ (header i args ∷ take args refs) → yes (laid (take args refs) w₁ u₁) vs m ≡ stored [] o w u
+    → yes (laid ((64 + u₁) ∷ []) wx (u₁ + 1 + args)) vs m ≡ stored {n = one} [] (bind o (λ us ws q. good (app i us) ws q)) w u
 node-done o i w u refs args w₁ u₁ vs m wx l e q =
     let n : length (take args refs) ≡ args = length-take-le args refs l in
     let d : yes (laid ((64 + u₁) ∷ []) (sets w₁ u₁ (header i args ∷ take args refs)) (u₁ + 1 + args)) vs m ≡ stored {n = one} [] (bind o (λ us ws q. good (app i us) ws q)) w u
-          = rw n at (app-done o i w u (take args refs) w₁ u₁ vs m q) in
+    = rw n at (app-done o i w u (take args refs) w₁ u₁ vs m q) in
     rw e d
 
 nil-of : (ts : Written many) → size ts ≡ 0 → ts ≡ none
@@ -168,16 +169,25 @@ pub record Looped (text : List ℕ) (rs : Rows) (p₀ args : ℕ) (ss : List Sym
   pub further : u₀ ≤ u
   pub sixteen : length refs ≡ 16
   pub same : (ts : Written many) (q : ℕ) → Stands text rs p₀ ts q → size ts ≡ args
-    → (us : Written many) × Stands text rs p us q × (size us ≡ args - k) × (stored [] (patternOf ss ts is (variablesOf text vs₀ nv₀) m₀) w₀ u₀ ≡ stored (take k refs) (patternOf ss us (drop k is) (variablesOf text vs nv) m) w u)
+      → (us : Written many) × Stands text rs p us q × (size us ≡ args - k) × (stored [] (patternOf ss ts is (variablesOf text vs₀ nv₀) m₀) w₀ u₀ ≡ stored (take k refs) (patternOf ss us (drop k is) (variablesOf text vs nv) m) w u)
 
 abbrev pub inputsAt : List ℕ → Rows → ℕ → ℕ → List ℕ
 inputsAt text sr n i = symbolAt (symbolsOf text sr n) i .inputs
 
 pub loop-start : (text : List ℕ) (rs : Rows) (p args : ℕ) (ss : List Symbol) (is : List ℕ) (vs : Rows) (nv : ℕ) (w : List ℕ) (u m : ℕ) (refs : List ℕ) → nv ≤ 64 → length refs ≡ 16
-  → Looped text rs p args ss is vs nv w u m 0 p vs nv w u m refs
-loop-start text rs p args ss is vs nv w u m refs a b = record
-  { few = omega arith; from = omega arith; grown = omega arith; bound = a; kept-vars = refl; kept-words = refl; spent = omega arith; further = omega arith; sixteen = b
-  ; same = λ ts q st c. (ts, st, (let e : args - 0 ≡ args = omega arith in rw e c), refl) }
+    → Looped text rs p args ss is vs nv w u m 0 p vs nv w u m refs
+loop-start text rs p args ss is vs nv w u m refs a b = record {
+  few = omega arith;
+  from = omega arith;
+  grown = omega arith;
+  bound = a;
+  kept-vars = refl;
+  kept-words = refl;
+  spent = omega arith;
+  further = omega arith;
+  sixteen = b;
+  same = λ ts q st c. (ts, st, (let e : args - 0 ≡ args = omega arith in rw e c), refl);
+}
 
 module _ (text : List ℕ) (rs : Rows) (p₀ args : ℕ) (ss : List Symbol) (is : List ℕ) (vs₀ : Rows) (nv₀ : ℕ) (w₀ : List ℕ) (u₀ m₀ : ℕ)
     (k p : ℕ) (vs : Rows) (nv : ℕ) (w : List ℕ) (u m : ℕ) (refs : List ℕ)
@@ -186,13 +196,13 @@ module _ (text : List ℕ) (rs : Rows) (p₀ args : ℕ) (ss : List Symbol) (is 
       (C : Compiled text rs p ss want vs nv w u m r vx wx) where
     -- an argument is refused
     pub loop-refused : {e : ℕ} → r ≡ Failed e → (ts : Written many) (q : ℕ) → Stands text rs p₀ ts q → size ts ≡ args
-      → no e ≡ stored [] (patternOf ss ts is (variablesOf text vs₀ nv₀) m₀) w₀ u₀
+        → no e ≡ stored [] (patternOf ss ts is (variablesOf text vs₀ nv₀) m₀) w₀ u₀
     unfolding Stands size
     loop-refused {e} f ts q st c = let x = L .same ts q st c in go (x .0) (x .1) (x .2) (x .3)
       where
         go : (us : Written many) → Stands text rs p us q → size us ≡ args - k
-          → stored [] (patternOf ss ts is (variablesOf text vs₀ nv₀) m₀) w₀ u₀ ≡ stored (take k refs) (patternOf ss us (drop k is) (variablesOf text vs nv) m) w u
-          → no e ≡ stored [] (patternOf ss ts is (variablesOf text vs₀ nv₀) m₀) w₀ u₀
+            → stored [] (patternOf ss ts is (variablesOf text vs₀ nv₀) m₀) w₀ u₀ ≡ stored (take k refs) (patternOf ss us (drop k is) (variablesOf text vs nv) m) w u
+            → no e ≡ stored [] (patternOf ss ts is (variablesOf text vs₀ nv₀) m₀) w₀ u₀
         go none a d g = absurd (omega arith)
         go (more t us) a d g =
             let y = C .same t (a .0) (a .1) .1 in
@@ -210,27 +220,38 @@ module _ (text : List ℕ) (rs : Rows) (p₀ args : ℕ) (ss : List Symbol) (is 
           let x0 = small in
           let y0 = L .few in let y1 = L .from in let y2 = L .grown in let y3 = L .spent in let y4 = L .sixteen in let y5 = L .further in
           let inside : k < length refs = omega arith in
-          record
-          { few = omega arith; from = omega arith; grown = omega arith; bound = x0 .2; kept-vars = kv ∙ L .kept-vars; kept-words = kw ∙ L .kept-words
-          ; spent = omega arith; further = omega arith; sixteen = length-set refs k o ∙ y4
-          ; same = λ ts q st c. let x = L .same ts q st c in go inside ts q (x .0) (x .1) (x .2) (x .3) }
+          record {
+            few = omega arith;
+            from = omega arith;
+            grown = omega arith;
+            bound = x0 .2;
+            kept-vars = kv ∙ L .kept-vars;
+            kept-words = kw ∙ L .kept-words;
+            spent = omega arith;
+            further = omega arith;
+            sixteen = length-set refs k o ∙ y4;
+            same = λ ts q st c. let x = L .same ts q st c in go inside ts q (x .0) (x .1) (x .2) (x .3);
+          }
         where
           go : k < length refs → (ts : Written many) (q : ℕ) (us : Written many) → Stands text rs p us q → size us ≡ args - k
-            → stored [] (patternOf ss ts is (variablesOf text vs₀ nv₀) m₀) w₀ u₀ ≡ stored (take k refs) (patternOf ss us (drop k is) (variablesOf text vs nv) m) w u
-            → (us : Written many) × Stands text rs next us q × (size us ≡ args - (k + 1))
+              → stored [] (patternOf ss ts is (variablesOf text vs₀ nv₀) m₀) w₀ u₀ ≡ stored (take k refs) (patternOf ss us (drop k is) (variablesOf text vs nv) m) w u
+              → (us : Written many) × Stands text rs next us q × (size us ≡ args - (k + 1))
               × (stored [] (patternOf ss ts is (variablesOf text vs₀ nv₀) m₀) w₀ u₀ ≡ stored (take (k + 1) (set refs k o)) (patternOf ss us (drop (k + 1) is) (variablesOf text vx nv₁) m₁) wx u₁)
           go h ts q none a d g = absurd (omega arith)
           go h ts q (more t us) a d g =
               let y = C .same t (a .0) (a .1) in
               let e : next ≡ a .0 = (let y2 = y .0 in rw f at y2) in
               let z : yes (laid (o ∷ []) wx u₁) (variablesOf text vx nv₁) m₁ ≡ stored [] (patternOf ss t (first (drop k is) ∷ []) (variablesOf text vs nv) m) w u = (let y3 = y .1 in rw sort-is (rw f at y3)) in
-              let tk : take (k + 1) (set refs k o) ≡ take k refs ++ (o ∷ []) = rw add-one (take-suc-set refs k o h) in
-              (us, rw e (a .2), omega arith,
-                rw (tk, ← rest-drop is k) (g ∙ turn ss t us (drop k is) (variablesOf text vs nv) m (take k refs) w u o wx u₁ (variablesOf text vx nv₁) m₁ z))
+              let tk : take (k + 1) (set refs k o) ≡ take k refs ++ (o ∷ []) = rw add-one (take-suc-set refs k o h) in (
+                us,
+                rw e (a .2),
+                omega arith,
+                rw (tk, ← rest-drop is k) (g ∙ turn ss t us (drop k is) (variablesOf text vs nv) m (take k refs) w u o wx u₁ (variablesOf text vx nv₁) m₁ z),
+              )
 
   -- all arguments are done
   pub loop-done : args ≤ k → (ts : Written many) (q : ℕ) → Stands text rs p₀ ts q → size ts ≡ args
-    → (p ≡ q) × (yes (laid (take args refs) w u) (variablesOf text vs nv) m ≡ stored [] (patternOf ss ts is (variablesOf text vs₀ nv₀) m₀) w₀ u₀)
+      → (p ≡ q) × (yes (laid (take args refs) w u) (variablesOf text vs nv) m ≡ stored [] (patternOf ss ts is (variablesOf text vs₀ nv₀) m₀) w₀ u₀)
   unfolding Stands patternOf lay
   loop-done l ts q st c =
       let x = L .same ts q st c in let y0 = L .few in

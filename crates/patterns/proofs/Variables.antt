@@ -10,8 +10,8 @@ use lib.Seq.{sets, getD-drop, length-take-le, take-suc-set}
 use lib.Dec.{eqb, ltb}
 use borrow.Author.Tests.{eq-eqb, ne-eqb, lt-ltb, le-ltb, eqb-true}
 use Rattle.terms.specs.Term.{Kind, Syn, Term, Terms, var, app, nil, cons}
-use Rattle.parser.specs.Source.{Arity, one, many}
-use Rattle.parser.specs.Standing.{Written, number, meta, called, applied, nil as none, cons as more, size}
+use Rattle.term_parser.specs.Source.{Arity, one, many}
+use Rattle.term_parser.specs.Standing.{Written, number, meta, called, applied, nil as none, cons as more, size}
 use Rattle.names.specs.Names.{Name, nameOf, nameIn, find}
 use Rattle.names.specs.Symbols.{Rows, Symbol, Variable, column, rowAt, columns, symbolOf, symbolsOf, variableOf, variablesOf, symbolNumber, variableNumber, noSymbol, symbolAt}
 use Rattle.names.specs.Standing.{Named, Stands}
@@ -61,7 +61,7 @@ module _ (text : List ℕ) (rs : Rows) (n : ℕ) (h : n ≤ length rs) (w : Name
   pub var-new : n ≤ i → n < 64 → n < length rs → (k a b : ℕ) → nameOf text k a b ≡ w → entered n (variablesOf text (set rs n (k ∷ a ∷ b ∷ s ∷ [])) (n + 1)) ≡ enter (variablesOf text rs n) w s
   unfolding enter variablesOf variableOf nameIn
   var-new l g m k a b q =
-      ap (entered n) (table-more (variableOf text) rs n (k ∷ a ∷ b ∷ s ∷ []) m) 
+      ap (entered n) (table-more (variableOf text) rs n (k ∷ a ∷ b ∷ s ∷ []) m)
       ∙ ap (λ (v : Name). entered n (variablesOf text rs n ++ (record { name = v; sort = s } ∷ []))) q ∙ sym (simp (← e, many-vars, le-ltb i n l, lt-ltb n 64 g))
 
   pub var-full : n ≤ i → 64 ≤ n → refused 28 ≡ enter (variablesOf text rs n) w s
@@ -86,4 +86,3 @@ module _ (text : List ℕ) (g : Got) (vx : Rows) (x : Entry) (eq : entryOf text 
       go : (k : ℕ) → 0 < k → yes (laid (i ∷ []) w u) (variablesOf text vx n) (k - 1) ≡ stored [] (counted (entered i (variablesOf text vx n)) k) w u
       go zero b = absurd (omega arith)
       go (suc k) b = let y : suc k - 1 ≡ k = omega arith in rw y
-

@@ -4,8 +4,8 @@ use mathlib.Core.Path.{_≡_}
 use mathlib.Core.List.{List, [], _∷_}
 use lib.ListN.{length, take}
 use Rattle.terms.specs.Term.{Term, app, nil, cons}
-use Rattle.parser.specs.Source.{Arity, one, many}
-use Rattle.parser.specs.Standing.{Written, number, size}
+use Rattle.term_parser.specs.Source.{Arity, one, many}
+use Rattle.term_parser.specs.Standing.{Written, number, size}
 use Rattle.names.specs.Symbols.{Rows, Symbol, Variable, column, rowAt, variablesOf, symbolAt}
 use Rattle.patterns.specs.Patterns.{Entry, refused, entered, Out, bad, good, bind, misfit, spent, unless, first, patternOf}
 use Rattle.names.specs.Standing.{Stands}

@@ -7,8 +7,8 @@ use lib.Dec.{eqb, ltb}
 use lib.ListN.{length, getD, set}
 use Rattle.terms.specs.Term.{Kind, Syn, Term, Terms, var, app, nil, cons}
 use Rattle.terms.specs.Term.Kind.{one as single, many as several}
-use Rattle.parser.specs.Source.{Arity, one, many}
-use Rattle.parser.specs.Standing.{Written, number, meta, called, applied, nil as none, cons as more, size}
+use Rattle.term_parser.specs.Source.{Arity, one, many}
+use Rattle.term_parser.specs.Standing.{Written, number, meta, called, applied, nil as none, cons as more, size}
 use Rattle.names.specs.Names.{Name}
 use Rattle.names.specs.Symbols.{Symbol, Variable, symbolNumber, variableNumber, symbolAt}
 

@@ -354,7 +354,7 @@ pub fn pattern(
             room,
         );
     }
-    if kind == parser::APPLICATION {
+    if kind == term_parser::APPLICATION {
         return Made::Failed {
             number: UNKNOWN_SYMBOL,
         };

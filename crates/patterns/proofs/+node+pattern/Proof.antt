@@ -5,7 +5,7 @@ use mathlib.Core.List.{[]}
 use mathlib.Core.Path.{_≡_, refl, sym, ap, _∙_}
 use lib.ListN.{length, take}
 use lib.Seq.{length-take-le}
-use Rattle.parser.specs.Source.{one, many}
+use Rattle.term_parser.specs.Source.{one, many}
 use Rattle.names.specs.Symbols.{column, rowAt, symbolsOf, variablesOf}
 use Rattle.patterns.specs.Patterns.{patternOf, Out}
 use Rattle.patterns.specs.Contracts.{stored, Compiled, NodeMade, Ready}
@@ -80,7 +80,7 @@ node-returns t c =
     let if1 = c .if1 in
     record {
       small = tt;
-      same = λ ts q st cn. (tt, node-misfit ((args .text .now)) ((args .symbols .now)) ((args .count)) ((pre .1 .0 .lent)) ((args .i)) ((pre .1 .1 .0)) ((args .want)) (variablesOf ((args .text .now)) ((args .variables .now)) ((args .entered))) ((args .room)) ((misfit .ensures) ((args .text .now))) ((if1 .taken)) ts cn ((args .words .now)) ((args .used)))
+      same = λ ts q st cn. (tt, node-misfit ((args .text .now)) ((args .symbols .now)) ((args .count)) ((pre .1 .0 .lent)) ((args .i)) ((pre .1 .1 .0)) ((args .want)) (variablesOf ((args .text .now)) ((args .variables .now)) ((args .entered))) ((args .room)) ((misfit .ensures) ((args .text .now))) ((if1 .taken)) ts cn ((args .words .now)) ((args .used)));
     }
 
 node-returns-2 : (t : ℕ) → node-lts.Need-returns-2 (
@@ -99,7 +99,7 @@ node-returns-2 t c =
     let if2 = c .if2 in
     record {
       small = tt;
-      same = λ ts q st cn. (tt, node-full ((args .text .now)) ((args .symbols .now)) ((args .count)) ((pre .1 .0 .lent)) ((args .i)) ((pre .1 .1 .0)) ((args .want)) (variablesOf ((args .text .now)) ((args .variables .now)) ((args .entered))) ((args .room)) ((misfit .ensures) ((args .text .now))) ((if1 .left)) ts cn ((if2 .taken)) ((args .words .now)) ((args .used)))
+      same = λ ts q st cn. (tt, node-full ((args .text .now)) ((args .symbols .now)) ((args .count)) ((pre .1 .0 .lent)) ((args .i)) ((pre .1 .1 .0)) ((args .want)) (variablesOf ((args .text .now)) ((args .variables .now)) ((args .entered))) ((args .room)) ((misfit .ensures) ((args .text .now))) ((if1 .left)) ts cn ((if2 .taken)) ((args .words .now)) ((args .used)));
     }
 
 node-sub-m : (t : ℕ) → node-lts.Need-sub-m (
@@ -179,7 +179,7 @@ node-index-2-pattern t c =
     let misfit = c .before .before .before .before .misfit in
     let pre = c .before .before .before .before .before .before .before .pre in
     let b : (args .arguments) ≡ column (rowAt ((args .symbols .now)) ((args .i))) 6 = misfit-args ((args .text .now)) (rowAt ((args .symbols .now)) ((args .i))) ((args .want)) ((args .arguments)) (sym ((if1 .left))
-        ∙ (misfit .ensures) ((args .text .now))) in
+    ∙ (misfit .ensures) ((args .text .now))) in
     let x = (pre .1 .0 .inputs) ((args .i)) ((pre .1 .1 .0)) in
     omega arith
 
@@ -251,12 +251,15 @@ node-returns-3 t c =
     let number = c .before .number in
     let if2 = c .before .before .before .before .before .before .before .before .before .before .before .before .if2 in
     let b : (args .arguments) ≡ column (rowAt ((args .symbols .now)) ((args .i))) 6 = misfit-args ((args .text .now)) (rowAt ((args .symbols .now)) ((args .i))) ((args .want)) ((args .arguments)) (sym ((if1 .left))
-        ∙ (misfit .ensures) ((args .text .now))) in
+    ∙ (misfit .ensures) ((args .text .now))) in
     let x = (pre .1 .0 .inputs) ((args .i)) ((pre .1 .1 .0)) in
     record {
       small = tt;
-      same = λ ts q st cn. (tt, app-refused (patternOf (symbolsOf ((args .text .now)) ((args .symbols .now)) ((args .count))) ts (inputsAt ((args .text .now)) ((args .symbols .now)) ((args .count)) ((args .i))) (variablesOf ((args .text .now)) ((args .variables .now)) ((args .entered))) ((args .room) - 1)) ((args .i)) ((args .words .now)) ((args .used)) (loop-refused ((args .text .now)) ((args .rows .now)) ((args .at)) ((args .arguments)) (symbolsOf ((args .text .now)) ((args .symbols .now)) ((args .count))) (inputsAt ((args .text .now)) ((args .symbols .now)) ((args .count)) ((args .i))) ((args .variables .now)) ((args .entered)) ((args .words .now)) ((args .used)) ((args .room) - 1) ((loop .k)) ((loop .p)) ((loop .variables)) ((loop .nv)) ((loop .words)) ((loop .u)) ((loop .m)) ((loop .refs)) ((loop .inv)) ((loop-test .taken)) (column (rowAt ((args .symbols .now)) ((args .i))) (8 + (loop .k))) (input-at ((args .text .now)) ((args .symbols .now)) ((args .count)) ((pre .1 .0 .lent)) ((args .i)) ((pre .1 .1 .0)) 0 [] 0 ((loop .k)) (rw b at ((loop-test .taken)))) ((pattern .result)) _ _ ((pattern .ensures)) ((number .given .1)) ts q st cn)
-          ∙ ap (λ (x : Out one). stored [] x ((args .words .now)) ((args .used))) (sym (node-open ((args .text .now)) ((args .symbols .now)) ((args .count)) ((pre .1 .0 .lent)) ((args .i)) ((pre .1 .1 .0)) ((args .want)) (variablesOf ((args .text .now)) ((args .variables .now)) ((args .entered))) ((args .room)) ((misfit .ensures) ((args .text .now))) ((if1 .left)) ts cn (omega (arith, (if2 .left))))))
+      same = λ ts q st cn. (
+        tt,
+        app-refused (patternOf (symbolsOf ((args .text .now)) ((args .symbols .now)) ((args .count))) ts (inputsAt ((args .text .now)) ((args .symbols .now)) ((args .count)) ((args .i))) (variablesOf ((args .text .now)) ((args .variables .now)) ((args .entered))) ((args .room) - 1)) ((args .i)) ((args .words .now)) ((args .used)) (loop-refused ((args .text .now)) ((args .rows .now)) ((args .at)) ((args .arguments)) (symbolsOf ((args .text .now)) ((args .symbols .now)) ((args .count))) (inputsAt ((args .text .now)) ((args .symbols .now)) ((args .count)) ((args .i))) ((args .variables .now)) ((args .entered)) ((args .words .now)) ((args .used)) ((args .room) - 1) ((loop .k)) ((loop .p)) ((loop .variables)) ((loop .nv)) ((loop .words)) ((loop .u)) ((loop .m)) ((loop .refs)) ((loop .inv)) ((loop-test .taken)) (column (rowAt ((args .symbols .now)) ((args .i))) (8 + (loop .k))) (input-at ((args .text .now)) ((args .symbols .now)) ((args .count)) ((pre .1 .0 .lent)) ((args .i)) ((pre .1 .1 .0)) 0 [] 0 ((loop .k)) (rw b at ((loop-test .taken)))) ((pattern .result)) _ _ ((pattern .ensures)) ((number .given .1)) ts q st cn)
+            ∙ ap (λ (x : Out one). stored [] x ((args .words .now)) ((args .used))) (sym (node-open ((args .text .now)) ((args .symbols .now)) ((args .count)) ((pre .1 .0 .lent)) ((args .i)) ((pre .1 .1 .0)) ((args .want)) (variablesOf ((args .text .now)) ((args .variables .now)) ((args .entered))) ((args .room)) ((misfit .ensures) ((args .text .now))) ((if1 .left)) ts cn (omega (arith, (if2 .left))))),
+      );
     }
 
 node-enum-known-r : (t : ℕ) → node-lts.Need-enum-known-r (
@@ -294,7 +297,7 @@ node-array-write-refs t c =
     let pre = c .before .before .before .before .before .before .before .before .before .before .before .before .before .before .before .before .before .pre in
     let loop = c .before .before .before .before .before .before .before .before .before .before .before .loop in
     let b : (args .arguments) ≡ column (rowAt ((args .symbols .now)) ((args .i))) 6 = misfit-args ((args .text .now)) (rowAt ((args .symbols .now)) ((args .i))) ((args .want)) ((args .arguments)) (sym ((if1 .left))
-        ∙ (misfit .ensures) ((args .text .now))) in
+    ∙ (misfit .ensures) ((args .text .now))) in
     let x = (pre .1 .0 .inputs) ((args .i)) ((pre .1 .1 .0)) in
     omega (arith, (loop .inv .sixteen))
 
@@ -336,7 +339,7 @@ node-loop-again t c =
     let pattern = c .before .before .before .before .before .before .pattern in
     let r′ = c .before .r in
     let b : (args .arguments) ≡ column (rowAt ((args .symbols .now)) ((args .i))) 6 = misfit-args ((args .text .now)) (rowAt ((args .symbols .now)) ((args .i))) ((args .want)) ((args .arguments)) (sym ((if1 .left))
-        ∙ (misfit .ensures) ((args .text .now))) in
+    ∙ (misfit .ensures) ((args .text .now))) in
     let x = (pre .1 .0 .inputs) ((args .i)) ((pre .1 .1 .0)) in
     loop-turn ((args .text .now)) ((args .rows .now)) ((args .at)) ((args .arguments)) (symbolsOf ((args .text .now)) ((args .symbols .now)) ((args .count))) (inputsAt ((args .text .now)) ((args .symbols .now)) ((args .count)) ((args .i))) ((args .variables .now)) ((args .entered)) ((args .words .now)) ((args .used)) ((args .room) - 1) ((loop .k)) ((loop .p)) ((loop .variables)) ((loop .nv)) ((loop .words)) ((loop .u)) ((loop .m)) ((loop .refs)) ((loop .inv)) ((loop-test .taken)) (column (rowAt ((args .symbols .now)) ((args .i))) (8 + (loop .k))) (input-at ((args .text .now)) ((args .symbols .now)) ((args .count)) ((pre .1 .0 .lent)) ((args .i)) ((pre .1 .1 .0)) 0 [] 0 ((loop .k)) (rw b at ((loop-test .taken)))) ((pattern .result)) _ _ ((pattern .ensures)) ((r′ .given .1)) ((pattern .kept .1 .1 .1 .1 .1 .1 .0)) ((pattern .kept .1 .1 .1 .1 .1 .1 .1 .1 .0)) (omega arith)
 
@@ -415,7 +418,7 @@ node-array-share-prefix-refs t c =
     let pre = c .before .before .before .before .before .before .before .before .pre in
     let loop = c .before .before .loop in
     let b : (args .arguments) ≡ column (rowAt ((args .symbols .now)) ((args .i))) 6 = misfit-args ((args .text .now)) (rowAt ((args .symbols .now)) ((args .i))) ((args .want)) ((args .arguments)) (sym ((if1 .left))
-        ∙ (misfit .ensures) ((args .text .now))) in
+    ∙ (misfit .ensures) ((args .text .now))) in
     let x = (pre .1 .0 .inputs) ((args .i)) ((pre .1 .1 .0)) in
     omega (arith, (loop .inv .sixteen))
 
@@ -434,7 +437,7 @@ node-slice-aggregate-push-node t c =
     let pre = c .before .before .before .before .before .before .before .before .before .pre in
     let loop = c .before .before .before .loop in
     let b : (args .arguments) ≡ column (rowAt ((args .symbols .now)) ((args .i))) 6 = misfit-args ((args .text .now)) (rowAt ((args .symbols .now)) ((args .i))) ((args .want)) ((args .arguments)) (sym ((if1 .left))
-        ∙ (misfit .ensures) ((args .text .now))) in
+    ∙ (misfit .ensures) ((args .text .now))) in
     let x = (pre .1 .0 .inputs) ((args .i)) ((pre .1 .1 .0)) in
     let six = (loop .inv .sixteen) in
     let n : length (take ((args .arguments)) ((loop .refs))) ≡ (args .arguments) = length-take-le ((args .arguments)) ((loop .refs)) (omega arith) in
@@ -455,7 +458,7 @@ node-push-node-requires t c κs =
     let pre = c .before .before .before .before .before .before .before .before .before .pre in
     let loop = c .before .before .before .loop in
     let b : (args .arguments) ≡ column (rowAt ((args .symbols .now)) ((args .i))) 6 = misfit-args ((args .text .now)) (rowAt ((args .symbols .now)) ((args .i))) ((args .want)) ((args .arguments)) (sym ((if1 .left))
-        ∙ (misfit .ensures) ((args .text .now))) in
+    ∙ (misfit .ensures) ((args .text .now))) in
     let x = (pre .1 .0 .inputs) ((args .i)) ((pre .1 .1 .0)) in
     let L = (loop .inv) in
     let six = L .sixteen in
@@ -541,14 +544,16 @@ node-returns-4 t c =
     let push-node = c .before .before .push-node in
     let if2 = c .before .before .before .before .before .before .before .if2 in
     let b : (args .arguments) ≡ column (rowAt ((args .symbols .now)) ((args .i))) 6 = misfit-args ((args .text .now)) (rowAt ((args .symbols .now)) ((args .i))) ((args .want)) ((args .arguments)) (sym ((if1 .left))
-        ∙ (misfit .ensures) ((args .text .now))) in
+    ∙ (misfit .ensures) ((args .text .now))) in
     let x = (pre .1 .0 .inputs) ((args .i)) ((pre .1 .1 .0)) in
     let L = (loop .inv) in
     record {
       small = (L .from, L .grown, L .bound, omega arith, omega arith);
-      same = λ ts q st cn. let d = loop-done ((args .text .now)) ((args .rows .now)) ((args .at)) ((args .arguments)) (symbolsOf ((args .text .now)) ((args .symbols .now)) ((args .count))) (inputsAt ((args .text .now)) ((args .symbols .now)) ((args .count)) ((args .i))) ((args .variables .now)) ((args .entered)) ((args .words .now)) ((args .used)) ((args .room) - 1) ((loop .k)) ((loop .p)) ((loop .variables)) ((loop .nv)) ((loop .words)) ((loop .u)) ((loop .m)) ((loop .refs)) ((loop .inv)) ((loop-test .left)) ts q st cn in
-    (d .0, node-done (patternOf (symbolsOf ((args .text .now)) ((args .symbols .now)) ((args .count))) ts (inputsAt ((args .text .now)) ((args .symbols .now)) ((args .count)) ((args .i))) (variablesOf ((args .text .now)) ((args .variables .now)) ((args .entered))) ((args .room) - 1)) ((args .i)) ((args .words .now)) ((args .used)) ((loop .refs)) ((args .arguments)) ((loop .words)) ((loop .u)) _ ((loop .m)) _ (omega (arith, L .sixteen)) ((push-node .ensures)) (d .1)
-        ∙ ap (λ (x : Out one). stored [] x ((args .words .now)) ((args .used))) (sym (node-open ((args .text .now)) ((args .symbols .now)) ((args .count)) ((pre .1 .0 .lent)) ((args .i)) ((pre .1 .1 .0)) ((args .want)) (variablesOf ((args .text .now)) ((args .variables .now)) ((args .entered))) ((args .room)) ((misfit .ensures) ((args .text .now))) ((if1 .left)) ts cn (omega (arith, (if2 .left))))))
+      same = λ ts q st cn. let d = loop-done ((args .text .now)) ((args .rows .now)) ((args .at)) ((args .arguments)) (symbolsOf ((args .text .now)) ((args .symbols .now)) ((args .count))) (inputsAt ((args .text .now)) ((args .symbols .now)) ((args .count)) ((args .i))) ((args .variables .now)) ((args .entered)) ((args .words .now)) ((args .used)) ((args .room) - 1) ((loop .k)) ((loop .p)) ((loop .variables)) ((loop .nv)) ((loop .words)) ((loop .u)) ((loop .m)) ((loop .refs)) ((loop .inv)) ((loop-test .left)) ts q st cn in (
+        d .0,
+        node-done (patternOf (symbolsOf ((args .text .now)) ((args .symbols .now)) ((args .count))) ts (inputsAt ((args .text .now)) ((args .symbols .now)) ((args .count)) ((args .i))) (variablesOf ((args .text .now)) ((args .variables .now)) ((args .entered))) ((args .room) - 1)) ((args .i)) ((args .words .now)) ((args .used)) ((loop .refs)) ((args .arguments)) ((loop .words)) ((loop .u)) _ ((loop .m)) _ (omega (arith, L .sixteen)) ((push-node .ensures)) (d .1)
+            ∙ ap (λ (x : Out one). stored [] x ((args .words .now)) ((args .used))) (sym (node-open ((args .text .now)) ((args .symbols .now)) ((args .count)) ((pre .1 .0 .lent)) ((args .i)) ((pre .1 .1 .0)) ((args .want)) (variablesOf ((args .text .now)) ((args .variables .now)) ((args .entered))) ((args .room)) ((misfit .ensures) ((args .text .now))) ((if1 .left)) ts cn (omega (arith, (if2 .left))))),
+      );
     }
 
 pattern-returns : (t : ℕ) → pattern-lts.Need-returns (
@@ -566,7 +571,7 @@ pattern-returns : (t : ℕ) → pattern-lts.Need-returns (
 pattern-returns t c =
     record {
       small = tt;
-      same = λ t q st. out-of-rows ((c .before .before .before .args .text .now)) ((c .before .before .before .args .rows .now)) ((c .before .before .before .args .at)) ((c .if1 .taken)) t q st
+      same = λ t q st. out-of-rows ((c .before .before .before .args .text .now)) ((c .before .before .before .args .rows .now)) ((c .before .before .before .args .at)) ((c .if1 .taken)) t q st;
     }
 
 pattern-mul-kind : (t : ℕ) → pattern-lts.Need-mul-kind (
@@ -814,9 +819,11 @@ pattern-returns-2 t c =
     let low = (pre .1 .low) in
     record {
       small = (numeral .ensures .small);
-      same = λ t q st. let x = is-numeral ((args .text .now)) ((args .rows .now)) ((args .at)) (symbolsOf ((args .text .now)) ((args .symbols .now)) ((args .count))) ((args .want)) (variablesOf ((args .text .now)) ((args .variables .now)) ((args .entered))) ((args .room)) t q st (omega arith) ((if2 .taken)) in
-    (rw (x .0) at ((numeral .ensures .going)), rw ((wide .ensures)) at ((numeral .ensures .same) ((args .variables .now)))
-        ∙ ap (λ (y : Out one). stored [] y ((args .words .now)) ((args .used))) (x .1))
+      same = λ t q st. let x = is-numeral ((args .text .now)) ((args .rows .now)) ((args .at)) (symbolsOf ((args .text .now)) ((args .symbols .now)) ((args .count))) ((args .want)) (variablesOf ((args .text .now)) ((args .variables .now)) ((args .entered))) ((args .room)) t q st (omega arith) ((if2 .taken)) in (
+        rw (x .0) at ((numeral .ensures .going)),
+        rw ((wide .ensures)) at ((numeral .ensures .same) ((args .variables .now)))
+            ∙ ap (λ (y : Out one). stored [] y ((args .words .now)) ((args .used))) (x .1),
+      );
     }
 
 pattern-add-variable : (t : ℕ) → pattern-lts.Need-add-variable (
@@ -879,9 +886,11 @@ pattern-returns-3 t c =
     let if3 = c .before .before .before .if3 in
     record {
       small = (variable .ensures .0);
-      same = λ t q st. let x = is-meta ((args .text .now)) ((args .rows .now)) ((args .at)) (symbolsOf ((args .text .now)) ((args .symbols .now)) ((args .count))) ((args .want)) (variablesOf ((args .text .now)) ((args .variables .now)) ((args .entered))) ((args .room)) t q st ((if3 .taken)) in
-    (rw (x .0) at ((variable .ensures .1 .1)), (variable .ensures .1 .0) ((args .words .now))
-        ∙ ap (λ (y : Out one). stored [] y ((args .words .now)) ((args .used))) (x .1))
+      same = λ t q st. let x = is-meta ((args .text .now)) ((args .rows .now)) ((args .at)) (symbolsOf ((args .text .now)) ((args .symbols .now)) ((args .count))) ((args .want)) (variablesOf ((args .text .now)) ((args .variables .now)) ((args .entered))) ((args .room)) t q st ((if3 .taken)) in (
+        rw (x .0) at ((variable .ensures .1 .1)),
+        (variable .ensures .1 .0) ((args .words .now))
+            ∙ ap (λ (y : Out one). stored [] y ((args .words .now)) ((args .used))) (x .1),
+      );
     }
 
 pattern-symbol-of-requires : (t : ℕ) → pattern-lts.Need-symbol-of-requires (
@@ -1039,8 +1048,8 @@ pattern-returns-4 t c =
     record {
       small = (node .ensures .small);
       same = λ t q st. let x = is-node ((args .text .now)) ((args .rows .now)) ((args .at)) (symbolsOf ((args .text .now)) ((args .symbols .now)) ((args .count))) ((args .want)) (variablesOf ((args .text .now)) ((args .variables .now)) ((args .entered))) ((args .room)) t q st ((symbol-of .result)) ((symbol-of .ensures)) ((if2 .left)) ((if3 .left)) (rw n ((if4 .taken))) in
-    let y = (node .ensures .same) (x .0) q (x .1) (x .2 ∙ sym ((wide2 .ensures))) in
-    (y .0, y .1 ∙ ap (λ (z : Out one). stored [] z ((args .words .now)) ((args .used))) (x .3))
+          let y = (node .ensures .same) (x .0) q (x .1) (x .2 ∙ sym ((wide2 .ensures))) in
+          (y .0, y .1 ∙ ap (λ (z : Out one). stored [] z ((args .words .now)) ((args .used))) (x .3));
     }
 
 pattern-returns-5 : (t : ℕ) → pattern-lts.Need-returns-5 (
@@ -1066,7 +1075,7 @@ pattern-returns-5 t c =
     let n = symbols-length ((args .text .now)) ((args .symbols .now)) ((args .count)) ((pre .1 .lent)) in
     record {
       small = tt;
-      same = λ t q st. (tt, ap (λ (z : Out one). stored [] z ((args .words .now)) ((args .used))) (is-unknown ((args .text .now)) ((args .rows .now)) ((args .at)) (symbolsOf ((args .text .now)) ((args .symbols .now)) ((args .count))) ((args .want)) (variablesOf ((args .text .now)) ((args .variables .now)) ((args .entered))) ((args .room)) t q st ((symbol-of .result)) ((symbol-of .ensures)) ((if2 .left)) ((if3 .left)) (rw n ((if4 .left))) ((if5 .taken))))
+      same = λ t q st. (tt, ap (λ (z : Out one). stored [] z ((args .words .now)) ((args .used))) (is-unknown ((args .text .now)) ((args .rows .now)) ((args .at)) (symbolsOf ((args .text .now)) ((args .symbols .now)) ((args .count))) ((args .want)) (variablesOf ((args .text .now)) ((args .variables .now)) ((args .entered))) ((args .room)) t q st ((symbol-of .result)) ((symbol-of .ensures)) ((if2 .left)) ((if3 .left)) (rw n ((if4 .left))) ((if5 .taken))));
     }
 
 pattern-returns-6 : (t : ℕ) → pattern-lts.Need-returns-6 (
@@ -1093,7 +1102,7 @@ pattern-returns-6 t c =
     let n = symbols-length ((args .text .now)) ((args .symbols .now)) ((args .count)) ((pre .1 .lent)) in
     record {
       small = tt;
-      same = λ t q st. (tt, ap (λ (z : Out one). stored [] z ((args .words .now)) ((args .used))) (is-judgment ((args .text .now)) ((args .rows .now)) ((args .at)) (symbolsOf ((args .text .now)) ((args .symbols .now)) ((args .count))) ((args .want)) (variablesOf ((args .text .now)) ((args .variables .now)) ((args .entered))) ((args .room)) t q st ((symbol-of .result)) ((symbol-of .ensures)) ((if2 .left)) ((if3 .left)) (rw n ((if4 .left))) ((if5 .left)) ((if6 .taken))))
+      same = λ t q st. (tt, ap (λ (z : Out one). stored [] z ((args .words .now)) ((args .used))) (is-judgment ((args .text .now)) ((args .rows .now)) ((args .at)) (symbolsOf ((args .text .now)) ((args .symbols .now)) ((args .count))) ((args .want)) (variablesOf ((args .text .now)) ((args .variables .now)) ((args .entered))) ((args .room)) t q st ((symbol-of .result)) ((symbol-of .ensures)) ((if2 .left)) ((if3 .left)) (rw n ((if4 .left))) ((if5 .left)) ((if6 .taken))));
     }
 
 pattern-add-variable-2 : (t : ℕ) → pattern-lts.Need-add-variable-2 (
@@ -1163,9 +1172,11 @@ pattern-returns-7 t c =
     let n = symbols-length ((args .text .now)) ((args .symbols .now)) ((args .count)) ((pre .1 .lent)) in
     record {
       small = (variable2 .ensures .0);
-      same = λ t q st. let x = is-variable ((args .text .now)) ((args .rows .now)) ((args .at)) (symbolsOf ((args .text .now)) ((args .symbols .now)) ((args .count))) ((args .want)) (variablesOf ((args .text .now)) ((args .variables .now)) ((args .entered))) ((args .room)) t q st ((symbol-of .result)) ((symbol-of .ensures)) ((if2 .left)) ((if3 .left)) (rw n ((if4 .left))) ((if5 .left)) ((if6 .left)) in
-    (rw (x .0) at ((variable2 .ensures .1 .1)), (variable2 .ensures .1 .0) ((args .words .now))
-        ∙ ap (λ (y : Out one). stored [] y ((args .words .now)) ((args .used))) (x .1))
+      same = λ t q st. let x = is-variable ((args .text .now)) ((args .rows .now)) ((args .at)) (symbolsOf ((args .text .now)) ((args .symbols .now)) ((args .count))) ((args .want)) (variablesOf ((args .text .now)) ((args .variables .now)) ((args .entered))) ((args .room)) t q st ((symbol-of .result)) ((symbol-of .ensures)) ((if2 .left)) ((if3 .left)) (rw n ((if4 .left))) ((if5 .left)) ((if6 .left)) in (
+        rw (x .0) at ((variable2 .ensures .1 .1)),
+        (variable2 .ensures .1 .0) ((args .words .now))
+            ∙ ap (λ (y : Out one). stored [] y ((args .words .now)) ((args .used))) (x .1),
+      );
     }
 
 pub +node+pattern-spec : {M : Type 1} → statement M

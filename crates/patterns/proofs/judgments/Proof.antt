@@ -34,7 +34,7 @@ pattern-requires c κs =
       variables = omega arith;
       entered = L .bound;
       words = omega arith;
-      low = omega arith
+      low = omega arith;
     }
 
 enum-known-number : tie.Need-enum-known-number Inv-loop μ-loop
@@ -65,7 +65,7 @@ returns c =
     let number = c .before .number in
     record {
       small = tt;
-      same = λ ts q st cn. (tt, loop-refused ((args .text .now)) ((args .rows .now)) ((args .at)) ((args .n)) (symbolsOf ((args .text .now)) ((args .symbols .now)) ((args .count))) [] ((args .variables .now)) ((args .entered)) ((args .words .now)) ((args .used)) ((args .room)) ((loop .k)) ((loop .p)) ((loop .variables)) ((loop .nv)) ((loop .words)) ((loop .u)) ((loop .m)) ((loop .heads)) ((loop .inv)) ((loop-test .taken)) 0 (nothing-asked ((loop .k))) ((pattern .result)) _ _ ((pattern .ensures)) ((number .given .1)) ts q st cn)
+      same = λ ts q st cn. (tt, loop-refused ((args .text .now)) ((args .rows .now)) ((args .at)) ((args .n)) (symbolsOf ((args .text .now)) ((args .symbols .now)) ((args .count))) [] ((args .variables .now)) ((args .entered)) ((args .words .now)) ((args .used)) ((args .room)) ((loop .k)) ((loop .p)) ((loop .variables)) ((loop .nv)) ((loop .words)) ((loop .u)) ((loop .m)) ((loop .heads)) ((loop .inv)) ((loop-test .taken)) 0 (nothing-asked ((loop .k))) ((pattern .result)) _ _ ((pattern .ensures)) ((number .given .1)) ts q st cn);
     }
 
 enum-known-r : tie.Need-enum-known-r Inv-loop μ-loop
@@ -113,7 +113,7 @@ returns-2 c =
     let L = (loop .inv) in
     record {
       small = (L .from, L .grown, L .bound, L .further, omega arith);
-      same = λ ts q st cn. loop-done ((args .text .now)) ((args .rows .now)) ((args .at)) ((args .n)) (symbolsOf ((args .text .now)) ((args .symbols .now)) ((args .count))) [] ((args .variables .now)) ((args .entered)) ((args .words .now)) ((args .used)) ((args .room)) ((loop .k)) ((loop .p)) ((loop .variables)) ((loop .nv)) ((loop .words)) ((loop .u)) ((loop .m)) ((loop .heads)) ((loop .inv)) ((loop-test .left)) ts q st cn
+      same = λ ts q st cn. loop-done ((args .text .now)) ((args .rows .now)) ((args .at)) ((args .n)) (symbolsOf ((args .text .now)) ((args .symbols .now)) ((args .count))) [] ((args .variables .now)) ((args .entered)) ((args .words .now)) ((args .used)) ((args .room)) ((loop .k)) ((loop .p)) ((loop .variables)) ((loop .nv)) ((loop .words)) ((loop .u)) ((loop .m)) ((loop .heads)) ((loop .inv)) ((loop-test .left)) ts q st cn;
     }
 
 pub judgments-spec : {M : Type 1} → statement M

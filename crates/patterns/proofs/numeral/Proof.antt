@@ -23,7 +23,7 @@ returns c =
     record {
       small = tt;
       going = tt;
-      same = λ vx. no-zero ((args .text .now)) ((args .symbols .now)) ((args .count)) ((pre .0)) ((args .n)) ((args .want)) (variablesOf ((args .text .now)) vx ((args .variables))) ((args .room)) ((args .words .now)) ((args .used)) 0 ((find-symbol .result)) ((find-symbol .ensures)) (if1 .taken)
+      same = λ vx. no-zero ((args .text .now)) ((args .symbols .now)) ((args .count)) ((pre .0)) ((args .n)) ((args .want)) (variablesOf ((args .text .now)) vx ((args .variables))) ((args .room)) ((args .words .now)) ((args .used)) 0 ((find-symbol .result)) ((find-symbol .ensures)) (if1 .taken);
     }
 
 mul-if2 : tie.Need-mul-if2
@@ -45,7 +45,7 @@ returns-2 c =
     record {
       small = tt;
       going = tt;
-      same = λ vx. zero-pred ((args .text .now)) ((args .symbols .now)) ((args .count)) ((pre .0)) ((args .n)) ((args .want)) (variablesOf ((args .text .now)) vx ((args .variables))) ((args .room)) ((args .words .now)) ((args .used)) 0 ((find-symbol .result)) ((find-symbol .ensures)) (if1 .left) (if2 .taken)
+      same = λ vx. zero-pred ((args .text .now)) ((args .symbols .now)) ((args .count)) ((pre .0)) ((args .n)) ((args .want)) (variablesOf ((args .text .now)) vx ((args .variables))) ((args .room)) ((args .words .now)) ((args .used)) 0 ((find-symbol .result)) ((find-symbol .ensures)) (if1 .left) (if2 .taken);
     }
 
 slice-aggregate-find-symbol-2 : tie.Need-slice-aggregate-find-symbol-2
@@ -66,7 +66,7 @@ returns-3 c =
     record {
       small = tt;
       going = tt;
-      same = λ vx. no-succ ((args .text .now)) ((args .symbols .now)) ((args .count)) ((pre .0)) ((args .n)) ((args .want)) (variablesOf ((args .text .now)) vx ((args .variables))) ((args .room)) ((args .words .now)) ((args .used)) ((find-symbol2 .result)) ((find-symbol .result)) ((find-symbol .ensures)) (if1 .left) (if2 .left) ((find-symbol2 .ensures)) (if3 .taken)
+      same = λ vx. no-succ ((args .text .now)) ((args .symbols .now)) ((args .count)) ((pre .0)) ((args .n)) ((args .want)) (variablesOf ((args .text .now)) vx ((args .variables))) ((args .room)) ((args .words .now)) ((args .used)) ((find-symbol2 .result)) ((find-symbol .result)) ((find-symbol .ensures)) (if1 .left) (if2 .left) ((find-symbol2 .ensures)) (if3 .taken);
     }
 
 mul-if4 : tie.Need-mul-if4
@@ -91,7 +91,7 @@ returns-4 c =
     record {
       small = tt;
       going = tt;
-      same = λ vx. succ-pred ((args .text .now)) ((args .symbols .now)) ((args .count)) ((pre .0)) ((args .n)) ((args .want)) (variablesOf ((args .text .now)) vx ((args .variables))) ((args .room)) ((args .words .now)) ((args .used)) ((find-symbol2 .result)) ((find-symbol .result)) ((find-symbol .ensures)) (if1 .left) (if2 .left) ((find-symbol2 .ensures)) (if3 .left) (if4 .taken)
+      same = λ vx. succ-pred ((args .text .now)) ((args .symbols .now)) ((args .count)) ((pre .0)) ((args .n)) ((args .want)) (variablesOf ((args .text .now)) vx ((args .variables))) ((args .room)) ((args .words .now)) ((args .used)) ((find-symbol2 .result)) ((find-symbol .result)) ((find-symbol .ensures)) (if1 .left) (if2 .left) ((find-symbol2 .ensures)) (if3 .left) (if4 .taken);
     }
 
 numeral-misfit-requires : tie.Need-numeral-misfit-requires
@@ -112,7 +112,7 @@ returns-5 c =
     record {
       small = tt;
       going = tt;
-      same = λ vx. number-refused ((args .text .now)) ((args .symbols .now)) ((args .count)) ((pre .0)) ((args .n)) ((args .want)) (variablesOf ((args .text .now)) vx ((args .variables))) ((args .room)) ((args .words .now)) ((args .used)) ((find-symbol2 .result)) ((find-symbol .result)) ((find-symbol .ensures)) (if1 .left) (if2 .left) ((find-symbol2 .ensures)) (if3 .left) (if4 .left) ((numeral-misfit .ensures) ((args .text .now))) (if5 .taken)
+      same = λ vx. number-refused ((args .text .now)) ((args .symbols .now)) ((args .count)) ((pre .0)) ((args .n)) ((args .want)) (variablesOf ((args .text .now)) vx ((args .variables))) ((args .room)) ((args .words .now)) ((args .used)) ((find-symbol2 .result)) ((find-symbol .result)) ((find-symbol .ensures)) (if1 .left) (if2 .left) ((find-symbol2 .ensures)) (if3 .left) (if4 .left) ((numeral-misfit .ensures) ((args .text .now))) (if5 .taken);
     }
 
 numeral-words-requires : tie.Need-numeral-words-requires
@@ -219,7 +219,7 @@ returns-6 c =
     record {
       small = (omega arith, omega arith, omega arith, omega arith, omega arith);
       going = refl;
-      same = λ vx. number-done ((args .text .now)) ((args .symbols .now)) ((args .count)) ((pre .0)) ((args .n)) ((args .want)) (variablesOf ((args .text .now)) vx ((args .variables))) ((args .room)) ((args .words .now)) ((args .used)) ((find-symbol2 .result)) ((find-symbol .result)) ((find-symbol .ensures)) (if1 .left) (if2 .left) ((find-symbol2 .ensures)) (if3 .left) (if4 .left) ((numeral-misfit .ensures) ((args .text .now))) (if5 .left) ((numeral-words .result)) _ ((numeral-words .ensures))
+      same = λ vx. number-done ((args .text .now)) ((args .symbols .now)) ((args .count)) ((pre .0)) ((args .n)) ((args .want)) (variablesOf ((args .text .now)) vx ((args .variables))) ((args .room)) ((args .words .now)) ((args .used)) ((find-symbol2 .result)) ((find-symbol .result)) ((find-symbol .ensures)) (if1 .left) (if2 .left) ((find-symbol2 .ensures)) (if3 .left) (if4 .left) ((numeral-misfit .ensures) ((args .text .now))) (if5 .left) ((numeral-words .result)) _ ((numeral-words .ensures));
     }
 
 pub numeral-spec : {M : Type 1} → statement M

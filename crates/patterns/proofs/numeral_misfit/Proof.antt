@@ -30,7 +30,7 @@ returns c =
     let if1 = c .if1 in
     let loop-test = c .before .before .loop-test in
     λ text. refuse-step (symbolOf text (rowAt ((args .symbols .now)) ((args .y)))) (symbolOf text (rowAt ((args .symbols .now)) ((args .z)))) ((loop .s)) ((loop .m)) ((loop .k)) ((misfit .ensures) text) (if1 .taken) (loop-test .taken)
-        ∙ sym ((loop .inv) text)
+    ∙ sym ((loop .inv) text)
 
 returns-2 : tie.Need-returns-2 Inv-loop μ-loop
 returns-2 c =
@@ -41,7 +41,7 @@ returns-2 c =
     let if2 = c .if2 in
     let loop-test = c .before .before .before .loop-test in
     λ text. full-step (symbolOf text (rowAt ((args .symbols .now)) ((args .y)))) (symbolOf text (rowAt ((args .symbols .now)) ((args .z)))) ((loop .s)) ((loop .m)) ((loop .k)) (sym (if1 .left) ∙ (misfit .ensures) text) (if2 .taken) (loop-test .taken)
-        ∙ sym ((loop .inv) text)
+    ∙ sym ((loop .inv) text)
 
 mul-s : tie.Need-mul-s Inv-loop μ-loop
 mul-s c = search needs
@@ -70,8 +70,8 @@ loop-again c =
     let if2 = c .before .if2 in
     let loop-test = c .before .before .before .before .loop-test in
     λ text. (loop .inv) text
-        ∙ next-step (symbolOf text (rowAt ((args .symbols .now)) ((args .y)))) (symbolOf text (rowAt ((args .symbols .now)) ((args .z)))) ((loop .s)) ((loop .m)) ((loop .k)) (sym (if1 .left) ∙ (misfit .ensures) text) (omega (arith, (if2 .left))) (loop-test .taken)
-        ∙ ap (λ x. refusal (symbolOf text (rowAt ((args .symbols .now)) ((args .y)))) (symbolOf text (rowAt ((args .symbols .now)) ((args .z)))) ((loop .k) - 1) x ((loop .m) - 1)) (one-input text (rowAt ((args .symbols .now)) ((args .y))) ((loop .s)) (sym (if1 .left) ∙ (misfit .ensures) text))
+    ∙ next-step (symbolOf text (rowAt ((args .symbols .now)) ((args .y)))) (symbolOf text (rowAt ((args .symbols .now)) ((args .z)))) ((loop .s)) ((loop .m)) ((loop .k)) (sym (if1 .left) ∙ (misfit .ensures) text) (omega (arith, (if2 .left))) (loop-test .taken)
+    ∙ ap (λ x. refusal (symbolOf text (rowAt ((args .symbols .now)) ((args .y)))) (symbolOf text (rowAt ((args .symbols .now)) ((args .z)))) ((loop .k) - 1) x ((loop .m) - 1)) (one-input text (rowAt ((args .symbols .now)) ((args .y))) ((loop .s)) (sym (if1 .left) ∙ (misfit .ensures) text))
 
 misfit-requires-2 : tie.Need-misfit-requires-2 Inv-loop μ-loop
 misfit-requires-2 c κs = search needs
@@ -84,9 +84,9 @@ returns-3 c =
     let if3 = c .if3 in
     let loop-test = c .before .before .loop-test in
     λ text. refuse-end (symbolOf text (rowAt ((args .symbols .now)) ((args .y)))) (symbolOf text (rowAt ((args .symbols .now)) ((args .z)))) ((loop .s)) ((loop .m)) ((misfit2 .ensures) text) (if3 .taken)
-        ∙ (let kz : (loop .k) ≡ 0 = omega (arith, (loop-test .left)) in
+    ∙ (let kz : (loop .k) ≡ 0 = omega (arith, (loop-test .left)) in
     ap (λ x. refusal (symbolOf text (rowAt ((args .symbols .now)) ((args .y)))) (symbolOf text (rowAt ((args .symbols .now)) ((args .z)))) x ((loop .s)) ((loop .m))) (sym kz)
-        ∙ sym ((loop .inv) text))
+    ∙ sym ((loop .inv) text))
 
 returns-4 : tie.Need-returns-4 Inv-loop μ-loop
 returns-4 c =
@@ -97,9 +97,9 @@ returns-4 c =
     let if4 = c .if4 in
     let loop-test = c .before .before .before .loop-test in
     λ text. full-end (symbolOf text (rowAt ((args .symbols .now)) ((args .y)))) (symbolOf text (rowAt ((args .symbols .now)) ((args .z)))) ((loop .s)) ((loop .m)) (sym (if3 .left) ∙ (misfit2 .ensures) text) (if4 .taken)
-        ∙ (let kz : (loop .k) ≡ 0 = omega (arith, (loop-test .left)) in
+    ∙ (let kz : (loop .k) ≡ 0 = omega (arith, (loop-test .left)) in
     ap (λ x. refusal (symbolOf text (rowAt ((args .symbols .now)) ((args .y)))) (symbolOf text (rowAt ((args .symbols .now)) ((args .z)))) x ((loop .s)) ((loop .m))) (sym kz)
-        ∙ sym ((loop .inv) text))
+    ∙ sym ((loop .inv) text))
 
 returns-5 : tie.Need-returns-5 Inv-loop μ-loop
 returns-5 c =
@@ -110,9 +110,9 @@ returns-5 c =
     let if4 = c .if4 in
     let loop-test = c .before .before .before .loop-test in
     λ text. none-end (symbolOf text (rowAt ((args .symbols .now)) ((args .y)))) (symbolOf text (rowAt ((args .symbols .now)) ((args .z)))) ((loop .s)) ((loop .m)) (sym (if3 .left) ∙ (misfit2 .ensures) text) (omega (arith, (if4 .left)))
-        ∙ (let kz : (loop .k) ≡ 0 = omega (arith, (loop-test .left)) in
+    ∙ (let kz : (loop .k) ≡ 0 = omega (arith, (loop-test .left)) in
     ap (λ x. refusal (symbolOf text (rowAt ((args .symbols .now)) ((args .y)))) (symbolOf text (rowAt ((args .symbols .now)) ((args .z)))) x ((loop .s)) ((loop .m))) (sym kz)
-        ∙ sym ((loop .inv) text))
+    ∙ sym ((loop .inv) text))
 
 pub numeral-misfit-spec : {M : Type 1} → statement M
 numeral-misfit-spec =

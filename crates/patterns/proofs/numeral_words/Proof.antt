@@ -54,9 +54,13 @@ add-r : tie.Need-add-r Inv-loop μ-loop
 add-r c = search needs
 
 loop-holds : tie.Need-loop-holds Inv-loop μ-loop
-loop-holds c =
-    (refl, omega arith, omega arith, λ v e. tower-start v ((c .args .used)) ((c .args .y)) ((c .args .z))
-    ∙ ap (λ x. laid ((64 + (c .args .used)) ∷ []) x ((c .args .used) + 1)) (sym e))
+loop-holds c = (
+  refl,
+  omega arith,
+  omega arith,
+  λ v e. tower-start v ((c .args .used)) ((c .args .y)) ((c .args .z))
+      ∙ ap (λ x. laid ((64 + (c .args .used)) ∷ []) x ((c .args .used) + 1)) (sym e),
+)
 
 mul-words-3 : tie.Need-mul-words-3 Inv-loop μ-loop
 mul-words-3 c = search needs
@@ -99,10 +103,14 @@ loop-less c = search needs
 loop-again : tie.Need-loop-again Inv-loop μ-loop
 loop-again c =
     let loop = c .before .loop in
-    let args = c .before .before .args in
-    (length-set (set ((loop .words)) ((loop .u)) _) ((loop .u) + 1) _
-        ∙ length-set ((loop .words)) ((loop .u)) _
-        ∙ (loop .inv .0), omega (arith, (loop .inv .1)), omega arith, λ v e. tower-step v ((args .used)) ((args .y)) ((args .z)) ((loop .k)) ((loop .r)) ((loop .words)) ((loop .u)) ((loop .inv .3) v e))
+    let args = c .before .before .args in (
+      length-set (set ((loop .words)) ((loop .u)) _) ((loop .u) + 1) _
+          ∙ length-set ((loop .words)) ((loop .u)) _
+          ∙ (loop .inv .0),
+      omega (arith, (loop .inv .1)),
+      omega arith,
+      λ v e. tower-step v ((args .used)) ((args .y)) ((args .z)) ((loop .k)) ((loop .r)) ((loop .words)) ((loop .u)) ((loop .inv .3) v e),
+    )
 
 same-length : tie.Need-same-length Inv-loop μ-loop
 same-length c = (c .before .loop .inv .0) ∙ length-set ((c .before .before .args .words .now)) ((c .before .before .args .used)) _
