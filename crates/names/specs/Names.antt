@@ -7,7 +7,9 @@ use mathlib.Core.Bool.{Bool, true, false, cond, _&&_}
 use mathlib.Core.List.{List, [], _∷_, _++_}
 use lib.Dec.{eqb, ltb}
 use lib.ListN.{getD}
+use borrow.Author.Count.{below-more}
 use Rattle.words.specs.Bytes.{sameBytes}
+use Rattle.words.specs.ByteLaws.{and-left, and-right, same-is}
 use Rattle.words.specs.Lexer.{partOf}
 
 abbrev pub Name : Type 0
@@ -72,11 +74,29 @@ unfoldable pub find : {A : Type 0} → (A → Name) → List A → Name → ℕ
 find name [] w = 0
 find name (a ∷ l) w = cond (sameBytes (name a) w) 0 (suc (find name l w))
 
--- The table is right: each of the 16 places has its name.
+-- Has the place j of the table its name, and has each of the first n?
+abbrev agrees : ℕ → Bool
+agrees j = sameBytes (partOf resultNames (16 * j) (resultLength j)) (resultName (suc j))
+
 unfoldable agree : ℕ → Bool
 agree zero = true
-agree (suc j) = sameBytes (partOf resultNames (16 * j) (resultLength j)) (resultName (suc j)) && agree j
+agree (suc j) = agrees j && agree j
 
 all-agree : agree 16 ≡ true
 unfolding agree sameBytes resultNames resultName digits
 all-agree = refl
+
+first-agree : (n : ℕ) → agree n ≡ true → (j : ℕ) → j < n → partOf resultNames (16 * j) (resultLength j) ≡ resultName (suc j)
+unfolding agree
+first-agree zero e j l = absurd (omega arith)
+first-agree (suc n) e j l =
+    below-more (λ i. partOf resultNames (16 * i) (resultLength i) ≡ resultName (suc i)) n
+    (λ i m. first-agree n (and-right (agrees n) (agree n) e) i m)
+    (same-is _ _ (and-left (agrees n) (agree n) e))
+    j
+    (omega arith)
+
+-- The row of a variable of flattening names it.
+pub result-name : (text : List ℕ) (j : ℕ) → j < 16 → nameIn text (resultKind ∷ (16 * j) ∷ resultLength j ∷ 0 ∷ []) ≡ resultName (suc j)
+unfolding nameIn
+result-name text j l = first-agree 16 all-agree j l

@@ -1,13 +1,11 @@
 -- The cases of words that document 01 marks for proof, as one list with one lemma over the definitions.
 use mathlib.Core.Path.{_≡_, refl}
-use mathlib.Core.Bool.{Bool, true, false, _&&_}
+use mathlib.Core.Bool.{Bool, true, _&&_}
 use mathlib.Core.List.{List, [], _∷_, _++_, List·Memᴰ, List·Memᴰ·not-nil, List·Memᴰ·cases-cons}
 use mathlib.Core.Logic.{⊎-elim}
 use Prim.Native.Nat.{ℕ}
-use lib.Dec.{eqb}
-use native.Mathlib.Omega.{arith}
-use borrow.Author.Tests.{eqb-true}
 use Rattle.words.specs.Bytes.{oneOf, startsWith, sameBytes, upTo}
+use Rattle.words.specs.ByteLaws.{and-left, and-right, same-is}
 use Rattle.words.specs.Utf8.{forms, formOf, leadOf, tailsOf, characterLength, utf8After, isUtf8}
 use Rattle.words.specs.Characters.{classOf, characterOf, outsideAfter, hasOutside}
 use Rattle.words.specs.Lines.{lines, codeOf}
@@ -50,24 +48,6 @@ marked =
 pub allRight : List Case → Bool
 allRight [] = true
 allRight (c ∷ cs) = sameBytes (shown (lexOf 65536 (c .text))) (c .read) && allRight cs
-
-and-left : (x y : Bool) → (x && y) ≡ true → x ≡ true
-and-left true y h = refl
-and-left false y h = h
-
-and-right : (x y : Bool) → (x && y) ≡ true → y ≡ true
-and-right true y h = h
-and-right false y h = absurd (let z : _≡_ {A = ℕ} 0 1 = cc in omega arith)
-
-same-is : (v w : List ℕ) → sameBytes v w ≡ true → v ≡ w
-unfolding sameBytes
-same-is [] [] e = refl
-same-is [] (b ∷ w) e = absurd (let z : _≡_ {A = ℕ} 0 1 = cc in omega arith)
-same-is (a ∷ v) [] e = absurd (let z : _≡_ {A = ℕ} 0 1 = cc in omega arith)
-same-is (a ∷ v) (b ∷ w) e =
-    let p : a ≡ b = eqb-true a b (and-left (eqb a b) (sameBytes v w) e) in
-    let q : v ≡ w = same-is v w (and-right (eqb a b) (sameBytes v w) e) in
-    cc
 
 -- Where the test is passed, each case is read as it says.
 case-holds : (cs : List Case) → allRight cs ≡ true → (c : Case) → List·Memᴰ c cs → shown (lexOf 65536 (c .text)) ≡ c .read

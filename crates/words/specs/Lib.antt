@@ -10,4 +10,5 @@ pub mod Tokens
 pub mod Refusals
 pub mod Lexer
 pub mod Rows
+pub mod ByteLaws
 pub mod Examples
