@@ -117,9 +117,9 @@ Counted rows at n = n ≡ arityOf (kindAt rows at) (column (rowAt rows at) 3)
 pub past-rows : (text : List ℕ) (rows : Rows) (at : ℕ) (symbols : List Symbol) (calls : Rows) (end number : ℕ) → length rows ≤ at → TooMany text rows at symbols calls end number
 unfolding parsed.Stands
 past-rows text rows at symbols calls end number l (numeral v) q ps st sp cp = absurd (omega arith)
-past-rows text rows at symbols calls end number l (meta w) q ps st sp cp = absurd (let h = st .0 .within in omega arith)
-past-rows text rows at symbols calls end number l (called w) q ps st sp cp = absurd (let h = st .0 .within in omega arith)
-past-rows text rows at symbols calls end number l (applied w ts) q ps st sp cp = absurd (let h = st .0 .within in omega arith)
+past-rows text rows at symbols calls end number l (meta w) q ps st sp cp = absurd (omega arith)
+past-rows text rows at symbols calls end number l (called w) q ps st sp cp = absurd (omega arith)
+past-rows text rows at symbols calls end number l (applied w ts) q ps st sp cp = absurd (omega arith)
 
 no-arguments : (us : Written many) → size us ≡ 0 → us ≡ none
 unfolding size
@@ -173,15 +173,6 @@ module _ {text : List ℕ} {rows : Rows} {at : ℕ} {symbolRows : Rows} {count n
   pub argument-room : i < n → Room rows row symbolRows count out last calls stop made
   argument-room l =
       let a = out-long in
-      let b = inv .calls-kept in
-      let d = room .term-fits in
-      let e = room .premises-fit in
-      let f = inv .term-size in
-      let g = inv .premises-size in
-      let h = inv .rising in
-      let j = inv .allowed in
-      let k = inv .within in
-      let m = inv .onward in
       record { counted = room .counted; few = inv .allowed; small = room .small; term-fits = omega arith; premises-fit = omega arith }
 
   -- A 17th call in an argument.
@@ -207,8 +198,8 @@ module _ {text : List ℕ} {rows : Rows} {at : ℕ} {symbolRows : Rows} {count n
   pub turn-over : i < n → TooMany text rows row symbols calls stop made → TooMany text rows at symbols calls₀ end number
   unfolding parsed.Stands flattenOf
   turn-over l f (numeral v) q ps st sp cp = let z = plain-arity (λ y. omega arith) in absurd (omega arith)
-  turn-over l f (meta w) q ps st sp cp = let e = st .0 .kinded in let z = plain-arity (λ y. omega arith) in absurd (omega arith)
-  turn-over l f (called w) q ps st sp cp = let e = st .0 .kinded in let z = plain-arity (λ y. omega arith) in absurd (omega arith)
+  turn-over l f (meta w) q ps st sp cp = let z = plain-arity (λ y. omega arith) in absurd (omega arith)
+  turn-over l f (called w) q ps st sp cp = let z = plain-arity (λ y. omega arith) in absurd (omega arith)
   turn-over l f (applied w ts) q ps st sp cp =
       let y = arguments-over l f ts q ps (st .1) (sym (st .0 .counts) ∙ sym (applied-arity (st .0 .kinded))) sp cp in
       let g = calling-grows (isFunction symbols w) w (flattenOf symbols ts ps) in
@@ -219,27 +210,14 @@ module _ {text : List ℕ} {rows : Rows} {at : ℕ} {symbolRows : Rows} {count n
       → Invariant text rows at symbols n (set out₀ top (rowAt rows at)) top calls₀ end number out′ calls′ (i + 1) next t e m
   unfolding parsed.Stands size flattenOf
   turn l {out′} {calls′} {next} {t} {e} {m} d =
-      let a0 = inv .few in
-      let a1 = inv .onward in
-      let a2 = inv .within in
-      let a3 = inv .written in
-      let a4 = inv .term-size in
-      let a5 = inv .premises-size in
-      let a6 = inv .rising in
-      let d0 = d .onward in
-      let d1 = d .written in
-      let d2 = d .term-size in
-      let d3 = d .premises-size in
-      let d4 = d .rising in
-      let d5 = d .out-kept in
-      let fits : last ≤ length out′ = (let r = room .term-fits in let o = out-long in omega arith) in
+      let fits : last ≤ length out′ = (let o = out-long in omega arith) in
       record {
         few = omega arith;
         onward = omega arith;
         within = d .within;
         written = omega arith;
-        term-size = omega arith;
-        premises-size = omega arith;
+        term-size = omega (arith, inv .term-size, d .term-size, inv .onward, d .onward);
+        premises-size = omega (arith, inv .premises-size, d .premises-size, inv .rising, d .rising, inv .onward, d .onward);
         rising = omega arith;
         allowed = d .allowed;
         out-kept = d .out-kept ∙ inv .out-kept;
@@ -284,7 +262,6 @@ module _ {text : List ℕ} {rows : Rows} {at : ℕ} {symbolRows : Rows} {count n
     unfolding parsed.Stands size flattenOf
     all-flat ts q ps st cn sp cp =
         let x = inv .same ts q ps st cn sp cp in
-        let a = inv .few in
         go (omega arith) (x .us) (x .vs) (x .qs) (x .is) (x .left) (x .rest) (x .done) (x .sized) (x .stand) (x .numbered)
       where
         go : i ≡ n → (us vs qs : Written many) → flattenOf symbols ts ps ≡ joined us (flattenOf symbols vs qs) → parsed.Stands text rows row vs q → size vs ≡ n - i
@@ -294,7 +271,7 @@ module _ {text : List ℕ} {rows : Rows} {at : ℕ} {symbolRows : Rows} {count n
         go e us (more v vs) qs is left rest done sized stand numbered = absurd (omega arith)
 
     first-row : rowAt out top ≡ rowAt rows at
-    first-row = inv .below top (omega arith) ∙ getD-set-same out₀ top (rowAt rows at) [] (let a = room .term-fits in omega arith)
+    first-row = inv .below top (omega arith) ∙ getD-set-same out₀ top (rowAt rows at) [] (omega arith)
 
     -- A term without arguments that is no call.
     leaf : (t : Written one) (q : ℕ) (ps : Written many) → parsed.Stands text rows at t q → q ≡ at + 1 → n ≡ 0 → flattenOf symbols t ps ≡ flat t ps → Stands text calls₀ 0 ps end → size ps ≡ number
@@ -305,8 +282,7 @@ module _ {text : List ℕ} {rows : Rows} {at : ℕ} {symbolRows : Rows} {count n
         let un : a .us ≡ none = no-arguments (a .us) (a .sized ∙ ne) in
         let le : last ≡ top + 1 = (let y = a .done in rw un at y) in
         let qs : a .qs ≡ ps = (let y = a .is in cc) in
-        let o = out-long in
-        let r = room .term-fits in (
+        let o = out-long in (
           a .ends,
           record {
             term = t;
@@ -333,8 +309,7 @@ module _ {text : List ℕ} {rows : Rows} {at : ℕ} {symbolRows : Rows} {count n
         let f : isFunction symbols w ≡ false = rw (st .0 .spells) at (sym (call-of symbols (kindAt rows at) (wordAt text rows at) (λ y. omega arith) (λ y. omega arith)) ∙ other) in
         let a = all-flat ts q ps (st .1) (sym (st .0 .counts) ∙ sym (applied-arity k)) sp cp in
         let h = parsed-stands text rows at (applied w ts) q st in
-        let o = out-long in
-        let r = room .term-fits in (
+        let o = out-long in (
           a .ends,
           record {
             term = applied w (a .us);
@@ -356,7 +331,7 @@ module _ {text : List ℕ} {rows : Rows} {at : ℕ} {symbolRows : Rows} {count n
     pub end-plain : isCall symbols (kindAt rows at) (wordAt text rows at) ≡ false → FlatRows text rows at symbols out₀ top calls₀ end number out calls row last stop made
     end-plain other =
         record {
-          onward = (let a = inv .onward in omega arith);
+          onward = omega arith;
           within = inv .within;
           written = inv .written;
           term-size = inv .term-size;
@@ -407,16 +382,6 @@ module _ {text : List ℕ} {rows : Rows} {at : ℕ} {symbolRows : Rows} {count n
     pub finish-room : (top < last) × (last ≤ length out) × (stop + last + 2 * (callLimit - made) ≤ length calls) × (made ≤ callLimit) × (n ≤ 65536)
     finish-room =
         let a = out-long in
-        let b = inv .calls-kept in
-        let d = room .term-fits in
-        let e = room .premises-fit in
-        let f = inv .term-size in
-        let g = inv .premises-size in
-        let h = inv .rising in
-        let j = inv .allowed in
-        let k = inv .within in
-        let m = inv .onward in
-        let s = room .small in
         (inv .written, omega arith, omega arith, inv .allowed, omega arith)
 
     -- What `finish` answers is right.
@@ -426,21 +391,12 @@ module _ {text : List ℕ} {rows : Rows} {at : ℕ} {symbolRows : Rows} {count n
     end-call called-here out′ calls′ (Done next t e m) lo lc f =
         let f0 = f .next-same in
         let f1 = f .one-row in
-        let f2 = f .appended in
-        let f3 = f .one-more in
-        let f4 = f .allowed in
-        let a0 = inv .onward in
-        let a1 = inv .within in
-        let a2 = inv .written in
-        let a3 = inv .term-size in
-        let a4 = inv .premises-size in
-        let a5 = inv .rising in
         record {
           onward = omega arith;
           within = omega arith;
           written = omega arith;
           term-size = omega arith;
-          premises-size = omega arith;
+          premises-size = omega (arith, inv .premises-size, inv .rising, inv .written, f .appended, f .one-row, f .one-more);
           rising = omega arith;
           allowed = omega arith;
           out-kept = lo ∙ out-long;
