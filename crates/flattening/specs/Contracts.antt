@@ -59,7 +59,7 @@ Finishes out top last calls end number start n args next out′ calls′ Over = 
 Finishes out top last calls end number start n args next out′ calls′ (Done next′ top′ end′ number′) =
     Replaced out top last calls end number start n args next out′ calls′ next′ top′ end′ number′
 
--- What `flatten` asks: a row of `out` for each row left, and of `calls` besides two for each call that is left.
+-- What `flatten` asks: a row of `out` for each row that is left; of `calls` a row for each of these and of those in `out`, and two for each call that may come.
 pub record Room (rows : Rows) (at : ℕ) (symbols : Rows) (count : ℕ) (out : Rows) (top : ℕ) (calls : Rows) (end number : ℕ) : Type 0 where
   pub counted : count ≤ length symbols
   pub few : number ≤ callLimit
@@ -76,7 +76,7 @@ pub record FlatAs (text : List ℕ) (f : Flat one) (out : Rows) (top top′ : �
   pub stand : Stands text calls 0 premises end
   pub numbered : size premises ≡ number
 
--- The rows from `at` on and before `next` were flattened, and the buffers are no fuller than they must be.
+-- The rows from `at` on and before `next` are flattened. `out` has no more rows of it than there were, and `calls` two more at most for each call.
 pub record FlatRows (text : List ℕ) (rows : Rows) (at : ℕ) (symbols : List Symbol) (out : Rows) (top : ℕ) (calls : Rows) (end number : ℕ) (out′ calls′ : Rows) (next top′ end′ number′ : ℕ) : Type 0 where
   pub onward : at < next
   pub within : next ≤ length rows
