@@ -8,10 +8,10 @@ use lib.ListN.{length, set, length-set}
 use lib.Seq.{getD-set-same, getD-set-other}
 use borrow.Author.Tests.{eq-eqb, ne-eqb}
 use Rattle.words.specs.Lexer.{partOf}
-use Rattle.parser.specs.Source.{Arity, one, many}
-use Rattle.parser.specs.Rows.{applicationKind}
-use Rattle.parser.specs.Standing as parsed
-use Rattle.parser.specs.Standing.{Written, number as numeral, meta, called, applied, nil as none, cons as more, size}
+use Rattle.term_parser.specs.Source.{Arity, one, many}
+use Rattle.term_parser.specs.Rows.{applicationKind}
+use Rattle.term_parser.specs.Standing as parsed
+use Rattle.term_parser.specs.Standing.{Written, number as numeral, meta, called, applied, nil as none, cons as more, size}
 use Rattle.names.specs.Names.{Name, resultName}
 use Rattle.names.specs.Symbols.{Rows, column, rowAt, Symbol, symbolsOf}
 use Rattle.names.specs.Standing.{Stands, parsed-stands}

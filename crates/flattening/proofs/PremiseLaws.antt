@@ -6,9 +6,9 @@ use native.Mathlib.Omega.{arith}
 use lib.ListN.{length, set, length-set}
 use lib.Seq.{getD-set-same, getD-set-other}
 use Rattle.words.specs.Lexer.{partOf}
-use Rattle.parser.specs.Source.{one, many}
-use Rattle.parser.specs.Rows.{applicationKind}
-use Rattle.parser.specs.Standing.{Written, called, applied, size}
+use Rattle.term_parser.specs.Source.{one, many}
+use Rattle.term_parser.specs.Rows.{applicationKind}
+use Rattle.term_parser.specs.Standing.{Written, called, applied, size}
 use Rattle.names.specs.Names.{resultName, resultKind, resultLength}
 use Rattle.names.specs.Symbols.{Rows, rowAt}
 use Rattle.names.specs.Standing.{Stands}

@@ -7,9 +7,9 @@ use lib.ListN.{length, set, length-set}
 use lib.Seq.{getD-set-same, getD-set-other}
 use borrow.Author.Count.{below-more}
 use Rattle.words.specs.Lexer.{partOf}
-use Rattle.parser.specs.Source.{Arity, one, many}
-use Rattle.parser.specs.Rows.{applicationKind}
-use Rattle.parser.specs.Standing.{Written, number, meta, called, applied, nil as none, cons as more, size}
+use Rattle.term_parser.specs.Source.{Arity, one, many}
+use Rattle.term_parser.specs.Rows.{applicationKind}
+use Rattle.term_parser.specs.Standing.{Written, number, meta, called, applied, nil as none, cons as more, size}
 use Rattle.names.specs.Names.{Name, nameIn, resultName, resultKind, resultLength, result-name}
 use Rattle.names.specs.Symbols.{Rows, column, rowAt}
 use Rattle.names.specs.Standing.{Named, Stands}

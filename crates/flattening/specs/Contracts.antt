@@ -8,10 +8,10 @@ use lib.Dec.{eqb}
 use lib.ListN.{length}
 use Rattle.words.specs.Names.{metavariableKind, numeralKind}
 use Rattle.words.specs.Lexer.{partOf}
-use Rattle.parser.specs.Source.{Arity, one, many}
-use Rattle.parser.specs.Rows.{applicationKind}
-use Rattle.parser.specs.Standing as parsed
-use Rattle.parser.specs.Standing.{Written, called, applied, size}
+use Rattle.term_parser.specs.Source.{Arity, one, many}
+use Rattle.term_parser.specs.Rows.{applicationKind}
+use Rattle.term_parser.specs.Standing as parsed
+use Rattle.term_parser.specs.Standing.{Written, called, applied, size}
 use Rattle.names.specs.Names.{Name, resultName}
 use Rattle.names.specs.Symbols.{Rows, rowAt, Symbol}
 use Rattle.names.specs.Standing.{Stands}

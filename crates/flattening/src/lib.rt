@@ -77,7 +77,7 @@ fn is_call(
 fn arity(kind: u32, n: u32) -> usize
     ensures { λ r. ⌜ r ≡ arityOf kind n ⌝ }
 {
-    if kind == parser::APPLICATION {
+    if kind == term_parser::APPLICATION {
         return n as usize;
     }
     0
@@ -109,7 +109,7 @@ fn finish(
     if number == CALLS {
         return Flattened::Over;
     }
-    calls[end] = [parser::APPLICATION, start, size, args as u32 + 1];
+    calls[end] = [term_parser::APPLICATION, start, size, args as u32 + 1];
     move_rows(out, top + 1, last - top - 1, calls, end + 1);
     let stop = end + (last - top);
     let place = 16 * (number as u32);

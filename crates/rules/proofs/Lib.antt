@@ -1,0 +1,4 @@
+-- The laws that several proofs cite.
+pub mod RowLaws
+pub mod JudgmentLaws
+pub mod OrderLaws

@@ -1,0 +1,55 @@
+-- `walk` meets its contract: a rule's term is never too large.
+use Prim.Native.Nat.{_<_}
+use Rattle.meeting.specs.WalkLaws.{walked-over, walked-places}
+use Rattle.rules.proofs.JudgmentLaws.{no-places}
+use borrow.Author.Needs.{needs}
+use native.Mathlib.Omega.{arith}
+use Rattle.rules.proofs.walk.Statement.{statement}
+use Rattle.rules.proofs.walk.Tie as tie
+
+meet-requires : tie.Need-meet-requires
+meet-requires c κs = search needs
+
+enum-known-given : tie.Need-enum-known-given
+enum-known-given c = search needs
+
+enum-told : tie.Need-enum-told
+enum-told c = search needs
+
+same-length : tie.Need-same-length
+same-length c = search needs
+
+same-length-2 : tie.Need-same-length-2
+same-length-2 c = search needs
+
+returns : tie.Need-returns
+returns c = λ e k. walked-places ((c .before .before .before .before .before .before .meet .ensures)) k _ _ ((c .before .given .given .1)) .records
+
+same-length-3 : tie.Need-same-length-3
+same-length-3 c = search needs
+
+same-length-4 : tie.Need-same-length-4
+same-length-4 c = search needs
+
+returns-2 : tie.Need-returns-2
+returns-2 c =
+    let meet = c .before .before .before .before .before .meet in
+    let match′ = c .before .match in
+    let pre = c .before .before .before .before .before .before .before .before .before .before .pre in
+    λ e k. absurd (let l = walked-over ((meet .ensures)) k (no-places ((meet .result)) ((match′ .keys2))) in
+    let s = pre in
+    omega arith)
+
+pub walk-spec : {M : Type 1} → statement M
+walk-spec =
+    tie.close
+    (tie.spec
+    meet-requires
+    enum-known-given
+    enum-told
+    same-length
+    same-length-2
+    returns
+    same-length-3
+    same-length-4
+    returns-2)

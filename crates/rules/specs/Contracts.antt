@@ -1,0 +1,81 @@
+-- What the functions of `rules` ask of and owe to each other.
+use Prim.Native.Nat.{ℕ, _+_, _*_, _≤_, _<_}
+use mathlib.Core.Path.{_≡_}
+use mathlib.Core.List.{List, [], _∷_}
+use lib.ListN.{length, take, getD}
+use Rattle.terms.specs.Term.{Term}
+use Rattle.arena.specs.Cells.{headers, Reference, WellFormed, cells, termsOf}
+use Rattle.arena.specs.Copies.{patternRoom}
+use Rattle.arena.specs.Rows as arena
+use Rattle.resolution.specs.Fresh.{met, metBack}
+use Rattle.resolution.specs.Search.{words}
+use Rattle.meeting.specs.Places.{Records}
+use Rattle.meeting.specs.Contract.{termOf}
+use Rattle.term_parser.specs.Source.{one, many}
+use Rattle.term_parser.specs.Standing.{Written, size}
+use Rattle.names.specs.Symbols.{Rows, Symbol, Variable, variablesOf}
+use Rattle.names.specs.Standing.{Stands}
+use Rattle.patterns.specs.Patterns.{Out, bad, good, patternOf}
+use Rattle.patterns.specs.Laying.{Laid, laid, lay}
+use Rattle.rules.specs.declared.Body.{Body}
+use Rattle.rules.specs.declared.Body.the-variants.{Failed, Done}
+use Rattle.rules.specs.declared.Counts.{Counts}
+
+-- What the judgments of a rule come to: a refusal; or the premises' references, the words used then, the conclusion laid behind them, the variables and the room.
+pub data Twofold : Type 0 where
+  no : ℕ → Twofold
+  yes : List ℕ → ℕ → Laid → List Variable → ℕ → Twofold
+
+abbrev pub onward : Laid → Out one → Twofold
+onward (laid rs w u) (bad e) = no e
+onward (laid rs w u) (good t vs room) = yes rs u (lay t w u) vs room
+
+abbrev pub both : List Symbol → Written one → Out many → List ℕ → ℕ → Twofold
+both symbols c (bad e) w u = no e
+both symbols c (good ps vs room) w u = onward (lay ps w u) (patternOf symbols c (0 ∷ []) vs room)
+
+-- The same of the code's answer, with the variables' rows, the words and the premises' references at exit.
+abbrev pub told : List ℕ → ℕ → Body → Rows → List ℕ → List ℕ → Twofold
+told text n (Failed e) vx wx heads = no e
+told text n (Done r middle nv u room) vx wx heads = yes (take n heads) middle (laid (r ∷ []) wx u) (variablesOf text vx nv) room
+
+abbrev pub Bounded : ℕ → ℕ → Body → Type 0
+Bounded u room (Failed e) = Unit {0}
+Bounded u room (Done r middle nv u′ room′) = (nv ≤ 64) × (u ≤ middle) × (middle ≤ u′) × (u′ + 2 * room′ ≤ u + 2 * room)
+
+-- `judgments`: n premises from the row p on, and a conclusion at a row of its own.
+pub record Judging (text : List ℕ) (premises : Rows) (p n : ℕ) (conclusions : Rows) (here : ℕ) (symbols : List Symbol) (vs : Rows) (w : List ℕ) (u room : ℕ)
+    (r : Body) (vx : Rows) (wx heads : List ℕ) : Type 0 where
+  pub bounded : Bounded u room r
+  pub same : (ps : Written many) (q : ℕ) → Stands text premises p ps q → size ps ≡ n → (c : Written one) (q′ : ℕ) → Stands text conclusions here c q′
+      → told text n r vx wx heads ≡ both symbols c (patternOf symbols ps [] (variablesOf text vs 0) room) w u
+
+-- The most words that the terms of a rule take: 2 for each of 1,024 nodes.
+abbrev pub most : ℕ
+most = 2048
+
+-- What a walk asks beside the table: words in form, and a reference to a term that is not too large.
+pub record Met1 (pattern : List ℕ) (used r : ℕ) : Type 0 where
+  pub root : Reference patternRoom (cells pattern) patternRoom used r
+  pub small : words (termOf pattern r) ≤ most
+
+pub record Walkable (pattern : List ℕ) (used : ℕ) (table : List ℕ) (stack : arena.Rows) : Type 0 where
+  pub within : used ≤ length pattern
+  pub low : patternRoom + used ≤ headers
+  pub formed : WellFormed patternRoom (cells pattern) patternRoom used
+  pub long : patternRoom ≤ length table
+  pub room : most ≤ length stack
+
+-- What `order` asks: a table without places, the conclusion's reference and those of n premises.
+pub record OrderAsked (pattern : List ℕ) (used : ℕ) (heads : List ℕ) (n conclusion : ℕ) (table : List ℕ) (stack : arena.Rows) : Type 0 where
+  pub walkable : Walkable pattern used table stack
+  pub lent : n ≤ length heads
+  pub head : Met1 pattern used conclusion
+  pub body : (i : ℕ) → i < n → Met1 pattern used (getD heads i 0)
+  pub blank : (x : ℕ) → x < patternRoom → getD table x 0 ≡ patternRoom
+
+-- What it owes: the variables of the conclusion counted, and the places of all in the table.
+pub record Ordered (pattern heads : List ℕ) (n conclusion : ℕ) (table : List ℕ) (r : Counts) (table′ : List ℕ) : Type 0 where
+  pub counted : r .met ≡ length (met (termOf pattern conclusion) [])
+  pub recorded : Records (metBack (termsOf (termOf pattern) (take n heads)) (met (termOf pattern conclusion) [])) table′ (r .all)
+  pub kept : length table′ ≡ length table

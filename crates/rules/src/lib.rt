@@ -1,0 +1,199 @@
+// Rules: judgments compiled and stored as a rule. The Rust's `Sig::rule`, with the refusals 25 and 28.
+//
+// All functions here serve the crates above: they ask for storage of the listed sizes.
+ghost use mathlib.Core.Path.{_≡_};
+ghost use mathlib.Core.List.{List, []};
+ghost use Prim.Native.Nat.{ℕ, _+_, _*_, _≤_, _<_};
+ghost use lib.ListN.{length, take, set};
+ghost use lib.Seq.{sets};
+ghost use Rattle.names.specs.Symbols.{rowAt, symbolsOf, variablesOf};
+ghost use Rattle.meeting.specs.Places.{Records};
+ghost use Rattle.meeting.specs.Contract.{termOf};
+ghost use Rattle.resolution.specs.Fresh.{met};
+ghost use Rattle.patterns.specs.Contracts.{Ready};
+ghost use Rattle.rules.specs.Rules.{allKnown};
+ghost use Rattle.rules.specs.Contracts.{Judging, Met1, Walkable, OrderAsked, Ordered};
+use names::SymbolRow;
+use names::VariableRow;
+use patterns::Made;
+use patterns::TermRow;
+
+// A rule: start and length of its name, clause number + 1 (0: a written rule), number of variables, number of premises, reference of the conclusion, first
+// word, words of the premises, words of the conclusion, variables met in the conclusion; 16 references of premises; 64 sorts; 64 places in meeting order.
+pub type RuleRow = [u32; 154];
+
+// The most words that the terms of a rule take: 2 for each of 1,024 nodes.
+const MOST: u32 = 2048;
+
+// What came of a rule's judgments: the conclusion's reference, the words used before the conclusion, the variables, the words used and the room left.
+pub enum Body {
+    Failed {
+        number: u32,
+    },
+    Done {
+        conclusion: u32,
+        middle: usize,
+        variables: usize,
+        used: usize,
+        room: usize,
+    },
+}
+
+// Compiles n premises, and then the conclusion; their variables are numbered together.
+fn judgments(
+    text: &[u8],
+    premises: &[TermRow],
+    at: usize,
+    n: usize,
+    conclusions: &[TermRow],
+    here: usize,
+    symbols: &[SymbolRow],
+    count: usize,
+    variables: &mut [VariableRow],
+    words: &mut [u32],
+    used: usize,
+    room: usize,
+    heads: &mut [u32],
+) -> Body
+    requires { ⌜ Ready (now symbols) count (now variables) 0 (now words) used room ⌝ ∗ ⌜ (n ≤ 16) × (length (now heads) ≡ 16) ⌝ }
+    ensures { λ r. ⌜ Judging (now (text .entry)) (now (premises .entry)) at n (now (conclusions .entry)) here (symbolsOf (now (text .entry)) (now (symbols .entry)) count) (now (variables .entry)) (now (words .entry)) used room r (now (variables .exit)) (now (words .exit)) (now (heads .exit)) ⌝ }
+{
+    match patterns::judgments(
+        text,
+        premises,
+        at,
+        n,
+        symbols,
+        count,
+        variables,
+        0,
+        words,
+        used,
+        room,
+        heads,
+    ) {
+        Made::Failed { number } => Body::Failed { number: number },
+        Made::Node {
+            node: _,
+            next: _,
+            variables: v,
+            used: middle,
+            room: m,
+        } => {
+            match patterns::pattern(
+                text,
+                conclusions,
+                here,
+                symbols,
+                count,
+                0,
+                variables,
+                v,
+                words,
+                middle,
+                m,
+            ) {
+                Made::Failed { number } => Body::Failed { number: number },
+                Made::Node {
+                    node: r,
+                    next: _,
+                    variables: v2,
+                    used: u2,
+                    room: m2,
+                } => Body::Done {
+                    conclusion: r,
+                    middle: middle,
+                    variables: v2,
+                    used: u2,
+                    room: m2,
+                },
+            }
+        }
+    }
+}
+
+// Is the sort of each variable known?
+fn all_known(variables: &[VariableRow], n: usize) -> bool
+    requires { ⌜ n ≤ length (now variables) ⌝ }
+    ensures { λ r. ⌜ ((text : List ℕ) → r ≡ allKnown (variablesOf text (now (variables .entry)) n)) ⌝ }
+{
+    let mut i = 0;
+    while i < n {
+        if variables[i][3] == 0 {
+            return false;
+        }
+        i += 1;
+    }
+    true
+}
+
+// Meets the variables of a term; answers how many have places then.
+fn walk(
+    words: &[u32],
+    reference: u32,
+    used: u32,
+    places: &mut [u32],
+    count: u32,
+    stack: &mut [[u32; 2]],
+) -> u32
+    requires { ⌜ Walkable (now words) used (now places) (now stack) ⌝ ∗ ⌜ Met1 (now words) used reference ⌝ ∗ ⌜ ((e : List ℕ) × Records e (now places) count) ⌝ }
+    ensures { λ r. ⌜ ((e : List ℕ) → Records e (now (places .entry)) count → Records (met (termOf (now (words .entry)) reference) e) (now (places .exit)) r) ⌝ }
+{
+    match meeting::meet(words, reference, used, places, count, MOST, stack) {
+        meeting::Met::Places(given, _) => given,
+        meeting::Met::Over => count,
+    }
+}
+
+// How many variables are met in the conclusion, and how many in all.
+pub struct Counts {
+    pub met: u32,
+    pub all: u32,
+}
+
+// Gives the variables of a rule their places in meeting order: the conclusion's from left to right, then those of the premises from the last to the first.
+fn order(
+    words: &[u32],
+    used: u32,
+    heads: &[u32],
+    n: usize,
+    conclusion: u32,
+    places: &mut [u32],
+    stack: &mut [[u32; 2]],
+) -> Counts
+    requires { ⌜ OrderAsked (now words) used (now heads) n conclusion (now places) (now stack) ⌝ }
+    ensures { λ r. ⌜ Ordered (now (words .entry)) (now (heads .entry)) n conclusion (now (places .entry)) r (now (places .exit)) ⌝ }
+{
+    let met = walk(words, conclusion, used, places, 0, stack);
+    let mut all = met;
+    let mut k = n;
+    while 0 < k {
+        k -= 1;
+        all = walk(words, heads[k], used, places, all, stack);
+    }
+    Counts { met: met, all: all }
+}
+
+// Writes the first n of some values into the row i, from a column on.
+fn put_columns(rules: &mut [RuleRow], i: usize, at: usize, values: &[u32], n: usize)
+    requires { ⌜ (i < length (now rules)) × (at + n ≤ 154) × (n ≤ length (now values)) ⌝ }
+    ensures { λ _. ⌜ now (rules .exit) ≡ set (now (rules .entry)) i (sets (rowAt (now (rules .entry)) i) at (take n (now (values .entry)))) ⌝ }
+{
+    let mut j = 0;
+    while j < n {
+        rules[i][at + j] = values[j];
+        j += 1;
+    }
+}
+
+// Writes the sorts of n variables into the row i, from column 26 on.
+fn put_sorts(rules: &mut [RuleRow], i: usize, variables: &[VariableRow], n: usize)
+    requires { ⌜ (i < length (now rules)) × (n ≤ 64) × (n ≤ length (now variables)) ⌝ }
+    ensures { λ _. ⌜ ((text : List ℕ) → now (rules .exit) ≡ set (now (rules .entry)) i (sets (rowAt (now (rules .entry)) i) 26 (mathlib.Core.List.map (λ v. v .sort) (variablesOf text (now (variables .entry)) n)))) ⌝ }
+{
+    let mut j = 0;
+    while j < n {
+        rules[i][26 + j] = variables[j][3];
+        j += 1;
+    }
+}
