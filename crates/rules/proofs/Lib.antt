@@ -2,3 +2,5 @@
 pub mod RowLaws
 pub mod JudgmentLaws
 pub mod OrderLaws
+pub mod ColumnLaws
+pub mod KeepLaws

@@ -4,7 +4,7 @@ use mathlib.Core.List.{List, [], _∷_, _++_, map}
 use Prim.Native.Nat.{ℕ, zero, suc, _+_, _≤_, _<_}
 use native.Mathlib.Numerals.{add-one}
 use native.Mathlib.Omega.{arith}
-use lib.ListN.{length, getD, take, set, List·getD-map}
+use lib.ListN.{length, getD, take, set, length-set, List·getD-map}
 use lib.Seq.{sets, take-suc, length-take-le, getD-set-same, set-set, set-getD}
 use Rattle.names.specs.Symbols.{Rows, Variable, rowAt, column, variableOf, variablesOf}
 use Rattle.names.specs.SearchLaws.{table-length, table-at}
@@ -61,3 +61,11 @@ sorts-next text row rows at j l =
     let v : getD xs j 0 ≡ column (rowAt rows j) 3 = List·getD-map f rows j [] in
     let m : j < length xs = rw (map-length f rows) l in
     ap₂ (λ (a : List ℕ) (b : ℕ). set (sets row at a) (at + j) b) (e j) (sym v) ∙ sets-next row xs at j m ∙ ap (sets row at) (sym (e (j + 1)))
+
+-- A row changed again.
+pub over : (rules rules′ rules″ : Rows) (i : ℕ) → i < length rules → (row : List ℕ) (f : List ℕ → List ℕ) → rules′ ≡ set rules i row → rules″ ≡ set rules′ i (f (rowAt rules′ i)) → rules″ ≡ set rules i (f row)
+over rules rules′ rules″ i l row f e d =
+    d ∙ ap (λ (x : Rows). set x i (f (rowAt x i))) e ∙ set-set rules i row _ ∙ ap (λ (x : List ℕ). set rules i (f x)) (getD-set-same rules i row [] l)
+
+pub still-there : (rules rules′ : Rows) (i : ℕ) → i < length rules → (row : List ℕ) → rules′ ≡ set rules i row → i < length rules′
+still-there rules rules′ i l row e = rw e (rw (length-set rules i row) l)

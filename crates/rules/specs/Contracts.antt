@@ -1,15 +1,16 @@
 -- What the functions of `rules` ask of and owe to each other.
 use Prim.Native.Nat.{ℕ, _+_, _*_, _≤_, _<_}
 use mathlib.Core.Path.{_≡_}
-use mathlib.Core.List.{List, [], _∷_}
-use lib.ListN.{length, take, getD}
+use mathlib.Core.List.{List, [], _∷_, map}
+use lib.ListN.{length, take, getD, set}
 use Rattle.terms.specs.Term.{Term}
 use Rattle.arena.specs.Cells.{headers, Reference, WellFormed, cells, termsOf}
 use Rattle.arena.specs.Copies.{patternRoom}
 use Rattle.arena.specs.Rows as arena
 use Rattle.resolution.specs.Fresh.{met, metBack}
+use Rattle.resolution.specs.Rules.{Rule}
 use Rattle.resolution.specs.Search.{words}
-use Rattle.meeting.specs.Places.{Records}
+use Rattle.meeting.specs.Places.{Records, numbersBelow}
 use Rattle.meeting.specs.Contract.{termOf}
 use Rattle.term_parser.specs.Source.{one, many}
 use Rattle.term_parser.specs.Standing.{Written, size}
@@ -17,6 +18,9 @@ use Rattle.names.specs.Symbols.{Rows, Symbol, Variable, variablesOf}
 use Rattle.names.specs.Standing.{Stands}
 use Rattle.patterns.specs.Patterns.{Out, bad, good, patternOf}
 use Rattle.patterns.specs.Laying.{Laid, laid, lay}
+use Rattle.rules.specs.LayingLaws.{RuleLying}
+use Rattle.rules.specs.StoredRows.{titled, Kept}
+use Rattle.rules.specs.declared.Title.{Title}
 use Rattle.rules.specs.declared.Body.{Body}
 use Rattle.rules.specs.declared.Body.the-variants.{Failed, Done}
 use Rattle.rules.specs.declared.Counts.{Counts}
@@ -79,3 +83,25 @@ pub record Ordered (pattern heads : List ℕ) (n conclusion : ℕ) (table : List
   pub counted : r .met ≡ length (met (termOf pattern conclusion) [])
   pub recorded : Records (metBack (termsOf (termOf pattern) (take n heads)) (met (termOf pattern conclusion) [])) table′ (r .all)
   pub kept : length table′ ≡ length table
+
+-- What `keep` asks: a rule whose premises lie in the words from `from` up to `middle` and whose conclusion lies from there up to `used`, and storage for it.
+pub record KeepAsked (pattern : List ℕ) (from middle used : ℕ) (heads : List ℕ) (n conclusion : ℕ) (variables : Rows) (v : ℕ) (rules : Rows) (i : ℕ) (stack : arena.Rows) : Type 0 where
+  pub rule : (arities : List ℕ) × (R : Rule) × RuleLying arities R pattern from (take n heads) middle conclusion used
+  pub rising : (from ≤ middle) × (middle ≤ used)
+  pub small : used ≤ from + most
+  pub low : used ≤ 65536
+  pub few : n ≤ 16
+  pub references : n ≤ length heads
+  pub vars : v ≤ 64
+  pub lent : v ≤ length variables
+  pub row : i < length rules
+  pub room : most ≤ length stack
+
+-- What it owes: a row that keeps that rule, where the variables are those of the rule and the title is its name.
+pub record Keeping (pattern : List ℕ) (from middle used : ℕ) (heads : List ℕ) (n conclusion : ℕ) (variables : Rows) (v : ℕ) (title : Title) (rules : Rows) (i : ℕ) (rules′ : Rows) : Type 0 where
+  pub row : List ℕ
+  pub written : rules′ ≡ set rules i row
+  pub kept : (text arities : List ℕ) (R : Rule) → RuleLying arities R pattern from (take n heads) middle conclusion used
+      → titled text (title .start) (title .size) (title .clause) ≡ R .name → map (λ x. x .sort) (variablesOf text variables v) ≡ R .sorts
+      → met (R .conclusion) (met (R .premises) []) ≡ numbersBelow v
+      → Kept text arities pattern row R from used

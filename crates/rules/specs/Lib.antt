@@ -1,3 +1,6 @@
 -- What the contracts of `rules` cite, in reading order.
 pub mod Rules
+pub mod LayingLaws
+pub mod CountLaws
+pub mod StoredRows
 pub mod Contracts

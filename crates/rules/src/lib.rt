@@ -12,7 +12,8 @@ ghost use Rattle.meeting.specs.Contract.{termOf};
 ghost use Rattle.resolution.specs.Fresh.{met};
 ghost use Rattle.patterns.specs.Contracts.{Ready};
 ghost use Rattle.rules.specs.Rules.{allKnown};
-ghost use Rattle.rules.specs.Contracts.{Judging, Met1, Walkable, OrderAsked, Ordered};
+ghost use Rattle.rules.specs.StoredRows.{ruleRow};
+ghost use Rattle.rules.specs.Contracts.{Judging, Met1, Walkable, OrderAsked, Ordered, Keeping, KeepAsked};
 use names::SymbolRow;
 use names::VariableRow;
 use patterns::Made;
@@ -196,4 +197,68 @@ fn put_sorts(rules: &mut [RuleRow], i: usize, variables: &[VariableRow], n: usiz
         rules[i][26 + j] = variables[j][3];
         j += 1;
     }
+}
+
+// Writes the row i: ten numbers, n references, the sorts of v variables and their places.
+fn store(
+    rules: &mut [RuleRow],
+    i: usize,
+    numbers: &[u32],
+    heads: &[u32],
+    n: usize,
+    variables: &[VariableRow],
+    v: usize,
+    places: &[u32],
+)
+    requires { ⌜ (i < length (now rules)) × (length (now numbers) ≡ 10) × (n ≤ 16) × (n ≤ length (now heads)) × (v ≤ 64) × (v ≤ length (now variables)) × (v ≤ length (now places)) ⌝ }
+    ensures { λ _. ⌜ ((text : List ℕ) → now (rules .exit) ≡ set (now (rules .entry)) i (ruleRow (now (numbers .entry)) (take n (now (heads .entry))) (mathlib.Core.List.map (λ v. v .sort) (variablesOf text (now (variables .entry)) v)) (take v (now (places .entry))))) ⌝ }
+{
+    rules[i] = [0u32; 154];
+    put_columns(rules, i, 0, numbers, 10);
+    put_columns(rules, i, 10, heads, n);
+    put_sorts(rules, i, variables, v);
+    put_columns(rules, i, 90, places, v);
+}
+
+// Where a rule's name stands, and the number of its clause + 1; 0 for a written rule.
+pub struct Title {
+    pub start: u32,
+    pub size: u32,
+    pub clause: u32,
+}
+
+// Keeps a rule whose judgments lie in the words: gives its variables their places, and writes its row.
+fn keep(
+    words: &[u32],
+    from: usize,
+    middle: usize,
+    used: usize,
+    heads: &[u32],
+    n: usize,
+    conclusion: u32,
+    variables: &[VariableRow],
+    v: usize,
+    rules: &mut [RuleRow],
+    i: usize,
+    title: Title,
+    stack: &mut [[u32; 2]],
+)
+    requires { ⌜ KeepAsked (now words) from middle used (now heads) n conclusion (now variables) v (now rules) i (now stack) ⌝ }
+    ensures { λ _. ⌜ Keeping (now (words .entry)) from middle used (now (heads .entry)) n conclusion (now (variables .entry)) v title (now (rules .entry)) i (now (rules .exit)) ⌝ }
+{
+    let mut places = [64u32; 64];
+    let counts = order(words, used as u32, heads, n, conclusion, &mut places, stack);
+    let numbers = [
+        title.start,
+        title.size,
+        title.clause,
+        v as u32,
+        n as u32,
+        conclusion,
+        from as u32,
+        (middle - from) as u32,
+        (used - middle) as u32,
+        counts.met,
+    ];
+    store(rules, i, &numbers, heads, n, variables, v, &places);
 }
