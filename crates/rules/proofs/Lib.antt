@@ -4,3 +4,4 @@ pub mod JudgmentLaws
 pub mod OrderLaws
 pub mod ColumnLaws
 pub mod KeepLaws
+pub mod RuleLaws

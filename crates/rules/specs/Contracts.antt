@@ -4,7 +4,7 @@ use mathlib.Core.Path.{_≡_}
 use mathlib.Core.List.{List, [], _∷_, map}
 use lib.ListN.{length, take, getD, set}
 use Rattle.terms.specs.Term.{Term}
-use Rattle.arena.specs.Cells.{headers, Reference, WellFormed, cells, termsOf}
+use Rattle.arena.specs.Cells.{headers, Reference, WellFormed, Same, cells, termsOf}
 use Rattle.arena.specs.Copies.{patternRoom}
 use Rattle.arena.specs.Rows as arena
 use Rattle.resolution.specs.Fresh.{met, metBack}
@@ -14,12 +14,16 @@ use Rattle.meeting.specs.Places.{Records, numbersBelow}
 use Rattle.meeting.specs.Contract.{termOf}
 use Rattle.term_parser.specs.Source.{one, many}
 use Rattle.term_parser.specs.Standing.{Written, size}
-use Rattle.names.specs.Symbols.{Rows, Symbol, Variable, variablesOf}
+use Rattle.names.specs.Symbols.{Rows, Symbol, Variable, column, rowAt, symbolsOf, variablesOf}
 use Rattle.names.specs.Standing.{Stands}
 use Rattle.patterns.specs.Patterns.{Out, bad, good, patternOf}
 use Rattle.patterns.specs.Laying.{Laid, laid, lay}
 use Rattle.rules.specs.LayingLaws.{RuleLying}
+use Rattle.rules.specs.Rules.{Ruled, barred, ruled, ruleOf, entering}
+use Rattle.rules.specs.PatternLaws.{aritiesOf, InputsUpto}
 use Rattle.rules.specs.StoredRows.{titled, Kept}
+use Rattle.rules.specs.declared.Entered.{Entered}
+use Rattle.rules.specs.declared.Entered.the-variants.{Refused as Refusal, Done as Entry}
 use Rattle.rules.specs.declared.Title.{Title}
 use Rattle.rules.specs.declared.Body.{Body}
 use Rattle.rules.specs.declared.Body.the-variants.{Failed, Done}
@@ -103,5 +107,50 @@ pub record Keeping (pattern : List ℕ) (from middle used : ℕ) (heads : List �
   pub written : rules′ ≡ set rules i row
   pub kept : (text arities : List ℕ) (R : Rule) → RuleLying arities R pattern from (take n heads) middle conclusion used
       → titled text (title .start) (title .size) (title .clause) ≡ R .name → map (λ x. x .sort) (variablesOf text variables v) ≡ R .sorts
-      → met (R .conclusion) (met (R .premises) []) ≡ numbersBelow v
+      → met (R .conclusion) (met (R .premises) []) ≡ numbersBelow (length (R .sorts))
       → Kept text arities pattern row R from used
+
+-- What stands in the rows: n premises from the row p on, and a conclusion at a row of its own.
+pub record Source (text : List ℕ) (premises : Rows) (p n : ℕ) (conclusions : Rows) (here : ℕ) : Type 0 where
+  pub judgments : Written many
+  pub behind : ℕ
+  pub stand : Stands text premises p judgments behind
+  pub number : size judgments ≡ n
+  pub conclusion : Written one
+  pub end : ℕ
+  pub stands : Stands text conclusions here conclusion end
+
+-- What `rule` asks: a source; symbols with at most 16 inputs; well formed words, with 2 words for each of at most 1,024 nodes; a row for the rule, and a stack.
+pub record RuleAsked (text : List ℕ) (premises : Rows) (p n : ℕ) (conclusions : Rows) (here : ℕ) (symbols : Rows) (count : ℕ) (w : List ℕ) (u room : ℕ) (rules : Rows) (stack : arena.Rows) : Type 0 where
+  pub source : Source text premises p n conclusions here
+  pub lent : count ≤ length symbols
+  pub few : count ≤ 1024
+  pub inputs : (i : ℕ) → i < count → column (rowAt symbols i) 6 ≤ 16
+  pub upto : (ns : ℕ) × InputsUpto ns (symbolsOf text symbols count)
+  pub formed : WellFormed patternRoom (cells w) patternRoom u
+  pub words : u + 2 * room ≤ length w
+  pub low : u + 2 * room ≤ 65536
+  pub small : room ≤ 1024
+  pub rows : 1024 ≤ length rules
+  pub deep : most ≤ length stack
+
+-- A rule was entered: its row and its words keep it, and no earlier word changed.
+pub record RuleDone (text arities w : List ℕ) (u room : ℕ) (rules : Rows) (number : ℕ) (w′ : List ℕ) (rules′ : Rows) (R : Rule) (room′ : ℕ) (r : Entered) : Type 0 where
+  pub used : ℕ
+  pub is : r ≡ Entry used room′
+  pub row : List ℕ
+  pub written : rules′ ≡ set rules number row
+  pub kept : Kept text arities w′ row R u used
+  pub same : Same patternRoom (cells w) (cells w′) u
+  pub fits : used + 2 * room′ ≤ u + 2 * room
+
+-- What the definition says, and what the code answers and leaves.
+abbrev pub Entering : List ℕ → List ℕ → List ℕ → ℕ → ℕ → Rows → ℕ → List ℕ → Rows → Ruled → Entered → Type 0
+Entering text arities w u room rules number w′ rules′ (barred e) r = r ≡ Refusal e
+Entering text arities w u room rules number w′ rules′ (ruled R room′) r = RuleDone text arities w u room rules number w′ rules′ R room′ r
+
+-- What `rule` owes.
+pub record RuleEntered (text : List ℕ) (premises : Rows) (p n : ℕ) (conclusions : Rows) (here : ℕ) (symbols : List Symbol) (title : Title) (w : List ℕ) (u room : ℕ)
+    (rules : Rows) (number : ℕ) (r : Entered) (w′ : List ℕ) (rules′ : Rows) : Type 0 where
+  pub same : (ps : Written many) (q : ℕ) → Stands text premises p ps q → size ps ≡ n → (c : Written one) (q′ : ℕ) → Stands text conclusions here c q′
+      → Entering text (aritiesOf symbols) w u room rules number w′ rules′ (entering number (ruleOf symbols (titled text (title .start) (title .size) (title .clause)) ps c room)) r

@@ -2,5 +2,6 @@
 pub mod Rules
 pub mod LayingLaws
 pub mod CountLaws
+pub mod PatternLaws
 pub mod StoredRows
 pub mod Contracts

@@ -34,3 +34,8 @@ concluded symbols name c (good ps vs room) = closed name ps (patternOf symbols c
 -- `Sig::rule`, with room for so many nodes. Over 16 premises are refused before any pattern is compiled.
 unfoldable pub ruleOf : List Symbol → Name → Written many → Written one → ℕ → Ruled
 ruleOf symbols name ps c room = when (ltb 16 (size ps)) (λ _. barred 28) (λ _. concluded symbols name c (patternOf symbols ps [] [] room))
+
+-- The 1,025th rule is refused, when everything else is done.
+abbrev pub entering : ℕ → Ruled → Ruled
+entering number (barred e) = barred e
+entering number (ruled R room) = cond (ltb number 1024) (ruled R room) (barred 28)

@@ -13,7 +13,7 @@ ghost use Rattle.resolution.specs.Fresh.{met};
 ghost use Rattle.patterns.specs.Contracts.{Ready};
 ghost use Rattle.rules.specs.Rules.{allKnown};
 ghost use Rattle.rules.specs.StoredRows.{ruleRow};
-ghost use Rattle.rules.specs.Contracts.{Judging, Met1, Walkable, OrderAsked, Ordered, Keeping, KeepAsked};
+ghost use Rattle.rules.specs.Contracts.{Judging, Met1, Walkable, OrderAsked, Ordered, Keeping, KeepAsked, RuleAsked, RuleEntered};
 use names::SymbolRow;
 use names::VariableRow;
 use patterns::Made;
@@ -25,6 +25,13 @@ pub type RuleRow = [u32; 154];
 
 // The most words that the terms of a rule take: 2 for each of 1,024 nodes.
 const MOST: u32 = 2048;
+
+// How many premises a rule may have, and how many rules there may be.
+const PREMISES: usize = 16;
+
+const RULES: usize = 1024;
+
+pub const SORT_NOT_KNOWN: u32 = 25;
 
 // What came of a rule's judgments: the conclusion's reference, the words used before the conclusion, the variables, the words used and the room left.
 pub enum Body {
@@ -261,4 +268,91 @@ fn keep(
         counts.met,
     ];
     store(rules, i, &numbers, heads, n, variables, v, &places);
+}
+
+// What came of a rule: the words used and the room for nodes left.
+pub enum Entered {
+    Refused { number: u32 },
+    Done { used: usize, room: usize },
+}
+
+// Compiles a rule of n premises from a row on and a conclusion at a row of its own, and keeps it as the rule with a number.
+pub fn rule(
+    text: &[u8],
+    premises: &[TermRow],
+    at: usize,
+    n: usize,
+    conclusions: &[TermRow],
+    here: usize,
+    symbols: &[SymbolRow],
+    count: usize,
+    words: &mut [u32],
+    used: usize,
+    room: usize,
+    rules: &mut [RuleRow],
+    number: usize,
+    title: Title,
+    stack: &mut [[u32; 2]],
+) -> Entered
+    requires { ⌜ RuleAsked (now text) (now premises) at n (now conclusions) here (now symbols) count (now words) used room (now rules) (now stack) ⌝ }
+    ensures { λ r. ⌜ RuleEntered (now (text .entry)) (now (premises .entry)) at n (now (conclusions .entry)) here (symbolsOf (now (text .entry)) (now (symbols .entry)) count) title (now (words .entry)) used room (now (rules .entry)) number r (now (words .exit)) (now (rules .exit)) ⌝ }
+{
+    if PREMISES < n {
+        return Entered::Refused {
+            number: patterns::FULL,
+        };
+    }
+    let mut variables = [[0u32; 4]; 64];
+    let mut heads = [0u32; 16];
+    match judgments(
+        text,
+        premises,
+        at,
+        n,
+        conclusions,
+        here,
+        symbols,
+        count,
+        &mut variables,
+        words,
+        used,
+        room,
+        &mut heads,
+    ) {
+        Body::Failed { number: e } => Entered::Refused { number: e },
+        Body::Done {
+            conclusion,
+            middle,
+            variables: v,
+            used: u,
+            room: m,
+        } => {
+            if !all_known(&variables, v) {
+                return Entered::Refused {
+                    number: SORT_NOT_KNOWN,
+                };
+            }
+            if RULES <= number {
+                return Entered::Refused {
+                    number: patterns::FULL,
+                };
+            }
+            keep(
+                words,
+                used,
+                middle,
+                u,
+                &heads,
+                n,
+                conclusion,
+                &variables,
+                v,
+                rules,
+                number,
+                title,
+                stack,
+            );
+            Entered::Done { used: u, room: m }
+        }
+    }
 }

@@ -1,8 +1,9 @@
 -- `keep` meets its contract: the walk gives the places, and the row is written.
-use mathlib.Core.Path.{_≡_, refl, sym, _∙_}
+use mathlib.Core.Path.{_≡_, refl, sym, ap, _∙_}
 use mathlib.Core.List.{List, []}
 use Prim.Native.Nat.{ℕ}
 use lib.ListN.{length, length-replicate}
+use Rattle.meeting.specs.Places.{numbersBelow}
 use Rattle.rules.specs.Contracts.{KeepAsked}
 use Rattle.rules.proofs.RowLaws.{sorts-column, sorts-length}
 use Rattle.rules.proofs.KeepLaws.{order-asked, all-recorded, row-kept}
@@ -71,7 +72,8 @@ returns c =
       kept = λ text arities R lying named sorted appear. let k = all-recorded ((args .n)) ((args .heads .now)) lying ((order .ensures)) in
           row-kept ((args .n)) ((args .heads .now)) lying text ((args .v)) ((args .title .start)) ((args .title .size)) ((args .title .clause)) _ _ ((order .result)) ((pre .rising)) ((pre .few)) ((pre .references)) ((pre .vars)) long (sorts-length [] ((args .variables .now)) ((args .v)) ((pre .lent))) named (sorts-column [] ((args .variables .now)) ((args .v))
           ∙ sym (sorts-column text ((args .variables .now)) ((args .v)))
-          ∙ sorted) appear (k .0) (k .1);
+          ∙ sorted) (appear
+          ∙ ap numbersBelow (ap length (sym sorted) ∙ sorts-length text ((args .variables .now)) ((args .v)) ((pre .lent)))) (k .0) (k .1);
     }
 
 pub keep-spec : {M : Type 1} → statement M
