@@ -89,7 +89,7 @@ pub record Ordered (pattern heads : List ℕ) (n conclusion : ℕ) (table : List
   pub kept : length table′ ≡ length table
 
 -- What `keep` asks: a rule whose premises lie in the words from `from` up to `middle` and whose conclusion lies from there up to `used`, and storage for it.
-pub record KeepAsked (pattern : List ℕ) (from middle used : ℕ) (heads : List ℕ) (n conclusion : ℕ) (variables : Rows) (v : ℕ) (rules : Rows) (i : ℕ) (stack : arena.Rows) : Type 0 where
+pub record KeepAsked (pattern : List ℕ) (from middle used : ℕ) (heads : List ℕ) (n conclusion : ℕ) (variables : Rows) (v : ℕ) (rules : Rows) (i : ℕ) : Type 0 where
   pub rule : (arities : List ℕ) × (R : Rule) × RuleLying arities R pattern from (take n heads) middle conclusion used
   pub rising : (from ≤ middle) × (middle ≤ used)
   pub small : used ≤ from + most
@@ -99,7 +99,6 @@ pub record KeepAsked (pattern : List ℕ) (from middle used : ℕ) (heads : List
   pub vars : v ≤ 64
   pub lent : v ≤ length variables
   pub row : i < length rules
-  pub room : most ≤ length stack
 
 -- What it owes: a row that keeps that rule, where the variables are those of the rule and the title is its name.
 pub record Keeping (pattern : List ℕ) (from middle used : ℕ) (heads : List ℕ) (n conclusion : ℕ) (variables : Rows) (v : ℕ) (title : Title) (rules : Rows) (i : ℕ) (rules′ : Rows) : Type 0 where
@@ -120,8 +119,8 @@ pub record Source (text : List ℕ) (premises : Rows) (p n : ℕ) (conclusions :
   pub end : ℕ
   pub stands : Stands text conclusions here conclusion end
 
--- What `rule` asks: a source; symbols with at most 16 inputs; well formed words, with 2 words for each of at most 1,024 nodes; a row for the rule, and a stack.
-pub record RuleAsked (text : List ℕ) (premises : Rows) (p n : ℕ) (conclusions : Rows) (here : ℕ) (symbols : Rows) (count : ℕ) (w : List ℕ) (u room : ℕ) (rules : Rows) (stack : arena.Rows) : Type 0 where
+-- What `rule` asks: a source; symbols with at most 16 inputs; well formed words, with 2 words for each of at most 1,024 nodes; and rows for all rules.
+pub record RuleAsked (text : List ℕ) (premises : Rows) (p n : ℕ) (conclusions : Rows) (here : ℕ) (symbols : Rows) (count : ℕ) (w : List ℕ) (u room : ℕ) (rules : Rows) : Type 0 where
   pub source : Source text premises p n conclusions here
   pub lent : count ≤ length symbols
   pub few : count ≤ 1024
@@ -132,7 +131,6 @@ pub record RuleAsked (text : List ℕ) (premises : Rows) (p n : ℕ) (conclusion
   pub low : u + 2 * room ≤ 65536
   pub small : room ≤ 1024
   pub rows : 1024 ≤ length rules
-  pub deep : most ≤ length stack
 
 -- A rule was entered: its row and its words keep it, and no earlier word changed.
 pub record RuleDone (text arities w : List ℕ) (u room : ℕ) (rules : Rows) (number : ℕ) (w′ : List ℕ) (rules′ : Rows) (R : Rule) (room′ : ℕ) (r : Entered) : Type 0 where

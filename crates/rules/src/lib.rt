@@ -248,13 +248,21 @@ fn keep(
     rules: &mut [RuleRow],
     i: usize,
     title: Title,
-    stack: &mut [[u32; 2]],
 )
-    requires { ⌜ KeepAsked (now words) from middle used (now heads) n conclusion (now variables) v (now rules) i (now stack) ⌝ }
+    requires { ⌜ KeepAsked (now words) from middle used (now heads) n conclusion (now variables) v (now rules) i ⌝ }
     ensures { λ _. ⌜ Keeping (now (words .entry)) from middle used (now (heads .entry)) n conclusion (now (variables .entry)) v title (now (rules .entry)) i (now (rules .exit)) ⌝ }
 {
     let mut places = [64u32; 64];
-    let counts = order(words, used as u32, heads, n, conclusion, &mut places, stack);
+    let mut stack = [[0u32; 2]; 2048];
+    let counts = order(
+        words,
+        used as u32,
+        heads,
+        n,
+        conclusion,
+        &mut places,
+        &mut stack,
+    );
     let numbers = [
         title.start,
         title.size,
@@ -292,9 +300,8 @@ pub fn rule(
     rules: &mut [RuleRow],
     number: usize,
     title: Title,
-    stack: &mut [[u32; 2]],
 ) -> Entered
-    requires { ⌜ RuleAsked (now text) (now premises) at n (now conclusions) here (now symbols) count (now words) used room (now rules) (now stack) ⌝ }
+    requires { ⌜ RuleAsked (now text) (now premises) at n (now conclusions) here (now symbols) count (now words) used room (now rules) ⌝ }
     ensures { λ r. ⌜ RuleEntered (now (text .entry)) (now (premises .entry)) at n (now (conclusions .entry)) here (symbolsOf (now (text .entry)) (now (symbols .entry)) count) title (now (words .entry)) used room (now (rules .entry)) number r (now (words .exit)) (now (rules .exit)) ⌝ }
 {
     if PREMISES < n {
@@ -350,7 +357,6 @@ pub fn rule(
                 rules,
                 number,
                 title,
-                stack,
             );
             Entered::Done { used: u, room: m }
         }

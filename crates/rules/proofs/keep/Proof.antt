@@ -1,6 +1,6 @@
 -- `keep` meets its contract: the walk gives the places, and the row is written.
 use mathlib.Core.Path.{_≡_, refl, sym, ap, _∙_}
-use mathlib.Core.List.{List, []}
+use mathlib.Core.List.{List, [], _∷_}
 use Prim.Native.Nat.{ℕ}
 use lib.ListN.{length, length-replicate}
 use Rattle.meeting.specs.Places.{numbersBelow}
@@ -8,6 +8,7 @@ use Rattle.rules.specs.Contracts.{KeepAsked}
 use Rattle.rules.proofs.RowLaws.{sorts-column, sorts-length}
 use Rattle.rules.proofs.KeepLaws.{order-asked, all-recorded, row-kept}
 use borrow.Author.Needs.{needs}
+use native.Mathlib.Omega.{arith}
 use Rattle.rules.proofs.keep.Statement.{statement}
 use Rattle.rules.proofs.keep.Tie as tie
 
@@ -17,32 +18,35 @@ cast-order c = search needs
 slice-aggregate-order : tie.Need-slice-aggregate-order
 slice-aggregate-order c = search needs
 
+slice-aggregate-order-2 : tie.Need-slice-aggregate-order-2
+slice-aggregate-order-2 c = search needs
+
 order-requires : tie.Need-order-requires
 order-requires c κs =
     let args = c .before .before .before .before .args in
     let pre = c .before .before .before .before .pre in
-    order-asked ((args .n)) ((args .heads .now)) ((pre .rule .2)) ((pre .small)) ((pre .rising .0)) ((pre .references)) _ ((pre .room))
+    order-asked ((args .n)) ((args .heads .now)) ((pre .rule .2)) ((pre .small)) ((pre .rising .0)) ((pre .references)) _ (rw (length-replicate {A = List ℕ} 2048 (0 ∷ 0 ∷ [])) (omega arith))
 
-cast-t17 : tie.Need-cast-t17
-cast-t17 c = search needs
-
-cast-t22 : tie.Need-cast-t22
-cast-t22 c = search needs
+cast-t18 : tie.Need-cast-t18
+cast-t18 c = search needs
 
 cast-t23 : tie.Need-cast-t23
 cast-t23 c = search needs
 
-sub-t24 : tie.Need-sub-t24
-sub-t24 c = search needs
+cast-t24 : tie.Need-cast-t24
+cast-t24 c = search needs
 
-cast-t25 : tie.Need-cast-t25
-cast-t25 c = search needs
+sub-t25 : tie.Need-sub-t25
+sub-t25 c = search needs
 
-sub-t26 : tie.Need-sub-t26
-sub-t26 c = search needs
+cast-t26 : tie.Need-cast-t26
+cast-t26 c = search needs
 
-cast-t27 : tie.Need-cast-t27
-cast-t27 c = search needs
+sub-t27 : tie.Need-sub-t27
+sub-t27 c = search needs
+
+cast-t28 : tie.Need-cast-t28
+cast-t28 c = search needs
 
 slice-aggregate-store : tie.Need-slice-aggregate-store
 slice-aggregate-store c = search needs
@@ -56,9 +60,6 @@ store-requires c κs = search needs
 same-length : tie.Need-same-length
 same-length c = search needs
 
-same-length-2 : tie.Need-same-length-2
-same-length-2 c = search needs
-
 returns : tie.Need-returns
 returns c =
     let order = c .before .before .before .before .before .before .before .order in
@@ -70,10 +71,10 @@ returns c =
       row = _;
       written = (store .ensures) [];
       kept = λ text arities R lying named sorted appear. let k = all-recorded ((args .n)) ((args .heads .now)) lying ((order .ensures)) in
-          row-kept ((args .n)) ((args .heads .now)) lying text ((args .v)) ((args .title .start)) ((args .title .size)) ((args .title .clause)) _ _ ((order .result)) ((pre .rising)) ((pre .few)) ((pre .references)) ((pre .vars)) long (sorts-length [] ((args .variables .now)) ((args .v)) ((pre .lent))) named (sorts-column [] ((args .variables .now)) ((args .v))
-          ∙ sym (sorts-column text ((args .variables .now)) ((args .v)))
-          ∙ sorted) (appear
-          ∙ ap numbersBelow (ap length (sym sorted) ∙ sorts-length text ((args .variables .now)) ((args .v)) ((pre .lent)))) (k .0) (k .1);
+    row-kept ((args .n)) ((args .heads .now)) lying text ((args .v)) ((args .title .start)) ((args .title .size)) ((args .title .clause)) _ _ ((order .result)) ((pre .rising)) ((pre .few)) ((pre .references)) ((pre .vars)) long (sorts-length [] ((args .variables .now)) ((args .v)) ((pre .lent))) named (sorts-column [] ((args .variables .now)) ((args .v))
+        ∙ sym (sorts-column text ((args .variables .now)) ((args .v)))
+        ∙ sorted) (appear
+        ∙ ap numbersBelow (ap length (sym sorted) ∙ sorts-length text ((args .variables .now)) ((args .v)) ((pre .lent)))) (k .0) (k .1)
     }
 
 pub keep-spec : {M : Type 1} → statement M
@@ -82,17 +83,17 @@ keep-spec =
     (tie.spec
     cast-order
     slice-aggregate-order
+    slice-aggregate-order-2
     order-requires
-    cast-t17
-    cast-t22
+    cast-t18
     cast-t23
-    sub-t24
-    cast-t25
-    sub-t26
-    cast-t27
+    cast-t24
+    sub-t25
+    cast-t26
+    sub-t27
+    cast-t28
     slice-aggregate-store
     slice-aggregate-store-2
     store-requires
     same-length
-    same-length-2
     returns)
