@@ -7,35 +7,35 @@ use crate::tokens::Row;
 // Source.antt
 
 #[derive(Clone, Copy)]
-struct Place {
-    start: u32,
-    length: u32,
+pub(crate) struct Place {
+    pub start: u32,
+    pub length: u32,
 }
 
 /// `Source one`; `Source many` is a vector.
-enum Source {
+pub(crate) enum Source {
     Numeral(Place, u128),
     Metavariable(Place),
     Name(Place),
     Application(Place, Vec<Source>),
 }
 
-struct Clause {
-    patterns: Vec<Source>,
-    body: Source,
+pub(crate) struct Clause {
+    pub patterns: Vec<Source>,
+    pub body: Source,
 }
 
-struct Binders {
+pub(crate) struct Binders {
     names: Vec<Place>,
     sort: Place,
 }
 
-enum Tactic {
+pub(crate) enum Tactic {
     Auto,
     Induction(Place),
 }
 
-enum Declaration {
+pub(crate) enum Declaration {
     Sort(Place),
     Ctor(Place, Vec<Place>),
     Pred(Place, Vec<Place>),
@@ -142,7 +142,7 @@ fn repeat<'a, A>(item: impl Fn(Tokens<'a>) -> Parsed<A>, mut ts: Tokens<'a>, mut
 // Grammar.antt
 
 /// `partOf` of the words' specification.
-fn part_of(text: &[u8], Place { start, length }: Place) -> &[u8] {
+pub(crate) fn part_of(text: &[u8], Place { start, length }: Place) -> &[u8] {
     text.get(start as usize..start as usize + length as usize).unwrap_or(&[])
 }
 
@@ -238,9 +238,9 @@ fn ends_in_prop(text: &[u8], places: &[Place]) -> bool {
     places.last().is_some_and(|place| part_of(text, *place) == [80, 114, 111, 112])
 }
 
-struct Declared {
-    line: u32,
-    declaration: Declaration,
+pub(crate) struct Declared {
+    pub line: u32,
+    pub declaration: Declaration,
 }
 
 impl Of<'_> {
@@ -435,7 +435,7 @@ fn tactic_rows(t: &Tactic) -> Vec<Row> {
     }
 }
 
-fn declared_rows(Declared { line, declaration }: &Declared) -> Vec<Row> {
+pub(crate) fn declared_rows(Declared { line, declaration }: &Declared) -> Vec<Row> {
     let head = |kind, m: usize, n: usize| vec![[kind, *line, m as u32, n as u32]];
     match declaration {
         Declaration::Sort(n) => [head(1, 0, 0), name_rows(n)].concat(),
@@ -456,12 +456,17 @@ fn declared_rows(Declared { line, declaration }: &Declared) -> Vec<Row> {
     }
 }
 
-/// Number of declarations, tokens taken and rows, or number and line of the refusal: what `parseOf` comes to on the
-/// tokens of a text.
-pub fn defined(text: &[u8], tokens: &[Row]) -> Result<(usize, usize, Vec<Row>), (u32, u32)> {
+/// Declarations and tokens taken, or number and line of the refusal: what `parseOf` comes to on the tokens of a text.
+pub(crate) fn declarations(text: &[u8], tokens: &[Row]) -> Result<(Vec<Declared>, usize), (u32, u32)> {
     match parse_of(text, tokens) {
-        Item(declared, taken) => Ok((declared.len(), taken, rows_of_all(declared_rows, &declared))),
+        Item(declared, taken) => Ok((declared, taken)),
         Absent => panic!("`parseOf` is never absent"),
         Refused(number, line) => Err((number, line)),
     }
+}
+
+/// The same with the number of declarations and their rows.
+pub fn defined(text: &[u8], tokens: &[Row]) -> Result<(usize, usize, Vec<Row>), (u32, u32)> {
+    let (declared, taken) = declarations(text, tokens)?;
+    Ok((declared.len(), taken, rows_of_all(declared_rows, &declared)))
 }

@@ -8,8 +8,8 @@ use crate::tokens::{self, CLOSE, COLON, METAVARIABLE, NAME, NUMERAL, OPEN, Row, 
 
 /// The original's declarations, and the tokens of their text.
 pub struct Declarations {
-    declared: Vec<(Decl, usize)>,
-    tokens: Vec<Row>,
+    pub(super) declared: Vec<(Decl, usize)>,
+    pub(super) tokens: Vec<Row>,
 }
 
 /// The answer for a text with the limit that the caller set and the numbers of rows that it lent for tokens and for
@@ -138,7 +138,7 @@ fn listed(decl: &Decl) -> Declaration {
     }
 }
 
-fn with_last<T: Clone>(list: &[T], last: &T) -> Vec<T> {
+pub(super) fn with_last<T: Clone>(list: &[T], last: &T) -> Vec<T> {
     let mut all = list.to_vec();
     all.push(last.clone());
     all
@@ -148,7 +148,7 @@ fn spelled(terms: &[Term]) -> Vec<String> {
     terms.iter().map(spelling).collect()
 }
 
-fn spelling(term: &Term) -> String {
+pub(super) fn spelling(term: &Term) -> String {
     match term {
         Term::Name(name) => name.clone(),
         Term::Meta(name) => format!("?{name}"),

@@ -32,14 +32,14 @@ pub fn decoded(text: &[u8], count: usize, rows: &[Row]) -> Read<Vec<Listed>> {
 }
 
 /// A word of the text outside comments.
-struct Word<'a> {
-    start: usize,
-    line: u32,
-    spelling: &'a str,
+pub(crate) struct Word<'a> {
+    pub start: usize,
+    pub line: u32,
+    pub spelling: &'a str,
 }
 
 /// The longest runs of word characters before each line's first `--`.
-fn words_of(text: &[u8]) -> Vec<Word<'_>> {
+pub(crate) fn words_of(text: &[u8]) -> Vec<Word<'_>> {
     let text = std::str::from_utf8(text).expect("only a UTF-8 text has declarations");
     let mut words = Vec::new();
     for (index, line) in text.split('\n').enumerate() {
