@@ -309,7 +309,7 @@ fn variables(count: usize) -> String {
 /// Names of the greatest length that differ only in one byte, counted from 1.
 fn names() -> Vec<Example> {
     let mut all = Vec::new();
-    for byte in [1, 35, 63, 64] {
+    for byte in [1, 35, 36, 63, 64] {
         let name = |letter: &str| ["n".repeat(byte - 1).as_str(), letter, &"n".repeat(64 - byte)].concat();
         let (one, other, third) = (name("a"), name("b"), name("c"));
         let two = format!(

@@ -191,6 +191,16 @@ impl Writer<'_> {
         (0..count).map(|_| self.some_sort()).collect()
     }
 
+    /// Another number of arguments.
+    fn one_more_or_less(&mut self, inputs: &mut Vec<usize>) {
+        let sort = self.some_sort();
+        if self.random.percent(50) {
+            inputs.push(sort);
+        } else {
+            inputs.pop();
+        }
+    }
+
     fn arrow(&mut self) {
         let arrow = if self.random.percent(60) { "→" } else { "->" };
         self.put(arrow);
@@ -241,8 +251,7 @@ impl Writer<'_> {
         self.put("|");
         let mut sorts = function.inputs.clone();
         if self.goes_wrong() {
-            let sort = self.some_sort();
-            if self.random.percent(50) { sorts.push(sort) } else { drop(sorts.pop()) }
+            self.one_more_or_less(&mut sorts);
         }
         for (index, sort) in sorts.into_iter().enumerate() {
             if index > 0 {
@@ -390,8 +399,7 @@ impl Writer<'_> {
         let symbol = self.random.pick(&symbols);
         let mut inputs = symbol.inputs.clone();
         if self.random.percent(30) {
-            let sort = self.some_sort();
-            if self.random.percent(50) { inputs.push(sort) } else { drop(inputs.pop()) }
+            self.one_more_or_less(&mut inputs);
         }
         self.application(&symbol.name, &inputs, depth, calls);
     }
