@@ -29,7 +29,7 @@ pub enum Flattened {
 const CALLS: usize = 16;
 
 // Copies n rows.
-fn move_rows(source: &[TermRow], from: usize, n: usize, to: &mut [TermRow], at: usize)
+pub fn move_rows(source: &[TermRow], from: usize, n: usize, to: &mut [TermRow], at: usize)
     requires { ⌜ (from + n ≤ length (now source)) × (at + n ≤ length (now to)) ⌝ }
     ensures { λ _. ⌜ Copied (now (source .entry)) (now (to .entry)) (now (to .exit)) from n at ⌝ }
 {
@@ -74,8 +74,9 @@ fn is_call(
 }
 
 // How many arguments follow a row.
-fn arity(kind: u32, n: u32) -> usize
+pub fn arity(kind: u32, n: u32) -> usize
     ensures { λ r. ⌜ r ≡ arityOf kind n ⌝ }
+    ensures { λ r. ⌜ r < 4294967296 ⌝ }
 {
     if kind == term_parser::APPLICATION {
         return n as usize;

@@ -308,7 +308,7 @@ flatten-flatten-requires t c κs =
     let if1 = c .before .before .before .before .before .before .before .before .before .before .if1 in
     let arity = c .before .before .before .before .before .arity in
     let loop-test = c .before .before .loop-test in
-    (omega (arith, (pre .0), (loop .inv .onward), (if1 .left)), argument-room (pre .1) (if1 .left) (arity .ensures) (loop .inv) (loop-test .taken))
+    (omega (arith, (pre .0), (loop .inv .onward), (if1 .left)), argument-room (pre .1) (if1 .left) (arity .ensures .0) (loop .inv) (loop-test .taken))
 
 flatten-enum-told : (t : ℕ) → flatten-lts.Need-enum-told (
   arity-reads.Asked,
@@ -338,7 +338,7 @@ flatten-same-length t c =
     let if1 = c .before .before .before .before .before .before .before .before .before .before .before .before .before .before .before .if1 in
     let arity = c .before .before .before .before .before .before .before .before .before .before .arity in
     let loop = c .before .before .before .before .before .before .before .before .loop in
-    (flatten .kept .1 .1 .1 .1 .1 .0) ∙ out-long (pre .1) (if1 .left) (arity .ensures) (loop .inv)
+    (flatten .kept .1 .1 .1 .1 .1 .0) ∙ out-long (pre .1) (if1 .left) (arity .ensures .0) (loop .inv)
 
 flatten-same-length-2 : (t : ℕ) → flatten-lts.Need-same-length-2 (
   arity-reads.Asked,
@@ -371,7 +371,7 @@ flatten-returns-2 t c =
     let loop-test = c .before .before .before .before .before .before .before .loop-test in
     let enum-told = c .enum-told in
     let flatten = c .before .before .before .before .flatten in
-    turn-over (pre .1) (if1 .left) (arity .ensures) (loop .inv) (loop-test .taken) (rw (enum-told .given .1) at (flatten .ensures))
+    turn-over (pre .1) (if1 .left) (arity .ensures .0) (loop .inv) (loop-test .taken) (rw (enum-told .given .1) at (flatten .ensures))
 
 flatten-enum-known-next : (t : ℕ) → flatten-lts.Need-enum-known-next (
   arity-reads.Asked,
@@ -427,7 +427,7 @@ flatten-loop-again t c =
     let loop-test = c .before .before .before .before .before .before .before .before .loop-test in
     let next = c .before .next in
     let flatten = c .before .before .before .before .before .flatten in
-    turn (pre .1) (if1 .left) (arity .ensures) (loop .inv) (loop-test .taken) (rw (next .given .1) at (flatten .ensures))
+    turn (pre .1) (if1 .left) (arity .ensures .0) (loop .inv) (loop-test .taken) (rw (next .given .1) at (flatten .ensures))
 
 flatten-is-call-requires : (t : ℕ) → flatten-lts.Need-is-call-requires (
   arity-reads.Asked,
@@ -457,7 +457,7 @@ flatten-finish-requires t c κs =
     let arity = c .before .before .before .before .before .before .before .arity in
     let loop = c .before .before .before .before .before .loop in
     let loop-test = c .before .before .before .before .loop-test in
-    finish-room (pre .1) (if1 .left) (arity .ensures) (loop .inv) (loop-test .left)
+    finish-room (pre .1) (if1 .left) (arity .ensures .0) (loop .inv) (loop-test .left)
 
 flatten-same-length-3 : (t : ℕ) → flatten-lts.Need-same-length-3 (
   arity-reads.Asked,
@@ -475,7 +475,7 @@ flatten-same-length-3 t c =
     let if1 = c .before .before .before .before .before .before .before .before .before .before .before .before .before .before .before .if1 in
     let arity = c .before .before .before .before .before .before .before .before .before .before .arity in
     let loop = c .before .before .before .before .before .before .before .before .loop in
-    (finish .kept .0) ∙ out-long (pre .1) (if1 .left) (arity .ensures) (loop .inv)
+    (finish .kept .0) ∙ out-long (pre .1) (if1 .left) (arity .ensures .0) (loop .inv)
 
 flatten-same-length-4 : (t : ℕ) → flatten-lts.Need-same-length-4 (
   arity-reads.Asked,
@@ -508,7 +508,7 @@ flatten-returns-3 t c =
     let is-call = c .before .before .before .before .before .before .is-call in
     let if2 = c .before .before .before .before .before .if2 in
     let finish = c .before .before .finish in
-    end-call (pre .1) (if1 .left) (arity .ensures) (loop .inv) (loop-test .left) (sym (is-call .ensures)
+    end-call (pre .1) (if1 .left) (arity .ensures .0) (loop .inv) (loop-test .left) (sym (is-call .ensures)
     ∙ (if2 .taken)) _ _ (finish .result) (finish .kept .0) (finish .kept .1 .1 .1 .0) (finish .ensures)
 
 flatten-same-length-5 : (t : ℕ) → flatten-lts.Need-same-length-5 (
@@ -526,7 +526,7 @@ flatten-same-length-5 t c =
     let if1 = c .before .before .before .before .before .before .before .before .before .before .if1 in
     let arity = c .before .before .before .before .before .arity in
     let loop = c .before .before .before .loop in
-    out-long (pre .1) (if1 .left) (arity .ensures) (loop .inv)
+    out-long (pre .1) (if1 .left) (arity .ensures .0) (loop .inv)
 
 flatten-same-length-6 : (t : ℕ) → flatten-lts.Need-same-length-6 (
   arity-reads.Asked,
@@ -558,7 +558,7 @@ flatten-returns-4 t c =
     let loop-test = c .before .before .loop-test in
     let is-call = c .before .is-call in
     let if2 = c .if2 in
-    end-plain (pre .1) (if1 .left) (arity .ensures) (loop .inv) (loop-test .left) (sym (is-call .ensures) ∙ (if2 .left))
+    end-plain (pre .1) (if1 .left) (arity .ensures .0) (loop .inv) (loop-test .left) (sym (is-call .ensures) ∙ (if2 .left))
 
 pub +flatten-spec : {M : Type 1} → statement M
 +flatten-spec = close μ-flatten λ t. flatten-lts.spec (

@@ -71,10 +71,10 @@ returns c =
       row = _;
       written = (store .ensures) [];
       kept = λ text arities R lying named sorted appear. let k = all-recorded ((args .n)) ((args .heads .now)) lying ((order .ensures)) in
-    row-kept ((args .n)) ((args .heads .now)) lying text ((args .v)) ((args .title .start)) ((args .title .size)) ((args .title .clause)) _ _ ((order .result)) ((pre .rising)) ((pre .few)) ((pre .references)) ((pre .vars)) long (sorts-length [] ((args .variables .now)) ((args .v)) ((pre .lent))) named (sorts-column [] ((args .variables .now)) ((args .v))
-        ∙ sym (sorts-column text ((args .variables .now)) ((args .v)))
-        ∙ sorted) (appear
-        ∙ ap numbersBelow (ap length (sym sorted) ∙ sorts-length text ((args .variables .now)) ((args .v)) ((pre .lent)))) (k .0) (k .1)
+          row-kept ((args .n)) ((args .heads .now)) lying text ((args .v)) ((args .title .start)) ((args .title .size)) ((args .title .clause)) _ _ ((order .result)) ((pre .rising)) ((pre .few)) ((pre .references)) ((pre .vars)) long (sorts-length [] ((args .variables .now)) ((args .v)) ((pre .lent))) named (sorts-column [] ((args .variables .now)) ((args .v))
+          ∙ sym (sorts-column text ((args .variables .now)) ((args .v)))
+          ∙ sorted) (appear
+          ∙ ap numbersBelow (ap length (sym sorted) ∙ sorts-length text ((args .variables .now)) ((args .v)) ((pre .lent)))) (k .0) (k .1);
     }
 
 pub keep-spec : {M : Type 1} → statement M

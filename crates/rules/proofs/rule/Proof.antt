@@ -22,7 +22,7 @@ returns c =
     let args = c .before .before .before .args in
     let if1 = c .if1 in
     record {
-      same = λ ps q st cn c q′ st′. rw (too-many (symbolsOf ((args .text .now)) ((args .symbols .now)) ((args .count))) (titled ((args .text .now)) ((args .title .start)) ((args .title .size)) ((args .title .clause))) ps c ((args .room)) (rw cn ((if1 .taken)))) refl
+      same = λ ps q st cn c q′ st′. rw (too-many (symbolsOf ((args .text .now)) ((args .symbols .now)) ((args .count))) (titled ((args .text .now)) ((args .title .start)) ((args .title .size)) ((args .title .clause))) ps c ((args .room)) (rw cn ((if1 .taken)))) refl;
     }
 
 slice-aggregate-judgments : tie.Need-slice-aggregate-judgments
@@ -67,8 +67,8 @@ returns-2 c =
     let if2 = c .if2 in
     record {
       same = λ ps q st cn c q′ st′. let few : size ps ≤ 16 = rw cn ((if1 .left)) in
-    rw (not-known (symbolsOf ((args .text .now)) ((args .symbols .now)) ((args .count))) (titled ((args .text .now)) ((args .title .start)) ((args .title .size)) ((args .title .clause))) ps c ((args .room)) few (bodied (symbolsOf ((args .text .now)) ((args .symbols .now)) ((args .count))) (titled ((args .text .now)) ((args .title .start)) ((args .title .size)) ((args .title .clause))) ps c ((args .room)) few ((args .words .now)) ((args .used)) _ _ _ _ _ (rw ((conclusion .given .1)) at ((judgments .ensures .same) ps q st cn c q′ st′))) (sym ((all-known .ensures) ((args .text .now)))
-        ∙ not-true _ (if2 .taken))) refl
+          rw (not-known (symbolsOf ((args .text .now)) ((args .symbols .now)) ((args .count))) (titled ((args .text .now)) ((args .title .start)) ((args .title .size)) ((args .title .clause))) ps c ((args .room)) few (bodied (symbolsOf ((args .text .now)) ((args .symbols .now)) ((args .count))) (titled ((args .text .now)) ((args .title .start)) ((args .title .size)) ((args .title .clause))) ps c ((args .room)) few ((args .words .now)) ((args .used)) _ _ _ _ _ (rw ((conclusion .given .1)) at ((judgments .ensures .same) ps q st cn c q′ st′))) (sym ((all-known .ensures) ((args .text .now)))
+          ∙ not-true _ (if2 .taken))) refl;
     }
 
 same-length-2 : tie.Need-same-length-2
@@ -86,8 +86,11 @@ returns-3 c =
     let if3 = c .if3 in
     record {
       same = λ ps q st cn c q′ st′. let few : size ps ≤ 16 = rw cn ((if1 .left)) in
-    rw (is-rule (symbolsOf ((args .text .now)) ((args .symbols .now)) ((args .count))) (titled ((args .text .now)) ((args .title .start)) ((args .title .size)) ((args .title .clause))) ps c ((args .room)) few (bodied (symbolsOf ((args .text .now)) ((args .symbols .now)) ((args .count))) (titled ((args .text .now)) ((args .title .start)) ((args .title .size)) ((args .title .clause))) ps c ((args .room)) few ((args .words .now)) ((args .used)) _ _ _ _ _ (rw ((conclusion .given .1)) at ((judgments .ensures .same) ps q st cn c q′ st′))) (sym ((all-known .ensures) ((args .text .now)))
-        ∙ not-false _ (if2 .left)), le-ltb ((args .number)) 1024 ((if3 .taken))) refl
+          rw (
+            is-rule (symbolsOf ((args .text .now)) ((args .symbols .now)) ((args .count))) (titled ((args .text .now)) ((args .title .start)) ((args .title .size)) ((args .title .clause))) ps c ((args .room)) few (bodied (symbolsOf ((args .text .now)) ((args .symbols .now)) ((args .count))) (titled ((args .text .now)) ((args .title .start)) ((args .title .size)) ((args .title .clause))) ps c ((args .room)) few ((args .words .now)) ((args .used)) _ _ _ _ _ (rw ((conclusion .given .1)) at ((judgments .ensures .same) ps q st cn c q′ st′))) (sym ((all-known .ensures) ((args .text .now)))
+                ∙ not-false _ (if2 .left)),
+            le-ltb ((args .number)) 1024 ((if3 .taken)),
+          ) refl;
     }
 
 slice-aggregate-keep : tie.Need-slice-aggregate-keep
@@ -116,8 +119,8 @@ keep-requires c κs =
     let lv = (judgments .kept .1 .1 .1 .1 .1 .1 .1 .1 .0) in
     let B = bodied (symbolsOf ((args .text .now)) ((args .symbols .now)) ((args .count))) (titled ((args .text .now)) ((args .title .start)) ((args .title .size)) ((args .title .clause))) ps c ((args .room)) few ((args .words .now)) ((args .used)) _ _ _ _ _ (rw ((conclusion .given .1)) at ((judgments .ensures .same) ps (S .behind) (S .stand) (S .number) c (S .end) (S .stands))) in
     let L = lies (symbolsOf ((args .text .now)) ((args .symbols .now)) ((args .count))) (titled ((args .text .now)) ((args .title .start)) ((args .title .size)) ((args .title .clause))) ps c ((args .room)) few B (sym ((all-known .ensures) ((args .text .now)))
-        ∙ not-false _ (if2 .left)) (few-inputs ((args .text .now)) ((args .symbols .now)) ((args .count)) ((pre .lent)) ((pre .inputs))) ((pre .upto .0)) ((pre .upto .1)) _ _ _ refl ((pre .formed)) ((pre .words)) ((pre .low)) in
-    record { rule = (aritiesOf (symbolsOf ((args .text .now)) ((args .symbols .now)) ((args .count))), ruleMade (symbolsOf ((args .text .now)) ((args .symbols .now)) ((args .count))) (titled ((args .text .now)) ((args .title .start)) ((args .title .size)) ((args .title .clause))) ps c ((args .room)) few B, L .lying); rising = (b .1, b .2); small = omega arith; low = omega arith; few = (if1 .left); references = omega arith; vars = b .0; lent = omega arith; row = omega (arith, (if3 .left), (pre .rows))}
+    ∙ not-false _ (if2 .left)) (few-inputs ((args .text .now)) ((args .symbols .now)) ((args .count)) ((pre .lent)) ((pre .inputs))) ((pre .upto .0)) ((pre .upto .1)) _ _ _ refl ((pre .formed)) ((pre .words)) ((pre .low)) in
+    record { rule = (aritiesOf (symbolsOf ((args .text .now)) ((args .symbols .now)) ((args .count))), ruleMade (symbolsOf ((args .text .now)) ((args .symbols .now)) ((args .count))) (titled ((args .text .now)) ((args .title .start)) ((args .title .size)) ((args .title .clause))) ps c ((args .room)) few B, L .lying); rising = (b .1, b .2); small = omega arith; low = omega arith; few = (if1 .left); references = omega arith; vars = b .0; lent = omega arith; row = omega (arith, (if3 .left), (pre .rows)) }
 
 same-length-3 : tie.Need-same-length-3
 same-length-3 c = search needs
@@ -131,7 +134,7 @@ returns-4 c =
     let judgments = c .before .before .before .before .before .before .before .judgments in
     record {
       same = λ ps q st cn c q′ st′. let few : size ps ≤ 16 = rw cn ((if1 .left)) in
-    rw (judgment-refused (symbolsOf ((args .text .now)) ((args .symbols .now)) ((args .count))) (titled ((args .text .now)) ((args .title .start)) ((args .title .size)) ((args .title .clause))) ps c ((args .room)) few ((args .words .now)) ((args .used)) (rw ((e .given .1)) at ((judgments .ensures .same) ps q st cn c q′ st′))) refl
+          rw (judgment-refused (symbolsOf ((args .text .now)) ((args .symbols .now)) ((args .count))) (titled ((args .text .now)) ((args .title .start)) ((args .title .size)) ((args .title .clause))) ps c ((args .room)) few ((args .words .now)) ((args .used)) (rw ((e .given .1)) at ((judgments .ensures .same) ps q st cn c q′ st′))) refl;
     }
 
 same-length-4 : tie.Need-same-length-4
@@ -157,17 +160,19 @@ returns-5 c =
     let lv = (judgments .kept .1 .1 .1 .1 .1 .1 .1 .1 .0) in
     record {
       same = λ ps q st cn c q′ st′. let few : size ps ≤ 16 = rw cn ((if1 .left)) in
-    let B = bodied (symbolsOf ((args .text .now)) ((args .symbols .now)) ((args .count))) (titled ((args .text .now)) ((args .title .start)) ((args .title .size)) ((args .title .clause))) ps c ((args .room)) few ((args .words .now)) ((args .used)) _ _ _ _ _ (rw ((conclusion .given .1)) at ((judgments .ensures .same) ps q st cn c q′ st′)) in
-    let k = (sym ((all-known .ensures) ((args .text .now))) ∙ not-false _ (if2 .left)) in
-    let M = made (symbolsOf ((args .text .now)) ((args .symbols .now)) ((args .count))) (titled ((args .text .now)) ((args .title .start)) ((args .title .size)) ((args .title .clause))) ps c ((args .room)) few B k (few-inputs ((args .text .now)) ((args .symbols .now)) ((args .count)) ((pre .lent)) ((pre .inputs))) ((pre .upto .0)) ((pre .upto .1)) in
-    let L = lies (symbolsOf ((args .text .now)) ((args .symbols .now)) ((args .count))) (titled ((args .text .now)) ((args .title .start)) ((args .title .size)) ((args .title .clause))) ps c ((args .room)) few B k (few-inputs ((args .text .now)) ((args .symbols .now)) ((args .count)) ((pre .lent)) ((pre .inputs))) ((pre .upto .0)) ((pre .upto .1)) _ _ _ refl ((pre .formed)) ((pre .words)) ((pre .low)) in
-    rw (is-rule (symbolsOf ((args .text .now)) ((args .symbols .now)) ((args .count))) (titled ((args .text .now)) ((args .title .start)) ((args .title .size)) ((args .title .clause))) ps c ((args .room)) few B k, lt-ltb ((args .number)) 1024 ((if3 .left))) (record { used = _;
-      is = refl;
-      row = (keep .ensures .row);
-      written = (keep .ensures .written);
-      kept = (keep .ensures .kept) ((args .text .now)) (aritiesOf (symbolsOf ((args .text .now)) ((args .symbols .now)) ((args .count)))) (ruleMade (symbolsOf ((args .text .now)) ((args .symbols .now)) ((args .count))) (titled ((args .text .now)) ((args .title .start)) ((args .title .size)) ((args .title .clause))) ps c ((args .room)) few B) (L .lying) refl refl (M .order);
-      same = L .low;
-      fits = b .3 })
+          let B = bodied (symbolsOf ((args .text .now)) ((args .symbols .now)) ((args .count))) (titled ((args .text .now)) ((args .title .start)) ((args .title .size)) ((args .title .clause))) ps c ((args .room)) few ((args .words .now)) ((args .used)) _ _ _ _ _ (rw ((conclusion .given .1)) at ((judgments .ensures .same) ps q st cn c q′ st′)) in
+          let k = (sym ((all-known .ensures) ((args .text .now))) ∙ not-false _ (if2 .left)) in
+          let M = made (symbolsOf ((args .text .now)) ((args .symbols .now)) ((args .count))) (titled ((args .text .now)) ((args .title .start)) ((args .title .size)) ((args .title .clause))) ps c ((args .room)) few B k (few-inputs ((args .text .now)) ((args .symbols .now)) ((args .count)) ((pre .lent)) ((pre .inputs))) ((pre .upto .0)) ((pre .upto .1)) in
+          let L = lies (symbolsOf ((args .text .now)) ((args .symbols .now)) ((args .count))) (titled ((args .text .now)) ((args .title .start)) ((args .title .size)) ((args .title .clause))) ps c ((args .room)) few B k (few-inputs ((args .text .now)) ((args .symbols .now)) ((args .count)) ((pre .lent)) ((pre .inputs))) ((pre .upto .0)) ((pre .upto .1)) _ _ _ refl ((pre .formed)) ((pre .words)) ((pre .low)) in
+          rw (is-rule (symbolsOf ((args .text .now)) ((args .symbols .now)) ((args .count))) (titled ((args .text .now)) ((args .title .start)) ((args .title .size)) ((args .title .clause))) ps c ((args .room)) few B k, lt-ltb ((args .number)) 1024 ((if3 .left))) (record {
+            used = _;
+            is = refl;
+            row = (keep .ensures .row);
+            written = (keep .ensures .written);
+            kept = (keep .ensures .kept) ((args .text .now)) (aritiesOf (symbolsOf ((args .text .now)) ((args .symbols .now)) ((args .count)))) (ruleMade (symbolsOf ((args .text .now)) ((args .symbols .now)) ((args .count))) (titled ((args .text .now)) ((args .title .start)) ((args .title .size)) ((args .title .clause))) ps c ((args .room)) few B) (L .lying) refl refl (M .order);
+            same = L .low;
+            fits = b .3;
+          });
     }
 
 pub rule-spec : {M : Type 1} → statement M

@@ -1,0 +1,3 @@
+-- The laws that several proofs cite.
+pub mod SkipLaws
+pub mod ClauseLaws
