@@ -4,4 +4,5 @@ pub mod LayingLaws
 pub mod CountLaws
 pub mod PatternLaws
 pub mod StoredRows
+pub mod StoredLaws
 pub mod Contracts
