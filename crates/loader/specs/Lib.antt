@@ -1,0 +1,3 @@
+-- What the contracts of `loader` cite, in reading order.
+pub mod Signature
+mod Examples

@@ -1,0 +1,1 @@
+// The loader: from declarations to a signature. Its definition is in specs/.
