@@ -1,29 +1,27 @@
 -- Laws of a clause: its conclusion in rows, and the definition at each way out.
-use mathlib.Core.Path.{_≡_, refl, sym, ap, ap₂, _∙_, subst}
-use mathlib.Core.Bool.{Bool, true, false, cond}
+use mathlib.Core.Path.{_≡_, refl, sym, ap, _∙_, subst}
 use mathlib.Core.List.{List, [], _∷_}
-use Prim.Native.Nat.{ℕ, suc, _+_, _-_, _*_, _≤_, _<_}
+use Prim.Native.Nat.{ℕ, suc, _+_, _-_, _≤_, _<_}
 use native.Mathlib.Omega.{arith}
 use lib.ListN.{length, set, length-set}
 use lib.Seq.{getD-set-same}
 use borrow.Author.Tests.{ne-eqb}
 use Rattle.words.specs.Lexer.{partOf}
-use Rattle.term_parser.specs.Source.{Arity, one, many}
+use Rattle.term_parser.specs.Source.{one, many}
 use Rattle.term_parser.specs.Rows.{applicationKind}
 use Rattle.term_parser.specs.Standing as parsed
 use Rattle.term_parser.specs.Standing.{Written, applied, nil as none, size}
 use Rattle.names.specs.Names.{Name, clauseName}
-use Rattle.names.specs.Symbols.{Rows, Symbol, column, rowAt, symbolsOf}
+use Rattle.names.specs.Symbols.{Rows, Symbol, rowAt}
 use Rattle.names.specs.Standing.{Stands, parsed-stands}
 use Rattle.flattening.specs.Flattening.{Flat, flat, snoc, flattenOf}
-use Rattle.flattening.specs.Contracts.{Copied, FlatAs, FlatRows, TooMany, premiseCount, callLimit}
+use Rattle.flattening.specs.Contracts.{Copied, FlatRows, TooMany, premiseCount, callLimit}
 use Rattle.flattening.proofs.RowLaws.{moved, stands-snoc, size-snoc, stands-applied}
-use Rattle.rules.specs.Rules.{Ruled, barred, ruled, ruleOf, entering}
+use Rattle.rules.specs.Rules.{barred, ruleOf, entering}
 use Rattle.rules.specs.StoredRows.{titled}
-use Rattle.rules.specs.Contracts.{Source as RuleSource}
 use Rattle.rules.proofs.RuleLaws.{too-many}
 use Rattle.clauses.specs.Clauses.{flatRule, clauseOf}
-use Rattle.clauses.specs.Contracts.{Skipped, HeadingAsked, Headed, Source, ClauseAsked}
+use Rattle.clauses.specs.Contracts.{Skipped, HeadingAsked, Headed}
 use Rattle.clauses.proofs.SkipLaws.{stands-within, stands-size}
 
 module _ {rows : Rows} {p n : ℕ} {out : Rows} (asked : HeadingAsked rows p n out) where

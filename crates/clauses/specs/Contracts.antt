@@ -4,15 +4,15 @@ use mathlib.Core.Path.{_≡_}
 use mathlib.Core.List.{List, [], _∷_}
 use lib.ListN.{length}
 use Rattle.words.specs.Lexer.{partOf}
-use Rattle.term_parser.specs.Source.{Arity, one, many}
+use Rattle.term_parser.specs.Source.{one, many}
 use Rattle.term_parser.specs.Rows.{applicationKind}
 use Rattle.term_parser.specs.Standing as parsed
-use Rattle.term_parser.specs.Standing.{Written, nil as none, cons as more, size}
+use Rattle.term_parser.specs.Standing.{Written, size}
 use Rattle.arena.specs.Cells.{WellFormed, cells}
 use Rattle.arena.specs.Copies.{patternRoom}
 use Rattle.names.specs.Symbols.{Rows, Symbol, column, rowAt, symbolsOf}
 use Rattle.names.specs.Standing.{Stands}
-use Rattle.rules.specs.Rules.{Ruled, barred, ruled, entering}
+use Rattle.rules.specs.Rules.{entering}
 use Rattle.rules.specs.PatternLaws.{aritiesOf, InputsUpto}
 use Rattle.rules.specs.Contracts.{Entering}
 use Rattle.rules.specs.declared.Title.{Title}

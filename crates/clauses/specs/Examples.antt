@@ -1,15 +1,14 @@
 -- `add` of document 01, "One text in full", by running the definitions.
-use Prim.Native.Nat.{ℕ}
 use mathlib.Core.Path.{_≡_, refl}
 use mathlib.Core.List.{List, [], _∷_, _++_}
 use Rattle.words.specs.Bytes.{sameBytes}
 use Rattle.terms.specs.Term.{var, app, nil, cons}
-use Rattle.term_parser.specs.Standing.{Written, number, called, applied, nil as none, cons as more, size}
+use Rattle.term_parser.specs.Standing.{number, called, applied, nil as none, cons as more, size}
 use Rattle.names.specs.Names.{Name, find, digits, resultName}
 use Rattle.names.specs.Symbols.{Symbol}
-use Rattle.patterns.specs.Patterns.{zeroName, succName, patternOf, chain, enter, Out, bad, good}
+use Rattle.patterns.specs.Patterns.{zeroName, succName, patternOf, chain, enter, bad, good}
 use Rattle.flattening.specs.Flattening.{flattenOf}
-use Rattle.rules.specs.Rules.{Ruled, barred, ruled, ruleOf, allKnown}
+use Rattle.rules.specs.Rules.{ruled, ruleOf, allKnown}
 use Rattle.clauses.specs.Clauses.{clauseOf}
 
 unfoldable add : Name

@@ -23,7 +23,7 @@ use Rattle.patterns.specs.Patterns.{patternOf, chain, enter}
 use Rattle.flattening.specs.Flattening.{flattenOf}
 use Rattle.rules.specs.Rules.{ruleOf, allKnown}
 use Rattle.clauses.specs.Clauses.{clauseOf}
-use Rattle.loader.specs.Signature.{Signature, numbersOf, enterClauses, Loaded, refused, loaded, loadFrom, loadOf}
+use Rattle.loader.specs.Signature.{numbersOf, enterClauses, Loaded, refused, loaded, loadFrom, loadOf}
 
 unfoldable text : List ℕ
 text = 115 ∷ 111 ∷ 114 ∷ 116 ∷ 32 ∷ 78 ∷ 97 ∷ 116 ∷ 10 ∷ 99 ∷ 116 ∷ 111 ∷ 114 ∷ 32 ∷ 122 ∷ 101 ∷ 114 ∷ 111 ∷ 32 ∷ 58 ∷ 32 ∷ 78 ∷ 97 ∷ 116 ∷ 10 ∷ 99 ∷ 116 ∷ 111 ∷ 114 ∷ 32 ∷ 115 ∷ 117 ∷ 99 ∷ 99 ∷ 32 ∷ 58 ∷ 32 ∷ 78 ∷ 97 ∷ 116 ∷ 32 ∷ 226 ∷ 134 ∷ 146 ∷ 32 ∷ 78 ∷ 97 ∷ 116 ∷ 10 ∷ 100 ∷ 101 ∷ 102 ∷ 32 ∷ 97 ∷ 100 ∷ 100 ∷ 32 ∷ 58 ∷ 32 ∷ 78 ∷ 97 ∷ 116 ∷ 32 ∷ 226 ∷ 134 ∷ 146 ∷ 32 ∷ 78 ∷ 97 ∷ 116 ∷ 32 ∷ 226 ∷ 134 ∷ 146 ∷ 32 ∷ 78 ∷ 97 ∷ 116 ∷ 10 ∷ 124 ∷ 32 ∷ 122 ∷ 101 ∷ 114 ∷ 111 ∷ 44 ∷ 32 ∷ 110 ∷ 32 ∷ 61 ∷ 62 ∷ 32 ∷ 110 ∷ 10 ∷ 124 ∷ 32 ∷ 115 ∷ 117 ∷ 99 ∷ 99 ∷ 32 ∷ 109 ∷ 44 ∷ 32 ∷ 110 ∷ 32 ∷ 61 ∷ 62 ∷ 32 ∷ 115 ∷ 117 ∷ 99 ∷ 99 ∷ 32 ∷ 40 ∷ 97 ∷ 100 ∷ 100 ∷ 32 ∷ 109 ∷ 32 ∷ 110 ∷ 41 ∷ 10 ∷ 35 ∷ 101 ∷ 118 ∷ 97 ∷ 108 ∷ 32 ∷ 97 ∷ 100 ∷ 100 ∷ 32 ∷ 49 ∷ 32 ∷ 49 ∷ 10 ∷ 35 ∷ 101 ∷ 118 ∷ 97 ∷ 108 ∷ 32 ∷ 97 ∷ 100 ∷ 100 ∷ 32 ∷ 63 ∷ 120 ∷ 32 ∷ 50 ∷ 32 ∷ 61 ∷ 32 ∷ 49 ∷ 10 ∷ []

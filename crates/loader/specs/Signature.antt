@@ -5,7 +5,7 @@ use mathlib.Core.Bool.{Bool, cond, _||_}
 use mathlib.Core.List.{List, [], _∷_, _++_, map}
 use lib.Dec.{ltb}
 use lib.ListN.{length, take}
-use Rattle.term_parser.specs.Source.{Place, Source, one, many, allOf}
+use Rattle.term_parser.specs.Source.{Source, one, many, allOf}
 use Rattle.term_parser.specs.Standing.{Written, spelled, bytesAt}
 use Rattle.parser.specs.Source.{Clause, Declaration, sort, ctor, pred, rule, def, theorem, eval, check}
 use Rattle.parser.specs.Declarations.{Declared}

@@ -1,5 +1,5 @@
--- Searching the first n rows of a table by name, row by row; for every way of reading a row.
-use mathlib.Core.Path.{_≡_, refl, sym, ap, _∙_}
+-- Searching the first n rows of a table by name, row by row, for every way of reading a row; and columns of a row.
+use mathlib.Core.Path.{_≡_, refl, ap, _∙_}
 use mathlib.Core.Bool.{Bool, true, false, cond}
 use mathlib.Core.List.{List, [], _∷_, _++_, map}
 use Prim.Native.Nat.{ℕ, zero, suc, _+_, _≤_, _<_}
@@ -9,7 +9,7 @@ use lib.ListN.{length, getD, drop, take, set, List·getD-map, drop-of-length-le}
 use lib.Seq.{drop-cons, getD-take, length-take-le, take-set-lt, take-suc-set}
 use Rattle.words.specs.Bytes.{sameBytes}
 use Rattle.names.specs.Names.{Name, find}
-use Rattle.names.specs.Symbols.{Rows, rowAt}
+use Rattle.names.specs.Symbols.{Rows, rowAt, column, columns}
 
 -- A search from the front.
 module _ {A : Type 0} (name : A → Name) (xs : List A) (w : Name) (d : A) where
@@ -34,7 +34,7 @@ find-within name (x ∷ xs) w = go (sameBytes (name x) w) (find-within name xs w
     go true h = omega arith
     go false h = omega arith
 
-map-length : {A B : Type 0} (f : A → B) (l : List A) → length (map f l) ≡ length l
+pub map-length : {A B : Type 0} (f : A → B) (l : List A) → length (map f l) ≡ length l
 map-length f [] = refl
 map-length f (x ∷ xs) = ap suc (map-length f xs)
 
@@ -88,3 +88,15 @@ pub getD-any : {A : Type 0} (l : List A) (i : ℕ) (d e : A) → i < length l �
 getD-any [] i d e h = absurd (omega arith)
 getD-any (x ∷ l) zero d e h = refl
 getD-any (x ∷ l) (suc i) d e h = getD-any l i d e (omega arith)
+
+-- Columns of a row.
+pub columns-length : (row : List ℕ) (j n : ℕ) → length (columns row j n) ≡ n
+unfolding columns
+columns-length row j zero = refl
+columns-length row j (suc n) = ap suc (columns-length row (suc j) n)
+
+pub columns-at : (row : List ℕ) (j n k : ℕ) → k < n → getD (columns row j n) k 0 ≡ column row (j + k)
+unfolding columns
+columns-at row j zero k h = absurd (omega arith)
+columns-at row j (suc n) zero h = let e : j + 0 ≡ j = omega arith in rw e
+columns-at row j (suc n) (suc k) h = let e : j + suc k ≡ suc j + k = omega arith in rw e (columns-at row (suc j) n k (omega arith))

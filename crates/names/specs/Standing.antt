@@ -2,19 +2,18 @@
 -- name of a variable of flattening.
 use Prim.Native.Nat.{ℕ, _+_, _<_, min}
 use native.Mathlib.Omega.{arith}
-use mathlib.Core.Path.{_≡_, ap, _∙_}
-use mathlib.Core.Bool.{true, cond, _||_}
+use mathlib.Core.Path.{_≡_}
+use mathlib.Core.Bool.{true, _||_}
 use mathlib.Core.List.{List}
 use lib.Dec.{eqb}
 use lib.ListN.{length}
 use borrow.Author.Tests.{eq-eqb, ne-eqb}
 use Rattle.words.specs.Names.{nameKind, metavariableKind, numeralKind}
-use Rattle.words.specs.Lexer.{partOf}
-use Rattle.term_parser.specs.Source.{Arity, one, many}
+use Rattle.term_parser.specs.Source.{Arity}
 use Rattle.term_parser.specs.Rows.{applicationKind}
 use Rattle.term_parser.specs.Standing as parsed
 use Rattle.term_parser.specs.Standing.{Written, number, meta, called, applied, nil as none, cons as more, size}
-use Rattle.names.specs.Names.{Name, nameIn, resultKind, resultNames}
+use Rattle.names.specs.Names.{Name, nameIn, resultKind}
 use Rattle.names.specs.Symbols.{Rows, column, rowAt}
 
 -- The row at a place has a name, and says that k parts follow.

@@ -1,7 +1,7 @@
 -- Sorts, symbols and variables in entry order (the Rust's `Sig` and `Vars`), and the rows in which they are kept.
-use Prim.Native.Nat.{ℕ, zero, suc, _+_}
+use Prim.Native.Nat.{ℕ, zero, suc}
 use mathlib.Core.List.{List, [], _∷_, map}
-use lib.ListN.{length, take, getD}
+use lib.ListN.{take, getD}
 use Rattle.words.specs.Lexer.{partOf}
 use Rattle.names.specs.Names.{Name, nameIn, find}
 

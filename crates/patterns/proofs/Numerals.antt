@@ -1,29 +1,20 @@
 -- Laws of numerals.
-use mathlib.Core.Path.{_≡_, refl, sym, ap, _∙_}
-use mathlib.Core.Bool.{Bool, true, false, cond, _&&_}
-use mathlib.Core.List.{List, [], _∷_, _++_, append-nil, append-assoc}
+use mathlib.Core.Path.{_≡_, refl, sym, _∙_}
+use mathlib.Core.Bool.{true}
+use mathlib.Core.List.{List, [], _∷_}
 use Prim.Native.Nat.{ℕ, zero, suc, _+_, _*_, _-_, _≤_, _<_}
 use native.Mathlib.Numerals.{add-one}
 use native.Mathlib.Omega.{arith}
-use lib.ListN.{length, getD, drop, take, set, length-set}
-use lib.Seq.{sets, getD-drop, length-take-le, take-suc-set}
-use lib.Dec.{eqb, ltb}
-use borrow.Author.Tests.{eq-eqb, ne-eqb, lt-ltb, le-ltb, eqb-true}
-use Rattle.terms.specs.Term.{Kind, Syn, Term, Terms, var, app, nil, cons}
-use Rattle.term_parser.specs.Source.{Arity, one, many}
-use Rattle.term_parser.specs.Standing.{Written, number, meta, called, applied, nil as none, cons as more, size}
-use Rattle.names.specs.Names.{Name, nameOf, nameIn, find}
-use Rattle.names.specs.Symbols.{Rows, Symbol, Variable, column, rowAt, columns, symbolOf, symbolsOf, variableOf, variablesOf, symbolNumber, variableNumber, noSymbol, symbolAt}
-use Rattle.names.specs.Standing.{Named, Stands}
-use Rattle.names.specs.SearchLaws.{table-length, table-at, table-set, table-more, getD-any}
-use Rattle.patterns.specs.Patterns.{noVariable, Entry, refused, entered, known, enter, kindOf, Out, bad, good, bind, counted, misfit, spent, unless, isCtor, zeroName, succName, first, rest, chain, when, patternOf}
-use Rattle.patterns.specs.Laying.{Laid, laid, header, pushed, after, andThen, lay}
-use Rattle.patterns.specs.Contracts.{Answer, no, yes, stored, entryOf, Grew, answer, Small, NextIs, Ready, nodeOf, Compiled, NodeMade, tower, orFull, refusal, Numbered, answers, Judging, Judged}
-use Rattle.patterns.specs.declared.Got.{Got}
-use Rattle.patterns.specs.declared.Got.the-variants.{At, Refused}
-use Rattle.patterns.specs.declared.Made.{Made}
-use Rattle.patterns.specs.declared.Made.the-variants.{Node, Failed}
-use Rattle.patterns.proofs.Symbols.{cols-length, cols-at, misfit-args}
+use lib.ListN.{length, set}
+use borrow.Author.Tests.{lt-ltb, le-ltb}
+use Rattle.terms.specs.Term.{app, nil, cons}
+use Rattle.term_parser.specs.Standing.{number}
+use Rattle.names.specs.Symbols.{Rows, Symbol, Variable, column, rowAt, symbolOf, symbolsOf, symbolNumber, symbolAt}
+use Rattle.names.specs.SearchLaws.{columns-at}
+use Rattle.patterns.specs.Patterns.{bad, good, bind, misfit, spent, unless, isCtor, zeroName, succName, first, chain, patternOf}
+use Rattle.patterns.specs.Laying.{laid, lay}
+use Rattle.patterns.specs.Contracts.{no, yes, stored, tower, orFull, refusal}
+use Rattle.patterns.proofs.Symbols.{misfit-args}
 use Rattle.patterns.proofs.Terms.{symbol-at, symbols-length}
 
 module _ (f g : Symbol) (s m : ℕ) where
@@ -122,7 +113,7 @@ tower-step v u₀ y z k r w u e =
 
 pub one-input : (text r : List ℕ) (s : ℕ) → 0 ≡ misfit (symbolOf text r) s 1 → first (symbolOf text r .inputs) ≡ column r 8
 unfolding symbolOf
-one-input text r s e = let x : 1 ≡ column r 6 = misfit-args text r s 1 e in cols-at r 8 (column r 6) 0 (omega arith)
+one-input text r s e = let x : 1 ≡ column r 6 = misfit-args text r s 1 e in columns-at r 8 (column r 6) 0 (omega arith)
 
 -- `numeral`
 module _ (text : List ℕ) (sr : Rows) (n : ℕ) (hs : n ≤ length sr) (v s : ℕ) (vs : List Variable) (m : ℕ) (w : List ℕ) (u : ℕ) (y z : ℕ)

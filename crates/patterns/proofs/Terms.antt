@@ -1,30 +1,27 @@
 -- Laws of `patternOf` and `stored`: one for each way out of `pattern` and `node`.
 use mathlib.Core.Path.{_≡_, refl, sym, ap, _∙_}
-use mathlib.Core.Bool.{Bool, true, false, cond, _&&_, _||_}
+use mathlib.Core.Bool.{true, _||_}
 use mathlib.Core.List.{List, [], _∷_, _++_, append-nil, append-assoc}
 use Prim.Native.Nat.{ℕ, zero, suc, _+_, _*_, _-_, _≤_, _<_, min}
 use native.Mathlib.Numerals.{add-one}
 use native.Mathlib.Omega.{arith}
 use lib.ListN.{length, getD, drop, take, set, length-set}
 use lib.Seq.{sets, getD-drop, length-take-le, take-suc-set}
-use lib.Dec.{eqb, ltb}
-use borrow.Author.Tests.{eq-eqb, ne-eqb, lt-ltb, le-ltb, eqb-true}
+use lib.Dec.{eqb}
+use borrow.Author.Tests.{eq-eqb, ne-eqb, lt-ltb, le-ltb}
 use Rattle.terms.specs.Numbers.{by-less, true-false}
-use Rattle.terms.specs.Term.{Kind, Syn, Term, Terms, var, app, nil, cons}
+use Rattle.terms.specs.Term.{Syn, Term, Terms, app, cons}
 use Rattle.term_parser.specs.Source.{Arity, one, many}
 use Rattle.term_parser.specs.Standing.{Written, number, meta, called, applied, nil as none, cons as more, size}
-use Rattle.names.specs.Names.{Name, nameOf, nameIn, find}
-use Rattle.names.specs.Symbols.{Rows, Symbol, Variable, column, rowAt, columns, symbolOf, symbolsOf, variableOf, variablesOf, symbolNumber, variableNumber, noSymbol, symbolAt}
-use Rattle.names.specs.Standing.{Named, Stands}
-use Rattle.names.specs.SearchLaws.{table-length, table-at, table-set, table-more, getD-any}
-use Rattle.patterns.specs.Patterns.{noVariable, Entry, refused, entered, known, enter, kindOf, Out, bad, good, bind, counted, misfit, spent, unless, isCtor, zeroName, succName, first, rest, chain, when, patternOf}
-use Rattle.patterns.specs.Laying.{Laid, laid, header, pushed, after, andThen, lay}
-use Rattle.patterns.specs.Contracts.{Answer, no, yes, stored, entryOf, Grew, answer, Small, NextIs, Ready, nodeOf, Compiled, NodeMade, tower, orFull, refusal, Numbered, answers, Judging, Judged}
-use Rattle.patterns.specs.declared.Got.{Got}
-use Rattle.patterns.specs.declared.Got.the-variants.{At, Refused}
+use Rattle.names.specs.Names.{Name, nameOf, nameIn}
+use Rattle.names.specs.Symbols.{Rows, Symbol, Variable, column, rowAt, symbolOf, symbolsOf, variablesOf, symbolNumber, noSymbol, symbolAt}
+use Rattle.names.specs.Standing.{Stands}
+use Rattle.names.specs.SearchLaws.{columns-at, table-length, table-at, getD-any}
+use Rattle.patterns.specs.Patterns.{enter, kindOf, Out, bad, good, bind, counted, misfit, spent, unless, zeroName, succName, first, rest, chain, patternOf}
+use Rattle.patterns.specs.Laying.{Laid, laid, header, after, lay}
+use Rattle.patterns.specs.Contracts.{no, yes, stored, nodeOf, Compiled}
 use Rattle.patterns.specs.declared.Made.{Made}
 use Rattle.patterns.specs.declared.Made.the-variants.{Node, Failed}
-use Rattle.patterns.proofs.Symbols.{cols-length, cols-at, misfit-args}
 
 -- the symbols of a table
 module _ (text : List ℕ) (rs : Rows) (n : ℕ) (h : n ≤ length rs) where
@@ -106,7 +103,7 @@ module _ (text : List ℕ) (sr : Rows) (n : ℕ) (hs : n ≤ length sr) (i : ℕ
   -- the sort of argument k
   pub input-at : (k : ℕ) → k < column (rowAt sr i) 6 → first (drop k (symbolAt (symbolsOf text sr n) i .inputs)) ≡ column (rowAt sr i) (8 + k)
   unfolding symbolOf
-  input-at k l = first-drop (symbolAt (symbolsOf text sr n) i .inputs) k ∙ rw (symbol-at text sr n hs i hi) (cols-at (rowAt sr i) 8 (column (rowAt sr i) 6) k l)
+  input-at k l = first-drop (symbolAt (symbolsOf text sr n) i .inputs) k ∙ rw (symbol-at text sr n hs i hi) (columns-at (rowAt sr i) 8 (column (rowAt sr i) 6) k l)
 
 lay-more : (t : Term) (us : Terms) (w : List ℕ) (u : ℕ) (l w₁ : List ℕ) (u₁ : ℕ) → lay t w u ≡ laid l w₁ u₁ → lay (cons t us) w u ≡ after l (lay us w₁ u₁)
 unfolding lay

@@ -1,27 +1,18 @@
 -- Laws of `enter`, one for each way out, and of a variable as a pattern.
-use mathlib.Core.Path.{_≡_, refl, sym, ap, _∙_}
-use mathlib.Core.Bool.{Bool, true, false, cond, _&&_}
-use mathlib.Core.List.{List, [], _∷_, _++_, append-nil, append-assoc}
-use Prim.Native.Nat.{ℕ, zero, suc, _+_, _*_, _-_, _≤_, _<_}
-use native.Mathlib.Numerals.{add-one}
+use mathlib.Core.Path.{_≡_, sym, ap, _∙_}
+use mathlib.Core.List.{List, [], _∷_, _++_}
+use Prim.Native.Nat.{ℕ, zero, suc, _+_, _-_, _≤_, _<_}
 use native.Mathlib.Omega.{arith}
-use lib.ListN.{length, getD, drop, take, set, length-set}
-use lib.Seq.{sets, getD-drop, length-take-le, take-suc-set}
-use lib.Dec.{eqb, ltb}
-use borrow.Author.Tests.{eq-eqb, ne-eqb, lt-ltb, le-ltb, eqb-true}
-use Rattle.terms.specs.Term.{Kind, Syn, Term, Terms, var, app, nil, cons}
-use Rattle.term_parser.specs.Source.{Arity, one, many}
-use Rattle.term_parser.specs.Standing.{Written, number, meta, called, applied, nil as none, cons as more, size}
-use Rattle.names.specs.Names.{Name, nameOf, nameIn, find}
-use Rattle.names.specs.Symbols.{Rows, Symbol, Variable, column, rowAt, columns, symbolOf, symbolsOf, variableOf, variablesOf, symbolNumber, variableNumber, noSymbol, symbolAt}
-use Rattle.names.specs.Standing.{Named, Stands}
+use lib.ListN.{length, getD, set}
+use borrow.Author.Tests.{eq-eqb, ne-eqb, lt-ltb, le-ltb}
+use Rattle.names.specs.Names.{Name, nameOf, nameIn}
+use Rattle.names.specs.Symbols.{Rows, column, rowAt, variableOf, variablesOf, variableNumber}
 use Rattle.names.specs.SearchLaws.{table-length, table-at, table-set, table-more, getD-any}
-use Rattle.patterns.specs.Patterns.{noVariable, Entry, refused, entered, known, enter, kindOf, Out, bad, good, bind, counted, misfit, spent, unless, isCtor, zeroName, succName, first, rest, chain, when, patternOf}
-use Rattle.patterns.specs.Laying.{Laid, laid, header, pushed, after, andThen, lay}
-use Rattle.patterns.specs.Contracts.{Answer, no, yes, stored, entryOf, Grew, answer, Small, NextIs, Ready, nodeOf, Compiled, NodeMade, tower, orFull, refusal, Numbered, answers, Judging, Judged}
+use Rattle.patterns.specs.Patterns.{noVariable, Entry, refused, entered, known, enter, counted}
+use Rattle.patterns.specs.Laying.{laid, lay}
+use Rattle.patterns.specs.Contracts.{yes, stored, entryOf, Grew, answer}
 use Rattle.patterns.specs.declared.Got.{Got}
 use Rattle.patterns.specs.declared.Got.the-variants.{At, Refused}
-use Rattle.patterns.specs.declared.Made.{Made}
 use Rattle.patterns.specs.declared.Made.the-variants.{Node, Failed}
 
 module _ (text : List ℕ) (rs : Rows) (n : ℕ) (h : n ≤ length rs) (w : Name) (s : ℕ) (i : ℕ) (e : i ≡ variableNumber (variablesOf text rs n) w) where

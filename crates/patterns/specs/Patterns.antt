@@ -1,11 +1,11 @@
 -- Source terms become patterns (document 01, "Rules"; the Rust's `Vars::get`, `Sig::numeral` and `Sig::pattern`): symbols by their whole names, all other
 -- names and the metavariables variables, numbered by first appearance. Limits are those of refusal 28, each tested where its item is entered.
-use Prim.Native.Nat.{ℕ, zero, suc, _+_}
+use Prim.Native.Nat.{ℕ, zero, suc}
 use mathlib.Core.Bool.{Bool, true, false, cond, _&&_}
 use mathlib.Core.List.{List, [], _∷_, _++_}
 use lib.Dec.{eqb, ltb}
 use lib.ListN.{length, getD, set}
-use Rattle.terms.specs.Term.{Kind, Syn, Term, Terms, var, app, nil, cons}
+use Rattle.terms.specs.Term.{Kind, Syn, var, app, nil, cons}
 use Rattle.terms.specs.Term.Kind.{one as single, many as several}
 use Rattle.term_parser.specs.Source.{Arity, one, many}
 use Rattle.term_parser.specs.Standing.{Written, number, meta, called, applied, nil as none, cons as more, size}

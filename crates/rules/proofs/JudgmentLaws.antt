@@ -1,29 +1,23 @@
 -- Laws of a rule's judgments: one for each way out.
-use mathlib.Core.Path.{_≡_, refl, sym, ap, _∙_}
-use mathlib.Core.Bool.{Bool, true, false}
+use mathlib.Core.Path.{_≡_, ap, _∙_}
+use mathlib.Core.Bool.{true, false}
 use mathlib.Core.List.{List, [], _∷_}
 use Prim.Native.Nat.{ℕ, _+_, _*_, _≤_, _<_}
 use native.Mathlib.Numerals.{add-one}
 use native.Mathlib.Omega.{arith}
 use lib.ListN.{length, drop, getD, drop-of-length-le}
 use lib.Seq.{drop-cons}
-use lib.Dec.{ltb}
 use borrow.Author.Tests.{lt-ltb, le-ltb}
 use Rattle.term_parser.specs.Source.{one, many}
 use Rattle.term_parser.specs.Standing.{Written}
 use Rattle.names.specs.Symbols.{Rows, Symbol, Variable, rowAt, column, variableOf, variablesOf}
 use Rattle.names.specs.SearchLaws.{table-length, table-at}
-use Rattle.patterns.specs.Patterns.{Out, bad, good, patternOf}
-use Rattle.patterns.specs.Laying.{Laid, laid, lay}
+use Rattle.patterns.specs.Patterns.{Out, patternOf}
+use Rattle.patterns.specs.Laying.{laid}
 use Rattle.patterns.specs.Contracts.{stored, no as refusal, yes as kept, Small, Judging as Counting}
 use Rattle.patterns.specs.declared.Made.{Made}
 use Rattle.patterns.specs.declared.Made.the-variants.{Node}
-use Rattle.patterns.proofs.Terms.{stored-bad, stored-good, Good}
-use types.Run.{OneOf}
-use denote.Enum.Declared.{tagOf}
-use Rattle.meeting.proofs.Met.{the-type}
-use Rattle.meeting.specs.declared.Met.{Met}
-use Rattle.meeting.specs.declared.Met.the-variants.{Places, Over}
+use Rattle.patterns.proofs.Terms.{stored-bad, stored-good}
 use Rattle.rules.specs.Rules.{allKnown}
 use Rattle.rules.specs.Contracts.{no, yes, onward, both}
 
@@ -78,8 +72,3 @@ judged-bounds p n u room r e h = rw e at h
 pub made-bounds : (p n u room : ℕ) (r : Made) {x next n′ u′ room′ : ℕ} → r ≡ Node x next n′ u′ room′ → Small p n u room r
     → (p ≤ next) × (n ≤ n′) × (n′ ≤ 64) × (u ≤ u′) × (u′ + 2 * room′ + 1 ≤ u + 2 * room)
 made-bounds p n u room r e h = rw e at h
-
--- A walk's answer without places.
-pub no-places : (m : Met) → OneOf (1 ∷ []) (tagOf the-type m) → m ≡ Over
-no-places (Places n s) h = absurd (let w : _≡_ {A = ℕ} 0 1 = h in omega arith)
-no-places Over h = refl

@@ -1,17 +1,16 @@
 -- Laws of a rule that is kept: its terms can be walked through, and its row is what `Kept` says.
-use mathlib.Core.Path.{_≡_, refl, sym, ap, ap₂, _∙_, subst}
-use mathlib.Core.Bool.{true}
+use mathlib.Core.Path.{_≡_, refl, sym, ap, _∙_, subst}
 use mathlib.Core.List.{List, [], _∷_}
 use Prim.Native.Nat.{ℕ, zero, suc, _+_, _-_, _≤_, _<_}
 use native.Mathlib.Omega.{arith}
 use lib.ListN.{length, take, getD, replicate, length-replicate}
 use lib.Seq.{length-take-le, getD-take}
-use Rattle.terms.specs.Term.{Term, Terms, nil, cons}
-use Rattle.arena.specs.Cells.{Reference, reference-up, cells, termsOf, denote}
+use Rattle.terms.specs.Term.{Term, Terms}
+use Rattle.arena.specs.Cells.{Reference, reference-up, cells, termsOf}
 use Rattle.arena.specs.Copies.{patternRoom}
 use Rattle.arena.specs.Rows as arena
 use Rattle.resolution.specs.Rules.{Rule}
-use Rattle.resolution.specs.Fresh.{elem, met, metBack, place, headVars, allVars}
+use Rattle.resolution.specs.Fresh.{met, metBack, headVars, allVars}
 use Rattle.resolution.specs.Search.{words}
 use Rattle.meeting.specs.Places.{Records, numbersBelow}
 use Rattle.meeting.specs.Contract.{termOf}
@@ -19,7 +18,7 @@ use Rattle.names.specs.Symbols.{Rows, column, columns}
 use Rattle.rules.specs.LayingLaws.{RuleLying, lying-one, records-placed}
 use Rattle.rules.specs.CountLaws.{all-count, all-below}
 use Rattle.rules.specs.StoredRows.{titled, headsIn, placesIn, Kept}
-use Rattle.rules.specs.Contracts.{most, Met1, Walkable, OrderAsked, KeepAsked, Ordered}
+use Rattle.rules.specs.Contracts.{most, Met1, OrderAsked, Ordered}
 use Rattle.rules.specs.declared.Counts.{Counts}
 use Rattle.rules.proofs.ColumnLaws.{number-at, heads-at, heads-past, sorts-at, sorts-past, places-at, places-past, filled}
 

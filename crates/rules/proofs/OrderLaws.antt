@@ -1,12 +1,11 @@
 -- Laws of the order in which a rule's variables are met: the premises from the last to the first.
-use mathlib.Core.Path.{_≡_, refl, sym, ap₂, _∙_, subst}
+use mathlib.Core.Path.{_≡_, sym, ap₂, _∙_, subst}
 use mathlib.Core.List.{List, [], _∷_}
-use Prim.Native.Nat.{ℕ, suc, _+_, _-_, _≤_, _<_}
-use native.Mathlib.Numerals.{add-one}
+use Prim.Native.Nat.{ℕ, suc, _-_, _≤_, _<_}
 use native.Mathlib.Omega.{arith}
 use lib.ListN.{length, drop, take, getD, drop-of-length-le}
 use lib.Seq.{drop-cons, getD-take, length-take-le}
-use Rattle.terms.specs.Term.{Term, Terms, nil, cons}
+use Rattle.terms.specs.Term.{Term}
 use Rattle.arena.specs.Cells.{termsOf}
 use Rattle.resolution.specs.Fresh.{met, metBack}
 use Rattle.meeting.specs.Places.{Records}

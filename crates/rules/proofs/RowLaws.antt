@@ -5,9 +5,9 @@ use Prim.Native.Nat.{ℕ, zero, suc, _+_, _≤_, _<_}
 use native.Mathlib.Numerals.{add-one}
 use native.Mathlib.Omega.{arith}
 use lib.ListN.{length, getD, take, set, length-set, List·getD-map}
-use lib.Seq.{sets, take-suc, length-take-le, getD-set-same, set-set, set-getD}
+use lib.Seq.{sets, take-suc, length-take-le, getD-set-same, set-set}
 use Rattle.names.specs.Symbols.{Rows, Variable, rowAt, column, variableOf, variablesOf}
-use Rattle.names.specs.SearchLaws.{table-length, table-at}
+use Rattle.names.specs.SearchLaws.{map-length, table-length}
 
 -- A run of stores, and one more.
 sets-snoc : (vs l : List ℕ) (i v : ℕ) → sets l i (vs ++ (v ∷ [])) ≡ set (sets l i vs) (i + length vs) v
@@ -46,10 +46,6 @@ map-take : {A B : Type 0} (f : A → B) (n : ℕ) (l : List A) → map f (take n
 map-take f zero l = refl
 map-take f (suc n) [] = refl
 map-take f (suc n) (x ∷ l) = ap (λ r. f x ∷ r) (map-take f n l)
-
-map-length : {A B : Type 0} (f : A → B) (l : List A) → length (map f l) ≡ length l
-map-length f [] = refl
-map-length f (x ∷ xs) = ap suc (map-length f xs)
 
 -- One sort more.
 pub sorts-next : (text : List ℕ) (row : List ℕ) (rows : Rows) (at j : ℕ) → j < length rows

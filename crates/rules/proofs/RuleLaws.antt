@@ -1,32 +1,30 @@
 -- Laws of `rule`: one for each way out.
-use mathlib.Core.Path.{_≡_, refl, sym, ap, _∙_}
-use mathlib.Core.Bool.{Bool, true, false, cond, not}
+use mathlib.Core.Path.{_≡_, refl, sym, _∙_}
+use mathlib.Core.Bool.{Bool, true, false, not}
 use mathlib.Core.List.{List, [], _∷_, map}
-use Prim.Native.Nat.{ℕ, _+_, _-_, _*_, _≤_, _<_}
+use Prim.Native.Nat.{ℕ, _+_, _*_, _≤_, _<_}
 use native.Mathlib.Omega.{arith}
-use lib.ListN.{length, take, set}
-use lib.Dec.{ltb}
+use lib.ListN.{length}
 use borrow.Author.Tests.{lt-ltb, le-ltb}
-use Rattle.terms.specs.Term.{Term, Terms, cons}
+use Rattle.terms.specs.Term.{Term, Terms}
 use Rattle.terms.specs.TermLaws.{below-le}
-use Rattle.arena.specs.Cells.{headers, WellFormed, cells}
+use Rattle.arena.specs.Cells.{WellFormed, cells}
 use Rattle.arena.specs.Copies.{patternRoom}
 use Rattle.resolution.specs.Rules.{Rule}
-use Rattle.resolution.specs.Search.{words}
 use Rattle.term_parser.specs.Source.{one, many}
 use Rattle.term_parser.specs.Standing.{Written, size}
 use Rattle.names.specs.Names.{Name}
-use Rattle.names.specs.Symbols.{Rows, Symbol, Variable, column, rowAt, columns, symbolOf, symbolsOf, symbolAt, variablesOf}
-use Rattle.patterns.specs.Patterns.{Out, bad, good, when, patternOf}
+use Rattle.names.specs.Symbols.{Rows, Symbol, Variable, column, rowAt, symbolOf, symbolsOf}
+use Rattle.patterns.specs.Patterns.{Out, bad, good, patternOf}
 use Rattle.patterns.specs.Laying.{Laid, laid, lay}
 use Rattle.patterns.proofs.Terms.{symbol-at, symbols-length}
-use Rattle.patterns.proofs.Symbols.{cols-length}
-use Rattle.rules.specs.Rules.{Ruled, barred, ruled, allKnown, closed, concluded, ruleOf, entering}
-use Rattle.rules.specs.LayingLaws.{Layable, RuleLying, RuleLaid, rule-laid}
+use Rattle.names.specs.SearchLaws.{columns-length}
+use Rattle.rules.specs.Rules.{barred, ruled, allKnown, closed, concluded, ruleOf}
+use Rattle.rules.specs.LayingLaws.{RuleLaid, rule-laid}
 use Rattle.rules.specs.PatternLaws.{aritiesOf, FewInputs, InputsUpto, RuleMade, ruled-made}
-use Rattle.rules.specs.Contracts.{Twofold, no, yes, onward, both, Bounded}
+use Rattle.rules.specs.Contracts.{no, yes, onward, both, Bounded}
 use Rattle.rules.specs.declared.Body.{Body}
-use Rattle.rules.specs.declared.Body.the-variants.{Failed, Done}
+use Rattle.rules.specs.declared.Body.the-variants.{Done}
 
 -- The symbols of a table have few inputs, if their rows say so.
 pub few-inputs : (text : List ℕ) (symbols : Rows) (count : ℕ) → count ≤ length symbols → ((i : ℕ) → i < count → column (rowAt symbols i) 6 ≤ 16) → FewInputs (symbolsOf text symbols count)
@@ -34,7 +32,7 @@ unfolding symbolOf
 few-inputs text symbols count lent h i l =
     let n : length (symbolsOf text symbols count) ≡ count = symbols-length text symbols count lent in
     let m : i < count = rw n at l in
-    rw (symbol-at text symbols count lent i m) (rw cols-length (h i m))
+    rw (symbol-at text symbols count lent i m) (rw columns-length (h i m))
 
 pub bounds : (u room : ℕ) (r : Body) {x middle nv u′ room′ : ℕ} → r ≡ Done x middle nv u′ room′ → Bounded u room r
     → (nv ≤ 64) × (u ≤ middle) × (middle ≤ u′) × (u′ + 2 * room′ ≤ u + 2 * room)

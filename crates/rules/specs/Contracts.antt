@@ -3,7 +3,6 @@ use Prim.Native.Nat.{ℕ, _+_, _*_, _≤_, _<_}
 use mathlib.Core.Path.{_≡_}
 use mathlib.Core.List.{List, [], _∷_, map}
 use lib.ListN.{length, take, getD, set}
-use Rattle.terms.specs.Term.{Term}
 use Rattle.arena.specs.Cells.{headers, Reference, WellFormed, Same, cells, termsOf}
 use Rattle.arena.specs.Copies.{patternRoom}
 use Rattle.arena.specs.Rows as arena

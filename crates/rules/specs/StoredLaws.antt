@@ -1,23 +1,19 @@
 -- Laws of kept rules: a row that keeps a rule is a stored rule in form (crates/attempts), and stays one when words are written behind it.
-use Prim.Native.Nat.{ℕ, zero, suc, _+_, _-_, _≤_, _<_}
+use Prim.Native.Nat.{ℕ, _+_, _-_, _≤_}
 use native.Mathlib.Omega.{arith}
-use mathlib.Core.Path.{_≡_, refl, sym, ap, _∙_, subst}
+use mathlib.Core.Path.{_≡_, sym, subst}
 use mathlib.Core.List.{List}
 use lib.ListN.{length}
 use Rattle.terms.specs.Term.{Below}
 use Rattle.arena.specs.Cells.{Same, cells}
 use Rattle.arena.specs.Copies.{patternRoom}
 use Rattle.resolution.specs.Rules.{Rule}
-use Rattle.names.specs.Symbols.{column, columns}
+use Rattle.names.specs.Symbols.{column}
+use Rattle.names.specs.SearchLaws.{columns-length}
 use Rattle.attempts.specs.StoredRules.{StoredRule}
 use Rattle.attempts.specs.declared.Stored.{Stored}
 use Rattle.rules.specs.LayingLaws.{storedAs, stored-rule, rule-same}
 use Rattle.rules.specs.StoredRows.{headsIn, placesIn, storedIn, Kept}
-
-columns-length : (row : List ℕ) (j n : ℕ) → length (columns row j n) ≡ n
-unfolding columns
-columns-length row j zero = refl
-columns-length row j (suc n) = ap suc (columns-length row (suc j) n)
 
 module _ {text arities words row : List ℕ} {R : Rule} {u u′ : ℕ} (kept : Kept text arities words row R u u′) where
   -- The record that the row holds is the one of its terms.

@@ -1,9 +1,8 @@
 -- `clause` meets its contract: the conclusion's rows, the calls, and then the rule.
-use mathlib.Core.Path.{_≡_, refl, sym, ap, _∙_}
-use Prim.Native.Nat.{ℕ, suc}
+use mathlib.Core.Path.{refl}
 use Rattle.words.specs.Lexer.{partOf}
 use Rattle.names.specs.Symbols.{symbolsOf}
-use Rattle.clauses.proofs.ClauseLaws.{seventeenth, clause-is, over-limit, Prepared, prepared}
+use Rattle.clauses.proofs.ClauseLaws.{seventeenth, clause-is, over-limit, prepared}
 use borrow.Author.Needs.{needs}
 use Rattle.clauses.proofs.clause.Statement.{statement}
 use Rattle.clauses.proofs.clause.Tie as tie

@@ -1,7 +1,5 @@
 -- `heading` meets its contract: the rows of the patterns are copied behind the function's.
-use mathlib.Core.Path.{_≡_, refl, sym, _∙_}
-use Prim.Native.Nat.{_≤_, _+_, _-_}
-use lib.ListN.{length, set, length-set}
+use lib.ListN.{length-set}
 use Rattle.clauses.proofs.ClauseLaws.{few-patterns, skipped-within, headed}
 use borrow.Author.Needs.{needs}
 use native.Mathlib.Omega.{arith}

@@ -1,8 +1,6 @@
 -- `skip` meets its contract. The loop's invariant: so many terms are left from the row p on.
-use mathlib.Core.Path.{_≡_, refl, sym, ap, _∙_}
-use Prim.Native.Nat.{ℕ, _≤_, _+_, _-_, _*_}
+use Prim.Native.Nat.{_≤_, _+_, _-_, _*_}
 use lib.ListN.{length}
-use Rattle.names.specs.Symbols.{column, rowAt}
 use Rattle.clauses.proofs.SkipLaws.{Left, left-start, left-turn, left-end, left-past}
 use borrow.Author.Needs.{needs}
 use native.Mathlib.Omega.{arith}

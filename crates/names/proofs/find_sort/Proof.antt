@@ -1,10 +1,10 @@
 -- `find_sort` meets its contract. The loop's invariant: no row before the place i has the name.
 use mathlib.Core.Path.{_≡_, sym, ap, _∙_}
 use Prim.Native.Nat.{_≤_, _+_, _-_}
-use lib.ListN.{length, drop}
+use lib.ListN.{drop}
 use Rattle.words.specs.Bytes.{sameBytes}
-use Rattle.names.specs.Symbols.{Rows, sortOf, sortsOf, sortNumber}
-use Rattle.names.specs.Names.{Name, nameIn, find}
+use Rattle.names.specs.Symbols.{sortOf, sortsOf, sortNumber}
+use Rattle.names.specs.Names.{Name}
 use Rattle.names.specs.SearchLaws.{row-hit, row-step, row-end}
 use borrow.Author.Needs.{needs}
 use native.Mathlib.Omega.{arith}

@@ -1,10 +1,9 @@
 -- `find_variable` meets its contract. The loop's invariant: no row before the place i has the name.
-use mathlib.Core.Path.{_≡_, sym, ap, _∙_}
+use mathlib.Core.Path.{_≡_, sym, _∙_}
 use Prim.Native.Nat.{_≤_, _+_, _-_}
-use lib.ListN.{length, drop}
-use Rattle.words.specs.Bytes.{sameBytes}
+use lib.ListN.{drop}
 use Rattle.names.specs.Symbols.{Variable, variableOf, variablesOf, variableNumber}
-use Rattle.names.specs.Names.{Name, nameIn, find}
+use Rattle.names.specs.Names.{nameIn}
 use Rattle.names.specs.SearchLaws.{row-hit, row-step, row-end}
 use borrow.Author.Needs.{needs}
 use native.Mathlib.Omega.{arith}

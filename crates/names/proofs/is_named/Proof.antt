@@ -1,5 +1,5 @@
 -- `is_named` meets its contract: the table of the flattening variables, or the text.
-use mathlib.Core.Path.{_≡_, sym, ap, _∙_}
+use mathlib.Core.Path.{ap, _∙_}
 use borrow.Author.Tests.{eq-eqb, ne-eqb}
 use Rattle.words.specs.Bytes.{sameBytes}
 use Rattle.names.specs.Names.{Name, resultNames}

@@ -1,5 +1,5 @@
 -- `variable_of` meets its contract: the name is one of flattening, or a word of the text.
-use mathlib.Core.Path.{_≡_, ap, _∙_}
+use mathlib.Core.Path.{ap, _∙_}
 use borrow.Author.Tests.{eq-eqb, ne-eqb}
 use Rattle.names.specs.Names.{Name, resultNames}
 use Rattle.names.specs.Symbols.{variablesOf, variableNumber}

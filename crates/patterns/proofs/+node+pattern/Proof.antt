@@ -1,14 +1,14 @@
 -- `pattern` and `node` meet their contracts. What falls: twice the rows left, and 1 more for `node`. The invariant of `node`'s loop: k arguments are done,
 -- and the rest comes to what the whole comes to.
-use Prim.Native.Nat.{ℕ, _<_, _≤_, _+_, _*_, _-_}
+use Prim.Native.Nat.{ℕ, _<_, _+_, _*_, _-_}
 use mathlib.Core.List.{[]}
 use mathlib.Core.Path.{_≡_, refl, sym, ap, _∙_}
 use lib.ListN.{length, take}
 use lib.Seq.{length-take-le}
-use Rattle.term_parser.specs.Source.{one, many}
+use Rattle.term_parser.specs.Source.{one}
 use Rattle.names.specs.Symbols.{column, rowAt, symbolsOf, variablesOf}
 use Rattle.patterns.specs.Patterns.{patternOf, Out}
-use Rattle.patterns.specs.Contracts.{stored, Compiled, NodeMade, Ready}
+use Rattle.patterns.specs.Contracts.{stored}
 use Rattle.patterns.proofs.Symbols.{misfit-args}
 use Rattle.patterns.proofs.Terms.{input-at, symbols-length, Looped, inputsAt, loop-start, loop-refused, loop-turn, loop-done, node-misfit, node-full, node-open, app-refused, node-done, out-of-rows, is-numeral, is-meta, is-node, is-unknown, is-judgment, is-variable}
 use borrow.Author.Needs.{needs}

@@ -1,6 +1,6 @@
 -- `judgments` meets its contract. The loop's invariant: k judgments are done, and the rest comes to what the whole comes to.
 use mathlib.Core.List.{[]}
-use mathlib.Core.Path.{_≡_, refl, sym, ap, _∙_}
+use mathlib.Core.Path.{sym, _∙_}
 use Prim.Native.Nat.{_-_}
 use Rattle.names.specs.Symbols.{symbolsOf}
 use Rattle.patterns.proofs.Terms.{Looped, loop-start, loop-refused, loop-turn, loop-done, nothing-asked}

@@ -1,5 +1,4 @@
 -- `misfit` meets its contract: one law for each way out.
-use mathlib.Core.Path.{_≡_, sym, _∙_}
 use mathlib.Core.Logic.{⊎-elim}
 use Rattle.names.specs.Symbols.{rowAt, column}
 use Rattle.patterns.proofs.Symbols.{no-fun, no-term, misfit-22, misfit-23, misfit-21, misfit-0}

@@ -1,6 +1,6 @@
 -- `numeral` meets its contract: one law for each way out.
-use mathlib.Core.Path.{_≡_, refl}
-use Prim.Native.Nat.{_<_, _+_, _*_, _-_}
+use mathlib.Core.Path.{refl}
+use Prim.Native.Nat.{_<_}
 use Rattle.names.specs.Symbols.{variablesOf}
 use Rattle.patterns.proofs.Numerals.{no-zero, zero-pred, no-succ, succ-pred, number-refused, number-room, number-done}
 use borrow.Author.Needs.{needs}

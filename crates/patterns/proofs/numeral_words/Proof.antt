@@ -1,7 +1,7 @@
 -- `numeral_words` meets its contract. The loop's invariant: k times `succ` on `zero` are laid.
 use mathlib.Core.Path.{_≡_, refl, sym, ap, _∙_}
 use mathlib.Core.List.{List, [], _∷_}
-use Prim.Native.Nat.{ℕ, _≤_, _<_, _+_, _-_, _*_}
+use Prim.Native.Nat.{ℕ, _≤_, _+_, _-_, _*_}
 use lib.ListN.{length, set, length-set}
 use Rattle.patterns.specs.Laying.{lay, laid}
 use Rattle.patterns.specs.Contracts.{tower}

@@ -1,5 +1,5 @@
 -- `variable` meets its contract: the entry, and then the count of nodes.
-use mathlib.Core.Path.{_≡_, refl}
+use mathlib.Core.Path.{refl}
 use Rattle.patterns.proofs.Variables.{grew, variable-refused, variable-full, variable-node}
 use borrow.Author.Needs.{needs}
 use native.Mathlib.Omega.{arith}

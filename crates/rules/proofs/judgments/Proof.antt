@@ -1,5 +1,4 @@
 -- `judgments` meets its contract: the premises, and then the conclusion.
-use mathlib.Core.Path.{_≡_, refl, sym, ap, _∙_}
 use mathlib.Core.List.{[]}
 use Rattle.names.specs.Symbols.{symbolsOf, variablesOf}
 use Rattle.patterns.specs.Patterns.{patternOf}

@@ -1,10 +1,9 @@
 -- `keep` meets its contract: the walk gives the places, and the row is written.
-use mathlib.Core.Path.{_≡_, refl, sym, ap, _∙_}
+use mathlib.Core.Path.{sym, ap, _∙_}
 use mathlib.Core.List.{List, [], _∷_}
 use Prim.Native.Nat.{ℕ}
 use lib.ListN.{length, length-replicate}
 use Rattle.meeting.specs.Places.{numbersBelow}
-use Rattle.rules.specs.Contracts.{KeepAsked}
 use Rattle.rules.proofs.RowLaws.{sorts-column, sorts-length}
 use Rattle.rules.proofs.KeepLaws.{order-asked, all-recorded, row-kept}
 use borrow.Author.Needs.{needs}

@@ -1,12 +1,10 @@
 -- `order` meets its contract. The loop's invariant: the conclusion and the premises from number k on are met.
-use mathlib.Core.Path.{_≡_, refl, sym, _∙_}
-use mathlib.Core.List.{List, []}
-use Prim.Native.Nat.{ℕ, _≤_, _-_}
+use mathlib.Core.Path.{_≡_, refl, _∙_}
+use mathlib.Core.List.{[]}
+use Prim.Native.Nat.{_≤_, _-_}
 use lib.ListN.{length}
 use Rattle.meeting.specs.Contract.{termOf}
-use Rattle.meeting.specs.Places.{Records}
 use Rattle.meeting.specs.PlaceLaws.{records-none}
-use Rattle.rules.specs.Contracts.{Walkable}
 use Rattle.rules.proofs.OrderLaws.{MetFrom, met-none, met-more}
 use borrow.Author.Needs.{needs}
 use native.Mathlib.Omega.{arith}

@@ -1,8 +1,8 @@
 -- `put_sorts` meets its contract. The loop's invariant: the sorts of the first j variables are written.
-use mathlib.Core.Path.{_≡_, refl, sym, ap, _∙_}
+use mathlib.Core.Path.{_≡_, sym, ap, _∙_}
 use mathlib.Core.List.{List, []}
-use Prim.Native.Nat.{ℕ, _≤_, _-_, _+_, _*_}
-use lib.ListN.{length, take, set, length-set}
+use Prim.Native.Nat.{ℕ, _≤_, _-_}
+use lib.ListN.{length, set, length-set}
 use lib.Seq.{sets, set-getD}
 use Rattle.names.specs.Symbols.{rowAt, variablesOf}
 use Rattle.rules.proofs.RowLaws.{sortsIn, sorts-next, column-written}

@@ -1,16 +1,11 @@
 -- `rule` meets its contract: one law for each way out.
-use mathlib.Core.Path.{_≡_, refl, sym, ap, _∙_}
-use mathlib.Core.List.{[]}
-use Prim.Native.Nat.{ℕ, _≤_, _<_, _+_, _*_}
-use lib.ListN.{length}
+use mathlib.Core.Path.{refl, sym, _∙_}
+use Prim.Native.Nat.{_≤_}
 use borrow.Author.Tests.{lt-ltb, le-ltb}
 use Rattle.term_parser.specs.Standing.{size}
 use Rattle.names.specs.Symbols.{symbolsOf, variablesOf}
-use Rattle.resolution.specs.Fresh.{met}
-use Rattle.meeting.specs.Places.{numbersBelow}
 use Rattle.rules.specs.StoredRows.{titled}
 use Rattle.rules.specs.PatternLaws.{aritiesOf}
-use Rattle.rules.proofs.RowLaws.{sorts-length}
 use Rattle.rules.proofs.RuleLaws.{few-inputs, bounds, too-many, judgment-refused, bodied, not-known, ruleMade, is-rule, made, lies, not-false, not-true}
 use borrow.Author.Needs.{needs}
 use native.Mathlib.Omega.{arith}

@@ -1,10 +1,9 @@
 -- `store` meets its contract: the row is written over part by part.
-use mathlib.Core.Path.{_≡_, refl, sym, ap, _∙_}
+use mathlib.Core.Path.{_≡_, refl, ap, _∙_}
 use mathlib.Core.List.{List, []}
 use Prim.Native.Nat.{ℕ, _<_}
-use lib.ListN.{length, take, replicate, set, length-set}
+use lib.ListN.{length, take, replicate, length-set}
 use lib.Seq.{sets, take-all}
-use Rattle.rules.specs.StoredRows.{ruleRow}
 use Rattle.rules.proofs.RowLaws.{over, still-there, sortsIn}
 use borrow.Author.Needs.{needs}
 use native.Mathlib.Omega.{arith}

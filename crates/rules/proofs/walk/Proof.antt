@@ -1,7 +1,5 @@
 -- `walk` meets its contract: a rule's term is never too large.
-use Prim.Native.Nat.{_<_}
 use Rattle.meeting.specs.WalkLaws.{walked-over, walked-places}
-use Rattle.rules.proofs.JudgmentLaws.{no-places}
 use borrow.Author.Needs.{needs}
 use native.Mathlib.Omega.{arith}
 use Rattle.rules.proofs.walk.Statement.{statement}
@@ -34,9 +32,8 @@ same-length-4 c = search needs
 returns-2 : tie.Need-returns-2
 returns-2 c =
     let meet = c .before .before .before .before .before .meet in
-    let match′ = c .before .match in
     let pre = c .before .before .before .before .before .before .before .before .before .before .pre in
-    λ e k. absurd (let l = walked-over ((meet .ensures)) k (no-places ((meet .result)) ((match′ .keys2))) in
+    λ e k. absurd (let l = walked-over ((meet .ensures)) k (c .enum-told .given .1) in
     let s = pre in
     omega arith)
 
