@@ -1,6 +1,6 @@
 -- Declarations become a signature (document 01, "Terms and declarations", "Rules" and the table by place): in text order, each refused by 17 to 28 at the line
 -- on which it starts. Limits of 28 are tested as the item is entered.
-use Prim.Native.Nat.{ℕ, suc, _+_, _-_, min}
+use Prim.Native.Nat.{ℕ, zero, suc, _+_, _-_, min}
 use mathlib.Core.Bool.{Bool, cond, _||_}
 use mathlib.Core.List.{List, [], _∷_, _++_, map}
 use lib.Dec.{ltb}
@@ -35,21 +35,31 @@ abbrev pub andThen : Step → (Signature → Step) → Step
 andThen (no e) next = no e
 andThen (on s) next = next s
 
+-- With nothing to refuse it for (0), the signature; else the number.
+abbrev pub unless : ℕ → Signature → Step
+unless zero s = on s
+unless (suc e) s = no (suc e)
+
 -- A name serves once among sorts and symbols together.
-abbrev pub isTaken : Signature → Name → Bool
-isTaken s w = ltb (sortNumber (s .sorts) w) (length (s .sorts)) || ltb (symbolNumber (s .symbols) w) (length (s .symbols))
+abbrev pub isTaken : List Name → List Symbol → Name → Bool
+isTaken sorts symbols w = ltb (sortNumber sorts w) (length sorts) || ltb (symbolNumber symbols w) (length symbols)
+
+-- What a sort is refused for: 17, then a 257th sort; 0: nothing.
+abbrev pub sortRefusal : List Name → List Symbol → Name → ℕ
+sortRefusal sorts symbols w = cond (isTaken sorts symbols w) 17 (cond (ltb (length sorts) 256) 0 28)
 
 abbrev pub enterSort : Signature → Name → Step
 enterSort s w =
-    cond (isTaken s w) (no 17)
-    (cond (ltb (length (s .sorts)) 256) (on (record { sorts = s .sorts ++ (w ∷ []); symbols = s .symbols; rules = s .rules; nodes = s .nodes })) (no 28))
+    unless (sortRefusal (s .sorts) (s .symbols) w) (record { sorts = s .sorts ++ (w ∷ []); symbols = s .symbols; rules = s .rules; nodes = s .nodes })
 
--- A symbol: 17, then at most 16 inputs, then at most 1,024 symbols.
+-- What a symbol with k inputs is refused for: 17, then a 17th input, then a 1,025th symbol; 0: nothing.
+abbrev pub symbolRefusal : List Name → List Symbol → Name → ℕ → ℕ
+symbolRefusal sorts symbols w k = cond (isTaken sorts symbols w) 17 (cond (ltb 16 k) 28 (cond (ltb (length symbols) 1024) 0 28))
+
 abbrev pub enterSymbol : Signature → Symbol → Step
 enterSymbol s f =
-    cond (isTaken s (f .name)) (no 17)
-    (cond (ltb 16 (length (f .inputs))) (no 28)
-    (cond (ltb (length (s .symbols)) 1024) (on (record { sorts = s .sorts; symbols = s .symbols ++ (f ∷ []); rules = s .rules; nodes = s .nodes })) (no 28)))
+    unless (symbolRefusal (s .sorts) (s .symbols) (f .name) (length (f .inputs)))
+    (record { sorts = s .sorts; symbols = s .symbols ++ (f ∷ []); rules = s .rules; nodes = s .nodes })
 
 -- The numbers of sorts, counted from 1; a name that is no sort gives 18.
 pub data Numbers : Type 0 where

@@ -1,1 +1,153 @@
-// The loader: from declarations to a signature. Its definition is in specs/.
+// The loader: from declarations to a signature. Its definition is `loadOf` in specs/Signature; here are the functions that enter sorts and symbols.
+//
+// All functions here serve the crates above: they ask for storage of the listed sizes.
+ghost use mathlib.Core.Path.{_≡_};
+ghost use mathlib.Core.List.{[], _∷_};
+ghost use Prim.Native.Nat.{_≤_, _<_};
+ghost use lib.ListN.{length, take, set};
+ghost use Rattle.words.specs.Lexer.{partOf};
+ghost use lib.Seq.{sets};
+ghost use Rattle.names.specs.Symbols.{rowAt, sortsOf, symbolsOf};
+ghost use Rattle.loader.specs.Signature.{isTaken, sortRefusal, symbolRefusal};
+ghost use Rattle.loader.specs.Rows.{symbolRow, entered};
+use names::SortRow;
+use names::SymbolRow;
+
+// Why a declaration is refused (document 01, the table by place).
+pub const ALREADY_DECLARED: u32 = 17;
+
+pub const FULL: u32 = 28;
+
+// How many sorts, symbols and inputs there may be.
+const SORTS: usize = 256;
+
+const SYMBOLS: usize = 1024;
+
+const INPUTS: usize = 16;
+
+// Is the name at a place of the text that of a sort or a symbol?
+fn is_taken(
+    text: &[u8],
+    sorts: &[SortRow],
+    many: usize,
+    symbols: &[SymbolRow],
+    count: usize,
+    start: u32,
+    size: u32,
+) -> bool
+    requires { ⌜ (many ≤ length (now sorts)) × (count ≤ length (now symbols)) ⌝ }
+    ensures { λ r. ⌜ r ≡ isTaken (sortsOf (now (text .entry)) (now (sorts .entry)) many) (symbolsOf (now (text .entry)) (now (symbols .entry)) count) (partOf (now (text .entry)) start size) ⌝ }
+{
+    let w = names::part(text, start, size);
+    if names::find_sort(text, sorts, many, w) < many {
+        return true;
+    }
+    names::find_symbol(text, symbols, count, w) < count
+}
+
+// Enters the sort whose name stands at a place; answers what it is refused for, 0 for nothing.
+pub fn enter_sort(
+    text: &[u8],
+    sorts: &mut [SortRow],
+    many: usize,
+    symbols: &[SymbolRow],
+    count: usize,
+    start: u32,
+    size: u32,
+) -> u32
+    requires { ⌜ (256 ≤ length (now sorts)) × (many ≤ 256) × (count ≤ length (now symbols)) ⌝ }
+    ensures { λ r. ⌜ r ≡ sortRefusal (sortsOf (now (text .entry)) (now (sorts .entry)) many) (symbolsOf (now (text .entry)) (now (symbols .entry)) count) (partOf (now (text .entry)) start size) ⌝ }
+    ensures { λ r. ⌜ now (sorts .exit) ≡ entered r (now (sorts .entry)) many (start ∷ size ∷ []) ⌝ }
+{
+    if is_taken(text, sorts, many, symbols, count, start, size) {
+        return ALREADY_DECLARED;
+    }
+    if many < SORTS {
+        sorts[many] = [start, size];
+        return 0;
+    }
+    FULL
+}
+
+// What a symbol with k inputs, whose name stands at a place, is refused for; 0: nothing.
+pub fn symbol_refusal(
+    text: &[u8],
+    sorts: &[SortRow],
+    many: usize,
+    symbols: &[SymbolRow],
+    count: usize,
+    start: u32,
+    size: u32,
+    k: usize,
+) -> u32
+    requires { ⌜ (many ≤ length (now sorts)) × (count ≤ length (now symbols)) ⌝ }
+    ensures { λ r. ⌜ r ≡ symbolRefusal (sortsOf (now (text .entry)) (now (sorts .entry)) many) (symbolsOf (now (text .entry)) (now (symbols .entry)) count) (partOf (now (text .entry)) start size) k ⌝ }
+{
+    if is_taken(text, sorts, many, symbols, count, start, size) {
+        return ALREADY_DECLARED;
+    }
+    if INPUTS < k {
+        return FULL;
+    }
+    if count < SYMBOLS {
+        return 0;
+    }
+    FULL
+}
+
+// Writes the first n of some inputs into the row i.
+fn put_inputs(symbols: &mut [SymbolRow], i: usize, inputs: &[u32], n: usize)
+    requires { ⌜ (i < length (now symbols)) × (n ≤ 16) × (n ≤ length (now inputs)) ⌝ }
+    ensures { λ _. ⌜ now (symbols .exit) ≡ set (now (symbols .entry)) i (sets (rowAt (now (symbols .entry)) i) 8 (take n (now (inputs .entry)))) ⌝ }
+{
+    let mut j = 0;
+    while j < n {
+        symbols[i][8 + j] = inputs[j];
+        j += 1;
+    }
+}
+
+// Writes a symbol's row: its first n inputs stand in `inputs`.
+pub fn put_symbol(
+    symbols: &mut [SymbolRow],
+    i: usize,
+    start: u32,
+    size: u32,
+    output: u32,
+    function: u32,
+    first: u32,
+    clauses: u32,
+    inputs: &[u32],
+    n: usize,
+)
+    requires { ⌜ (i < length (now symbols)) × (n ≤ 16) × (n ≤ length (now inputs)) ⌝ }
+    ensures { λ _. ⌜ now (symbols .exit) ≡ set (now (symbols .entry)) i (symbolRow start size output function first clauses n (take n (now (inputs .entry)))) ⌝ }
+{
+    symbols[i] = [
+        start,
+        size,
+        output,
+        function,
+        first,
+        clauses,
+        n as u32,
+        0,
+        0,
+        0,
+        0,
+        0,
+        0,
+        0,
+        0,
+        0,
+        0,
+        0,
+        0,
+        0,
+        0,
+        0,
+        0,
+        0,
+    ];
+    put_inputs(symbols, i, inputs, n);
+}
