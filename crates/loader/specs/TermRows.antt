@@ -1,12 +1,15 @@
 -- Laws of declaration rows: the judgments of a rule and the parts of a clause stand in the parser's rows, wherever these are.
-use Prim.Native.Nat.{ℕ, suc, _+_, _-_}
+use Prim.Native.Nat.{ℕ, suc, _+_, _-_, _<_}
 use native.Mathlib.Omega.{arith}
 use mathlib.Core.Path.{_≡_, refl, sym, ap, ap₂, _∙_, subst}
 use mathlib.Core.List.{List, [], _∷_, _++_, append-assoc, append-nil}
-use lib.ListN.{length, length-append}
+use lib.ListN.{length, getD, length-append}
+use lib.Seq.{getD-append-seam}
 use Rattle.term_parser.specs.Source.{Source, one, many, none, more, allOf, count}
 use Rattle.term_parser.specs.Rows.{Rows, rowsOf, rowsOfAll}
 use Rattle.term_parser.specs.Standing.{Written, size, spelled, Stands, stands}
+use Rattle.parser.specs.Source.{Clause}
+use Rattle.parser.specs.Rows.{clauseKind, clauseRows}
 use Rattle.loader.specs.Signature.{frontOf, lastJudgment}
 
 -- The rows of several terms are those of their list.
@@ -65,3 +68,39 @@ judgments-stand text before after j js =
     let c₂ : Stands text (before ++ (front ++ (last ++ after))) (length before + length front) (spelled text (lastJudgment j js)) (length before + length front + length last) = rw m at c₁ in
     let n : length before + length (front ++ last) ≡ length before + length front + length last = omega arith in
     rw (e, n, a) (record { middle = length before + length front; premises = p; conclusion = c₂ })
+
+-- A clause: its row, its patterns and its right side.
+pub record ClauseStands (text : List ℕ) (rows : Rows) (p : ℕ) (c : Clause) (q : ℕ) : Type 0 where
+  pub within : p < length rows
+  pub row : getD rows p [] ≡ clauseKind ∷ 0 ∷ 0 ∷ length (c .patterns) ∷ []
+  pub middle : ℕ
+  pub patterns : Stands text rows (p + 1) (spelled text (allOf (c .patterns))) middle
+  pub right : Stands text rows middle (spelled text (c .body)) q
+
+pub clause-stands : (text : List ℕ) (before after : Rows) (c : Clause) → ClauseStands text (before ++ (clauseRows c ++ after)) (length before) c (length before + length (clauseRows c))
+clause-stands text before after c =
+    let first : List ℕ = clauseKind ∷ 0 ∷ 0 ∷ length (c .patterns) ∷ [] in
+    let head : Rows = before ++ (first ∷ []) in
+    let ps : Rows = rowsOfAll rowsOf (c .patterns) in
+    let b : Rows = rowsOf (c .body) in
+    let whole : Rows = before ++ (first ∷ ((ps ++ b) ++ after)) in
+    let h : length head ≡ length before + 1 = length-append before (first ∷ []) in
+    let k : length (ps ++ b) ≡ length ps + length b = length-append ps b in
+    let m : length (head ++ ps) ≡ length head + length ps = length-append head ps in
+    let w : length whole ≡ length before + suc (length ((ps ++ b) ++ after)) = length-append before (first ∷ ((ps ++ b) ++ after)) in
+    let a₁ : head ++ (ps ++ (b ++ after)) ≡ before ++ (first ∷ (ps ++ (b ++ after))) = append-assoc before (first ∷ []) (ps ++ (b ++ after)) in
+    let a₂ : (ps ++ b) ++ after ≡ ps ++ (b ++ after) = append-assoc ps b after in
+    let e : head ++ (ps ++ (b ++ after)) ≡ whole = a₁ ∙ ap (λ (r : Rows). before ++ (first ∷ r)) (sym a₂) in
+    let d : (head ++ ps) ++ (b ++ after) ≡ whole = append-assoc head ps (b ++ after) ∙ e in
+    let s : Stands text (head ++ (ps ++ (b ++ after))) (length head) (spelled text (allOf (c .patterns))) (length head + length ps) = terms-stand text head (b ++ after) (c .patterns) in
+    let t : Stands text ((head ++ ps) ++ (b ++ after)) (length (head ++ ps)) (spelled text (c .body)) (length (head ++ ps) + length b) = stands text (head ++ ps) after (c .body) in
+    let s₁ : Stands text whole (length before + 1) (spelled text (allOf (c .patterns))) (length before + 1 + length ps) = rw h at (rw e at s) in
+    let t₁ : Stands text whole (length before + 1 + length ps) (spelled text (c .body)) (length before + 1 + length ps + length b) = rw h at (rw m at (rw d at t)) in
+    let q : length before + 1 + length ps + length b ≡ length before + suc (length (ps ++ b)) = omega arith in
+    record {
+      within = omega arith;
+      row = getD-append-seam before first ((ps ++ b) ++ after) [];
+      middle = length before + 1 + length ps;
+      patterns = s₁;
+      right = rw q at t₁;
+    }

@@ -51,9 +51,11 @@ loop-again : tie.Need-loop-again Inv-loop μ-loop
 loop-again c =
     let loop = c .before .before .loop in
     let args = c .before .before .before .args in
-    let pre = c .before .before .before .pre in
-    (omega arith, rw ((loop .inv .1)) (column-written ((args .symbols .now)) ((args .i)) ((pre .0)) _ _ _
-        ∙ ap (set ((args .symbols .now)) ((args .i))) (sets-next (rowAt ((args .symbols .now)) ((args .i))) ((args .inputs .now)) 8 ((loop .j)) (omega arith))))
+    let pre = c .before .before .before .pre in (
+      omega arith,
+      rw ((loop .inv .1)) (column-written ((args .symbols .now)) ((args .i)) ((pre .0)) _ _ _
+          ∙ ap (set ((args .symbols .now)) ((args .i))) (sets-next (rowAt ((args .symbols .now)) ((args .i))) ((args .inputs .now)) 8 ((loop .j)) (omega arith))),
+    )
 
 same-length : tie.Need-same-length Inv-loop μ-loop
 same-length c = ap length ((c .before .loop .inv .1)) ∙ length-set ((c .before .before .args .symbols .now)) ((c .before .before .args .i)) _

@@ -28,7 +28,7 @@ same-length c =
     let pre = c .before .before .before .before .pre in
     let put-inputs = c .before .put-inputs in
     ap length (over ((args .symbols .now)) _ _ ((args .i)) ((pre .0)) _ (λ (x : List ℕ). sets x 8 (take ((args .n)) ((args .inputs .now)))) refl ((put-inputs .ensures)))
-        ∙ length-set ((args .symbols .now)) ((args .i)) _
+    ∙ length-set ((args .symbols .now)) ((args .i)) _
 
 returns : tie.Need-returns
 returns c =
