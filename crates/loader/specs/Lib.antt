@@ -2,4 +2,5 @@
 pub mod Signature
 pub mod Rows
 pub mod TermRows
+pub mod Growth
 mod Examples
