@@ -3,4 +3,5 @@ pub mod Signature
 pub mod Rows
 pub mod TermRows
 pub mod Growth
+pub mod Holding
 mod Examples
