@@ -4,4 +4,5 @@ pub mod Rows
 pub mod TermRows
 pub mod Growth
 pub mod Holding
+pub mod Entering
 mod Examples

@@ -10,8 +10,14 @@ ghost use lib.Seq.{sets};
 ghost use Rattle.names.specs.Symbols.{rowAt, sortsOf, symbolsOf};
 ghost use Rattle.loader.specs.Signature.{isTaken, sortRefusal, symbolRefusal};
 ghost use Rattle.loader.specs.Rows.{symbolRow, entered};
+ghost use Rattle.loader.specs.Entering.{RuleAsked, RuleEntered};
+use clauses::Outcome;
 use names::SortRow;
 use names::SymbolRow;
+use patterns::TermRow;
+use rules::Entered;
+use rules::RuleRow;
+use rules::Title;
 
 // Why a declaration is refused (document 01, the table by place).
 pub const ALREADY_DECLARED: u32 = 17;
@@ -150,4 +156,56 @@ pub fn put_symbol(
         0,
     ];
     put_inputs(symbols, i, inputs, n);
+}
+
+// Enters a rule whose name stands at a place and whose k judgments stand from a row on, as the rule with a number.
+pub fn enter_rule(
+    text: &[u8],
+    rows: &[TermRow],
+    at: usize,
+    k: usize,
+    start: u32,
+    size: u32,
+    symbols: &[SymbolRow],
+    count: usize,
+    words: &mut [u32],
+    used: usize,
+    room: usize,
+    rules: &mut [RuleRow],
+    number: usize,
+) -> Outcome
+    requires { ⌜ RuleAsked (now text) (now rows) at k (now symbols) count (now words) used room (now rules) ⌝ }
+    ensures { λ r. ⌜ RuleEntered (now (text .entry)) (now (rows .entry)) at k start size (symbolsOf (now (text .entry)) (now (symbols .entry)) count) (now (words .entry)) used room (now (rules .entry)) number r (now (words .exit)) (now (rules .exit)) ⌝ }
+{
+    let n = k - 1;
+    let here = clauses::skip(rows, at, n);
+    let next = clauses::skip(rows, here, 1);
+    let title = Title {
+        start: start,
+        size: size,
+        clause: 0,
+    };
+    match rules::rule(
+        text,
+        rows,
+        at,
+        n,
+        rows,
+        here,
+        symbols,
+        count,
+        words,
+        used,
+        room,
+        rules,
+        number,
+        title,
+    ) {
+        Entered::Refused { number: e } => Outcome::Refused { number: e },
+        Entered::Done { used: u, room: m } => Outcome::Done {
+            next: next,
+            used: u,
+            room: m,
+        },
+    }
 }
