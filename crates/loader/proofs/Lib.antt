@@ -1,3 +1,4 @@
 -- The laws that several proofs cite.
 pub mod EntryLaws
 pub mod JudgmentLaws
+pub mod ArrowLaws

@@ -5,4 +5,5 @@ pub mod TermRows
 pub mod Growth
 pub mod Holding
 pub mod Entering
+pub mod Arrows
 mod Examples

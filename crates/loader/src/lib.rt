@@ -1,16 +1,17 @@
-// The loader: from declarations to a signature. Its definition is `loadOf` in specs/Signature; here are the functions that enter sorts and symbols.
+// The loader: from declarations to a signature. Its definition is `loadOf` in specs/Signature; here are the functions that enter sorts, symbols and rules.
 //
 // All functions here serve the crates above: they ask for storage of the listed sizes.
 ghost use mathlib.Core.Path.{_≡_};
 ghost use mathlib.Core.List.{[], _∷_};
-ghost use Prim.Native.Nat.{_≤_, _<_};
+ghost use Prim.Native.Nat.{_+_, _≤_, _<_};
 ghost use lib.ListN.{length, take, set};
 ghost use Rattle.words.specs.Lexer.{partOf};
 ghost use lib.Seq.{sets};
 ghost use Rattle.names.specs.Symbols.{rowAt, sortsOf, symbolsOf};
-ghost use Rattle.loader.specs.Signature.{isTaken, sortRefusal, symbolRefusal};
+ghost use Rattle.loader.specs.Signature.{isTaken, sortRefusal, symbolRefusal, numbersOf};
 ghost use Rattle.loader.specs.Rows.{symbolRow, entered};
 ghost use Rattle.loader.specs.Entering.{RuleAsked, RuleEntered};
+ghost use Rattle.loader.specs.Arrows.{namesAt, Arrowing};
 use clauses::Outcome;
 use names::SortRow;
 use names::SymbolRow;
@@ -156,6 +157,49 @@ pub fn put_symbol(
         0,
     ];
     put_inputs(symbols, i, inputs, n);
+}
+
+// What came of the sorts of an arrow: one is unknown; or the number of the last.
+pub enum Arrow {
+    Unknown,
+    Known { last: u32 },
+}
+
+// Writes an input, if there is room for it.
+fn put_input(inputs: &mut [u32], i: usize, v: u32)
+    ensures { λ _. ⌜ now (inputs .exit) ≡ set (now (inputs .entry)) i v ⌝ }
+{
+    if i < inputs.len() {
+        inputs[i] = v;
+    }
+}
+
+// Looks up the sorts whose names stand in k rows from a row on; the numbers of the first 16 go to `inputs`.
+pub fn find_arrow(
+    text: &[u8],
+    rows: &[TermRow],
+    at: usize,
+    k: usize,
+    sorts: &[SortRow],
+    many: usize,
+    inputs: &mut [u32],
+) -> Arrow
+    requires { ⌜ (many ≤ length (now sorts)) × (many ≤ 256) × (at + k ≤ length (now rows)) × (length (now rows) ≤ 65536) × (length (now inputs) ≡ 16) ⌝ }
+    ensures { λ r. ⌜ Arrowing (numbersOf (sortsOf (now (text .entry)) (now (sorts .entry)) many) (namesAt (now (text .entry)) (now (rows .entry)) at k)) r (now (inputs .exit)) k ⌝ }
+{
+    let mut last = 0;
+    let mut i = 0;
+    while i < k {
+        let w = names::part(text, rows[at + i][1], rows[at + i][2]);
+        let s = names::find_sort(text, sorts, many, w);
+        if many <= s {
+            return Arrow::Unknown;
+        }
+        last = s as u32 + 1;
+        put_input(inputs, i, last);
+        i += 1;
+    }
+    Arrow::Known { last }
 }
 
 // Enters a rule whose name stands at a place and whose k judgments stand from a row on, as the rule with a number.
