@@ -6,4 +6,5 @@ pub mod Growth
 pub mod Holding
 pub mod Entering
 pub mod Arrows
+pub mod NameRows
 mod Examples
