@@ -2,3 +2,4 @@
 pub mod EntryLaws
 pub mod JudgmentLaws
 pub mod ArrowLaws
+pub mod SymbolLaws

@@ -7,4 +7,5 @@ pub mod Holding
 pub mod Entering
 pub mod Arrows
 pub mod NameRows
+pub mod SymbolEntry
 mod Examples

@@ -3,15 +3,17 @@
 // All functions here serve the crates above: they ask for storage of the listed sizes.
 ghost use mathlib.Core.Path.{_≡_};
 ghost use mathlib.Core.List.{[], _∷_};
-ghost use Prim.Native.Nat.{_+_, _≤_, _<_};
+ghost use Prim.Native.Nat.{_+_, _-_, _≤_, _<_};
 ghost use lib.ListN.{length, take, set};
 ghost use Rattle.words.specs.Lexer.{partOf};
 ghost use lib.Seq.{sets};
-ghost use Rattle.names.specs.Symbols.{rowAt, sortsOf, symbolsOf};
+ghost use Rattle.names.specs.Symbols.{column, rowAt, sortsOf, symbolsOf};
+ghost use mathlib.Core.Bool.{cond};
 ghost use Rattle.loader.specs.Signature.{isTaken, sortRefusal, symbolRefusal, numbersOf};
 ghost use Rattle.loader.specs.Rows.{symbolRow, entered};
 ghost use Rattle.loader.specs.Entering.{RuleAsked, RuleEntered};
 ghost use Rattle.loader.specs.Arrows.{namesAt, Arrowing};
+ghost use Rattle.loader.specs.SymbolEntry.{SymbolEntered};
 use clauses::Outcome;
 use names::SortRow;
 use names::SymbolRow;
@@ -22,6 +24,8 @@ use rules::Title;
 
 // Why a declaration is refused (document 01, the table by place).
 pub const ALREADY_DECLARED: u32 = 17;
+
+pub const UNKNOWN_SORT: u32 = 18;
 
 pub const FULL: u32 = 28;
 
@@ -200,6 +204,70 @@ pub fn find_arrow(
         i += 1;
     }
     Arrow::Known { last }
+}
+
+// How many of k sorts are inputs: a constructor's last is its output.
+fn input_count(constructor: bool, k: usize) -> usize
+    requires { ⌜ 0 < k ⌝ }
+    ensures { λ r. ⌜ r ≡ cond constructor (k - 1) k ⌝ }
+{
+    if constructor {
+        return k - 1;
+    }
+    k
+}
+
+// The output of a symbol whose last sort has a number.
+fn output(constructor: bool, last: u32) -> u32
+    ensures { λ r. ⌜ r ≡ cond constructor last 0 ⌝ }
+{
+    if constructor { last } else { 0 }
+}
+
+// Enters a symbol whose name stands in a row and whose k sorts stand in the rows behind it; answers what it is refused for, 0 for nothing.
+pub fn enter_symbol(
+    text: &[u8],
+    rows: &[TermRow],
+    at: usize,
+    k: usize,
+    constructor: bool,
+    function: u32,
+    first: u32,
+    clauses: u32,
+    sorts: &[SortRow],
+    many: usize,
+    symbols: &mut [SymbolRow],
+    count: usize,
+) -> u32
+    requires { ⌜ (0 < k) × (at + 1 + k ≤ length (now rows)) × (length (now rows) ≤ 65536) × (many ≤ length (now sorts)) × (many ≤ 256) × (count ≤ 1024) × (1024 ≤ length (now symbols)) ⌝ }
+    ensures { λ r. ⌜ SymbolEntered (now (text .entry)) (now (rows .entry)) (at + 1) k (partOf (now (text .entry)) (column (rowAt (now (rows .entry)) at) 1) (column (rowAt (now (rows .entry)) at) 2)) constructor function first clauses (now (sorts .entry)) many (now (symbols .entry)) count r (now (symbols .exit)) ⌝ }
+{
+    let mut inputs = [0u32; 16];
+    match find_arrow(text, rows, at + 1, k, sorts, many, &mut inputs) {
+        Arrow::Unknown => UNKNOWN_SORT,
+        Arrow::Known { last } => {
+            let start = rows[at][1];
+            let size = rows[at][2];
+            let n = input_count(constructor, k);
+            let e = symbol_refusal(text, sorts, many, symbols, count, start, size, n);
+            if e != 0 {
+                return e;
+            }
+            put_symbol(
+                symbols,
+                count,
+                start,
+                size,
+                output(constructor, last),
+                function,
+                first,
+                clauses,
+                &inputs,
+                n,
+            );
+            0
+        }
+    }
 }
 
 // Enters a rule whose name stands at a place and whose k judgments stand from a row on, as the rule with a number.
