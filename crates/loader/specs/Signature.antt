@@ -129,7 +129,7 @@ module _ (limit : ℕ) (text : List ℕ) where
   enterClauses s f n [] = on s
   enterClauses s f n (c ∷ cs) = andThen (enterClause s f n c) (λ t. enterClauses t f (suc n) cs)
 
-  -- A rule of these judgments, the last of which is its conclusion.
+  -- A rule of these judgments, the last of which is its conclusion. (The parser reads at least one.)
   abbrev pub enterJudgments : Signature → Name → List (Source one) → Step
   enterJudgments s name [] = no 0
   enterJudgments s name (j ∷ js) = enterRule s name (spelled text (allOf (frontOf (j ∷ js)))) (spelled text (lastJudgment j js))

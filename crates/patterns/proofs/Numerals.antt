@@ -131,10 +131,6 @@ module _ (text : List ℕ) (sr : Rows) (n : ℕ) (hs : n ≤ length sr) (v s : �
     zero-pred o = let b : column (rowAt sr z) 2 ≤ 0 = omega arith in simp (← ez, all-symbols, lt-ltb z n lz, symbol-at text sr n hs z lz, le-ltb 0 (column (rowAt sr z) 2) b)
 
     module _ (oz : column (rowAt sr z) 2 ≡ 0 → ⊥) (ey : y ≡ symbolNumber (symbolsOf text sr n) succName) where
-      isz : isCtor (symbolsOf text sr n) zeroName ≡ true
-      unfolding symbolOf
-      isz = let b : 0 < column (rowAt sr z) 2 = omega arith in simp (← ez, all-symbols, lt-ltb z n lz, symbol-at text sr n hs z lz, lt-ltb 0 (column (rowAt sr z) 2) b)
-
       pub no-succ : n ≤ y → no 26 ≡ stored [] (patternOf (symbolsOf text sr n) (number v) (s ∷ []) vs m) w u
       unfolding patternOf symbolOf
       no-succ l = let zb : 0 < column (rowAt sr z) 2 = omega arith in simp (← ez, all-symbols, lt-ltb z n lz, symbol-at text sr n hs z lz, lt-ltb 0 (column (rowAt sr z) 2) zb, ← ey, le-ltb y n l)
@@ -145,10 +141,6 @@ module _ (text : List ℕ) (sr : Rows) (n : ℕ) (hs : n ≤ length sr) (v s : �
         succ-pred o = let zb : 0 < column (rowAt sr z) 2 = omega arith in let b : column (rowAt sr y) 2 ≤ 0 = omega arith in simp (← ez, all-symbols, lt-ltb z n lz, symbol-at text sr n hs z lz, lt-ltb 0 (column (rowAt sr z) 2) zb, ← ey, lt-ltb y n ly, symbol-at text sr n hs y ly, le-ltb 0 (column (rowAt sr y) 2) b)
 
         module _ (oy : column (rowAt sr y) 2 ≡ 0 → ⊥) where
-          isy : isCtor (symbolsOf text sr n) succName ≡ true
-          unfolding symbolOf
-          isy = let b : 0 < column (rowAt sr y) 2 = omega arith in simp (← ey, all-symbols, lt-ltb y n ly, symbol-at text sr n hs y ly, lt-ltb 0 (column (rowAt sr y) 2) b)
-
           it-is : patternOf (symbolsOf text sr n) (number v) (s ∷ []) vs m ≡ chain (symbolsOf text sr n) y z v s vs m
           unfolding patternOf symbolOf
           it-is = let zb : 0 < column (rowAt sr z) 2 = omega arith in let yb : 0 < column (rowAt sr y) 2 = omega arith in simp (← ez, all-symbols, lt-ltb z n lz, symbol-at text sr n hs z lz, lt-ltb 0 (column (rowAt sr z) 2) zb, ← ey, lt-ltb y n ly, symbol-at text sr n hs y ly, lt-ltb 0 (column (rowAt sr y) 2) yb)

@@ -18,7 +18,7 @@ use Rattle.names.specs.Symbols.{Rows, column, columns}
 use Rattle.rules.specs.LayingLaws.{RuleLying, lying-one, records-placed}
 use Rattle.rules.specs.CountLaws.{all-count, all-below}
 use Rattle.rules.specs.StoredRows.{titled, headsIn, placesIn, Kept}
-use Rattle.rules.specs.Contracts.{most, Met1, OrderAsked, Ordered}
+use Rattle.rules.specs.Contracts.{most, RootAsked, OrderAsked, Ordered}
 use Rattle.rules.specs.declared.Counts.{Counts}
 use Rattle.rules.proofs.ColumnLaws.{number-at, heads-at, heads-past, sorts-at, sorts-past, places-at, places-past, filled}
 
@@ -42,12 +42,12 @@ module _ (n : ℕ) (heads : List ℕ) {arities : List ℕ} {R : Rule} {pattern :
   premises-are = lying .premises .denotes
 
   module _ (small : used ≤ from + most) (up : from ≤ middle) (lent : n ≤ length heads) where
-    head-met : Met1 pattern used conclusion
+    head-met : RootAsked pattern used conclusion
     head-met =
         let u = lying .conclusion .used in
         record { root = lying .conclusion .reference 0 (omega arith); small = rw conclusion-is (omega arith) }
 
-    body-met : (i : ℕ) → i < n → Met1 pattern used (getD heads i 0)
+    body-met : (i : ℕ) → i < n → RootAsked pattern used (getD heads i 0)
     body-met i l =
         let k : i < length (take n heads) = rw (length-take-le n heads lent) l in
         let e : getD (take n heads) i 0 ≡ getD heads i 0 = getD-take n heads i 0 l in

@@ -62,7 +62,7 @@ abbrev pub most : ℕ
 most = 2048
 
 -- What a walk asks beside the table: words in form, and a reference to a term that is not too large.
-pub record Met1 (pattern : List ℕ) (used r : ℕ) : Type 0 where
+pub record RootAsked (pattern : List ℕ) (used r : ℕ) : Type 0 where
   pub root : Reference patternRoom (cells pattern) patternRoom used r
   pub small : words (termOf pattern r) ≤ most
 
@@ -77,8 +77,8 @@ pub record Walkable (pattern : List ℕ) (used : ℕ) (table : List ℕ) (stack 
 pub record OrderAsked (pattern : List ℕ) (used : ℕ) (heads : List ℕ) (n conclusion : ℕ) (table : List ℕ) (stack : arena.Rows) : Type 0 where
   pub walkable : Walkable pattern used table stack
   pub lent : n ≤ length heads
-  pub head : Met1 pattern used conclusion
-  pub body : (i : ℕ) → i < n → Met1 pattern used (getD heads i 0)
+  pub head : RootAsked pattern used conclusion
+  pub body : (i : ℕ) → i < n → RootAsked pattern used (getD heads i 0)
   pub blank : (x : ℕ) → x < patternRoom → getD table x 0 ≡ patternRoom
 
 -- What it owes: the variables of the conclusion counted, and the places of all in the table.

@@ -13,7 +13,7 @@ ghost use Rattle.resolution.specs.Fresh.{met};
 ghost use Rattle.patterns.specs.Contracts.{Ready};
 ghost use Rattle.rules.specs.Rules.{allKnown};
 ghost use Rattle.rules.specs.StoredRows.{ruleRow};
-ghost use Rattle.rules.specs.Contracts.{Judging, Met1, Walkable, OrderAsked, Ordered, Keeping, KeepAsked, RuleAsked, RuleEntered};
+ghost use Rattle.rules.specs.Contracts.{Judging, RootAsked, Walkable, OrderAsked, Ordered, Keeping, KeepAsked, RuleAsked, RuleEntered};
 use names::SymbolRow;
 use names::VariableRow;
 use patterns::Made;
@@ -144,7 +144,7 @@ fn walk(
     count: u32,
     stack: &mut [[u32; 2]],
 ) -> u32
-    requires { ⌜ Walkable (now words) used (now places) (now stack) ⌝ ∗ ⌜ Met1 (now words) used reference ⌝ ∗ ⌜ ((e : List ℕ) × Records e (now places) count) ⌝ }
+    requires { ⌜ Walkable (now words) used (now places) (now stack) ⌝ ∗ ⌜ RootAsked (now words) used reference ⌝ ∗ ⌜ ((e : List ℕ) × Records e (now places) count) ⌝ }
     ensures { λ r. ⌜ ((e : List ℕ) → Records e (now (places .entry)) count → Records (met (termOf (now (words .entry)) reference) e) (now (places .exit)) r) ⌝ }
 {
     match meeting::meet(words, reference, used, places, count, MOST, stack) {
