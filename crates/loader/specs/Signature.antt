@@ -79,6 +79,11 @@ abbrev pub withSorts : Numbers → (List ℕ → Step) → Step
 withSorts unknown next = no 18
 withSorts (numbers ns) next = next ns
 
+-- The arrow of a constructor or a function has at least one sort. (The parser reads none without.)
+abbrev pub withSome : List ℕ → Step → Step
+withSome [] next = no 0
+withSome (n ∷ ns) next = next
+
 -- The last of a list, and what stands before it.
 abbrev pub lastOf : List ℕ → ℕ
 lastOf [] = 0
@@ -137,14 +142,14 @@ module _ (limit : ℕ) (text : List ℕ) where
   -- One declaration.
   abbrev pub declare : Signature → Declaration → Step
   declare s (sort p) = enterSort s (bytesAt text p)
-  declare s (ctor p ss) = withSorts (numbersOf (s .sorts) (map (bytesAt text) ss)) (λ ns. enterSymbol s (record
-      { name = bytesAt text p; inputs = frontOf ns; output = lastOf ns; function = 0; first = 0; clauses = 0 }))
+  declare s (ctor p ss) = withSorts (numbersOf (s .sorts) (map (bytesAt text) ss)) (λ ns. withSome ns (enterSymbol s (record
+      { name = bytesAt text p; inputs = frontOf ns; output = lastOf ns; function = 0; first = 0; clauses = 0 })))
   declare s (pred p ss) = withSorts (numbersOf (s .sorts) (map (bytesAt text) ss)) (λ ns. enterSymbol s (record
       { name = bytesAt text p; inputs = ns; output = 0; function = 0; first = 0; clauses = 0 }))
   declare s (rule p js) = enterJudgments s (bytesAt text p) js
-  declare s (def p ss cs) = withSorts (numbersOf (s .sorts) (map (bytesAt text) ss)) (λ ns. andThen (enterSymbol s (record
+  declare s (def p ss cs) = withSorts (numbersOf (s .sorts) (map (bytesAt text) ss)) (λ ns. withSome ns (andThen (enterSymbol s (record
       { name = bytesAt text p; inputs = ns; output = 0; function = 1; first = firstOf s cs; clauses = length cs }))
-      (λ t. enterClauses t (bytesAt text p) 0 cs))
+      (λ t. enterClauses t (bytesAt text p) 0 cs)))
   declare s (theorem p bs js t) = no 27
   declare s (eval t) = on s
   declare s (check t) = no 27
