@@ -75,56 +75,22 @@ output-is : (c : Bool) (ns : List ℕ) (last : ℕ) → last ≡ lastOf ns → c
 output-is true ns last e = e
 output-is false ns last e = refl
 
--- What the row means.
-module _ (text : List ℕ) (start size function first clauses k : ℕ) (c : Bool) (ns inputs : List ℕ) (last : ℕ) (number : length ns ≡ k) (last-is : last ≡ lastOf ns) (lent : length inputs ≡ 16)
-    (few : cond c (k - 1) k ≤ 16) (written : (n : ℕ) → n ≤ 16 → n ≤ k → take n inputs ≡ take n ns) (some : 0 < k) where
-  abbrev n : ℕ
-  n = cond c (k - 1) k
-
+-- The row as it is written is the one of the numbers.
+module _ (start size function first clauses k : ℕ) (c : Bool) (ns inputs : List ℕ) (last : ℕ) (number : length ns ≡ k) (last-is : last ≡ lastOf ns)
+    (few : cond c (k - 1) k ≤ 16) (written : (n : ℕ) → n ≤ 16 → n ≤ k → take n inputs ≡ take n ns) where
   within : (b : Bool) → cond b (k - 1) k ≤ k
   within true = omega arith
   within false = omega arith
 
-  abbrev line : List ℕ
-  line = start ∷ size ∷ cond c last 0 ∷ function ∷ first ∷ clauses ∷ n ∷ 0 ∷ 0 ∷ 0 ∷ 0 ∷ 0 ∷ 0 ∷ 0 ∷ 0 ∷ 0 ∷ 0 ∷ 0 ∷ 0 ∷ 0 ∷ 0 ∷ 0 ∷ 0 ∷ 0 ∷ []
-
-  abbrev pub made : List ℕ
-  made = symbolRow start size (cond c last 0) function first clauses n (take n inputs)
-
-  at : (j : ℕ) → j < 8 → column made j ≡ column line j
-  at j l = sets-below (take n inputs) line 8 j l
-
-  pub made-count : column made 6 ≤ 16
-  made-count = let e : column made 6 ≡ n = at 6 (omega arith) in omega arith
-
-  long : length (take n inputs) ≡ n
-  long = length-take-le n inputs (omega arith)
-
-  inputs-of : columns made 8 (column made 6) ≡ inputsOf c ns
-  inputs-of =
-      let l = long in
-      ap (columns made 8) (at 6 (omega arith) ∙ sym long)
-      ∙ columns-are made (take n inputs) 8 (λ j m. sets-within (take n inputs) line 8 j m (omega arith))
-      ∙ written n few (within c) ∙ inputs-are c ns k number
-
-  pub made-means : symbolOf text made ≡ symbolNamed c (partOf text start size) function first clauses ns
-  unfolding symbolOf
-  made-means =
-      let a0 : column made 0 ≡ start = at 0 (omega arith) in
-      let a1 : column made 1 ≡ size = at 1 (omega arith) in
-      let a2 : column made 2 ≡ outputOf c ns = at 2 (omega arith) ∙ output-is c ns last last-is in
-      let a3 : column made 3 ≡ function = at 3 (omega arith) in
-      let a4 : column made 4 ≡ first = at 4 (omega arith) in
-      let a5 : column made 5 ≡ clauses = at 5 (omega arith) in
-      let nm : partOf text (column made 0) (column made 1) ≡ partOf text start size = ap₂ (partOf text) a0 a1 in
-      let is = inputs-of in
-      cc
-
--- One symbol more.
-pub symbols-more : (text : List ℕ) (symbols symbols′ : Rows) (count : ℕ) (row : List ℕ) → count < length symbols → symbols′ ≡ set symbols count row
-    → symbolsOf text symbols′ (count + 1) ≡ symbolsOf text symbols count ++ (symbolOf text row ∷ [])
-unfolding symbolsOf
-symbols-more text symbols symbols′ count row l e = rw e (table-more (symbolOf text) symbols count row l)
+  pub row-is : symbolRow start size (cond c last 0) function first clauses (cond c (k - 1) k) (take (cond c (k - 1) k) inputs)
+      ≡ symbolRow start size (outputOf c ns) function first clauses (length (inputsOf c ns)) (inputsOf c ns)
+  row-is =
+      let o : cond c last 0 ≡ outputOf c ns = output-is c ns last last-is in
+      let n : length (inputsOf c ns) ≡ cond c (k - 1) k = inputs-count c ns k number in
+      let i : take (cond c (k - 1) k) inputs ≡ inputsOf c ns = written (cond c (k - 1) k) few (within c) ∙ inputs-are c ns k number in
+      ap (λ (x : ℕ). symbolRow start size x function first clauses (cond c (k - 1) k) (take (cond c (k - 1) k) inputs)) o
+      ∙ ap (λ (x : List ℕ). symbolRow start size (outputOf c ns) function first clauses (cond c (k - 1) k) x) i
+      ∙ ap (λ (x : ℕ). symbolRow start size (outputOf c ns) function first clauses x (inputsOf c ns)) (sym n)
 
 -- A symbol that is not refused has few inputs, and there are not too many symbols.
 pub not-refused : (sorts : List Name) (symbols : List Symbol) (w : Name) (k : ℕ) → symbolRefusal sorts symbols w k ≡ 0 → (k ≤ 16) × (length symbols < 1024)

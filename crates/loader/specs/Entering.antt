@@ -45,5 +45,5 @@ pub record RuleAsked (text : List ℕ) (rows : Rows) (p k : ℕ) (symbols : Rows
 pub record RuleEntered (text : List ℕ) (rows : Rows) (p k start size : ℕ) (symbols : List Symbol) (w : List ℕ) (u room : ℕ) (rules : Rows) (number : ℕ)
     (r : Outcome) (w′ : List ℕ) (rules′ : Rows) : Type 0 where
   pub same : (j : Source one) (js : List (Source one)) (q : ℕ) → JudgmentsStand text rows p j js q → k ≡ length (j ∷ js)
-      → NextIs q r × Entering text (aritiesOf symbols) w u room rules number w′ rules′
+      → NextIs q r × Entering text (aritiesOf symbols) (record { start = start; size = size; clause = 0 }) w u room rules number w′ rules′
       (entering number (ruleOf symbols (partOf text start size) (spelled text (allOf (frontOf (j ∷ js)))) (spelled text (lastJudgment j js)) room)) (entered r)

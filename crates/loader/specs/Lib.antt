@@ -8,5 +8,6 @@ pub mod Holding
 pub mod Entering
 pub mod Arrows
 pub mod NameRows
+pub mod SymbolRows
 pub mod SymbolEntry
 mod Examples

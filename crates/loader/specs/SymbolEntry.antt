@@ -1,12 +1,14 @@
 -- A symbol entered by its arrow (document 01, "Terms and declarations"): a constructor's last sort is its output; a predicate and a function have all sorts as inputs.
-use Prim.Native.Nat.{ℕ, _+_, _≤_}
+use Prim.Native.Nat.{ℕ}
 use mathlib.Core.Path.{_≡_}
 use mathlib.Core.Bool.{Bool, true, false}
-use mathlib.Core.List.{List, [], _∷_, _++_}
+use mathlib.Core.List.{List}
 use lib.ListN.{length, set}
 use Rattle.names.specs.Names.{Name}
-use Rattle.names.specs.Symbols.{Rows, Symbol, column, sortsOf, symbolsOf}
+use Rattle.words.specs.Lexer.{partOf}
+use Rattle.names.specs.Symbols.{Rows, Symbol, sortsOf, symbolsOf}
 use Rattle.loader.specs.Signature.{Numbers, unknown, numbers, numbersOf, frontOf, lastOf, symbolRefusal}
+use Rattle.loader.specs.Rows.{symbolRow}
 use Rattle.loader.specs.Arrows.{namesAt}
 
 abbrev pub inputsOf : Bool → List ℕ → List ℕ
@@ -27,10 +29,9 @@ arrowRefusal sorts symbols w constructor unknown = 18
 arrowRefusal sorts symbols w constructor (numbers ns) = symbolRefusal sorts symbols w (length (inputsOf constructor ns))
 
 -- What `enter_symbol` owes: the refusal; and without one the symbol behind the others, in a row of its own.
-pub record SymbolEntered (text : List ℕ) (rows : Rows) (p k : ℕ) (w : Name) (constructor : Bool) (function first clauses : ℕ) (sorts : Rows) (many : ℕ) (symbols : Rows) (count r : ℕ)
+pub record SymbolEntered (text : List ℕ) (rows : Rows) (p k start size : ℕ) (constructor : Bool) (function first clauses : ℕ) (sorts : Rows) (many : ℕ) (symbols : Rows) (count r : ℕ)
     (symbols′ : Rows) : Type 0 where
-  pub refusal : r ≡ arrowRefusal (sortsOf text sorts many) (symbolsOf text symbols count) w constructor (numbersOf (sortsOf text sorts many) (namesAt text rows p k))
+  pub refusal : r ≡ arrowRefusal (sortsOf text sorts many) (symbolsOf text symbols count) (partOf text start size) constructor (numbersOf (sortsOf text sorts many) (namesAt text rows p k))
   pub refused : (r ≡ 0 → ⊥) → symbols′ ≡ symbols
   pub entered : r ≡ 0 → (ns : List ℕ) → numbersOf (sortsOf text sorts many) (namesAt text rows p k) ≡ numbers ns
-      → (row : List ℕ) × (symbols′ ≡ set symbols count row) × (column row 6 ≤ 16)
-      × (symbolsOf text symbols′ (count + 1) ≡ symbolsOf text symbols count ++ (symbolNamed constructor w function first clauses ns ∷ []))
+      → symbols′ ≡ set symbols count (symbolRow start size (outputOf constructor ns) function first clauses (length (inputsOf constructor ns)) (inputsOf constructor ns))

@@ -208,10 +208,12 @@ pub fn find_arrow(
 
 // How many of k sorts are inputs: a constructor's last is its output.
 fn input_count(constructor: bool, k: usize) -> usize
-    requires { ⌜ 0 < k ⌝ }
     ensures { λ r. ⌜ r ≡ cond constructor (k - 1) k ⌝ }
 {
     if constructor {
+        if k == 0 {
+            return 0;
+        }
         return k - 1;
     }
     k
@@ -239,8 +241,8 @@ pub fn enter_symbol(
     symbols: &mut [SymbolRow],
     count: usize,
 ) -> u32
-    requires { ⌜ (0 < k) × (at + 1 + k ≤ length (now rows)) × (length (now rows) ≤ 65536) × (many ≤ length (now sorts)) × (many ≤ 256) × (count ≤ 1024) × (1024 ≤ length (now symbols)) ⌝ }
-    ensures { λ r. ⌜ SymbolEntered (now (text .entry)) (now (rows .entry)) (at + 1) k (partOf (now (text .entry)) (column (rowAt (now (rows .entry)) at) 1) (column (rowAt (now (rows .entry)) at) 2)) constructor function first clauses (now (sorts .entry)) many (now (symbols .entry)) count r (now (symbols .exit)) ⌝ }
+    requires { ⌜ (at + 1 + k ≤ length (now rows)) × (length (now rows) ≤ 65536) × (many ≤ length (now sorts)) × (many ≤ 256) × (count ≤ 1024) × (1024 ≤ length (now symbols)) ⌝ }
+    ensures { λ r. ⌜ SymbolEntered (now (text .entry)) (now (rows .entry)) (at + 1) k (column (rowAt (now (rows .entry)) at) 1) (column (rowAt (now (rows .entry)) at) 2) constructor function first clauses (now (sorts .entry)) many (now (symbols .entry)) count r (now (symbols .exit)) ⌝ }
 {
     let mut inputs = [0u32; 16];
     match find_arrow(text, rows, at + 1, k, sorts, many, &mut inputs) {

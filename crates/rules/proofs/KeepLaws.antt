@@ -17,7 +17,7 @@ use Rattle.meeting.specs.Contract.{termOf}
 use Rattle.names.specs.Symbols.{Rows, column, columns}
 use Rattle.rules.specs.LayingLaws.{RuleLying, lying-one, records-placed}
 use Rattle.rules.specs.CountLaws.{all-count, all-below}
-use Rattle.rules.specs.StoredRows.{titled, headsIn, placesIn, Kept}
+use Rattle.rules.specs.StoredRows.{titled, ruleRow, headsIn, placesIn, Kept}
 use Rattle.rules.specs.Contracts.{most, RootAsked, OrderAsked, Ordered}
 use Rattle.rules.specs.declared.Counts.{Counts}
 use Rattle.rules.proofs.ColumnLaws.{number-at, heads-at, heads-past, sorts-at, sorts-past, places-at, places-past, filled}
@@ -135,3 +135,11 @@ module _ (n : ℕ) (heads : List ℕ) {arities : List ℕ} {R : Rule} {pattern :
           sorts-clear = λ j l k. sorts-past numbers (take n heads) sorts (take v table′) refl (rw heads-long n-few) (rw many v-few) (rw places-long v-few) j (omega arith) k;
           places-clear = λ j l k. places-past numbers (take n heads) sorts (take v table′) refl (rw heads-long n-few) (rw many v-few) (rw places-long v-few) j (omega arith) k;
         }
+
+-- The numbers at the row's beginning.
+pub title-at : (n v : ℕ) (numbers heads sorts table : List ℕ) → length numbers ≡ 10 → n ≤ 16 → n ≤ length heads → length sorts ≡ v → v ≤ 64 → length table ≡ 64 → (k : ℕ) → k < 10
+    → column (ruleRow numbers (take n heads) sorts (take v table)) k ≡ getD numbers k 0
+title-at n v numbers heads sorts table ten few lent many small long k l =
+    let a : length (take n heads) ≡ n = length-take-le n heads lent in
+    let b : length (take v table) ≡ v = length-take-le v table (omega arith) in
+    number-at numbers (take n heads) sorts (take v table) ten (omega arith) (omega arith) (omega arith) k l

@@ -103,6 +103,7 @@ pub record KeepAsked (pattern : List ℕ) (from middle used : ℕ) (heads : List
 pub record Keeping (pattern : List ℕ) (from middle used : ℕ) (heads : List ℕ) (n conclusion : ℕ) (variables : Rows) (v : ℕ) (title : Title) (rules : Rows) (i : ℕ) (rules′ : Rows) : Type 0 where
   pub row : List ℕ
   pub written : rules′ ≡ set rules i row
+  pub placed : (column row 0 ≡ title .start) × (column row 1 ≡ title .size)
   pub kept : (text arities : List ℕ) (R : Rule) → RuleLying arities R pattern from (take n heads) middle conclusion used
       → titled text (title .start) (title .size) (title .clause) ≡ R .name → map (λ x. x .sort) (variablesOf text variables v) ≡ R .sorts
       → met (R .conclusion) (met (R .premises) []) ≡ numbersBelow (length (R .sorts))
@@ -131,23 +132,24 @@ pub record RuleAsked (text : List ℕ) (premises : Rows) (p n : ℕ) (conclusion
   pub small : room ≤ 1024
   pub rows : 1024 ≤ length rules
 
--- A rule was entered: its row and its words keep it, and no earlier word changed.
-pub record RuleDone (text arities w : List ℕ) (u room : ℕ) (rules : Rows) (number : ℕ) (w′ : List ℕ) (rules′ : Rows) (R : Rule) (room′ : ℕ) (r : Entered) : Type 0 where
+-- A rule was entered: its row and its words keep it, its name stands at the title's place, and no earlier word changed.
+pub record RuleDone (text arities : List ℕ) (title : Title) (w : List ℕ) (u room : ℕ) (rules : Rows) (number : ℕ) (w′ : List ℕ) (rules′ : Rows) (R : Rule) (room′ : ℕ) (r : Entered) : Type 0 where
   pub used : ℕ
   pub is : r ≡ Entry used room′
   pub row : List ℕ
   pub written : rules′ ≡ set rules number row
+  pub placed : (column row 0 ≡ title .start) × (column row 1 ≡ title .size)
   pub kept : Kept text arities w′ row R u used
   pub same : Same patternRoom (cells w) (cells w′) u
   pub fits : used + 2 * room′ ≤ u + 2 * room
 
 -- What the definition says, and what the code answers and leaves.
-abbrev pub Entering : List ℕ → List ℕ → List ℕ → ℕ → ℕ → Rows → ℕ → List ℕ → Rows → Ruled → Entered → Type 0
-Entering text arities w u room rules number w′ rules′ (barred e) r = r ≡ Refusal e
-Entering text arities w u room rules number w′ rules′ (ruled R room′) r = RuleDone text arities w u room rules number w′ rules′ R room′ r
+abbrev pub Entering : List ℕ → List ℕ → Title → List ℕ → ℕ → ℕ → Rows → ℕ → List ℕ → Rows → Ruled → Entered → Type 0
+Entering text arities title w u room rules number w′ rules′ (barred e) r = r ≡ Refusal e
+Entering text arities title w u room rules number w′ rules′ (ruled R room′) r = RuleDone text arities title w u room rules number w′ rules′ R room′ r
 
 -- What `rule` owes.
 pub record RuleEntered (text : List ℕ) (premises : Rows) (p n : ℕ) (conclusions : Rows) (here : ℕ) (symbols : List Symbol) (title : Title) (w : List ℕ) (u room : ℕ)
     (rules : Rows) (number : ℕ) (r : Entered) (w′ : List ℕ) (rules′ : Rows) : Type 0 where
   pub same : (ps : Written many) (q : ℕ) → Stands text premises p ps q → size ps ≡ n → (c : Written one) (q′ : ℕ) → Stands text conclusions here c q′
-      → Entering text (aritiesOf symbols) w u room rules number w′ rules′ (entering number (ruleOf symbols (titled text (title .start) (title .size) (title .clause)) ps c room)) r
+      → Entering text (aritiesOf symbols) title w u room rules number w′ rules′ (entering number (ruleOf symbols (titled text (title .start) (title .size) (title .clause)) ps c room)) r

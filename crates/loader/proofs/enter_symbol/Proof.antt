@@ -1,13 +1,13 @@
 -- `enter_symbol` meets its contract: the arrow, then the name, then the row.
 use mathlib.Core.Path.{_≡_, refl, sym, ap, _∙_}
-use mathlib.Core.List.{List, [], _∷_, _++_}
+use lib.ListN.{set}
 use Prim.Native.Nat.{ℕ, _+_}
 use Rattle.words.specs.Lexer.{partOf}
-use Rattle.names.specs.Symbols.{Symbol, column, rowAt, sortsOf, symbolsOf}
+use Rattle.names.specs.Symbols.{column, rowAt, sortsOf, symbolsOf}
 use Rattle.loader.specs.Signature.{numbersOf, symbolRefusal}
 use Rattle.loader.specs.Arrows.{namesAt}
 use Rattle.loader.specs.SymbolEntry.{arrowRefusal}
-use Rattle.loader.proofs.SymbolLaws.{arrow-count, arrow-unknown, arrow-known, inputs-count, made-count, made-means, symbols-more, not-refused, same-numbers}
+use Rattle.loader.proofs.SymbolLaws.{arrow-count, arrow-unknown, arrow-known, inputs-count, row-is, not-refused, same-numbers}
 use Rattle.patterns.proofs.Terms.{symbols-length}
 use borrow.Author.Needs.{needs}
 use native.Mathlib.Omega.{arith}
@@ -95,7 +95,7 @@ put-symbol-requires c κs =
     let n = inputs-count ((args .constructor)) (look .found) ((args .k)) c in
     let f = not-refused (sortsOf ((args .text .now)) ((args .sorts .now)) ((args .many))) (symbolsOf ((args .text .now)) ((args .symbols .now)) ((args .count))) (partOf ((args .text .now)) (column (rowAt ((args .rows .now)) ((args .at))) 1) (column (rowAt ((args .rows .now)) ((args .at))) 2)) ((input-count .result)) (sym ((symbol-refusal .ensures))
     ∙ (if1 .left)) in
-    let l = symbols-length ((args .text .now)) ((args .symbols .now)) ((args .count)) (omega (arith, (pre .5), (pre .6))) in
+    let l = symbols-length ((args .text .now)) ((args .symbols .now)) ((args .count)) (omega (arith, (pre .4), (pre .5))) in
     let h = (find-arrow .kept .1 .1 .1 .1 .1 .1 .0) in
     (omega arith, f .0, omega arith)
 
@@ -129,7 +129,7 @@ returns-3 c =
     let n = inputs-count ((args .constructor)) (look .found) ((args .k)) c in
     let f = not-refused (sortsOf ((args .text .now)) ((args .sorts .now)) ((args .many))) (symbolsOf ((args .text .now)) ((args .symbols .now)) ((args .count))) (partOf ((args .text .now)) (column (rowAt ((args .rows .now)) ((args .at))) 1) (column (rowAt ((args .rows .now)) ((args .at))) 2)) ((input-count .result)) (sym ((symbol-refusal .ensures))
     ∙ (if1 .left)) in
-    let l = symbols-length ((args .text .now)) ((args .symbols .now)) ((args .count)) (omega (arith, (pre .5), (pre .6))) in
+    let l = symbols-length ((args .text .now)) ((args .symbols .now)) ((args .count)) (omega (arith, (pre .4), (pre .5))) in
     let h = (find-arrow .kept .1 .1 .1 .1 .1 .1 .0) in
     let few = rw ((input-count .ensures)) at (f .0) in
     let put = rw ((output .ensures), (input-count .ensures)) at ((put-symbol .ensures)) in
@@ -137,13 +137,8 @@ returns-3 c =
       refusal = sym ((if1 .left))
           ∙ ((symbol-refusal .ensures) ∙ ap (symbolRefusal (sortsOf ((args .text .now)) ((args .sorts .now)) ((args .many))) (symbolsOf ((args .text .now)) ((args .symbols .now)) ((args .count))) _) ((input-count .ensures) ∙ sym n) ∙ ap (arrowRefusal (sortsOf ((args .text .now)) ((args .sorts .now)) ((args .many))) (symbolsOf ((args .text .now)) ((args .symbols .now)) ((args .count))) _ ((args .constructor))) (sym (look .is)));
       refused = λ z. absurd (z refl);
-      entered = λ z ns e. let q : look .found ≡ ns = same-numbers (sym (look .is) ∙ e) in (
-        _,
-        put,
-        made-count ((args .text .now)) (column (rowAt ((args .rows .now)) ((args .at))) 1) (column (rowAt ((args .rows .now)) ((args .at))) 2) ((args .function)) ((args .first)) ((args .clauses)) ((args .k)) ((args .constructor)) (look .found) _ _ c (look .last-is) h few (look .written) ((pre .0)),
-        rw (← q) (symbols-more ((args .text .now)) ((args .symbols .now)) _ ((args .count)) _ (omega arith) put
-            ∙ ap (λ (x : Symbol). symbolsOf ((args .text .now)) ((args .symbols .now)) ((args .count)) ++ (x ∷ [])) (made-means ((args .text .now)) (column (rowAt ((args .rows .now)) ((args .at))) 1) (column (rowAt ((args .rows .now)) ((args .at))) 2) ((args .function)) ((args .first)) ((args .clauses)) ((args .k)) ((args .constructor)) (look .found) _ _ c (look .last-is) h few (look .written) ((pre .0)))),
-      );
+      entered = λ z ns e. let q : look .found ≡ ns = same-numbers (sym (look .is) ∙ e) in
+          rw (← q) (put ∙ ap (set ((args .symbols .now)) ((args .count))) (row-is (column (rowAt ((args .rows .now)) ((args .at))) 1) (column (rowAt ((args .rows .now)) ((args .at))) 2) ((args .function)) ((args .first)) ((args .clauses)) ((args .k)) ((args .constructor)) (look .found) _ _ c (look .last-is) few (look .written)));
     }
 
 pub enter-symbol-spec : {M : Type 1} → statement M

@@ -1,11 +1,11 @@
 -- `keep` meets its contract: the walk gives the places, and the row is written.
-use mathlib.Core.Path.{sym, ap, _∙_}
+use mathlib.Core.Path.{refl, sym, ap, _∙_}
 use mathlib.Core.List.{List, [], _∷_}
-use Prim.Native.Nat.{ℕ}
+use Prim.Native.Nat.{ℕ, _-_}
 use lib.ListN.{length, length-replicate}
 use Rattle.meeting.specs.Places.{numbersBelow}
-use Rattle.rules.proofs.RowLaws.{sorts-column, sorts-length}
-use Rattle.rules.proofs.KeepLaws.{order-asked, all-recorded, row-kept}
+use Rattle.rules.proofs.RowLaws.{sortsIn, sorts-column, sorts-length}
+use Rattle.rules.proofs.KeepLaws.{order-asked, all-recorded, row-kept, title-at}
 use borrow.Author.Needs.{needs}
 use native.Mathlib.Omega.{arith}
 use Rattle.rules.proofs.keep.Statement.{statement}
@@ -66,9 +66,11 @@ returns c =
     let args = c .before .before .before .before .before .before .before .before .before .before .before .before .args in
     let pre = c .before .before .before .before .before .before .before .before .before .before .before .before .pre in
     let long = (order .ensures .kept) ∙ length-replicate {A = ℕ} 64 64 in
+    let numbers : List ℕ = args .title .start ∷ args .title .size ∷ args .title .clause ∷ args .v ∷ args .n ∷ args .conclusion ∷ args .from ∷ (args .middle - args .from) ∷ (args .used - args .middle) ∷ order .result .met ∷ [] in
     record {
       row = _;
       written = (store .ensures) [];
+      placed = (title-at ((args .n)) ((args .v)) numbers ((args .heads .now)) (sortsIn [] ((args .variables .now)) ((args .v))) _ refl ((pre .few)) ((pre .references)) (sorts-length [] ((args .variables .now)) ((args .v)) ((pre .lent))) ((pre .vars)) long 0 (omega arith), title-at ((args .n)) ((args .v)) numbers ((args .heads .now)) (sortsIn [] ((args .variables .now)) ((args .v))) _ refl ((pre .few)) ((pre .references)) (sorts-length [] ((args .variables .now)) ((args .v)) ((pre .lent))) ((pre .vars)) long 1 (omega arith));
       kept = λ text arities R lying named sorted appear. let k = all-recorded ((args .n)) ((args .heads .now)) lying ((order .ensures)) in
           row-kept ((args .n)) ((args .heads .now)) lying text ((args .v)) ((args .title .start)) ((args .title .size)) ((args .title .clause)) _ _ ((order .result)) ((pre .rising)) ((pre .few)) ((pre .references)) ((pre .vars)) long (sorts-length [] ((args .variables .now)) ((args .v)) ((pre .lent))) named (sorts-column [] ((args .variables .now)) ((args .v))
           ∙ sym (sorts-column text ((args .variables .now)) ((args .v)))

@@ -164,6 +164,7 @@ returns-5 c =
             is = refl;
             row = (keep .ensures .row);
             written = (keep .ensures .written);
+            placed = (keep .ensures .placed);
             kept = (keep .ensures .kept) ((args .text .now)) (aritiesOf (symbolsOf ((args .text .now)) ((args .symbols .now)) ((args .count)))) (ruleMade (symbolsOf ((args .text .now)) ((args .symbols .now)) ((args .count))) (titled ((args .text .now)) ((args .title .start)) ((args .title .size)) ((args .title .clause))) ps c ((args .room)) few B) (L .lying) refl refl (M .order);
             same = L .low;
             fits = b .3;
