@@ -10,4 +10,9 @@ pub mod Arrows
 pub mod NameRows
 pub mod SymbolRows
 pub mod SymbolEntry
+pub mod DistinctLaws
+pub mod LegalGrowth
+pub mod LegalLaws
+pub mod TokenPlaceLaws
+pub mod PlaceLaws
 mod Examples
