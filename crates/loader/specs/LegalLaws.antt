@@ -46,7 +46,7 @@ stepping-then P Q (no e) next f h = tt
 stepping-then P Q (on t) next f h = f t h
 
 -- What holds of each of a list and of one more holds of all.
-all-more : {A : Type 0} (P : A → Type 0) (l : List A) (a d : A) → ((i : ℕ) → i < length l → P (getD l i d)) → P a
+pub all-more : {A : Type 0} (P : A → Type 0) (l : List A) (a d : A) → ((i : ℕ) → i < length l → P (getD l i d)) → P a
     → (i : ℕ) → i < length (l ++ (a ∷ [])) → P (getD (l ++ (a ∷ [])) i d)
 all-more P l a d h p i m =
     let n : length (l ++ (a ∷ [])) ≡ length l + 1 = length-append l (a ∷ []) in
@@ -225,10 +225,10 @@ module _ (limit : ℕ) (text : List ℕ) where
 -- The numbers of an arrow's sorts
 
 -- Each is the number of one of n sorts.
-abbrev Sorted : ℕ → List ℕ → Type 0
+abbrev pub Sorted : ℕ → List ℕ → Type 0
 Sorted n ns = (j : ℕ) → j < length ns → (0 < getD ns j 0) × (getD ns j 0 ≤ n)
 
-abbrev Numbering : (List ℕ → Type 0) → Numbers → Type 0
+abbrev pub Numbering : (List ℕ → Type 0) → Numbers → Type 0
 Numbering P unknown = Unit {0}
 Numbering P (numbers ns) = P ns
 
@@ -240,7 +240,7 @@ prepend-sorted n m (numbers ns) p q h = go
     go zero l = (p, q)
     go (suc j) l = h j (omega arith)
 
-numbers-sorted : (sorts : List Name) (ws : List Name) → Numbering (Sorted (length sorts)) (numbersOf sorts ws)
+pub numbers-sorted : (sorts : List Name) (ws : List Name) → Numbering (Sorted (length sorts)) (numbersOf sorts ws)
 unfolding numbersOf
 numbers-sorted sorts [] = λ j l. absurd (omega arith)
 numbers-sorted sorts (w ∷ ws) = by-bool (ltb (sortNumber sorts w) (length sorts))
@@ -248,7 +248,7 @@ numbers-sorted sorts (w ∷ ws) = by-bool (ltb (sortNumber sorts w) (length sort
     rw e (prepend-sorted (length sorts) (suc (sortNumber sorts w)) (numbersOf sorts ws) (omega arith) (omega arith) (numbers-sorted sorts ws)))
     (λ e. rw e tt)
 
-front-sorted : (n : ℕ) (ns : List ℕ) → Sorted n ns → Sorted n (frontOf ns)
+pub front-sorted : (n : ℕ) (ns : List ℕ) → Sorted n ns → Sorted n (frontOf ns)
 front-sorted n ns h j l =
     let m : length (frontOf ns) ≡ min (length ns - 1) (length ns) = length-take (length ns - 1) ns in
     rw (getD-take (length ns - 1) ns j 0 (omega arith)) (h j (omega arith))

@@ -1,0 +1,49 @@
+-- What storage holds between two declarations: the rows of sorts and symbols are those of the signature, each rule is kept, its words behind those of the rule
+-- before, and the names lie in the text.
+use Prim.Native.Nat.{ℕ, _+_, _*_, _≤_, _<_}
+use mathlib.Core.Path.{_≡_}
+use mathlib.Core.List.{List}
+use lib.ListN.{length}
+use Rattle.arena.specs.Cells.{WellFormed, cells}
+use Rattle.arena.specs.Copies.{patternRoom}
+use Rattle.names.specs.Symbols.{Rows, column, rowAt, sortsOf, symbolsOf}
+use Rattle.rules.specs.PatternLaws.{aritiesOf}
+use Rattle.loader.specs.Signature.{Signature}
+use Rattle.loader.specs.Legal.{Legal}
+use Rattle.loader.specs.Holding.{RulesKept}
+use Rattle.loader.specs.SymbolRows.{SymbolShaped}
+use Rattle.declarations.specs.declared.State.{State}
+
+-- A place lies inside the text.
+abbrev pub Inside : List ℕ → ℕ → ℕ → Type 0
+Inside text start size = start + size ≤ length text
+
+-- The rows of sorts and symbols.
+pub record NamesHeld (text : List ℕ) (s : Signature) (sorts symbols : Rows) (st : State) : Type 0 where
+  pub sortsLent : 256 ≤ length sorts
+  pub symbolsLent : 1024 ≤ length symbols
+  pub fewSorts : st .sorts ≤ 256
+  pub fewSymbols : st .symbols ≤ 1024
+  pub sortsAre : sortsOf text sorts (st .sorts) ≡ s .sorts
+  pub symbolsAre : symbolsOf text symbols (st .symbols) ≡ s .symbols
+  pub sortsInside : (i : ℕ) → i < st .sorts → Inside text (column (rowAt sorts i) 0) (column (rowAt sorts i) 1)
+  pub symbolsInside : (i : ℕ) → i < st .symbols → Inside text (column (rowAt symbols i) 0) (column (rowAt symbols i) 1)
+  pub shaped : (i : ℕ) → i < st .symbols → SymbolShaped (rowAt symbols i)
+
+-- The rows and words of rules, where `limit` nodes are allowed in all.
+pub record RulesHeld (text : List ℕ) (limit : ℕ) (s : Signature) (rules : Rows) (words : List ℕ) (st : State) : Type 0 where
+  pub rulesLent : 1024 ≤ length rules
+  pub wordsLent : 2 * limit ≤ length words
+  pub limited : limit ≤ 32768
+  pub rulesAre : RulesKept text (aritiesOf (s .symbols)) words rules 0 (s .rules) 0 (st .used)
+  pub number : st .rules ≡ length (s .rules)
+  pub fewRules : st .rules ≤ 1024
+  pub left : st .left + s .nodes ≡ limit
+  pub fits : st .used + 2 * st .left ≤ 2 * limit
+  pub formed : WellFormed patternRoom (cells words) patternRoom (st .used)
+  pub rulesInside : (i : ℕ) → i < st .rules → Inside text (column (rowAt rules i) 0) (column (rowAt rules i) 1)
+
+pub record Held (text : List ℕ) (limit : ℕ) (s : Signature) (sorts symbols rules : Rows) (words : List ℕ) (st : State) : Type 0 where
+  pub names : NamesHeld text s sorts symbols st
+  pub kept : RulesHeld text limit s rules words st
+  pub legal : Legal s

@@ -1,0 +1,3 @@
+-- What the contracts of `declarations` cite, in reading order.
+pub mod Held
+pub mod Steps
