@@ -17,7 +17,7 @@ use Rattle.clauses.specs.Clauses.{clauseOf}
 use Rattle.loader.specs.Signature.{Signature, Step, no, on, andThen, roomIn, withRule, enterClause, enterClauses}
 use Rattle.loader.specs.Entering.{Storage}
 use Rattle.loader.specs.TermRows.{spelled-size, ClauseStands}
-use Rattle.declarations.specs.Held.{Inside}
+use Rattle.rule_checks.specs.RuleForm.{Inside}
 use Rattle.declarations.specs.Steps.{Ready, Filled, Advanced, ClauseDeclared, ClausesStand}
 use Rattle.declarations.specs.declared.State.{State}
 use Rattle.declarations.specs.declared.Progress.{Progress}

@@ -19,7 +19,8 @@ use Rattle.loader.specs.LegalLaws.{Stepping, Sorted, Numbering, numbers-sorted,
 use Rattle.loader.specs.Arrows.{namesAt}
 use Rattle.loader.specs.SymbolEntry.{symbolNamed, SymbolEntered}
 use Rattle.loader.proofs.SymbolLaws.{arrow-count}
-use Rattle.declarations.specs.Held.{Inside, NamesHeld, RulesHeld, Held}
+use Rattle.rule_checks.specs.RuleForm.{Inside}
+use Rattle.declarations.specs.Held.{NamesHeld, RulesHeld, Held}
 use Rattle.declarations.specs.Steps.{nameAt, NameInside, symbolProgress, SymbolDeclared, Ready, Filled, Advanced, defOf, Stepped}
 use Rattle.declarations.specs.declared.State.{State}
 use Rattle.declarations.specs.declared.Progress.{Progress}

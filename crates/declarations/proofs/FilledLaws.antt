@@ -22,7 +22,8 @@ use Rattle.clauses.specs.declared.Outcome.the-variants.{Refused as Barred, Done
 use Rattle.loader.specs.Signature.{Signature, no, on, roomIn, withRule}
 use Rattle.loader.specs.Holding.{RulesKept, rules-entered}
 use Rattle.loader.specs.Entering.{Storage}
-use Rattle.declarations.specs.Held.{Inside, RulesHeld}
+use Rattle.rule_checks.specs.RuleForm.{Inside}
+use Rattle.declarations.specs.Held.{RulesHeld}
 use Rattle.declarations.specs.Steps.{Ready, Told, progressOf, Filled, Advanced}
 use Rattle.declarations.specs.declared.State.{State}
 use Rattle.declarations.specs.declared.Progress.{Progress}

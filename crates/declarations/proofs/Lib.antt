@@ -4,3 +4,5 @@ pub mod FilledLaws
 pub mod ClauseLaws
 pub mod NameLaws
 pub mod DefLaws
+pub mod DeclarationLaws
+pub mod DeclareLaws

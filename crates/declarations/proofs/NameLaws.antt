@@ -26,7 +26,8 @@ use Rattle.loader.specs.SymbolEntry.{inputsOf, outputOf, symbolNamed, arrowRefu
 use Rattle.loader.proofs.EntryLaws.{sorts-length}
 use Rattle.loader.proofs.SymbolLaws.{not-refused}
 use Rattle.patterns.proofs.Terms.{symbols-length}
-use Rattle.declarations.specs.Held.{Inside, NamesHeld, RulesHeld, Held}
+use Rattle.rule_checks.specs.RuleForm.{Inside}
+use Rattle.declarations.specs.Held.{NamesHeld, RulesHeld, Held}
 use Rattle.declarations.specs.Steps.{sortProgress, Stepped}
 use Rattle.declarations.specs.declared.State.{State}
 use Rattle.declarations.specs.declared.Progress.{Progress}
@@ -140,9 +141,22 @@ sort-stepped {text} {limit} {s} {sorts} {symbols} {rules} {words} {st} held p so
         let k = sort-held (held .names) start size inside (omega (arith, few refl)) in (
           record { sorts = st .sorts + 1; symbols = st .symbols; rules = st .rules; used = st .used; left = st .left },
           a,
-          record { names = rw b k; kept = record {
-            rulesLent = held .kept .rulesLent; wordsLent = held .kept .wordsLent; limited = held .kept .limited; rulesAre = held .kept .rulesAre; number = held .kept .number;
-            fewRules = held .kept .fewRules; left = held .kept .left; fits = held .kept .fits; formed = held .kept .formed; rulesInside = held .kept .rulesInside }; legal = legal },
+          record {
+            names = rw b k;
+            kept = record {
+              rulesLent = held .kept .rulesLent;
+              wordsLent = held .kept .wordsLent;
+              limited = held .kept .limited;
+              rulesAre = held .kept .rulesAre;
+              number = held .kept .number;
+              fewRules = held .kept .fewRules;
+              left = held .kept .left;
+              fits = held .kept .fits;
+              formed = held .kept .formed;
+              rulesInside = held .kept .rulesInside;
+            };
+            legal = legal;
+          },
         )
     go (suc e) few a b legal = rw (ne-eqb (suc e) 0 (λ q. omega arith)) at a
 

@@ -8,15 +8,12 @@ use Rattle.arena.specs.Cells.{WellFormed, cells}
 use Rattle.arena.specs.Copies.{patternRoom}
 use Rattle.names.specs.Symbols.{Rows, column, rowAt, sortsOf, symbolsOf}
 use Rattle.rules.specs.PatternLaws.{aritiesOf}
+use Rattle.rule_checks.specs.RuleForm.{Inside}
 use Rattle.loader.specs.Signature.{Signature}
 use Rattle.loader.specs.Legal.{Legal}
 use Rattle.loader.specs.Holding.{RulesKept}
 use Rattle.loader.specs.SymbolRows.{SymbolShaped}
 use Rattle.declarations.specs.declared.State.{State}
-
--- A place lies inside the text.
-abbrev pub Inside : List ℕ → ℕ → ℕ → Type 0
-Inside text start size = start + size ≤ length text
 
 -- The rows of sorts and symbols.
 pub record NamesHeld (text : List ℕ) (s : Signature) (sorts symbols : Rows) (st : State) : Type 0 where

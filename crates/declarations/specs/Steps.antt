@@ -23,7 +23,8 @@ use Rattle.loader.specs.SymbolEntry.{SymbolEntered}
 use Rattle.loader.specs.TermRows.{JudgmentsStand, ClauseStands}
 use Rattle.loader.specs.TokenPlaceLaws.{Within}
 use Rattle.loader.specs.PlaceLaws.{titlePlace}
-use Rattle.declarations.specs.Held.{Inside, RulesHeld, Held}
+use Rattle.rule_checks.specs.RuleForm.{Inside}
+use Rattle.declarations.specs.Held.{RulesHeld, Held}
 use Rattle.declarations.specs.declared.State.{State}
 use Rattle.declarations.specs.declared.Progress.{Progress}
 use Rattle.declarations.specs.declared.Progress.the-variants.{Refused, Done}

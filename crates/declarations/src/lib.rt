@@ -12,7 +12,7 @@ ghost use Rattle.words.specs.Lexer.{partOf};
 ghost use Rattle.names.specs.Symbols.{column, rowAt, sortsOf, symbolsOf};
 ghost use Rattle.loader.specs.Signature.{sortRefusal};
 ghost use Rattle.loader.specs.Rows.{entered};
-ghost use Rattle.declarations.specs.Steps.{nameAt, sortProgress, SymbolAsked, SymbolDeclared, Told, progressOf, RuleAsked, RuleDeclared, ClauseAsked, ClauseDeclared, ClausesAsked, ClausesDeclared, DefAsked, DefDeclared};
+ghost use Rattle.declarations.specs.Steps.{nameAt, sortProgress, SymbolAsked, SymbolDeclared, Told, progressOf, RuleAsked, RuleDeclared, ClauseAsked, ClauseDeclared, ClausesAsked, ClausesDeclared, DefAsked, DefDeclared, DeclareAsked, DeclareDone};
 use clauses::Outcome;
 use names::SortRow;
 use names::SymbolRow;
@@ -364,4 +364,51 @@ fn declare_def(
         calls,
         with,
     )
+}
+
+// One declaration, by the keyword in its row. An `#eval` waits.
+pub fn declare(
+    text: &[u8],
+    rows: &[TermRow],
+    at: usize,
+    sorts: &mut [SortRow],
+    symbols: &mut [SymbolRow],
+    rules: &mut [RuleRow],
+    words: &mut [u32],
+    out: &mut [TermRow],
+    calls: &mut [TermRow],
+    state: State,
+) -> Progress
+    requires { ⌜ DeclareAsked (now text) (now rows) at (now sorts) (now symbols) (now rules) (now words) (now out) (now calls) state ⌝ }
+    ensures { λ r. ⌜ DeclareDone (now (text .entry)) (now (rows .entry)) at (now (sorts .entry)) (now (symbols .entry)) (now (rules .entry)) (now (words .entry)) state r (now (sorts .exit)) (now (symbols .exit)) (now (rules .exit)) (now (words .exit)) ⌝ }
+{
+    let kind = rows[at][0];
+    match kind {
+        1 => declare_sort(text, rows, at, sorts, symbols, state),
+        2 => {
+            if rows[at][2] == 0 {
+                return Progress::Refused { number: 0 };
+            }
+            declare_symbol(text, rows, at, true, sorts, symbols, state)
+        }
+        3 => declare_symbol(text, rows, at, false, sorts, symbols, state),
+        4 => declare_rule(text, rows, at, symbols, rules, words, state),
+        5 => declare_def(
+            text,
+            rows,
+            at,
+            sorts,
+            symbols,
+            rules,
+            words,
+            out,
+            calls,
+            state,
+        ),
+        10 => Progress::Done {
+            next: clauses::skip(rows, at + 1, 1),
+            state: state,
+        },
+        _ => Progress::Refused { number: 27 },
+    }
 }

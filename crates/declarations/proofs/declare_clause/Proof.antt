@@ -55,7 +55,7 @@ told-requires c κs =
     let st = (pre .stand .2) in
     let e : (args .number) + 1 ≡ suc (args .number) = omega arith in
     told-by (pre .ready .2) (record { start = (args .start); size = (args .size); clause = (args .number) + 1 }) (λ (F : List Symbol) (m : ℕ). clauseOf F (partOf (args .text .now) (args .start) (args .size)) (args .number) (spelled (args .text .now) (allOf ((pre .stand .0) .patterns))) (spelled (args .text .now) ((pre .stand .0) .body)) m) (room .result) (room .ensures) ((clause .last .1 .1 .1 .1 .1 .1 .1 .1 .1 .0)) ((clause .last .1 .1 .1 .1 .1 .1 .0)) (clause .result) ((clause .ensures .same) _ _ (st .patterns) (patterns-number st
-        ∙ sym (wide .ensures)) _ _ (st .right) (args .number) e .1)
+    ∙ sym (wide .ensures)) _ _ (st .right) (args .number) e .1)
 
 same-length : tie.Need-same-length
 same-length c = search needs
@@ -78,10 +78,12 @@ returns c =
     let told = c .told in
     record {
       same = λ limit s ready inside cl q st. let e : (args .number) + 1 ≡ suc (args .number) = omega arith in
-    let h = (clause .ensures .same) _ _ (st .patterns) (patterns-number st ∙ sym (wide .ensures)) _ _ (st .right) (args .number) e in
-    advanced-by ready (record { start = (args .start);
-      size = (args .size);
-      clause = (args .number) + 1 }) inside ((clause .last .1 .1 .1 .1 .1 .1 .1 .1 .1 .0)) ((clause .last .1 .1 .1 .1 .1 .1 .0)) ((clause .kept .1 .1 .1 .1 .1 .1 .1 .1 .1 .0)) ((clause .kept .1 .1 .1 .1 .1 .1 .0)) (λ (F : List Symbol) (m : ℕ). clauseOf F (partOf (args .text .now) (args .start) (args .size)) (args .number) (spelled (args .text .now) (allOf (cl .patterns))) (spelled (args .text .now) (cl .body)) m) (room .result) (room .ensures) q (clause .result) (told .result) (h .0) (h .1) (told .ensures)
+          let h = (clause .ensures .same) _ _ (st .patterns) (patterns-number st ∙ sym (wide .ensures)) _ _ (st .right) (args .number) e in
+          advanced-by ready (record {
+            start = (args .start);
+            size = (args .size);
+            clause = (args .number) + 1;
+          }) inside ((clause .last .1 .1 .1 .1 .1 .1 .1 .1 .1 .0)) ((clause .last .1 .1 .1 .1 .1 .1 .0)) ((clause .kept .1 .1 .1 .1 .1 .1 .1 .1 .1 .0)) ((clause .kept .1 .1 .1 .1 .1 .1 .0)) (λ (F : List Symbol) (m : ℕ). clauseOf F (partOf (args .text .now) (args .start) (args .size)) (args .number) (spelled (args .text .now) (allOf (cl .patterns))) (spelled (args .text .now) (cl .body)) m) (room .result) (room .ensures) q (clause .result) (told .result) (h .0) (h .1) (told .ensures);
     }
 
 pub declare-clause-spec : {M : Type 1} → statement M

@@ -33,7 +33,7 @@ declare-clause-requires c κs =
       outLent = omega (arith, (loop .inv .3));
       callsLent = omega (arith, (loop .inv .4));
       ready = ((pre .ready .0), g .signature, g .ready);
-      stand = going-clause g t
+      stand = going-clause g t;
     }
 
 enum-known-e : tie.Need-enum-known-e Inv-loop μ-loop
@@ -72,7 +72,7 @@ returns c =
     let e = c .before .e in
     record {
       same = λ limit s ready cs q st n. let g = (loop .inv .5) limit s ready cs q st n in
-    rw (going-refused (pre .inside) (declare-clause .ensures) g (loop-test .taken) (e .given .1)) refl
+          rw (going-refused (pre .inside) (declare-clause .ensures) g (loop-test .taken) (e .given .1)) refl;
     }
 
 enum-known-next : tie.Need-enum-known-next Inv-loop μ-loop
@@ -90,12 +90,18 @@ loop-again c =
     let loop = c .before .before .before .before .before .before .before .before .before .before .before .before .before .before .loop in
     let pre = c .before .before .before .before .before .before .before .before .before .before .before .before .before .before .before .before .before .pre in
     let loop-test = c .before .before .before .before .before .before .before .before .before .before .before .before .before .loop-test in
-    let next = c .before .next in
-    (omega arith, (declare-clause .kept .1 .1 .1 .1 .1 .1 .1 .0)
-        ∙ (loop .inv .1), (declare-clause .kept .1 .1 .1 .1 .1 .1 .1 .1 .0)
-        ∙ (loop .inv .2), (declare-clause .kept .1 .1 .1 .1 .1 .1 .1 .1 .1 .0)
-        ∙ (loop .inv .3), (declare-clause .kept .1 .1 .1 .1 .1 .1 .1 .1 .1 .1 .0)
-        ∙ (loop .inv .4), λ limit s ready cs q st e. going-on (pre .inside) (declare-clause .ensures) ((loop .inv .5) limit s ready cs q st e) (loop-test .taken) (next .given .1))
+    let next = c .before .next in (
+      omega arith,
+      (declare-clause .kept .1 .1 .1 .1 .1 .1 .1 .0)
+          ∙ (loop .inv .1),
+      (declare-clause .kept .1 .1 .1 .1 .1 .1 .1 .1 .0)
+          ∙ (loop .inv .2),
+      (declare-clause .kept .1 .1 .1 .1 .1 .1 .1 .1 .1 .0)
+          ∙ (loop .inv .3),
+      (declare-clause .kept .1 .1 .1 .1 .1 .1 .1 .1 .1 .1 .0)
+          ∙ (loop .inv .4),
+      λ limit s ready cs q st e. going-on (pre .inside) (declare-clause .ensures) ((loop .inv .5) limit s ready cs q st e) (loop-test .taken) (next .given .1),
+    )
 
 same-length-5 : tie.Need-same-length-5 Inv-loop μ-loop
 same-length-5 c = (c .before .loop .inv .1)

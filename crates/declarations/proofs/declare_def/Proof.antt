@@ -29,7 +29,7 @@ returns c =
     let if1 = c .if1 in
     record {
       same = λ limit s held cs q st e legal. def-no held (args .rows .now) (args .at) (pre .inside) cs 0 q _ _ _ (def-none held (args .rows .now) (args .at) (pre .inside) cs (sym (wide .ensures)
-          ∙ (if1 .taken)))
+          ∙ (if1 .taken)));
     }
 
 mul-wide-2 : tie.Need-mul-wide-2
@@ -98,7 +98,7 @@ returns-2 c =
     let h = rw (z, w) at (enter-symbol .ensures) in
     record {
       same = λ limit s held cs q st e legal. def-no held (args .rows .now) (args .at) (pre .inside) cs (enter-symbol .result) q _ _ _ (def-refused held (args .rows .now) (args .at) (pre .inside) cs (omega (arith, (if1 .left))) (first-is held (args .rows .now) (args .at) (pre .inside) cs (first-clause .ensures) ((wide2 .ensures) ∙ e)) ((wide2 .ensures)
-          ∙ e) h (if2 .taken))
+          ∙ e) h (if2 .taken));
     }
 
 add-declare-clauses : tie.Need-add-declare-clauses
@@ -132,12 +132,12 @@ declare-clauses-requires c κs =
     record {
       short = (pre .short);
       few = (let m = (wide2 .ensures) in
-    omega (arith, (pre .few)));
+          omega (arith, (pre .few)));
       outLent = (pre .outLent);
       callsLent = (pre .callsLent);
       inside = (pre .inside);
       ready = ((pre .ready .0), _, def-ready held (args .rows .now) (args .at) (pre .inside) cs some f e h d);
-      stand = (cs, (pre .stand .1), rw (w) (pre .stand .2), e)
+      stand = (cs, (pre .stand .1), rw (w) (pre .stand .2), e);
     }
 
 same-length-2 : tie.Need-same-length-2
@@ -172,9 +172,9 @@ returns-3 c =
     let some : 0 < column (rowAt (args .rows .now) (args .at)) 2 = omega (arith, (if1 .left)) in
     record {
       same = λ limit s held cs q st m legal. let e = (wide2 .ensures) ∙ m in
-    let f = first-is held (args .rows .now) (args .at) (pre .inside) cs (first-clause .ensures) e in
-    let d = def-entered held (args .rows .now) (args .at) (pre .inside) cs some f e h (if2 .left) in
-    def-stepped held (args .rows .now) (args .at) (pre .inside) cs some f e h d q _ _ _ ((declare-clauses .ensures .same) limit _ (def-ready held (args .rows .now) (args .at) (pre .inside) cs some f e h d) cs q (rw (w) st) e) legal
+          let f = first-is held (args .rows .now) (args .at) (pre .inside) cs (first-clause .ensures) e in
+          let d = def-entered held (args .rows .now) (args .at) (pre .inside) cs some f e h (if2 .left) in
+          def-stepped held (args .rows .now) (args .at) (pre .inside) cs some f e h d q _ _ _ ((declare-clauses .ensures .same) limit _ (def-ready held (args .rows .now) (args .at) (pre .inside) cs some f e h d) cs q (rw (w) st) e) legal;
     }
 
 pub declare-def-spec : {M : Type 1} → statement M

@@ -38,7 +38,7 @@ returns c =
     record {
       refusal = (enter-symbol .result);
       is = symbol-refused _ _ (args .at) (args .state) (if1 .taken);
-      entered = rw (q, (wide .ensures)) at (enter-symbol .ensures)
+      entered = rw (q, (wide .ensures)) at (enter-symbol .ensures);
     }
 
 add-t12 : tie.Need-add-t12
@@ -63,7 +63,7 @@ returns-2 c =
     record {
       refusal = (enter-symbol .result);
       is = rw ((wide .ensures)) (symbol-done _ _ (args .at) (args .state) (if1 .left));
-      entered = rw (q, (wide .ensures)) at (enter-symbol .ensures)
+      entered = rw (q, (wide .ensures)) at (enter-symbol .ensures);
     }
 
 pub declare-symbol-spec : {M : Type 1} → statement M

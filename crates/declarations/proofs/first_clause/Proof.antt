@@ -1,5 +1,6 @@
 -- `first_clause` meets its contract.
 use mathlib.Core.Path.{_≡_, refl}
+use Rattle.declarations.proofs.DeclareLaws.{sort-done}
 use borrow.Author.Tests.{eq-eqb, ne-eqb}
 use Rattle.declarations.proofs.DefLaws.{def-stepped}
 use borrow.Author.Needs.{needs}

@@ -1,0 +1,5 @@
+-- The laws that several proofs cite.
+pub mod Laws
+pub mod NameLaws
+pub mod FormLaws
+pub mod RuleLaws

@@ -1,0 +1,207 @@
+-- `is_symbol_formed` meets its contract: each test is one part of the form.
+use Rattle.names.specs.Symbols.{rowAt}
+use Rattle.signature.proofs.Laws.{no, holds, refutes, same}
+use Rattle.signature.proofs.FormLaws.{row-formed, row-numbers, row-mark, row-clauses, row-inputs}
+use borrow.Author.Needs.{needs}
+use Rattle.signature.proofs.is_symbol_formed.Statement.{statement}
+use Rattle.signature.proofs.is_symbol_formed.Tie as tie
+
+mul-is-inside : tie.Need-mul-is-inside
+mul-is-inside c = search needs
+
+index-1-is-inside : tie.Need-index-1-is-inside
+index-1-is-inside c = search needs
+
+index-2-is-inside : tie.Need-index-2-is-inside
+index-2-is-inside c = search needs
+
+mul-is-inside-2 : tie.Need-mul-is-inside-2
+mul-is-inside-2 c = search needs
+
+index-1-is-inside-2 : tie.Need-index-1-is-inside-2
+index-1-is-inside-2 c = search needs
+
+index-2-is-inside-2 : tie.Need-index-2-is-inside-2
+index-2-is-inside-2 c = search needs
+
+is-inside-requires : tie.Need-is-inside-requires
+is-inside-requires c κs = search needs
+
+returns : tie.Need-returns
+returns c = no (λ h. refutes (c .before .is-inside .ensures) (c .if1 .taken) (h .inside))
+
+mul-are-numbers-formed : tie.Need-mul-are-numbers-formed
+mul-are-numbers-formed c = search needs
+
+index-1-are-numbers-formed : tie.Need-index-1-are-numbers-formed
+index-1-are-numbers-formed c = search needs
+
+index-2-are-numbers-formed : tie.Need-index-2-are-numbers-formed
+index-2-are-numbers-formed c = search needs
+
+mul-are-numbers-formed-2 : tie.Need-mul-are-numbers-formed-2
+mul-are-numbers-formed-2 c = search needs
+
+index-1-are-numbers-formed-2 : tie.Need-index-1-are-numbers-formed-2
+index-1-are-numbers-formed-2 c = search needs
+
+index-2-are-numbers-formed-2 : tie.Need-index-2-are-numbers-formed-2
+index-2-are-numbers-formed-2 c = search needs
+
+mul-are-numbers-formed-3 : tie.Need-mul-are-numbers-formed-3
+mul-are-numbers-formed-3 c = search needs
+
+index-1-are-numbers-formed-3 : tie.Need-index-1-are-numbers-formed-3
+index-1-are-numbers-formed-3 c = search needs
+
+index-2-are-numbers-formed-3 : tie.Need-index-2-are-numbers-formed-3
+index-2-are-numbers-formed-3 c = search needs
+
+are-numbers-formed-requires : tie.Need-are-numbers-formed-requires
+are-numbers-formed-requires c κs = search needs
+
+returns-2 : tie.Need-returns-2
+returns-2 c =
+    let are-numbers-formed = c .before .are-numbers-formed in
+    let if2 = c .if2 in
+    let args = c .before .before .before .before .before .before .before .before .before .before .args in
+    no (λ h. refutes (are-numbers-formed .ensures) (if2 .taken) (row-numbers (args .text .now) (args .sorts) (args .rules) (rowAt (args .symbols .now) (args .i)) h))
+
+mul-is-mark-formed : tie.Need-mul-is-mark-formed
+mul-is-mark-formed c = search needs
+
+index-1-is-mark-formed : tie.Need-index-1-is-mark-formed
+index-1-is-mark-formed c = search needs
+
+index-2-is-mark-formed : tie.Need-index-2-is-mark-formed
+index-2-is-mark-formed c = search needs
+
+mul-is-mark-formed-2 : tie.Need-mul-is-mark-formed-2
+mul-is-mark-formed-2 c = search needs
+
+index-1-is-mark-formed-2 : tie.Need-index-1-is-mark-formed-2
+index-1-is-mark-formed-2 c = search needs
+
+index-2-is-mark-formed-2 : tie.Need-index-2-is-mark-formed-2
+index-2-is-mark-formed-2 c = search needs
+
+mul-is-mark-formed-3 : tie.Need-mul-is-mark-formed-3
+mul-is-mark-formed-3 c = search needs
+
+index-1-is-mark-formed-3 : tie.Need-index-1-is-mark-formed-3
+index-1-is-mark-formed-3 c = search needs
+
+index-2-is-mark-formed-3 : tie.Need-index-2-is-mark-formed-3
+index-2-is-mark-formed-3 c = search needs
+
+mul-is-mark-formed-4 : tie.Need-mul-is-mark-formed-4
+mul-is-mark-formed-4 c = search needs
+
+index-1-is-mark-formed-4 : tie.Need-index-1-is-mark-formed-4
+index-1-is-mark-formed-4 c = search needs
+
+index-2-is-mark-formed-4 : tie.Need-index-2-is-mark-formed-4
+index-2-is-mark-formed-4 c = search needs
+
+is-mark-formed-requires : tie.Need-is-mark-formed-requires
+is-mark-formed-requires c κs = search needs
+
+returns-3 : tie.Need-returns-3
+returns-3 c =
+    let is-mark-formed = c .before .is-mark-formed in
+    let if3 = c .if3 in
+    let args = c .before .before .before .before .before .before .before .before .before .before .before .before .before .before .before .before .args in
+    no (λ h. refutes (is-mark-formed .ensures) (if3 .taken) (row-mark (args .text .now) (args .sorts) (args .rules) (rowAt (args .symbols .now) (args .i)) h))
+
+mul-are-clauses-formed : tie.Need-mul-are-clauses-formed
+mul-are-clauses-formed c = search needs
+
+index-1-are-clauses-formed : tie.Need-index-1-are-clauses-formed
+index-1-are-clauses-formed c = search needs
+
+index-2-are-clauses-formed : tie.Need-index-2-are-clauses-formed
+index-2-are-clauses-formed c = search needs
+
+mul-are-clauses-formed-2 : tie.Need-mul-are-clauses-formed-2
+mul-are-clauses-formed-2 c = search needs
+
+index-1-are-clauses-formed-2 : tie.Need-index-1-are-clauses-formed-2
+index-1-are-clauses-formed-2 c = search needs
+
+index-2-are-clauses-formed-2 : tie.Need-index-2-are-clauses-formed-2
+index-2-are-clauses-formed-2 c = search needs
+
+are-clauses-formed-requires : tie.Need-are-clauses-formed-requires
+are-clauses-formed-requires c κs = search needs
+
+returns-4 : tie.Need-returns-4
+returns-4 c =
+    let are-clauses-formed = c .before .are-clauses-formed in
+    let if4 = c .if4 in
+    let args = c .before .before .before .before .before .before .before .before .before .before .before .before .before .before .before .before .before .before .before .before .args in
+    no (λ h. refutes (are-clauses-formed .ensures) (if4 .taken) (row-clauses (args .text .now) (args .sorts) (args .rules) (rowAt (args .symbols .now) (args .i)) h))
+
+are-inputs-formed-requires : tie.Need-are-inputs-formed-requires
+are-inputs-formed-requires c κs = search needs
+
+returns-5 : tie.Need-returns-5
+returns-5 c =
+    let args = c .before .before .before .before .before .before .before .before .before .before .before .before .before .before .before .before .before .before .before .before .before .args in
+    let is-inside = c .before .before .before .before .before .before .before .before .before .before .before .before .before .before .before .before .before .is-inside in
+    let if1 = c .before .before .before .before .before .before .before .before .before .before .before .before .before .before .before .before .if1 in
+    let are-numbers-formed = c .before .before .before .before .before .before .before .before .before .before .before .before .are-numbers-formed in
+    let if2 = c .before .before .before .before .before .before .before .before .before .before .before .if2 in
+    let is-mark-formed = c .before .before .before .before .before .before .is-mark-formed in
+    let if3 = c .before .before .before .before .before .if3 in
+    let are-clauses-formed = c .before .before .are-clauses-formed in
+    let if4 = c .before .if4 in
+    let are-inputs-formed = c .are-inputs-formed in
+    same (row-formed (args .text .now) (args .sorts) (args .rules) (rowAt (args .symbols .now) (args .i)) (holds (is-inside .ensures) (if1 .left)) (holds (are-numbers-formed .ensures) (if2 .left)) (holds (is-mark-formed .ensures) (if3 .left)) (holds (are-clauses-formed .ensures) (if4 .left))) (row-inputs (args .text .now) (args .sorts) (args .rules) (rowAt (args .symbols .now) (args .i))) (are-inputs-formed .ensures)
+
+pub is-symbol-formed-spec : {M : Type 1} → statement M
+is-symbol-formed-spec =
+    tie.close
+    (tie.spec
+    mul-is-inside
+    index-1-is-inside
+    index-2-is-inside
+    mul-is-inside-2
+    index-1-is-inside-2
+    index-2-is-inside-2
+    is-inside-requires
+    returns
+    mul-are-numbers-formed
+    index-1-are-numbers-formed
+    index-2-are-numbers-formed
+    mul-are-numbers-formed-2
+    index-1-are-numbers-formed-2
+    index-2-are-numbers-formed-2
+    mul-are-numbers-formed-3
+    index-1-are-numbers-formed-3
+    index-2-are-numbers-formed-3
+    are-numbers-formed-requires
+    returns-2
+    mul-is-mark-formed
+    index-1-is-mark-formed
+    index-2-is-mark-formed
+    mul-is-mark-formed-2
+    index-1-is-mark-formed-2
+    index-2-is-mark-formed-2
+    mul-is-mark-formed-3
+    index-1-is-mark-formed-3
+    index-2-is-mark-formed-3
+    mul-is-mark-formed-4
+    index-1-is-mark-formed-4
+    index-2-is-mark-formed-4
+    is-mark-formed-requires
+    returns-3
+    mul-are-clauses-formed
+    index-1-are-clauses-formed
+    index-2-are-clauses-formed
+    mul-are-clauses-formed-2
+    index-1-are-clauses-formed-2
+    index-2-are-clauses-formed-2
+    are-clauses-formed-requires
+    returns-4
+    are-inputs-formed-requires
+    returns-5)

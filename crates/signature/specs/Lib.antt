@@ -1,0 +1,3 @@
+-- What the contracts of `signature` cite, in reading order.
+pub mod Form
+pub mod Parts

@@ -1,0 +1,83 @@
+-- The parts of the listed form, each decided by a function of its own.
+use Prim.Native.Nat.{ℕ, _+_, _*_, _≤_, _<_}
+use mathlib.Core.Path.{_≡_}
+use mathlib.Core.Bool.{Bool, true}
+use mathlib.Core.List.{List}
+use lib.ListN.{length}
+use Rattle.words.specs.Lexer.{cappedOf}
+use Rattle.words.specs.declared.Limits.{Limits}
+use Rattle.names.specs.Symbols.{Rows, column, rowAt, sortOf, sortsOf, symbolsOf, sortNumber, symbolNumber}
+use Rattle.rule_checks.specs.RuleForm.{Inside, RuleFormed}
+use Rattle.loader.specs.Holding.{RulesKept}
+use Rattle.signature.specs.Form.{rulesOf, SymbolFormed}
+
+-- The answer is whether P holds.
+pub record Decides (P : Type 0) (r : Bool) : Type 0 where
+  pub sound : r ≡ true → P
+  pub complete : P → r ≡ true
+
+-- As many rows and words are lent as the limits ask,
+pub record Lent (limits : Limits) (sorts symbols rules : Rows) (words : List ℕ) : Type 0 where
+  pub sortsLent : 256 ≤ length sorts
+  pub symbolsLent : 1024 ≤ length symbols
+  pub rulesLent : 1024 ≤ length rules
+  pub wordsLent : 2 * cappedOf limits .nodes ≤ length words
+
+-- and the counts are within them.
+pub record Counted (limits : Limits) (n m k u : ℕ) : Type 0 where
+  pub fewSorts : n ≤ 256
+  pub fewSymbols : m ≤ 1024
+  pub fewRules : k ≤ 1024
+  pub fewWords : u ≤ 2 * cappedOf limits .nodes
+
+-- The names of the first n sorts are in the text.
+abbrev pub SortsInside : List ℕ → Rows → ℕ → Type 0
+SortsInside text sorts n = (i : ℕ) → i < n → Inside text (column (rowAt sorts i) 0) (column (rowAt sorts i) 1)
+
+-- Each sort is the first of its name,
+abbrev pub SortsFirst : List ℕ → Rows → ℕ → Type 0
+SortsFirst text sorts n = (i : ℕ) → i < n → sortNumber (sortsOf text sorts n) (sortOf text (rowAt sorts i)) ≡ i
+
+-- no sort has the symbol's name, and the symbol is the first of its name,
+pub record SymbolFirst (text : List ℕ) (sorts : Rows) (n : ℕ) (symbols : Rows) (m i : ℕ) : Type 0 where
+  pub other : sortNumber (sortsOf text sorts n) (sortOf text (rowAt symbols i)) ≡ n
+  pub first : symbolNumber (symbolsOf text symbols m) (sortOf text (rowAt symbols i)) ≡ i
+
+-- and so for each symbol.
+abbrev pub SymbolsFirst : List ℕ → Rows → ℕ → Rows → ℕ → Type 0
+SymbolsFirst text sorts n symbols m = (i : ℕ) → i < m → SymbolFirst text sorts n symbols m i
+
+-- A symbol's output, number of inputs and free column,
+pub record NumbersFormed (sorts o inputs f : ℕ) : Type 0 where
+  pub output : o ≤ sorts
+  pub few : inputs ≤ 16
+  pub free : f ≡ 0
+
+-- its function mark,
+pub record MarkFormed (output f clauses inputs : ℕ) : Type 0 where
+  pub mark : f ≤ 1
+  pub predicate : f ≡ 1 → output ≡ 0
+  pub result : f ≡ 1 → 0 < inputs
+  pub others : f ≡ 0 → clauses ≡ 0
+
+-- its clauses,
+pub record ClausesFormed (first count rules : ℕ) : Type 0 where
+  pub clauses : first + count ≤ rules
+  pub none : count ≡ 0 → first ≡ 0
+
+-- and the columns of its inputs, of which n are used.
+pub record InputFormed (sorts n j input : ℕ) : Type 0 where
+  pub used : j < n → (0 < input) × (input ≤ sorts)
+  pub clear : n ≤ j → input ≡ 0
+
+abbrev pub InputsFormed : ℕ → List ℕ → Type 0
+InputsFormed sorts row = (j : ℕ) → j < 16 → InputFormed sorts (column row 6) j (column row (8 + j))
+
+-- The first m symbols are in form.
+abbrev pub SymbolsFormed : List ℕ → ℕ → ℕ → Rows → ℕ → Type 0
+SymbolsFormed text sorts rules symbols m = (i : ℕ) → i < m → SymbolFormed text sorts rules (rowAt symbols i)
+
+-- The first k rules are kept one behind the other in u words, and are in form.
+pub record RulesListed (text arities words : List ℕ) (sorts : ℕ) (rules : Rows) (k u : ℕ) : Type 0 where
+  pub kept : RulesKept text arities words rules 0 (rulesOf text words rules k) 0 u
+  pub formed : (i : ℕ) → i < k → RuleFormed text words sorts (rowAt rules i)

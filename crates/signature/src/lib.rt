@@ -1,0 +1,375 @@
+// Signatures in storage: the test of their form (document 01, refusal 1). The form is `Listed` in specs/Form.
+//
+// The entry point is `check_signature`. It asks nothing of its caller.
+ghost use mathlib.Core.Path.{_≡_};
+ghost use Prim.Native.Nat.{ℕ, _*_, _≤_, _<_};
+ghost use lib.ListN.{length, getD};
+ghost use Rattle.words.specs.Lexer.{cappedOf};
+ghost use Rattle.names.specs.Symbols.{column, rowAt, sortsOf, symbolsOf};
+ghost use Rattle.rules.specs.PatternLaws.{aritiesOf};
+ghost use Rattle.rule_checks.specs.RuleForm.{Inside};
+ghost use Rattle.loader.specs.Legal.{Distinct, namesOf};
+ghost use Rattle.signature.specs.Form.{SymbolFormed, Checked};
+ghost use Rattle.signature.specs.Parts.{Decides, Lent, Counted, SortsInside, SortsFirst, SymbolFirst, SymbolsFirst, NumbersFormed, MarkFormed, ClausesFormed, InputFormed, InputsFormed, SymbolsFormed, RulesListed};
+use names::SortRow;
+use names::SymbolRow;
+use rule_checks::Verdict;
+use rules::RuleRow;
+
+// How many sorts, symbols and rules there may be, and inputs of a symbol.
+const SORTS: usize = 256;
+
+const SYMBOLS: usize = 1024;
+
+const RULES: usize = 1024;
+
+const INPUTS: usize = 16;
+
+// How much is stored of each kind.
+pub struct Counts {
+    pub sorts: u32,
+    pub symbols: u32,
+    pub rules: u32,
+    pub words: u32,
+}
+
+// How many words there may be: 2 for each node.
+fn most_words(limits: words::Limits) -> usize
+    ensures { λ r. ⌜ r ≡ 2 * cappedOf limits .nodes ⌝ }
+{
+    2 * limits.capped().nodes as usize
+}
+
+// Are as many rows and words lent as the limits ask?
+fn is_lent(
+    limits: words::Limits,
+    sorts: &[SortRow],
+    symbols: &[SymbolRow],
+    rules: &[RuleRow],
+    words: &[u32],
+) -> bool
+    ensures { λ r. ⌜ Decides (Lent limits (now (sorts .entry)) (now (symbols .entry)) (now (rules .entry)) (now (words .entry))) r ⌝ }
+{
+    if sorts.len() < SORTS {
+        return false;
+    }
+    if symbols.len() < SYMBOLS {
+        return false;
+    }
+    if rules.len() < RULES {
+        return false;
+    }
+    most_words(limits) <= words.len()
+}
+
+// Are the counts within the limits?
+fn is_counted(limits: words::Limits, counts: Counts) -> bool
+    ensures { λ r. ⌜ Decides (Counted limits (counts .sorts) (counts .symbols) (counts .rules) (counts .words)) r ⌝ }
+{
+    if SORTS < counts.sorts as usize {
+        return false;
+    }
+    if SYMBOLS < counts.symbols as usize {
+        return false;
+    }
+    if RULES < counts.rules as usize {
+        return false;
+    }
+    counts.words as usize <= most_words(limits)
+}
+
+// Does a place lie inside the text?
+fn is_inside(text: &[u8], start: u32, size: u32) -> bool
+    ensures { λ r. ⌜ Decides (Inside (now (text .entry)) start size) r ⌝ }
+{
+    start as usize + size as usize <= text.len()
+}
+
+// Are the names of the first n sorts in the text?
+fn are_sorts_inside(text: &[u8], sorts: &[SortRow], n: usize) -> bool
+    requires { ⌜ n ≤ length (now sorts) ⌝ }
+    ensures { λ r. ⌜ Decides (SortsInside (now (text .entry)) (now (sorts .entry)) n) r ⌝ }
+{
+    let mut i = 0;
+    while i < n {
+        if !is_inside(text, sorts[i][0], sorts[i][1]) {
+            return false;
+        }
+        i += 1;
+    }
+    true
+}
+
+// Is each of n sorts the first of its name?
+fn are_sorts_first(text: &[u8], sorts: &[SortRow], n: usize) -> bool
+    requires { ⌜ n ≤ length (now sorts) ⌝ }
+    ensures { λ r. ⌜ Decides (SortsFirst (now (text .entry)) (now (sorts .entry)) n) r ⌝ }
+{
+    let mut i = 0;
+    while i < n {
+        let w = names::part(text, sorts[i][0], sorts[i][1]);
+        if names::find_sort(text, sorts, n, w) != i {
+            return false;
+        }
+        i += 1;
+    }
+    true
+}
+
+// Has no sort the name of symbol i, and is it the first symbol of that name?
+fn is_symbol_first(
+    text: &[u8],
+    sorts: &[SortRow],
+    n: usize,
+    symbols: &[SymbolRow],
+    m: usize,
+    i: usize,
+) -> bool
+    requires { ⌜ (n ≤ length (now sorts)) × (m ≤ length (now symbols)) × (i < m) ⌝ }
+    ensures { λ r. ⌜ Decides (SymbolFirst (now (text .entry)) (now (sorts .entry)) n (now (symbols .entry)) m i) r ⌝ }
+{
+    let w = names::part(text, symbols[i][0], symbols[i][1]);
+    if names::find_sort(text, sorts, n, w) != n {
+        return false;
+    }
+    names::find_symbol(text, symbols, m, w) == i
+}
+
+// Is that so of each of m symbols?
+fn are_symbols_first(
+    text: &[u8],
+    sorts: &[SortRow],
+    n: usize,
+    symbols: &[SymbolRow],
+    m: usize,
+) -> bool
+    requires { ⌜ (n ≤ length (now sorts)) × (m ≤ length (now symbols)) ⌝ }
+    ensures { λ r. ⌜ Decides (SymbolsFirst (now (text .entry)) (now (sorts .entry)) n (now (symbols .entry)) m) r ⌝ }
+{
+    let mut i = 0;
+    while i < m {
+        if !is_symbol_first(text, sorts, n, symbols, m, i) {
+            return false;
+        }
+        i += 1;
+    }
+    true
+}
+
+// Does no name serve twice among sorts and symbols? Each is searched among all, so the cost is at most the square of the number of names times their length.
+fn are_names_distinct(
+    text: &[u8],
+    sorts: &[SortRow],
+    n: usize,
+    symbols: &[SymbolRow],
+    m: usize,
+) -> bool
+    requires { ⌜ (n ≤ length (now sorts)) × (m ≤ length (now symbols)) ⌝ }
+    ensures { λ r. ⌜ Decides (Distinct (namesOf (sortsOf (now (text .entry)) (now (sorts .entry)) n) (symbolsOf (now (text .entry)) (now (symbols .entry)) m))) r ⌝ }
+{
+    if !are_sorts_first(text, sorts, n) {
+        return false;
+    }
+    are_symbols_first(text, sorts, n, symbols, m)
+}
+
+// Are a symbol's output, number of inputs and free column in form?
+fn are_numbers_formed(sorts: u32, output: u32, inputs: u32, free: u32) -> bool
+    ensures { λ r. ⌜ Decides (NumbersFormed sorts output inputs free) r ⌝ }
+{
+    if sorts < output {
+        return false;
+    }
+    if INPUTS < inputs as usize {
+        return false;
+    }
+    free == 0
+}
+
+// A function has no output, and its last input is its result; only a function has clauses.
+fn is_mark_formed(output: u32, mark: u32, clauses: u32, inputs: u32) -> bool
+    ensures { λ r. ⌜ Decides (MarkFormed output mark clauses inputs) r ⌝ }
+{
+    if mark == 0 {
+        return clauses == 0;
+    }
+    if mark != 1 {
+        return false;
+    }
+    if output != 0 {
+        return false;
+    }
+    0 < inputs
+}
+
+// Are the clauses rules that there are, and is the first number zero without clauses?
+fn are_clauses_formed(first: u32, clauses: u32, rules: u32) -> bool
+    ensures { λ r. ⌜ Decides (ClausesFormed first clauses rules) r ⌝ }
+{
+    if (rules as usize) < first as usize + clauses as usize {
+        return false;
+    }
+    if clauses != 0 {
+        return true;
+    }
+    first == 0
+}
+
+// Is the column j of the inputs, of which n are used, a sort, or zero past them?
+fn is_input_formed(sorts: u32, n: u32, j: usize, input: u32) -> bool
+    ensures { λ r. ⌜ Decides (InputFormed sorts n j input) r ⌝ }
+{
+    if n as usize <= j {
+        return input == 0;
+    }
+    if input == 0 {
+        return false;
+    }
+    input <= sorts
+}
+
+// Are all columns of the inputs of symbol i in form?
+fn are_inputs_formed(sorts: u32, symbols: &[SymbolRow], i: usize) -> bool
+    requires { ⌜ i < length (now symbols) ⌝ }
+    ensures { λ r. ⌜ Decides (InputsFormed sorts (rowAt (now (symbols .entry)) i)) r ⌝ }
+{
+    let mut j = 0;
+    while j < INPUTS {
+        if !is_input_formed(sorts, symbols[i][6], j, symbols[i][8 + j]) {
+            return false;
+        }
+        j += 1;
+    }
+    true
+}
+
+// Is the row of symbol i in form?
+fn is_symbol_formed(text: &[u8], sorts: u32, rules: u32, symbols: &[SymbolRow], i: usize) -> bool
+    requires { ⌜ i < length (now symbols) ⌝ }
+    ensures { λ r. ⌜ Decides (SymbolFormed (now (text .entry)) sorts rules (rowAt (now (symbols .entry)) i)) r ⌝ }
+{
+    if !is_inside(text, symbols[i][0], symbols[i][1]) {
+        return false;
+    }
+    if !are_numbers_formed(sorts, symbols[i][2], symbols[i][6], symbols[i][7]) {
+        return false;
+    }
+    if !is_mark_formed(symbols[i][2], symbols[i][3], symbols[i][5], symbols[i][6]) {
+        return false;
+    }
+    if !are_clauses_formed(symbols[i][4], symbols[i][5], rules) {
+        return false;
+    }
+    are_inputs_formed(sorts, symbols, i)
+}
+
+// Are the rows of the first m symbols in form?
+fn are_symbols_formed(text: &[u8], sorts: u32, rules: u32, symbols: &[SymbolRow], m: usize) -> bool
+    requires { ⌜ m ≤ length (now symbols) ⌝ }
+    ensures { λ r. ⌜ Decides (SymbolsFormed (now (text .entry)) sorts rules (now (symbols .entry)) m) r ⌝ }
+{
+    let mut i = 0;
+    while i < m {
+        if !is_symbol_formed(text, sorts, rules, symbols, i) {
+            return false;
+        }
+        i += 1;
+    }
+    true
+}
+
+// Writes the number of inputs of each of m symbols.
+fn put_arities(symbols: &[SymbolRow], m: usize, arities: &mut [u32])
+    requires { ⌜ (m ≤ length (now symbols)) × (m ≤ length (now arities)) ⌝ }
+    ensures { λ _. ⌜ ((i : ℕ) → i < m → getD (now (arities .exit)) i 0 ≡ column (rowAt (now (symbols .entry)) i) 6) ⌝ }
+{
+    let mut i = 0;
+    while i < m {
+        arities[i] = symbols[i][6];
+        i += 1;
+    }
+}
+
+// Are the first k rules in form, one behind the other in the words in use, and do they end where these end?
+fn are_rules_listed(
+    text: &[u8],
+    arities: &[u32],
+    words: &[u32],
+    used: u32,
+    sorts: u32,
+    rules: &[RuleRow],
+    k: usize,
+) -> bool
+    requires { ⌜ (used ≤ length (now words)) × (used ≤ 65536) × (k ≤ length (now rules)) ⌝ }
+    ensures { λ r. ⌜ Decides (RulesListed (now (text .entry)) (now (arities .entry)) (now (words .entry)) sorts (now (rules .entry)) k used) r ⌝ }
+{
+    let mut at = 0;
+    let mut i = 0;
+    while i < k {
+        let verdict = rule_checks::check_rule(text, arities, words, used, at, sorts, rules, i);
+        let Verdict::Good { next } = verdict else {
+            return false;
+        };
+        at = next;
+        i += 1;
+    }
+    at == used
+}
+
+// Are all rules so over the symbols that are stored?
+fn are_rules_of(
+    text: &[u8],
+    symbols: &[SymbolRow],
+    rules: &[RuleRow],
+    words: &[u32],
+    counts: Counts,
+) -> bool
+    requires { ⌜ (counts .symbols ≤ 1024) × (counts .symbols ≤ length (now symbols)) × (counts .words ≤ length (now words)) × (counts .words ≤ 65536) × (counts .rules ≤ length (now rules)) ⌝ }
+    ensures { λ r. ⌜ Decides (RulesListed (now (text .entry)) (aritiesOf (symbolsOf (now (text .entry)) (now (symbols .entry)) (counts .symbols))) (now (words .entry)) (counts .sorts) (now (rules .entry)) (counts .rules) (counts .words)) r ⌝ }
+{
+    let m = counts.symbols as usize;
+    let k = counts.rules as usize;
+    let mut arities = [0u32; SYMBOLS];
+    put_arities(symbols, m, &mut arities);
+    are_rules_listed(
+        text,
+        &arities[0..m],
+        words,
+        counts.words,
+        counts.sorts,
+        rules,
+        k,
+    )
+}
+
+// Is the stored signature in the listed form? Every entry point that is lent one asks this first.
+pub fn check_signature(
+    text: &[u8],
+    limits: words::Limits,
+    sorts: &[SortRow],
+    symbols: &[SymbolRow],
+    rules: &[RuleRow],
+    words: &[u32],
+    counts: Counts,
+) -> bool
+    ensures { λ r. ⌜ Checked (now (text .entry)) limits (now (sorts .entry)) (now (symbols .entry)) (now (rules .entry)) (now (words .entry)) (counts .sorts) (counts .symbols) (counts .rules) (counts .words) r ⌝ }
+{
+    if !is_lent(limits, sorts, symbols, rules, words) {
+        return false;
+    }
+    if !is_counted(limits, counts) {
+        return false;
+    }
+    let n = counts.sorts as usize;
+    let m = counts.symbols as usize;
+    if !are_sorts_inside(text, sorts, n) {
+        return false;
+    }
+    if !are_names_distinct(text, sorts, n, symbols, m) {
+        return false;
+    }
+    if !are_symbols_formed(text, counts.sorts, counts.rules, symbols, m) {
+        return false;
+    }
+    are_rules_of(text, symbols, rules, words, counts)
+}
