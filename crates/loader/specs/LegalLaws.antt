@@ -358,7 +358,7 @@ module _ (limit : ℕ) (text : List ℕ) where
   from-legal (d ∷ ds) s h =
       go-on (declare limit text s (d .declaration)) (d .line) (λ t. loadFrom limit text t ds) (declare-legal s (d .declaration) h) (λ t g. from-legal ds t g)
 
-empty-legal : Legal empty
+pub empty-legal : Legal empty
 empty-legal =
     record {
       fewSorts = omega arith;

@@ -1,0 +1,2 @@
+-- What the contracts of `load` cite, in reading order.
+pub mod Load
