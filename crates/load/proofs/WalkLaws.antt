@@ -260,3 +260,24 @@ module _ {text : List ℕ} {limit : ℕ} {rows : Rows} {n : ℕ} {sorts symbols 
           subst (λ (x : Loaded). Came text limit waiting x (Done st count) sorts symbols rules words evals) (sym w)
           (record { state = st; is = ap (Done st) (sym m); held = g .held; lent = omega arith; waits = ap (λ (x : ℕ). take x evals) m ∙ sym e })
       go (d ∷ ds) s m w v = absurd (omega arith)
+
+-- Each `#eval` takes two rows at least.
+eval-few : (e : Declaration) (line p : ℕ) → 2 * length (evalOf p line e) ≤ length (declaredRows (record { line = line; declaration = e }))
+eval-few (sort n) line p = omega arith
+eval-few (ctor n ss) line p = omega arith
+eval-few (pred n ss) line p = omega arith
+eval-few (rule n js) line p = omega arith
+eval-few (def n ss cs) line p = omega arith
+eval-few (theorem n bs js t) line p = omega arith
+eval-few (eval t) line p = let r = term-row t in omega arith
+eval-few (check t) line p = omega arith
+
+pub evals-few : (ds : List Declared) (p : ℕ) → 2 * length (evalsFrom p ds) ≤ length (rowsOfAll declaredRows ds)
+unfolding evalsFrom rowsOfAll
+evals-few [] p = omega arith
+evals-few (d ∷ ds) p =
+    let a = eval-few (d .declaration) (d .line) p in
+    let b = evals-few ds (p + length (declaredRows d)) in
+    let c = length-append (evalOf p (d .line) (d .declaration)) (evalsFrom (p + length (declaredRows d)) ds) in
+    let e = length-append (declaredRows d) (rowsOfAll declaredRows ds) in
+    omega arith

@@ -1,2 +1,4 @@
 -- What the contracts of `load` cite, in reading order.
 pub mod Load
+pub mod Loading
+pub mod Clearing

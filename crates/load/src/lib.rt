@@ -7,13 +7,18 @@ ghost use mathlib.Core.List.{[], _∷_, _++_};
 ghost use Prim.Native.Nat.{_+_, _-_, _≤_};
 ghost use lib.Dec.{eqb};
 ghost use lib.ListN.{length, take, set, replicate};
+ghost use Rattle.words.specs.Lexer.{cappedOf};
 ghost use Rattle.load.specs.Load.{noted, WalkAsked, Walked};
+ghost use Rattle.load.specs.Loading.{isShort, zeroPair, zeroSymbol, zeroRule, clearedFrom, LoadingText};
+ghost use Rattle.load.specs.Clearing.{Clearable, SignatureCleared, ScratchCleared, RowsAsked, RowsLoaded};
 use declarations::Progress;
 use declarations::State;
 use names::SortRow;
 use names::SymbolRow;
+use parser::Answer;
 use patterns::TermRow;
 use rules::RuleRow;
+use signature::Counts;
 
 // An `#eval` that waits: its line, and the row of its term.
 pub type EvalRow = [u32; 2];
@@ -76,9 +81,21 @@ fn enter_all(
         let line = rows[at][1];
         count = note(evals, count, rows[at][0], line, at);
         match declarations::declare(
-            text, rows, at, sorts, symbols, rules, words, out, calls, state,
+            text,
+            rows,
+            at,
+            sorts,
+            symbols,
+            rules,
+            words,
+            out,
+            calls,
+            state,
         ) {
-            Progress::Refused { number: e } => return Walk::Refused { number: e, line: line },
+            Progress::Refused { number: e } => return Walk::Refused {
+                number: e,
+                line: line,
+            },
             Progress::Done { next, state: s } => {
                 at = next;
                 state = s;
@@ -89,5 +106,245 @@ fn enter_all(
     Walk::Done {
         state: state,
         evals: count,
+    }
+}
+
+// What `load` answers: the refusal by its number and line; or how many declarations there are, how many `#eval` wait, and how much is stored.
+pub enum Loading {
+    Refused {
+        number: u32,
+        line: u32,
+    },
+    Loaded {
+        declarations: u32,
+        evals: u32,
+        counts: Counts,
+    },
+}
+
+// Zeroes rows of two numbers from a place on.
+fn clear_pairs(rows: &mut [[u32; 2]], from: usize)
+    requires { ⌜ from ≤ length (now rows) ⌝ }
+    ensures { λ _. ⌜ now (rows .exit) ≡ clearedFrom zeroPair from (now (rows .entry)) ⌝ }
+{
+    let mut i = from;
+    while i < rows.len() {
+        rows[i] = [0, 0];
+        i += 1;
+    }
+}
+
+// Zeroes symbols from a place on.
+fn clear_symbols(rows: &mut [SymbolRow], from: usize)
+    requires { ⌜ from ≤ length (now rows) ⌝ }
+    ensures { λ _. ⌜ now (rows .exit) ≡ clearedFrom zeroSymbol from (now (rows .entry)) ⌝ }
+{
+    let mut i = from;
+    while i < rows.len() {
+        rows[i] = [0u32; 24];
+        i += 1;
+    }
+}
+
+// Zeroes rules from a place on.
+fn clear_rules(rows: &mut [RuleRow], from: usize)
+    requires { ⌜ from ≤ length (now rows) ⌝ }
+    ensures { λ _. ⌜ now (rows .exit) ≡ clearedFrom zeroRule from (now (rows .entry)) ⌝ }
+{
+    let mut i = from;
+    while i < rows.len() {
+        rows[i] = [0u32; 154];
+        i += 1;
+    }
+}
+
+// Zeroes a signature's storage from the counts on.
+fn clear_signature(
+    sorts: &mut [SortRow],
+    n: usize,
+    symbols: &mut [SymbolRow],
+    m: usize,
+    rules: &mut [RuleRow],
+    k: usize,
+    words: &mut [u32],
+    u: usize,
+)
+    requires { ⌜ Clearable (now sorts) (now symbols) (now rules) (now words) n m k u ⌝ ∗ ⌜ u ≤ 65536 ⌝ }
+    ensures { λ _. ⌜ SignatureCleared (now (sorts .entry)) (now (symbols .entry)) (now (rules .entry)) (now (words .entry)) n m k u (now (sorts .exit)) (now (symbols .exit)) (now (rules .exit)) (now (words .exit)) ⌝ }
+{
+    clear_pairs(sorts, n);
+    clear_symbols(symbols, m);
+    clear_rules(rules, k);
+    arena::clear(words, u as u32);
+}
+
+// Zeroes the scratch, and the rows of `#eval` from a count on.
+fn clear_scratch(tokens: &mut [TermRow], calls: &mut [TermRow], evals: &mut [EvalRow], n: usize)
+    requires { ⌜ n ≤ length (now evals) ⌝ }
+    ensures { λ _. ⌜ ScratchCleared (now (tokens .entry)) (now (calls .entry)) (now (evals .entry)) n (now (tokens .exit)) (now (calls .exit)) (now (evals .exit)) ⌝ }
+{
+    words::clear(tokens, 0);
+    words::clear(calls, 0);
+    clear_pairs(evals, n);
+}
+
+// Are buffers of these lengths shorter than docs/STORAGE.md lists?
+fn is_short(
+    limits: words::Limits,
+    tokens: usize,
+    rows: usize,
+    calls: usize,
+    sorts: usize,
+    symbols: usize,
+    rules: usize,
+    words: usize,
+    evals: usize,
+) -> bool
+    ensures { λ r. ⌜ r ≡ isShort limits tokens rows calls sorts symbols rules words evals ⌝ }
+{
+    let capped = limits.capped();
+    let text = capped.text as usize;
+    let nodes = capped.nodes as usize;
+    if tokens < text {
+        return true;
+    }
+    if rows < text {
+        return true;
+    }
+    if calls < text + 32 {
+        return true;
+    }
+    if sorts < 256 {
+        return true;
+    }
+    if symbols < 1024 {
+        return true;
+    }
+    if rules < 1024 {
+        return true;
+    }
+    if words < 2 * nodes {
+        return true;
+    }
+    evals < text / 2
+}
+
+// Enters the n declarations in the first `used` rows, and clears what is past the counts; or clears everything.
+fn load_rows(
+    text: &[u8],
+    limit: usize,
+    n: u32,
+    used: usize,
+    tokens: &mut [TermRow],
+    rows: &mut [TermRow],
+    calls: &mut [TermRow],
+    sorts: &mut [SortRow],
+    symbols: &mut [SymbolRow],
+    rules: &mut [RuleRow],
+    words: &mut [u32],
+    evals: &mut [EvalRow],
+) -> Loading
+    requires { ⌜ RowsAsked (now text) limit n used (now tokens) (now rows) (now calls) (now sorts) (now symbols) (now rules) (now words) (now evals) ⌝ }
+    ensures { λ r. ⌜ RowsLoaded (now (text .entry)) limit n used (record { tokens = now (tokens .entry); rows = now (rows .entry); calls = now (calls .entry); sorts = now (sorts .entry); symbols = now (symbols .entry); rules = now (rules .entry); words = now (words .entry); evals = now (evals .entry) }) r (record { tokens = now (tokens .exit); rows = now (rows .exit); calls = now (calls .exit); sorts = now (sorts .exit); symbols = now (symbols .exit); rules = now (rules .exit); words = now (words .exit); evals = now (evals .exit) }) ⌝ }
+{
+    match enter_all(
+        text,
+        limit,
+        &rows[0..used],
+        n as usize,
+        sorts,
+        symbols,
+        rules,
+        words,
+        evals,
+        tokens,
+        calls,
+    ) {
+        Walk::Refused { number, line } => {
+            words::clear(rows, 0);
+            clear_scratch(tokens, calls, evals, 0);
+            clear_signature(sorts, 0, symbols, 0, rules, 0, words, 0);
+            Loading::Refused {
+                number: number,
+                line: line,
+            }
+        }
+        Walk::Done { state, evals: k } => {
+            clear_scratch(tokens, calls, evals, k);
+            clear_signature(
+                sorts,
+                state.sorts,
+                symbols,
+                state.symbols,
+                rules,
+                state.rules,
+                words,
+                state.used,
+            );
+            Loading::Loaded {
+                declarations: n,
+                evals: k as u32,
+                counts: Counts {
+                    sorts: state.sorts as u32,
+                    symbols: state.symbols as u32,
+                    rules: state.rules as u32,
+                    words: state.used as u32,
+                },
+            }
+        }
+    }
+}
+
+// Loads a text: lexes it, parses it, and enters its declarations in text order.
+pub fn load(
+    text: &[u8],
+    limits: words::Limits,
+    tokens: &mut [TermRow],
+    rows: &mut [TermRow],
+    calls: &mut [TermRow],
+    sorts: &mut [SortRow],
+    symbols: &mut [SymbolRow],
+    rules: &mut [RuleRow],
+    words: &mut [u32],
+    evals: &mut [EvalRow],
+) -> Loading
+    ensures { λ r. ⌜ LoadingText (now (text .entry)) limits (record { tokens = now (tokens .entry); rows = now (rows .entry); calls = now (calls .entry); sorts = now (sorts .entry); symbols = now (symbols .entry); rules = now (rules .entry); words = now (words .entry); evals = now (evals .entry) }) r (record { tokens = now (tokens .exit); rows = now (rows .exit); calls = now (calls .exit); sorts = now (sorts .exit); symbols = now (symbols .exit); rules = now (rules .exit); words = now (words .exit); evals = now (evals .exit) }) ⌝ }
+{
+    if is_short(
+        limits,
+        tokens.len(),
+        rows.len(),
+        calls.len(),
+        sorts.len(),
+        symbols.len(),
+        rules.len(),
+        words.len(),
+        evals.len(),
+    ) {
+        return Loading::Refused { number: 1, line: 0 };
+    }
+    match parser::parse_text(text, limits, tokens, rows) {
+        Answer::Refused(refusal, line) => {
+            clear_scratch(tokens, calls, evals, 0);
+            clear_signature(sorts, 0, symbols, 0, rules, 0, words, 0);
+            Loading::Refused {
+                number: parser::number(refusal),
+                line: line,
+            }
+        }
+        Answer::Declarations(n, used) => load_rows(
+            text,
+            limits.capped().nodes as usize,
+            n,
+            used,
+            tokens,
+            rows,
+            calls,
+            sorts,
+            symbols,
+            rules,
+            words,
+            evals,
+        ),
     }
 }

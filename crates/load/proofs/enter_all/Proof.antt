@@ -116,7 +116,7 @@ declare-requires c κs =
       outLent = omega (arith, (loop .inv .6));
       callsLent = omega (arith, (loop .inv .7));
       ready = ((args .limit), g .signature, g .held);
-      stand = d
+      stand = d;
     }
 
 enum-known-e : tie.Need-enum-known-e Inv-loop μ-loop
@@ -171,7 +171,7 @@ returns c =
     let loop-test = c .before .before .before .before .before .before .before .before .before .before .before .before .before .before .before .before .before .before .before .before .before .before .loop-test in
     let e = c .before .e in
     record {
-      same = λ ds a b t. sofar-stops (declare .ensures) ((loop .inv .8) ds a b t) (loop-test .taken) (e .given .1) _ _ _ _ _
+      same = λ ds a b t. sofar-stops (declare .ensures) ((loop .inv .8) ds a b t) (loop-test .taken) (e .given .1) _ _ _ _ _;
     }
 
 enum-known-next : tie.Need-enum-known-next Inv-loop μ-loop
@@ -192,15 +192,24 @@ loop-again c =
     let declare = c .before .before .before .before .before .before .before .before .before .before .declare in
     let loop = c .before .before .before .before .before .before .before .before .before .before .before .before .before .before .before .before .before .before .before .before .before .before .before .loop in
     let note = c .before .before .before .before .before .before .before .before .before .before .before .before .before .before .before .before .before .before .note in
-    let next = c .before .next in
-    (omega (arith, (loop-test .taken)), (declare .kept .1 .1 .1 .0)
-        ∙ (loop .inv .1), (declare .kept .1 .1 .1 .1 .0)
-        ∙ (loop .inv .2), (declare .kept .1 .1 .1 .1 .1 .0)
-        ∙ (loop .inv .3), (declare .kept .1 .1 .1 .1 .1 .1 .0)
-        ∙ (loop .inv .4), (note .kept .0)
-        ∙ (loop .inv .5), (declare .kept .1 .1 .1 .1 .1 .1 .1 .0)
-        ∙ (loop .inv .6), (declare .kept .1 .1 .1 .1 .1 .1 .1 .1 .0)
-        ∙ (loop .inv .7), λ ds a b t. rw ((note .ensures .0), (note .ensures .1)) (sofar-on (declare .ensures) ((loop .inv .8) ds a b t) (loop-test .taken) (next .given .1)))
+    let next = c .before .next in (
+      omega (arith, (loop-test .taken)),
+      (declare .kept .1 .1 .1 .0)
+          ∙ (loop .inv .1),
+      (declare .kept .1 .1 .1 .1 .0)
+          ∙ (loop .inv .2),
+      (declare .kept .1 .1 .1 .1 .1 .0)
+          ∙ (loop .inv .3),
+      (declare .kept .1 .1 .1 .1 .1 .1 .0)
+          ∙ (loop .inv .4),
+      (note .kept .0)
+          ∙ (loop .inv .5),
+      (declare .kept .1 .1 .1 .1 .1 .1 .1 .0)
+          ∙ (loop .inv .6),
+      (declare .kept .1 .1 .1 .1 .1 .1 .1 .1 .0)
+          ∙ (loop .inv .7),
+      λ ds a b t. rw ((note .ensures .0), (note .ensures .1)) (sofar-on (declare .ensures) ((loop .inv .8) ds a b t) (loop-test .taken) (next .given .1)),
+    )
 
 same-length-8 : tie.Need-same-length-8 Inv-loop μ-loop
 same-length-8 c = (c .before .loop .inv .1)

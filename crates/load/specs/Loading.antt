@@ -1,0 +1,101 @@
+-- The contract of `load`: the answer and every lent buffer, on all inputs.
+use Prim.Native.Nat.{ℕ, _+_, _-_, _*_, _/_}
+use mathlib.Core.Path.{_≡_}
+use mathlib.Core.Bool.{Bool, true, false, _||_}
+use mathlib.Core.List.{List, [], _∷_, _++_}
+use lib.Dec.{ltb}
+use lib.ListN.{length, drop, take, replicate}
+use Rattle.words.specs.Lexer.{cappedOf, zeroRow}
+use Rattle.words.specs.declared.Limits.{Limits}
+use Rattle.parser.specs.Declarations.{Declared}
+use Rattle.parser.specs.Parser.{textOf, rowsAfter}
+use Rattle.names.specs.Symbols.{Rows, sortsOf, symbolsOf}
+use Rattle.loader.specs.Signature.{Signature, Loaded, refused, loaded}
+use Rattle.signature.specs.Form.{rulesOf, Listed}
+use Rattle.load.specs.Load.{declaredIn, loadText, evalsFrom}
+use Rattle.load.specs.declared.Loading.{Loading}
+use Rattle.load.specs.declared.Loading.the-variants.{Refused as Barred, Loaded as Entered}
+
+-- All that a caller lends.
+pub record Buffers : Type 0 where
+  pub tokens : Rows
+  pub rows : Rows
+  pub calls : Rows
+  pub sorts : Rows
+  pub symbols : Rows
+  pub rules : Rows
+  pub words : List ℕ
+  pub evals : Rows
+
+-- Is a buffer of these lengths shorter than docs/STORAGE.md lists, where so many bytes and nodes are allowed?
+abbrev pub shortBy : ℕ → ℕ → ℕ → ℕ → ℕ → ℕ → ℕ → ℕ → ℕ → ℕ → Bool
+shortBy text nodes tokens rows calls sorts symbols rules words evals =
+    ltb tokens text
+    || (ltb rows text || (ltb calls (text + 32) || (ltb sorts 256 || (ltb symbols 1024 || (ltb rules 1024 || (ltb words (2 * nodes) || ltb evals (text / 2)))))))
+
+abbrev pub isShort : Limits → ℕ → ℕ → ℕ → ℕ → ℕ → ℕ → ℕ → ℕ → Bool
+isShort limits tokens rows calls sorts symbols rules words evals = shortBy (cappedOf limits .text) (cappedOf limits .nodes) tokens rows calls sorts symbols rules words evals
+
+abbrev pub tooShort : Limits → Buffers → Bool
+tooShort limits b =
+    isShort limits (length (b .tokens)) (length (b .rows)) (length (b .calls)) (length (b .sorts)) (length (b .symbols)) (length (b .rules)) (length (b .words)) (length (b .evals))
+
+-- Rows of zeros.
+abbrev pub zeroPair : List ℕ
+zeroPair = 0 ∷ 0 ∷ []
+
+abbrev pub zeroSymbol : List ℕ
+zeroSymbol = replicate 24 0
+
+abbrev pub zeroRule : List ℕ
+zeroRule = replicate 154 0
+
+-- Zero from the item n on.
+abbrev pub clearedFrom : {A : Type 0} → A → ℕ → List A → List A
+clearedFrom z n l = take n l ++ replicate (length l - n) z
+
+-- Zero throughout.
+abbrev pub wiped : Buffers → Buffers
+wiped b =
+    record {
+      tokens = replicate (length (b .tokens)) zeroRow;
+      rows = replicate (length (b .rows)) zeroRow;
+      calls = replicate (length (b .calls)) zeroRow;
+      sorts = replicate (length (b .sorts)) zeroPair;
+      symbols = replicate (length (b .symbols)) zeroSymbol;
+      rules = replicate (length (b .rules)) zeroRule;
+      words = replicate (length (b .words)) 0;
+      evals = replicate (length (b .evals)) zeroPair;
+    }
+
+-- The signature s of the declarations ds was loaded.
+pub record LoadedInto (text : List ℕ) (limits : Limits) (b : Buffers) (ds : List Declared) (s : Signature) (r : Loading) (b′ : Buffers) : Type 0 where
+  -- How many words are in use, and how many of each kind there are.
+  pub used : ℕ
+  pub answer : r ≡ Entered (length ds) (length (evalsFrom 0 ds)) (record { sorts = length (s .sorts); symbols = length (s .symbols); rules = length (s .rules); words = used })
+  -- The rows and words denote the signature,
+  pub sortsAre : sortsOf text (b′ .sorts) (length (s .sorts)) ≡ s .sorts
+  pub symbolsAre : symbolsOf text (b′ .symbols) (length (s .symbols)) ≡ s .symbols
+  pub rulesAre : rulesOf text (b′ .words) (b′ .rules) (length (s .rules)) ≡ s .rules
+  -- are in the listed form, which `check_signature` accepts,
+  pub listed : Listed text limits (b′ .sorts) (b′ .symbols) (b′ .rules) (b′ .words) (length (s .sorts)) (length (s .symbols)) (length (s .rules)) used
+  -- and are zero past the counts.
+  pub sortsClear : drop (length (s .sorts)) (b′ .sorts) ≡ replicate (length (b .sorts) - length (s .sorts)) zeroPair
+  pub symbolsClear : drop (length (s .symbols)) (b′ .symbols) ≡ replicate (length (b .symbols) - length (s .symbols)) zeroSymbol
+  pub rulesClear : drop (length (s .rules)) (b′ .rules) ≡ replicate (length (b .rules) - length (s .rules)) zeroRule
+  pub wordsClear : drop used (b′ .words) ≡ replicate (length (b .words) - used) 0
+  -- The declarations' rows stay, and each `#eval` waits with its line and the row of its term; the scratch is zero.
+  pub rows : b′ .rows ≡ rowsAfter (length (b .rows)) (textOf text limits)
+  pub evals : b′ .evals ≡ evalsFrom 0 ds ++ replicate (length (b .evals) - length (evalsFrom 0 ds)) zeroPair
+  pub tokens : b′ .tokens ≡ replicate (length (b .tokens)) zeroRow
+  pub calls : b′ .calls ≡ replicate (length (b .calls)) zeroRow
+
+-- What is left of a text that is refused, by number and line, or loaded.
+abbrev pub Left : List ℕ → Limits → Buffers → List Declared → Loaded → Loading → Buffers → Type 0
+Left text limits b ds (refused e line) r b′ = (r ≡ Barred e line) × (b′ ≡ wiped b)
+Left text limits b ds (loaded s) r b′ = LoadedInto text limits b ds s r b′
+
+-- A buffer that is too short gives 1, and nothing is written.
+pub record LoadingText (text : List ℕ) (limits : Limits) (b : Buffers) (r : Loading) (b′ : Buffers) : Type 0 where
+  pub short : tooShort limits b ≡ true → (r ≡ Barred 1 0) × (b′ ≡ b)
+  pub enough : tooShort limits b ≡ false → Left text limits b (declaredIn (textOf text limits)) (loadText text limits) r b′
