@@ -2,3 +2,4 @@
 pub mod Words
 pub mod Unification
 pub mod Declarations
+pub mod Signatures

@@ -1,6 +1,13 @@
 // The functions that programs in other languages call: numbers, byte slices and rows.
 ghost use mathlib.Core.Path.{_≡_};
+ghost use Prim.Native.Nat.{_≤_};
+ghost use mathlib.Core.Bool.{cond};
+ghost use lib.Dec.{eqb};
+ghost use mathlib.Core.List.{[], _∷_};
+ghost use lib.ListN.{length, replicate};
+ghost use lib.Seq.{sets};
 ghost use Rattle.capi.specs.Declarations.{ParsedAs};
+ghost use Rattle.capi.specs.Signatures.{LoadedAs};
 ghost use Rattle.capi.specs.Unification.{Answered};
 ghost use Rattle.capi.specs.Words.{packed, textLimit};
 ghost use Rattle.words.specs.Lexer.{lexAnswer, lexRows};
@@ -47,6 +54,85 @@ pub extern "C" fn horn_parse(
         parser::Answer::Declarations(n, _) => n as u64,
         parser::Answer::Refused(r, line) => (parser::number(r) as u64) * 0x1_0000_0000
             + (line as u64),
+    }
+}
+
+// Writes five counts, and zero behind them.
+fn put_counts(counts: &mut [u32], stored: signature::Counts, evals: u32)
+    requires { ⌜ 5 ≤ length (now counts) ⌝ }
+    ensures { λ _. ⌜ now (counts .exit) ≡ sets (replicate (length (now (counts .entry))) 0) 0 (stored .sorts ∷ stored .symbols ∷ stored .rules ∷ stored .words ∷ evals ∷ []) ⌝ }
+{
+    arena::clear(counts, 0);
+    counts[0] = stored.sorts;
+    counts[1] = stored.symbols;
+    counts[2] = stored.rules;
+    counts[3] = stored.words;
+    counts[4] = evals;
+}
+
+// Zeroes the counts of a text that is refused; 1 writes nothing.
+fn clear_counts(counts: &mut [u32], number: u32)
+    ensures { λ _. ⌜ now (counts .exit) ≡ cond (eqb number 1) (now (counts .entry)) (replicate (length (now (counts .entry))) 0) ⌝ }
+{
+    if number == 1 {
+        return;
+    }
+    arena::clear(counts, 0);
+}
+
+// `load::load` under limits on the text's bytes and the nodes in all. The answer is the number of declarations, or 2^32 times the refusal's number and its
+// line. The counts are those of sorts, symbols, rules, words and waiting `#eval`.
+#[no_mangle]
+pub extern "C" fn horn_load(
+    text: &[u8],
+    bytes: u32,
+    nodes: u32,
+    tokens: &mut [[u32; 4]],
+    rows: &mut [[u32; 4]],
+    calls: &mut [[u32; 4]],
+    sorts: &mut [[u32; 2]],
+    symbols: &mut [[u32; 24]],
+    rules: &mut [[u32; 154]],
+    words: &mut [u32],
+    evals: &mut [[u32; 2]],
+    counts: &mut [u32],
+) -> u64
+    ensures { λ r. ⌜ LoadedAs (now (text .entry)) bytes nodes (record { tokens = now (tokens .entry); rows = now (rows .entry); calls = now (calls .entry); sorts = now (sorts .entry); symbols = now (symbols .entry); rules = now (rules .entry); words = now (words .entry); evals = now (evals .entry) }) (now (counts .entry)) r (record { tokens = now (tokens .exit); rows = now (rows .exit); calls = now (calls .exit); sorts = now (sorts .exit); symbols = now (symbols .exit); rules = now (rules .exit); words = now (words .exit); evals = now (evals .exit) }) (now (counts .exit)) ⌝ }
+{
+    if counts.len() < 5 {
+        return 0x1_0000_0000;
+    }
+    let limits = words::Limits {
+        text: bytes,
+        nodes: nodes,
+        steps: 0,
+        variables: 0,
+        words: 0,
+    };
+    match load::load(
+        text,
+        limits,
+        tokens,
+        rows,
+        calls,
+        sorts,
+        symbols,
+        rules,
+        words,
+        evals,
+    ) {
+        load::Loading::Refused { number, line } => {
+            clear_counts(counts, number);
+            (number as u64) * 0x1_0000_0000 + (line as u64)
+        }
+        load::Loading::Loaded {
+            declarations,
+            evals: waiting,
+            counts: stored,
+        } => {
+            put_counts(counts, stored, waiting);
+            declarations as u64
+        }
     }
 }
 
