@@ -6,7 +6,7 @@ ghost use Prim.Native.Nat.{_≤_};
 ghost use lib.ListN.{length};
 ghost use Rattle.words.specs.Bytes.{sameBytes};
 ghost use Rattle.words.specs.Lexer.{partOf};
-ghost use Rattle.names.specs.Names.{nameOf};
+ghost use Rattle.names.specs.Names.{resultNames, nameOf};
 ghost use Rattle.names.specs.Symbols.{sortsOf, symbolsOf, variablesOf, sortNumber, symbolNumber, variableNumber};
 
 // A sort: start, length.
@@ -32,12 +32,19 @@ pub fn part<'a>(text: &'a [u8], start: u32, size: u32) -> &'a [u8]
     words::word(text, start as usize, size as usize)
 }
 
+// Is the name at a place of `RESULT_NAMES` w? The table is laid out wherever it is named, so the functions that read it are apart from the others.
+fn is_result(start: u32, size: u32, w: &[u8]) -> bool
+    ensures { λ r. ⌜ r ≡ sameBytes (partOf resultNames start size) (now (w .entry)) ⌝ }
+{
+    words::same(part(&RESULT_NAMES, start, size), w)
+}
+
 // Is the name at a place w?
 pub fn is_named(text: &[u8], kind: u32, start: u32, size: u32, w: &[u8]) -> bool
     ensures { λ r. ⌜ r ≡ sameBytes (nameOf (now (text .entry)) kind start size) (now (w .entry)) ⌝ }
 {
     if kind == RESULT {
-        return words::same(part(&RESULT_NAMES, start, size), w);
+        return is_result(start, size, w);
     }
     words::same(part(text, start, size), w)
 }
@@ -87,6 +94,20 @@ pub fn find_variable(text: &[u8], variables: &[VariableRow], count: usize, w: &[
     i
 }
 
+// The number of the symbol whose name stands at a place of `RESULT_NAMES`.
+fn result_symbol(
+    text: &[u8],
+    symbols: &[SymbolRow],
+    count: usize,
+    start: u32,
+    size: u32,
+) -> usize
+    requires { ⌜ count ≤ length (now symbols) ⌝ }
+    ensures { λ r. ⌜ r ≡ symbolNumber (symbolsOf (now (text .entry)) (now (symbols .entry)) count) (partOf resultNames start size) ⌝ }
+{
+    find_symbol(text, symbols, count, part(&RESULT_NAMES, start, size))
+}
+
 // The number of the symbol whose name stands at a place.
 pub fn symbol_of(
     text: &[u8],
@@ -100,9 +121,23 @@ pub fn symbol_of(
     ensures { λ r. ⌜ r ≡ symbolNumber (symbolsOf (now (text .entry)) (now (symbols .entry)) count) (nameOf (now (text .entry)) kind start size) ⌝ }
 {
     if kind == RESULT {
-        return find_symbol(text, symbols, count, part(&RESULT_NAMES, start, size));
+        return result_symbol(text, symbols, count, start, size);
     }
     find_symbol(text, symbols, count, part(text, start, size))
+}
+
+// The number of the variable whose name stands at a place of `RESULT_NAMES`.
+fn result_variable(
+    text: &[u8],
+    variables: &[VariableRow],
+    count: usize,
+    start: u32,
+    size: u32,
+) -> usize
+    requires { ⌜ count ≤ length (now variables) ⌝ }
+    ensures { λ r. ⌜ r ≡ variableNumber (variablesOf (now (text .entry)) (now (variables .entry)) count) (partOf resultNames start size) ⌝ }
+{
+    find_variable(text, variables, count, part(&RESULT_NAMES, start, size))
 }
 
 // The number of the variable whose name stands at a place.
@@ -118,7 +153,7 @@ pub fn variable_of(
     ensures { λ r. ⌜ r ≡ variableNumber (variablesOf (now (text .entry)) (now (variables .entry)) count) (nameOf (now (text .entry)) kind start size) ⌝ }
 {
     if kind == RESULT {
-        return find_variable(text, variables, count, part(&RESULT_NAMES, start, size));
+        return result_variable(text, variables, count, start, size);
     }
     find_variable(text, variables, count, part(text, start, size))
 }
