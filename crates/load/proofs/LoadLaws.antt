@@ -32,7 +32,7 @@ use Rattle.load.specs.Clearing.{RowsAsked, RowsKept, RowsLeft}
 use Rattle.load.specs.declared.Loading.{Loading}
 use Rattle.load.specs.declared.Loading.the-variants.{Refused as Barred, Loaded as Entered}
 use Rattle.load.proofs.ShortLaws.{Enough}
-use Rattle.load.proofs.RowsLaws.{SameLengths, buffers}
+use Rattle.load.proofs.RowsLaws.{SameLengths, wiped-same}
 use Rattle.load.proofs.ListedLaws.{held-rules, held-listed}
 
 -- What the parser answers where its buffers are long enough.
@@ -83,12 +83,6 @@ first-rows xs used k e = take-at xs (replicate k zeroRow) used (sym e)
 
 -- What is left by the rows' function is left by `load`.
 module _ (text : List ℕ) (limits : Limits) (b c d : Buffers) (same : SameLengths b c) (rowsSame : length (c .rows) ≡ length (b .rows)) where
-  wiped-same : wiped c ≡ wiped b
-  wiped-same =
-      buffers (ap (λ (n : ℕ). replicate n zeroRow) (same .tokens)) (ap (λ (n : ℕ). replicate n zeroRow) rowsSame) (ap (λ (n : ℕ). replicate n zeroRow) (same .calls))
-      (ap (λ (n : ℕ). replicate n zeroPair) (same .sorts)) (ap (λ (n : ℕ). replicate n zeroSymbol) (same .symbols)) (ap (λ (n : ℕ). replicate n zeroRule) (same .rules))
-      (ap (λ (n : ℕ). replicate n 0) (same .words)) (ap (λ (n : ℕ). replicate n zeroPair) (same .evals))
-
   module _ (limit : ℕ) (limited : limit ≡ cappedOf limits .nodes) (n used : ℕ) (r : Loading) where
     kept-left : (ds : List Declared) (s : Signature) → n ≡ length ds → c .rows ≡ rowsAfter (length (b .rows)) (textOf text limits) → RowsKept text limit n c ds s r d → LoadedInto text limits b ds s r d
     kept-left ds s m rows h =
@@ -115,7 +109,7 @@ module _ (text : List ℕ) (limits : Limits) (b c d : Buffers) (same : SameLengt
         }
 
     pub rows-left : (ds : List Declared) (x : Loaded) → n ≡ length ds → c .rows ≡ rowsAfter (length (b .rows)) (textOf text limits) → RowsLeft text limit n c ds x r d → Left text limits b ds x r d
-    rows-left ds (refused e line) m rows h = (h .0, h .1 ∙ wiped-same)
+    rows-left ds (refused e line) m rows h = (h .0, h .1 ∙ wiped-same b c same rowsSame)
     rows-left ds (loaded s) m rows h = kept-left ds s m rows h
 
 pub capped-small : (l : Limits) → (cappedOf l .text ≤ 65536) × (cappedOf l .nodes ≤ 32768)

@@ -66,7 +66,7 @@ clear-past : {A : Type 0} (z : A) (n : ℕ) (l l₀ : List A) → n ≤ length l
 clear-past z n l l₀ h e =
     drop-at (take n l) (replicate (length l - n) z) n (length-take-le n l h) ∙ ap (λ (k : ℕ). replicate (k - n) z) e
 
-pub buffers : {a a′ b b′ c c′ d d′ e e′ f f′ : Rows} {g g′ : List ℕ} {h h′ : Rows} → a ≡ a′ → b ≡ b′ → c ≡ c′ → d ≡ d′ → e ≡ e′ → f ≡ f′ → g ≡ g′ → h ≡ h′
+buffers : {a a′ b b′ c c′ d d′ e e′ f f′ : Rows} {g g′ : List ℕ} {h h′ : Rows} → a ≡ a′ → b ≡ b′ → c ≡ c′ → d ≡ d′ → e ≡ e′ → f ≡ f′ → g ≡ g′ → h ≡ h′
     → _≡_ {A = Buffers} (record { tokens = a; rows = b; calls = c; sorts = d; symbols = e; rules = f; words = g; evals = h })
     (record { tokens = a′; rows = b′; calls = c′; sorts = d′; symbols = e′; rules = f′; words = g′; evals = h′ })
 buffers p q r s t u v w = rw (p, q, r, s, t, u, v, w) refl
@@ -80,6 +80,12 @@ pub record SameLengths (b c : Buffers) : Type 0 where
   pub rules : length (c .rules) ≡ length (b .rules)
   pub words : length (c .words) ≡ length (b .words)
   pub evals : length (c .evals) ≡ length (b .evals)
+
+pub wiped-same : (b c : Buffers) → SameLengths b c → length (c .rows) ≡ length (b .rows) → wiped c ≡ wiped b
+wiped-same b c same rows =
+    buffers (ap (λ (n : ℕ). replicate n zeroRow) (same .tokens)) (ap (λ (n : ℕ). replicate n zeroRow) rows) (ap (λ (n : ℕ). replicate n zeroRow) (same .calls))
+    (ap (λ (n : ℕ). replicate n zeroPair) (same .sorts)) (ap (λ (n : ℕ). replicate n zeroSymbol) (same .symbols)) (ap (λ (n : ℕ). replicate n zeroRule) (same .rules))
+    (ap (λ (n : ℕ). replicate n 0) (same .words)) (ap (λ (n : ℕ). replicate n zeroPair) (same .evals))
 
 module _ (b c d : Buffers) (same : SameLengths b c) where
   -- Everything is wiped.

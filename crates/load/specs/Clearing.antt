@@ -37,6 +37,10 @@ pub record ScratchCleared (tokens calls evals : Rows) (n : ℕ) (tokens′ calls
   pub calls-are : calls′ ≡ clearedFrom zeroRow 0 calls
   pub evals-are : evals′ ≡ clearedFrom zeroPair n evals
 
+-- Every buffer is zero throughout.
+pub record Wiped (b b′ : Buffers) : Type 0 where
+  pub is : b′ ≡ wiped b
+
 -- What `load_rows` asks: declarations in the first `used` rows, zero past them, and storage of the listed sizes.
 pub record RowsAsked (text : List ℕ) (limit n used : ℕ) (tokens rows calls sorts symbols rules : Rows) (words : List ℕ) (evals : Rows) : Type 0 where
   pub declared : (ds : List Declared) × (take used rows ≡ rowsOfAll declaredRows ds) × (n ≡ length ds) × TitlesInside text ds

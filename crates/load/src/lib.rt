@@ -10,7 +10,7 @@ ghost use lib.ListN.{length, take, set, replicate};
 ghost use Rattle.words.specs.Lexer.{cappedOf};
 ghost use Rattle.load.specs.Load.{noted, WalkAsked, Walked};
 ghost use Rattle.load.specs.Loading.{isShort, zeroPair, zeroSymbol, zeroRule, clearedFrom, LoadingText};
-ghost use Rattle.load.specs.Clearing.{Clearable, SignatureCleared, ScratchCleared, RowsAsked, RowsLoaded};
+ghost use Rattle.load.specs.Clearing.{Clearable, SignatureCleared, ScratchCleared, Wiped, RowsAsked, RowsLoaded};
 use declarations::Progress;
 use declarations::State;
 use names::SortRow;
@@ -188,6 +188,59 @@ fn clear_scratch(tokens: &mut [TermRow], calls: &mut [TermRow], evals: &mut [Eva
     clear_pairs(evals, n);
 }
 
+// Zeroes the scratch, and the rest of the storage from the counts on.
+fn leave(
+    tokens: &mut [TermRow],
+    calls: &mut [TermRow],
+    sorts: &mut [SortRow],
+    n: usize,
+    symbols: &mut [SymbolRow],
+    m: usize,
+    rules: &mut [RuleRow],
+    k: usize,
+    words: &mut [u32],
+    u: usize,
+    evals: &mut [EvalRow],
+    waiting: usize,
+)
+    requires { ⌜ Clearable (now sorts) (now symbols) (now rules) (now words) n m k u ⌝ ∗ ⌜ (u ≤ 65536) × (waiting ≤ length (now evals)) ⌝ }
+    ensures { λ _. ⌜ ScratchCleared (now (tokens .entry)) (now (calls .entry)) (now (evals .entry)) waiting (now (tokens .exit)) (now (calls .exit)) (now (evals .exit)) ⌝ }
+    ensures { λ _. ⌜ SignatureCleared (now (sorts .entry)) (now (symbols .entry)) (now (rules .entry)) (now (words .entry)) n m k u (now (sorts .exit)) (now (symbols .exit)) (now (rules .exit)) (now (words .exit)) ⌝ }
+{
+    clear_scratch(tokens, calls, evals, waiting);
+    clear_signature(sorts, n, symbols, m, rules, k, words, u);
+}
+
+// Zeroes everything.
+fn leave_nothing(
+    tokens: &mut [TermRow],
+    rows: &mut [TermRow],
+    calls: &mut [TermRow],
+    sorts: &mut [SortRow],
+    symbols: &mut [SymbolRow],
+    rules: &mut [RuleRow],
+    words: &mut [u32],
+    evals: &mut [EvalRow],
+)
+    ensures { λ _. ⌜ Wiped (record { tokens = now (tokens .entry); rows = now (rows .entry); calls = now (calls .entry); sorts = now (sorts .entry); symbols = now (symbols .entry); rules = now (rules .entry); words = now (words .entry); evals = now (evals .entry) }) (record { tokens = now (tokens .exit); rows = now (rows .exit); calls = now (calls .exit); sorts = now (sorts .exit); symbols = now (symbols .exit); rules = now (rules .exit); words = now (words .exit); evals = now (evals .exit) }) ⌝ }
+{
+    words::clear(rows, 0);
+    leave(
+        tokens,
+        calls,
+        sorts,
+        0,
+        symbols,
+        0,
+        rules,
+        0,
+        words,
+        0,
+        evals,
+        0,
+    );
+}
+
 // Are buffers of these lengths shorter than docs/STORAGE.md lists?
 fn is_short(
     limits: words::Limits,
@@ -261,17 +314,16 @@ fn load_rows(
         calls,
     ) {
         Walk::Refused { number, line } => {
-            words::clear(rows, 0);
-            clear_scratch(tokens, calls, evals, 0);
-            clear_signature(sorts, 0, symbols, 0, rules, 0, words, 0);
+            leave_nothing(tokens, rows, calls, sorts, symbols, rules, words, evals);
             Loading::Refused {
                 number: number,
                 line: line,
             }
         }
         Walk::Done { state, evals: k } => {
-            clear_scratch(tokens, calls, evals, k);
-            clear_signature(
+            leave(
+                tokens,
+                calls,
                 sorts,
                 state.sorts,
                 symbols,
@@ -280,6 +332,8 @@ fn load_rows(
                 state.rules,
                 words,
                 state.used,
+                evals,
+                k,
             );
             Loading::Loaded {
                 declarations: n,
@@ -325,8 +379,7 @@ pub fn load(
     }
     match parser::parse_text(text, limits, tokens, rows) {
         Answer::Refused(refusal, line) => {
-            clear_scratch(tokens, calls, evals, 0);
-            clear_signature(sorts, 0, symbols, 0, rules, 0, words, 0);
+            leave_nothing(tokens, rows, calls, sorts, symbols, rules, words, evals);
             Loading::Refused {
                 number: parser::number(refusal),
                 line: line,

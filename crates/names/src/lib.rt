@@ -95,13 +95,7 @@ pub fn find_variable(text: &[u8], variables: &[VariableRow], count: usize, w: &[
 }
 
 // The number of the symbol whose name stands at a place of `RESULT_NAMES`.
-fn result_symbol(
-    text: &[u8],
-    symbols: &[SymbolRow],
-    count: usize,
-    start: u32,
-    size: u32,
-) -> usize
+fn result_symbol(text: &[u8], symbols: &[SymbolRow], count: usize, start: u32, size: u32) -> usize
     requires { ⌜ count ≤ length (now symbols) ⌝ }
     ensures { λ r. ⌜ r ≡ symbolNumber (symbolsOf (now (text .entry)) (now (symbols .entry)) count) (partOf resultNames start size) ⌝ }
 {

@@ -4,11 +4,11 @@ use lib.ListN.{length}
 use Rattle.terms.specs.Numbers.{true-false}
 use Rattle.words.specs.Lexer.{cappedOf}
 use Rattle.words.specs.declared.Limits.{Limits}
-use Rattle.parser.specs.Parser.{textOf, rowsAfter}
+use Rattle.parser.specs.Parser.{textOf}
 use Rattle.load.specs.Load.{declaredIn}
 use Rattle.load.specs.Loading.{Buffers}
 use Rattle.load.proofs.ShortLaws.{enough}
-use Rattle.load.proofs.RowsLaws.{SameLengths, all-wiped}
+use Rattle.load.proofs.RowsLaws.{SameLengths, wiped-same}
 use Rattle.load.proofs.LoadLaws.{answered, parse-refused, refused-left, declared, rows-asked, accepted-left}
 use borrow.Author.Needs.{needs}
 use Rattle.load.proofs.load.Statement.{statement}
@@ -26,11 +26,8 @@ parse-text-requires c κs = search needs
 enum-known-refusal : tie.Need-enum-known-refusal
 enum-known-refusal c = search needs
 
-clear-scratch-requires : tie.Need-clear-scratch-requires
-clear-scratch-requires c κs = search needs
-
-clear-signature-requires : tie.Need-clear-signature-requires
-clear-signature-requires c κs = search needs
+leave-nothing-requires : tie.Need-leave-nothing-requires
+leave-nothing-requires c κs = search needs
 
 number-requires : tie.Need-number-requires
 number-requires c κs = search needs
@@ -85,13 +82,12 @@ same-length-8 c = search needs
 
 returns-2 : tie.Need-returns-2
 returns-2 c =
-    let is-short = c .before .before .before .before .before .before .before .before .before .before .before .before .before .before .before .before .before .before .before .before .before .before .before .before .before .before .before .is-short in
-    let if1 = c .before .before .before .before .before .before .before .before .before .before .before .before .before .before .before .before .before .before .before .before .before .before .before .before .before .before .if1 in
-    let args = c .before .before .before .before .before .before .before .before .before .before .before .before .before .before .before .before .before .before .before .before .before .before .before .before .before .before .before .before .before .before .args in
-    let parse-text = c .before .before .before .before .before .before .before .before .before .before .before .before .before .before .before .before .before .before .before .before .before .before .before .parse-text in
-    let clear-scratch = c .before .before .before .before .before .before .before .before .before .before .before .before .before .before .clear-scratch in
-    let clear-signature = c .before .before .before .before .before .before .clear-signature in
-    let refusal = c .before .before .before .before .before .before .before .before .before .before .before .before .before .before .before .before .before .before .before .refusal in
+    let is-short = c .before .before .before .before .before .before .before .before .before .before .before .before .before .before .before .before .before .before .before .before .before .before .before .before .before .before .before .before .is-short in
+    let if1 = c .before .before .before .before .before .before .before .before .before .before .before .before .before .before .before .before .before .before .before .before .before .before .before .before .before .before .before .if1 in
+    let args = c .before .before .before .before .before .before .before .before .before .before .before .before .before .before .before .before .before .before .before .before .before .before .before .before .before .before .before .before .before .before .before .args in
+    let parse-text = c .before .before .before .before .before .before .before .before .before .before .before .before .before .before .before .before .before .before .before .before .before .before .before .before .parse-text in
+    let leave-nothing = c .before .before .before .before .before .before .before .before .before .before .leave-nothing in
+    let refusal = c .before .before .before .before .before .before .before .before .before .before .before .before .before .before .before .before .before .before .before .before .refusal in
     let number = c .number in
     let no = sym (is-short .ensures) ∙ (if1 .left) in
     let lent = enough (cappedOf (args .limits) .text) (cappedOf (args .limits) .nodes) (length (args .tokens .now)) (length (args .rows .now)) (length (args .calls .now)) (length (args .sorts .now)) (length (args .symbols .now)) (length (args .rules .now)) (length (args .words .now)) (length (args .evals .now)) no in
@@ -126,17 +122,17 @@ returns-2 c =
       evals = refl;
     } in
     let d : Buffers = record {
-      tokens = (clear-scratch .last .0);
-      rows = (parse-text .last .1 .1 .1 .0);
-      calls = (clear-scratch .last .1 .0);
-      sorts = (clear-signature .last .0);
-      symbols = (clear-signature .last .1 .1 .0);
-      rules = (clear-signature .last .1 .1 .1 .1 .0);
-      words = (clear-signature .last .1 .1 .1 .1 .1 .1 .0);
-      evals = (clear-scratch .last .1 .1 .0);
+      tokens = (leave-nothing .last .0);
+      rows = (leave-nothing .last .1 .0);
+      calls = (leave-nothing .last .1 .1 .0);
+      sorts = (leave-nothing .last .1 .1 .1 .0);
+      symbols = (leave-nothing .last .1 .1 .1 .1 .0);
+      rules = (leave-nothing .last .1 .1 .1 .1 .1 .0);
+      words = (leave-nothing .last .1 .1 .1 .1 .1 .1 .0);
+      evals = (leave-nothing .last .1 .1 .1 .1 .1 .1 .1 .0);
     } in
     let p = parse-refused (textOf (args .text .now) (args .limits)) (sym (refusal .given .1) ∙ an .is) in
-    let w = all-wiped b m d l (an .rows-are ∙ ap (rowsAfter (length (args .rows .now))) p) (clear-scratch .ensures) (clear-signature .ensures) in
+    let w = (leave-nothing .ensures .is) ∙ wiped-same b m l ((parse-text .kept .1 .1 .1 .0)) in
     record {
       short = λ z. true-false z no;
       enough = λ z. refused-left (args .text .now) (args .limits) b d _ _ (number .result) p (number .ensures) w;
@@ -233,8 +229,7 @@ load-spec =
     returns
     parse-text-requires
     enum-known-refusal
-    clear-scratch-requires
-    clear-signature-requires
+    leave-nothing-requires
     number-requires
     enum-known-n
     capped-requires

@@ -3,12 +3,11 @@ use mathlib.Core.Path.{_≡_, refl, sym, ap, _∙_}
 use Prim.Native.Nat.{ℕ, _+_, _*_, _≤_, _-_}
 use lib.ListN.{length, take, replicate}
 use lib.Seq.{length-take-le}
-use Rattle.words.specs.Lexer.{zeroRow}
 use Rattle.loader.specs.Signature.{loadOf}
 use Rattle.load.specs.Load.{evalsFrom}
 use Rattle.load.specs.Loading.{Buffers}
 use Rattle.load.proofs.WalkLaws.{evals-few}
-use Rattle.load.proofs.RowsLaws.{part-is, came-done, SameLengths, all-wiped, rows-refused, rows-done, wipe}
+use Rattle.load.proofs.RowsLaws.{part-is, came-done, SameLengths, wiped-same, rows-refused, rows-done}
 use borrow.Author.Needs.{needs}
 use native.Mathlib.Omega.{arith}
 use Rattle.load.proofs.load_rows.Statement.{statement}
@@ -49,34 +48,18 @@ enter-all-requires c κs =
 enum-known-number : tie.Need-enum-known-number
 enum-known-number c = search needs
 
-clear-requires : tie.Need-clear-requires
-clear-requires c κs = search needs
-
-clear-scratch-requires : tie.Need-clear-scratch-requires
-clear-scratch-requires c κs = search needs
-
-clear-signature-requires : tie.Need-clear-signature-requires
-clear-signature-requires c κs = search needs
+leave-nothing-requires : tie.Need-leave-nothing-requires
+leave-nothing-requires c κs = search needs
 
 enum-known-state : tie.Need-enum-known-state
 enum-known-state c = search needs
 
-clear-scratch-requires-2 : tie.Need-clear-scratch-requires-2
-clear-scratch-requires-2 c κs =
-    let args = c .before .before .before .before .before .before .before .before .before .before .before .before .before .before .before .before .before .before .before .before .before .before .before .before .before .before .args in
-    let pre = c .before .before .before .before .before .before .before .before .before .before .before .before .before .before .before .before .before .before .before .before .before .before .before .before .before .before .pre in
-    let enter-all = c .before .before .before .before .before .before .before .before .before .before .before .before .before .before .enter-all in
-    let state = c .before .before .before .before .state in
-    let g = came-done (args .text .now) (args .limit) (evalsFrom 0 (pre .declared .0)) (enter-all .result) ((enter-all .last .1 .1 .1 .1 .0)) ((enter-all .last .1 .1 .1 .1 .1 .0)) ((enter-all .last .1 .1 .1 .1 .1 .1 .0)) ((enter-all .last .1 .1 .1 .1 .1 .1 .1 .0)) ((enter-all .last .1 .1 .1 .1 .1 .1 .1 .1 .0)) (loadOf (args .limit) (args .text .now) (pre .declared .0)) ((enter-all .ensures .same) (pre .declared .0) (part-is (args .used) (args .rows .now)
-    ∙ (pre .declared .1)) (pre .declared .2) (pre .declared .3)) (state .given .1) in
-    g .lent
-
-clear-signature-requires-2 : tie.Need-clear-signature-requires-2
-clear-signature-requires-2 c κs =
-    let args = c .before .before .before .before .before .before .before .before .before .before .before .before .before .before .before .before .before .before .before .before .before .before .before .before .before .before .before .before .before .before .before .before .before .before .args in
-    let pre = c .before .before .before .before .before .before .before .before .before .before .before .before .before .before .before .before .before .before .before .before .before .before .before .before .before .before .before .before .before .before .before .before .before .before .pre in
-    let enter-all = c .before .before .before .before .before .before .before .before .before .before .before .before .before .before .before .before .before .before .before .before .before .before .enter-all in
-    let state = c .before .before .before .before .before .before .before .before .before .before .before .before .state in
+leave-requires : tie.Need-leave-requires
+leave-requires c κs =
+    let args = c .before .before .before .before .before .before .before .before .before .before .before .before .before .before .before .before .before .before .before .before .before .before .before .before .before .before .before .before .before .before .args in
+    let pre = c .before .before .before .before .before .before .before .before .before .before .before .before .before .before .before .before .before .before .before .before .before .before .before .before .before .before .before .before .before .before .pre in
+    let enter-all = c .before .before .before .before .before .before .before .before .before .before .before .before .before .before .before .before .before .before .enter-all in
+    let state = c .before .before .before .before .before .before .before .before .state in
     let g = came-done (args .text .now) (args .limit) (evalsFrom 0 (pre .declared .0)) (enter-all .result) ((enter-all .last .1 .1 .1 .1 .0)) ((enter-all .last .1 .1 .1 .1 .1 .0)) ((enter-all .last .1 .1 .1 .1 .1 .1 .0)) ((enter-all .last .1 .1 .1 .1 .1 .1 .1 .0)) ((enter-all .last .1 .1 .1 .1 .1 .1 .1 .1 .0)) (loadOf (args .limit) (args .text .now) (pre .declared .0)) ((enter-all .ensures .same) (pre .declared .0) (part-is (args .used) (args .rows .now)
     ∙ (pre .declared .1)) (pre .declared .2) (pre .declared .3)) (state .given .1) in
     let h = g .held in
@@ -89,14 +72,14 @@ clear-signature-requires-2 c κs =
     let e = h .kept .fits in
     let e₁ = h .kept .wordsLent in
     let m = (pre .limited) in
-    (record { sortsThere = omega arith; symbolsThere = omega arith; rulesThere = omega arith; wordsThere = omega arith }, omega arith)
+    (record { sortsThere = omega arith; symbolsThere = omega arith; rulesThere = omega arith; wordsThere = omega arith }, (omega arith, g .lent))
 
 cast-t70 : tie.Need-cast-t70
 cast-t70 c =
-    let args = c .before .before .before .before .before .before .before .before .before .before .before .before .before .before .before .before .before .before .before .before .before .before .before .before .before .before .before .before .before .before .before .before .before .before .before .before .before .before .before .before .args in
-    let pre = c .before .before .before .before .before .before .before .before .before .before .before .before .before .before .before .before .before .before .before .before .before .before .before .before .before .before .before .before .before .before .before .before .before .before .before .before .before .before .before .before .pre in
-    let enter-all = c .before .before .before .before .before .before .before .before .before .before .before .before .before .before .before .before .before .before .before .before .before .before .before .before .before .before .before .before .enter-all in
-    let state = c .before .before .before .before .before .before .before .before .before .before .before .before .before .before .before .before .before .before .state in
+    let args = c .before .before .before .before .before .before .before .before .before .before .before .before .before .before .before .before .before .before .before .before .before .before .before .before .before .before .before .before .before .before .before .before .before .before .before .before .before .before .before .args in
+    let pre = c .before .before .before .before .before .before .before .before .before .before .before .before .before .before .before .before .before .before .before .before .before .before .before .before .before .before .before .before .before .before .before .before .before .before .before .before .before .before .before .pre in
+    let enter-all = c .before .before .before .before .before .before .before .before .before .before .before .before .before .before .before .before .before .before .before .before .before .before .before .before .before .before .before .enter-all in
+    let state = c .before .before .before .before .before .before .before .before .before .before .before .before .before .before .before .before .before .state in
     let g = came-done (args .text .now) (args .limit) (evalsFrom 0 (pre .declared .0)) (enter-all .result) ((enter-all .last .1 .1 .1 .1 .0)) ((enter-all .last .1 .1 .1 .1 .1 .0)) ((enter-all .last .1 .1 .1 .1 .1 .1 .0)) ((enter-all .last .1 .1 .1 .1 .1 .1 .1 .0)) ((enter-all .last .1 .1 .1 .1 .1 .1 .1 .1 .0)) (loadOf (args .limit) (args .text .now) (pre .declared .0)) ((enter-all .ensures .same) (pre .declared .0) (part-is (args .used) (args .rows .now)
     ∙ (pre .declared .1)) (pre .declared .2) (pre .declared .3)) (state .given .1) in
     let m = g .number in
@@ -107,10 +90,10 @@ cast-t70 c =
 
 cast-t71 : tie.Need-cast-t71
 cast-t71 c =
-    let args = c .before .before .before .before .before .before .before .before .before .before .before .before .before .before .before .before .before .before .before .before .before .before .before .before .before .before .before .before .before .before .before .before .before .before .before .before .before .before .before .before .before .args in
-    let pre = c .before .before .before .before .before .before .before .before .before .before .before .before .before .before .before .before .before .before .before .before .before .before .before .before .before .before .before .before .before .before .before .before .before .before .before .before .before .before .before .before .before .pre in
-    let enter-all = c .before .before .before .before .before .before .before .before .before .before .before .before .before .before .before .before .before .before .before .before .before .before .before .before .before .before .before .before .before .enter-all in
-    let state = c .before .before .before .before .before .before .before .before .before .before .before .before .before .before .before .before .before .before .before .state in
+    let args = c .before .before .before .before .before .before .before .before .before .before .before .before .before .before .before .before .before .before .before .before .before .before .before .before .before .before .before .before .before .before .before .before .before .before .before .before .before .before .before .before .args in
+    let pre = c .before .before .before .before .before .before .before .before .before .before .before .before .before .before .before .before .before .before .before .before .before .before .before .before .before .before .before .before .before .before .before .before .before .before .before .before .before .before .before .before .pre in
+    let enter-all = c .before .before .before .before .before .before .before .before .before .before .before .before .before .before .before .before .before .before .before .before .before .before .before .before .before .before .before .before .enter-all in
+    let state = c .before .before .before .before .before .before .before .before .before .before .before .before .before .before .before .before .before .before .state in
     let g = came-done (args .text .now) (args .limit) (evalsFrom 0 (pre .declared .0)) (enter-all .result) ((enter-all .last .1 .1 .1 .1 .0)) ((enter-all .last .1 .1 .1 .1 .1 .0)) ((enter-all .last .1 .1 .1 .1 .1 .1 .0)) ((enter-all .last .1 .1 .1 .1 .1 .1 .1 .0)) ((enter-all .last .1 .1 .1 .1 .1 .1 .1 .1 .0)) (loadOf (args .limit) (args .text .now) (pre .declared .0)) ((enter-all .ensures .same) (pre .declared .0) (part-is (args .used) (args .rows .now)
     ∙ (pre .declared .1)) (pre .declared .2) (pre .declared .3)) (state .given .1) in
     let a = g .held .names .fewSorts in
@@ -118,10 +101,10 @@ cast-t71 c =
 
 cast-t72 : tie.Need-cast-t72
 cast-t72 c =
-    let args = c .before .before .before .before .before .before .before .before .before .before .before .before .before .before .before .before .before .before .before .before .before .before .before .before .before .before .before .before .before .before .before .before .before .before .before .before .before .before .before .before .before .before .args in
-    let pre = c .before .before .before .before .before .before .before .before .before .before .before .before .before .before .before .before .before .before .before .before .before .before .before .before .before .before .before .before .before .before .before .before .before .before .before .before .before .before .before .before .before .before .pre in
-    let enter-all = c .before .before .before .before .before .before .before .before .before .before .before .before .before .before .before .before .before .before .before .before .before .before .before .before .before .before .before .before .before .before .enter-all in
-    let state = c .before .before .before .before .before .before .before .before .before .before .before .before .before .before .before .before .before .before .before .before .state in
+    let args = c .before .before .before .before .before .before .before .before .before .before .before .before .before .before .before .before .before .before .before .before .before .before .before .before .before .before .before .before .before .before .before .before .before .before .before .before .before .before .before .before .before .args in
+    let pre = c .before .before .before .before .before .before .before .before .before .before .before .before .before .before .before .before .before .before .before .before .before .before .before .before .before .before .before .before .before .before .before .before .before .before .before .before .before .before .before .before .before .pre in
+    let enter-all = c .before .before .before .before .before .before .before .before .before .before .before .before .before .before .before .before .before .before .before .before .before .before .before .before .before .before .before .before .before .enter-all in
+    let state = c .before .before .before .before .before .before .before .before .before .before .before .before .before .before .before .before .before .before .before .state in
     let g = came-done (args .text .now) (args .limit) (evalsFrom 0 (pre .declared .0)) (enter-all .result) ((enter-all .last .1 .1 .1 .1 .0)) ((enter-all .last .1 .1 .1 .1 .1 .0)) ((enter-all .last .1 .1 .1 .1 .1 .1 .0)) ((enter-all .last .1 .1 .1 .1 .1 .1 .1 .0)) ((enter-all .last .1 .1 .1 .1 .1 .1 .1 .1 .0)) (loadOf (args .limit) (args .text .now) (pre .declared .0)) ((enter-all .ensures .same) (pre .declared .0) (part-is (args .used) (args .rows .now)
     ∙ (pre .declared .1)) (pre .declared .2) (pre .declared .3)) (state .given .1) in
     let a = g .held .names .fewSymbols in
@@ -129,10 +112,10 @@ cast-t72 c =
 
 cast-t73 : tie.Need-cast-t73
 cast-t73 c =
-    let args = c .before .before .before .before .before .before .before .before .before .before .before .before .before .before .before .before .before .before .before .before .before .before .before .before .before .before .before .before .before .before .before .before .before .before .before .before .before .before .before .before .before .before .before .args in
-    let pre = c .before .before .before .before .before .before .before .before .before .before .before .before .before .before .before .before .before .before .before .before .before .before .before .before .before .before .before .before .before .before .before .before .before .before .before .before .before .before .before .before .before .before .before .pre in
-    let enter-all = c .before .before .before .before .before .before .before .before .before .before .before .before .before .before .before .before .before .before .before .before .before .before .before .before .before .before .before .before .before .before .before .enter-all in
-    let state = c .before .before .before .before .before .before .before .before .before .before .before .before .before .before .before .before .before .before .before .before .before .state in
+    let args = c .before .before .before .before .before .before .before .before .before .before .before .before .before .before .before .before .before .before .before .before .before .before .before .before .before .before .before .before .before .before .before .before .before .before .before .before .before .before .before .before .before .before .args in
+    let pre = c .before .before .before .before .before .before .before .before .before .before .before .before .before .before .before .before .before .before .before .before .before .before .before .before .before .before .before .before .before .before .before .before .before .before .before .before .before .before .before .before .before .before .pre in
+    let enter-all = c .before .before .before .before .before .before .before .before .before .before .before .before .before .before .before .before .before .before .before .before .before .before .before .before .before .before .before .before .before .before .enter-all in
+    let state = c .before .before .before .before .before .before .before .before .before .before .before .before .before .before .before .before .before .before .before .before .state in
     let g = came-done (args .text .now) (args .limit) (evalsFrom 0 (pre .declared .0)) (enter-all .result) ((enter-all .last .1 .1 .1 .1 .0)) ((enter-all .last .1 .1 .1 .1 .1 .0)) ((enter-all .last .1 .1 .1 .1 .1 .1 .0)) ((enter-all .last .1 .1 .1 .1 .1 .1 .1 .0)) ((enter-all .last .1 .1 .1 .1 .1 .1 .1 .1 .0)) (loadOf (args .limit) (args .text .now) (pre .declared .0)) ((enter-all .ensures .same) (pre .declared .0) (part-is (args .used) (args .rows .now)
     ∙ (pre .declared .1)) (pre .declared .2) (pre .declared .3)) (state .given .1) in
     let a = g .held .kept .fewRules in
@@ -140,10 +123,10 @@ cast-t73 c =
 
 cast-t74 : tie.Need-cast-t74
 cast-t74 c =
-    let args = c .before .before .before .before .before .before .before .before .before .before .before .before .before .before .before .before .before .before .before .before .before .before .before .before .before .before .before .before .before .before .before .before .before .before .before .before .before .before .before .before .before .before .before .before .args in
-    let pre = c .before .before .before .before .before .before .before .before .before .before .before .before .before .before .before .before .before .before .before .before .before .before .before .before .before .before .before .before .before .before .before .before .before .before .before .before .before .before .before .before .before .before .before .before .pre in
-    let enter-all = c .before .before .before .before .before .before .before .before .before .before .before .before .before .before .before .before .before .before .before .before .before .before .before .before .before .before .before .before .before .before .before .before .enter-all in
-    let state = c .before .before .before .before .before .before .before .before .before .before .before .before .before .before .before .before .before .before .before .before .before .before .state in
+    let args = c .before .before .before .before .before .before .before .before .before .before .before .before .before .before .before .before .before .before .before .before .before .before .before .before .before .before .before .before .before .before .before .before .before .before .before .before .before .before .before .before .before .before .before .args in
+    let pre = c .before .before .before .before .before .before .before .before .before .before .before .before .before .before .before .before .before .before .before .before .before .before .before .before .before .before .before .before .before .before .before .before .before .before .before .before .before .before .before .before .before .before .before .pre in
+    let enter-all = c .before .before .before .before .before .before .before .before .before .before .before .before .before .before .before .before .before .before .before .before .before .before .before .before .before .before .before .before .before .before .before .enter-all in
+    let state = c .before .before .before .before .before .before .before .before .before .before .before .before .before .before .before .before .before .before .before .before .before .state in
     let g = came-done (args .text .now) (args .limit) (evalsFrom 0 (pre .declared .0)) (enter-all .result) ((enter-all .last .1 .1 .1 .1 .0)) ((enter-all .last .1 .1 .1 .1 .1 .0)) ((enter-all .last .1 .1 .1 .1 .1 .1 .0)) ((enter-all .last .1 .1 .1 .1 .1 .1 .1 .0)) ((enter-all .last .1 .1 .1 .1 .1 .1 .1 .1 .0)) (loadOf (args .limit) (args .text .now) (pre .declared .0)) ((enter-all .ensures .same) (pre .declared .0) (part-is (args .used) (args .rows .now)
     ∙ (pre .declared .1)) (pre .declared .2) (pre .declared .3)) (state .given .1) in
     let a = g .held .kept .fits in
@@ -152,54 +135,55 @@ cast-t74 c =
 
 same-length : tie.Need-same-length
 same-length c =
-    let clear-scratch = c .before .before .before .before .before .before .before .before .before .before .before .before .before .clear-scratch in
-    let enter-all = c .before .before .before .before .before .before .before .before .before .before .before .before .before .before .before .before .before .before .before .before .before .before .before .before .before .before .before .before .before .before .before .enter-all in
-    (clear-scratch .kept .0) ∙ (enter-all .kept .1 .1 .1 .1 .1 .1 .1 .1 .1 .0)
+    let leave-nothing = c .before .before .before .before .before .before .before .before .before .leave-nothing in
+    let enter-all = c .before .before .before .before .before .before .before .before .before .before .before .before .before .before .before .before .before .before .before .before .before .before .before .before .before .before .before .before .before .enter-all in
+    (leave-nothing .kept .0) ∙ (enter-all .kept .1 .1 .1 .1 .1 .1 .1 .1 .1 .0)
 
 same-length-2 : tie.Need-same-length-2
-same-length-2 c = search needs
+same-length-2 c = (c .before .before .before .before .before .before .before .before .before .leave-nothing .kept .1 .0)
 
 same-length-3 : tie.Need-same-length-3
-same-length-3 c = search needs
+same-length-3 c =
+    let leave-nothing = c .before .before .before .before .before .before .before .before .before .leave-nothing in
+    let enter-all = c .before .before .before .before .before .before .before .before .before .before .before .before .before .before .before .before .before .before .before .before .before .before .before .before .before .before .before .before .before .enter-all in
+    (leave-nothing .kept .1 .1 .0) ∙ (enter-all .kept .1 .1 .1 .1 .1 .1 .1 .1 .1 .1 .0)
 
 same-length-4 : tie.Need-same-length-4
 same-length-4 c =
-    let clear-signature = c .before .before .before .before .before .clear-signature in
-    let enter-all = c .before .before .before .before .before .before .before .before .before .before .before .before .before .before .before .before .before .before .before .before .before .before .before .before .before .before .before .before .before .before .before .enter-all in
-    (clear-signature .kept .0) ∙ (enter-all .kept .1 .1 .1 .1 .0)
+    let leave-nothing = c .before .before .before .before .before .before .before .before .before .leave-nothing in
+    let enter-all = c .before .before .before .before .before .before .before .before .before .before .before .before .before .before .before .before .before .before .before .before .before .before .before .before .before .before .before .before .before .enter-all in
+    (leave-nothing .kept .1 .1 .1 .0) ∙ (enter-all .kept .1 .1 .1 .1 .0)
 
 same-length-5 : tie.Need-same-length-5
 same-length-5 c =
-    let clear-signature = c .before .before .before .before .before .clear-signature in
-    let enter-all = c .before .before .before .before .before .before .before .before .before .before .before .before .before .before .before .before .before .before .before .before .before .before .before .before .before .before .before .before .before .before .before .enter-all in
-    (clear-signature .kept .1 .1 .0) ∙ (enter-all .kept .1 .1 .1 .1 .1 .0)
+    let leave-nothing = c .before .before .before .before .before .before .before .before .before .leave-nothing in
+    let enter-all = c .before .before .before .before .before .before .before .before .before .before .before .before .before .before .before .before .before .before .before .before .before .before .before .before .before .before .before .before .before .enter-all in
+    (leave-nothing .kept .1 .1 .1 .1 .0) ∙ (enter-all .kept .1 .1 .1 .1 .1 .0)
 
 same-length-6 : tie.Need-same-length-6
 same-length-6 c =
-    let clear-signature = c .before .before .before .before .before .clear-signature in
-    let enter-all = c .before .before .before .before .before .before .before .before .before .before .before .before .before .before .before .before .before .before .before .before .before .before .before .before .before .before .before .before .before .before .before .enter-all in
-    (clear-signature .kept .1 .1 .1 .1 .0) ∙ (enter-all .kept .1 .1 .1 .1 .1 .1 .0)
+    let leave-nothing = c .before .before .before .before .before .before .before .before .before .leave-nothing in
+    let enter-all = c .before .before .before .before .before .before .before .before .before .before .before .before .before .before .before .before .before .before .before .before .before .before .before .before .before .before .before .before .before .enter-all in
+    (leave-nothing .kept .1 .1 .1 .1 .1 .0) ∙ (enter-all .kept .1 .1 .1 .1 .1 .1 .0)
 
 same-length-7 : tie.Need-same-length-7
 same-length-7 c =
-    let clear-signature = c .before .before .before .before .before .clear-signature in
-    let enter-all = c .before .before .before .before .before .before .before .before .before .before .before .before .before .before .before .before .before .before .before .before .before .before .before .before .before .before .before .before .before .before .before .enter-all in
-    (clear-signature .kept .1 .1 .1 .1 .1 .1 .0) ∙ (enter-all .kept .1 .1 .1 .1 .1 .1 .1 .0)
+    let leave-nothing = c .before .before .before .before .before .before .before .before .before .leave-nothing in
+    let enter-all = c .before .before .before .before .before .before .before .before .before .before .before .before .before .before .before .before .before .before .before .before .before .before .before .before .before .before .before .before .before .enter-all in
+    (leave-nothing .kept .1 .1 .1 .1 .1 .1 .0) ∙ (enter-all .kept .1 .1 .1 .1 .1 .1 .1 .0)
 
 same-length-8 : tie.Need-same-length-8
 same-length-8 c =
-    let clear-scratch = c .before .before .before .before .before .before .before .before .before .before .before .before .before .clear-scratch in
-    let enter-all = c .before .before .before .before .before .before .before .before .before .before .before .before .before .before .before .before .before .before .before .before .before .before .before .before .before .before .before .before .before .before .before .enter-all in
-    (clear-scratch .kept .1 .1 .0) ∙ (enter-all .kept .1 .1 .1 .1 .1 .1 .1 .1 .0)
+    let leave-nothing = c .before .before .before .before .before .before .before .before .before .leave-nothing in
+    let enter-all = c .before .before .before .before .before .before .before .before .before .before .before .before .before .before .before .before .before .before .before .before .before .before .before .before .before .before .before .before .before .enter-all in
+    (leave-nothing .kept .1 .1 .1 .1 .1 .1 .1 .0) ∙ (enter-all .kept .1 .1 .1 .1 .1 .1 .1 .1 .0)
 
 returns : tie.Need-returns
 returns c =
-    let args = c .before .before .before .before .before .before .before .before .before .before .before .before .before .before .before .before .before .before .before .before .before .before .before .before .before .before .before .before .before .before .before .before .before .before .before .before .before .before .before .before .before .before .before .args in
-    let enter-all = c .before .before .before .before .before .before .before .before .before .before .before .before .before .before .before .before .before .before .before .before .before .before .before .before .before .before .before .before .before .before .before .enter-all in
-    let clear-scratch = c .before .before .before .before .before .before .before .before .before .before .before .before .before .clear-scratch in
-    let clear = c .before .before .before .before .before .before .before .before .before .before .before .before .before .before .before .before .before .before .clear in
-    let clear-signature = c .before .before .before .before .before .clear-signature in
-    let number = c .before .before .before .before .before .before .before .before .before .before .before .before .before .before .before .before .before .before .before .before .before .number in
+    let args = c .before .before .before .before .before .before .before .before .before .before .before .before .before .before .before .before .before .before .before .before .before .before .before .before .before .before .before .before .before .before .before .before .before .before .before .before .before .before .before .before .before .args in
+    let enter-all = c .before .before .before .before .before .before .before .before .before .before .before .before .before .before .before .before .before .before .before .before .before .before .before .before .before .before .before .before .before .enter-all in
+    let leave-nothing = c .before .before .before .before .before .before .before .before .before .leave-nothing in
+    let number = c .before .before .before .before .before .before .before .before .before .before .before .before .before .before .before .before .before .before .before .number in
     let b : Buffers = record {
       tokens = (args .tokens .now);
       rows = (args .rows .now);
@@ -221,14 +205,14 @@ returns c =
       evals = (enter-all .last .1 .1 .1 .1 .1 .1 .1 .1 .0);
     } in
     let d : Buffers = record {
-      tokens = (clear-scratch .last .0);
-      rows = (clear .last .0);
-      calls = (clear-scratch .last .1 .0);
-      sorts = (clear-signature .last .0);
-      symbols = (clear-signature .last .1 .1 .0);
-      rules = (clear-signature .last .1 .1 .1 .1 .0);
-      words = (clear-signature .last .1 .1 .1 .1 .1 .1 .0);
-      evals = (clear-scratch .last .1 .1 .0);
+      tokens = (leave-nothing .last .0);
+      rows = (leave-nothing .last .1 .0);
+      calls = (leave-nothing .last .1 .1 .0);
+      sorts = (leave-nothing .last .1 .1 .1 .0);
+      symbols = (leave-nothing .last .1 .1 .1 .1 .0);
+      rules = (leave-nothing .last .1 .1 .1 .1 .1 .0);
+      words = (leave-nothing .last .1 .1 .1 .1 .1 .1 .0);
+      evals = (leave-nothing .last .1 .1 .1 .1 .1 .1 .1 .0);
     } in
     let l : SameLengths b m = record {
       tokens = (enter-all .kept .1 .1 .1 .1 .1 .1 .1 .1 .1 .0);
@@ -239,7 +223,7 @@ returns c =
       words = (enter-all .kept .1 .1 .1 .1 .1 .1 .1 .0);
       evals = (enter-all .kept .1 .1 .1 .1 .1 .1 .1 .1 .0);
     } in
-    let w = all-wiped b m d l ((clear .ensures) ∙ wipe zeroRow (args .rows .now) (args .rows .now) refl) (clear-scratch .ensures) (clear-signature .ensures) in
+    let w = (leave-nothing .ensures .is) ∙ wiped-same b m l refl in
     record {
       same = λ ds x y t. rows-refused b m d l (args .text .now) (args .limit) ds (enter-all .result) (args .n) (loadOf (args .limit) (args .text .now) ds) ((enter-all .ensures .same) ds (part-is (args .used) (args .rows .now)
           ∙ x) y t) (number .given .1) w;
@@ -247,53 +231,55 @@ returns c =
 
 same-length-9 : tie.Need-same-length-9
 same-length-9 c =
-    let clear-scratch2 = c .before .before .before .before .before .before .before .before .before .before .before .before .before .before .before .before .before .clear-scratch2 in
-    let enter-all = c .before .before .before .before .before .before .before .before .before .before .before .before .before .before .before .before .before .before .before .before .before .before .before .before .before .before .before .before .before .before .before .before .enter-all in
-    (clear-scratch2 .kept .0) ∙ (enter-all .kept .1 .1 .1 .1 .1 .1 .1 .1 .1 .0)
+    let leave = c .before .before .before .before .before .before .before .before .before .before .before .before .leave in
+    let enter-all = c .before .before .before .before .before .before .before .before .before .before .before .before .before .before .before .before .before .before .before .before .before .before .before .before .before .before .before .before .before .before .before .enter-all in
+    (leave .kept .0) ∙ (enter-all .kept .1 .1 .1 .1 .1 .1 .1 .1 .1 .0)
 
 same-length-10 : tie.Need-same-length-10
 same-length-10 c = search needs
 
 same-length-11 : tie.Need-same-length-11
-same-length-11 c = search needs
+same-length-11 c =
+    let leave = c .before .before .before .before .before .before .before .before .before .before .before .before .leave in
+    let enter-all = c .before .before .before .before .before .before .before .before .before .before .before .before .before .before .before .before .before .before .before .before .before .before .before .before .before .before .before .before .before .before .before .enter-all in
+    (leave .kept .1 .0) ∙ (enter-all .kept .1 .1 .1 .1 .1 .1 .1 .1 .1 .1 .0)
 
 same-length-12 : tie.Need-same-length-12
 same-length-12 c =
-    let clear-signature2 = c .before .before .before .before .before .before .before .before .before .clear-signature2 in
-    let enter-all = c .before .before .before .before .before .before .before .before .before .before .before .before .before .before .before .before .before .before .before .before .before .before .before .before .before .before .before .before .before .before .before .before .enter-all in
-    (clear-signature2 .kept .0) ∙ (enter-all .kept .1 .1 .1 .1 .0)
+    let leave = c .before .before .before .before .before .before .before .before .before .before .before .before .leave in
+    let enter-all = c .before .before .before .before .before .before .before .before .before .before .before .before .before .before .before .before .before .before .before .before .before .before .before .before .before .before .before .before .before .before .before .enter-all in
+    (leave .kept .1 .1 .0) ∙ (enter-all .kept .1 .1 .1 .1 .0)
 
 same-length-13 : tie.Need-same-length-13
 same-length-13 c =
-    let clear-signature2 = c .before .before .before .before .before .before .before .before .before .clear-signature2 in
-    let enter-all = c .before .before .before .before .before .before .before .before .before .before .before .before .before .before .before .before .before .before .before .before .before .before .before .before .before .before .before .before .before .before .before .before .enter-all in
-    (clear-signature2 .kept .1 .1 .0) ∙ (enter-all .kept .1 .1 .1 .1 .1 .0)
+    let leave = c .before .before .before .before .before .before .before .before .before .before .before .before .leave in
+    let enter-all = c .before .before .before .before .before .before .before .before .before .before .before .before .before .before .before .before .before .before .before .before .before .before .before .before .before .before .before .before .before .before .before .enter-all in
+    (leave .kept .1 .1 .1 .1 .0) ∙ (enter-all .kept .1 .1 .1 .1 .1 .0)
 
 same-length-14 : tie.Need-same-length-14
 same-length-14 c =
-    let clear-signature2 = c .before .before .before .before .before .before .before .before .before .clear-signature2 in
-    let enter-all = c .before .before .before .before .before .before .before .before .before .before .before .before .before .before .before .before .before .before .before .before .before .before .before .before .before .before .before .before .before .before .before .before .enter-all in
-    (clear-signature2 .kept .1 .1 .1 .1 .0) ∙ (enter-all .kept .1 .1 .1 .1 .1 .1 .0)
+    let leave = c .before .before .before .before .before .before .before .before .before .before .before .before .leave in
+    let enter-all = c .before .before .before .before .before .before .before .before .before .before .before .before .before .before .before .before .before .before .before .before .before .before .before .before .before .before .before .before .before .before .before .enter-all in
+    (leave .kept .1 .1 .1 .1 .1 .1 .0) ∙ (enter-all .kept .1 .1 .1 .1 .1 .1 .0)
 
 same-length-15 : tie.Need-same-length-15
 same-length-15 c =
-    let clear-signature2 = c .before .before .before .before .before .before .before .before .before .clear-signature2 in
-    let enter-all = c .before .before .before .before .before .before .before .before .before .before .before .before .before .before .before .before .before .before .before .before .before .before .before .before .before .before .before .before .before .before .before .before .enter-all in
-    (clear-signature2 .kept .1 .1 .1 .1 .1 .1 .0) ∙ (enter-all .kept .1 .1 .1 .1 .1 .1 .1 .0)
+    let leave = c .before .before .before .before .before .before .before .before .before .before .before .before .leave in
+    let enter-all = c .before .before .before .before .before .before .before .before .before .before .before .before .before .before .before .before .before .before .before .before .before .before .before .before .before .before .before .before .before .before .before .enter-all in
+    (leave .kept .1 .1 .1 .1 .1 .1 .1 .1 .0) ∙ (enter-all .kept .1 .1 .1 .1 .1 .1 .1 .0)
 
 same-length-16 : tie.Need-same-length-16
 same-length-16 c =
-    let clear-scratch2 = c .before .before .before .before .before .before .before .before .before .before .before .before .before .before .before .before .before .clear-scratch2 in
-    let enter-all = c .before .before .before .before .before .before .before .before .before .before .before .before .before .before .before .before .before .before .before .before .before .before .before .before .before .before .before .before .before .before .before .before .enter-all in
-    (clear-scratch2 .kept .1 .1 .0) ∙ (enter-all .kept .1 .1 .1 .1 .1 .1 .1 .1 .0)
+    let leave = c .before .before .before .before .before .before .before .before .before .before .before .before .leave in
+    let enter-all = c .before .before .before .before .before .before .before .before .before .before .before .before .before .before .before .before .before .before .before .before .before .before .before .before .before .before .before .before .before .before .before .enter-all in
+    (leave .kept .1 .1 .1 .1 .1 .1 .1 .1 .1 .1 .0) ∙ (enter-all .kept .1 .1 .1 .1 .1 .1 .1 .1 .0)
 
 returns-2 : tie.Need-returns-2
 returns-2 c =
-    let args = c .before .before .before .before .before .before .before .before .before .before .before .before .before .before .before .before .before .before .before .before .before .before .before .before .before .before .before .before .before .before .before .before .before .before .before .before .before .before .before .before .before .before .before .before .args in
-    let enter-all = c .before .before .before .before .before .before .before .before .before .before .before .before .before .before .before .before .before .before .before .before .before .before .before .before .before .before .before .before .before .before .before .before .enter-all in
-    let clear-scratch2 = c .before .before .before .before .before .before .before .before .before .before .before .before .before .before .before .before .before .clear-scratch2 in
-    let clear-signature2 = c .before .before .before .before .before .before .before .before .before .clear-signature2 in
-    let state = c .before .before .before .before .before .before .before .before .before .before .before .before .before .before .before .before .before .before .before .before .before .before .state in
+    let args = c .before .before .before .before .before .before .before .before .before .before .before .before .before .before .before .before .before .before .before .before .before .before .before .before .before .before .before .before .before .before .before .before .before .before .before .before .before .before .before .before .before .before .before .args in
+    let enter-all = c .before .before .before .before .before .before .before .before .before .before .before .before .before .before .before .before .before .before .before .before .before .before .before .before .before .before .before .before .before .before .before .enter-all in
+    let leave = c .before .before .before .before .before .before .before .before .before .before .before .before .leave in
+    let state = c .before .before .before .before .before .before .before .before .before .before .before .before .before .before .before .before .before .before .before .before .before .state in
     let b : Buffers = record {
       tokens = (args .tokens .now);
       rows = (args .rows .now);
@@ -315,14 +301,14 @@ returns-2 c =
       evals = (enter-all .last .1 .1 .1 .1 .1 .1 .1 .1 .0);
     } in
     let d : Buffers = record {
-      tokens = (clear-scratch2 .last .0);
+      tokens = (leave .last .0);
       rows = (args .rows .now);
-      calls = (clear-scratch2 .last .1 .0);
-      sorts = (clear-signature2 .last .0);
-      symbols = (clear-signature2 .last .1 .1 .0);
-      rules = (clear-signature2 .last .1 .1 .1 .1 .0);
-      words = (clear-signature2 .last .1 .1 .1 .1 .1 .1 .0);
-      evals = (clear-scratch2 .last .1 .1 .0);
+      calls = (leave .last .1 .0);
+      sorts = (leave .last .1 .1 .0);
+      symbols = (leave .last .1 .1 .1 .1 .0);
+      rules = (leave .last .1 .1 .1 .1 .1 .1 .0);
+      words = (leave .last .1 .1 .1 .1 .1 .1 .1 .1 .0);
+      evals = (leave .last .1 .1 .1 .1 .1 .1 .1 .1 .1 .1 .0);
     } in
     let l : SameLengths b m = record {
       tokens = (enter-all .kept .1 .1 .1 .1 .1 .1 .1 .1 .1 .0);
@@ -335,7 +321,7 @@ returns-2 c =
     } in
     record {
       same = λ ds x y t. rows-done b m d l (args .text .now) (args .limit) ds (enter-all .result) (args .n) (loadOf (args .limit) (args .text .now) ds) (came-done (args .text .now) (args .limit) (evalsFrom 0 ds) (enter-all .result) ((enter-all .last .1 .1 .1 .1 .0)) ((enter-all .last .1 .1 .1 .1 .1 .0)) ((enter-all .last .1 .1 .1 .1 .1 .1 .0)) ((enter-all .last .1 .1 .1 .1 .1 .1 .1 .0)) ((enter-all .last .1 .1 .1 .1 .1 .1 .1 .1 .0)) (loadOf (args .limit) (args .text .now) ds) ((enter-all .ensures .same) ds (part-is (args .used) (args .rows .now)
-          ∙ x) y t) (state .given .1)) refl (clear-scratch2 .ensures) (clear-signature2 .ensures);
+          ∙ x) y t) (state .given .1)) refl (leave .ensures .0) (leave .ensures .1);
     }
 
 pub load-rows-spec : {M : Type 1} → statement M
@@ -347,12 +333,9 @@ load-rows-spec =
     part-enter-all-end
     enter-all-requires
     enum-known-number
-    clear-requires
-    clear-scratch-requires
-    clear-signature-requires
+    leave-nothing-requires
     enum-known-state
-    clear-scratch-requires-2
-    clear-signature-requires-2
+    leave-requires
     cast-t70
     cast-t71
     cast-t72

@@ -26,7 +26,7 @@ returns-2 c =
     let find-symbol = c .find-symbol in
     let part = c .before .part in
     rw (ne-eqb (args .kind) 27 (if1 .left)) ((find-symbol .ensures)
-        ∙ ap (λ (x : Name). symbolNumber (symbolsOf (args .text .now) (args .symbols .now) (args .count)) x) (part .ensures))
+    ∙ ap (λ (x : Name). symbolNumber (symbolsOf (args .text .now) (args .symbols .now) (args .count)) x) (part .ensures))
 
 pub symbol-of-spec : {M : Type 1} → statement M
 symbol-of-spec =

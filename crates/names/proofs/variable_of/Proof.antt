@@ -26,7 +26,7 @@ returns-2 c =
     let find-variable = c .find-variable in
     let part = c .before .part in
     rw (ne-eqb (args .kind) 27 (if1 .left)) ((find-variable .ensures)
-        ∙ ap (λ (x : Name). variableNumber (variablesOf (args .text .now) (args .variables .now) (args .count)) x) (part .ensures))
+    ∙ ap (λ (x : Name). variableNumber (variablesOf (args .text .now) (args .variables .now) (args .count)) x) (part .ensures))
 
 pub variable-of-spec : {M : Type 1} → statement M
 variable-of-spec =
