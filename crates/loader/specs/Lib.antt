@@ -15,4 +15,5 @@ pub mod LegalGrowth
 pub mod LegalLaws
 pub mod TokenPlaceLaws
 pub mod PlaceLaws
+pub mod NonemptyLaws
 mod Examples

@@ -34,47 +34,47 @@ TitlesInside text ds = Each (λ d. Within text (titlePlace (d .declaration))) ds
 -- Readers
 
 -- Q holds of the item, if one is read.
-abbrev Comes : {A : Type 0} → (A → Type 0) → Parsed A → Type 0
+abbrev pub Comes : {A : Type 0} → (A → Type 0) → Parsed A → Type 0
 Comes Q (parsed a n) = Q a
 Comes Q absent = Unit {0}
 Comes Q (refused r l) = Unit {0}
 
 -- Nothing is asked.
-abbrev Any : {A : Type 0} → A → Type 0
+abbrev pub Any : {A : Type 0} → A → Type 0
 Any a = Unit {0}
 
-any-comes : {A : Type 0} (o : Parsed A) → Comes Any o
+pub any-comes : {A : Type 0} (o : Parsed A) → Comes Any o
 any-comes (parsed a n) = tt
 any-comes absent = tt
 any-comes (refused r l) = tt
 
-plus-comes : {A : Type 0} (Q : A → Type 0) (n : ℕ) (o : Parsed A) → Comes Q o → Comes Q (plus n o)
+pub plus-comes : {A : Type 0} (Q : A → Type 0) (n : ℕ) (o : Parsed A) → Comes Q o → Comes Q (plus n o)
 plus-comes Q n (parsed a m) h = h
 plus-comes Q n absent h = tt
 plus-comes Q n (refused r l) h = tt
 
-follow-comes : {A B : Type 0} (Q : A → Type 0) (R : B → Type 0) (o : Parsed A) (ts : Tokens) (next : A → Tokens → Parsed B) → Comes Q o
+pub follow-comes : {A B : Type 0} (Q : A → Type 0) (R : B → Type 0) (o : Parsed A) (ts : Tokens) (next : A → Tokens → Parsed B) → Comes Q o
     → ((a : A) (us : Tokens) → Q a → Comes R (next a us)) → Comes R (follow o ts next)
 follow-comes Q R (parsed a n) ts next h f = plus-comes R n (next a (drop n ts)) (f a (drop n ts) h)
 follow-comes Q R absent ts next h f = tt
 follow-comes Q R (refused r l) ts next h f = tt
 
 -- What is read on the way does not matter.
-past-comes : {A B : Type 0} (R : B → Type 0) (o : Parsed A) (ts : Tokens) (next : A → Tokens → Parsed B) → ((a : A) (us : Tokens) → Comes R (next a us)) → Comes R (follow o ts next)
+pub past-comes : {A B : Type 0} (R : B → Type 0) (o : Parsed A) (ts : Tokens) (next : A → Tokens → Parsed B) → ((a : A) (us : Tokens) → Comes R (next a us)) → Comes R (follow o ts next)
 past-comes R o ts next f = follow-comes Any R o ts next (any-comes o) (λ a us _. f a us)
 
-when-comes : {A : Type 0} (R : A → Type 0) (b : Bool) (f g : Unit {0} → Parsed A) → Comes R (f tt) → Comes R (g tt) → Comes R (when b f g)
+pub when-comes : {A : Type 0} (R : A → Type 0) (b : Bool) (f g : Unit {0} → Parsed A) → Comes R (f tt) → Comes R (g tt) → Comes R (when b f g)
 when-comes R true f g h k = h
 when-comes R false f g h k = k
 
-continued-comes : {A B : Type 0} (Q : A → Type 0) (R : B → Type 0) (o : Parsed A) (next : A → ℕ → Parsed B) (end : Parsed B) → Comes Q o
+pub continued-comes : {A B : Type 0} (Q : A → Type 0) (R : B → Type 0) (o : Parsed A) (next : A → ℕ → Parsed B) (end : Parsed B) → Comes Q o
     → ((a : A) (n : ℕ) → Q a → Comes R (next a n)) → Comes R end → Comes R (continued o next end)
 continued-comes Q R (parsed a n) next end h f g = f a n h
 continued-comes Q R absent next end h f g = g
 continued-comes Q R (refused r l) next end h f g = tt
 
 -- Each item has what every item read from such tokens has.
-repeat-comes : {A : Type 0} (T : List ℕ → Type 0) (Q : A → Type 0) (item : Tokens → Parsed A) → ((us : Tokens) → Each T us → Comes Q (item us)) → (ts : Tokens) (k n : ℕ) (done : List A)
+pub repeat-comes : {A : Type 0} (T : List ℕ → Type 0) (Q : A → Type 0) (item : Tokens → Parsed A) → ((us : Tokens) → Each T us → Comes Q (item us)) → (ts : Tokens) (k n : ℕ) (done : List A)
     → Each T ts → Each Q done → Comes (Each Q) (repeat item ts k n done)
 unfolding repeat
 repeat-comes T Q item f [] k n done h d = continued-comes Q (Each Q) (item []) (λ a m. parsed done n) (parsed done n) (f [] tt) (λ a m q. d) d
