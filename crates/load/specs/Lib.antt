@@ -2,3 +2,4 @@
 pub mod Load
 pub mod Loading
 pub mod Clearing
+pub mod NumberLaws
