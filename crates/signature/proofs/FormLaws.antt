@@ -6,11 +6,12 @@ use mathlib.Core.List.{List}
 use lib.ListN.{length}
 use Rattle.words.specs.declared.Limits.{Limits}
 use Rattle.names.specs.Symbols.{Rows, column, sortsOf, symbolsOf}
+use Rattle.unifier.specs.Contracts.{Tells}
 use Rattle.rules.specs.PatternLaws.{aritiesOf}
 use Rattle.rule_checks.specs.RuleForm.{Inside}
 use Rattle.loader.specs.Legal.{Distinct, namesOf}
 use Rattle.signature.specs.Form.{SymbolFormed, Listed, Checked}
-use Rattle.signature.specs.Parts.{Decides, Lent, Counted, SortsInside, NumbersFormed, MarkFormed, ClausesFormed, InputsFormed, SymbolsFormed, RulesListed}
+use Rattle.signature.specs.Parts.{Lent, Counted, SortsInside, NumbersFormed, MarkFormed, ClausesFormed, InputsFormed, SymbolsFormed, RulesListed}
 
 -- A symbol's row.
 module _ (text : List ℕ) (sorts rules : ℕ) (row : List ℕ) where
@@ -84,8 +85,8 @@ module _ {limits : Limits} {sorts symbols rules : Rows} {words : List ℕ} {n m 
       }
 
 module _ {text : List ℕ} {limits : Limits} {sorts symbols rules : Rows} {words : List ℕ} {n m k u : ℕ} where
-  pub checked : {r : Bool} → Decides (Listed text limits sorts symbols rules words n m k u) r → Checked text limits sorts symbols rules words n m k u r
-  checked d = record { sound = d .sound; complete = d .complete }
+  pub checked : {r : Bool} → Tells r (Listed text limits sorts symbols rules words n m k u) → Checked text limits sorts symbols rules words n m k u r
+  checked d = record { sound = d .yes; complete = d .back }
 
   module _ (h : Listed text limits sorts symbols rules words n m k u) where
     pub listed-lent : Lent limits sorts symbols rules words

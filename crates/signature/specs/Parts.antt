@@ -1,7 +1,6 @@
 -- The parts of the listed form, each decided by a function of its own.
 use Prim.Native.Nat.{ℕ, _+_, _*_, _≤_, _<_}
 use mathlib.Core.Path.{_≡_}
-use mathlib.Core.Bool.{Bool, true}
 use mathlib.Core.List.{List}
 use lib.ListN.{length}
 use Rattle.words.specs.Lexer.{cappedOf}
@@ -10,11 +9,6 @@ use Rattle.names.specs.Symbols.{Rows, column, rowAt, sortOf, sortsOf, symbolsOf
 use Rattle.rule_checks.specs.RuleForm.{Inside, RuleFormed}
 use Rattle.loader.specs.Holding.{RulesKept}
 use Rattle.signature.specs.Form.{rulesOf, SymbolFormed}
-
--- The answer is whether P holds.
-pub record Decides (P : Type 0) (r : Bool) : Type 0 where
-  pub sound : r ≡ true → P
-  pub complete : P → r ≡ true
 
 -- As many rows and words are lent as the limits ask,
 pub record Lent (limits : Limits) (sorts symbols rules : Rows) (words : List ℕ) : Type 0 where

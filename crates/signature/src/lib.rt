@@ -6,11 +6,12 @@ ghost use Prim.Native.Nat.{ℕ, _*_, _≤_, _<_};
 ghost use lib.ListN.{length, getD};
 ghost use Rattle.words.specs.Lexer.{cappedOf};
 ghost use Rattle.names.specs.Symbols.{column, rowAt, sortsOf, symbolsOf};
+ghost use Rattle.unifier.specs.Contracts.{Tells};
 ghost use Rattle.rules.specs.PatternLaws.{aritiesOf};
 ghost use Rattle.rule_checks.specs.RuleForm.{Inside};
 ghost use Rattle.loader.specs.Legal.{Distinct, namesOf};
 ghost use Rattle.signature.specs.Form.{SymbolFormed, Checked};
-ghost use Rattle.signature.specs.Parts.{Decides, Lent, Counted, SortsInside, SortsFirst, SymbolFirst, SymbolsFirst, NumbersFormed, MarkFormed, ClausesFormed, InputFormed, InputsFormed, SymbolsFormed, RulesListed};
+ghost use Rattle.signature.specs.Parts.{Lent, Counted, SortsInside, SortsFirst, SymbolFirst, SymbolsFirst, NumbersFormed, MarkFormed, ClausesFormed, InputFormed, InputsFormed, SymbolsFormed, RulesListed};
 use names::SortRow;
 use names::SymbolRow;
 use rule_checks::Verdict;
@@ -48,7 +49,7 @@ fn is_lent(
     rules: &[RuleRow],
     words: &[u32],
 ) -> bool
-    ensures { λ r. ⌜ Decides (Lent limits (now (sorts .entry)) (now (symbols .entry)) (now (rules .entry)) (now (words .entry))) r ⌝ }
+    ensures { λ r. ⌜ Tells r (Lent limits (now (sorts .entry)) (now (symbols .entry)) (now (rules .entry)) (now (words .entry))) ⌝ }
 {
     if sorts.len() < SORTS {
         return false;
@@ -64,7 +65,7 @@ fn is_lent(
 
 // Are the counts within the limits?
 fn is_counted(limits: words::Limits, counts: Counts) -> bool
-    ensures { λ r. ⌜ Decides (Counted limits (counts .sorts) (counts .symbols) (counts .rules) (counts .words)) r ⌝ }
+    ensures { λ r. ⌜ Tells r (Counted limits (counts .sorts) (counts .symbols) (counts .rules) (counts .words)) ⌝ }
 {
     if SORTS < counts.sorts as usize {
         return false;
@@ -80,7 +81,7 @@ fn is_counted(limits: words::Limits, counts: Counts) -> bool
 
 // Does a place lie inside the text?
 fn is_inside(text: &[u8], start: u32, size: u32) -> bool
-    ensures { λ r. ⌜ Decides (Inside (now (text .entry)) start size) r ⌝ }
+    ensures { λ r. ⌜ Tells r (Inside (now (text .entry)) start size) ⌝ }
 {
     start as usize + size as usize <= text.len()
 }
@@ -88,7 +89,7 @@ fn is_inside(text: &[u8], start: u32, size: u32) -> bool
 // Are the names of the first n sorts in the text?
 fn are_sorts_inside(text: &[u8], sorts: &[SortRow], n: usize) -> bool
     requires { ⌜ n ≤ length (now sorts) ⌝ }
-    ensures { λ r. ⌜ Decides (SortsInside (now (text .entry)) (now (sorts .entry)) n) r ⌝ }
+    ensures { λ r. ⌜ Tells r (SortsInside (now (text .entry)) (now (sorts .entry)) n) ⌝ }
 {
     let mut i = 0;
     while i < n {
@@ -103,7 +104,7 @@ fn are_sorts_inside(text: &[u8], sorts: &[SortRow], n: usize) -> bool
 // Is each of n sorts the first of its name?
 fn are_sorts_first(text: &[u8], sorts: &[SortRow], n: usize) -> bool
     requires { ⌜ n ≤ length (now sorts) ⌝ }
-    ensures { λ r. ⌜ Decides (SortsFirst (now (text .entry)) (now (sorts .entry)) n) r ⌝ }
+    ensures { λ r. ⌜ Tells r (SortsFirst (now (text .entry)) (now (sorts .entry)) n) ⌝ }
 {
     let mut i = 0;
     while i < n {
@@ -126,7 +127,7 @@ fn is_symbol_first(
     i: usize,
 ) -> bool
     requires { ⌜ (n ≤ length (now sorts)) × (m ≤ length (now symbols)) × (i < m) ⌝ }
-    ensures { λ r. ⌜ Decides (SymbolFirst (now (text .entry)) (now (sorts .entry)) n (now (symbols .entry)) m i) r ⌝ }
+    ensures { λ r. ⌜ Tells r (SymbolFirst (now (text .entry)) (now (sorts .entry)) n (now (symbols .entry)) m i) ⌝ }
 {
     let w = names::part(text, symbols[i][0], symbols[i][1]);
     if names::find_sort(text, sorts, n, w) != n {
@@ -144,7 +145,7 @@ fn are_symbols_first(
     m: usize,
 ) -> bool
     requires { ⌜ (n ≤ length (now sorts)) × (m ≤ length (now symbols)) ⌝ }
-    ensures { λ r. ⌜ Decides (SymbolsFirst (now (text .entry)) (now (sorts .entry)) n (now (symbols .entry)) m) r ⌝ }
+    ensures { λ r. ⌜ Tells r (SymbolsFirst (now (text .entry)) (now (sorts .entry)) n (now (symbols .entry)) m) ⌝ }
 {
     let mut i = 0;
     while i < m {
@@ -165,7 +166,7 @@ fn are_names_distinct(
     m: usize,
 ) -> bool
     requires { ⌜ (n ≤ length (now sorts)) × (m ≤ length (now symbols)) ⌝ }
-    ensures { λ r. ⌜ Decides (Distinct (namesOf (sortsOf (now (text .entry)) (now (sorts .entry)) n) (symbolsOf (now (text .entry)) (now (symbols .entry)) m))) r ⌝ }
+    ensures { λ r. ⌜ Tells r (Distinct (namesOf (sortsOf (now (text .entry)) (now (sorts .entry)) n) (symbolsOf (now (text .entry)) (now (symbols .entry)) m))) ⌝ }
 {
     if !are_sorts_first(text, sorts, n) {
         return false;
@@ -175,7 +176,7 @@ fn are_names_distinct(
 
 // Are a symbol's output, number of inputs and free column in form?
 fn are_numbers_formed(sorts: u32, output: u32, inputs: u32, free: u32) -> bool
-    ensures { λ r. ⌜ Decides (NumbersFormed sorts output inputs free) r ⌝ }
+    ensures { λ r. ⌜ Tells r (NumbersFormed sorts output inputs free) ⌝ }
 {
     if sorts < output {
         return false;
@@ -188,7 +189,7 @@ fn are_numbers_formed(sorts: u32, output: u32, inputs: u32, free: u32) -> bool
 
 // A function has no output, and its last input is its result; only a function has clauses.
 fn is_mark_formed(output: u32, mark: u32, clauses: u32, inputs: u32) -> bool
-    ensures { λ r. ⌜ Decides (MarkFormed output mark clauses inputs) r ⌝ }
+    ensures { λ r. ⌜ Tells r (MarkFormed output mark clauses inputs) ⌝ }
 {
     if mark == 0 {
         return clauses == 0;
@@ -204,7 +205,7 @@ fn is_mark_formed(output: u32, mark: u32, clauses: u32, inputs: u32) -> bool
 
 // Are the clauses rules that there are, and is the first number zero without clauses?
 fn are_clauses_formed(first: u32, clauses: u32, rules: u32) -> bool
-    ensures { λ r. ⌜ Decides (ClausesFormed first clauses rules) r ⌝ }
+    ensures { λ r. ⌜ Tells r (ClausesFormed first clauses rules) ⌝ }
 {
     if (rules as usize) < first as usize + clauses as usize {
         return false;
@@ -217,7 +218,7 @@ fn are_clauses_formed(first: u32, clauses: u32, rules: u32) -> bool
 
 // Is the column j of the inputs, of which n are used, a sort, or zero past them?
 fn is_input_formed(sorts: u32, n: u32, j: usize, input: u32) -> bool
-    ensures { λ r. ⌜ Decides (InputFormed sorts n j input) r ⌝ }
+    ensures { λ r. ⌜ Tells r (InputFormed sorts n j input) ⌝ }
 {
     if n as usize <= j {
         return input == 0;
@@ -231,7 +232,7 @@ fn is_input_formed(sorts: u32, n: u32, j: usize, input: u32) -> bool
 // Are all columns of the inputs of symbol i in form?
 fn are_inputs_formed(sorts: u32, symbols: &[SymbolRow], i: usize) -> bool
     requires { ⌜ i < length (now symbols) ⌝ }
-    ensures { λ r. ⌜ Decides (InputsFormed sorts (rowAt (now (symbols .entry)) i)) r ⌝ }
+    ensures { λ r. ⌜ Tells r (InputsFormed sorts (rowAt (now (symbols .entry)) i)) ⌝ }
 {
     let mut j = 0;
     while j < INPUTS {
@@ -246,7 +247,7 @@ fn are_inputs_formed(sorts: u32, symbols: &[SymbolRow], i: usize) -> bool
 // Is the row of symbol i in form?
 fn is_symbol_formed(text: &[u8], sorts: u32, rules: u32, symbols: &[SymbolRow], i: usize) -> bool
     requires { ⌜ i < length (now symbols) ⌝ }
-    ensures { λ r. ⌜ Decides (SymbolFormed (now (text .entry)) sorts rules (rowAt (now (symbols .entry)) i)) r ⌝ }
+    ensures { λ r. ⌜ Tells r (SymbolFormed (now (text .entry)) sorts rules (rowAt (now (symbols .entry)) i)) ⌝ }
 {
     if !is_inside(text, symbols[i][0], symbols[i][1]) {
         return false;
@@ -266,7 +267,7 @@ fn is_symbol_formed(text: &[u8], sorts: u32, rules: u32, symbols: &[SymbolRow], 
 // Are the rows of the first m symbols in form?
 fn are_symbols_formed(text: &[u8], sorts: u32, rules: u32, symbols: &[SymbolRow], m: usize) -> bool
     requires { ⌜ m ≤ length (now symbols) ⌝ }
-    ensures { λ r. ⌜ Decides (SymbolsFormed (now (text .entry)) sorts rules (now (symbols .entry)) m) r ⌝ }
+    ensures { λ r. ⌜ Tells r (SymbolsFormed (now (text .entry)) sorts rules (now (symbols .entry)) m) ⌝ }
 {
     let mut i = 0;
     while i < m {
@@ -301,7 +302,7 @@ fn are_rules_listed(
     k: usize,
 ) -> bool
     requires { ⌜ (used ≤ length (now words)) × (used ≤ 65536) × (k ≤ length (now rules)) ⌝ }
-    ensures { λ r. ⌜ Decides (RulesListed (now (text .entry)) (now (arities .entry)) (now (words .entry)) sorts (now (rules .entry)) k used) r ⌝ }
+    ensures { λ r. ⌜ Tells r (RulesListed (now (text .entry)) (now (arities .entry)) (now (words .entry)) sorts (now (rules .entry)) k used) ⌝ }
 {
     let mut at = 0;
     let mut i = 0;
@@ -325,7 +326,7 @@ fn are_rules_of(
     counts: Counts,
 ) -> bool
     requires { ⌜ (counts .symbols ≤ 1024) × (counts .symbols ≤ length (now symbols)) × (counts .words ≤ length (now words)) × (counts .words ≤ 65536) × (counts .rules ≤ length (now rules)) ⌝ }
-    ensures { λ r. ⌜ Decides (RulesListed (now (text .entry)) (aritiesOf (symbolsOf (now (text .entry)) (now (symbols .entry)) (counts .symbols))) (now (words .entry)) (counts .sorts) (now (rules .entry)) (counts .rules) (counts .words)) r ⌝ }
+    ensures { λ r. ⌜ Tells r (RulesListed (now (text .entry)) (aritiesOf (symbolsOf (now (text .entry)) (now (symbols .entry)) (counts .symbols))) (now (words .entry)) (counts .sorts) (now (rules .entry)) (counts .rules) (counts .words)) ⌝ }
 {
     let m = counts.symbols as usize;
     let k = counts.rules as usize;

@@ -1,5 +1,6 @@
 -- `are_clauses_formed` meets its contract: the sum is computed in 64 bits, so it does not wrap.
-use Rattle.signature.proofs.Laws.{yes, no, by-eq}
+use Rattle.unifier.specs.Checking.{tells-yes, tells-no}
+use Rattle.signature.proofs.Laws.{by-eq}
 use borrow.Author.Needs.{needs}
 use native.Mathlib.Omega.{arith}
 use Rattle.signature.proofs.are_clauses_formed.Statement.{statement}
@@ -9,10 +10,10 @@ add-if1 : tie.Need-add-if1
 add-if1 c = search needs
 
 returns : tie.Need-returns
-returns c = no (λ h. let l = h .clauses in omega (arith, (c .if1 .taken)))
+returns c = tells-no (λ h. let l = h .clauses in omega (arith, (c .if1 .taken)))
 
 returns-2 : tie.Need-returns-2
-returns-2 c = yes (record { clauses = (c .before .if1 .left); none = λ e. absurd ((c .if2 .taken) e) })
+returns-2 c = tells-yes (record { clauses = (c .before .if1 .left); none = λ e. absurd ((c .if2 .taken) e) })
 
 returns-3 : tie.Need-returns-3
 returns-3 c = by-eq (c .before .before .args .first) 0 (λ e. record { clauses = (c .before .if1 .left); none = λ f. e }) (λ h. h .none (c .if2 .left))

@@ -1,5 +1,7 @@
 -- `are_inputs_formed` meets its contract. The loop's invariant: the first j columns are in form.
-use Rattle.signature.proofs.Laws.{yes, no, holds, refutes}
+use borrow.Author.Tests.{not-true}
+use Rattle.unifier.specs.Checking.{tells-yes, tells-no, tells-false}
+use Rattle.signature.proofs.Laws.{holds}
 use Rattle.names.specs.Symbols.{column, rowAt}
 use Rattle.signature.specs.Parts.{InputFormed}
 use Prim.Native.Nat.{ℕ, _+_, _≤_, _<_, _-_}
@@ -47,7 +49,7 @@ is-input-formed-requires c κs = search needs
 
 returns : tie.Need-returns Inv-loop μ-loop
 returns c =
-    no (λ h. refutes (c .before .is-input-formed .ensures) (c .if1 .taken) (h (c .before .before .before .before .before .loop .j) (c .before .before .before .before .loop-test .taken)))
+    tells-no (λ h. tells-false (c .before .is-input-formed .ensures) (not-true _ (c .if1 .taken)) (h (c .before .before .before .before .before .loop .j) (c .before .before .before .before .loop-test .taken)))
 
 add-j : tie.Need-add-j Inv-loop μ-loop
 add-j c = search needs
@@ -64,7 +66,7 @@ loop-again c =
     (omega arith, below-more (λ x. InputFormed (args .sorts) (column (rowAt (args .symbols .now) (args .i)) 6) x (column (rowAt (args .symbols .now) (args .i)) (8 + x))) (loop .j) (loop .inv .1) (holds (is-input-formed .ensures) (if1 .left)))
 
 returns-2 : tie.Need-returns-2 Inv-loop μ-loop
-returns-2 c = yes (λ i l. (c .before .loop .inv .1) i (omega (arith, (c .loop-test .left))))
+returns-2 c = tells-yes (λ i l. (c .before .loop .inv .1) i (omega (arith, (c .loop-test .left))))
 
 pub are-inputs-formed-spec : {M : Type 1} → statement M
 are-inputs-formed-spec =

@@ -1,5 +1,7 @@
 -- `are_names_distinct` meets its contract: names are distinct exactly where each is the first of its name.
-use Rattle.signature.proofs.Laws.{no, holds, refutes, same}
+use borrow.Author.Tests.{not-true}
+use Rattle.unifier.specs.Checking.{tells-no, tells-false}
+use Rattle.signature.proofs.Laws.{holds, same}
 use Rattle.signature.proofs.NameLaws.{names-sorts, names-symbols, names-distinct}
 use borrow.Author.Needs.{needs}
 use Rattle.signature.proofs.are_names_distinct.Statement.{statement}
@@ -14,7 +16,7 @@ returns c =
     let if1 = c .if1 in
     let args = c .before .before .before .args in
     let pre = c .before .before .before .pre in
-    no (λ h. refutes (are-sorts-first .ensures) (if1 .taken) (names-sorts (args .text .now) (args .sorts .now) (args .n) (args .symbols .now) (args .m) (pre .0) (pre .1) h))
+    tells-no (λ h. tells-false (are-sorts-first .ensures) (not-true _ (if1 .taken)) (names-sorts (args .text .now) (args .sorts .now) (args .n) (args .symbols .now) (args .m) (pre .0) (pre .1) h))
 
 are-symbols-first-requires : tie.Need-are-symbols-first-requires
 are-symbols-first-requires c κs = search needs

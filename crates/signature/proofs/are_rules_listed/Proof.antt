@@ -1,5 +1,6 @@
 -- `are_rules_listed` meets its contract. The loop's invariant: the first i rules are in form one behind the other, and their words end at `at`.
-use Rattle.signature.proofs.Laws.{no, by-eq}
+use Rattle.unifier.specs.Checking.{tells-no}
+use Rattle.signature.proofs.Laws.{by-eq}
 use Rattle.signature.proofs.RuleLaws.{none-formed, none-listed, next-formed, one-more, here-listed, same-end, bad-good}
 use Rattle.arena.specs.Cells.{WellFormed, cells}
 use Rattle.arena.specs.Copies.{patternRoom}
@@ -40,7 +41,7 @@ returns c =
     let loop = c .before .before .before .before .loop in
     let check-rule = c .before .before .check-rule in
     let enum-told = c .enum-told in
-    no (λ h. let r = here-listed (loop-test .taken) (pre .2) (loop .inv .2) h in
+    tells-no (λ h. let r = here-listed (loop-test .taken) (pre .2) (loop .inv .2) h in
     bad-good ((check-rule .ensures) .complete (r .0) (r .1)) (enum-told .given .1))
 
 add-i : tie.Need-add-i Inv-loop μ-loop

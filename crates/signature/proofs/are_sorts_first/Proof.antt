@@ -1,5 +1,5 @@
 -- `are_sorts_first` meets its contract. The loop's invariant: each of the first i sorts is the first of its name among all.
-use Rattle.signature.proofs.Laws.{yes, no}
+use Rattle.unifier.specs.Checking.{tells-yes, tells-no}
 use Rattle.names.specs.Names.{Name}
 use Rattle.names.specs.Symbols.{rowAt, sortOf, sortsOf, sortNumber}
 use Prim.Native.Nat.{ℕ, _≤_, _<_, _-_}
@@ -51,7 +51,7 @@ returns c =
     let part = c .before .before .part in
     let loop = c .before .before .before .before .before .before .loop in
     let loop-test = c .before .before .before .before .before .loop-test in
-    no (λ h. (if1 .taken) ((find-sort .ensures)
+    tells-no (λ h. (if1 .taken) ((find-sort .ensures)
     ∙ ap (λ (w : Name). sortNumber (sortsOf (args .text .now) (args .sorts .now) (args .n)) w) (part .ensures)
     ∙ h (loop .i) (loop-test .taken)))
 
@@ -74,7 +74,7 @@ loop-again c =
     )
 
 returns-2 : tie.Need-returns-2 Inv-loop μ-loop
-returns-2 c = yes (λ i l. (c .before .loop .inv .1) i (omega (arith, (c .loop-test .left))))
+returns-2 c = tells-yes (λ i l. (c .before .loop .inv .1) i (omega (arith, (c .loop-test .left))))
 
 pub are-sorts-first-spec : {M : Type 1} → statement M
 are-sorts-first-spec =

@@ -1,5 +1,7 @@
 -- `are_sorts_inside` meets its contract. The loop's invariant: the names of the first i sorts are in the text.
-use Rattle.signature.proofs.Laws.{yes, no, holds, refutes}
+use borrow.Author.Tests.{not-true}
+use Rattle.unifier.specs.Checking.{tells-yes, tells-no, tells-false}
+use Rattle.signature.proofs.Laws.{holds}
 use Rattle.names.specs.Symbols.{column, rowAt}
 use Rattle.rule_checks.specs.RuleForm.{Inside}
 use Rattle.signature.specs.Parts.{SortsInside}
@@ -42,7 +44,7 @@ is-inside-requires c κs = search needs
 
 returns : tie.Need-returns Inv-loop μ-loop
 returns c =
-    no (λ h. refutes (c .before .is-inside .ensures) (c .if1 .taken) (h (c .before .before .before .before .before .loop .i) (c .before .before .before .before .loop-test .taken)))
+    tells-no (λ h. tells-false (c .before .is-inside .ensures) (not-true _ (c .if1 .taken)) (h (c .before .before .before .before .before .loop .i) (c .before .before .before .before .loop-test .taken)))
 
 add-i : tie.Need-add-i Inv-loop μ-loop
 add-i c = search needs
@@ -59,7 +61,7 @@ loop-again c =
     (omega arith, below-more (λ i. Inside (args .text .now) (column (rowAt (args .sorts .now) i) 0) (column (rowAt (args .sorts .now) i) 1)) (loop .i) (loop .inv .1) (holds (is-inside .ensures) (if1 .left)))
 
 returns-2 : tie.Need-returns-2 Inv-loop μ-loop
-returns-2 c = yes (λ i l. (c .before .loop .inv .1) i (omega (arith, (c .loop-test .left))))
+returns-2 c = tells-yes (λ i l. (c .before .loop .inv .1) i (omega (arith, (c .loop-test .left))))
 
 pub are-sorts-inside-spec : {M : Type 1} → statement M
 are-sorts-inside-spec =

@@ -1,5 +1,7 @@
 -- `are_symbols_first` meets its contract. The loop's invariant: no sort and no symbol has the name of one of the first i symbols before it.
-use Rattle.signature.proofs.Laws.{yes, no, holds, refutes}
+use borrow.Author.Tests.{not-true}
+use Rattle.unifier.specs.Checking.{tells-yes, tells-no, tells-false}
+use Rattle.signature.proofs.Laws.{holds}
 use Rattle.signature.specs.Parts.{SymbolFirst}
 use Prim.Native.Nat.{ℕ, _≤_, _<_, _-_}
 use borrow.Author.Count.{below-more}
@@ -22,7 +24,7 @@ is-symbol-first-requires c κs = search needs
 
 returns : tie.Need-returns Inv-loop μ-loop
 returns c =
-    no (λ h. refutes (c .before .is-symbol-first .ensures) (c .if1 .taken) (h (c .before .before .before .loop .i) (c .before .before .loop-test .taken)))
+    tells-no (λ h. tells-false (c .before .is-symbol-first .ensures) (not-true _ (c .if1 .taken)) (h (c .before .before .before .loop .i) (c .before .before .loop-test .taken)))
 
 add-i : tie.Need-add-i Inv-loop μ-loop
 add-i c = search needs
@@ -39,7 +41,7 @@ loop-again c =
     (omega arith, below-more (SymbolFirst (args .text .now) (args .sorts .now) (args .n) (args .symbols .now) (args .m)) (loop .i) (loop .inv .1) (holds (is-symbol-first .ensures) (if1 .left)))
 
 returns-2 : tie.Need-returns-2 Inv-loop μ-loop
-returns-2 c = yes (λ i l. (c .before .loop .inv .1) i (omega (arith, (c .loop-test .left))))
+returns-2 c = tells-yes (λ i l. (c .before .loop .inv .1) i (omega (arith, (c .loop-test .left))))
 
 pub are-symbols-first-spec : {M : Type 1} → statement M
 are-symbols-first-spec =

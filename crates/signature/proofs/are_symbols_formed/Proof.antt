@@ -1,6 +1,8 @@
 -- `are_symbols_formed` meets its contract. The loop's invariant: the rows of the first i symbols are in form.
 use Rattle.names.specs.Symbols.{rowAt}
-use Rattle.signature.proofs.Laws.{yes, no, holds, refutes}
+use borrow.Author.Tests.{not-true}
+use Rattle.unifier.specs.Checking.{tells-yes, tells-no, tells-false}
+use Rattle.signature.proofs.Laws.{holds}
 use Rattle.signature.specs.Form.{SymbolFormed}
 use Rattle.signature.specs.Parts.{SymbolsFormed}
 use Prim.Native.Nat.{_≤_, _-_}
@@ -24,7 +26,7 @@ is-symbol-formed-requires c κs = search needs
 
 returns : tie.Need-returns Inv-loop μ-loop
 returns c =
-    no (λ h. refutes (c .before .is-symbol-formed .ensures) (c .if1 .taken) (h (c .before .before .before .loop .i) (c .before .before .loop-test .taken)))
+    tells-no (λ h. tells-false (c .before .is-symbol-formed .ensures) (not-true _ (c .if1 .taken)) (h (c .before .before .before .loop .i) (c .before .before .loop-test .taken)))
 
 add-i : tie.Need-add-i Inv-loop μ-loop
 add-i c = search needs
@@ -41,7 +43,7 @@ loop-again c =
     (omega arith, below-more (λ i. SymbolFormed (args .text .now) (args .sorts) (args .rules) (rowAt (args .symbols .now) i)) (loop .i) (loop .inv .1) (holds (is-symbol-formed .ensures) (if1 .left)))
 
 returns-2 : tie.Need-returns-2 Inv-loop μ-loop
-returns-2 c = yes (λ i l. (c .before .loop .inv .1) i (omega (arith, (c .loop-test .left))))
+returns-2 c = tells-yes (λ i l. (c .before .loop .inv .1) i (omega (arith, (c .loop-test .left))))
 
 pub are-symbols-formed-spec : {M : Type 1} → statement M
 are-symbols-formed-spec =

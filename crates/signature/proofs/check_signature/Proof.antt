@@ -1,5 +1,7 @@
 -- `check_signature` meets its contract: each test is one part of the form.
-use Rattle.signature.proofs.Laws.{no, holds, refutes, same}
+use borrow.Author.Tests.{not-true}
+use Rattle.unifier.specs.Checking.{tells-no, tells-false}
+use Rattle.signature.proofs.Laws.{holds, same}
 use Rattle.signature.proofs.FormLaws.{checked, sorts-there, symbols-there, rules-there, words-there, words-few, listed, listed-lent, listed-counted, listed-rules}
 use borrow.Author.Needs.{needs}
 use Rattle.signature.proofs.check_signature.Statement.{statement}
@@ -9,13 +11,13 @@ is-lent-requires : tie.Need-is-lent-requires
 is-lent-requires c κs = search needs
 
 returns : tie.Need-returns
-returns c = checked (no (λ h. refutes (c .before .is-lent .ensures) (c .if1 .taken) (listed-lent h)))
+returns c = checked (tells-no (λ h. tells-false (c .before .is-lent .ensures) (not-true _ (c .if1 .taken)) (listed-lent h)))
 
 is-counted-requires : tie.Need-is-counted-requires
 is-counted-requires c κs = search needs
 
 returns-2 : tie.Need-returns-2
-returns-2 c = checked (no (λ h. refutes (c .before .is-counted .ensures) (c .if2 .taken) (listed-counted h)))
+returns-2 c = checked (tells-no (λ h. tells-false (c .before .is-counted .ensures) (not-true _ (c .if2 .taken)) (listed-counted h)))
 
 cast-n : tie.Need-cast-n
 cast-n c = search needs
@@ -28,7 +30,7 @@ are-sorts-inside-requires c κs =
     sorts-there (holds (c .before .before .before .before .before .is-lent .ensures) (c .before .before .before .before .if1 .left)) (holds (c .before .before .before .is-counted .ensures) (c .before .before .if2 .left))
 
 returns-3 : tie.Need-returns-3
-returns-3 c = checked (no (λ h. refutes (c .before .are-sorts-inside .ensures) (c .if3 .taken) (h .sortsInside)))
+returns-3 c = checked (tells-no (λ h. tells-false (c .before .are-sorts-inside .ensures) (not-true _ (c .if3 .taken)) (h .sortsInside)))
 
 are-names-distinct-requires : tie.Need-are-names-distinct-requires
 are-names-distinct-requires c κs =
@@ -41,7 +43,7 @@ are-names-distinct-requires c κs =
     (sorts-there lent counted, symbols-there lent counted)
 
 returns-4 : tie.Need-returns-4
-returns-4 c = checked (no (λ h. refutes (c .before .are-names-distinct .ensures) (c .if4 .taken) (h .distinct)))
+returns-4 c = checked (tells-no (λ h. tells-false (c .before .are-names-distinct .ensures) (not-true _ (c .if4 .taken)) (h .distinct)))
 
 are-symbols-formed-requires : tie.Need-are-symbols-formed-requires
 are-symbols-formed-requires c κs =
@@ -52,7 +54,7 @@ are-symbols-formed-requires c κs =
     symbols-there (holds (is-lent .ensures) (if1 .left)) (holds (is-counted .ensures) (if2 .left))
 
 returns-5 : tie.Need-returns-5
-returns-5 c = checked (no (λ h. refutes (c .before .are-symbols-formed .ensures) (c .if5 .taken) (h .symbolsFormed)))
+returns-5 c = checked (tells-no (λ h. tells-false (c .before .are-symbols-formed .ensures) (not-true _ (c .if5 .taken)) (h .symbolsFormed)))
 
 are-rules-of-requires : tie.Need-are-rules-of-requires
 are-rules-of-requires c κs =

@@ -1,5 +1,6 @@
 -- `is_counted` meets its contract: one test for each field.
-use Rattle.signature.proofs.Laws.{no, by-le}
+use Rattle.unifier.specs.Checking.{tells-no}
+use Rattle.signature.proofs.Laws.{by-le}
 use borrow.Author.Needs.{needs}
 use native.Mathlib.Omega.{arith}
 use Rattle.signature.proofs.is_counted.Statement.{statement}
@@ -9,19 +10,19 @@ cast-if1 : tie.Need-cast-if1
 cast-if1 c = search needs
 
 returns : tie.Need-returns
-returns c = no (λ h. let l = h .fewSorts in omega (arith, (c .if1 .taken)))
+returns c = tells-no (λ h. let l = h .fewSorts in omega (arith, (c .if1 .taken)))
 
 cast-if2 : tie.Need-cast-if2
 cast-if2 c = search needs
 
 returns-2 : tie.Need-returns-2
-returns-2 c = no (λ h. let l = h .fewSymbols in omega (arith, (c .if2 .taken)))
+returns-2 c = tells-no (λ h. let l = h .fewSymbols in omega (arith, (c .if2 .taken)))
 
 cast-if3 : tie.Need-cast-if3
 cast-if3 c = search needs
 
 returns-3 : tie.Need-returns-3
-returns-3 c = no (λ h. let l = h .fewRules in omega (arith, (c .if3 .taken)))
+returns-3 c = tells-no (λ h. let l = h .fewRules in omega (arith, (c .if3 .taken)))
 
 cast-result : tie.Need-cast-result
 cast-result c = search needs

@@ -1,5 +1,6 @@
 -- `is_input_formed` meets its contract: past the inputs, and a sort's number.
-use Rattle.signature.proofs.Laws.{no, by-eq, by-le}
+use Rattle.unifier.specs.Checking.{tells-no}
+use Rattle.signature.proofs.Laws.{by-eq, by-le}
 use native.Mathlib.Omega.{arith}
 use Rattle.signature.proofs.is_input_formed.Statement.{statement}
 use Rattle.signature.proofs.is_input_formed.Tie as tie
@@ -9,7 +10,7 @@ returns c =
     by-eq (c .before .args .input) 0 (λ e. record { used = λ l. absurd (omega (arith, (c .if1 .taken))); clear = λ l. e }) (λ h. h .clear (c .if1 .taken))
 
 returns-2 : tie.Need-returns-2
-returns-2 c = no (λ h. let u = h .used (c .before .if1 .left) in omega (arith, (c .if2 .taken), u .0))
+returns-2 c = tells-no (λ h. let u = h .used (c .before .if1 .left) in omega (arith, (c .if2 .taken), u .0))
 
 returns-3 : tie.Need-returns-3
 returns-3 c =

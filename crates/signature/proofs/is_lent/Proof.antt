@@ -1,5 +1,6 @@
 -- `is_lent` meets its contract: one test for each field.
-use Rattle.signature.proofs.Laws.{no, by-le}
+use Rattle.unifier.specs.Checking.{tells-no}
+use Rattle.signature.proofs.Laws.{by-le}
 use lib.ListN.{length}
 use borrow.Author.Needs.{needs}
 use native.Mathlib.Omega.{arith}
@@ -7,13 +8,13 @@ use Rattle.signature.proofs.is_lent.Statement.{statement}
 use Rattle.signature.proofs.is_lent.Tie as tie
 
 returns : tie.Need-returns
-returns c = no (λ h. let l = h .sortsLent in omega (arith, (c .if1 .taken)))
+returns c = tells-no (λ h. let l = h .sortsLent in omega (arith, (c .if1 .taken)))
 
 returns-2 : tie.Need-returns-2
-returns-2 c = no (λ h. let l = h .symbolsLent in omega (arith, (c .if2 .taken)))
+returns-2 c = tells-no (λ h. let l = h .symbolsLent in omega (arith, (c .if2 .taken)))
 
 returns-3 : tie.Need-returns-3
-returns-3 c = no (λ h. let l = h .rulesLent in omega (arith, (c .if3 .taken)))
+returns-3 c = tells-no (λ h. let l = h .rulesLent in omega (arith, (c .if3 .taken)))
 
 most-words-requires : tie.Need-most-words-requires
 most-words-requires c κs = search needs

@@ -1,5 +1,6 @@
 -- `is_mark_formed` meets its contract: no function, no mark at all, and a function.
-use Rattle.signature.proofs.Laws.{no, by-eq, by-lt}
+use Rattle.unifier.specs.Checking.{tells-no}
+use Rattle.signature.proofs.Laws.{by-eq, by-lt}
 use native.Mathlib.Omega.{arith}
 use Rattle.signature.proofs.is_mark_formed.Statement.{statement}
 use Rattle.signature.proofs.is_mark_formed.Tie as tie
@@ -12,10 +13,10 @@ returns c =
     by-eq (args .clauses) 0 (λ e. record { mark = omega (arith, z); predicate = λ f. absurd (omega (arith, z, f)); result = λ f. absurd (omega (arith, z, f)); others = λ f. e }) (λ h. h .others z)
 
 returns-2 : tie.Need-returns-2
-returns-2 c = no (λ h. let l = h .mark in omega (arith, (c .before .if1 .left), (c .if2 .taken)))
+returns-2 c = tells-no (λ h. let l = h .mark in omega (arith, (c .before .if1 .left), (c .if2 .taken)))
 
 returns-3 : tie.Need-returns-3
-returns-3 c = no (λ h. (c .if3 .taken) (h .predicate (c .before .if2 .left)))
+returns-3 c = tells-no (λ h. (c .if3 .taken) (h .predicate (c .before .if2 .left)))
 
 returns-4 : tie.Need-returns-4
 returns-4 c =

@@ -1,5 +1,6 @@
 -- `is_symbol_first` meets its contract: first the sorts, then the symbols.
-use Rattle.signature.proofs.Laws.{no, by-eq}
+use Rattle.unifier.specs.Checking.{tells-no}
+use Rattle.signature.proofs.Laws.{by-eq}
 use Rattle.names.specs.Names.{Name}
 use Rattle.names.specs.Symbols.{sortsOf, symbolsOf, sortNumber, symbolNumber}
 use mathlib.Core.Path.{sym, ap, _∙_}
@@ -37,7 +38,7 @@ returns c =
     let find-sort = c .before .find-sort in
     let args = c .before .before .before .before .before .before .args in
     let part = c .before .before .part in
-    no (λ h. (if1 .taken) ((find-sort .ensures) ∙ ap (λ (w : Name). sortNumber (sortsOf (args .text .now) (args .sorts .now) (args .n)) w) (part .ensures) ∙ h .other))
+    tells-no (λ h. (if1 .taken) ((find-sort .ensures) ∙ ap (λ (w : Name). sortNumber (sortsOf (args .text .now) (args .sorts .now) (args .n)) w) (part .ensures) ∙ h .other))
 
 find-symbol-requires : tie.Need-find-symbol-requires
 find-symbol-requires c κs = search needs

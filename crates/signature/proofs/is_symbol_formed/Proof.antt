@@ -1,6 +1,8 @@
 -- `is_symbol_formed` meets its contract: each test is one part of the form.
 use Rattle.names.specs.Symbols.{rowAt}
-use Rattle.signature.proofs.Laws.{no, holds, refutes, same}
+use borrow.Author.Tests.{not-true}
+use Rattle.unifier.specs.Checking.{tells-no, tells-false}
+use Rattle.signature.proofs.Laws.{holds, same}
 use Rattle.signature.proofs.FormLaws.{row-formed, row-numbers, row-mark, row-clauses, row-inputs}
 use borrow.Author.Needs.{needs}
 use Rattle.signature.proofs.is_symbol_formed.Statement.{statement}
@@ -28,7 +30,7 @@ is-inside-requires : tie.Need-is-inside-requires
 is-inside-requires c κs = search needs
 
 returns : tie.Need-returns
-returns c = no (λ h. refutes (c .before .is-inside .ensures) (c .if1 .taken) (h .inside))
+returns c = tells-no (λ h. tells-false (c .before .is-inside .ensures) (not-true _ (c .if1 .taken)) (h .inside))
 
 mul-are-numbers-formed : tie.Need-mul-are-numbers-formed
 mul-are-numbers-formed c = search needs
@@ -65,7 +67,7 @@ returns-2 c =
     let are-numbers-formed = c .before .are-numbers-formed in
     let if2 = c .if2 in
     let args = c .before .before .before .before .before .before .before .before .before .before .args in
-    no (λ h. refutes (are-numbers-formed .ensures) (if2 .taken) (row-numbers (args .text .now) (args .sorts) (args .rules) (rowAt (args .symbols .now) (args .i)) h))
+    tells-no (λ h. tells-false (are-numbers-formed .ensures) (not-true _ (if2 .taken)) (row-numbers (args .text .now) (args .sorts) (args .rules) (rowAt (args .symbols .now) (args .i)) h))
 
 mul-is-mark-formed : tie.Need-mul-is-mark-formed
 mul-is-mark-formed c = search needs
@@ -111,7 +113,7 @@ returns-3 c =
     let is-mark-formed = c .before .is-mark-formed in
     let if3 = c .if3 in
     let args = c .before .before .before .before .before .before .before .before .before .before .before .before .before .before .before .before .args in
-    no (λ h. refutes (is-mark-formed .ensures) (if3 .taken) (row-mark (args .text .now) (args .sorts) (args .rules) (rowAt (args .symbols .now) (args .i)) h))
+    tells-no (λ h. tells-false (is-mark-formed .ensures) (not-true _ (if3 .taken)) (row-mark (args .text .now) (args .sorts) (args .rules) (rowAt (args .symbols .now) (args .i)) h))
 
 mul-are-clauses-formed : tie.Need-mul-are-clauses-formed
 mul-are-clauses-formed c = search needs
@@ -139,7 +141,7 @@ returns-4 c =
     let are-clauses-formed = c .before .are-clauses-formed in
     let if4 = c .if4 in
     let args = c .before .before .before .before .before .before .before .before .before .before .before .before .before .before .before .before .before .before .before .before .args in
-    no (λ h. refutes (are-clauses-formed .ensures) (if4 .taken) (row-clauses (args .text .now) (args .sorts) (args .rules) (rowAt (args .symbols .now) (args .i)) h))
+    tells-no (λ h. tells-false (are-clauses-formed .ensures) (not-true _ (if4 .taken)) (row-clauses (args .text .now) (args .sorts) (args .rules) (rowAt (args .symbols .now) (args .i)) h))
 
 are-inputs-formed-requires : tie.Need-are-inputs-formed-requires
 are-inputs-formed-requires c κs = search needs
