@@ -16,7 +16,7 @@ use Rattle.term_parser.specs.declared.Refusal.{Refusal}
 use Rattle.term_parser.specs.declared.Refusal.the-variants.{Storage, Text, ParenthesisLimit, SignExpected, NameExpected, TermExpected, OnlyNames, LeftOfEquals, DeclarationExpected, NoProp, ByForm, OtherKeyword}
 use Rattle.parser.specs.Declarations.{Declared, parseOf}
 use Rattle.parser.specs.Parser.{numberOf, parsedText}
-use Rattle.loader.specs.Signature.{Loaded, refused}
+use Rattle.loader.specs.Signature.{refused}
 use Rattle.loader.specs.NonemptyLaws.{Numbered, parsed-nonempty, loaded-numbered}
 use Rattle.load.specs.Load.{ofParsed, loadText}
 

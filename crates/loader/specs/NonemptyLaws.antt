@@ -8,7 +8,7 @@ use mathlib.Core.List.{List, [], _∷_, _++_, map}
 use lib.Dec.{eqb, ltb}
 use lib.ListN.{length, getD, length-map}
 use Rattle.terms.specs.Term.{Syn}
-use Rattle.term_parser.specs.Source.{Place, Source, Arity, one, many, allOf}
+use Rattle.term_parser.specs.Source.{Source, Arity, one, many, allOf}
 use Rattle.term_parser.specs.Standing.{Written, number, meta, called, applied, nil as none, cons as more, size, spelled, bytesAt}
 use Rattle.term_parser.specs.Parsing.{Tokens, lastLine, Parsed, parsed, follow, signOf, behind, repeat}
 use Rattle.term_parser.specs.Lists.{separated, name, titleOf, arrowsOf, term, judgmentsOf}
