@@ -8,7 +8,6 @@ use lib.Seq.{length-take-le, getD-take}
 use Rattle.terms.specs.Term.{Term, Terms}
 use Rattle.arena.specs.Cells.{Reference, reference-up, cells, termsOf}
 use Rattle.arena.specs.Copies.{patternRoom}
-use Rattle.arena.specs.Rows as arena
 use Rattle.resolution.specs.Rules.{Rule}
 use Rattle.resolution.specs.Fresh.{met, metBack, headVars, allVars}
 use Rattle.resolution.specs.Search.{words}
@@ -18,7 +17,7 @@ use Rattle.names.specs.Symbols.{Rows, column, columns}
 use Rattle.rules.specs.LayingLaws.{RuleLying, lying-one, records-placed}
 use Rattle.rules.specs.CountLaws.{all-count, all-below}
 use Rattle.rules.specs.StoredRows.{titled, ruleRow, headsIn, placesIn, Kept}
-use Rattle.rules.specs.Contracts.{most, RootAsked, OrderAsked, Ordered}
+use Rattle.rules.specs.Contracts.{RootAsked, OrderAsked, Ordered}
 use Rattle.rules.specs.declared.Counts.{Counts}
 use Rattle.rules.proofs.ColumnLaws.{number-at, heads-at, heads-past, sorts-at, sorts-past, places-at, places-past, filled}
 
@@ -41,13 +40,13 @@ module _ (n : ℕ) (heads : List ℕ) {arities : List ℕ} {R : Rule} {pattern :
   pub premises-are : termsOf (termOf pattern) (take n heads) ≡ R .premises
   premises-are = lying .premises .denotes
 
-  module _ (small : used ≤ from + most) (up : from ≤ middle) (lent : n ≤ length heads) where
-    head-met : RootAsked pattern used conclusion
+  module _ (up : from ≤ middle) (lent : n ≤ length heads) where
+    head-met : RootAsked pattern used conclusion (used - from)
     head-met =
         let u = lying .conclusion .used in
         record { root = lying .conclusion .reference 0 (omega arith); small = rw conclusion-is (omega arith) }
 
-    body-met : (i : ℕ) → i < n → RootAsked pattern used (getD heads i 0)
+    body-met : (i : ℕ) → i < n → RootAsked pattern used (getD heads i 0) (used - from)
     body-met i l =
         let k : i < length (take n heads) = rw (length-take-le n heads lent) l in
         let e : getD (take n heads) i 0 ≡ getD heads i 0 = getD-take n heads i 0 l in
@@ -55,19 +54,19 @@ module _ (n : ℕ) (heads : List ℕ) {arities : List ℕ} {R : Rule} {pattern :
         let v = lying .conclusion .used in
         let w : words (termOf pattern (getD (take n heads) i 0)) ≤ words (termsOf (termOf pattern) (take n heads)) = words-one (termOf pattern) (take n heads) i k in
         let w′ : words (termOf pattern (getD (take n heads) i 0)) ≤ words (R .premises) = rw premises-are at w in
-        let s : words (termOf pattern (getD (take n heads) i 0)) ≤ most = omega arith in
+        let s : words (termOf pattern (getD (take n heads) i 0)) ≤ used - from = omega arith in
         let r : Reference patternRoom (cells pattern) patternRoom used (getD (take n heads) i 0) = reference-up patternRoom (omega arith) (omega arith) (lying .premises .reference i k) in
         record { root = rw e at r; small = rw e at s }
 
-    pub order-asked : (stack : arena.Rows) → most ≤ length stack → OrderAsked pattern used heads n conclusion (replicate 64 64) stack
-    order-asked stack room =
+    -- A rule's terms take no more words than lie between its first and its last.
+    pub order-asked : OrderAsked pattern used heads n conclusion (replicate 64 64) (used - from)
+    order-asked =
         record {
           walkable = record {
             within = lying .conclusion .there;
             low = lying .conclusion .small;
             formed = lying .conclusion .formed;
             long = rw (length-replicate {A = ℕ} 64 64) (omega arith);
-            room = room;
           };
           lent = lent;
           head = head-met;

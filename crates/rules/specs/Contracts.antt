@@ -5,7 +5,6 @@ use mathlib.Core.List.{List, [], _∷_, map}
 use lib.ListN.{length, take, getD, set}
 use Rattle.arena.specs.Cells.{headers, Reference, WellFormed, Same, cells, termsOf}
 use Rattle.arena.specs.Copies.{patternRoom}
-use Rattle.arena.specs.Rows as arena
 use Rattle.resolution.specs.Fresh.{met, metBack}
 use Rattle.resolution.specs.Rules.{Rule}
 use Rattle.resolution.specs.Search.{words}
@@ -57,28 +56,23 @@ pub record Judging (text : List ℕ) (premises : Rows) (p n : ℕ) (conclusions 
   pub same : (ps : Written many) (q : ℕ) → Stands text premises p ps q → size ps ≡ n → (c : Written one) (q′ : ℕ) → Stands text conclusions here c q′
       → told text n r vx wx heads ≡ both symbols c (patternOf symbols ps [] (variablesOf text vs 0) room) w u
 
--- The most words that the terms of a rule take: 2 for each of 1,024 nodes.
-abbrev pub most : ℕ
-most = 2048
-
--- What a walk asks beside the table: words in form, and a reference to a term that is not too large.
-pub record RootAsked (pattern : List ℕ) (used r : ℕ) : Type 0 where
+-- What a walk asks beside the stack: a reference to a term of at most `most` words; words in form, and a table for the places.
+pub record RootAsked (pattern : List ℕ) (used r most : ℕ) : Type 0 where
   pub root : Reference patternRoom (cells pattern) patternRoom used r
   pub small : words (termOf pattern r) ≤ most
 
-pub record Walkable (pattern : List ℕ) (used : ℕ) (table : List ℕ) (stack : arena.Rows) : Type 0 where
+pub record Walkable (pattern : List ℕ) (used : ℕ) (table : List ℕ) : Type 0 where
   pub within : used ≤ length pattern
   pub low : patternRoom + used ≤ headers
   pub formed : WellFormed patternRoom (cells pattern) patternRoom used
   pub long : patternRoom ≤ length table
-  pub room : most ≤ length stack
 
--- What `order` asks: a table without places, the conclusion's reference and those of n premises.
-pub record OrderAsked (pattern : List ℕ) (used : ℕ) (heads : List ℕ) (n conclusion : ℕ) (table : List ℕ) (stack : arena.Rows) : Type 0 where
-  pub walkable : Walkable pattern used table stack
+-- What `order` asks beside the stack: a table without places, and the references of the conclusion and of n premises, terms of at most `most` words each.
+pub record OrderAsked (pattern : List ℕ) (used : ℕ) (heads : List ℕ) (n conclusion : ℕ) (table : List ℕ) (most : ℕ) : Type 0 where
+  pub walkable : Walkable pattern used table
   pub lent : n ≤ length heads
-  pub head : RootAsked pattern used conclusion
-  pub body : (i : ℕ) → i < n → RootAsked pattern used (getD heads i 0)
+  pub head : RootAsked pattern used conclusion most
+  pub body : (i : ℕ) → i < n → RootAsked pattern used (getD heads i 0) most
   pub blank : (x : ℕ) → x < patternRoom → getD table x 0 ≡ patternRoom
 
 -- What it owes: the variables of the conclusion counted, and the places of all in the table.
@@ -91,7 +85,8 @@ pub record Ordered (pattern heads : List ℕ) (n conclusion : ℕ) (table : List
 pub record KeepAsked (pattern : List ℕ) (from middle used : ℕ) (heads : List ℕ) (n conclusion : ℕ) (variables : Rows) (v : ℕ) (rules : Rows) (i : ℕ) : Type 0 where
   pub rule : (arities : List ℕ) × (R : Rule) × RuleLying arities R pattern from (take n heads) middle conclusion used
   pub rising : (from ≤ middle) × (middle ≤ used)
-  pub small : used ≤ from + most
+  -- 2 words for each of 1,024 nodes
+  pub small : used ≤ from + 2048
   pub low : used ≤ 65536
   pub few : n ≤ 16
   pub references : n ≤ length heads

@@ -23,8 +23,8 @@ use patterns::TermRow;
 // word, words of the premises, words of the conclusion, variables met in the conclusion; 16 references of premises; 64 sorts; 64 places in meeting order.
 pub type RuleRow = [u32; 154];
 
-// The most words that the terms of a rule take: 2 for each of 1,024 nodes.
-const MOST: u32 = 2048;
+// Most rules have few words, and a walk through few words needs a small stack only.
+const FEW: u32 = 64;
 
 // How many premises a rule may have, and how many rules there may be.
 const PREMISES: usize = 16;
@@ -135,19 +135,20 @@ fn all_known(variables: &[VariableRow], n: usize) -> bool
     true
 }
 
-// Meets the variables of a term; answers how many have places then.
+// Meets the variables of a term of at most `most` words; answers how many have places then.
 fn walk(
     words: &[u32],
     reference: u32,
     used: u32,
     places: &mut [u32],
     count: u32,
+    most: u32,
     stack: &mut [[u32; 2]],
 ) -> u32
-    requires { ⌜ Walkable (now words) used (now places) (now stack) ⌝ ∗ ⌜ RootAsked (now words) used reference ⌝ ∗ ⌜ ((e : List ℕ) × Records e (now places) count) ⌝ }
+    requires { ⌜ Walkable (now words) used (now places) ⌝ ∗ ⌜ RootAsked (now words) used reference most ⌝ ∗ ⌜ (most ≤ length (now stack)) × ((e : List ℕ) × Records e (now places) count) ⌝ }
     ensures { λ r. ⌜ ((e : List ℕ) → Records e (now (places .entry)) count → Records (met (termOf (now (words .entry)) reference) e) (now (places .exit)) r) ⌝ }
 {
-    match meeting::meet(words, reference, used, places, count, MOST, stack) {
+    match meeting::meet(words, reference, used, places, count, most, stack) {
         meeting::Met::Places(given, _) => given,
         meeting::Met::Over => count,
     }
@@ -167,19 +168,73 @@ fn order(
     n: usize,
     conclusion: u32,
     places: &mut [u32],
+    most: u32,
     stack: &mut [[u32; 2]],
 ) -> Counts
-    requires { ⌜ OrderAsked (now words) used (now heads) n conclusion (now places) (now stack) ⌝ }
+    requires { ⌜ OrderAsked (now words) used (now heads) n conclusion (now places) most ⌝ ∗ ⌜ most ≤ length (now stack) ⌝ }
     ensures { λ r. ⌜ Ordered (now (words .entry)) (now (heads .entry)) n conclusion (now (places .entry)) r (now (places .exit)) ⌝ }
 {
-    let met = walk(words, conclusion, used, places, 0, stack);
+    let met = walk(words, conclusion, used, places, 0, most, stack);
     let mut all = met;
     let mut k = n;
     while 0 < k {
         k -= 1;
-        all = walk(words, heads[k], used, places, all, stack);
+        all = walk(words, heads[k], used, places, all, most, stack);
     }
     Counts { met: met, all: all }
+}
+
+// The same for a rule of few words.
+fn order_small(
+    words: &[u32],
+    used: u32,
+    heads: &[u32],
+    n: usize,
+    conclusion: u32,
+    places: &mut [u32],
+    most: u32,
+) -> Counts
+    requires { ⌜ OrderAsked (now words) used (now heads) n conclusion (now places) most ⌝ ∗ ⌜ most ≤ 64 ⌝ }
+    ensures { λ r. ⌜ Ordered (now (words .entry)) (now (heads .entry)) n conclusion (now (places .entry)) r (now (places .exit)) ⌝ }
+{
+    let mut stack = [[0u32; 2]; 64];
+    order(words, used, heads, n, conclusion, places, most, &mut stack)
+}
+
+// The same for a rule of any size: 2 words for each of 1,024 nodes.
+fn order_large(
+    words: &[u32],
+    used: u32,
+    heads: &[u32],
+    n: usize,
+    conclusion: u32,
+    places: &mut [u32],
+    most: u32,
+) -> Counts
+    requires { ⌜ OrderAsked (now words) used (now heads) n conclusion (now places) most ⌝ ∗ ⌜ most ≤ 2048 ⌝ }
+    ensures { λ r. ⌜ Ordered (now (words .entry)) (now (heads .entry)) n conclusion (now (places .entry)) r (now (places .exit)) ⌝ }
+{
+    let mut stack = [[0u32; 2]; 2048];
+    order(words, used, heads, n, conclusion, places, most, &mut stack)
+}
+
+// The same with a stack for as many words as the rule has: laying out the large one takes longer than the walk through a small rule.
+fn order_sized(
+    words: &[u32],
+    used: u32,
+    heads: &[u32],
+    n: usize,
+    conclusion: u32,
+    places: &mut [u32],
+    most: u32,
+) -> Counts
+    requires { ⌜ OrderAsked (now words) used (now heads) n conclusion (now places) most ⌝ ∗ ⌜ most ≤ 2048 ⌝ }
+    ensures { λ r. ⌜ Ordered (now (words .entry)) (now (heads .entry)) n conclusion (now (places .entry)) r (now (places .exit)) ⌝ }
+{
+    if most <= FEW {
+        return order_small(words, used, heads, n, conclusion, places, most);
+    }
+    order_large(words, used, heads, n, conclusion, places, most)
 }
 
 // Writes the first n of some values into the row i, from a column on.
@@ -253,15 +308,14 @@ fn keep(
     ensures { λ _. ⌜ Keeping (now (words .entry)) from middle used (now (heads .entry)) n conclusion (now (variables .entry)) v title (now (rules .entry)) i (now (rules .exit)) ⌝ }
 {
     let mut places = [64u32; 64];
-    let mut stack = [[0u32; 2]; 2048];
-    let counts = order(
+    let counts = order_sized(
         words,
         used as u32,
         heads,
         n,
         conclusion,
         &mut places,
-        &mut stack,
+        (used - from) as u32,
     );
     let numbers = [
         title.start,
