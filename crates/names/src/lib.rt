@@ -32,6 +32,18 @@ pub fn part<'a>(text: &'a [u8], start: u32, size: u32) -> &'a [u8]
     words::word(text, start as usize, size as usize)
 }
 
+// Is the word at a place of a text w? Most words differ in length, so that is looked at before the place.
+fn is_called(text: &[u8], start: u32, size: u32, w: &[u8]) -> bool
+    ensures { λ r. ⌜ r ≡ sameBytes (partOf (now (text .entry)) start size) (now (w .entry)) ⌝ }
+{
+    if w.len() != size as usize {
+        if 0 < w.len() {
+            return false;
+        }
+    }
+    words::same(part(text, start, size), w)
+}
+
 // Is the name at a place of `RESULT_NAMES` w? The table is laid out wherever it is named, so the functions that read it are apart from the others.
 fn is_result(start: u32, size: u32, w: &[u8]) -> bool
     ensures { λ r. ⌜ r ≡ sameBytes (partOf resultNames start size) (now (w .entry)) ⌝ }
@@ -46,7 +58,7 @@ pub fn is_named(text: &[u8], kind: u32, start: u32, size: u32, w: &[u8]) -> bool
     if kind == RESULT {
         return is_result(start, size, w);
     }
-    words::same(part(text, start, size), w)
+    is_called(text, start, size, w)
 }
 
 // The number of the first sort that is called w, or the number of all.
@@ -56,7 +68,7 @@ pub fn find_sort(text: &[u8], sorts: &[SortRow], count: usize, w: &[u8]) -> usiz
 {
     let mut i = 0;
     while i < count {
-        if words::same(part(text, sorts[i][0], sorts[i][1]), w) {
+        if is_called(text, sorts[i][0], sorts[i][1], w) {
             return i;
         }
         i += 1;
@@ -71,7 +83,7 @@ pub fn find_symbol(text: &[u8], symbols: &[SymbolRow], count: usize, w: &[u8]) -
 {
     let mut i = 0;
     while i < count {
-        if words::same(part(text, symbols[i][0], symbols[i][1]), w) {
+        if is_called(text, symbols[i][0], symbols[i][1], w) {
             return i;
         }
         i += 1;

@@ -2,9 +2,7 @@
 use mathlib.Core.Path.{_≡_, sym, ap, _∙_}
 use Prim.Native.Nat.{_≤_, _+_, _-_}
 use lib.ListN.{drop}
-use Rattle.words.specs.Bytes.{sameBytes}
 use Rattle.names.specs.Symbols.{Symbol, symbolOf, symbolsOf, symbolNumber}
-use Rattle.names.specs.Names.{Name}
 use Rattle.names.specs.SearchLaws.{row-hit, row-step, row-end}
 use borrow.Author.Needs.{needs}
 use native.Mathlib.Omega.{arith}
@@ -20,41 +18,37 @@ abbrev μ-loop : tie.MeasureT-loop
 loop-holds : tie.Need-loop-holds Inv-loop μ-loop
 loop-holds c = (omega arith, omega arith)
 
-mul-part : tie.Need-mul-part Inv-loop μ-loop
-mul-part c = search needs
+mul-is-called : tie.Need-mul-is-called Inv-loop μ-loop
+mul-is-called c = search needs
 
-index-1-part : tie.Need-index-1-part Inv-loop μ-loop
-index-1-part c = search needs
+index-1-is-called : tie.Need-index-1-is-called Inv-loop μ-loop
+index-1-is-called c = search needs
 
-index-2-part : tie.Need-index-2-part Inv-loop μ-loop
-index-2-part c = search needs
+index-2-is-called : tie.Need-index-2-is-called Inv-loop μ-loop
+index-2-is-called c = search needs
 
-mul-part-2 : tie.Need-mul-part-2 Inv-loop μ-loop
-mul-part-2 c = search needs
+mul-is-called-2 : tie.Need-mul-is-called-2 Inv-loop μ-loop
+mul-is-called-2 c = search needs
 
-index-1-part-2 : tie.Need-index-1-part-2 Inv-loop μ-loop
-index-1-part-2 c = search needs
+index-1-is-called-2 : tie.Need-index-1-is-called-2 Inv-loop μ-loop
+index-1-is-called-2 c = search needs
 
-index-2-part-2 : tie.Need-index-2-part-2 Inv-loop μ-loop
-index-2-part-2 c = search needs
+index-2-is-called-2 : tie.Need-index-2-is-called-2 Inv-loop μ-loop
+index-2-is-called-2 c = search needs
 
-part-requires : tie.Need-part-requires Inv-loop μ-loop
-part-requires c κs = search needs
-
-same-requires : tie.Need-same-requires Inv-loop μ-loop
-same-requires c κs = search needs
+is-called-requires : tie.Need-is-called-requires Inv-loop μ-loop
+is-called-requires c κs = search needs
 
 returns : tie.Need-returns Inv-loop μ-loop
 unfolding symbolsOf symbolOf
 returns c =
-    let args = c .before .before .before .before .before .before .before .before .before .args in
-    let pre = c .before .before .before .before .before .before .before .before .before .pre in
-    let loop = c .before .before .before .before .before .before .loop in
-    let loop-test = c .before .before .before .before .before .loop-test in
-    let same = c .before .same in
-    let part = c .before .before .part in
+    let args = c .before .before .before .before .before .before .before .before .args in
+    let pre = c .before .before .before .before .before .before .before .before .pre in
+    let loop = c .before .before .before .before .before .loop in
+    let loop-test = c .before .before .before .before .loop-test in
+    let is-called = c .before .is-called in
     let if1 = c .if1 in
-    row-hit (symbolOf ((args .text .now))) (λ (f : Symbol). f .name) ((args .symbols .now)) ((args .count)) pre ((args .w .now)) ((loop .i)) ((loop .inv .1)) ((loop-test .taken)) (sym ((same .ensures) ∙ ap (λ (x : Name). sameBytes x ((args .w .now))) (part .ensures))
+    row-hit (symbolOf (args .text .now)) (λ (f : Symbol). f .name) (args .symbols .now) (args .count) pre (args .w .now) (loop .i) (loop .inv .1) (loop-test .taken) (sym (is-called .ensures)
     ∙ (if1 .taken))
 
 add-i : tie.Need-add-i Inv-loop μ-loop
@@ -66,15 +60,14 @@ loop-less c = search needs
 loop-again : tie.Need-loop-again Inv-loop μ-loop
 unfolding symbolsOf symbolOf
 loop-again c =
-    let args = c .before .before .before .before .before .before .before .before .before .args in
-    let pre = c .before .before .before .before .before .before .before .before .before .pre in
-    let loop = c .before .before .before .before .before .before .loop in
-    let loop-test = c .before .before .before .before .before .loop-test in
-    let same = c .before .same in
-    let part = c .before .before .part in
+    let args = c .before .before .before .before .before .before .before .before .args in
+    let pre = c .before .before .before .before .before .before .before .before .pre in
+    let loop = c .before .before .before .before .before .loop in
+    let loop-test = c .before .before .before .before .loop-test in
+    let is-called = c .before .is-called in
     let if1 = c .if1 in (
       omega arith,
-      row-step (symbolOf ((args .text .now))) (λ (f : Symbol). f .name) ((args .symbols .now)) ((args .count)) pre ((args .w .now)) ((loop .i)) ((loop .inv .1)) ((loop-test .taken)) (sym ((same .ensures) ∙ ap (λ (x : Name). sameBytes x ((args .w .now))) (part .ensures))
+      row-step (symbolOf (args .text .now)) (λ (f : Symbol). f .name) (args .symbols .now) (args .count) pre (args .w .now) (loop .i) (loop .inv .1) (loop-test .taken) (sym (is-called .ensures)
           ∙ (if1 .left)),
     )
 
@@ -85,7 +78,7 @@ returns-2 c =
     let pre = c .before .before .before .before .pre in
     let loop = c .before .loop in
     let loop-test = c .loop-test in
-    row-end (symbolOf ((args .text .now))) (λ (f : Symbol). f .name) ((args .symbols .now)) ((args .count)) pre ((args .w .now)) ((loop .i)) ((loop .inv .1)) ((loop-test .left))
+    row-end (symbolOf (args .text .now)) (λ (f : Symbol). f .name) (args .symbols .now) (args .count) pre (args .w .now) (loop .i) (loop .inv .1) (loop-test .left)
 
 pub find-symbol-spec : {M : Type 1} → statement M
 find-symbol-spec =
@@ -94,14 +87,13 @@ find-symbol-spec =
     Inv-loop
     μ-loop
     loop-holds
-    mul-part
-    index-1-part
-    index-2-part
-    mul-part-2
-    index-1-part-2
-    index-2-part-2
-    part-requires
-    same-requires
+    mul-is-called
+    index-1-is-called
+    index-2-is-called
+    mul-is-called-2
+    index-1-is-called-2
+    index-2-is-called-2
+    is-called-requires
     returns
     add-i
     loop-less
