@@ -1,0 +1,2 @@
+-- What the proofs of `loader_replay` share.
+pub mod Laws

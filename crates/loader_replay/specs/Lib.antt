@@ -1,0 +1,3 @@
+-- What the contracts of `loader_replay` cite.
+pub mod Rows
+pub mod Damage
