@@ -17,10 +17,16 @@ use mathlib.Core.Bool.{Bool, true, false}
 use lib.Dec.{eqb}
 use Rattle.term_parser.specs.Parsing.{Tokens, kindOf, lineOf, when, Parsed, parsed, absent, refused, plus, follow, required, continued, repeat, signOf}
 use Rattle.term_parser.specs.Rows.{Rows, rowsOfAll}
-use Rattle.term_parser.specs.Contracts.{on, nothing, no, shown, told, Within, Answers, requiredStep}
+use Rattle.term_parser.specs.Contracts.{on, nothing, no, shown, told, Within, Answers}
 
 pub no-path : {A : Type 0} → _≡_ {A = ℕ} 0 1 → A
 no-path e = absurd (omega arith)
+
+-- A step that must not be absent.
+abbrev pub requiredStep : ℕ → Step → Step
+requiredStep line (At next used n) = At next used n
+requiredStep line Absent = Refused TermExpected line
+requiredStep line (Refused r n) = Refused r n
 
 -- A step that reads nothing.
 abbrev pub Stopped : Step → Type 0

@@ -24,7 +24,7 @@ use Rattle.term_parser.specs.Grammar.{value, valueAt, applied, equated, 
 use Rattle.term_parser.specs.Rows.{Rows, row, applicationKind, rowsOf, rowsOfAll}
 use Rattle.term_parser.specs.Contracts.{on, no, shown, told, Within, Answers, Room, Signed, signed, inside, kindAt, grown, Applying, Equating}
 use Rattle.term_parser.proofs.TokenLaws.{token-there}
-use Rattle.term_parser.proofs.Readers.{no-path, Looped, Firm, firmly, firm-required, firm-plus, firm-follow, firm-repeat, firm-sign, firm-when, firm-parsed, Stopped, got, moved, goes-on, passed, within-stopped, is-absent, is-refused, told-plus, repeat-end, repeat-refused}
+use Rattle.term_parser.proofs.Readers.{no-path, Looped, loop-start, loop-turn, requiredStep, required-answers, Firm, firmly, firm-required, firm-plus, firm-follow, firm-repeat, firm-sign, firm-when, firm-parsed, Stopped, got, moved, goes-on, passed, within-stopped, is-absent, is-refused, told-plus, repeat-end, repeat-refused}
 
 -- One row for one token.
 module _ {A : Type 0} (rows : A → Rows) {ts : Tokens} {p u : ℕ} {out : Rows} (room : Room ts p u out) (here : p < length ts) where
@@ -375,6 +375,121 @@ module _ (text : List ℕ) (ts : Tokens) (left : ℕ) where
           ∙ told-plus rowsOf q (p′ - q) (take u before) (applied (lineOf (lastLine ts) (drop (p′ - q) (drop q ts))) (gh .item) (l .new))
           ∙ ap₂ (λ i us. told rowsOf i (take u before) (applied (lineOf (lastLine ts) us) (gh .item) (l .new))) d (drop-drop (p′ - q) q ts ∙ ap (λ i. drop i ts) d)))
           (stays-within ts p p′ u u′ t stays (omega (arith, m)) lto (omega (arith, m)) (omega (arith, m)))
+
+  -- What `app` has read from place p and u rows on: a first atom and others behind it, n in all;
+  pub record Some (p u : ℕ) (before : Rows) (p′ u′ n : ℕ) (out : Rows) : Type 0 where
+    pub first : Step
+    pub after : Rows
+    pub head : Answers 1 rowsOf (headAt p) ts p u before first after
+    pub next : ℕ
+    pub rows : ℕ
+    pub items : ℕ
+    pub went : first ≡ At next rows items
+    pub loop : Looped atomAt rowsOf ts next rows 1 after p′ u′ n out
+    pub long : length after ≡ length before
+
+  -- or nothing yet.
+  abbrev pub Atoms : ℕ → ℕ → Rows → ℕ → ℕ → ℕ → Rows → Type 0
+  Atoms p u before p′ u′ n out = ((p′ ≡ p) × (u′ ≡ u) × (n ≡ 0) × (out ≡ before)) ⊎ Some p u before p′ u′ n out
+
+  pub atoms-start : {p u : ℕ} {before : Rows} → Atoms p u before p u 0 before
+  atoms-start = inl (refl, refl, refl, refl)
+
+  -- The others alone.
+  others : {q k : ℕ} {out : Rows} {p′ u′ n : ℕ} {out₁ : Rows} → Looped atomAt rowsOf ts q k 1 out p′ u′ n out₁ → Looped atomAt rowsOf ts q k 0 out p′ u′ (n - 1) out₁
+  others l =
+      let c = l .counted in let f = l .few in
+      record {
+        new = l .new;
+        wrote = l .wrote;
+        same = l .same;
+        counted = omega arith;
+        from = l .from;
+        to = l .to;
+        above = l .above;
+        fits = l .fits;
+        few = omega arith;
+        long = l .long;
+      }
+
+  module _ {p u : ℕ} {before : Rows} (room : Room ts p u before) {p′ u′ n : ℕ} {out : Rows} where
+    pub atoms-room : Atoms p u before p′ u′ n out → Room ts p′ u′ out
+    atoms-room (inl (a, b, c, d)) = rw (a, b, d) room
+    atoms-room (inr s) = let m = moved (s .head) (s .went) in let l = s .loop in let f = l .fits in
+        room-on room p′ u′ out (l .to) (omega (arith, m)) (l .long ∙ s .long)
+
+    pub atoms-from : Atoms p u before p′ u′ n out → p ≤ p′
+    atoms-from (inl (a, b, c, d)) = omega arith
+    atoms-from (inr s) = let m = moved (s .head) (s .went) in let f = s .loop .from in omega (arith, m)
+
+    pub atoms-past : Atoms p u before p′ u′ n out → (n ≡ 0 → ⊥) → p < p′
+    atoms-past (inl (a, b, c, d)) z = absurd (z c)
+    atoms-past (inr s) z = let m = moved (s .head) (s .went) in let f = s .loop .from in omega (arith, m)
+
+    pub atoms-few : Atoms p u before p′ u′ n out → n ≤ p′
+    atoms-few (inl (a, b, c, d)) = omega arith
+    atoms-few (inr s) = let m = moved (s .head) (s .went) in let f = s .loop .few in omega (arith, m)
+
+    pub atoms-length : Atoms p u before p′ u′ n out → length out ≡ length before
+    atoms-length (inl (a, b, c, d)) = ap length d
+    atoms-length (inr s) = s .loop .long ∙ s .long
+
+    -- The next atom is read, is not there, or is refused.
+    module _ {r : Step} {out′ : Rows} (h : Answers 1 rowsOf (atomAt (drop p′ ts)) ts p′ u′ out r out′) where
+      start : (p′ ≡ p) × (u′ ≡ u) × (n ≡ 0) × (out ≡ before) → Answers 1 rowsOf (headAt p) ts p u before (requiredStep (lineOf (lastLine ts) (drop p ts)) r) out′
+      start (a, b, c, d) =
+          let g : Answers 1 rowsOf (atomAt (drop p ts)) ts p u before r out′ = rw (a, b, d) at h in
+          required-answers g (lineOf (lastLine ts) (drop p ts)) (requiredStep (lineOf (lastLine ts) (drop p ts)) r) refl
+
+      pub atoms-turn : Atoms p u before p′ u′ n out → {q k i : ℕ} → r ≡ At q k i → length out′ ≡ length out → Atoms p u before q k (n + 1) out′
+      atoms-turn (inl (a, b, c, d)) {q} {k} {i} e len =
+          let g = start (a, b, c, d) in
+          let w : requiredStep (lineOf (lastLine ts) (drop p ts)) r ≡ At q k i = ap (requiredStep (lineOf (lastLine ts) (drop p ts))) e in
+          inr record {
+            first = requiredStep (lineOf (lastLine ts) (drop p ts)) r;
+            after = out′;
+            head = g;
+            next = q;
+            rows = k;
+            items = i;
+            went = w;
+            loop = (let z : n + 1 ≡ 1 = omega arith in rw z (loop-start atomAt rowsOf ts q k 1 out′ (moved g w .1)));
+            long = len ∙ ap length d;
+          }
+      atoms-turn (inr s) e len =
+          inr record {
+            first = s .first;
+            after = s .after;
+            head = s .head;
+            next = s .next;
+            rows = s .rows;
+            items = s .items;
+            went = s .went;
+            loop = loop-turn atomAt rowsOf ts (s .loop) h e len;
+            long = s .long;
+          }
+
+      pub atoms-none : Atoms p u before p′ u′ n out → r ≡ Absent → n ≡ 0 → {line : ℕ} → line ≡ lineOf (lastLine ts) (drop p′ ts)
+          → Answers 1 rowsOf (appAt (drop p ts)) ts p u before (Refused TermExpected line) out′
+      atoms-none (inl (a, b, c, d)) e z {line} f =
+          let l : lineOf (lastLine ts) (drop p ts) ≡ line = sym (f ∙ ap (λ i. lineOf (lastLine ts) (drop i ts)) a) in
+          let w : requiredStep (lineOf (lastLine ts) (drop p ts)) r ≡ Refused TermExpected line = ap (requiredStep (lineOf (lastLine ts) (drop p ts))) e ∙ ap (Refused TermExpected) l in
+          let g : Answers 1 rowsOf (headAt p) ts p u before (Refused TermExpected line) out′ = rw w at start (a, b, c, d) in
+          app-stopped room g tt
+      atoms-none (inr s) e z f = let c = s .loop .counted in absurd (omega arith)
+
+      pub atoms-applied : Atoms p u before p′ u′ n out → r ≡ Absent → (n ≡ 0 → ⊥) → {t : Step} {out₃ : Rows} → Applying ts p′ out′ u u′ (n - 1) t out₃
+          → Answers 1 rowsOf (appAt (drop p ts)) ts p u before t out₃
+      atoms-applied (inl (a, b, c, d)) e z g = absurd (z c)
+      atoms-applied (inr s) e z g = app-applied room (s .head) (s .went) (others (s .loop)) h e g
+
+      pub atoms-refused : Atoms p u before p′ u′ n out → {refusal : Refusal} {line : ℕ} → r ≡ Refused refusal line
+          → Answers 1 rowsOf (appAt (drop p ts)) ts p u before (Refused refusal line) out′
+      atoms-refused (inl (a, b, c, d)) {refusal} {line} e =
+          let w : requiredStep (lineOf (lastLine ts) (drop p ts)) r ≡ Refused refusal line = ap (requiredStep (lineOf (lastLine ts) (drop p ts))) e in
+          let g : Answers 1 rowsOf (headAt p) ts p u before (Refused refusal line) out′ = rw w at start (a, b, c, d) in
+          app-stopped room g tt
+      atoms-refused (inr s) e = app-refused room (s .head) (s .went) (others (s .loop)) h e
 
   -- The ways out of `term`: no first application,
   abbrev equation : Source one → Tokens → Parsed (Source one)

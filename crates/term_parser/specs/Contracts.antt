@@ -9,7 +9,7 @@ use Rattle.term_parser.specs.Grammar.{parenthesis}
 use Rattle.term_parser.specs.Rows.{Rows, applicationKind, rowsOfAll}
 use Rattle.words.specs.Names.{nameKind}
 use Rattle.term_parser.specs.declared.Refusal.{Refusal}
-use Rattle.term_parser.specs.declared.Refusal.the-variants.{TermExpected, OnlyNames, LeftOfEquals}
+use Rattle.term_parser.specs.declared.Refusal.the-variants.{OnlyNames, LeftOfEquals}
 use Rattle.term_parser.specs.declared.Step.{Step}
 use Rattle.term_parser.specs.declared.Step.the-variants.{At, Absent, Refused}
 
@@ -72,12 +72,6 @@ signed p u (refused r line) = Refused r line
 pub record Signed (reader : Parsed (Unit {0})) (ts : Tokens) (p u : ℕ) (r : Step) : Type 0 where
   pub is : r ≡ signed p u reader
   pub within : Within 1 ts p u r
-
--- A step that must not be absent.
-abbrev pub requiredStep : ℕ → Step → Step
-requiredStep line (At next used n) = At next used n
-requiredStep line Absent = Refused TermExpected line
-requiredStep line (Refused r n) = Refused r n
 
 -- The first number of the row at a place, and the row that makes it an application to n terms.
 abbrev pub kindAt : Rows → ℕ → ℕ

@@ -5,7 +5,6 @@ use super::Step;
 use super::tokens::line;
 use super::tokens::peek;
 use super::tokens::push;
-use super::tokens::required;
 use super::tokens::saturated;
 use super::tokens::sign;
 use words::CLOSE;
@@ -98,7 +97,7 @@ pub fn atom(
         if left == 0 {
             return Step::Refused(Refusal::ParenthesisLimit, line(tokens, at));
         }
-        let r = term(text, tokens, inside, left - 1, out, used);
+        let r = term(&*text, &*tokens, inside, left - 1, out, used);
         let Step::At(next, k, _) = r else {
             return r;
         };
@@ -107,7 +106,7 @@ pub fn atom(
     Step::Absent
 }
 
-// A term applied to terms by juxtaposition.
+// A term applied to terms by juxtaposition: the first atom takes those behind it.
 pub fn app(
     text: &[u8],
     tokens: &[[u32; 4]],
@@ -120,13 +119,8 @@ pub fn app(
     ensures { λ r. ⌜ Answers 1 rowsOf (appOf (now (text .entry)) (lastLine (now (tokens .entry))) (inside (now (text .entry)) (now (tokens .entry)) left) (drop at (now (tokens .entry))))
         (now (tokens .entry)) at used (now (out .entry)) r (now (out .exit)) ⌝ }
 {
-    let first = atom(text, tokens, at, left, out, used);
-    let head = required(tokens, at, first);
-    let Step::At(next, k, _) = head else {
-        return head;
-    };
-    let mut p = next;
-    let mut u = k;
+    let mut p = at;
+    let mut u = used;
     let mut n: u32 = 0;
     loop {
         match atom(text, tokens, p, left, out, u) {
@@ -136,7 +130,10 @@ pub fn app(
                 n += 1;
             }
             Step::Absent => {
-                return apply(tokens, p, out, used, u, n);
+                if n == 0 {
+                    return Step::Refused(Refusal::TermExpected, line(tokens, p));
+                }
+                return apply(tokens, p, out, used, u, n - 1);
             }
             Step::Refused(refusal, number) => {
                 return Step::Refused(refusal, number);

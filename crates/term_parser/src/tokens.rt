@@ -11,7 +11,7 @@ ghost use Rattle.words.specs.Lexer.{partOf};
 ghost use Rattle.term_parser.specs.Parsing.{tokenOf, lineOf, lastLine, signOf};
 ghost use Rattle.term_parser.specs.Grammar.{value};
 ghost use Rattle.term_parser.specs.declared.Step.the-variants.{At};
-ghost use Rattle.term_parser.specs.Contracts.{Signed, requiredStep};
+ghost use Rattle.term_parser.specs.Contracts.{Signed};
 
 // The token at a place; past the end all its numbers are 0. No other function reads the list.
 pub fn peek(tokens: &[[u32; 4]], at: usize) -> Token
@@ -82,15 +82,4 @@ pub fn sign(tokens: &[[u32; 4]], kind: u32, at: usize, used: usize) -> Step
         return Step::At(at + 1, used, 1);
     }
     Step::Refused(Refusal::SignExpected, line(tokens, at))
-}
-
-// A term that must be there.
-pub fn required(tokens: &[[u32; 4]], at: usize, r: Step) -> Step
-    ensures { λ s. ⌜ s ≡ requiredStep (lineOf (lastLine (now (tokens .entry))) (drop at (now (tokens .entry)))) r ⌝ }
-{
-    match r {
-        Step::At(next, used, count) => Step::At(next, used, count),
-        Step::Absent => Step::Refused(Refusal::TermExpected, line(tokens, at)),
-        Step::Refused(refusal, number) => Step::Refused(refusal, number),
-    }
 }

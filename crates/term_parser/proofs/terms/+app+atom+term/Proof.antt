@@ -5,8 +5,8 @@ use native.Mathlib.Omega.{arith}
 use lib.ListN.{length}
 use Rattle.term_parser.specs.Rows.{rowsOf}
 use Rattle.term_parser.proofs.TokenLaws.{token-there}
-use Rattle.term_parser.proofs.Readers.{stopped, moved, required-answers, Looped, loop-start, loop-turn}
-use Rattle.term_parser.proofs.TermLaws.{room-on, there, is-name, is-meta, is-numeral, is-open, is-none, too-deep, inner-stopped, inner-closed, atomAt, app-stopped, app-refused, app-applied, term-stopped, term-plain, second-stopped, root-room, term-equated}
+use Rattle.term_parser.proofs.Readers.{stopped, moved}
+use Rattle.term_parser.proofs.TermLaws.{room-on, there, is-name, is-meta, is-numeral, is-open, is-none, too-deep, inner-stopped, inner-closed, Atoms, atoms-start, atoms-room, atoms-from, atoms-past, atoms-few, atoms-length, atoms-turn, atoms-none, atoms-applied, atoms-refused, term-stopped, term-plain, second-stopped, root-room, term-equated}
 use borrow.Author.Needs.{needs}
 use Prim.Native.Nat.{ℕ, _<_}
 use borrow.Fn.Kinds.{In}
@@ -25,7 +25,6 @@ use Rattle.term_parser.proofs.terms.equate.Reads as equate-reads
 use Rattle.term_parser.proofs.tokens.line.Reads as line-reads
 use Rattle.term_parser.proofs.tokens.peek.Reads as peek-reads
 use Rattle.term_parser.proofs.tokens.push.Reads as push-reads
-use Rattle.term_parser.proofs.tokens.required.Reads as required-reads
 use Rattle.term_parser.proofs.tokens.saturated.Reads as saturated-reads
 use Rattle.term_parser.proofs.tokens.sign.Reads as sign-reads
 use Rattle.term_parser.proofs.terms.+app+atom+term.{statement}
@@ -59,104 +58,36 @@ abbrev term-below : ℕ → In 3 term-kinds.ps
 term-below t = and 3 term-kinds.ps (falls 3 term-kinds.ps _<_ μ-term t) term.Pre
 
 abbrev app-Inv-loop : app-lts.InvT-loop
-app-Inv-loop text tokens at left out₀ used next k p₀ u₀ n₀ out p u n = Looped (atomAt text tokens left) rowsOf tokens next k 0 out₀ p u n out
+app-Inv-loop text tokens at left out₀ used p₀ u₀ n₀ out p u n = Atoms text tokens left at used out₀ p u n out
 
 abbrev app-μ-loop : app-lts.MeasureT-loop
-app-μ-loop text tokens at left out₀ used next k p₀ u₀ n₀ out p u n = length tokens - p
-
-app-atom-requires : (t : ℕ) → app-lts.Need-atom-requires (
-  atom-below t,
-  atom.Post,
-  required-reads.Asked,
-  required-reads.Learnt,
-  apply-reads.Asked,
-  apply-reads.Learnt,
-) (app-at t) app.Post app-Inv-loop app-μ-loop
-app-atom-requires t c κs = (omega (arith, (c .before .before .pre .0)), (c .before .before .pre .1))
-
-app-required-requires : (t : ℕ) → app-lts.Need-required-requires (
-  atom-below t,
-  atom.Post,
-  required-reads.Asked,
-  required-reads.Learnt,
-  apply-reads.Asked,
-  apply-reads.Learnt,
-) (app-at t) app.Post app-Inv-loop app-μ-loop
-app-required-requires t c κs = search needs
-
-app-enum-known-head : (t : ℕ) → app-lts.Need-enum-known-head (
-  atom-below t,
-  atom.Post,
-  required-reads.Asked,
-  required-reads.Learnt,
-  apply-reads.Asked,
-  apply-reads.Learnt,
-) (app-at t) app.Post app-Inv-loop app-μ-loop
-app-enum-known-head t c = search needs
-
-app-same-length : (t : ℕ) → app-lts.Need-same-length (
-  atom-below t,
-  atom.Post,
-  required-reads.Asked,
-  required-reads.Learnt,
-  apply-reads.Asked,
-  apply-reads.Learnt,
-) (app-at t) app.Post app-Inv-loop app-μ-loop
-app-same-length t c = search needs
-
-app-returns : (t : ℕ) → app-lts.Need-returns (
-  atom-below t,
-  atom.Post,
-  required-reads.Asked,
-  required-reads.Learnt,
-  apply-reads.Asked,
-  apply-reads.Learnt,
-) (app-at t) app.Post app-Inv-loop app-μ-loop
-app-returns t c =
-    let args = c .before .before .before .before .before .before .args in
-    let pre = c .before .before .before .before .before .before .pre in
-    let atom = c .before .before .before .atom in
-    let required = c .before .required in
-    let match′ = c .match in
-    app-stopped (args .text .now) (args .tokens .now) (args .left) (pre .1) (required-answers (atom .ensures) _ _ (required .ensures)) (stopped (required .result) (match′ .keys2))
+app-μ-loop text tokens at left out₀ used p₀ u₀ n₀ out p u n = length tokens - p
 
 app-loop-holds : (t : ℕ) → app-lts.Need-loop-holds (
   atom-below t,
   atom.Post,
-  required-reads.Asked,
-  required-reads.Learnt,
+  line-reads.Asked,
+  line-reads.Learnt,
   apply-reads.Asked,
   apply-reads.Learnt,
 ) (app-at t) app.Post app-Inv-loop app-μ-loop
-app-loop-holds t c =
-    let args = c .before .before .before .before .before .before .before .before .args in
-    let atom = c .before .before .before .before .before .atom in
-    let required = c .before .before .before .required in
-    let head = c .before .head in
-    loop-start (atomAt (args .text .now) (args .tokens .now) (args .left)) rowsOf (args .tokens .now) _ _ 0 _ (moved (required-answers (atom .ensures) _ _ (required .ensures)) (head .given .1) .1)
+app-loop-holds t c = atoms-start ((c .before .args .text .now)) ((c .before .args .tokens .now)) ((c .before .args .left))
 
-app-atom-requires-2 : (t : ℕ) → app-lts.Need-atom-requires-2 (
+app-atom-requires : (t : ℕ) → app-lts.Need-atom-requires (
   atom-below t,
   atom.Post,
-  required-reads.Asked,
-  required-reads.Learnt,
+  line-reads.Asked,
+  line-reads.Learnt,
   apply-reads.Asked,
   apply-reads.Learnt,
 ) (app-at t) app.Post app-Inv-loop app-μ-loop
-app-atom-requires-2 t c κs =
-    let atom = c .before .before .before .before .before .before .before .atom in
-    let required = c .before .before .before .before .before .required in
-    let head = c .before .before .before .head in
-    let pre = c .before .before .before .before .before .before .before .before .before .before .pre in
-    let loop = c .before .loop in
-    let m = moved (required-answers (atom .ensures) _ _ (required .ensures)) (head .given .1) in
-    (omega (arith, (pre .0), m, (loop .inv .from)), room-on (pre .1) _ _ _ (loop .inv .to) (omega (arith, m, (loop .inv .fits))) ((loop .inv .long) ∙ (atom .kept .1 .1 .1 .1 .0)))
+app-atom-requires t c κs = let args = c .before .before .before .args in let pre = c .before .before .before .pre in let loop = c .before .loop in (let f = atoms-from ((args .text .now)) ((args .tokens .now)) ((args .left)) ((pre .1)) ((loop .inv)) in omega (arith, ((pre .0)), f), atoms-room ((args .text .now)) ((args .tokens .now)) ((args .left)) ((pre .1)) ((loop .inv)))
 
 app-enum-known-q : (t : ℕ) → app-lts.Need-enum-known-q (
   atom-below t,
   atom.Post,
-  required-reads.Asked,
-  required-reads.Learnt,
+  line-reads.Asked,
+  line-reads.Learnt,
   apply-reads.Asked,
   apply-reads.Learnt,
 ) (app-at t) app.Post app-Inv-loop app-μ-loop
@@ -165,104 +96,118 @@ app-enum-known-q t c = search needs
 app-add-n : (t : ℕ) → app-lts.Need-add-n (
   atom-below t,
   atom.Post,
-  required-reads.Asked,
-  required-reads.Learnt,
+  line-reads.Asked,
+  line-reads.Learnt,
   apply-reads.Asked,
   apply-reads.Learnt,
 ) (app-at t) app.Post app-Inv-loop app-μ-loop
-app-add-n t c =
-    let loop = c .before .before .before .before .before .before .loop in
-    let pre = c .before .before .before .before .before .before .before .before .before .before .before .before .before .before .before .pre in
-    omega (arith, (loop .inv .few), (loop .inv .to), (pre .1 .small))
+app-add-n t c = let args = c .before .before .before .before .before .before .before .before .args in let pre = c .before .before .before .before .before .before .before .before .pre in let loop = c .before .before .before .before .before .before .loop in let f = atoms-few ((args .text .now)) ((args .tokens .now)) ((args .left)) ((pre .1)) ((loop .inv)) in let r = atoms-room ((args .text .now)) ((args .tokens .now)) ((args .left)) ((pre .1)) ((loop .inv)) in omega (arith, f, (r .here), ((pre .1 .small)))
 
 app-loop-less : (t : ℕ) → app-lts.Need-loop-less (
   atom-below t,
   atom.Post,
-  required-reads.Asked,
-  required-reads.Learnt,
+  line-reads.Asked,
+  line-reads.Learnt,
   apply-reads.Asked,
   apply-reads.Learnt,
 ) (app-at t) app.Post app-Inv-loop app-μ-loop
-app-loop-less t c = let m = moved (c .before .before .before .before .atom2 .ensures) (c .before .q .given .1) in omega (arith, m)
+app-loop-less t c = let m = moved ((c .before .before .before .before .atom .ensures)) ((c .before .q .given .1)) in omega (arith, m)
 
 app-loop-again : (t : ℕ) → app-lts.Need-loop-again (
   atom-below t,
   atom.Post,
-  required-reads.Asked,
-  required-reads.Learnt,
+  line-reads.Asked,
+  line-reads.Learnt,
   apply-reads.Asked,
   apply-reads.Learnt,
 ) (app-at t) app.Post app-Inv-loop app-μ-loop
-app-loop-again t c =
-    let args = c .before .before .before .before .before .before .before .before .before .before .before .before .before .before .before .args in
-    let loop = c .before .before .before .before .before .before .loop in
-    let atom2 = c .before .before .before .before .atom2 in
-    let q = c .before .q in
-    loop-turn (atomAt (args .text .now) (args .tokens .now) (args .left)) rowsOf (args .tokens .now) (loop .inv) (atom2 .ensures) (q .given .1) (atom2 .kept .1 .1 .1 .1 .0)
+app-loop-again t c = let args = c .before .before .before .before .before .before .before .before .args in let pre = c .before .before .before .before .before .before .before .before .pre in let atom = c .before .before .before .before .atom in let loop = c .before .before .before .before .before .before .loop in let q = c .before .q in atoms-turn ((args .text .now)) ((args .tokens .now)) ((args .left)) ((pre .1)) ((atom .ensures)) ((loop .inv)) ((q .given .1)) ((atom .kept .1 .1 .1 .1 .0))
 
 app-enum-told : (t : ℕ) → app-lts.Need-enum-told (
   atom-below t,
   atom.Post,
-  required-reads.Asked,
-  required-reads.Learnt,
+  line-reads.Asked,
+  line-reads.Learnt,
   apply-reads.Asked,
   apply-reads.Learnt,
 ) (app-at t) app.Post app-Inv-loop app-μ-loop
 app-enum-told t c = search needs
 
-app-apply-requires : (t : ℕ) → app-lts.Need-apply-requires (
+app-line-requires : (t : ℕ) → app-lts.Need-line-requires (
   atom-below t,
   atom.Post,
-  required-reads.Asked,
-  required-reads.Learnt,
+  line-reads.Asked,
+  line-reads.Learnt,
   apply-reads.Asked,
   apply-reads.Learnt,
 ) (app-at t) app.Post app-Inv-loop app-μ-loop
-app-apply-requires t c κs =
-    let atom = c .before .before .before .before .before .before .before .before .before .before .before .before .atom in
-    let required = c .before .before .before .before .before .before .before .before .before .before .required in
-    let head = c .before .before .before .before .before .before .before .before .head in
-    let pre = c .before .before .before .before .before .before .before .before .before .before .before .before .before .before .before .pre in
-    let loop = c .before .before .before .before .before .before .loop in
-    let atom2 = c .before .before .before .before .atom2 in
-    let m = moved (required-answers (atom .ensures) _ _ (required .ensures)) (head .given .1) in
-    omega (arith, m, (pre .1 .lent), (pre .1 .below), (loop .inv .long), (atom .kept .1 .1 .1 .1 .0), (atom2 .kept .1 .1 .1 .1 .0))
+app-line-requires t c κs = search needs
+
+app-same-length : (t : ℕ) → app-lts.Need-same-length (
+  atom-below t,
+  atom.Post,
+  line-reads.Asked,
+  line-reads.Learnt,
+  apply-reads.Asked,
+  apply-reads.Learnt,
+) (app-at t) app.Post app-Inv-loop app-μ-loop
+app-same-length t c = let atom = c .before .before .before .before .before .atom in let args = c .before .before .before .before .before .before .before .before .before .args in let pre = c .before .before .before .before .before .before .before .before .before .pre in let loop = c .before .before .before .before .before .before .before .loop in ((atom .kept .1 .1 .1 .1 .0)) ∙ atoms-length ((args .text .now)) ((args .tokens .now)) ((args .left)) ((pre .1)) ((loop .inv))
+
+app-returns : (t : ℕ) → app-lts.Need-returns (
+  atom-below t,
+  atom.Post,
+  line-reads.Asked,
+  line-reads.Learnt,
+  apply-reads.Asked,
+  apply-reads.Learnt,
+) (app-at t) app.Post app-Inv-loop app-μ-loop
+app-returns t c = let args = c .before .before .before .before .before .before .before .before .before .args in let pre = c .before .before .before .before .before .before .before .before .before .pre in let atom = c .before .before .before .before .before .atom in let loop = c .before .before .before .before .before .before .before .loop in let enum-told = c .before .before .enum-told in let if1 = c .before .if1 in let line = c .line in atoms-none ((args .text .now)) ((args .tokens .now)) ((args .left)) ((pre .1)) ((atom .ensures)) ((loop .inv)) ((enum-told .given .1)) ((if1 .taken)) ((line .ensures))
+
+app-sub-apply : (t : ℕ) → app-lts.Need-sub-apply (
+  atom-below t,
+  atom.Post,
+  line-reads.Asked,
+  line-reads.Learnt,
+  apply-reads.Asked,
+  apply-reads.Learnt,
+) (app-at t) app.Post app-Inv-loop app-μ-loop
+app-sub-apply t c = search needs
+
+app-apply-requires : (t : ℕ) → app-lts.Need-apply-requires (
+  atom-below t,
+  atom.Post,
+  line-reads.Asked,
+  line-reads.Learnt,
+  apply-reads.Asked,
+  apply-reads.Learnt,
+) (app-at t) app.Post app-Inv-loop app-μ-loop
+app-apply-requires t c κs = let args = c .before .before .before .before .before .before .before .before .before .args in let pre = c .before .before .before .before .before .before .before .before .before .pre in let loop = c .before .before .before .before .before .before .before .loop in let if1 = c .before .if1 in let atom = c .before .before .before .before .before .atom in let r = atoms-room ((args .text .now)) ((args .tokens .now)) ((args .left)) ((pre .1)) ((loop .inv)) in let f = atoms-past ((args .text .now)) ((args .tokens .now)) ((args .left)) ((pre .1)) ((loop .inv)) ((if1 .left)) in omega (arith, f, (r .here), (r .lent), ((pre .1 .below)), ((atom .kept .1 .1 .1 .1 .0)))
 
 app-same-length-2 : (t : ℕ) → app-lts.Need-same-length-2 (
   atom-below t,
   atom.Post,
-  required-reads.Asked,
-  required-reads.Learnt,
+  line-reads.Asked,
+  line-reads.Learnt,
   apply-reads.Asked,
   apply-reads.Learnt,
 ) (app-at t) app.Post app-Inv-loop app-μ-loop
-app-same-length-2 t c = search needs
+app-same-length-2 t c = let apply = c .before .apply in let atom = c .before .before .before .before .before .before .before .atom in let args = c .before .before .before .before .before .before .before .before .before .before .before .args in let pre = c .before .before .before .before .before .before .before .before .before .before .before .pre in let loop = c .before .before .before .before .before .before .before .before .before .loop in ((apply .kept .1 .1 .0)) ∙ ((atom .kept .1 .1 .1 .1 .0)) ∙ atoms-length ((args .text .now)) ((args .tokens .now)) ((args .left)) ((pre .1)) ((loop .inv))
 
 app-returns-2 : (t : ℕ) → app-lts.Need-returns-2 (
   atom-below t,
   atom.Post,
-  required-reads.Asked,
-  required-reads.Learnt,
+  line-reads.Asked,
+  line-reads.Learnt,
   apply-reads.Asked,
   apply-reads.Learnt,
 ) (app-at t) app.Post app-Inv-loop app-μ-loop
-app-returns-2 t c =
-    let args = c .before .before .before .before .before .before .before .before .before .before .before .before .before .before .before .before .before .args in
-    let pre = c .before .before .before .before .before .before .before .before .before .before .before .before .before .before .before .before .before .pre in
-    let atom = c .before .before .before .before .before .before .before .before .before .before .before .before .before .before .atom in
-    let required = c .before .before .before .before .before .before .before .before .before .before .before .before .required in
-    let head = c .before .before .before .before .before .before .before .before .before .before .head in
-    let loop = c .before .before .before .before .before .before .before .before .loop in
-    let atom2 = c .before .before .before .before .before .before .atom2 in
-    let enum-told = c .before .before .before .enum-told in
-    let apply = c .before .apply in
-    app-applied (args .text .now) (args .tokens .now) (args .left) (pre .1) (required-answers (atom .ensures) _ _ (required .ensures)) (head .given .1) (loop .inv) (atom2 .ensures) (enum-told .given .1) (apply .ensures)
+app-returns-2 t c = let args = c .before .before .before .before .before .before .before .before .before .before .before .args in let pre = c .before .before .before .before .before .before .before .before .before .before .before .pre in let atom = c .before .before .before .before .before .before .before .atom in let loop = c .before .before .before .before .before .before .before .before .before .loop in let enum-told = c .before .before .before .before .enum-told in let if1 = c .before .before .before .if1 in let apply = c .before .apply in atoms-applied ((args .text .now)) ((args .tokens .now)) ((args .left)) ((pre .1)) ((atom .ensures)) ((loop .inv)) ((enum-told .given .1)) ((if1 .left)) ((apply .ensures))
 
 app-enum-known-refusal : (t : ℕ) → app-lts.Need-enum-known-refusal (
   atom-below t,
   atom.Post,
-  required-reads.Asked,
-  required-reads.Learnt,
+  line-reads.Asked,
+  line-reads.Learnt,
   apply-reads.Asked,
   apply-reads.Learnt,
 ) (app-at t) app.Post app-Inv-loop app-μ-loop
@@ -271,31 +216,22 @@ app-enum-known-refusal t c = search needs
 app-same-length-3 : (t : ℕ) → app-lts.Need-same-length-3 (
   atom-below t,
   atom.Post,
-  required-reads.Asked,
-  required-reads.Learnt,
+  line-reads.Asked,
+  line-reads.Learnt,
   apply-reads.Asked,
   apply-reads.Learnt,
 ) (app-at t) app.Post app-Inv-loop app-μ-loop
-app-same-length-3 t c = search needs
+app-same-length-3 t c = let atom = c .before .before .before .before .atom in let args = c .before .before .before .before .before .before .before .before .args in let pre = c .before .before .before .before .before .before .before .before .pre in let loop = c .before .before .before .before .before .before .loop in ((atom .kept .1 .1 .1 .1 .0)) ∙ atoms-length ((args .text .now)) ((args .tokens .now)) ((args .left)) ((pre .1)) ((loop .inv))
 
 app-returns-3 : (t : ℕ) → app-lts.Need-returns-3 (
   atom-below t,
   atom.Post,
-  required-reads.Asked,
-  required-reads.Learnt,
+  line-reads.Asked,
+  line-reads.Learnt,
   apply-reads.Asked,
   apply-reads.Learnt,
 ) (app-at t) app.Post app-Inv-loop app-μ-loop
-app-returns-3 t c =
-    let args = c .before .before .before .before .before .before .before .before .before .before .before .before .before .before .before .args in
-    let pre = c .before .before .before .before .before .before .before .before .before .before .before .before .before .before .before .pre in
-    let atom = c .before .before .before .before .before .before .before .before .before .before .before .before .atom in
-    let required = c .before .before .before .before .before .before .before .before .before .before .required in
-    let head = c .before .before .before .before .before .before .before .before .head in
-    let loop = c .before .before .before .before .before .before .loop in
-    let atom2 = c .before .before .before .before .atom2 in
-    let refusal = c .before .refusal in
-    app-refused (args .text .now) (args .tokens .now) (args .left) (pre .1) (required-answers (atom .ensures) _ _ (required .ensures)) (head .given .1) (loop .inv) (atom2 .ensures) (refusal .given .1)
+app-returns-3 t c = let args = c .before .before .before .before .before .before .before .before .args in let pre = c .before .before .before .before .before .before .before .before .pre in let atom = c .before .before .before .before .atom in let loop = c .before .before .before .before .before .before .loop in let refusal = c .before .refusal in atoms-refused ((args .text .now)) ((args .tokens .now)) ((args .left)) ((pre .1)) ((atom .ensures)) ((loop .inv)) ((refusal .given .1))
 
 atom-peek-requires : (t : ℕ) → atom-lts.Need-peek-requires (
   peek-reads.Asked,
@@ -969,8 +905,8 @@ pub +app+atom+term-spec : {M : Type 1} → statement M
 +app+atom+term-spec = close μ-app μ-atom μ-term (λ t. app-lts.spec (
   atom-below t,
   atom.Post,
-  required-reads.Asked,
-  required-reads.Learnt,
+  line-reads.Asked,
+  line-reads.Learnt,
   apply-reads.Asked,
   apply-reads.Learnt,
 )
@@ -978,18 +914,17 @@ pub +app+atom+term-spec : {M : Type 1} → statement M
     app.Post
     app-Inv-loop
     app-μ-loop
-    (app-atom-requires t)
-    (app-required-requires t)
-    (app-enum-known-head t)
-    (app-same-length t)
-    (app-returns t)
     (app-loop-holds t)
-    (app-atom-requires-2 t)
+    (app-atom-requires t)
     (app-enum-known-q t)
     (app-add-n t)
     (app-loop-less t)
     (app-loop-again t)
     (app-enum-told t)
+    (app-line-requires t)
+    (app-same-length t)
+    (app-returns t)
+    (app-sub-apply t)
     (app-apply-requires t)
     (app-same-length-2 t)
     (app-returns-2 t)
