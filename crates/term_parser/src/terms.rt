@@ -97,7 +97,7 @@ pub fn atom(
         if left == 0 {
             return Step::Refused(Refusal::ParenthesisLimit, line(tokens, at));
         }
-        let r = term(&*text, &*tokens, inside, left - 1, out, used);
+        let r = term(text, tokens, inside, left - 1, out, used);
         let Step::At(next, k, _) = r else {
             return r;
         };
