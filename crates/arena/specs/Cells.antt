@@ -1,16 +1,16 @@
 -- Stored terms. Words are read by a function from places to words. With room for N variables a reference below N is that variable, and any other
 -- is the node at that address + N. A node is a header, above all references, with its symbol and arity, and then its arguments' references, each
 -- below the node's own.
-use Prim.Native.Nat.{ℕ, zero, suc, _+_, _-_, _*_, _/_, _%_, _≤_, _<_}
+use Prim.Native.Nat.{ℕ, zero, suc, _+_, _-_, _/_, _%_, _≤_, _<_}
 use native.Mathlib.Omega.{arith}
 use native.Mathlib.Nat.{not-suc-le-zero}
 use mathlib.Core.Path.{_≡_, refl, sym, ap, ap₂, _∙_, subst}
-use mathlib.Core.Bool.{Bool, true, false, cond}
+use mathlib.Core.Bool.{cond}
 use mathlib.Core.Logic.{_⊎_, inl, inr, ⊎-elim}
 use mathlib.Core.List.{List, [], _∷_}
 use lib.ListN.{getD}
-use Rattle.terms.specs.Numbers.{same, by-bool, less, less-yes, less-no, by-less}
-use Rattle.terms.specs.Term.{Kind, one, many, Syn, var, app, nil, cons, Term, Terms, Subst, sub, mem, size, Below}
+use Rattle.terms.specs.Numbers.{less, less-yes, less-no, by-less}
+use Rattle.terms.specs.Term.{var, app, nil, cons, Term, Terms, Below}
 
 -- The least header; references are below it.
 abbrev pub headers : ℕ

@@ -7,7 +7,7 @@ use mathlib.Core.Bool.{true}
 use mathlib.Core.List.{List}
 use lib.ListN.{getD, length}
 use Rattle.arena.specs.Cells.{headers, cells}
-use Rattle.arena.specs.Copies.{patternRoom, moved, Movable, Copyable, PartReference}
+use Rattle.arena.specs.Copies.{patternRoom, Movable, Copyable, PartReference}
 use Rattle.arena.specs.Form.{inForm}
 use Rattle.arena.specs.FormLaws.{form-words}
 

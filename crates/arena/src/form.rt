@@ -6,7 +6,7 @@ ghost use mathlib.Core.Path.{_≡_};
 ghost use Prim.Native.Nat.{_+_, _≤_};
 ghost use lib.ListN.{length};
 ghost use Rattle.arena.specs.Cells.{headers};
-ghost use Rattle.arena.specs.Form.{isHeader, isArgument, Place};
+ghost use Rattle.arena.specs.Form.{isHeader, isArgument};
 
 // Whether a word is the header of a known symbol, with that symbol's arity.
 pub fn is_header(arities: &[u32], word: u32) -> bool

@@ -20,7 +20,7 @@ use links::past;
 use links::settle;
 ghost use mathlib.Core.Path.{_≡_};
 ghost use mathlib.Core.List.{_∷_, _++_};
-ghost use Prim.Native.Nat.{ℕ, _+_, _-_, _≤_};
+ghost use Prim.Native.Nat.{_+_, _-_, _≤_};
 ghost use lib.ListN.{length, take, replicate};
 ghost use lib.Seq.{sets};
 ghost use Rattle.arena.specs.Cells.{headers, cells};

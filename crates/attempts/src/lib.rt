@@ -1,9 +1,7 @@
 // One attempt with a rule (document 01, "Search"): its conclusion is copied with new variables and unified with a goal, and then its premises are copied.
 ghost use mathlib.Core.Path.{_≡_};
-ghost use Prim.Native.Nat.{_+_, _<_, _≤_};
+ghost use Prim.Native.Nat.{_+_, _<_};
 ghost use Rattle.resolution.specs.Search.{within, over};
-ghost use Rattle.arena.specs.Cells.{headers};
-ghost use Rattle.arena.specs.Copies.{patternRoom};
 ghost use Rattle.attempts.specs.Contracts.{Asked, Attempted, HeadAsked, HeadTried, BodyAsked, BodyTried};
 use arena::inst;
 use arena::moved_word;

@@ -7,7 +7,6 @@ use lib.Dec.{eqb}
 use lib.ListN.{length, replicate}
 use lib.Seq.{sets}
 use Rattle.words.specs.declared.Limits.{Limits}
-use Rattle.signature.specs.declared.Counts.{Counts}
 use Rattle.load.specs.Loading.{Buffers, LoadingText}
 use Rattle.load.specs.declared.Loading.{Loading}
 use Rattle.load.specs.declared.Loading.the-variants.{Refused, Loaded}

@@ -1,7 +1,6 @@
 // Clauses of functions: flattened and entered as rules. The Rust's `Sig::clause`, with the refusals of `rules`, and 28 for a 17th call.
 //
 // All functions here serve the crates above: they ask for storage of the listed sizes.
-ghost use mathlib.Core.Path.{_≡_};
 ghost use Prim.Native.Nat.{_+_, _-_, _≤_, _<_};
 ghost use lib.ListN.{length};
 ghost use Rattle.names.specs.Symbols.{symbolsOf};

@@ -1,9 +1,9 @@
 -- Laws of declarations in rows: what stands in the first two rows and behind them, by kind.
-use Prim.Native.Nat.{ℕ, suc, _+_, _≤_, _<_}
+use Prim.Native.Nat.{ℕ, suc, _+_, _≤_}
 use native.Mathlib.Omega.{arith}
 use mathlib.Core.Path.{_≡_, refl, sym, ap, ap₂, _∙_, subst}
 use mathlib.Core.List.{List, [], _∷_, _++_, map, append-assoc}
-use lib.ListN.{length, getD, length-append}
+use lib.ListN.{length, length-append}
 use lib.Seq.{getD-append-seam}
 use Rattle.words.specs.Names.{nameKind}
 use Rattle.words.specs.Lexer.{partOf}
@@ -13,13 +13,11 @@ use Rattle.term_parser.specs.Standing.{bytesAt, spelled, Stands, stands}
 use Rattle.parser.specs.Source.{Clause, Declaration, sort, ctor, pred, rule, def, theorem, eval, check}
 use Rattle.parser.specs.Declarations.{Declared}
 use Rattle.parser.specs.Rows.{clauseRows, declaredRows}
-use Rattle.names.specs.Names.{Name}
 use Rattle.names.specs.Symbols.{Rows, column, rowAt}
 use Rattle.loader.specs.Arrows.{namesAt}
 use Rattle.loader.specs.NameRows.{names-at}
 use Rattle.loader.specs.TermRows.{JudgmentsStand, judgments-stand, ClauseStands, clause-stands}
 use Rattle.loader.specs.TokenPlaceLaws.{Within}
-use Rattle.loader.specs.PlaceLaws.{titlePlace}
 use Rattle.declarations.specs.Steps.{nameAt, NameInside, ClausesStand, DeclarationAt}
 
 -- The number of a declaration's keyword, which is the kind of its row.

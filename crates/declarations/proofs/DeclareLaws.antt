@@ -1,17 +1,16 @@
 -- Laws of `declare`: for each keyword what its function asks, and that what it owes is the definition's step.
-use Prim.Native.Nat.{ℕ, zero, suc, _+_, _≤_, _<_}
+use Prim.Native.Nat.{ℕ, _+_, _≤_, _<_}
 use native.Mathlib.Omega.{arith}
 use mathlib.Core.Path.{_≡_, refl, sym, ap, _∙_, subst}
-use mathlib.Core.Bool.{Bool, true, false}
-use mathlib.Core.List.{List, [], _∷_, _++_, map}
+use mathlib.Core.Bool.{true, false}
+use mathlib.Core.List.{List, [], _∷_, map}
 use lib.ListN.{length}
-use Rattle.words.specs.Lexer.{partOf}
 use Rattle.term_parser.specs.Source.{Source, one, allOf}
 use Rattle.term_parser.specs.Standing.{bytesAt, spelled, Stands, size, nil as none, cons as more}
-use Rattle.parser.specs.Source.{Clause, Declaration, sort, ctor, pred, rule, def, theorem, eval, check}
+use Rattle.parser.specs.Source.{Declaration, sort, ctor, pred, rule, def, theorem, eval, check}
 use Rattle.parser.specs.Declarations.{Declared}
 use Rattle.names.specs.Names.{Name}
-use Rattle.names.specs.Symbols.{Rows, Symbol, column, rowAt, sortsOf, symbolsOf}
+use Rattle.names.specs.Symbols.{Rows, column, rowAt, sortsOf, symbolsOf}
 use Rattle.rules.specs.Rules.{Ruled, barred, ruled, ruleOf, entering}
 use Rattle.clauses.specs.Contracts.{Skipped}
 use Rattle.loader.specs.Signature.{Signature, Step, no, on, sortRefusal, enterSort, enterSymbol, numbersOf, withSorts, withSome, roomIn, withRule, frontOf, lastJudgment, enterJudgments, declare}
@@ -20,10 +19,8 @@ use Rattle.loader.specs.LegalLaws.{Stepping, declare-legal}
 use Rattle.loader.specs.Rows.{entered}
 use Rattle.loader.specs.Arrows.{namesAt}
 use Rattle.loader.specs.SymbolEntry.{symbolNamed}
-use Rattle.loader.specs.TermRows.{JudgmentsStand}
-use Rattle.rule_checks.specs.RuleForm.{Inside}
-use Rattle.declarations.specs.Held.{NamesHeld, RulesHeld, Held}
-use Rattle.declarations.specs.Steps.{nameAt, NameInside, sortProgress, SymbolAsked, SymbolDeclared, Ready, Filled, Advanced, RuleAsked, RuleDeclared, ClausesStand, Stepped, defOf, DefAsked, DefDeclared, DeclarationAt}
+use Rattle.declarations.specs.Held.{Held}
+use Rattle.declarations.specs.Steps.{nameAt, sortProgress, SymbolAsked, SymbolDeclared, Ready, Advanced, RuleAsked, RuleDeclared, Stepped, defOf, DefAsked, DefDeclared, DeclarationAt}
 use Rattle.declarations.specs.declared.State.{State}
 use Rattle.declarations.specs.declared.Progress.{Progress}
 use Rattle.declarations.specs.declared.Progress.the-variants.{Refused, Done}

@@ -1,30 +1,27 @@
 -- Laws of `ctor`, `pred` and `def`: what a symbol that was entered or refused comes to, and a function's clauses behind it.
-use Prim.Native.Nat.{ℕ, zero, suc, _+_, _≤_, _<_}
+use Prim.Native.Nat.{ℕ, zero, suc, _+_, _<_}
 use native.Mathlib.Omega.{arith}
 use mathlib.Core.Path.{_≡_, refl, sym, ap, _∙_, subst}
-use mathlib.Core.Bool.{Bool, true, false, cond}
+use mathlib.Core.Bool.{Bool, false, cond}
 use mathlib.Core.List.{List, [], _∷_, _++_}
 use lib.Dec.{eqb}
-use lib.ListN.{length, getD}
+use lib.ListN.{length}
 use borrow.Author.Tests.{ne-eqb}
-use Rattle.words.specs.Lexer.{partOf}
 use Rattle.parser.specs.Source.{Clause}
 use Rattle.names.specs.Names.{Name}
-use Rattle.names.specs.Symbols.{Rows, Symbol, noSymbol, symbolAt, column, rowAt}
-use Rattle.rules.specs.Rules.{Ruled, barred, ruled}
+use Rattle.names.specs.Symbols.{Rows, Symbol, noSymbol, column, rowAt}
 use Rattle.rules.specs.PatternLaws.{Upto, InputsUpto}
-use Rattle.loader.specs.Signature.{Signature, Step, no, on, andThen, enterSymbol, Numbers, unknown, numbers, numbersOf, withSorts, withSome, withRule, firstOf, enterClause, enterClauses}
+use Rattle.loader.specs.Signature.{Signature, Step, no, on, andThen, enterSymbol, Numbers, unknown, numbers, numbersOf, withSorts, withSome, firstOf, enterClauses}
 use Rattle.loader.specs.Legal.{Legal}
 use Rattle.loader.specs.LegalLaws.{Stepping, Sorted, Numbering, numbers-sorted, all-more}
 use Rattle.loader.specs.Arrows.{namesAt}
 use Rattle.loader.specs.SymbolEntry.{symbolNamed, SymbolEntered}
 use Rattle.loader.proofs.SymbolLaws.{arrow-count}
-use Rattle.rule_checks.specs.RuleForm.{Inside}
-use Rattle.declarations.specs.Held.{NamesHeld, RulesHeld, Held}
-use Rattle.declarations.specs.Steps.{nameAt, NameInside, symbolProgress, SymbolDeclared, Ready, Filled, Advanced, defOf, Stepped}
+use Rattle.declarations.specs.Held.{NamesHeld, Held}
+use Rattle.declarations.specs.Steps.{nameAt, NameInside, symbolProgress, SymbolDeclared, Ready, Advanced, defOf, Stepped}
 use Rattle.declarations.specs.declared.State.{State}
 use Rattle.declarations.specs.declared.Progress.{Progress}
-use Rattle.declarations.specs.declared.Progress.the-variants.{Refused, Done}
+use Rattle.declarations.specs.declared.Progress.the-variants.{Refused}
 use Rattle.declarations.proofs.ClauseLaws.{clause-names}
 use Rattle.declarations.proofs.NameLaws.{Came, withSymbol, oneSymbolMore, symbol-came, rules-held}
 

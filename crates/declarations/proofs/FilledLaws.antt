@@ -1,16 +1,16 @@
 -- Laws of rules entered one behind the other: what entering one asks of storage that holds rules, and what storage holds then.
-use Prim.Native.Nat.{ℕ, suc, _+_, _-_, _*_, _≤_, _<_, min}
+use Prim.Native.Nat.{ℕ, _+_, _-_, _≤_, _<_, min}
 use native.Mathlib.Omega.{arith}
 use mathlib.Core.Path.{_≡_, refl, sym, ap, _∙_, subst}
-use mathlib.Core.Bool.{Bool, true, false, cond}
+use mathlib.Core.Bool.{cond}
 use mathlib.Core.List.{List, [], _∷_, _++_}
 use lib.Dec.{ltb}
-use lib.ListN.{length, set, length-append, length-set}
+use lib.ListN.{length, set, length-append}
 use lib.Seq.{getD-set-same, getD-set-other}
 use borrow.Author.Tests.{ltb-true}
 use Rattle.terms.specs.Numbers.{by-bool, by-same}
 use Rattle.resolution.specs.Rules.{Rule}
-use Rattle.names.specs.Symbols.{Rows, Symbol, column, rowAt, symbolsOf}
+use Rattle.names.specs.Symbols.{Rows, Symbol, symbolsOf}
 use Rattle.rules.specs.Rules.{Ruled, barred, ruled, entering}
 use Rattle.rules.specs.PatternLaws.{aritiesOf, InputsUpto}
 use Rattle.rules.specs.Contracts.{Entering, RuleDone}
@@ -19,12 +19,12 @@ use Rattle.rules.specs.declared.Entered.{Entered}
 use Rattle.clauses.specs.Contracts.{entered, NextIs}
 use Rattle.clauses.specs.declared.Outcome.{Outcome}
 use Rattle.clauses.specs.declared.Outcome.the-variants.{Refused as Barred, Done as Out}
-use Rattle.loader.specs.Signature.{Signature, no, on, roomIn, withRule}
+use Rattle.loader.specs.Signature.{Signature, roomIn, withRule}
 use Rattle.loader.specs.Holding.{RulesKept, rules-entered}
 use Rattle.loader.specs.Entering.{Storage}
 use Rattle.rule_checks.specs.RuleForm.{Inside}
 use Rattle.declarations.specs.Held.{RulesHeld}
-use Rattle.declarations.specs.Steps.{Ready, Told, progressOf, Filled, Advanced}
+use Rattle.declarations.specs.Steps.{Ready, Told, progressOf, Advanced}
 use Rattle.declarations.specs.declared.State.{State}
 use Rattle.declarations.specs.declared.Progress.{Progress}
 

@@ -1,20 +1,20 @@
 -- Laws of sorts and symbols entered one behind the other: what storage holds then.
 use Prim.Native.Nat.{ℕ, zero, suc, _+_, _-_, _≤_, _<_}
 use native.Mathlib.Omega.{arith}
-use mathlib.Core.Path.{_≡_, refl, sym, ap, ap₂, _∙_, subst}
+use mathlib.Core.Path.{_≡_, refl, sym, ap, ap₂, _∙_}
 use mathlib.Core.Bool.{Bool, true, false, cond}
 use mathlib.Core.List.{List, [], _∷_, _++_}
-use lib.Dec.{ltb, eqb}
-use lib.ListN.{length, set, length-append, length-set}
+use lib.Dec.{ltb}
+use lib.ListN.{length, set, length-set}
 use lib.Seq.{getD-set-same, getD-set-other}
-use borrow.Author.Tests.{ltb-true, eq-eqb, ne-eqb}
+use borrow.Author.Tests.{ltb-true, ne-eqb}
 use Rattle.terms.specs.Numbers.{by-same}
 use Rattle.words.specs.Lexer.{partOf}
 use Rattle.names.specs.Names.{Name}
-use Rattle.names.specs.Symbols.{Rows, Symbol, column, rowAt, sortOf, symbolOf, sortsOf, symbolsOf}
+use Rattle.names.specs.Symbols.{Rows, Symbol, column, rowAt, sortOf, sortsOf, symbolsOf}
 use Rattle.names.specs.SearchLaws.{table-more}
-use Rattle.rules.specs.PatternLaws.{aritiesOf, Upto, InputsUpto}
-use Rattle.loader.specs.Signature.{Signature, Step, no, on, unless, isTaken, sortRefusal, symbolRefusal, enterSort, enterSymbol, Numbers, unknown, numbers, numbersOf}
+use Rattle.rules.specs.PatternLaws.{aritiesOf}
+use Rattle.loader.specs.Signature.{Signature, no, on, unless, isTaken, sortRefusal, enterSort, enterSymbol, Numbers, unknown, numbers, numbersOf}
 use Rattle.loader.specs.Legal.{Legal}
 use Rattle.loader.specs.LegalLaws.{Stepping}
 use Rattle.loader.specs.Rows.{symbolRow, entered}
@@ -31,7 +31,6 @@ use Rattle.declarations.specs.Held.{NamesHeld, RulesHeld, Held}
 use Rattle.declarations.specs.Steps.{sortProgress, Stepped}
 use Rattle.declarations.specs.declared.State.{State}
 use Rattle.declarations.specs.declared.Progress.{Progress}
-use Rattle.declarations.specs.declared.Progress.the-variants.{Refused, Done}
 
 -- One row more: what held of the others holds, and it holds of the new one.
 row-more : (P : List ℕ → Type 0) (rows : Rows) (n : ℕ) (row : List ℕ) → n < length rows → ((i : ℕ) → i < n → P (rowAt rows i)) → P row

@@ -8,7 +8,6 @@ ghost use mathlib.Core.List.{[], _∷_};
 ghost use Prim.Native.Nat.{_+_, _≤_, min};
 ghost use lib.Dec.{eqb};
 ghost use lib.ListN.{length};
-ghost use Rattle.words.specs.Lexer.{partOf};
 ghost use Rattle.names.specs.Symbols.{column, rowAt, sortsOf, symbolsOf};
 ghost use Rattle.loader.specs.Signature.{sortRefusal};
 ghost use Rattle.loader.specs.Rows.{entered};

@@ -1,11 +1,10 @@
 -- Laws of a whole text: what the parser's answer says, and what is left of the text then.
-use Prim.Native.Nat.{ℕ, zero, suc, _+_, _-_, _*_, _/_, _≤_, _<_}
+use Prim.Native.Nat.{ℕ, _+_, _-_, _*_, _/_, _≤_}
 use native.Mathlib.Omega.{arith}
-use mathlib.Core.Path.{_≡_, refl, sym, ap, ap₂, _∙_, subst}
-use mathlib.Core.Bool.{Bool, true, false, cond, _||_}
-use mathlib.Core.List.{List, [], _∷_, _++_}
-use lib.Dec.{ltb}
-use lib.ListN.{length, take, drop, replicate, length-append}
+use mathlib.Core.Path.{_≡_, refl, sym, ap, _∙_, subst}
+use mathlib.Core.Bool.{false}
+use mathlib.Core.List.{List, _++_}
+use lib.ListN.{length, take, replicate}
 use lib.Seq.{take-at}
 use borrow.Author.Tests.{le-ltb}
 use Rattle.words.specs.Lexer.{cappedOf, lexOf, zeroRow}
@@ -17,20 +16,19 @@ use Rattle.term_parser.specs.Rows.{rowsOfAll}
 use Rattle.term_parser.specs.declared.Refusal.{Refusal}
 use Rattle.parser.specs.Declarations.{Declared, parseOf}
 use Rattle.parser.specs.Rows.{declaredRows}
-use Rattle.parser.specs.Parser.{numberOf, answerOf, rowsAfter, tokensAfter, tokensOf, shortFor, usedOf, parsedText, textOf, ParsingText}
+use Rattle.parser.specs.Parser.{numberOf, answerOf, rowsAfter, shortFor, usedOf, parsedText, textOf, ParsingText}
 use Rattle.parser.specs.declared.Answer.{Answer}
 use Rattle.parser.specs.declared.Answer.the-variants.{Declarations, Refused}
 use Rattle.names.specs.Symbols.{Rows}
 use Rattle.loader.specs.Signature.{Signature, Loaded, refused, loaded, loadOf}
 use Rattle.loader.specs.PlaceLaws.{TitlesInside, titles-inside}
-use Rattle.declarations.specs.Held.{Held}
 use Rattle.declarations.specs.declared.State.{State}
 use Rattle.declarations.proofs.NameLaws.{sorts-number, symbols-number}
 use Rattle.load.specs.Load.{declaredIn, ofParsed, loadText, evalsFrom}
-use Rattle.load.specs.Loading.{Buffers, tooShort, zeroPair, zeroSymbol, zeroRule, wiped, LoadedInto, Left}
+use Rattle.load.specs.Loading.{Buffers, zeroPair, zeroSymbol, zeroRule, wiped, LoadedInto, Left}
 use Rattle.load.specs.Clearing.{RowsAsked, RowsKept, RowsLeft}
 use Rattle.load.specs.declared.Loading.{Loading}
-use Rattle.load.specs.declared.Loading.the-variants.{Refused as Barred, Loaded as Entered}
+use Rattle.load.specs.declared.Loading.the-variants.{Refused as Barred}
 use Rattle.load.proofs.ShortLaws.{Enough}
 use Rattle.load.proofs.RowsLaws.{SameLengths, wiped-same}
 use Rattle.load.proofs.ListedLaws.{held-rules, held-listed}

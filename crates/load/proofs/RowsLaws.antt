@@ -1,24 +1,21 @@
 -- Laws of what is left of the rows: everything wiped where a declaration is refused, and the signature with zero past it where all are entered.
-use Prim.Native.Nat.{ℕ, zero, _+_, _-_, _*_, _≤_}
+use Prim.Native.Nat.{ℕ, _+_, _-_, _≤_}
 use native.Mathlib.Omega.{arith}
 use mathlib.Core.Path.{_≡_, refl, sym, ap, ap₂, _∙_, subst}
-use mathlib.Core.List.{List, [], _∷_, _++_}
-use lib.ListN.{length, take, drop, replicate, length-append, length-replicate}
+use mathlib.Core.List.{List, _++_}
+use lib.ListN.{length, take, drop, replicate}
 use lib.Seq.{length-take-le, drop-at}
 use Rattle.words.specs.Lexer.{zeroRow}
-use Rattle.term_parser.specs.Rows.{rowsOfAll}
 use Rattle.parser.specs.Declarations.{Declared}
-use Rattle.parser.specs.Rows.{declaredRows}
 use Rattle.names.specs.Symbols.{Rows}
 use Rattle.loader.specs.Signature.{Signature, Loaded, refused, loaded}
 use Rattle.declarations.specs.Held.{Held}
 use Rattle.declarations.specs.declared.State.{State}
-use Rattle.load.specs.Load.{evalsFrom, Filled, Came}
+use Rattle.load.specs.Load.{evalsFrom, Came}
 use Rattle.load.specs.Loading.{Buffers, zeroPair, zeroSymbol, zeroRule, clearedFrom, wiped}
-use Rattle.load.specs.Clearing.{SignatureCleared, ScratchCleared, RowsKept, RowsLeft}
+use Rattle.load.specs.Clearing.{SignatureCleared, ScratchCleared, RowsLeft}
 use Rattle.load.specs.declared.Walk.{Walk}
 use Rattle.load.specs.declared.Walk.the-variants.{Refused, Done}
-use Rattle.load.specs.declared.Loading.{Loading}
 use Rattle.load.specs.declared.Loading.the-variants.{Refused as Barred, Loaded as Entered}
 use Rattle.load.proofs.ListedLaws.{held-cleared}
 

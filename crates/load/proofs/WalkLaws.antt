@@ -1,5 +1,5 @@
 -- Laws of entering declarations in text order: the declarations before a row are entered, and the others are left.
-use Prim.Native.Nat.{ℕ, zero, suc, _+_, _-_, _*_, _≤_, _<_}
+use Prim.Native.Nat.{ℕ, suc, _+_, _-_, _*_, _≤_, _<_}
 use native.Mathlib.Omega.{arith}
 use mathlib.Core.Path.{_≡_, refl, sym, ap, ap₂, _∙_, subst}
 use mathlib.Core.Bool.{Bool, true, false, cond}
@@ -7,29 +7,23 @@ use mathlib.Core.List.{List, [], _∷_, _++_, append-assoc, append-nil}
 use lib.Dec.{eqb}
 use lib.ListN.{length, take, set, length-append, length-set}
 use lib.Seq.{take-suc-set, length-take-le}
-use borrow.Author.Tests.{eq-eqb, ne-eqb}
-use Rattle.arena.specs.Cells.{WellFormed, cells}
-use Rattle.arena.specs.Copies.{patternRoom}
 use Rattle.term_parser.specs.Source.{Source, one, numeral, metavariable, name, application}
 use Rattle.term_parser.specs.Rows.{rowsOf, rowsOfAll}
-use Rattle.term_parser.specs.Standing.{spelled, Stands}
 use Rattle.parser.specs.Source.{Declaration, sort, ctor, pred, rule, def, theorem, eval, check}
 use Rattle.parser.specs.Declarations.{Declared}
 use Rattle.parser.specs.Rows.{declaredRows}
 use Rattle.names.specs.Symbols.{Rows, column, rowAt, sortsOf, symbolsOf}
-use Rattle.loader.specs.Signature.{Signature, empty, Step, no, on, Loaded, refused, loaded, goOn, declare, loadFrom, loadOf}
-use Rattle.loader.specs.Legal.{Legal}
+use Rattle.loader.specs.Signature.{Signature, empty, Step, no, on, Loaded, refused, goOn, declare, loadFrom, loadOf}
 use Rattle.loader.specs.LegalLaws.{empty-legal}
 use Rattle.loader.specs.Holding.{RulesKept}
 use Rattle.loader.specs.PlaceLaws.{TitlesInside}
-use Rattle.declarations.specs.Held.{NamesHeld, RulesHeld, Held}
+use Rattle.declarations.specs.Held.{Held}
 use Rattle.declarations.specs.Steps.{Stepped, DeclarationAt, DeclareDone}
 use Rattle.declarations.specs.declared.State.{State}
 use Rattle.declarations.specs.declared.Progress.{Progress}
 use Rattle.declarations.specs.declared.Progress.the-variants.{Refused as Barred, Done as Next}
 use Rattle.declarations.proofs.DeclarationLaws.{first-row, kindOf}
-use Rattle.load.specs.Load.{evalOf, evalsFrom, noted, Filled, Came}
-use Rattle.load.specs.declared.Walk.{Walk}
+use Rattle.load.specs.Load.{evalOf, evalsFrom, noted, Came}
 use Rattle.load.specs.declared.Walk.the-variants.{Refused, Done}
 
 -- Storage with nothing entered holds the empty signature.

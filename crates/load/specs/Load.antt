@@ -1,19 +1,19 @@
 -- `load` on all inputs (document 01, "Terms and declarations" and the table by place): the order of the refusals, and what lent storage holds afterwards.
-use Prim.Native.Nat.{ℕ, suc, _+_, _-_, _*_, _/_, _≤_}
+use Prim.Native.Nat.{ℕ, _+_, _*_, _≤_}
 use mathlib.Core.Path.{_≡_}
-use mathlib.Core.Bool.{Bool, true, false, cond, _||_}
+use mathlib.Core.Bool.{cond}
 use mathlib.Core.List.{List, [], _∷_, _++_}
-use lib.Dec.{ltb, eqb}
-use lib.ListN.{length, take, drop, set, replicate}
-use Rattle.words.specs.Lexer.{cappedOf, zeroRow}
+use lib.Dec.{eqb}
+use lib.ListN.{length, take, set}
+use Rattle.words.specs.Lexer.{cappedOf}
 use Rattle.words.specs.declared.Limits.{Limits}
 use Rattle.term_parser.specs.Parsing.{Parsed, parsed, absent, refused as barred}
 use Rattle.term_parser.specs.Rows.{rowsOfAll}
 use Rattle.parser.specs.Source.{Declaration, sort, ctor, pred, rule, def, theorem, eval, check}
 use Rattle.parser.specs.Declarations.{Declared}
 use Rattle.parser.specs.Rows.{declaredRows}
-use Rattle.parser.specs.Parser.{numberOf, textOf, rowsAfter}
-use Rattle.names.specs.Symbols.{Rows, sortsOf, symbolsOf}
+use Rattle.parser.specs.Parser.{numberOf, textOf}
+use Rattle.names.specs.Symbols.{Rows}
 use Rattle.loader.specs.PlaceLaws.{TitlesInside}
 use Rattle.loader.specs.Signature.{Signature, Loaded, refused, loaded, loadOf}
 use Rattle.declarations.specs.Held.{Held}

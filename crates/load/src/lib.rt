@@ -3,11 +3,10 @@
 // The entry point is `load`. It asks nothing of its caller, and its contract fixes the answer and every lent buffer on all inputs.
 ghost use mathlib.Core.Path.{_≡_};
 ghost use mathlib.Core.Bool.{cond};
-ghost use mathlib.Core.List.{[], _∷_, _++_};
+ghost use mathlib.Core.List.{[], _∷_};
 ghost use Prim.Native.Nat.{_+_, _-_, _≤_};
 ghost use lib.Dec.{eqb};
-ghost use lib.ListN.{length, take, set, replicate};
-ghost use Rattle.words.specs.Lexer.{cappedOf};
+ghost use lib.ListN.{length, set};
 ghost use Rattle.load.specs.Load.{noted, WalkAsked, Walked};
 ghost use Rattle.load.specs.Loading.{isShort, zeroPair, zeroSymbol, zeroRule, clearedFrom, LoadingText};
 ghost use Rattle.load.specs.Clearing.{Clearable, SignatureCleared, ScratchCleared, Wiped, RowsAsked, RowsLoaded};

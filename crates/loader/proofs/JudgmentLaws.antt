@@ -1,12 +1,12 @@
 -- Laws of a rule's judgments in rows: how many premises there are, where the conclusion stands, and where the rule ends.
 use mathlib.Core.Path.{_≡_, refl, sym, ap, _∙_, subst}
 use mathlib.Core.List.{List, _∷_}
-use Prim.Native.Nat.{ℕ, suc, _+_, _-_, _≤_}
+use Prim.Native.Nat.{ℕ, _-_, _≤_}
 use native.Mathlib.Omega.{arith}
 use lib.ListN.{length}
 use lib.Seq.{length-take-le}
 use Rattle.term_parser.specs.Source.{Source, one, allOf}
-use Rattle.term_parser.specs.Standing.{Written, nil as none, cons as more, size, spelled, Stands}
+use Rattle.term_parser.specs.Standing.{nil as none, cons as more, size, spelled, Stands}
 use Rattle.names.specs.Symbols.{Rows}
 use Rattle.clauses.specs.Contracts.{Skipped}
 use Rattle.clauses.proofs.SkipLaws.{stands-within, stands-size}

@@ -1,23 +1,19 @@
 -- Laws of a symbol entered by its arrow: how many sorts there are, and what its row means.
-use mathlib.Core.Path.{_≡_, refl, sym, ap, ap₂, _∙_}
+use mathlib.Core.Path.{_≡_, refl, sym, ap, _∙_}
 use mathlib.Core.Bool.{Bool, true, false, cond}
-use mathlib.Core.List.{List, [], _∷_, _++_}
-use Prim.Native.Nat.{ℕ, zero, suc, _+_, _-_, _≤_, _<_}
+use mathlib.Core.List.{List, [], _∷_}
+use Prim.Native.Nat.{ℕ, zero, suc, _-_, _≤_, _<_}
 use native.Mathlib.Omega.{arith}
 use lib.Dec.{ltb}
-use lib.ListN.{length, take, set}
+use lib.ListN.{length, take}
 use borrow.Author.Tests.{ltb-true, ltb-false}
-use lib.Seq.{sets, length-take-le, take-all}
+use lib.Seq.{length-take-le, take-all}
 use Rattle.terms.specs.Numbers.{by-bool}
-use Rattle.words.specs.Lexer.{partOf}
-use Rattle.arena.specs.NodeLaws.{sets-below, sets-within}
 use Rattle.names.specs.Names.{Name}
-use Rattle.names.specs.Symbols.{Rows, Symbol, column, columns, symbolOf, symbolsOf, sortNumber}
-use Rattle.names.specs.SearchLaws.{table-more}
-use Rattle.rules.proofs.ColumnLaws.{columns-are}
-use Rattle.loader.specs.Signature.{Numbers, unknown, numbers, prepend, numbersOf, frontOf, lastOf, isTaken, symbolRefusal}
+use Rattle.names.specs.Symbols.{Rows, Symbol, sortNumber}
+use Rattle.loader.specs.Signature.{Numbers, unknown, numbers, prepend, numbersOf, lastOf, isTaken, symbolRefusal}
 use Rattle.loader.specs.Arrows.{namesAt, Arrowing}
-use Rattle.loader.specs.SymbolEntry.{inputsOf, outputOf, symbolNamed}
+use Rattle.loader.specs.SymbolEntry.{inputsOf, outputOf}
 use Rattle.loader.specs.Rows.{symbolRow}
 use Rattle.loader.specs.declared.Arrow.{Arrow}
 use Rattle.loader.specs.declared.Arrow.the-variants.{Unknown, Known}

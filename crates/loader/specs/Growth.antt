@@ -1,15 +1,15 @@
 -- Laws of a signature that grows: a rule that is kept stays kept when symbols are added.
-use Prim.Native.Nat.{ℕ, _≤_, _<_}
+use Prim.Native.Nat.{ℕ}
 use native.Mathlib.Omega.{arith}
-use mathlib.Core.Path.{_≡_, refl, ap, _∙_}
-use mathlib.Core.List.{List, [], _∷_, _++_, map}
-use lib.ListN.{length, getD, length-append, List·getD-append}
+use mathlib.Core.Path.{_≡_, refl, ap}
+use mathlib.Core.List.{List, [], _∷_, _++_}
+use lib.ListN.{length, length-append, List·getD-append}
 use Rattle.terms.specs.Term.{Kind, Syn}
-use Rattle.arena.specs.Cells.{Cells, symbolOf, arityOf}
+use Rattle.arena.specs.Cells.{Cells, symbolOf}
 use Rattle.arena.specs.FormLaws.{Header}
 use Rattle.resolution.specs.Rules.{Rule}
 use Rattle.names.specs.Symbols.{Symbol}
-use Rattle.rules.specs.LayingLaws.{Nodes, none, next, Lying, RuleLying}
+use Rattle.rules.specs.LayingLaws.{Nodes, none, next, Lying}
 use Rattle.rules.specs.PatternLaws.{aritiesOf}
 use Rattle.rules.specs.StoredRows.{Kept}
 

@@ -3,11 +3,11 @@ use mathlib.Core.Path.{_≡_, refl, sym, ap, ap₂, _∙_}
 use mathlib.Core.List.{List, [], _∷_, _++_}
 use Prim.Native.Nat.{ℕ, zero, suc, _+_, _≤_, _<_}
 use native.Mathlib.Omega.{arith}
-use lib.ListN.{length, getD, drop, set, replicate}
-use lib.Seq.{sets, getD-drop}
+use lib.ListN.{length, getD, set, replicate}
+use lib.Seq.{getD-drop}
 use Rattle.words.specs.Lexer.{partOf}
 use Rattle.arena.specs.NodeLaws.{sets-below, sets-within, sets-past}
-use Rattle.names.specs.Symbols.{Rows, Symbol, column, columns, symbolOf, symbolsOf}
+use Rattle.names.specs.Symbols.{Rows, column, columns, symbolOf, symbolsOf}
 use Rattle.names.specs.SearchLaws.{table-more}
 use Rattle.loader.specs.Rows.{symbolRow}
 

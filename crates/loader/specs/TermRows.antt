@@ -1,13 +1,13 @@
 -- Laws of declaration rows: the judgments of a rule and the parts of a clause stand in the parser's rows, wherever these are.
 use Prim.Native.Nat.{ℕ, suc, _+_, _-_, _<_}
 use native.Mathlib.Omega.{arith}
-use mathlib.Core.Path.{_≡_, refl, sym, ap, ap₂, _∙_, subst}
+use mathlib.Core.Path.{_≡_, refl, sym, ap, _∙_, subst}
 use mathlib.Core.List.{List, [], _∷_, _++_, append-assoc, append-nil}
 use lib.ListN.{length, getD, length-append}
 use lib.Seq.{getD-append-seam}
-use Rattle.term_parser.specs.Source.{Source, one, many, none, more, allOf, count}
+use Rattle.term_parser.specs.Source.{Source, one, allOf}
 use Rattle.term_parser.specs.Rows.{Rows, rowsOf, rowsOfAll}
-use Rattle.term_parser.specs.Standing.{Written, size, spelled, Stands, stands}
+use Rattle.term_parser.specs.Standing.{size, spelled, Stands, stands}
 use Rattle.parser.specs.Source.{Clause}
 use Rattle.parser.specs.Rows.{clauseKind, clauseRows}
 use Rattle.loader.specs.Signature.{frontOf, lastJudgment}

@@ -1,6 +1,5 @@
 -- Laws of numerals.
 use mathlib.Core.Path.{_≡_, refl, sym, _∙_}
-use mathlib.Core.Bool.{true}
 use mathlib.Core.List.{List, [], _∷_}
 use Prim.Native.Nat.{ℕ, zero, suc, _+_, _*_, _-_, _≤_, _<_}
 use native.Mathlib.Numerals.{add-one}
@@ -11,7 +10,7 @@ use Rattle.terms.specs.Term.{app, nil, cons}
 use Rattle.term_parser.specs.Standing.{number}
 use Rattle.names.specs.Symbols.{Rows, Symbol, Variable, column, rowAt, symbolOf, symbolsOf, symbolNumber, symbolAt}
 use Rattle.names.specs.SearchLaws.{columns-at}
-use Rattle.patterns.specs.Patterns.{bad, good, bind, misfit, spent, unless, isCtor, zeroName, succName, first, chain, patternOf}
+use Rattle.patterns.specs.Patterns.{bad, good, bind, misfit, spent, unless, zeroName, succName, first, chain, patternOf}
 use Rattle.patterns.specs.Laying.{laid, lay}
 use Rattle.patterns.specs.Contracts.{no, yes, stored, tower, orFull, refusal}
 use Rattle.patterns.proofs.Symbols.{misfit-args}

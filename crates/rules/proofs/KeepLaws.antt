@@ -13,7 +13,7 @@ use Rattle.resolution.specs.Fresh.{met, metBack, headVars, allVars}
 use Rattle.resolution.specs.Search.{words}
 use Rattle.meeting.specs.Places.{Records, numbersBelow}
 use Rattle.meeting.specs.Contract.{termOf}
-use Rattle.names.specs.Symbols.{Rows, column, columns}
+use Rattle.names.specs.Symbols.{column, columns}
 use Rattle.rules.specs.LayingLaws.{RuleLying, lying-one, records-placed}
 use Rattle.rules.specs.CountLaws.{all-count, all-below}
 use Rattle.rules.specs.StoredRows.{titled, ruleRow, headsIn, placesIn, Kept}

@@ -2,8 +2,8 @@
 //
 // All functions here serve the crates above: they ask for storage of the listed sizes.
 ghost use mathlib.Core.Path.{_≡_};
-ghost use mathlib.Core.List.{List, []};
-ghost use Prim.Native.Nat.{ℕ, _+_, _*_, _≤_, _<_};
+ghost use mathlib.Core.List.{List};
+ghost use Prim.Native.Nat.{ℕ, _+_, _≤_, _<_};
 ghost use lib.ListN.{length, take, set};
 ghost use lib.Seq.{sets};
 ghost use Rattle.names.specs.Symbols.{rowAt, symbolsOf, variablesOf};

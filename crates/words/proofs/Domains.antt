@@ -19,7 +19,6 @@ use Rattle.words.specs.declared.NumeralValue.{NumeralValue}
 use Rattle.words.specs.declared.NumeralValue.the-variants.{Fits, TooLarge}
 use Rattle.words.specs.Lexer.{inDomain}
 use Rattle.words.specs.declared.Refusal.the-variants.{UnexpectedCharacter, OutsideDomain}
-use Rattle.words.specs.declared.tokens.Item.{Item}
 use Rattle.words.specs.declared.tokens.Item.the-variants.{Token, Refused}
 use Rattle.words.proofs.Scans.{by-bool, and-left, and-right}
 use Rattle.words.proofs.Items.{sign-at, signBy, no-arrow}

@@ -1,6 +1,6 @@
 -- Laws of prefixes, of equality byte by byte, of `upTo` and of `lines`, at a place of a list.
-use mathlib.Core.Path.{_≡_, refl, sym, ap, _∙_}
-use mathlib.Core.Bool.{Bool, true, false, not, _&&_, _||_, and-true, and-false}
+use mathlib.Core.Path.{_≡_, refl, sym, ap, ap₂, _∙_}
+use mathlib.Core.Bool.{Bool, true, false, _&&_, _||_, and-true, and-false}
 use mathlib.Core.List.{List, [], _∷_}
 use Prim.Native.Nat.{ℕ, zero, suc, _+_, _-_, _≤_, _<_}
 use native.Mathlib.Numerals.{add-one}
@@ -10,32 +10,23 @@ use lib.Seq.{drop-cons, drop-drop, length-take-le}
 use lib.Dec.{eqb}
 use borrow.Author.Tests.{eq-eqb, ne-eqb, eqb-true}
 use Rattle.words.specs.Bytes.{startsWith, sameBytes, upTo}
+use Rattle.words.specs.ByteLaws.{same-is}
 use Rattle.words.specs.Lines.{lines, lineOf, codeOf, endsCode}
 
 pub by-bool {ℓ} : {P : Type ℓ} (b : Bool) → (b ≡ true → P) → (b ≡ false → P) → P
 by-bool true f g = f refl
 by-bool false f g = g refl
 
--- Two words, from place i of each on.
-pub same-lengths : (v w : List ℕ) → (length v ≡ length w → ⊥) → sameBytes v w ≡ false
-unfolding sameBytes
-same-lengths [] [] h = absurd (h refl)
-same-lengths [] (b ∷ w) h = refl
-same-lengths (a ∷ v) [] h = refl
-same-lengths (a ∷ v) (b ∷ w) h = simp (same-lengths v w (λ e. h (ap suc e))) (and-false (eqb a b))
+-- Two words: they differ, or are equal from place i on.
+pub same-not : (v w : List ℕ) → (v ≡ w → ⊥) → sameBytes v w ≡ false
+same-not v w n = by-bool (sameBytes v w) (λ e. absurd (n (same-is v w e))) (λ e. e)
 
-module _ (v w : List ℕ) (i : ℕ) (hv : i < length v) (hw : i < length w) where
-  pub same-next : getD v i 0 ≡ getD w i 0 → sameBytes (drop i v) (drop i w) ≡ sameBytes (drop (i + 1) v) (drop (i + 1) w)
-  unfolding sameBytes
-  same-next e = simp (drop-cons v i 0 hv, drop-cons w i 0 hw, add-one, eq-eqb _ _ e)
+module _ (v w : List ℕ) where
+  pub same-end : (i : ℕ) → length v ≤ i → length w ≤ i → drop i v ≡ drop i w
+  same-end i hv hw = drop-of-length-le v hv ∙ sym (drop-of-length-le w hw)
 
-  pub same-not : (getD v i 0 ≡ getD w i 0 → ⊥) → sameBytes (drop i v) (drop i w) ≡ false
-  unfolding sameBytes
-  same-not e = simp (drop-cons v i 0 hv, drop-cons w i 0 hw, ne-eqb _ _ e)
-
-pub same-end : (v w : List ℕ) (i : ℕ) → length v ≤ i → length w ≤ i → sameBytes (drop i v) (drop i w) ≡ true
-unfolding sameBytes
-same-end v w i hv hw = simp (drop-of-length-le v hv, drop-of-length-le w hw)
+  pub same-before : (i : ℕ) → i < length v → i < length w → getD v i 0 ≡ getD w i 0 → drop (suc i) v ≡ drop (suc i) w → drop i v ≡ drop i w
+  same-before i hv hw e h = rw (drop-cons v i 0 hv, drop-cons w i 0 hw) (ap₂ (λ a l. a ∷ l) e h)
 
 -- A prefix w of s, from place i of w and place j of s on.
 pub prefix-short : (w s : List ℕ) → length s < length w → startsWith w s ≡ false

@@ -5,7 +5,7 @@ use mathlib.Core.List.{List, [], _∷_}
 use Prim.Native.Nat.{ℕ}
 use lib.Dec.{eqb}
 use native.Mathlib.Omega.{arith}
-use borrow.Author.Tests.{eqb-true}
+use borrow.Author.Tests.{eqb-true, eq-eqb}
 use Rattle.words.specs.Bytes.{sameBytes}
 
 pub and-left : (x y : Bool) → (x && y) ≡ true → x ≡ true
@@ -25,3 +25,8 @@ same-is (a ∷ v) (b ∷ w) e =
     let p : a ≡ b = eqb-true a b (and-left (eqb a b) (sameBytes v w) e) in
     let q : v ≡ w = same-is v w (and-right (eqb a b) (sameBytes v w) e) in
     cc
+
+pub same-itself : (v : List ℕ) → sameBytes v v ≡ true
+unfolding sameBytes
+same-itself [] = refl
+same-itself (a ∷ v) = rw (eq-eqb a a refl) (same-itself v)

@@ -12,7 +12,6 @@ use Rattle.words.specs.Tokens.Reading.{tokens, refused}
 use Rattle.words.specs.declared.Limits.{Limits}
 use Rattle.words.specs.declared.Lexed.{Lexed}
 use Rattle.words.specs.declared.Lexed.the-variants.{Tokens, Refused}
-use Rattle.words.specs.declared.Refusal.{Refusal}
 use Rattle.words.specs.declared.Refusal.the-variants.{Storage, TextLength, NotUtf8, OutsideDomain}
 
 -- A limit over document 01's counts as document 01's.

@@ -6,7 +6,6 @@ use lib.Dec.{eqb, ltb}
 use lib.ListN.{length, getD}
 use Rattle.words.specs.Bytes.{sameBytes}
 use Rattle.words.specs.Numerals.{allDigits, numeralOf}
-use Rattle.words.specs.declared.Refusal.{Refusal}
 use Rattle.words.specs.declared.Refusal.the-variants.{NumeralTooLarge, WordTooLong}
 use Rattle.words.specs.declared.NumeralValue.{NumeralValue}
 use Rattle.words.specs.declared.NumeralValue.the-variants.{Fits, TooLarge}

@@ -1,9 +1,7 @@
 -- `compare` is safe: what `equal` asks is what the tests before it accepted.
-use mathlib.Core.Path.{_≡_, refl, sym, _∙_}
-use Prim.Native.Nat.{ℕ, _≤_, _<_, _-_, _+_}
-use lib.ListN.{length}
+use mathlib.Core.Path.{sym, _∙_}
+use Prim.Native.Nat.{_-_}
 use borrow.Author.Tests.{not-false}
-use Rattle.arena.specs.Form.{Place}
 use Rattle.arena.specs.FormLaws.{all-formed, argument-reference}
 use Rattle.arena_main.proofs.Zeroes.{all-zero, as-long}
 use native.Mathlib.Omega.{arith}

@@ -1,6 +1,6 @@
 -- `tower` is safe and ends. The loop's invariant: the words are as many as at first.
 use mathlib.Core.Path.{_≡_, refl, ap, _∙_}
-use Prim.Native.Nat.{ℕ, _≤_, _<_, _-_, _+_}
+use Prim.Native.Nat.{_-_}
 use lib.ListN.{length}
 use lib.Seq.{length-sets}
 use borrow.Author.Needs.{needs}

@@ -1,5 +1,5 @@
 -- `clear_counts` meets its contract: 1 writes nothing.
-use mathlib.Core.Path.{_≡_, refl, _∙_}
+use mathlib.Core.Path.{refl, _∙_}
 use borrow.Author.Tests.{eq-eqb, ne-eqb}
 use Rattle.load.proofs.RowsLaws.{wipe}
 use borrow.Author.Needs.{needs}

@@ -1,6 +1,5 @@
 -- `horn_load` meets its contract: too few counts, or the answer of `load` told in numbers.
-use mathlib.Core.Path.{_≡_, refl, ap, _∙_}
-use Rattle.capi.specs.Signatures.{countsAfter}
+use mathlib.Core.Path.{refl}
 use borrow.Author.Needs.{needs}
 use native.Mathlib.Omega.{arith}
 use Rattle.capi.proofs.horn_load.Statement.{statement}

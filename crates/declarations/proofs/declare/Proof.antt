@@ -1,7 +1,4 @@
 -- `declare` meets its contract: the keyword in the declaration's row says which function declares it.
-use mathlib.Core.Path.{_≡_, refl, sym}
-use Prim.Native.Nat.{_+_, _≤_}
-use lib.ListN.{length}
 use Rattle.declarations.proofs.DeclarationLaws.{first-row}
 use Rattle.declarations.proofs.DeclareLaws.{sort-there, sort-done, ctor-asked, ctor-none, ctor-done, pred-asked, pred-done, rule-asked, rule-done, def-asked, def-done, eval-done, others-done}
 use borrow.Author.Needs.{needs}

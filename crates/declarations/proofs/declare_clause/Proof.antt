@@ -1,5 +1,5 @@
 -- `declare_clause` meets its contract: the clause is entered with the room that is left.
-use mathlib.Core.Path.{_≡_, refl, sym, _∙_}
+use mathlib.Core.Path.{_≡_, sym, _∙_}
 use Prim.Native.Nat.{ℕ, suc, _+_}
 use mathlib.Core.List.{List}
 use Rattle.words.specs.Lexer.{partOf}

@@ -1,5 +1,5 @@
 -- `declare_clauses` meets its contract. The loop's invariant: the clauses before the number i are entered, and the others are left to enter from the row p on.
-use mathlib.Core.Path.{_≡_, refl, sym, _∙_}
+use mathlib.Core.Path.{_≡_, refl, _∙_}
 use Prim.Native.Nat.{_≤_, _-_}
 use lib.ListN.{length}
 use Rattle.declarations.proofs.ClauseLaws.{Everywhere, going-start, going-clause, going-refused, going-on, going-end}

@@ -1,9 +1,8 @@
 -- `declare_def` meets its contract: the symbol is refused, or it is entered and its clauses behind it.
-use mathlib.Core.Path.{_≡_, refl, sym, ap, _∙_}
-use Prim.Native.Nat.{ℕ, _+_, _<_}
+use mathlib.Core.Path.{_≡_, sym, _∙_}
+use Prim.Native.Nat.{_+_, _<_}
 use Rattle.names.specs.Symbols.{column, rowAt}
-use Rattle.loader.specs.SymbolEntry.{SymbolEntered}
-use Rattle.declarations.proofs.DefLaws.{def-no, first-is, def-none, def-refused, DefEntered, def-entered, def-ready, def-stepped}
+use Rattle.declarations.proofs.DefLaws.{def-no, first-is, def-none, def-refused, def-entered, def-ready, def-stepped}
 use borrow.Author.Needs.{needs}
 use native.Mathlib.Omega.{arith}
 use Rattle.declarations.proofs.declare_def.Statement.{statement}

@@ -1,5 +1,5 @@
 -- `declare_rule` meets its contract: the rule is entered with the room that is left.
-use mathlib.Core.Path.{_≡_, refl, _∙_}
+use mathlib.Core.Path.{refl, _∙_}
 use Prim.Native.Nat.{ℕ, _+_}
 use mathlib.Core.List.{List, _∷_}
 use Rattle.term_parser.specs.Source.{allOf}

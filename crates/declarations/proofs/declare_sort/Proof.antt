@@ -1,5 +1,4 @@
 -- `declare_sort` meets its contract: the sort is refused, or it is one more.
-use mathlib.Core.Path.{_≡_, refl, ap, _∙_}
 use Rattle.declarations.proofs.ProgressLaws.{sort-refused, sort-done}
 use borrow.Author.Needs.{needs}
 use Rattle.declarations.proofs.declare_sort.Statement.{statement}

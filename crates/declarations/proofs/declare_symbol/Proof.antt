@@ -1,6 +1,6 @@
 -- `declare_symbol` meets its contract: the symbol is refused, or it is one more.
-use mathlib.Core.Path.{_≡_, refl, ap, _∙_}
-use Prim.Native.Nat.{ℕ, _+_}
+use mathlib.Core.Path.{_≡_}
+use Prim.Native.Nat.{_+_}
 use Rattle.declarations.proofs.ProgressLaws.{symbol-refused, symbol-done}
 use borrow.Author.Needs.{needs}
 use native.Mathlib.Omega.{arith}

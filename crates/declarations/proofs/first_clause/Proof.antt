@@ -1,8 +1,6 @@
 -- `first_clause` meets its contract.
-use mathlib.Core.Path.{_≡_, refl}
-use Rattle.declarations.proofs.DeclareLaws.{sort-done}
+use mathlib.Core.Path.{refl}
 use borrow.Author.Tests.{eq-eqb, ne-eqb}
-use Rattle.declarations.proofs.DefLaws.{def-stepped}
 use borrow.Author.Needs.{needs}
 use Rattle.declarations.proofs.first_clause.Statement.{statement}
 use Rattle.declarations.proofs.first_clause.Tie as tie

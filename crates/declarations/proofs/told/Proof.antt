@@ -1,5 +1,5 @@
 -- `told` meets its contract: one equation for each outcome.
-use mathlib.Core.Path.{_≡_, refl}
+use mathlib.Core.Path.{refl}
 use borrow.Author.Needs.{needs}
 use native.Mathlib.Omega.{arith}
 use Rattle.declarations.proofs.told.Statement.{statement}

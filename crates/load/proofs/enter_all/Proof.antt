@@ -1,8 +1,8 @@
 -- `enter_all` meets its contract. The loop's invariant: the declarations before the number i are entered, and the others are left from the row `at` on.
-use mathlib.Core.Path.{_≡_, refl, sym, ap, _∙_, subst}
-use Prim.Native.Nat.{ℕ, _+_, _*_, _≤_, _-_}
+use mathlib.Core.Path.{_≡_, refl, _∙_}
+use Prim.Native.Nat.{_≤_, _-_}
 use lib.ListN.{length}
-use Rattle.load.proofs.WalkLaws.{held-none, Sofar, Everywhere, sofar-start, sofar-declaration, sofar-stops, sofar-on, sofar-end}
+use Rattle.load.proofs.WalkLaws.{held-none, Everywhere, sofar-start, sofar-declaration, sofar-stops, sofar-on, sofar-end}
 use Rattle.declarations.proofs.DeclarationLaws.{first-row}
 use borrow.Author.Needs.{needs}
 use native.Mathlib.Omega.{arith}

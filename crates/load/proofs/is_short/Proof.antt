@@ -1,5 +1,5 @@
 -- `is_short` meets its contract: one law for each buffer.
-use mathlib.Core.Path.{_≡_, refl, subst}
+use mathlib.Core.Path.{_≡_, subst}
 use mathlib.Core.Bool.{true}
 use Prim.Native.Nat.{_/_}
 use lib.Dec.{ltb}

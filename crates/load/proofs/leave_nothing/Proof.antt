@@ -1,5 +1,5 @@
 -- `leave_nothing` meets its contract: all buffers are cleared from the beginning.
-use mathlib.Core.Path.{_≡_, refl, _∙_}
+use mathlib.Core.Path.{refl, _∙_}
 use Rattle.words.specs.Lexer.{zeroRow}
 use Rattle.load.specs.Loading.{Buffers}
 use Rattle.load.proofs.RowsLaws.{SameLengths, all-wiped, wipe}

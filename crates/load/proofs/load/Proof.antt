@@ -1,5 +1,5 @@
 -- `load` meets its contract: a buffer is too short; the parser refuses the text; or its declarations are entered.
-use mathlib.Core.Path.{_≡_, refl, sym, ap, _∙_}
+use mathlib.Core.Path.{refl, sym, ap, _∙_}
 use lib.ListN.{length}
 use Rattle.terms.specs.Numbers.{true-false}
 use Rattle.words.specs.Lexer.{cappedOf}

@@ -1,7 +1,7 @@
 -- `load_rows` meets its contract: everything is wiped, or the signature is kept with zero past it.
 use mathlib.Core.Path.{_≡_, refl, sym, ap, _∙_}
-use Prim.Native.Nat.{ℕ, _+_, _*_, _≤_, _-_}
-use lib.ListN.{length, take, replicate}
+use Prim.Native.Nat.{_-_}
+use lib.ListN.{length, take}
 use lib.Seq.{length-take-le}
 use Rattle.loader.specs.Signature.{loadOf}
 use Rattle.load.specs.Load.{evalsFrom}

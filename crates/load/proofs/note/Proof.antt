@@ -1,5 +1,5 @@
 -- `note` meets its contract: an `#eval` is kept if it is one.
-use mathlib.Core.Path.{_≡_, refl}
+use mathlib.Core.Path.{refl}
 use borrow.Author.Tests.{eq-eqb, ne-eqb}
 use borrow.Author.Needs.{needs}
 use Rattle.load.proofs.note.Statement.{statement}

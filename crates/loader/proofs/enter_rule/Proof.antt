@@ -1,5 +1,4 @@
 -- `enter_rule` meets its contract: the premises are passed over to find the conclusion.
-use mathlib.Core.Path.{_≡_, refl}
 use Rattle.names.specs.Standing.{parsed-stands}
 use Rattle.loader.proofs.JudgmentLaws.{premises-number, premises-few, conclusion-at, rule-ends}
 use borrow.Author.Needs.{needs}

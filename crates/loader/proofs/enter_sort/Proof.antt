@@ -1,5 +1,5 @@
 -- `enter_sort` meets its contract: one law for each way out.
-use mathlib.Core.Path.{_≡_, refl, sym, ap, _∙_}
+use mathlib.Core.Path.{refl, sym, _∙_}
 use Rattle.words.specs.Lexer.{partOf}
 use Rattle.loader.proofs.EntryLaws.{sort-taken, sort-new, sort-full}
 use borrow.Author.Needs.{needs}

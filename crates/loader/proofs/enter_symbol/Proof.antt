@@ -1,7 +1,7 @@
 -- `enter_symbol` meets its contract: the arrow, then the name, then the row.
 use mathlib.Core.Path.{_≡_, refl, sym, ap, _∙_}
 use lib.ListN.{set}
-use Prim.Native.Nat.{ℕ, _+_}
+use Prim.Native.Nat.{_+_}
 use Rattle.words.specs.Lexer.{partOf}
 use Rattle.names.specs.Symbols.{column, rowAt, sortsOf, symbolsOf}
 use Rattle.loader.specs.Signature.{numbersOf, symbolRefusal}

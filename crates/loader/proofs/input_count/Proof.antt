@@ -1,5 +1,5 @@
 -- `input_count` meets its contract.
-use mathlib.Core.Path.{_≡_, refl}
+use mathlib.Core.Path.{refl}
 use borrow.Author.Needs.{needs}
 use native.Mathlib.Omega.{arith}
 use Rattle.loader.proofs.input_count.Statement.{statement}

@@ -1,5 +1,5 @@
 -- `is_taken` meets its contract: first the sorts, then the symbols.
-use mathlib.Core.Path.{_≡_, refl, sym, ap, _∙_}
+use mathlib.Core.Path.{ap, _∙_}
 use Rattle.words.specs.Lexer.{partOf}
 use Rattle.names.specs.Names.{Name}
 use Rattle.names.specs.Symbols.{sortsOf, symbolsOf, sortNumber, symbolNumber}

@@ -1,7 +1,7 @@
 -- `put_inputs` meets its contract. The loop's invariant: the first j inputs are written.
-use mathlib.Core.Path.{_≡_, refl, sym, ap, _∙_}
+use mathlib.Core.Path.{_≡_, sym, ap, _∙_}
 use mathlib.Core.List.{[]}
-use Prim.Native.Nat.{_≤_, _-_, _+_, _*_}
+use Prim.Native.Nat.{_≤_, _-_}
 use lib.ListN.{length, take, set, length-set}
 use lib.Seq.{sets, set-getD}
 use Rattle.names.specs.Symbols.{rowAt}

@@ -1,5 +1,5 @@
 -- `put_symbol` meets its contract: the row without inputs, and then the inputs.
-use mathlib.Core.Path.{_≡_, refl, ap, _∙_}
+use mathlib.Core.Path.{refl, ap, _∙_}
 use mathlib.Core.List.{List}
 use Prim.Native.Nat.{ℕ}
 use lib.ListN.{length, take, length-set}

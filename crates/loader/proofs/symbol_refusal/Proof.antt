@@ -1,5 +1,5 @@
 -- `symbol_refusal` meets its contract: one law for each way out.
-use mathlib.Core.Path.{_≡_, refl, sym, ap, _∙_}
+use mathlib.Core.Path.{sym, _∙_}
 use Rattle.words.specs.Lexer.{partOf}
 use Rattle.loader.proofs.EntryLaws.{symbol-taken, symbol-wide, symbol-new, symbol-full}
 use borrow.Author.Needs.{needs}

@@ -1,5 +1,5 @@
 -- `find_symbol` meets its contract. The loop's invariant: no row before the place i has the name.
-use mathlib.Core.Path.{_≡_, sym, ap, _∙_}
+use mathlib.Core.Path.{_≡_, sym, _∙_}
 use Prim.Native.Nat.{_≤_, _+_, _-_}
 use lib.ListN.{drop}
 use Rattle.names.specs.Symbols.{Symbol, symbolOf, symbolsOf, symbolNumber}

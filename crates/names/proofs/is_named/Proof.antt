@@ -1,5 +1,4 @@
 -- `is_named` meets its contract: the name is one of flattening, or a word of the text.
-use mathlib.Core.Path.{_≡_}
 use borrow.Author.Tests.{eq-eqb, ne-eqb}
 use borrow.Author.Needs.{needs}
 use Rattle.names.proofs.is_named.Statement.{statement}

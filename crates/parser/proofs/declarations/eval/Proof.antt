@@ -1,7 +1,6 @@
 -- `eval` meets its contract.
 use mathlib.Core.Path.{refl}
 use Prim.Native.Nat.{_+_, _-_}
-use native.Mathlib.Omega.{arith}
 use lib.ListN.{drop}
 use Rattle.parser.specs.Source.{eval}
 use Rattle.term_parser.specs.Parsing.{lastLine, parsed, plus}

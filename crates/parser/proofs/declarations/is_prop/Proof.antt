@@ -1,7 +1,6 @@
 -- `is_prop` meets its contract.
 use mathlib.Core.Path.{ap, _∙_}
 use Prim.Native.Nat.{_-_}
-use native.Mathlib.Omega.{arith}
 use Rattle.words.specs.Bytes.{sameBytes}
 use Rattle.parser.specs.Declarations.{propName}
 use borrow.Author.Needs.{needs}

@@ -1,7 +1,6 @@
 -- `patterns` meets its contract.
 use mathlib.Core.Path.{sym, ap, _∙_}
 use Prim.Native.Nat.{_-_}
-use native.Mathlib.Omega.{arith}
 use Rattle.term_parser.proofs.ListLaws.{patterns-none, patterns-some}
 use borrow.Author.Needs.{needs}
 use Rattle.term_parser.proofs.lists.patterns.Statement.{statement}

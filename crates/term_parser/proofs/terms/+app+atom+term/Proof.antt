@@ -3,7 +3,6 @@ use Prim.Native.Nat.{_+_, _*_, _-_}
 use mathlib.Core.Path.{refl, sym, ap, _∙_}
 use native.Mathlib.Omega.{arith}
 use lib.ListN.{length}
-use Rattle.term_parser.specs.Rows.{rowsOf}
 use Rattle.term_parser.proofs.TokenLaws.{token-there}
 use Rattle.term_parser.proofs.Readers.{stopped, moved}
 use Rattle.term_parser.proofs.TermLaws.{room-on, there, is-name, is-meta, is-numeral, is-open, is-none, too-deep, inner-stopped, inner-closed, Atoms, atoms-start, atoms-room, atoms-from, atoms-past, atoms-few, atoms-length, atoms-turn, atoms-none, atoms-applied, atoms-refused, term-stopped, term-plain, second-stopped, root-room, term-equated}

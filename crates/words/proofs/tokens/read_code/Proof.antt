@@ -5,7 +5,7 @@ use mathlib.Core.List.{[], _∷_}
 use Prim.Native.Nat.{_≤_, _<_, _-_, _+_}
 use native.Mathlib.Nat.{add-zero}
 use lib.ListN.{length, drop, take, length-set}
-use Rattle.words.specs.Tokens.{Reading, andThen, readAfter}
+use Rattle.words.specs.Tokens.{andThen, readAfter}
 use Rattle.words.specs.Tokens.Reading.{tokens}
 use Rattle.words.specs.declared.tokens.Item.the-variants.{Token}
 use Rattle.words.proofs.Readings.{item-within, read-end, read-blank, read-token, read-refused, push-row}

@@ -4,7 +4,7 @@ use mathlib.Core.Path.{_≡_, refl, sym, ap, _∙_}
 use Prim.Native.Nat.{_≤_, _-_, _+_}
 use lib.ListN.{length, drop, take}
 use Rattle.words.specs.Lines.{lines}
-use Rattle.words.specs.Tokens.{Reading, andThen, readLines}
+use Rattle.words.specs.Tokens.{andThen, readLines}
 use Rattle.words.specs.Rows.{outcome}
 use Rattle.words.specs.Lexer.{countOf}
 use Rattle.words.specs.Tokens.Reading.{tokens}
