@@ -7,24 +7,20 @@ use mathlib.Core.List.{List, [], _∷_, _++_, map, append-nil, append-assoc}
 use lib.Dec.{ltb}
 use lib.ListN.{length, getD, length-append, length-map, List·getD-append, List·getD-map}
 use lib.Seq.{getD-append-seam, getD-append-add}
-use borrow.Author.Tests.{eq-eqb, ltb-false}
+use borrow.Author.Tests.{ltb-false}
 use Rattle.terms.specs.Numbers.{by-bool, by-less, by-same, or-false}
 use Rattle.words.specs.Bytes.{sameBytes}
-use Rattle.names.specs.Names.{Name, find}
+use Rattle.names.specs.Names.{Name, Distinct, find}
 use Rattle.names.specs.Symbols.{Symbol, sortNumber, symbolNumber, noSymbol}
+use Rattle.names.specs.SearchLaws.{same-itself}
 use Rattle.loader.specs.Signature.{isTaken}
-use Rattle.loader.specs.Legal.{Distinct, namesOf}
+use Rattle.loader.specs.Legal.{namesOf}
 
 -- The name w does not stand in a list.
 abbrev pub Absent : Name → List Name → Type 0
 Absent w names = (i : ℕ) → i < length names → getD names i [] ≡ w → ⊥
 
 -- Searching
-
-same-itself : (v : Name) → sameBytes v v ≡ true
-unfolding sameBytes
-same-itself [] = refl
-same-itself (a ∷ v) = rw (eq-eqb a a refl) (same-itself v)
 
 -- A search that passes all finds nothing because nothing is there.
 find-none : {A : Type 0} (name : A → Name) (l : List A) (w : Name) (d : A) → length l ≤ find name l w → (i : ℕ) → i < length l → name (getD l i d) ≡ w → ⊥

@@ -9,15 +9,11 @@ use Rattle.resolution.specs.Rules.{Rule}
 use Rattle.resolution.specs.Fresh.{met}
 use Rattle.resolution.specs.Search.{words}
 use Rattle.meeting.specs.Places.{numbersBelow}
-use Rattle.names.specs.Names.{Name}
+use Rattle.names.specs.Names.{Name, Distinct}
 use Rattle.names.specs.Symbols.{Symbol, symbolAt}
 use Rattle.rules.specs.LayingLaws.{Fits}
 use Rattle.rules.specs.PatternLaws.{aritiesOf, Judgment}
 use Rattle.loader.specs.Signature.{Signature}
-
--- No name stands twice in a list.
-abbrev pub Distinct : List Name → Type 0
-Distinct names = (i j : ℕ) → i < j → j < length names → getD names i [] ≡ getD names j [] → ⊥
 
 -- The names of sorts and symbols together.
 abbrev pub namesOf : List Name → List Symbol → List Name

@@ -14,7 +14,7 @@ use Rattle.term_parser.specs.Source.{Source, one, many, allOf}
 use Rattle.term_parser.specs.Standing.{Written, applied, spelled, bytesAt, nil as none}
 use Rattle.parser.specs.Source.{Clause, Declaration, sort, ctor, pred, rule, def, theorem, eval, check}
 use Rattle.parser.specs.Declarations.{Declared}
-use Rattle.names.specs.Names.{Name, clauseName}
+use Rattle.names.specs.Names.{Name, Distinct, clauseName}
 use Rattle.names.specs.Symbols.{Symbol, sortNumber, noSymbol, symbolAt}
 use Rattle.flattening.specs.Flattening.{Flat, flat, snoc, flattenOf}
 use Rattle.resolution.specs.Rules.{Rule}
@@ -22,7 +22,7 @@ use Rattle.rules.specs.Rules.{Ruled, barred, ruled, ruleOf, entering}
 use Rattle.rules.specs.PatternLaws.{FewInputs, InputsUpto, Ruling, RuleMade, rule-made}
 use Rattle.clauses.specs.Clauses.{flatRule, clauseOf}
 use Rattle.loader.specs.Signature.{Signature, empty, Step, no, on, andThen, isTaken, enterSort, enterSymbol, Numbers, unknown, numbers, prepend, numbersOf, withSorts, withSome, lastOf, frontOf, roomIn, withRule, lastJudgment, firstOf, Loaded, refused, loaded, goOn, enterRule, enterClause, enterClauses, enterJudgments, declare, loadFrom, loadOf}
-use Rattle.loader.specs.Legal.{Distinct, namesOf, SymbolLegal, RuleLegal, noRule, Legal}
+use Rattle.loader.specs.Legal.{namesOf, SymbolLegal, RuleLegal, noRule, Legal}
 use Rattle.loader.specs.LegalGrowth.{symbol-more, rule-more, rule-symbols}
 use Rattle.loader.specs.DistinctLaws.{distinct-sort, distinct-symbol}
 

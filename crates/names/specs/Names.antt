@@ -6,7 +6,7 @@ use mathlib.Core.Path.{_≡_, refl}
 use mathlib.Core.Bool.{Bool, true, cond, _&&_}
 use mathlib.Core.List.{List, [], _∷_, _++_}
 use lib.Dec.{eqb, ltb}
-use lib.ListN.{getD}
+use lib.ListN.{length, getD}
 use borrow.Author.Count.{below-more}
 use Rattle.words.specs.Bytes.{sameBytes}
 use Rattle.words.specs.ByteLaws.{and-left, and-right, same-is}
@@ -14,6 +14,10 @@ use Rattle.words.specs.Lexer.{partOf}
 
 abbrev pub Name : Type 0
 Name = List ℕ
+
+-- No name stands twice in a list.
+abbrev pub Distinct : List Name → Type 0
+Distinct names = (i j : ℕ) → i < j → j < length names → getD names i [] ≡ getD names j [] → ⊥
 
 -- A number's decimal digits, of which there are at most k + 1.
 unfoldable pub digits : ℕ → ℕ → Name

@@ -7,9 +7,16 @@ use native.Mathlib.Numerals.{add-one}
 use native.Mathlib.Omega.{arith}
 use lib.ListN.{length, getD, drop, take, set, List·getD-map, drop-of-length-le}
 use lib.Seq.{drop-cons, getD-take, length-take-le, take-set-lt, take-suc-set}
+use borrow.Author.Tests.{eq-eqb}
 use Rattle.words.specs.Bytes.{sameBytes}
 use Rattle.names.specs.Names.{Name, find}
 use Rattle.names.specs.Symbols.{Rows, rowAt, column, columns}
+
+-- A name is the same as itself.
+pub same-itself : (v : Name) → sameBytes v v ≡ true
+unfolding sameBytes
+same-itself [] = refl
+same-itself (a ∷ v) = rw (eq-eqb a a refl) (same-itself v)
 
 -- A search from the front.
 module _ {A : Type 0} (name : A → Name) (xs : List A) (w : Name) (d : A) where

@@ -5,11 +5,12 @@ use mathlib.Core.Bool.{Bool}
 use mathlib.Core.List.{List}
 use lib.ListN.{length}
 use Rattle.words.specs.declared.Limits.{Limits}
+use Rattle.names.specs.Names.{Distinct}
 use Rattle.names.specs.Symbols.{Rows, column, sortsOf, symbolsOf}
 use Rattle.unifier.specs.Contracts.{Tells}
 use Rattle.rules.specs.PatternLaws.{aritiesOf}
 use Rattle.rule_checks.specs.RuleForm.{Inside}
-use Rattle.loader.specs.Legal.{Distinct, namesOf}
+use Rattle.loader.specs.Legal.{namesOf}
 use Rattle.signature.specs.Form.{SymbolFormed, Listed, Checked}
 use Rattle.signature.specs.Parts.{Lent, Counted, SortsInside, NumbersFormed, MarkFormed, ClausesFormed, InputsFormed, SymbolsFormed, RulesListed}
 

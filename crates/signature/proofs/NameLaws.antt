@@ -6,29 +6,23 @@ use mathlib.Core.Bool.{Bool, true, false, cond}
 use mathlib.Core.List.{List, [], _∷_, map}
 use lib.ListN.{length, getD, length-append, List·getD-append, List·getD-map}
 use lib.Seq.{getD-append-add}
-use borrow.Author.Tests.{eq-eqb}
 use Rattle.terms.specs.Numbers.{by-bool, by-less}
 use Rattle.words.specs.Bytes.{sameBytes}
 use Rattle.words.specs.ByteLaws.{same-is}
-use Rattle.names.specs.Names.{Name, find}
+use Rattle.names.specs.Names.{Name, Distinct, find}
 use Rattle.names.specs.Symbols.{Rows, Symbol, rowAt, sortOf, symbolOf, sortsOf, symbolsOf, sortNumber, symbolNumber, noSymbol, symbolAt}
-use Rattle.names.specs.SearchLaws.{find-within, map-length, table-length, table-at, getD-any}
+use Rattle.names.specs.SearchLaws.{same-itself, find-within, map-length, table-length, table-at, getD-any}
 use Rattle.patterns.proofs.Terms.{symbols-length, symbol-at}
 use Rattle.loader.proofs.EntryLaws.{sorts-length}
-use Rattle.loader.specs.Legal.{Distinct, namesOf}
+use Rattle.loader.specs.Legal.{namesOf}
 use Rattle.signature.specs.Parts.{SortsFirst, SymbolsFirst}
-
-bytes-refl : (w : List ℕ) → sameBytes w w ≡ true
-unfolding sameBytes
-bytes-refl [] = refl
-bytes-refl (b ∷ w) = rw (eq-eqb b b refl) (bytes-refl w)
 
 module _ {A : Type 0} (name : A → Name) (d : A) where
   -- A search goes no further than a place that has the name,
   find-before : (xs : List A) (w : Name) (j : ℕ) → j < length xs → name (getD xs j d) ≡ w → find name xs w ≤ j
   unfolding find
   find-before [] w j l e = absurd (omega arith)
-  find-before (x ∷ xs) w zero l e = let s : sameBytes (name x) w ≡ true = rw e (bytes-refl w) in rw s (omega arith)
+  find-before (x ∷ xs) w zero l e = let s : sameBytes (name x) w ≡ true = rw e (same-itself w) in rw s (omega arith)
   find-before (x ∷ xs) w (suc j) l e =
       let h = find-before xs w j (omega arith) e in
       by-bool (sameBytes (name x) w) (λ s. rw s (omega arith)) (λ s. rw s (omega arith))

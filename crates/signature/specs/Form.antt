@@ -8,10 +8,11 @@ use lib.ListN.{length, take}
 use Rattle.resolution.specs.Rules.{Rule}
 use Rattle.words.specs.Lexer.{cappedOf}
 use Rattle.words.specs.declared.Limits.{Limits}
+use Rattle.names.specs.Names.{Distinct}
 use Rattle.names.specs.Symbols.{Rows, column, rowAt, sortsOf, symbolsOf}
 use Rattle.rules.specs.PatternLaws.{aritiesOf}
 use Rattle.rule_checks.specs.RuleForm.{ruleIn, Inside, RuleFormed}
-use Rattle.loader.specs.Legal.{Distinct, namesOf}
+use Rattle.loader.specs.Legal.{namesOf}
 use Rattle.loader.specs.Holding.{RulesKept}
 
 -- The rules of the first n rows.
