@@ -1,8 +1,13 @@
--- Laws of decisions: one for each way in which a test answers.
-use Prim.Native.Nat.{ℕ, _≤_, _<_}
-use mathlib.Core.Path.{_≡_}
+-- Laws of decisions, one for each way in which a test answers; and of a loop that writes a list.
+use Prim.Native.Nat.{ℕ, _+_, _≤_, _<_}
+use native.Mathlib.Omega.{arith}
+use mathlib.Core.Path.{_≡_, _∙_}
 use mathlib.Core.Bool.{Bool, false, not}
+use mathlib.Core.List.{List}
+use lib.ListN.{length, getD, set}
+use lib.Seq.{getD-set-same, getD-set-other}
 use lib.Dec.{leb, ltb, eqb}
+use borrow.Author.Count.{below-more}
 use borrow.Author.Tests.{not-false, leb-true, le-leb, ltb-true, lt-ltb, eqb-true, eq-eqb}
 use Rattle.unifier.specs.Contracts.{Tells}
 
@@ -22,3 +27,8 @@ by-lt a b f g = record { yes = λ e. f (ltb-true a b e); back = λ p. lt-ltb a b
 
 pub by-eq : {P : Type 0} (a b : ℕ) → (a ≡ b → P) → (P → a ≡ b) → Tells (eqb a b) P
 by-eq a b f g = record { yes = λ e. f (eqb-true a b e); back = λ p. eq-eqb a b (g p) }
+
+-- One entry more is written.
+pub written-next : {A : Type 0} (d : A) (l : List A) (i : ℕ) (f : ℕ → A) → i < length l → ((j : ℕ) → j < i → getD l j d ≡ f j) → (j : ℕ) → j < i + 1 → getD (set l i (f i)) j d ≡ f j
+written-next d l i f b h =
+    below-more (λ j. getD (set l i (f i)) j d ≡ f j) i (λ j m. getD-set-other l i j (f i) d (λ e. omega arith) ∙ h j m) (getD-set-same l i (f i) d b)

@@ -4,8 +4,8 @@ use native.Mathlib.Numerals.{add-one}
 use native.Mathlib.Omega.{arith}
 use mathlib.Core.Path.{_≡_, refl, sym, ap, _∙_, subst}
 use mathlib.Core.List.{List, [], _∷_, _++_, map, map-append}
-use lib.ListN.{length, getD, take, drop, set, List·getD-map}
-use lib.Seq.{getD-set-same, getD-set-other, take-suc, split-at, take-take, getD-take, length-take-le, ext-getD}
+use lib.ListN.{length, getD, take, drop, List·getD-map}
+use lib.Seq.{take-suc, split-at, take-take, getD-take, length-take-le, ext-getD}
 use borrow.Author.Count.{below-more}
 use Rattle.arena.specs.Cells.{WellFormed, cells}
 use Rattle.arena.specs.Copies.{patternRoom}
@@ -117,8 +117,3 @@ arities-of text arities symbols m l b h =
     (λ i k. let j : i < m = omega arith in
     getD-take m arities i 0 j ∙ h i j ∙ sym (List·getD-map (λ (f : Symbol). length (f .inputs)) (symbolsOf text symbols m) i noSymbol
     ∙ ap (λ (f : Symbol). length (f .inputs)) (symbol-at text symbols m l i j) ∙ columns-length (rowAt symbols i) 8 (column (rowAt symbols i) 6)))
-
--- One number more in a column that is written.
-pub column-next : (l : List ℕ) (i : ℕ) (f : ℕ → ℕ) → i < length l → ((j : ℕ) → j < i → getD l j 0 ≡ f j) → (j : ℕ) → j < i + 1 → getD (set l i (f i)) j 0 ≡ f j
-column-next l i f b h =
-    below-more (λ j. getD (set l i (f i)) j 0 ≡ f j) i (λ j m. getD-set-other l i j (f i) 0 (λ e. omega arith) ∙ h j m) (getD-set-same l i (f i) 0 b)

@@ -1,11 +1,11 @@
 -- The parts of the listed form, each decided by a function of its own.
 use Prim.Native.Nat.{ℕ, _+_, _*_, _≤_, _<_}
 use mathlib.Core.Path.{_≡_}
-use mathlib.Core.List.{List}
+use mathlib.Core.List.{List, [], _∷_}
 use lib.ListN.{length}
 use Rattle.words.specs.Lexer.{cappedOf}
 use Rattle.words.specs.declared.Limits.{Limits}
-use Rattle.names.specs.Symbols.{Rows, column, rowAt, sortOf, sortsOf, symbolsOf, sortNumber, symbolNumber}
+use Rattle.names.specs.Symbols.{Rows, column, rowAt}
 use Rattle.rule_checks.specs.RuleForm.{Inside, RuleFormed}
 use Rattle.loader.specs.Holding.{RulesKept}
 use Rattle.signature.specs.Form.{rulesOf, SymbolFormed}
@@ -28,18 +28,10 @@ pub record Counted (limits : Limits) (n m k u : ℕ) : Type 0 where
 abbrev pub SortsInside : List ℕ → Rows → ℕ → Type 0
 SortsInside text sorts n = (i : ℕ) → i < n → Inside text (column (rowAt sorts i) 0) (column (rowAt sorts i) 1)
 
--- Each sort is the first of its name,
-abbrev pub SortsFirst : List ℕ → Rows → ℕ → Type 0
-SortsFirst text sorts n = (i : ℕ) → i < n → sortNumber (sortsOf text sorts n) (sortOf text (rowAt sorts i)) ≡ i
-
--- no sort has the symbol's name, and the symbol is the first of its name,
-pub record SymbolFirst (text : List ℕ) (sorts : Rows) (n : ℕ) (symbols : Rows) (m i : ℕ) : Type 0 where
-  pub other : sortNumber (sortsOf text sorts n) (sortOf text (rowAt symbols i)) ≡ n
-  pub first : symbolNumber (symbolsOf text symbols m) (sortOf text (rowAt symbols i)) ≡ i
-
--- and so for each symbol.
-abbrev pub SymbolsFirst : List ℕ → Rows → ℕ → Rows → ℕ → Type 0
-SymbolsFirst text sorts n symbols m = (i : ℕ) → i < m → SymbolFirst text sorts n symbols m i
+-- The places of the names of m symbols stand behind the first n places, which are kept.
+pub record SymbolsPut (symbols : Rows) (m : ℕ) (before after : Rows) (n : ℕ) : Type 0 where
+  pub below : (i : ℕ) → i < n → rowAt after i ≡ rowAt before i
+  pub here : (i : ℕ) → i < m → rowAt after (n + i) ≡ column (rowAt symbols i) 0 ∷ column (rowAt symbols i) 1 ∷ []
 
 -- A symbol's output, number of inputs and free column,
 pub record NumbersFormed (sorts o inputs f : ℕ) : Type 0 where

@@ -2,7 +2,7 @@
 //
 // The entry point is `check_signature`. It asks nothing of its caller.
 ghost use mathlib.Core.Path.{_≡_};
-ghost use Prim.Native.Nat.{ℕ, _*_, _≤_, _<_};
+ghost use Prim.Native.Nat.{ℕ, _+_, _*_, _≤_, _<_};
 ghost use lib.ListN.{length, getD};
 ghost use Rattle.words.specs.Lexer.{cappedOf};
 ghost use Rattle.names.specs.Names.{Distinct};
@@ -12,7 +12,7 @@ ghost use Rattle.rules.specs.PatternLaws.{aritiesOf};
 ghost use Rattle.rule_checks.specs.RuleForm.{Inside};
 ghost use Rattle.loader.specs.Legal.{namesOf};
 ghost use Rattle.signature.specs.Form.{SymbolFormed, Checked};
-ghost use Rattle.signature.specs.Parts.{Lent, Counted, SortsInside, SortsFirst, SymbolFirst, SymbolsFirst, NumbersFormed, MarkFormed, ClausesFormed, InputFormed, InputsFormed, SymbolsFormed, RulesListed};
+ghost use Rattle.signature.specs.Parts.{Lent, Counted, SortsInside, SymbolsPut, NumbersFormed, MarkFormed, ClausesFormed, InputFormed, InputsFormed, SymbolsFormed, RulesListed};
 use names::SortRow;
 use names::SymbolRow;
 use rule_checks::Verdict;
@@ -22,6 +22,9 @@ use rules::RuleRow;
 const SORTS: usize = 256;
 
 const SYMBOLS: usize = 1024;
+
+// Names of sorts and symbols together.
+const NAMES: usize = SORTS + SYMBOLS;
 
 const RULES: usize = 1024;
 
@@ -102,63 +105,31 @@ fn are_sorts_inside(text: &[u8], sorts: &[SortRow], n: usize) -> bool
     true
 }
 
-// Is each of n sorts the first of its name?
-fn are_sorts_first(text: &[u8], sorts: &[SortRow], n: usize) -> bool
-    requires { ⌜ n ≤ length (now sorts) ⌝ }
-    ensures { λ r. ⌜ Tells r (SortsFirst (now (text .entry)) (now (sorts .entry)) n) ⌝ }
+// Writes the places of the names of n sorts.
+fn put_sorts(sorts: &[SortRow], n: usize, places: &mut [SortRow])
+    requires { ⌜ (n ≤ length (now sorts)) × (n ≤ length (now places)) ⌝ }
+    ensures { λ _. ⌜ ((i : ℕ) → i < n → rowAt (now (places .exit)) i ≡ rowAt (now (sorts .entry)) i) ⌝ }
 {
     let mut i = 0;
     while i < n {
-        let w = names::part(text, sorts[i][0], sorts[i][1]);
-        if names::find_sort(text, sorts, n, w) != i {
-            return false;
-        }
+        places[i] = sorts[i];
         i += 1;
     }
-    true
 }
 
-// Has no sort the name of symbol i, and is it the first symbol of that name?
-fn is_symbol_first(
-    text: &[u8],
-    sorts: &[SortRow],
-    n: usize,
-    symbols: &[SymbolRow],
-    m: usize,
-    i: usize,
-) -> bool
-    requires { ⌜ (n ≤ length (now sorts)) × (m ≤ length (now symbols)) × (i < m) ⌝ }
-    ensures { λ r. ⌜ Tells r (SymbolFirst (now (text .entry)) (now (sorts .entry)) n (now (symbols .entry)) m i) ⌝ }
-{
-    let w = names::part(text, symbols[i][0], symbols[i][1]);
-    if names::find_sort(text, sorts, n, w) != n {
-        return false;
-    }
-    names::find_symbol(text, symbols, m, w) == i
-}
-
-// Is that so of each of m symbols?
-fn are_symbols_first(
-    text: &[u8],
-    sorts: &[SortRow],
-    n: usize,
-    symbols: &[SymbolRow],
-    m: usize,
-) -> bool
-    requires { ⌜ (n ≤ length (now sorts)) × (m ≤ length (now symbols)) ⌝ }
-    ensures { λ r. ⌜ Tells r (SymbolsFirst (now (text .entry)) (now (sorts .entry)) n (now (symbols .entry)) m) ⌝ }
+// Writes those of m symbols behind the first n places.
+fn put_symbols(symbols: &[SymbolRow], m: usize, places: &mut [SortRow], n: usize)
+    requires { ⌜ (m ≤ length (now symbols)) × (n + m ≤ length (now places)) ⌝ }
+    ensures { λ _. ⌜ SymbolsPut (now (symbols .entry)) m (now (places .entry)) (now (places .exit)) n ⌝ }
 {
     let mut i = 0;
     while i < m {
-        if !is_symbol_first(text, sorts, n, symbols, m, i) {
-            return false;
-        }
+        places[n + i] = [symbols[i][0], symbols[i][1]];
         i += 1;
     }
-    true
 }
 
-// Does no name serve twice among sorts and symbols? Each is searched among all, so the cost is at most the square of the number of names times their length.
+// Does no name serve twice among sorts and symbols? Their places are sorted by their names: for k names at most k times log2 k comparisons, each at most as long as the shorter name.
 fn are_names_distinct(
     text: &[u8],
     sorts: &[SortRow],
@@ -166,13 +137,14 @@ fn are_names_distinct(
     symbols: &[SymbolRow],
     m: usize,
 ) -> bool
-    requires { ⌜ (n ≤ length (now sorts)) × (m ≤ length (now symbols)) ⌝ }
+    requires { ⌜ (n ≤ length (now sorts)) × (m ≤ length (now symbols)) × (n ≤ 256) × (m ≤ 1024) ⌝ }
     ensures { λ r. ⌜ Tells r (Distinct (namesOf (sortsOf (now (text .entry)) (now (sorts .entry)) n) (symbolsOf (now (text .entry)) (now (symbols .entry)) m))) ⌝ }
 {
-    if !are_sorts_first(text, sorts, n) {
-        return false;
-    }
-    are_symbols_first(text, sorts, n, symbols, m)
+    let mut places = [[0u32; 2]; NAMES];
+    let mut spare = [[0u32; 2]; NAMES];
+    put_sorts(sorts, n, &mut places);
+    put_symbols(symbols, m, &mut places, n);
+    distinct::are_distinct(text, &mut places, &mut spare, n + m)
 }
 
 // Are a symbol's output, number of inputs and free column in form?

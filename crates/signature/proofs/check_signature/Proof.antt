@@ -40,7 +40,7 @@ are-names-distinct-requires c κs =
     let if2 = c .before .before .before .before .if2 in
     let lent = holds (is-lent .ensures) (if1 .left) in
     let counted = holds (is-counted .ensures) (if2 .left) in
-    (sorts-there lent counted, symbols-there lent counted)
+    (sorts-there lent counted, symbols-there lent counted, counted .fewSorts, counted .fewSymbols)
 
 returns-4 : tie.Need-returns-4
 returns-4 c = checked (tells-no (λ h. tells-false (c .before .are-names-distinct .ensures) (not-true _ (c .if4 .taken)) (h .distinct)))

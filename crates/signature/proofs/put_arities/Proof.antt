@@ -2,7 +2,7 @@
 use Rattle.names.specs.Symbols.{column, rowAt}
 use Prim.Native.Nat.{ℕ, _≤_, _<_, _-_}
 use lib.ListN.{length, getD, length-set}
-use Rattle.signature.proofs.RuleLaws.{column-next}
+use Rattle.signature.proofs.Laws.{written-next}
 use mathlib.Core.Path.{_≡_, refl, _∙_}
 use borrow.Author.Needs.{needs}
 use native.Mathlib.Omega.{arith}
@@ -46,7 +46,7 @@ loop-again c =
       omega arith,
       length-set (loop .arities) (loop .i) _
           ∙ (loop .inv .1),
-      column-next (loop .arities) (loop .i) (λ j. column (rowAt (args .symbols .now) j) 6) (omega (arith, (loop .inv .1))) (loop .inv .2),
+      written-next 0 (loop .arities) (loop .i) (λ j. column (rowAt (args .symbols .now) j) 6) (omega (arith, (loop .inv .1))) (loop .inv .2),
     )
 
 same-length : tie.Need-same-length Inv-loop μ-loop
