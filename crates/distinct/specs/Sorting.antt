@@ -14,10 +14,11 @@ use Rattle.distinct.specs.declared.Order.the-variants.{Before, Same, Aft
 unfoldable pub nameAt : List ℕ → Rows → ℕ → Name
 nameAt text rows i = sortOf text (rowAt rows i)
 
--- How many of the first k names are w.
+-- 1 for the same name, 0 for another.
 unfoldable pub once : Name → Name → ℕ
 once v w = cond (sameBytes v w) 1 0
 
+-- How many of the first k names are w.
 unfoldable pub tally : (ℕ → Name) → Name → ℕ → ℕ
 tally f w zero = 0
 tally f w (suc k) = once (f k) w + tally f w k

@@ -12,7 +12,7 @@ ghost use Rattle.distinct.specs.Sorting.{nameAt, Ascending, Next, Sorted
 use names::SortRow;
 
 // How two names stand to each other.
-pub enum Order {
+enum Order {
     Before,
     Same,
     After,
@@ -41,7 +41,7 @@ fn compare(v: &[u8], w: &[u8]) -> Order
     Order::Same
 }
 
-// Which of two runs has the next name: the one whose rows are left from i on and before `middle`, or the one from j on and before `to`?
+// Which of two runs has the next name: the first, left from i on and before `middle` (`Before`), the second, left from j on and before `to` (`After`), or both (`Same`)?
 fn next_run(text: &[u8], rows: &[SortRow], i: usize, middle: usize, j: usize, to: usize) -> Order
     requires { ⌜ (i ≤ middle) × (j ≤ to) × (i + j < middle + to) × (middle ≤ length (now rows)) × (to ≤ length (now rows)) ⌝ }
     ensures { λ r. ⌜ Next (nameAt (now (text .entry)) (now (rows .entry))) i middle j to r ⌝ }

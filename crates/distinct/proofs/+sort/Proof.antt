@@ -1,11 +1,10 @@
 -- `sort` meets its contract: the part to sort gets shorter. Its halves are sorted one after the other, copied, and merged.
-use Prim.Native.Nat.{_-_}
+use Prim.Native.Nat.{ℕ, _-_, _<_}
 use mathlib.Core.Path.{_∙_}
 use borrow.Author.Needs.{needs}
 use borrow.Author.Tests.{not-true, not-false}
 use native.Mathlib.Omega.{arith}
 use Rattle.distinct.proofs.SortLaws.{copied-names, sorted-short, sorted-first, sorted-second, first-run, second-run, sorted-all}
-use Prim.Native.Nat.{ℕ, _<_}
 use borrow.Fn.Kinds.{In}
 use borrow.Fn.PlainCycle.{Measures, is, falls, and}
 use Rattle.distinct.proofs.sort.Reads as sort
