@@ -12,7 +12,7 @@ use Rattle.terms.specs.Numbers.{by-same}
 use Rattle.words.specs.Lexer.{partOf}
 use Rattle.names.specs.Names.{Name}
 use Rattle.names.specs.Symbols.{Rows, Symbol, column, rowAt, sortOf, sortsOf, symbolsOf}
-use Rattle.names.specs.SearchLaws.{table-more}
+use Rattle.names.specs.SearchLaws.{table-more, sorts-length}
 use Rattle.rules.specs.PatternLaws.{aritiesOf}
 use Rattle.loader.specs.Signature.{Signature, no, on, unless, isTaken, sortRefusal, enterSort, enterSymbol, Numbers, unknown, numbers, numbersOf}
 use Rattle.loader.specs.Legal.{Legal}
@@ -23,7 +23,6 @@ use Rattle.loader.specs.Holding.{rules-grow}
 use Rattle.loader.specs.Arrows.{namesAt}
 use Rattle.loader.specs.SymbolRows.{SymbolShaped, row-placed, row-shaped, row-means, symbols-more}
 use Rattle.loader.specs.SymbolEntry.{inputsOf, outputOf, symbolNamed, arrowRefusal, SymbolEntered}
-use Rattle.loader.proofs.EntryLaws.{sorts-length}
 use Rattle.loader.proofs.SymbolLaws.{not-refused}
 use Rattle.patterns.proofs.Terms.{symbols-length}
 use Rattle.rule_checks.specs.RuleForm.{Inside}

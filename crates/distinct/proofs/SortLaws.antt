@@ -11,7 +11,7 @@ use Rattle.terms.specs.Numbers.{by-bool, true-false}
 use Rattle.unifier.specs.Contracts.{Tells}
 use Rattle.names.specs.Names.{Name, Distinct}
 use Rattle.names.specs.Symbols.{Rows, rowAt, sortOf, sortsOf}
-use Rattle.names.specs.SearchLaws.{table-length, table-at, getD-any}
+use Rattle.names.specs.SearchLaws.{table-at, getD-any, sorts-length}
 use Rattle.distinct.specs.Sorting.{nameAt, tally, Ascending, SameNames, Repeated, Sorted}
 use Rattle.distinct.proofs.TallyLaws.{tally-grows, counted-two, agreeing, two-places, ascending-differ}
 
@@ -101,8 +101,7 @@ module _ {f f₁ f₂ : ℕ → Name} {from middle to : ℕ} {r s : Bool} (a : f
 -- The names of n rows.
 module _ (text : List ℕ) (rows : Rows) (n : ℕ) (lent : n ≤ length rows) where
   names-length : length (sortsOf text rows n) ≡ n
-  unfolding sortsOf
-  names-length = table-length (sortOf text) rows n lent
+  names-length = sorts-length text rows n lent
 
   name-at : (i : ℕ) → i < n → getD (sortsOf text rows n) i [] ≡ nameAt text rows i
   unfolding sortsOf nameAt

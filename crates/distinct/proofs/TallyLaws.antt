@@ -8,7 +8,7 @@ use Rattle.terms.specs.Numbers.{by-bool, by-less, true-false}
 use Rattle.words.specs.Bytes.{sameBytes}
 use Rattle.words.specs.ByteLaws.{same-is}
 use Rattle.names.specs.Names.{Name}
-use Rattle.names.specs.SearchLaws.{same-itself}
+use Rattle.words.specs.ByteLaws.{same-itself}
 use Rattle.distinct.specs.Order.{isBefore}
 use Rattle.distinct.specs.Sorting.{once, tally, Ascending, SameNames, Repeated}
 use Rattle.distinct.proofs.OrderLaws.{before-itself, before-trans}

@@ -41,7 +41,8 @@ fn compare(v: &[u8], w: &[u8]) -> Order
     Order::Same
 }
 
-// Which of two runs has the next name: the first, left from i on and before `middle` (`Before`), the second, left from j on and before `to` (`After`), or both (`Same`)?
+// Which of two runs has the next name: the first, left from i on and before `middle` (`Before`), the second, left from j on and before `to` (`After`),
+// or both (`Same`)?
 fn next_run(text: &[u8], rows: &[SortRow], i: usize, middle: usize, j: usize, to: usize) -> Order
     requires { ⌜ (i ≤ middle) × (j ≤ to) × (i + j < middle + to) × (middle ≤ length (now rows)) × (to ≤ length (now rows)) ⌝ }
     ensures { λ r. ⌜ Next (nameAt (now (text .entry)) (now (rows .entry))) i middle j to r ⌝ }
@@ -122,7 +123,8 @@ fn sort(text: &[u8], places: &mut [SortRow], spare: &mut [SortRow], from: usize,
     merge(text, spare, places, from, middle, to)
 }
 
-// Do n names, whose places are listed, all differ? The places are sorted by their names: at most n times log2 n comparisons, each of which reads no more bytes than the shorter name has.
+// Do n names, whose places are listed, all differ? The places are sorted by their names: at most n times log2 n comparisons, each of which reads no more
+// bytes than the shorter name has.
 pub fn are_distinct(text: &[u8], places: &mut [SortRow], spare: &mut [SortRow], n: usize) -> bool
     requires { ⌜ (n ≤ length (now places)) × (n ≤ length (now spare)) ⌝ }
     ensures { λ r. ⌜ Tells r (Distinct (sortsOf (now (text .entry)) (now (places .entry)) n)) ⌝ }

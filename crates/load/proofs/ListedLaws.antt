@@ -13,7 +13,7 @@ use Rattle.resolution.specs.Rules.{Rule}
 use Rattle.words.specs.Lexer.{cappedOf}
 use Rattle.words.specs.declared.Limits.{Limits}
 use Rattle.names.specs.Symbols.{Rows, Symbol, column, columns, rowAt, sortOf, symbolOf, sortsOf, symbolsOf, symbolAt}
-use Rattle.names.specs.SearchLaws.{columns-length, columns-at}
+use Rattle.names.specs.SearchLaws.{columns-length, columns-at, sorts-length}
 use Rattle.patterns.proofs.Terms.{symbol-at, symbols-length}
 use Rattle.rules.specs.StoredRows.{Kept}
 use Rattle.rules.specs.PatternLaws.{aritiesOf}
@@ -23,7 +23,6 @@ use Rattle.loader.specs.Signature.{Signature}
 use Rattle.loader.specs.Legal.{SymbolLegal, RuleLegal, noRule}
 use Rattle.loader.specs.Holding.{RulesKept, rules-same}
 use Rattle.loader.specs.SymbolRows.{SymbolShaped}
-use Rattle.loader.proofs.EntryLaws.{sorts-length}
 use Rattle.signature.specs.Form.{rulesOf, SymbolFormed, Listed}
 use Rattle.declarations.specs.Held.{NamesHeld, RulesHeld, Held}
 use Rattle.declarations.specs.declared.State.{State}

@@ -11,11 +11,11 @@ use borrow.Author.Tests.{lt-ltb, le-ltb, leb-true, leb-false}
 use Rattle.words.specs.Lexer.{partOf}
 use Rattle.names.specs.Names.{Name}
 use Rattle.names.specs.Symbols.{Rows, column, rowAt, sortNumber, sortsOf}
+use Rattle.names.specs.SearchLaws.{sorts-length}
 use Rattle.patterns.specs.Patterns.{when}
 use Rattle.loader.specs.Signature.{Numbers, unknown, numbers, prepend, numbersOf, lastOf}
 use Rattle.loader.specs.Arrows.{namesAt, Arrowing}
 use Rattle.loader.specs.declared.Arrow.the-variants.{Unknown, Known}
-use Rattle.loader.proofs.EntryLaws.{sorts-length}
 
 -- The name in a row.
 abbrev pub nameAt : List ℕ → Rows → ℕ → Name

@@ -7,14 +7,10 @@ use lib.Dec.{ltb}
 use lib.ListN.{length}
 use borrow.Author.Tests.{lt-ltb, le-ltb}
 use Rattle.names.specs.Names.{Name}
-use Rattle.names.specs.Symbols.{Rows, Symbol, sortOf, sortsOf, symbolsOf, sortNumber, symbolNumber}
-use Rattle.names.specs.SearchLaws.{table-length}
+use Rattle.names.specs.Symbols.{Rows, Symbol, sortsOf, symbolsOf, sortNumber, symbolNumber}
+use Rattle.names.specs.SearchLaws.{sorts-length}
 use Rattle.patterns.proofs.Terms.{symbols-length}
 use Rattle.loader.specs.Signature.{isTaken, sortRefusal, symbolRefusal}
-
-pub sorts-length : (text : List ℕ) (rows : Rows) (n : ℕ) → n ≤ length rows → length (sortsOf text rows n) ≡ n
-unfolding sortsOf
-sorts-length text rows n h = table-length (sortOf text) rows n h
 
 stop : (t : Bool) (x y : ℕ) → t ≡ true → cond t x y ≡ x
 stop t x y e = rw e

@@ -12,7 +12,7 @@ use Rattle.terms.specs.Numbers.{by-bool, by-less, by-same, or-false}
 use Rattle.words.specs.Bytes.{sameBytes}
 use Rattle.names.specs.Names.{Name, Distinct, find}
 use Rattle.names.specs.Symbols.{Symbol, sortNumber, symbolNumber, noSymbol}
-use Rattle.names.specs.SearchLaws.{same-itself}
+use Rattle.words.specs.ByteLaws.{same-itself}
 use Rattle.loader.specs.Signature.{isTaken}
 use Rattle.loader.specs.Legal.{namesOf}
 

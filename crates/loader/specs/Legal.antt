@@ -4,7 +4,7 @@ use Prim.Native.Nat.{ℕ, _+_, _≤_, _<_}
 use mathlib.Core.Path.{_≡_}
 use mathlib.Core.List.{List, [], _++_, map}
 use lib.ListN.{length, getD}
-use Rattle.terms.specs.Term.{Below, count, var, nil}
+use Rattle.terms.specs.Term.{count, var, nil}
 use Rattle.resolution.specs.Rules.{Rule}
 use Rattle.resolution.specs.Fresh.{met}
 use Rattle.resolution.specs.Search.{words}

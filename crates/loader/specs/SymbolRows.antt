@@ -1,14 +1,14 @@
 -- Laws of a symbol's row: what it means, and its shape.
-use mathlib.Core.Path.{_≡_, refl, sym, ap, ap₂, _∙_}
+use mathlib.Core.Path.{_≡_, sym, ap, ap₂, _∙_}
 use mathlib.Core.List.{List, [], _∷_, _++_}
-use Prim.Native.Nat.{ℕ, zero, suc, _+_, _≤_, _<_}
+use Prim.Native.Nat.{ℕ, _+_, _≤_, _<_}
 use native.Mathlib.Omega.{arith}
-use lib.ListN.{length, getD, set, replicate}
+use lib.ListN.{length, set}
 use lib.Seq.{getD-drop}
 use Rattle.words.specs.Lexer.{partOf}
 use Rattle.arena.specs.NodeLaws.{sets-below, sets-within, sets-past}
 use Rattle.names.specs.Symbols.{Rows, column, columns, symbolOf, symbolsOf}
-use Rattle.names.specs.SearchLaws.{table-more}
+use Rattle.names.specs.SearchLaws.{table-more, columns-are, zero-at}
 use Rattle.loader.specs.Rows.{symbolRow}
 
 -- The shape of a row: at most 16 inputs, and zero past them.
@@ -16,21 +16,6 @@ pub record SymbolShaped (row : List ℕ) : Type 0 where
   pub few : column row 6 ≤ 16
   pub clear : (j : ℕ) → column row 6 ≤ j → j < 16 → column row (8 + j) ≡ 0
   pub free : column row 7 ≡ 0
-
--- Columns that hold some values.
-columns-are : (row vs : List ℕ) (j : ℕ) → ((k : ℕ) → k < length vs → column row (j + k) ≡ getD vs k 0) → columns row j (length vs) ≡ vs
-unfolding columns
-columns-are row [] j h = refl
-columns-are row (v ∷ vs) j h =
-    let z : j + 0 ≡ j = omega arith in
-    let a : column row (j + 0) ≡ v = h 0 (omega arith) in
-    ap₂ (λ (x : ℕ) (xs : List ℕ). x ∷ xs) (rw z at a)
-    (columns-are row vs (suc j) (λ k l. let e : j + suc k ≡ suc j + k = omega arith in let b : column row (j + suc k) ≡ getD vs k 0 = h (suc k) (omega arith) in rw e at b))
-
-zero-at : (n k : ℕ) → _≡_ {A = ℕ} (getD (replicate n 0) k 0) 0
-zero-at zero k = refl
-zero-at (suc n) zero = refl
-zero-at (suc n) (suc k) = zero-at n k
 
 module _ (start size output function first clauses : ℕ) (inputs : List ℕ) (few : length inputs ≤ 16) where
   abbrev line : List ℕ

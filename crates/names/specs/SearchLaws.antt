@@ -1,22 +1,15 @@
 -- Searching the first n rows of a table by name, row by row, for every way of reading a row; and columns of a row.
-use mathlib.Core.Path.{_≡_, refl, ap, _∙_}
+use mathlib.Core.Path.{_≡_, refl, ap, ap₂, _∙_}
 use mathlib.Core.Bool.{Bool, true, false, cond}
 use mathlib.Core.List.{List, [], _∷_, _++_, map}
 use Prim.Native.Nat.{ℕ, zero, suc, _+_, _≤_, _<_}
 use native.Mathlib.Numerals.{add-one}
 use native.Mathlib.Omega.{arith}
-use lib.ListN.{length, getD, drop, take, set, List·getD-map, drop-of-length-le}
+use lib.ListN.{length, getD, drop, take, set, replicate, List·getD-map, drop-of-length-le}
 use lib.Seq.{drop-cons, getD-take, length-take-le, take-set-lt, take-suc-set}
-use borrow.Author.Tests.{eq-eqb}
 use Rattle.words.specs.Bytes.{sameBytes}
 use Rattle.names.specs.Names.{Name, find}
-use Rattle.names.specs.Symbols.{Rows, rowAt, column, columns}
-
--- A name is the same as itself.
-pub same-itself : (v : Name) → sameBytes v v ≡ true
-unfolding sameBytes
-same-itself [] = refl
-same-itself (a ∷ v) = rw (eq-eqb a a refl) (same-itself v)
+use Rattle.names.specs.Symbols.{Rows, rowAt, column, columns, sortOf, sortsOf}
 
 -- A search from the front.
 module _ {A : Type 0} (name : A → Name) (xs : List A) (w : Name) (d : A) where
@@ -52,6 +45,10 @@ module _ {A : Type 0} (f : List ℕ → A) (rows : Rows) (n : ℕ) (h : n ≤ le
 
   pub table-at : (i : ℕ) → i < n → getD (map f (take n rows)) i (f []) ≡ f (rowAt rows i)
   table-at i l = List·getD-map f (take n rows) i [] ∙ ap f (getD-take n rows i [] l)
+
+pub sorts-length : (text : List ℕ) (rows : Rows) (n : ℕ) → n ≤ length rows → length (sortsOf text rows n) ≡ n
+unfolding sortsOf
+sorts-length text rows n h = table-length (sortOf text) rows n h
 
 -- The search in a table: i rows are passed.
 module _ {A : Type 0} (f : List ℕ → A) (name : A → Name) (rows : Rows) (n : ℕ) (h : n ≤ length rows) (w : Name) (i : ℕ)
@@ -107,3 +104,18 @@ unfolding columns
 columns-at row j zero k h = absurd (omega arith)
 columns-at row j (suc n) zero h = let e : j + 0 ≡ j = omega arith in rw e
 columns-at row j (suc n) (suc k) h = let e : j + suc k ≡ suc j + k = omega arith in rw e (columns-at row (suc j) n k (omega arith))
+
+-- Columns that hold some values.
+pub columns-are : (row vs : List ℕ) (j : ℕ) → ((k : ℕ) → k < length vs → column row (j + k) ≡ getD vs k 0) → columns row j (length vs) ≡ vs
+unfolding columns
+columns-are row [] j h = refl
+columns-are row (v ∷ vs) j h =
+    let z : j + 0 ≡ j = omega arith in
+    let a : column row (j + 0) ≡ v = h 0 (omega arith) in
+    ap₂ (λ (x : ℕ) (xs : List ℕ). x ∷ xs) (rw z at a)
+    (columns-are row vs (suc j) (λ k l. let e : j + suc k ≡ suc j + k = omega arith in let b : column row (j + suc k) ≡ getD vs k 0 = h (suc k) (omega arith) in rw e at b))
+
+pub zero-at : (n k : ℕ) → _≡_ {A = ℕ} (getD (replicate n 0) k 0) 0
+zero-at zero k = refl
+zero-at (suc n) zero = refl
+zero-at (suc n) (suc k) = zero-at n k

@@ -21,17 +21,11 @@ const ROOM: u32 = 64;
 // The most words that the terms of a rule take: 2 for each of 1,024 nodes.
 const MOST: u32 = 2048;
 
-// Whether a name at a place lies inside the text.
-fn is_inside(text: &[u8], start: u32, size: u32) -> bool
+// Does a place lie inside the text?
+pub fn is_inside(text: &[u8], start: u32, size: u32) -> bool
     ensures { λ r. ⌜ Tells r (Inside (now (text .entry)) start size) ⌝ }
 {
-    if text.len() < start as usize {
-        return false;
-    }
-    if text.len() - (start as usize) < size as usize {
-        return false;
-    }
-    true
+    start as usize + size as usize <= text.len()
 }
 
 // Whether the words of premises and conclusion are few, and no more than are left.

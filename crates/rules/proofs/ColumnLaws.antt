@@ -1,28 +1,14 @@
 -- Laws of a rule's row: what stands in its columns.
-use mathlib.Core.Path.{_≡_, refl, ap₂, _∙_}
-use mathlib.Core.List.{List, [], _∷_}
-use Prim.Native.Nat.{ℕ, zero, suc, _+_, _≤_, _<_}
+use mathlib.Core.Path.{_≡_, _∙_}
+use mathlib.Core.List.{List}
+use Prim.Native.Nat.{ℕ, _+_, _≤_, _<_}
 use native.Mathlib.Omega.{arith}
 use lib.ListN.{length, getD, replicate, length-replicate}
 use lib.Seq.{sets, length-sets}
 use Rattle.arena.specs.NodeLaws.{sets-below, sets-within, sets-past}
 use Rattle.names.specs.Symbols.{column, columns}
+use Rattle.names.specs.SearchLaws.{columns-are, zero-at}
 use Rattle.rules.specs.StoredRows.{ruleRow}
-
--- Columns that hold some values.
-pub columns-are : (row vs : List ℕ) (j : ℕ) → ((k : ℕ) → k < length vs → column row (j + k) ≡ getD vs k 0) → columns row j (length vs) ≡ vs
-unfolding columns
-columns-are row [] j h = refl
-columns-are row (v ∷ vs) j h =
-    let z : j + 0 ≡ j = omega arith in
-    let a : column row (j + 0) ≡ v = h 0 (omega arith) in
-    ap₂ (λ (x : ℕ) (xs : List ℕ). x ∷ xs) (rw z at a)
-    (columns-are row vs (suc j) (λ k l. let e : j + suc k ≡ suc j + k = omega arith in let b : column row (j + suc k) ≡ getD vs k 0 = h (suc k) (omega arith) in rw e at b))
-
-zero-at : (n k : ℕ) → _≡_ {A = ℕ} (getD (replicate n 0) k 0) 0
-zero-at zero k = refl
-zero-at (suc n) zero = refl
-zero-at (suc n) (suc k) = zero-at n k
 
 module _ (numbers heads sorts places : List ℕ) (ten : length numbers ≡ 10) (few : length heads ≤ 16) (some : length sorts ≤ 64) (as-many : length places ≤ 64) where
   abbrev Z : List ℕ

@@ -9,7 +9,6 @@ ghost use Rattle.names.specs.Names.{Distinct};
 ghost use Rattle.names.specs.Symbols.{column, rowAt, sortsOf, symbolsOf};
 ghost use Rattle.unifier.specs.Contracts.{Tells};
 ghost use Rattle.rules.specs.PatternLaws.{aritiesOf};
-ghost use Rattle.rule_checks.specs.RuleForm.{Inside};
 ghost use Rattle.loader.specs.Legal.{namesOf};
 ghost use Rattle.signature.specs.Form.{SymbolFormed, Checked};
 ghost use Rattle.signature.specs.Parts.{Lent, Counted, SortsInside, SymbolsPut, NumbersFormed, MarkFormed, ClausesFormed, InputFormed, InputsFormed, SymbolsFormed, RulesListed};
@@ -83,13 +82,6 @@ fn is_counted(limits: words::Limits, counts: Counts) -> bool
     counts.words as usize <= most_words(limits)
 }
 
-// Does a place lie inside the text?
-fn is_inside(text: &[u8], start: u32, size: u32) -> bool
-    ensures { λ r. ⌜ Tells r (Inside (now (text .entry)) start size) ⌝ }
-{
-    start as usize + size as usize <= text.len()
-}
-
 // Are the names of the first n sorts in the text?
 fn are_sorts_inside(text: &[u8], sorts: &[SortRow], n: usize) -> bool
     requires { ⌜ n ≤ length (now sorts) ⌝ }
@@ -97,7 +89,7 @@ fn are_sorts_inside(text: &[u8], sorts: &[SortRow], n: usize) -> bool
 {
     let mut i = 0;
     while i < n {
-        if !is_inside(text, sorts[i][0], sorts[i][1]) {
+        if !rule_checks::is_inside(text, sorts[i][0], sorts[i][1]) {
             return false;
         }
         i += 1;
@@ -222,7 +214,7 @@ fn is_symbol_formed(text: &[u8], sorts: u32, rules: u32, symbols: &[SymbolRow], 
     requires { ⌜ i < length (now symbols) ⌝ }
     ensures { λ r. ⌜ Tells r (SymbolFormed (now (text .entry)) sorts rules (rowAt (now (symbols .entry)) i)) ⌝ }
 {
-    if !is_inside(text, symbols[i][0], symbols[i][1]) {
+    if !rule_checks::is_inside(text, symbols[i][0], symbols[i][1]) {
         return false;
     }
     if !are_numbers_formed(sorts, symbols[i][2], symbols[i][6], symbols[i][7]) {

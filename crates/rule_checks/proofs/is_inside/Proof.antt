@@ -1,22 +1,20 @@
--- `is_inside` meets its contract: it tells whether a name lies inside the text.
--- No sum of a place and a size is made, so that none can wrap.
-use Rattle.unifier.specs.Checking.{tells-yes, tells-no}
+-- `is_inside` meets its contract: the sum is computed in 64 bits, so it does not wrap.
+use Prim.Native.Nat.{_+_}
+use lib.ListN.{length}
+use borrow.Author.Tests.{leb-true, le-leb}
 use borrow.Author.Needs.{needs}
-use native.Mathlib.Omega.{arith}
 use Rattle.rule_checks.proofs.is_inside.Statement.{statement}
 use Rattle.rule_checks.proofs.is_inside.Tie as tie
 
+add-result : tie.Need-add-result
+add-result c = search needs
+
 returns : tie.Need-returns
-returns c = tells-no (λ h. omega arith)
-
-sub-if2 : tie.Need-sub-if2
-sub-if2 c = search needs
-
-returns-2 : tie.Need-returns-2
-returns-2 c = tells-no (λ h. omega arith)
-
-returns-3 : tie.Need-returns-3
-returns-3 c = tells-yes (omega arith)
+returns c =
+    record {
+      yes = leb-true ((c .args .start) + (c .args .size)) (length (c .args .text .now));
+      back = le-leb ((c .args .start) + (c .args .size)) (length (c .args .text .now));
+    }
 
 pub is-inside-spec : {M : Type 1} → statement M
-is-inside-spec = tie.close (tie.spec returns sub-if2 returns-2 returns-3)
+is-inside-spec = tie.close (tie.spec add-result returns)
