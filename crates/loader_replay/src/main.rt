@@ -1,7 +1,5 @@
 // Replays a recorded list of texts: loads each and lists the signature, for comparison with the recorded answers, and tests what the lent buffers hold
 // afterwards. A test that fails writes a line that begins with `wrong`.
-mod buffers; // what the lent buffers hold before and after
-mod damage; // damaged signatures, which must be refused
 mod signatures; // stored signatures, listed
 
 use listing::recorded;
@@ -13,6 +11,8 @@ use parser::Answer;
 use patterns::TermRow;
 use rules::RuleRow;
 use signature::Counts;
+use signature_tests::buffers;
+use signature_tests::damage;
 use words::Limits;
 ghost use Prim.Native.Nat.{_+_, _^_, _≤_, _<_};
 

@@ -1,2 +1,0 @@
--- What the proofs of `loader_replay` share.
-pub mod Laws

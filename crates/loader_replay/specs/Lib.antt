@@ -1,3 +1,0 @@
--- What the contracts of `loader_replay` cite.
-pub mod Rows
-pub mod Damage

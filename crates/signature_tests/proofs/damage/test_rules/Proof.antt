@@ -1,0 +1,65 @@
+-- `test_rules` is safe and ends.
+-- The loop's invariant: i is within the storage, whose length stays.
+use mathlib.Core.Path.{_≡_}
+use Prim.Native.Nat.{_≤_, _-_}
+use lib.ListN.{length}
+use borrow.Author.Needs.{needs}
+use Rattle.signature_tests.proofs.damage.test_rules.Statement.{statement}
+use Rattle.signature_tests.proofs.damage.test_rules.Tie as tie
+
+abbrev Inv-loop : tie.InvT-loop
+Inv-loop text limits sorts symbols rules₀ words counts count i₀ rules i = (i ≤ length rules₀) × (length rules ≡ length rules₀)
+
+abbrev μ-loop : tie.MeasureT-loop
+μ-loop text limits sorts symbols rules₀ words counts count i₀ rules i = length rules₀ - i
+
+cast-count : tie.Need-cast-count Inv-loop μ-loop
+cast-count c = search needs
+
+loop-holds : tie.Need-loop-holds Inv-loop μ-loop
+loop-holds c = search needs
+
+same-length : tie.Need-same-length Inv-loop μ-loop
+same-length c = search needs
+
+returns : tie.Need-returns Inv-loop μ-loop
+returns c = search needs
+
+test-variables-requires : tie.Need-test-variables-requires Inv-loop μ-loop
+test-variables-requires c κs = search needs
+
+test-premise-requires : tie.Need-test-premise-requires Inv-loop μ-loop
+test-premise-requires c κs = search needs
+
+add-i : tie.Need-add-i Inv-loop μ-loop
+add-i c = search needs
+
+loop-less : tie.Need-loop-less Inv-loop μ-loop
+loop-less c = search needs
+
+loop-again : tie.Need-loop-again Inv-loop μ-loop
+loop-again c = search needs
+
+same-length-2 : tie.Need-same-length-2 Inv-loop μ-loop
+same-length-2 c = search needs
+
+returns-2 : tie.Need-returns-2 Inv-loop μ-loop
+returns-2 c = search needs
+
+pub test-rules-spec : {M : Type 1} → statement M
+test-rules-spec =
+    tie.close
+    (tie.spec
+    Inv-loop
+    μ-loop
+    cast-count
+    loop-holds
+    same-length
+    returns
+    test-variables-requires
+    test-premise-requires
+    add-i
+    loop-less
+    loop-again
+    same-length-2
+    returns-2)

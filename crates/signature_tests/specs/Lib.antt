@@ -1,0 +1,3 @@
+-- What the contracts of `signature_tests` cite.
+pub mod Rows
+pub mod Damage

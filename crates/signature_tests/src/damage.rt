@@ -1,0 +1,399 @@
+// Damaged signatures, which `check_signature` must refuse: in a stored one that it accepts a single number is changed, and then put back.
+use crate::buffers;
+use load::Loading;
+use names::SortRow;
+use names::SymbolRow;
+use rules::RuleRow;
+use signature::Counts;
+use words::Limits;
+ghost use mathlib.Core.Path.{_≡_};
+ghost use Prim.Native.Nat.{_<_};
+ghost use lib.ListN.{length, set};
+ghost use Rattle.signature.specs.Form.{Checked};
+ghost use Rattle.signature_tests.specs.Damage.{changed};
+
+// Neither a header nor a reference.
+const NO_WORD: u32 = 0xFFFF_FFFF;
+
+// Where references to nodes start.
+const FIRST_NODE: u32 = 64;
+
+// The columns that are changed: of a name its place, of a symbol its output, of a rule its number of variables and its first premise.
+const PLACE: usize = 0;
+
+const OUTPUT: usize = 2;
+
+const VARIABLES: usize = 3;
+
+const FIRST_PREMISE: usize = 10;
+
+// Is the signature accepted with another number in the row of a sort? The storage is left as it was.
+fn is_taken_with_sort(
+    text: &[u8],
+    limits: Limits,
+    sorts: &mut [SortRow],
+    symbols: &[SymbolRow],
+    rules: &[RuleRow],
+    words: &[u32],
+    counts: Counts,
+    i: usize,
+    column: usize,
+    value: u32,
+) -> bool
+    requires { ⌜ (i < length (now sorts)) × (column < 2) ⌝ }
+    ensures { λ r. ⌜ Checked (now (text .entry)) limits (changed (now (sorts .entry)) i column value) (now (symbols .entry)) (now (rules .entry)) (now (words .entry)) (counts .sorts) (counts .symbols) (counts .rules) (counts .words) r × (now (sorts .exit) ≡ now (sorts .entry)) ⌝ }
+{
+    let kept = sorts[i];
+    sorts[i][column] = value;
+    let taken = signature::check_signature(text, limits, sorts, symbols, rules, words, counts);
+    sorts[i] = kept;
+    taken
+}
+
+// Is the signature accepted with another number in the row of a symbol? The storage is left as it was.
+fn is_taken_with_symbol(
+    text: &[u8],
+    limits: Limits,
+    sorts: &[SortRow],
+    symbols: &mut [SymbolRow],
+    rules: &[RuleRow],
+    words: &[u32],
+    counts: Counts,
+    i: usize,
+    column: usize,
+    value: u32,
+) -> bool
+    requires { ⌜ (i < length (now symbols)) × (column < 24) ⌝ }
+    ensures { λ r. ⌜ Checked (now (text .entry)) limits (now (sorts .entry)) (changed (now (symbols .entry)) i column value) (now (rules .entry)) (now (words .entry)) (counts .sorts) (counts .symbols) (counts .rules) (counts .words) r × (now (symbols .exit) ≡ now (symbols .entry)) ⌝ }
+{
+    let kept = symbols[i];
+    symbols[i][column] = value;
+    let taken = signature::check_signature(text, limits, sorts, symbols, rules, words, counts);
+    symbols[i] = kept;
+    taken
+}
+
+// Is the signature accepted with another number in the row of a rule? The storage is left as it was.
+fn is_taken_with_rule(
+    text: &[u8],
+    limits: Limits,
+    sorts: &[SortRow],
+    symbols: &[SymbolRow],
+    rules: &mut [RuleRow],
+    words: &[u32],
+    counts: Counts,
+    i: usize,
+    column: usize,
+    value: u32,
+) -> bool
+    requires { ⌜ (i < length (now rules)) × (column < 154) ⌝ }
+    ensures { λ r. ⌜ Checked (now (text .entry)) limits (now (sorts .entry)) (now (symbols .entry)) (changed (now (rules .entry)) i column value) (now (words .entry)) (counts .sorts) (counts .symbols) (counts .rules) (counts .words) r × (now (rules .exit) ≡ now (rules .entry)) ⌝ }
+{
+    let kept = rules[i];
+    rules[i][column] = value;
+    let taken = signature::check_signature(text, limits, sorts, symbols, rules, words, counts);
+    rules[i] = kept;
+    taken
+}
+
+// Is the signature accepted with another number as a word? The storage is left as it was.
+fn is_taken_with_word(
+    text: &[u8],
+    limits: Limits,
+    sorts: &[SortRow],
+    symbols: &[SymbolRow],
+    rules: &[RuleRow],
+    words: &mut [u32],
+    counts: Counts,
+    i: usize,
+    value: u32,
+) -> bool
+    requires { ⌜ i < length (now words) ⌝ }
+    ensures { λ r. ⌜ Checked (now (text .entry)) limits (now (sorts .entry)) (now (symbols .entry)) (now (rules .entry)) (set (now (words .entry)) i value) (counts .sorts) (counts .symbols) (counts .rules) (counts .words) r × (now (words .exit) ≡ now (words .entry)) ⌝ }
+{
+    let kept = words[i];
+    words[i] = value;
+    let taken = signature::check_signature(text, limits, sorts, symbols, rules, words, counts);
+    words[i] = kept;
+    taken
+}
+
+// The place past a text, of which no more than 65,536 bytes are loaded.
+fn end(text: &[u8]) -> u32 {
+    if text.len() < 65536 {
+        return text.len() as u32;
+    }
+    65536
+}
+
+// Tests one sort.
+fn test_sort(
+    text: &[u8],
+    limits: Limits,
+    sorts: &mut [SortRow],
+    symbols: &[SymbolRow],
+    rules: &[RuleRow],
+    words: &[u32],
+    counts: Counts,
+    i: usize,
+)
+    requires { ⌜ i < length (now sorts) ⌝ }
+{
+    let taken = is_taken_with_sort(
+        text,
+        limits,
+        sorts,
+        symbols,
+        rules,
+        words,
+        counts,
+        i,
+        PLACE,
+        end(text),
+    );
+    buffers::expect(!taken, b"refused with a sort's name past the text");
+}
+
+// Tests one symbol.
+fn test_symbol(
+    text: &[u8],
+    limits: Limits,
+    sorts: &[SortRow],
+    symbols: &mut [SymbolRow],
+    rules: &[RuleRow],
+    words: &[u32],
+    counts: Counts,
+    i: usize,
+)
+    requires { ⌜ i < length (now symbols) ⌝ }
+{
+    let placed = is_taken_with_symbol(
+        text,
+        limits,
+        sorts,
+        symbols,
+        rules,
+        words,
+        counts,
+        i,
+        PLACE,
+        end(text),
+    );
+    buffers::expect(!placed, b"refused with a symbol's name past the text");
+    let sorted = is_taken_with_symbol(
+        text,
+        limits,
+        sorts,
+        symbols,
+        rules,
+        words,
+        counts,
+        i,
+        OUTPUT,
+        std::num::wrapping_add_u32(counts.sorts, 1),
+    );
+    buffers::expect(!sorted, b"refused with an output past the sorts");
+}
+
+// Tests the variables of one rule.
+fn test_variables(
+    text: &[u8],
+    limits: Limits,
+    sorts: &[SortRow],
+    symbols: &[SymbolRow],
+    rules: &mut [RuleRow],
+    words: &[u32],
+    counts: Counts,
+    i: usize,
+)
+    requires { ⌜ i < length (now rules) ⌝ }
+{
+    let more = std::num::wrapping_add_u32(rules[i][VARIABLES], 1);
+    let taken = is_taken_with_rule(
+        text,
+        limits,
+        sorts,
+        symbols,
+        rules,
+        words,
+        counts,
+        i,
+        VARIABLES,
+        more,
+    );
+    buffers::expect(!taken, b"refused with one variable more");
+}
+
+// The reference of a node past so many words of premises.
+fn past_premises(first: u32, count: u32) -> u32 {
+    std::num::wrapping_add_u32(FIRST_NODE, std::num::wrapping_add_u32(first, count))
+}
+
+// Tests the first premise of one rule, if it has any.
+fn test_premise(
+    text: &[u8],
+    limits: Limits,
+    sorts: &[SortRow],
+    symbols: &[SymbolRow],
+    rules: &mut [RuleRow],
+    words: &[u32],
+    counts: Counts,
+    i: usize,
+)
+    requires { ⌜ i < length (now rules) ⌝ }
+{
+    let row = rules[i];
+    if row[4] == 0 {
+        return;
+    }
+    let end = past_premises(row[6], row[7]);
+    let taken = is_taken_with_rule(
+        text,
+        limits,
+        sorts,
+        symbols,
+        rules,
+        words,
+        counts,
+        i,
+        FIRST_PREMISE,
+        end,
+    );
+    buffers::expect(!taken, b"refused with a premise past its part");
+}
+
+// Tests one word.
+fn test_word(
+    text: &[u8],
+    limits: Limits,
+    sorts: &[SortRow],
+    symbols: &[SymbolRow],
+    rules: &[RuleRow],
+    words: &mut [u32],
+    counts: Counts,
+    i: usize,
+)
+    requires { ⌜ i < length (now words) ⌝ }
+{
+    let taken = is_taken_with_word(
+        text,
+        limits,
+        sorts,
+        symbols,
+        rules,
+        words,
+        counts,
+        i,
+        NO_WORD,
+    );
+    buffers::expect(!taken, b"refused with a word that is none");
+}
+
+// Tests each sort.
+fn test_sorts(
+    text: &[u8],
+    limits: Limits,
+    sorts: &mut [SortRow],
+    symbols: &[SymbolRow],
+    rules: &[RuleRow],
+    words: &[u32],
+    counts: Counts,
+) {
+    let count = counts.sorts as usize;
+    let mut i = 0;
+    while i < sorts.len() {
+        if count <= i {
+            return;
+        }
+        test_sort(text, limits, sorts, symbols, rules, words, counts, i);
+        i += 1;
+    }
+}
+
+// Tests each symbol.
+fn test_symbols(
+    text: &[u8],
+    limits: Limits,
+    sorts: &[SortRow],
+    symbols: &mut [SymbolRow],
+    rules: &[RuleRow],
+    words: &[u32],
+    counts: Counts,
+) {
+    let count = counts.symbols as usize;
+    let mut i = 0;
+    while i < symbols.len() {
+        if count <= i {
+            return;
+        }
+        test_symbol(text, limits, sorts, symbols, rules, words, counts, i);
+        i += 1;
+    }
+}
+
+// Tests each rule.
+fn test_rules(
+    text: &[u8],
+    limits: Limits,
+    sorts: &[SortRow],
+    symbols: &[SymbolRow],
+    rules: &mut [RuleRow],
+    words: &[u32],
+    counts: Counts,
+) {
+    let count = counts.rules as usize;
+    let mut i = 0;
+    while i < rules.len() {
+        if count <= i {
+            return;
+        }
+        test_variables(text, limits, sorts, symbols, rules, words, counts, i);
+        test_premise(text, limits, sorts, symbols, rules, words, counts, i);
+        i += 1;
+    }
+}
+
+// Tests each word.
+fn test_words(
+    text: &[u8],
+    limits: Limits,
+    sorts: &[SortRow],
+    symbols: &[SymbolRow],
+    rules: &[RuleRow],
+    words: &mut [u32],
+    counts: Counts,
+) {
+    let count = counts.words as usize;
+    let mut i = 0;
+    while i < words.len() {
+        if count <= i {
+            return;
+        }
+        test_word(text, limits, sorts, symbols, rules, words, counts, i);
+        i += 1;
+    }
+}
+
+// Tests a signature that was loaded.
+pub fn test(
+    text: &[u8],
+    limits: Limits,
+    sorts: &mut [SortRow],
+    symbols: &mut [SymbolRow],
+    rules: &mut [RuleRow],
+    words: &mut [u32],
+    answer: Loading,
+) {
+    let Loading::Loaded {
+        declarations: _,
+        evals: _,
+        counts,
+    } = answer
+    else {
+        return;
+    };
+    test_sorts(text, limits, sorts, symbols, rules, words, counts);
+    test_symbols(text, limits, sorts, symbols, rules, words, counts);
+    test_rules(text, limits, sorts, symbols, rules, words, counts);
+    test_words(text, limits, sorts, symbols, rules, words, counts);
+}
