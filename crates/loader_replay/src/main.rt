@@ -92,6 +92,21 @@ fn list_answer(
     }
 }
 
+// Fills the buffers with junk.
+fn fill(
+    tokens: &mut [TermRow],
+    rows: &mut [TermRow],
+    calls: &mut [TermRow],
+    sorts: &mut [SortRow],
+    symbols: &mut [SymbolRow],
+    rules: &mut [RuleRow],
+    words: &mut [u32],
+    evals: &mut [EvalRow],
+) {
+    buffers::fill_scratch(tokens, rows, calls, evals);
+    buffers::fill_signature(sorts, symbols, rules, words);
+}
+
 // Loads a text into buffers that hold junk.
 fn load_text(
     text: &[u8],
@@ -105,8 +120,7 @@ fn load_text(
     words: &mut [u32],
     evals: &mut [EvalRow],
 ) -> Loading {
-    buffers::fill_scratch(tokens, rows, calls, evals);
-    buffers::fill_signature(sorts, symbols, rules, words);
+    fill(tokens, rows, calls, sorts, symbols, rules, words, evals);
     load::load(
         text,
         limits,
@@ -121,32 +135,21 @@ fn load_text(
     )
 }
 
-// Loads a text, lists the answer, and damages what was loaded.
-fn list_text(
+// Lists an answer, and damages what was loaded.
+fn list_loaded(
     text: &[u8],
     limits: Limits,
-    tokens: &mut [TermRow],
-    rows: &mut [TermRow],
-    calls: &mut [TermRow],
+    answer: Loading,
+    parsed: Parsed,
+    tokens: &[TermRow],
+    rows: &[TermRow],
+    calls: &[TermRow],
     sorts: &mut [SortRow],
     symbols: &mut [SymbolRow],
     rules: &mut [RuleRow],
     words: &mut [u32],
-    evals: &mut [EvalRow],
+    evals: &[EvalRow],
 ) {
-    let parsed = parse(text, limits, tokens, rows);
-    let answer = load_text(
-        text,
-        limits,
-        tokens,
-        rows,
-        calls,
-        sorts,
-        symbols,
-        rules,
-        words,
-        evals,
-    );
     list_answer(
         text,
         limits,
@@ -162,6 +165,77 @@ fn list_text(
         evals,
     );
     damage::test(text, limits, sorts, symbols, rules, words, answer);
+}
+
+// Loads a text and lists the answer.
+fn list_parsed(
+    text: &[u8],
+    limits: Limits,
+    parsed: Parsed,
+    tokens: &mut [TermRow],
+    rows: &mut [TermRow],
+    calls: &mut [TermRow],
+    sorts: &mut [SortRow],
+    symbols: &mut [SymbolRow],
+    rules: &mut [RuleRow],
+    words: &mut [u32],
+    evals: &mut [EvalRow],
+) {
+    let answer = load_text(
+        text,
+        limits,
+        tokens,
+        rows,
+        calls,
+        sorts,
+        symbols,
+        rules,
+        words,
+        evals,
+    );
+    list_loaded(
+        text,
+        limits,
+        answer,
+        parsed,
+        tokens,
+        rows,
+        calls,
+        sorts,
+        symbols,
+        rules,
+        words,
+        evals,
+    );
+}
+
+// Parses a text, and then loads and lists it.
+fn list_text(
+    text: &[u8],
+    limits: Limits,
+    tokens: &mut [TermRow],
+    rows: &mut [TermRow],
+    calls: &mut [TermRow],
+    sorts: &mut [SortRow],
+    symbols: &mut [SymbolRow],
+    rules: &mut [RuleRow],
+    words: &mut [u32],
+    evals: &mut [EvalRow],
+) {
+    let parsed = parse(text, limits, tokens, rows);
+    list_parsed(
+        text,
+        limits,
+        parsed,
+        tokens,
+        rows,
+        calls,
+        sorts,
+        symbols,
+        rules,
+        words,
+        evals,
+    );
 }
 
 // Limits on a text's bytes and on nodes; no other one matters before the search.
