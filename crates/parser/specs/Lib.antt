@@ -3,3 +3,4 @@ pub mod Source
 pub mod Declarations
 pub mod Rows
 pub mod Parser
+pub mod Depth

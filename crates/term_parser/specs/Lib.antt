@@ -5,4 +5,6 @@ pub mod Grammar
 pub mod Lists
 pub mod Rows
 pub mod Standing
+pub mod ReaderLaws
+pub mod Depth
 pub mod Contracts
