@@ -21,8 +21,7 @@ use Rattle.patterns.specs.Patterns.{noVariable, Entry, refused as unentered, en
 use Rattle.rules.specs.Rules.{Ruled, barred, ruled, allKnown, closed, concluded, ruleOf, entering}
 use Rattle.clauses.specs.Clauses.{flatRule, clauseOf}
 use Rattle.loader.specs.Signature.{Signature, empty, Step, no, on, andThen, unless, isTaken, sortRefusal, enterSort, symbolRefusal, enterSymbol, Numbers, unknown, numbers, prepend, numbersOf, withSorts, withSome, lastOf, frontOf, firstOf, roomIn, withRule, lastJudgment, Loaded, refused, loaded, goOn, enterRule, enterClause, enterClauses, enterJudgments, declare, loadFrom, loadOf}
-use Rattle.loader.specs.TokenPlaceLaws.{Each}
-use Rattle.loader.specs.PlaceLaws.{Comes, Any, any-comes, plus-comes, follow-comes, past-comes, when-comes, continued-comes, repeat-comes}
+use Rattle.term_parser.specs.ReaderLaws.{Each, Comes, Any, any-comes, plus-comes, follow-comes, past-comes, when-comes, continued-comes, repeat-comes}
 
 -- A constructor and a function have a sort, and a rule has a judgment.
 abbrev pub Nonempty : Declaration → Type 0
@@ -123,16 +122,12 @@ declared-comes text last (t ∷ ts) =
     plus-comes Full 1 (follow body ts next)
     (follow-comes Nonempty Full body ts next (body-comes text last ts (getD t 0 0) (t ∷ ts)) (λ d us h. h))
 
-each-any : {A : Type 0} (l : List A) → Each Any l
-each-any [] = tt
-each-any (a ∷ l) = (tt, each-any l)
-
 -- Each declaration that is parsed has what `declare` asks for.
 pub parsed-nonempty : (text : List ℕ) (ts : Tokens) (ds : List Declared) (n : ℕ) → parseOf text ts ≡ parsed ds n → Each (λ d. Nonempty (d .declaration)) ds
 unfolding parseOf
 parsed-nonempty text ts ds n e =
     let g : Comes (Each Full) (repeat (declarationOf text (lastLine ts)) ts 0 0 [])
-    = repeat-comes Any Full (declarationOf text (lastLine ts)) (λ us _. declared-comes text (lastLine ts) us) ts 0 0 [] (each-any ts) tt in
+    = repeat-comes Full (declarationOf text (lastLine ts)) (declared-comes text (lastLine ts)) ts 0 0 [] tt in
     rw e at g
 
 -- Numbers

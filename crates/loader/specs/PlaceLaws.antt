@@ -1,20 +1,20 @@
 -- The name of every declaration that is parsed is one of the tokens; so it lies inside the text.
-use Prim.Native.Nat.{ℕ, zero, suc, _+_, _-_, _<_}
+use Prim.Native.Nat.{ℕ, zero, suc, _-_, _<_}
 use native.Mathlib.Omega.{arith}
 use mathlib.Core.Path.{_≡_}
-use mathlib.Core.Bool.{Bool, true, false}
-use mathlib.Core.List.{List, [], _∷_, _++_}
+use mathlib.Core.List.{List, [], _∷_}
 use lib.Dec.{eqb}
-use lib.ListN.{length, drop, getD}
+use lib.ListN.{length, getD}
 use Rattle.words.specs.Tokens.Reading.{tokens}
 use Rattle.words.specs.Lexer.{lexOf}
 use Rattle.words.specs.Names.{nameKind}
 use Rattle.term_parser.specs.Source.{Place, place}
-use Rattle.term_parser.specs.Parsing.{Tokens, kindOf, placeOf, lastLine, when, Parsed, parsed, absent, refused, plus, follow, signOf, continued, repeat}
+use Rattle.term_parser.specs.Parsing.{Tokens, kindOf, placeOf, lastLine, Parsed, parsed, follow, signOf, repeat}
 use Rattle.term_parser.specs.Lists.{name, titleOf, arrowsOf, term, judgmentsOf}
+use Rattle.term_parser.specs.ReaderLaws.{Each, Comes, plus-comes, follow-comes, past-comes, when-comes, repeat-each}
 use Rattle.parser.specs.Source.{Declaration, sort, ctor, pred, rule, def, theorem, eval, check}
 use Rattle.parser.specs.Declarations.{endsInProp, Declared, bindersOf, tacticOf, sortOf, ctorOf, clauseOf, predOf, ruleOf, defOf, theoremOf, evalOf, checkOf, bodyOf, declarationOf, parseOf}
-use Rattle.loader.specs.TokenPlaceLaws.{Each, each-append, rowPlace, Within, tokens-inside}
+use Rattle.loader.specs.TokenPlaceLaws.{rowPlace, Within, tokens-inside}
 
 -- The place of a declaration's name; an evaluation and a check have none.
 abbrev pub titlePlace : Declaration → Place
@@ -30,59 +30,6 @@ titlePlace (check t) = place 0 0
 -- The names of declarations lie inside the text.
 abbrev pub TitlesInside : List ℕ → List Declared → Type 0
 TitlesInside text ds = Each (λ d. Within text (titlePlace (d .declaration))) ds
-
--- Readers
-
--- Q holds of the item, if one is read.
-abbrev pub Comes : {A : Type 0} → (A → Type 0) → Parsed A → Type 0
-Comes Q (parsed a n) = Q a
-Comes Q absent = Unit {0}
-Comes Q (refused r l) = Unit {0}
-
--- Nothing is asked.
-abbrev pub Any : {A : Type 0} → A → Type 0
-Any a = Unit {0}
-
-pub any-comes : {A : Type 0} (o : Parsed A) → Comes Any o
-any-comes (parsed a n) = tt
-any-comes absent = tt
-any-comes (refused r l) = tt
-
-pub plus-comes : {A : Type 0} (Q : A → Type 0) (n : ℕ) (o : Parsed A) → Comes Q o → Comes Q (plus n o)
-plus-comes Q n (parsed a m) h = h
-plus-comes Q n absent h = tt
-plus-comes Q n (refused r l) h = tt
-
-pub follow-comes : {A B : Type 0} (Q : A → Type 0) (R : B → Type 0) (o : Parsed A) (ts : Tokens) (next : A → Tokens → Parsed B) → Comes Q o
-    → ((a : A) (us : Tokens) → Q a → Comes R (next a us)) → Comes R (follow o ts next)
-follow-comes Q R (parsed a n) ts next h f = plus-comes R n (next a (drop n ts)) (f a (drop n ts) h)
-follow-comes Q R absent ts next h f = tt
-follow-comes Q R (refused r l) ts next h f = tt
-
--- What is read on the way does not matter.
-pub past-comes : {A B : Type 0} (R : B → Type 0) (o : Parsed A) (ts : Tokens) (next : A → Tokens → Parsed B) → ((a : A) (us : Tokens) → Comes R (next a us)) → Comes R (follow o ts next)
-past-comes R o ts next f = follow-comes Any R o ts next (any-comes o) (λ a us _. f a us)
-
-pub when-comes : {A : Type 0} (R : A → Type 0) (b : Bool) (f g : Unit {0} → Parsed A) → Comes R (f tt) → Comes R (g tt) → Comes R (when b f g)
-when-comes R true f g h k = h
-when-comes R false f g h k = k
-
-pub continued-comes : {A B : Type 0} (Q : A → Type 0) (R : B → Type 0) (o : Parsed A) (next : A → ℕ → Parsed B) (end : Parsed B) → Comes Q o
-    → ((a : A) (n : ℕ) → Q a → Comes R (next a n)) → Comes R end → Comes R (continued o next end)
-continued-comes Q R (parsed a n) next end h f g = f a n h
-continued-comes Q R absent next end h f g = g
-continued-comes Q R (refused r l) next end h f g = tt
-
--- Each item has what every item read from such tokens has.
-pub repeat-comes : {A : Type 0} (T : List ℕ → Type 0) (Q : A → Type 0) (item : Tokens → Parsed A) → ((us : Tokens) → Each T us → Comes Q (item us)) → (ts : Tokens) (k n : ℕ) (done : List A)
-    → Each T ts → Each Q done → Comes (Each Q) (repeat item ts k n done)
-unfolding repeat
-repeat-comes T Q item f [] k n done h d = continued-comes Q (Each Q) (item []) (λ a m. parsed done n) (parsed done n) (f [] tt) (λ a m q. d) d
-repeat-comes T Q item f (t ∷ ts) (suc k) n done h d = repeat-comes T Q item f ts k n done (h .1) d
-repeat-comes T Q item f (t ∷ ts) zero n done h d =
-    continued-comes Q (Each Q) (item (t ∷ ts)) (λ a m. repeat item ts (m - 1) (n + m) (done ++ (a ∷ []))) (parsed done n) (f (t ∷ ts) h)
-    (λ a m q. repeat-comes T Q item f ts (m - 1) (n + m) (done ++ (a ∷ [])) (h .1) (each-append Q done (a ∷ []) d (q, tt)))
-    d
 
 -- Titles, where P holds of the place of each token, and of the place of no token
 
@@ -170,7 +117,7 @@ module _ (P : Place → Type 0) (zero-place : P (place 0 0)) where
   unfolding parseOf
   titles-placed text ts ds n h e =
       let g : Comes (Each Named) (repeat (declarationOf text (lastLine ts)) ts 0 0 [])
-      = repeat-comes (λ t. P (rowPlace t)) Named (declarationOf text (lastLine ts)) (declared-comes text (lastLine ts)) ts 0 0 [] h tt in
+      = repeat-each (λ t. P (rowPlace t)) Named (declarationOf text (lastLine ts)) (declared-comes text (lastLine ts)) ts 0 0 [] h tt in
       rw e at g
 
 -- The names of the declarations of a text lie inside it.

@@ -3,7 +3,7 @@ use Prim.Native.Nat.{ℕ, zero, suc, _+_, _-_, _≤_}
 use native.Mathlib.Omega.{arith}
 use mathlib.Core.Path.{_≡_}
 use mathlib.Core.Bool.{Bool, true}
-use mathlib.Core.List.{List, [], _∷_, _++_}
+use mathlib.Core.List.{List, [], _∷_}
 use lib.Dec.{eqb, ltb}
 use lib.ListN.{length, getD}
 use Rattle.terms.specs.Numbers.{by-bool}
@@ -23,15 +23,7 @@ use Rattle.words.specs.declared.NumeralValue.the-variants.{Fits, TooLarge}
 use Rattle.words.specs.declared.tokens.Item.{Item}
 use Rattle.words.specs.declared.tokens.Item.the-variants.{Blank, Token, Refused}
 use Rattle.term_parser.specs.Source.{Place, place}
-
--- P holds of each of a list.
-abbrev pub Each : {A : Type 0} → (A → Type 0) → List A → Type 0
-Each P [] = Unit {0}
-Each P (a ∷ l) = P a × Each P l
-
-pub each-append : {A : Type 0} (P : A → Type 0) (l m : List A) → Each P l → Each P m → Each P (l ++ m)
-each-append P [] m h g = g
-each-append P (a ∷ l) m h g = (h .0, each-append P l m (h .1) g)
+use Rattle.term_parser.specs.ReaderLaws.{Each, each-append}
 
 -- The place of a token's row.
 abbrev pub rowPlace : List ℕ → Place

@@ -20,7 +20,20 @@ Comes P (parsed a n) = P a
 Comes P absent = Unit {0}
 Comes P (refused r l) = Unit {0}
 
+-- Nothing is asked.
+abbrev pub Any : {A : Type 0} → A → Type 0
+Any a = Unit {0}
+
 -- Laws
+
+pub each-any : {A : Type 0} (l : List A) → Each Any l
+each-any [] = tt
+each-any (a ∷ l) = (tt, each-any l)
+
+pub any-comes : {A : Type 0} (o : Parsed A) → Comes Any o
+any-comes (parsed a n) = tt
+any-comes absent = tt
+any-comes (refused r l) = tt
 
 pub each-append : {A : Type 0} (P : A → Type 0) (l m : List A) → Each P l → Each P m → Each P (l ++ m)
 each-append P [] m h g = g
@@ -42,9 +55,7 @@ follow-comes P Q (refused r l) ts next h f = tt
 
 -- What is read on the way does not matter.
 pub past-comes : {A B : Type 0} (Q : B → Type 0) (o : Parsed A) (ts : Tokens) (next : A → Tokens → Parsed B) → ((a : A) (us : Tokens) → Comes Q (next a us)) → Comes Q (follow o ts next)
-past-comes Q (parsed a n) ts next f = plus-comes Q n (next a (drop n ts)) (f a (drop n ts))
-past-comes Q absent ts next f = tt
-past-comes Q (refused r l) ts next f = tt
+past-comes Q o ts next f = follow-comes Any Q o ts next (any-comes o) (λ a us _. f a us)
 
 pub required-comes : {A : Type 0} (P : A → Type 0) (r : Refusal) (l : ℕ) (o : Parsed A) → Comes P o → Comes P (required r l o)
 required-comes P r l (parsed a n) h = h
@@ -61,16 +72,21 @@ continued-comes P Q (parsed a n) next end h f g = f a n h
 continued-comes P Q absent next end h f g = g
 continued-comes P Q (refused r l) next end h f g = tt
 
--- Where P holds of every item that is read, it holds of each of a list of them.
+-- Where P holds of every item that is read from tokens of which T holds, it holds of each of a list of them.
+pub repeat-each : {A : Type 0} (T : List ℕ → Type 0) (P : A → Type 0) (item : Tokens → Parsed A) → ((us : Tokens) → Each T us → Comes P (item us)) → (ts : Tokens) (k n : ℕ) (done : List A)
+    → Each T ts → Each P done → Comes (Each P) (repeat item ts k n done)
+unfolding repeat
+repeat-each T P item f [] k n done h d = continued-comes P (Each P) (item []) (λ a m. parsed done n) (parsed done n) (f [] tt) (λ a m p. d) d
+repeat-each T P item f (t ∷ ts) (suc k) n done h d = repeat-each T P item f ts k n done (h .1) d
+repeat-each T P item f (t ∷ ts) zero n done h d =
+    continued-comes P (Each P) (item (t ∷ ts)) (λ a m. repeat item ts (m - 1) (n + m) (done ++ (a ∷ []))) (parsed done n) (f (t ∷ ts) h)
+    (λ a m p. repeat-each T P item f ts (m - 1) (n + m) (done ++ (a ∷ [])) (h .1) (each-append P done (a ∷ []) d (p, tt)))
+    d
+
+-- The same of any tokens.
 module _ {A : Type 0} (P : A → Type 0) (item : Tokens → Parsed A) (comes : (ts : Tokens) → Comes P (item ts)) where
   pub repeat-comes : (ts : Tokens) (k n : ℕ) (done : List A) → Each P done → Comes (Each P) (repeat item ts k n done)
-  unfolding repeat
-  repeat-comes [] k n done d = continued-comes P (Each P) (item []) (λ a m. parsed done n) (parsed done n) (comes []) (λ a m p. d) d
-  repeat-comes (t ∷ ts) (suc k) n done d = repeat-comes ts k n done d
-  repeat-comes (t ∷ ts) zero n done d =
-      continued-comes P (Each P) (item (t ∷ ts)) (λ a m. repeat item ts (m - 1) (n + m) (done ++ (a ∷ []))) (parsed done n) (comes (t ∷ ts))
-      (λ a m p. repeat-comes ts (m - 1) (n + m) (done ++ (a ∷ [])) (each-append P done (a ∷ []) d (p, tt)))
-      d
+  repeat-comes ts k n done d = repeat-each Any P item (λ us _. comes us) ts k n done (each-any ts) d
 
   pub behind-comes : (kind : ℕ) (ts : Tokens) → Comes P (behind kind item ts)
   behind-comes kind ts = when-comes P (eqb (kindOf ts) kind) _ _ (plus-comes P 1 (item (drop 1 ts)) (comes (drop 1 ts))) tt
