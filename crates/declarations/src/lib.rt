@@ -44,6 +44,7 @@ fn room(left: usize) -> usize
     1024
 }
 
+// A word as a number of the machine.
 fn wide(n: u32) -> usize
     ensures { λ r. ⌜ r ≡ n ⌝ }
 {

@@ -1,6 +1,5 @@
 // Replays a recorded list of texts: loads each and lists the signature, for comparison with the recorded answers, and tests what the lent buffers hold
 // afterwards. A test that fails writes a line that begins with `wrong`.
-mod signatures; // stored signatures, listed
 
 use listing::recorded;
 use load::EvalRow;
@@ -68,7 +67,7 @@ fn list_answer(
             evals: n,
             counts,
         } => {
-            signatures::list(
+            signature_listing::list(
                 text,
                 sorts,
                 symbols,

@@ -3,8 +3,8 @@
 use Prim.Native.Nat.{_≤_, _-_}
 use lib.ListN.{length}
 use borrow.Author.Needs.{needs}
-use Rattle.loader_replay.proofs.signatures.write_references.Statement.{statement}
-use Rattle.loader_replay.proofs.signatures.write_references.Tie as tie
+use Rattle.signature_listing.proofs.write_references.Statement.{statement}
+use Rattle.signature_listing.proofs.write_references.Tie as tie
 
 abbrev Inv-loop : tie.InvT-loop
 Inv-loop references first i₀ i = i ≤ length references

@@ -3,8 +3,8 @@
 use Prim.Native.Nat.{_≤_, _-_, _+_}
 use lib.ListN.{length}
 use borrow.Author.Needs.{needs}
-use Rattle.loader_replay.proofs.signatures.list_nodes.Statement.{statement}
-use Rattle.loader_replay.proofs.signatures.list_nodes.Tie as tie
+use Rattle.signature_listing.proofs.list_nodes.Statement.{statement}
+use Rattle.signature_listing.proofs.list_nodes.Tie as tie
 
 abbrev Inv-loop : tie.InvT-loop
 Inv-loop text symbols words first premises conclusion count done₀ done = done ≤ length words + 31

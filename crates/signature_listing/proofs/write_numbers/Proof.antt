@@ -3,8 +3,8 @@
 use Prim.Native.Nat.{_≤_, _-_}
 use lib.ListN.{length}
 use borrow.Author.Needs.{needs}
-use Rattle.loader_replay.proofs.signatures.write_numbers.Statement.{statement}
-use Rattle.loader_replay.proofs.signatures.write_numbers.Tie as tie
+use Rattle.signature_listing.proofs.write_numbers.Statement.{statement}
+use Rattle.signature_listing.proofs.write_numbers.Tie as tie
 
 abbrev Inv-loop : tie.InvT-loop
 Inv-loop numbers i₀ t3 i = i ≤ length numbers

@@ -3,8 +3,8 @@
 use Prim.Native.Nat.{_≤_, _-_}
 use lib.ListN.{length}
 use borrow.Author.Needs.{needs}
-use Rattle.loader_replay.proofs.signatures.list_evals.Statement.{statement}
-use Rattle.loader_replay.proofs.signatures.list_evals.Tie as tie
+use Rattle.signature_listing.proofs.list_evals.Statement.{statement}
+use Rattle.signature_listing.proofs.list_evals.Tie as tie
 
 abbrev Inv-loop : tie.InvT-loop
 Inv-loop evals count i₀ t4 t5 t6 i = i ≤ length evals

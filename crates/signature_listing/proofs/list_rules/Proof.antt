@@ -3,8 +3,8 @@
 use Prim.Native.Nat.{_≤_, _-_}
 use lib.ListN.{length}
 use borrow.Author.Needs.{needs}
-use Rattle.loader_replay.proofs.signatures.list_rules.Statement.{statement}
-use Rattle.loader_replay.proofs.signatures.list_rules.Tie as tie
+use Rattle.signature_listing.proofs.list_rules.Statement.{statement}
+use Rattle.signature_listing.proofs.list_rules.Tie as tie
 
 abbrev Inv-loop : tie.InvT-loop
 Inv-loop text sorts symbols rules words count i₀ i = i ≤ length rules
