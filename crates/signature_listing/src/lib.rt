@@ -6,7 +6,10 @@ use names::SortRow;
 use names::SymbolRow;
 use rules::RuleRow;
 use signature::Counts;
+ghost use mathlib.Core.Path.{_≡_};
 ghost use Prim.Native.Nat.{_≤_};
+ghost use Rattle.words.specs.Lexer.{partOf};
+ghost use Rattle.signature_listing.specs.Nodes.{arityAt};
 
 // References to nodes start here, those below are variables; headers start at the other.
 const FIRST_NODE: u32 = 64;
@@ -38,7 +41,9 @@ fn write_name(text: &[u8], start: u32, length: u32) {
 }
 
 // So many of the numbers from a place on, none where there are not as many.
-fn part<'a>(numbers: &'a [u32], start: usize, count: usize) -> &'a [u32] {
+fn part<'a>(numbers: &'a [u32], start: usize, count: usize) -> &'a [u32]
+    ensures { λ r. ⌜ now r ≡ partOf (now (numbers .entry)) start count ⌝ }
+{
     if start <= numbers.len() {
         if count <= numbers.len() - start {
             return &numbers[start..start + count];
@@ -160,20 +165,31 @@ fn write_symbol_name(text: &[u8], symbols: &[SymbolRow], number: u32) {
     write_name(text, symbols[i][0], symbols[i][1]);
 }
 
-// Lists the node at an address; answers its arity.
-fn list_node(text: &[u8], symbols: &[SymbolRow], words: &[u32], address: usize, first: u32) -> usize
+// The arity of the node at an address; 0 where there is no header.
+fn arity_at(words: &[u32], address: usize) -> usize
+    ensures { λ r. ⌜ r ≡ arityAt (now (words .entry)) address ⌝ }
     ensures { λ r. ⌜ r ≤ 31 ⌝ }
 {
     if words.len() <= address {
-        write(b"wrong: no such word\n");
         return 0;
+    }
+    if words[address] < FIRST_HEADER {
+        return 0;
+    }
+    (words[address] % ARITIES) as usize
+}
+
+// Lists the node at an address.
+fn list_node(text: &[u8], symbols: &[SymbolRow], words: &[u32], address: usize, first: u32) {
+    if words.len() <= address {
+        write(b"wrong: no such word\n");
+        return;
     }
     let header = words[address];
     if header < FIRST_HEADER {
         write(b"wrong: no header\n");
-        return 0;
+        return;
     }
-    let arity = (header % ARITIES) as usize;
     write(b"  #");
     io::print_decimal(
         STDOUT_FILENO,
@@ -181,9 +197,8 @@ fn list_node(text: &[u8], symbols: &[SymbolRow], words: &[u32], address: usize, 
     );
     write(b" ");
     write_symbol_name(text, symbols, (header - FIRST_HEADER) / ARITIES);
-    write_references(part(words, address + 1, arity), first);
+    write_references(part(words, address + 1, arity_at(words, address)), first);
     write(b"\n");
-    arity
 }
 
 // Lists the nodes of a rule, whose words start at the first: those of its premises and those of its conclusion.
@@ -201,7 +216,9 @@ fn list_nodes(
         if words.len() <= done {
             return;
         }
-        done += 1 + list_node(text, symbols, words, first as usize + done, first);
+        let address = first as usize + done;
+        list_node(text, symbols, words, address, first);
+        done += 1 + arity_at(words, address);
     }
 }
 

@@ -10,7 +10,7 @@ ghost use mathlib.Core.Bool.{_&&_};
 ghost use mathlib.Core.Path.{_≡_};
 ghost use lib.Dec.{leb};
 ghost use lib.ListN.{drop, length, replicate};
-ghost use Rattle.signature_tests.specs.Rows.{areAll, isAll};
+ghost use Rattle.signature_tests.specs.Rows.{areAll, isAll, junk, Filled};
 
 // What each number is before a call.
 pub const JUNK: u32 = 0xA5A5_A5A5;
@@ -74,7 +74,9 @@ pub fn fill_scratch(
     rows: &mut [TermRow],
     calls: &mut [TermRow],
     evals: &mut [EvalRow],
-) {
+)
+    ensures { λ _. ⌜ Filled (replicate 4 junk) (now (tokens .entry)) (now (tokens .exit)) × Filled (replicate 4 junk) (now (rows .entry)) (now (rows .exit)) × Filled (replicate 4 junk) (now (calls .entry)) (now (calls .exit)) × Filled (replicate 2 junk) (now (evals .entry)) (now (evals .exit)) ⌝ }
+{
     fill_rows(tokens, JUNK);
     fill_rows(rows, JUNK);
     fill_rows(calls, JUNK);
@@ -86,7 +88,9 @@ pub fn fill_signature(
     symbols: &mut [SymbolRow],
     rules: &mut [RuleRow],
     words: &mut [u32],
-) {
+)
+    ensures { λ _. ⌜ Filled (replicate 2 junk) (now (sorts .entry)) (now (sorts .exit)) × Filled (replicate 24 junk) (now (symbols .entry)) (now (symbols .exit)) × Filled (replicate 154 junk) (now (rules .entry)) (now (rules .exit)) × Filled junk (now (words .entry)) (now (words .exit)) ⌝ }
+{
     fill_pairs(sorts, JUNK);
     fill_symbols(symbols, JUNK);
     fill_rules(rules, JUNK);

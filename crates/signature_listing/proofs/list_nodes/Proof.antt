@@ -21,11 +21,14 @@ loop-holds c = search needs
 returns : tie.Need-returns Inv-loop μ-loop
 returns c = search needs
 
-add-list-node : tie.Need-add-list-node Inv-loop μ-loop
-add-list-node c = search needs
+add-address : tie.Need-add-address Inv-loop μ-loop
+add-address c = search needs
 
 list-node-requires : tie.Need-list-node-requires Inv-loop μ-loop
 list-node-requires c κs = search needs
+
+arity-at-requires : tie.Need-arity-at-requires Inv-loop μ-loop
+arity-at-requires c κs = search needs
 
 add-done : tie.Need-add-done Inv-loop μ-loop
 add-done c = search needs
@@ -51,8 +54,9 @@ list-nodes-spec =
     add-count
     loop-holds
     returns
-    add-list-node
+    add-address
     list-node-requires
+    arity-at-requires
     add-done
     add-done-2
     loop-less

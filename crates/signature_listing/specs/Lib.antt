@@ -1,0 +1,2 @@
+-- What the contracts of `signature_listing` cite.
+pub mod Nodes
