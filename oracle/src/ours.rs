@@ -118,8 +118,8 @@ impl Counts {
     }
 }
 
-/// The answer of `horn_unify` where the storage is not in form.
-pub const REFUSED: u64 = (1 << 33) + 1;
+/// The answer of `horn_unify` where the storage is not in form: refusal 1, line 0.
+pub const REFUSED: u64 = 1 << 32;
 
 /// The arguments of a unification, as C passes them.
 macro_rules! call {
@@ -161,5 +161,5 @@ pub fn unify_unchecked(problem: &Problem, storage: &mut Storage) -> Option<usize
 
 /// How many variables are bound then, if the terms unify.
 pub fn bound(answer: u64) -> Option<usize> {
-    (answer >> 32 == 1).then_some(answer as u32 as usize)
+    (answer >> 31 == 1).then_some((answer - (1 << 31)) as usize)
 }

@@ -6,14 +6,17 @@ use mathlib.Core.List.{List}
 use Rattle.arena.specs.Rows.{Rows}
 use Rattle.unifier.specs.Checking.{tells-false}
 use Rattle.checks.specs.Ready.{ReadyTold}
-use Rattle.unifier_capi.specs.Unification.{UnifiedAs}
-use Rattle.capi.specs.Unification.{refusal, Answered, accepted, refused}
+use Rattle.unifier.specs.Contracts.{Unified}
+use Rattle.capi.specs.Unification.{packedUnify, refusal, UnifiedAs, Answered, accepted, refused}
 
 module _ {N : ℕ} {w : List ℕ} {b l m m₁ s : Rows} {variables used k r t : ℕ} {test : Bool} (told : ReadyTold N w b l m m₁ s variables used k r t test) where
   pub answered-no : test ≡ false → Answered N w b b l l m m₁ s s variables used k r t refusal
   answered-no e = refused (tells-false (told .tells) e) (record { is = refl; bindings = refl; links = refl; marks = told .kept; stack = refl })
 
-  pub answered-yes : {b′ l′ m′ s′ : Rows} {answer : ℕ} → test ≡ true → UnifiedAs N w b b′ l l′ m₁ m′ s s′ variables used k r t answer
+  pub answered-yes : {b′ l′ m′ s′ : Rows} {bound answer : ℕ} {unified : Bool} → test ≡ true
+      → Unified N w b b′ l l′ m₁ m′ s s′ variables used k bound r t unified → answer ≡ packedUnify unified bound
       → Answered N w b b′ l l′ m m′ s s′ variables used k r t answer
-  answered-yes {b′} {l′} {m′} {s′} {answer} e h =
-      accepted (told .tells .yes e) (subst (λ (z : Rows). UnifiedAs N w b b′ l l′ z m′ s s′ variables used k r t answer) (told .kept) h)
+  answered-yes {b′} {l′} {m′} {s′} {bound} {answer} {unified} e h p =
+      accepted (told .tells .yes e)
+      (subst (λ (z : Rows). UnifiedAs N w b b′ l l′ z m′ s s′ variables used k r t answer) (told .kept)
+      (record { unified = unified; bound = bound; packed = p; ended = h }))

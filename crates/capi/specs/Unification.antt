@@ -1,17 +1,31 @@
 -- What `horn_unify` answers on storage of any contents.
-use Prim.Native.Nat.{ℕ, _+_, _^_, _<_}
+use Prim.Native.Nat.{ℕ, _+_, _*_, _^_, _<_}
 use native.Mathlib.Omega.{arith}
-use mathlib.Core.Path.{_≡_}
+use mathlib.Core.Path.{_≡_, sym, ap, _∙_}
 use mathlib.Core.Bool.{Bool, true, false}
 use mathlib.Core.List.{List}
+use lib.Dec.{leb}
+use borrow.Author.Tests.{le-leb, lt-leb}
 use Rattle.arena.specs.Rows.{Rows}
+use Rattle.unifier.specs.Contracts.{Unified}
 use Rattle.unifier.specs.Checking.{form-few}
 use Rattle.checks.specs.Ready.{Ready}
-use Rattle.unifier_capi.specs.Unification.{packedUnify, UnifiedAs}
 
--- The number of refusal 1, which no unification has for its answer (`answer-low`).
+-- How many variables are bound, and 2^31 more where the terms unify; fewer than 2^31 are bound (`answer-low`, `answer-tells`).
+abbrev pub packedUnify : Bool → ℕ → ℕ
+packedUnify true bound = 2 ^ 31 + bound
+packedUnify false bound = bound
+
+-- 2^32 times the number of refusal 1, and line 0.
 abbrev pub refusal : ℕ
-refusal = 2 ^ 33 + 1
+refusal = 1 * 2 ^ 32
+
+-- `unify` ended as its contract says, with this number for its answer.
+pub record UnifiedAs (N : ℕ) (w : List ℕ) (b b′ l l′ m m′ s s′ : Rows) (variables used k r t answer : ℕ) : Type 0 where
+  pub unified : Bool
+  pub bound : ℕ
+  pub packed : answer ≡ packedUnify unified bound
+  pub ended : Unified N w b b′ l l′ m m′ s s′ variables used k bound r t unified
 
 -- It was refused, and every buffer is as it was.
 pub record RefusedAs (b b′ l l′ m m′ s s′ : Rows) (answer : ℕ) : Type 0 where
@@ -40,18 +54,28 @@ module _ {N : ℕ} {w : List ℕ} {b b′ l l′ m m′ s s′ : Rows} {variable
   other-answered (accepted h u) x = absurd (x h)
   other-answered (refused n h) x = h
 
--- The answer of a unification is below that of a refusal.
-packed-low : (u : Bool) (n : ℕ) → n < 2 ^ 32 → packedUnify u n < 2 ^ 33
+-- Where fewer than 2^31 variables are bound, the number is below 2^32, and tells whether the terms unify.
+packed-low : (u : Bool) (n : ℕ) → n < 2 ^ 31 → packedUnify u n < 2 ^ 32
 packed-low true n h = omega arith
 packed-low false n h = omega arith
 
-pub answer-low : {N : ℕ} {w : List ℕ} {b b′ l l′ m m′ s s′ : Rows} {variables used k r t answer : ℕ}
-    → UnifiedAs N w b b′ l l′ m m′ s s′ variables used k r t answer → answer < 2 ^ 33
-answer-low h =
-    let f = h .ended .form in
-    let a = form-few f in
-    let few = f .few in
-    let low = f .low in
-    let p = packed-low (h .unified) (h .bound) (omega arith) in
-    let e = h .packed in
-    omega arith
+packed-tells : (u : Bool) (n : ℕ) → n < 2 ^ 31 → u ≡ leb (2 ^ 31) (packedUnify u n)
+packed-tells true n h = sym (le-leb (2 ^ 31) (2 ^ 31 + n) (omega arith))
+packed-tells false n h = sym (lt-leb (2 ^ 31) n h)
+
+module _ {N : ℕ} {w : List ℕ} {b b′ l l′ m m′ s s′ : Rows} {variables used k r t answer : ℕ}
+    (h : UnifiedAs N w b b′ l l′ m m′ s s′ variables used k r t answer) where
+  few : h .bound < 2 ^ 31
+  few =
+      let f = h .ended .form in
+      let a = form-few f in
+      let few = f .few in
+      let low = f .low in
+      omega arith
+
+  -- The answer of a unification is below that of a refusal, and tells whether the terms unify.
+  pub answer-low : answer < 2 ^ 32
+  answer-low = let p = packed-low (h .unified) (h .bound) few in let e = h .packed in omega arith
+
+  pub answer-tells : h .unified ≡ leb (2 ^ 31) answer
+  answer-tells = packed-tells (h .unified) (h .bound) few ∙ ap (leb (2 ^ 31)) (sym (h .packed))

@@ -8,7 +8,7 @@ ghost use lib.ListN.{length, replicate};
 ghost use lib.Seq.{sets};
 ghost use Rattle.capi.specs.Declarations.{ParsedAs};
 ghost use Rattle.capi.specs.Signatures.{LoadedAs};
-ghost use Rattle.capi.specs.Unification.{Answered};
+ghost use Rattle.capi.specs.Unification.{packedUnify, Answered};
 ghost use Rattle.capi.specs.Words.{packed, textLimit};
 ghost use Rattle.words.specs.Lexer.{lexAnswer, lexRows};
 
@@ -136,8 +136,18 @@ pub extern "C" fn horn_load(
     }
 }
 
-// `unifier::unify` on storage of any contents. Where words, bindings, scratch and references are what it asks, the answer is how many variables are
-// bound, and 2^32 more where the terms unify. Else the answer is 2^33 + 1, refusal 1, and nothing is written.
+// How unification ended, as one number: how many variables are bound, and 2^31 more where the terms unify.
+pub fn packed(ended: unifier::Ended) -> u64
+    ensures { λ r. ⌜ r ≡ packedUnify (ended .unified) (ended .bound) ⌝ }
+{
+    if ended.unified {
+        return 0x8000_0000 + (ended.bound as u64);
+    }
+    ended.bound as u64
+}
+
+// `unifier::unify` on storage of any contents. Where words, bindings, scratch and references are what it asks, the answer is how it ended, as `packed`
+// tells it, below 2^32. Else the answer is 2^32, refusal 1 with line 0, and nothing is written.
 #[no_mangle]
 pub extern "C" fn horn_unify(
     words: &[u32],
@@ -168,9 +178,9 @@ pub extern "C" fn horn_unify(
         left,
         right,
     ) {
-        return 0x2_0000_0001;
+        return 0x1_0000_0000;
     }
-    unifier_capi::horn_unify_unchecked(
+    let ended = unifier::unify(
         words,
         bindings,
         links,
@@ -182,5 +192,6 @@ pub extern "C" fn horn_unify(
         bound,
         left,
         right,
-    )
+    );
+    packed(ended)
 }

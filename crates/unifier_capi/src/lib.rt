@@ -2,9 +2,9 @@
 ghost use Rattle.arena.specs.Cells.{cells, Reference};
 ghost use Rattle.unifier.specs.Contracts.{Scratch};
 ghost use Rattle.unifier.specs.Stored.{Form};
-ghost use Rattle.unifier_capi.specs.Unification.{UnifiedAs};
+ghost use Rattle.capi.specs.Unification.{UnifiedAs};
 
-// The caller sees to what `unify` asks. The answer is how many variables are bound, and 2^32 more where the terms unify.
+// The caller sees to what `unify` asks. The answer is that of `capi::horn_unify`.
 #[no_mangle]
 pub extern "C" fn horn_unify_unchecked(
     words: &[u32],
@@ -38,8 +38,5 @@ pub extern "C" fn horn_unify_unchecked(
         left,
         right,
     );
-    if ended.unified {
-        return 0x1_0000_0000 + (ended.bound as u64);
-    }
-    ended.bound as u64
+    capi::packed(ended)
 }

@@ -1,4 +1,5 @@
--- `horn_unify` meets its contract: storage that passes the test is what `unify` asks, and any other is refused.
+-- `horn_unify` meets its contract: storage that passes the test is what `unify` asks, and its answer is told as one number; any other is refused.
+-- No loop: the test leaves the marks as they were.
 use borrow.Author.Tests.{not-false, not-true}
 use Rattle.checks.specs.ReadyLaws.{scratch-kept}
 use Rattle.capi.proofs.Laws.{answered-no, answered-yes}
@@ -22,13 +23,17 @@ same-length-4 : tie.Need-same-length-4
 same-length-4 c = search needs
 
 returns : tie.Need-returns
-returns c =
-    answered-no (c .before .before .is-ready .ensures) (not-true _ (c .if1 .taken))
+returns c = answered-no ((c .before .before .is-ready .ensures)) (not-true _ ((c .if1 .taken)))
 
-horn-unify-unchecked-requires : tie.Need-horn-unify-unchecked-requires
-horn-unify-unchecked-requires c κs =
-    let r = (c .before .before .before .before .before .before .is-ready .ensures .tells .yes) (not-false _ (c .before .before .before .before .if1 .left)) in
-    (r .form, ((r .leftRefers, r .rightRefers), scratch-kept (c .before .before .before .before .before .before .is-ready .ensures .kept) (r .scratch)))
+unify-requires : tie.Need-unify-requires
+unify-requires c κs =
+    let is-ready = c .before .before .before .before .before .before .is-ready in
+    let if1 = c .before .before .before .before .if1 in
+    let told = (is-ready .ensures) .tells .yes (not-false _ ((if1 .left))) in
+    (told .form, ((told .leftRefers, told .rightRefers), scratch-kept ((is-ready .ensures) .kept) (told .scratch)))
+
+packed-requires : tie.Need-packed-requires
+packed-requires c κs = search needs
 
 same-length-5 : tie.Need-same-length-5
 same-length-5 c = search needs
@@ -44,7 +49,11 @@ same-length-8 c = search needs
 
 returns-2 : tie.Need-returns-2
 returns-2 c =
-    answered-yes (c .before .before .before .before .before .before .before .before .before .before .before .is-ready .ensures) (not-false _ (c .before .before .before .before .before .before .before .before .before .if1 .left)) (c .before .before .before .before .horn-unify-unchecked .ensures)
+    let is-ready = c .before .before .before .before .before .before .before .before .before .before .before .before .is-ready in
+    let if1 = c .before .before .before .before .before .before .before .before .before .before .if1 in
+    let unify = c .before .before .before .before .before .unify in
+    let packed = c .packed in
+    answered-yes ((is-ready .ensures)) (not-false _ ((if1 .left))) ((unify .ensures)) ((packed .ensures))
 
 pub horn-unify-spec : {M : Type 1} → statement M
 horn-unify-spec =
@@ -56,7 +65,8 @@ horn-unify-spec =
     same-length-3
     same-length-4
     returns
-    horn-unify-unchecked-requires
+    unify-requires
+    packed-requires
     same-length-5
     same-length-6
     same-length-7

@@ -1,2 +1,0 @@
--- What the contract of `unifier_capi` cites.
-pub mod Unification
