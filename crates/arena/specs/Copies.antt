@@ -14,6 +14,11 @@ use Rattle.arena.specs.Cells.{headers, Cells}
 abbrev pub patternRoom : ℕ
 patternRoom = 64
 
+-- The room for variables in the words of a session: at most 65,536. It is the same under every limit on variables, so that the same words always
+-- denote the same terms.
+abbrev pub termRoom : ℕ
+termRoom = 65536
+
 -- A pattern's word, moved: variable x becomes the number counter + its place; the reference `first` becomes `base`, and those above it follow; a header
 -- stays.
 unfoldable pub moved : List ℕ → ℕ → ℕ → ℕ → ℕ → ℕ

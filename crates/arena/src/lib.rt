@@ -14,6 +14,7 @@ pub use format::HEADERS;
 pub use format::INPUTS;
 pub use format::PATTERN_ROOM;
 pub use format::SYMBOL_STEP;
+pub use format::TERM_ROOM;
 use links::greatest;
 use links::link;
 use links::past;

@@ -7,7 +7,7 @@ use mathlib.Core.List.{List}
 use lib.ListN.{length}
 use lib.Seq.{sets}
 use Rattle.arena.specs.Cells.{headers}
-use Rattle.arena.specs.Copies.{copied, Copyable}
+use Rattle.arena.specs.Copies.{termRoom, copied, Copyable}
 use Rattle.arena.specs.Rows.{Rows}
 use Rattle.unifier.specs.Tables.{undone}
 use Rattle.unifier.specs.Contracts.{Undoable}
@@ -18,22 +18,25 @@ use Rattle.attempts.specs.Parts.{copyable, copied-kept, copied-long, cop
 use Rattle.attempts.specs.Heads.{allowed}
 use Rattle.attempts.specs.declared.Stored.{Stored}
 
-module _ {room limit : ℕ} {pattern places : List ℕ} {stored : Stored} {words : List ℕ} {rows : Rows} {counter used mark bound : ℕ}
-    (asked : BodyAsked room limit pattern places stored words rows counter used mark bound) where
+module _ {most limit : ℕ} {pattern places : List ℕ} {stored : Stored} {words : List ℕ} {rows : Rows} {counter used mark bound : ℕ}
+    (asked : BodyAsked most limit pattern places stored words rows counter used mark bound) where
   pub body-undoable : Undoable rows bound mark
   body-undoable = form-undoable (asked .form) (asked .marked)
 
   -- The limits refuse the premises, and the bindings are undone.
-  pub body-refused : {rows′ : Rows} → over (within room limit) (counter + stored .variables) (used + stored .head + stored .body) ≡ true
-      → rows′ ≡ undone rows mark (bound - mark) → BodyTried room limit pattern places stored words words rows rows′ counter used mark bound false
+  pub body-refused : {rows′ : Rows} → over (within most limit) (counter + stored .variables) (used + stored .head + stored .body) ≡ true
+      → rows′ ≡ undone rows mark (bound - mark) → BodyTried most limit pattern places stored words words rows rows′ counter used mark bound false
   body-refused e u = record { done = (e, u); kept = λ i l. refl; long = refl }
 
-  module _ (fits : over (within room limit) (counter + stored .variables) (used + stored .head + stored .body) ≡ false) where
-    few : counter + stored .variables ≤ room
-    few = allowed room limit (counter + stored .variables) (used + stored .head + stored .body) fits .0
+  module _ (fits : over (within most limit) (counter + stored .variables) (used + stored .head + stored .body) ≡ false) where
+    within-most : counter + stored .variables ≤ most
+    within-most = allowed most limit (counter + stored .variables) (used + stored .head + stored .body) fits .0
+
+    few : counter + stored .variables ≤ termRoom
+    few = let a = within-most in let b = asked .enough in omega arith
 
     short : used + stored .head + stored .body ≤ limit
-    short = allowed room limit (counter + stored .variables) (used + stored .head + stored .body) fits .1
+    short = allowed most limit (counter + stored .variables) (used + stored .head + stored .body) fits .1
 
     more : counter + stored .met ≤ counter + stored .variables
     more = let a = asked .grows in omega arith
@@ -41,21 +44,21 @@ module _ {room limit : ℕ} {pattern places : List ℕ} {stored : Stored} {words
     space : used + stored .head + stored .body ≤ length words
     space = let a = short in let b = asked .lentWords in omega arith
 
-    small : room + (used + stored .head) + stored .body ≤ headers
+    small : termRoom + (used + stored .head) + stored .body ≤ headers
     small = let a = short in let b = asked .low in omega arith
 
-    pub body-copyable : Copyable pattern (stored .from) (stored .body) places words room (used + stored .head) counter
+    pub body-copyable : Copyable pattern (stored .from) (stored .body) places words termRoom (used + stored .head) counter
     body-copyable = copyable (asked .part) counter (asked .form) more few space small
 
     -- The premises were copied.
-    pub body-copied : {words′ : List ℕ} → words′ ≡ sets words (used + stored .head) (copied pattern (stored .from) (stored .body) places room (used + stored .head) counter)
-        → BodyTried room limit pattern places stored words words′ rows rows counter used mark bound true
+    pub body-copied : {words′ : List ℕ} → words′ ≡ sets words (used + stored .head) (copied pattern (stored .from) (stored .body) places termRoom (used + stored .head) counter)
+        → BodyTried most limit pattern places stored words words′ rows rows counter used mark bound true
     body-copied {words′} w = record {
       done = (
         fits,
         record {
           same = refl;
-          form = let a = few in let b = asked .lentRows in copied-form (asked .part) counter (asked .form) more few space small words′ w (omega arith);
+          form = let a = within-most in let b = asked .lentRows in copied-form (asked .part) counter (asked .form) more few space small words′ w (omega arith);
           bindings = copied-held (asked .part) counter (asked .form) more few space small words′ w;
           references = λ r h. copied-reference (asked .part) counter (asked .form) more few space small words′ w r h;
           denotes = λ r h. copied-denotes (asked .part) counter (asked .form) more few space small words′ w r h;

@@ -8,7 +8,7 @@ use lib.ListN.{getD, length}
 use Rattle.terms.specs.Term.{Term, sub}
 use Rattle.terms.specs.Unification.{fails, unified, unify}
 use Rattle.arena.specs.Cells.{headers, denote, Reference, Same, cells, termsOf}
-use Rattle.arena.specs.Copies.{patternRoom, numbered, moved}
+use Rattle.arena.specs.Copies.{patternRoom, termRoom, numbered, moved}
 use Rattle.arena.specs.Rows.{Rows, column}
 use Rattle.unifier.specs.Tables.{undone}
 use Rattle.unifier.specs.Stored.{held, Form}
@@ -23,39 +23,41 @@ use Rattle.attempts.specs.declared.Tried.the-variants.{Exceeded, Missed,
 use Rattle.attempts.specs.declared.Meeting.{Meeting}
 use Rattle.attempts.specs.declared.Meeting.the-variants.{Refused, Apart, Unifies}
 
--- The state of a search, lent and in form: `counter` variables, `used` words and `bound` bindings; and there is room for what the limits allow.
-pub record State (room limit : ℕ) (words : List ℕ) (rows links marks stack : Rows) (counter used bound : ℕ) : Type 0 where
-  pub form : Form room words rows counter used bound
-  pub scratch : Scratch room limit links marks stack
+-- The state of a search, lent and in form: `counter` variables, `used` words and `bound` bindings; and there is room for what the limits allow, `most`
+-- variables and `limit` words. The encoding's room is a number of its own, the same for a whole session whatever limits its goals have.
+pub record State (most limit : ℕ) (words : List ℕ) (rows links marks stack : Rows) (counter used bound : ℕ) : Type 0 where
+  pub form : Form termRoom words rows counter used bound
+  pub scratch : Scratch termRoom limit links marks stack
   pub lentWords : limit ≤ length words
-  pub lentRows : room ≤ length rows
-  pub low : room + limit ≤ headers
+  pub lentRows : most ≤ length rows
+  pub enough : most ≤ termRoom
+  pub low : termRoom + limit ≤ headers
 
 -- What an attempt asks: a rule in form, a state, and a goal that refers to it.
-pub record Asked (room limit : ℕ) (pattern premises places : List ℕ) (stored : Stored) (words : List ℕ) (rows links marks stack : Rows)
+pub record Asked (most limit : ℕ) (pattern premises places : List ℕ) (stored : Stored) (words : List ℕ) (rows links marks stack : Rows)
     (counter used bound goal : ℕ) : Type 0 where
   pub rule : StoredRule pattern premises places stored
-  pub state : State room limit words rows links marks stack counter used bound
-  pub refers : Reference room (cells words) counter used goal
+  pub state : State most limit words rows links marks stack counter used bound
+  pub refers : Reference termRoom (cells words) counter used goal
 
 -- The theory's attempt for an answer, and the bindings that then stand.
-abbrev pub attemptOf : ℕ → List ℕ → Rows → Tried → Attempt
-attemptOf room words rows Exceeded = exceeded
-attemptOf room words rows (Missed counter) = missed counter
-attemptOf room words rows (Entered counter bound used) = entered (held room words rows bound) counter used
+abbrev pub attemptOf : List ℕ → Rows → Tried → Attempt
+attemptOf words rows Exceeded = exceeded
+attemptOf words rows (Missed counter) = missed counter
+attemptOf words rows (Entered counter bound used) = entered (held termRoom words rows bound) counter used
 
 -- What a pattern's reference becomes, when the part from `from` on was copied to the address `used` with new variables from the counter on.
-abbrev pub copiedAt : List ℕ → ℕ → ℕ → ℕ → ℕ → ℕ → ℕ
-copiedAt places counter from room used r = moved places counter (patternRoom + from) (room + used) r
+abbrev pub copiedAt : List ℕ → ℕ → ℕ → ℕ → ℕ → ℕ
+copiedAt places counter from used r = moved places counter (patternRoom + from) (termRoom + used) r
 
 -- What a premise's reference becomes by an attempt from `used` words on: the premises are copied behind the conclusion.
-abbrev pub premiseAt : List ℕ → ℕ → Stored → ℕ → ℕ → ℕ → ℕ
-premiseAt places counter stored room used r = copiedAt places counter (stored .from) room (used + stored .head) r
+abbrev pub premiseAt : List ℕ → ℕ → Stored → ℕ → ℕ → ℕ
+premiseAt places counter stored used r = copiedAt places counter (stored .from) (used + stored .head) r
 
 -- Nothing stays but the counter's advance: the rows are those at entry, and the state is in form with as many words and bindings as at entry.
-pub record Back (room : ℕ) (words′ : List ℕ) (rows rows′ : Rows) (counter used bound : ℕ) : Type 0 where
+pub record Back (words′ : List ℕ) (rows rows′ : Rows) (counter used bound : ℕ) : Type 0 where
   pub same : rows′ ≡ rows
-  pub form : Form room words′ rows′ counter used bound
+  pub form : Form termRoom words′ rows′ counter used bound
 
 -- Bindings were only added, and undoing them gives the very rows at entry.
 pub record Added (rows rows′ : Rows) (bound bound′ : ℕ) : Type 0 where
@@ -65,34 +67,34 @@ pub record Added (rows rows′ : Rows) (bound bound′ : ℕ) : Type 0 where
   pub back : undone rows′ bound (bound′ - bound) ≡ rows
 
 -- The rule was entered: the state is in form with the counts of the answer, and the premises stand in it.
-pub record Inside (room : ℕ) (premises places : List ℕ) (stored : Stored) (R : Rule) (words′ : List ℕ) (rows rows′ : Rows)
+pub record Inside (premises places : List ℕ) (stored : Stored) (R : Rule) (words′ : List ℕ) (rows rows′ : Rows)
     (counter used bound counter′ used′ bound′ : ℕ) : Type 0 where
-  pub form : Form room words′ rows′ counter′ used′ bound′
+  pub form : Form termRoom words′ rows′ counter′ used′ bound′
   pub later : counter ≤ counter′
   pub longer : used ≤ used′
   pub added : Added rows rows′ bound bound′
   -- each premise's reference is in form, and in order they denote the instances of the premises
-  pub references : (i : ℕ) → i < length premises → Reference room (cells words′) counter′ used′ (premiseAt places counter stored room used (getD premises i 0))
-  pub denoted : termsOf (denote room (cells words′)) (map (premiseAt places counter stored room used) premises) ≡ body counter R
+  pub references : (i : ℕ) → i < length premises → Reference termRoom (cells words′) counter′ used′ (premiseAt places counter stored used (getD premises i 0))
+  pub denoted : termsOf (denote termRoom (cells words′)) (map (premiseAt places counter stored used) premises) ≡ body counter R
 
 -- What an answer leaves.
-abbrev pub Left : ℕ → List ℕ → List ℕ → Stored → Rule → List ℕ → Rows → Rows → ℕ → ℕ → ℕ → Tried → Type 0
-Left room premises places stored R words′ rows rows′ counter used bound Exceeded = Back room words′ rows rows′ counter used bound
-Left room premises places stored R words′ rows rows′ counter used bound (Missed counter′) = (counter ≤ counter′) × Back room words′ rows rows′ counter′ used bound
-Left room premises places stored R words′ rows rows′ counter used bound (Entered counter′ bound′ used′) =
-    Inside room premises places stored R words′ rows rows′ counter used bound counter′ used′ bound′
+abbrev pub Left : List ℕ → List ℕ → Stored → Rule → List ℕ → Rows → Rows → ℕ → ℕ → ℕ → Tried → Type 0
+Left premises places stored R words′ rows rows′ counter used bound Exceeded = Back words′ rows rows′ counter used bound
+Left premises places stored R words′ rows rows′ counter used bound (Missed counter′) = (counter ≤ counter′) × Back words′ rows rows′ counter′ used bound
+Left premises places stored R words′ rows rows′ counter used bound (Entered counter′ bound′ used′) =
+    Inside premises places stored R words′ rows rows′ counter used bound counter′ used′ bound′
 
 -- `try_rule` tried a rule with a goal.
-pub record Attempted (room limit : ℕ) (pattern premises places : List ℕ) (stored : Stored) (words words′ : List ℕ)
+pub record Attempted (most limit : ℕ) (pattern premises places : List ℕ) (stored : Stored) (words words′ : List ℕ)
     (rows rows′ links links′ marks marks′ stack stack′ : Rows) (counter used bound goal : ℕ) (answer : Tried) : Type 0 where
   -- the answer is the theory's
-  pub is : attemptOf room words′ rows′ answer
-      ≡ attempt (within room limit) (held room words rows bound) (denote room (cells words) goal) used counter (ruleOf pattern premises stored)
+  pub is : attemptOf words′ rows′ answer
+      ≡ attempt (within most limit) (held termRoom words rows bound) (denote termRoom (cells words) goal) used counter (ruleOf pattern premises stored)
   -- the words that were in use stand, and there are as many
-  pub kept : Same room (cells words) (cells words′) used
+  pub kept : Same termRoom (cells words) (cells words′) used
   pub long : length words′ ≡ length words
   -- what the answer leaves
-  pub left : Left room premises places stored (ruleOf pattern premises stored) words′ rows rows′ counter used bound answer
+  pub left : Left premises places stored (ruleOf pattern premises stored) words′ rows rows′ counter used bound answer
   -- the scratch is as it was
   pub linksKept : links′ ≡ links
   pub marksKept : marks′ ≡ marks
@@ -101,43 +103,43 @@ pub record Attempted (room limit : ℕ) (pattern premises places : List ℕ) (st
 -- The conclusion
 
 -- What copying the conclusion and unifying it asks: its words and its reference in form, a state, and a goal.
-pub record HeadAsked (room limit : ℕ) (pattern places : List ℕ) (stored : Stored) (words : List ℕ) (rows links marks stack : Rows)
+pub record HeadAsked (most limit : ℕ) (pattern places : List ℕ) (stored : Stored) (words : List ℕ) (rows links marks stack : Rows)
     (counter used bound goal : ℕ) : Type 0 where
   pub part : Part pattern places (stored .from + stored .body) (stored .head) (stored .met)
   pub root : Root pattern places (stored .from + stored .body) (stored .head) (stored .met) (stored .conclusion)
   pub few : stored .met ≤ patternRoom
-  pub state : State room limit words rows links marks stack counter used bound
-  pub refers : Reference room (cells words) counter used goal
+  pub state : State most limit words rows links marks stack counter used bound
+  pub refers : Reference termRoom (cells words) counter used goal
 
 -- The conclusion's instance by the table of places.
 abbrev pub instance : List ℕ → List ℕ → Stored → ℕ → Term
 instance pattern places stored counter = sub (numbered places counter) (patternOf pattern (stored .conclusion))
 
 -- The conclusion was unified with the goal: so many bindings stand, and the state is in form with the conclusion in it.
-pub record Joined (room : ℕ) (words′ : List ℕ) (rows rows′ : Rows) (variables used bound bound′ : ℕ) : Type 0 where
-  pub form : Form room words′ rows′ variables used bound′
+pub record Joined (words′ : List ℕ) (rows rows′ : Rows) (variables used bound bound′ : ℕ) : Type 0 where
+  pub form : Form termRoom words′ rows′ variables used bound′
   pub added : Added rows rows′ bound bound′
 
 -- What came of the goal and the conclusion: the limits refuse the conclusion; or it does not unify, and the rows are those at entry; or it does.
 abbrev pub Met : ℕ → ℕ → List ℕ → List ℕ → Stored → List ℕ → List ℕ → Rows → Rows → ℕ → ℕ → ℕ → ℕ → Meeting → Type 0
-Met room limit pattern places stored words words′ rows rows′ counter used bound goal Refused =
-    (over (within room limit) (counter + stored .met) (used + stored .head) ≡ true) × (rows′ ≡ rows)
-Met room limit pattern places stored words words′ rows rows′ counter used bound goal Apart =
-    (over (within room limit) (counter + stored .met) (used + stored .head) ≡ false)
-    × (unify (counter + stored .met) (held room words rows bound) (denote room (cells words) goal) (instance pattern places stored counter) ≡ fails)
+Met most limit pattern places stored words words′ rows rows′ counter used bound goal Refused =
+    (over (within most limit) (counter + stored .met) (used + stored .head) ≡ true) × (rows′ ≡ rows)
+Met most limit pattern places stored words words′ rows rows′ counter used bound goal Apart =
+    (over (within most limit) (counter + stored .met) (used + stored .head) ≡ false)
+    × (unify (counter + stored .met) (held termRoom words rows bound) (denote termRoom (cells words) goal) (instance pattern places stored counter) ≡ fails)
     × (rows′ ≡ rows)
-Met room limit pattern places stored words words′ rows rows′ counter used bound goal (Unifies bound′) =
-    (over (within room limit) (counter + stored .met) (used + stored .head) ≡ false)
-    × (unify (counter + stored .met) (held room words rows bound) (denote room (cells words) goal) (instance pattern places stored counter)
-    ≡ unified (held room words′ rows′ bound′))
-    × Joined room words′ rows rows′ (counter + stored .met) (used + stored .head) bound bound′
+Met most limit pattern places stored words words′ rows rows′ counter used bound goal (Unifies bound′) =
+    (over (within most limit) (counter + stored .met) (used + stored .head) ≡ false)
+    × (unify (counter + stored .met) (held termRoom words rows bound) (denote termRoom (cells words) goal) (instance pattern places stored counter)
+    ≡ unified (held termRoom words′ rows′ bound′))
+    × Joined words′ rows rows′ (counter + stored .met) (used + stored .head) bound bound′
 
 -- `try_head` copied the conclusion and unified the goal with it.
-pub record HeadTried (room limit : ℕ) (pattern places : List ℕ) (stored : Stored) (words words′ : List ℕ)
+pub record HeadTried (most limit : ℕ) (pattern places : List ℕ) (stored : Stored) (words words′ : List ℕ)
     (rows rows′ links links′ marks marks′ stack stack′ : Rows) (counter used bound goal : ℕ) (answer : Meeting) : Type 0 where
-  pub came : Met room limit pattern places stored words words′ rows rows′ counter used bound goal answer
+  pub came : Met most limit pattern places stored words words′ rows rows′ counter used bound goal answer
   -- the words that were in use stand, and there are as many
-  pub kept : Same room (cells words) (cells words′) used
+  pub kept : Same termRoom (cells words) (cells words′) used
   pub long : length words′ ≡ length words
   -- the scratch is as it was
   pub linksKept : links′ ≡ links
@@ -147,38 +149,39 @@ pub record HeadTried (room limit : ℕ) (pattern places : List ℕ) (stored : St
 -- The premises
 
 -- What copying the premises asks: their words in form, and a state in form with the conclusion in it; `mark` bindings stood at entry.
-pub record BodyAsked (room limit : ℕ) (pattern places : List ℕ) (stored : Stored) (words : List ℕ) (rows : Rows) (counter used mark bound : ℕ) : Type 0 where
+pub record BodyAsked (most limit : ℕ) (pattern places : List ℕ) (stored : Stored) (words : List ℕ) (rows : Rows) (counter used mark bound : ℕ) : Type 0 where
   pub part : Part pattern places (stored .from) (stored .body) (stored .variables)
   pub few : stored .variables ≤ patternRoom
   pub grows : stored .met ≤ stored .variables
-  pub form : Form room words rows (counter + stored .met) (used + stored .head) bound
+  pub form : Form termRoom words rows (counter + stored .met) (used + stored .head) bound
   pub marked : mark ≤ bound
   pub lentWords : limit ≤ length words
-  pub lentRows : room ≤ length rows
-  pub low : room + limit ≤ headers
+  pub lentRows : most ≤ length rows
+  pub enough : most ≤ termRoom
+  pub low : termRoom + limit ≤ headers
 
 -- The premises were copied: the bindings are the same, the state is in form, and each reference among the premises' words denotes its instance.
-pub record Copied (room : ℕ) (pattern places : List ℕ) (stored : Stored) (words words′ : List ℕ) (rows rows′ : Rows) (counter used bound : ℕ) : Type 0 where
+pub record Copied (pattern places : List ℕ) (stored : Stored) (words words′ : List ℕ) (rows rows′ : Rows) (counter used bound : ℕ) : Type 0 where
   pub same : rows′ ≡ rows
-  pub form : Form room words′ rows′ (counter + stored .variables) (used + stored .head + stored .body) bound
-  pub bindings : held room words′ rows′ bound ≡ held room words rows bound
+  pub form : Form termRoom words′ rows′ (counter + stored .variables) (used + stored .head + stored .body) bound
+  pub bindings : held termRoom words′ rows′ bound ≡ held termRoom words rows bound
   pub references : (r : ℕ) → Root pattern places (stored .from) (stored .body) (stored .variables) r
-      → Reference room (cells words′) (counter + stored .variables) (used + stored .head + stored .body) (premiseAt places counter stored room used r)
+      → Reference termRoom (cells words′) (counter + stored .variables) (used + stored .head + stored .body) (premiseAt places counter stored used r)
   pub denotes : (r : ℕ) → Root pattern places (stored .from) (stored .body) (stored .variables) r
-      → denote room (cells words′) (premiseAt places counter stored room used r) ≡ sub (numbered places counter) (patternOf pattern r)
+      → denote termRoom (cells words′) (premiseAt places counter stored used r) ≡ sub (numbered places counter) (patternOf pattern r)
 
 -- What came of the premises: they were copied, or the limits refuse them and the bindings are undone to the mark.
 abbrev pub Done : ℕ → ℕ → List ℕ → List ℕ → Stored → List ℕ → List ℕ → Rows → Rows → ℕ → ℕ → ℕ → ℕ → Bool → Type 0
-Done room limit pattern places stored words words′ rows rows′ counter used mark bound false =
-    (over (within room limit) (counter + stored .variables) (used + stored .head + stored .body) ≡ true) × (rows′ ≡ undone rows mark (bound - mark))
-Done room limit pattern places stored words words′ rows rows′ counter used mark bound true =
-    (over (within room limit) (counter + stored .variables) (used + stored .head + stored .body) ≡ false)
-    × Copied room pattern places stored words words′ rows rows′ counter used bound
+Done most limit pattern places stored words words′ rows rows′ counter used mark bound false =
+    (over (within most limit) (counter + stored .variables) (used + stored .head + stored .body) ≡ true) × (rows′ ≡ undone rows mark (bound - mark))
+Done most limit pattern places stored words words′ rows rows′ counter used mark bound true =
+    (over (within most limit) (counter + stored .variables) (used + stored .head + stored .body) ≡ false)
+    × Copied pattern places stored words words′ rows rows′ counter used bound
 
 -- `try_body` answered whether the premises were copied behind the conclusion.
-pub record BodyTried (room limit : ℕ) (pattern places : List ℕ) (stored : Stored) (words words′ : List ℕ) (rows rows′ : Rows)
+pub record BodyTried (most limit : ℕ) (pattern places : List ℕ) (stored : Stored) (words words′ : List ℕ) (rows rows′ : Rows)
     (counter used mark bound : ℕ) (answer : Bool) : Type 0 where
-  pub done : Done room limit pattern places stored words words′ rows rows′ counter used mark bound answer
+  pub done : Done most limit pattern places stored words words′ rows rows′ counter used mark bound answer
   -- the words that were in use stand, and there are as many
-  pub kept : Same room (cells words) (cells words′) (used + stored .head)
+  pub kept : Same termRoom (cells words) (cells words′) (used + stored .head)
   pub long : length words′ ≡ length words

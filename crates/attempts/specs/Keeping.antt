@@ -5,6 +5,7 @@ use mathlib.Core.Path.{_≡_, refl, sym, ap, _∙_, subst}
 use mathlib.Core.List.{List}
 use lib.ListN.{length}
 use Rattle.arena.specs.Cells.{denote, Reference, Same, frame-denote, cells}
+use Rattle.arena.specs.Copies.{termRoom}
 use Rattle.arena.specs.Rows.{Rows, column}
 use Rattle.unifier.specs.Tables.{undone}
 use Rattle.unifier.specs.Stored.{held, Form}
@@ -40,34 +41,35 @@ added-both {t} {t′} {t″} {a} {b} {c} g h =
       back = undone-marks t″ a b c l m ∙ ap (λ (s : Rows). undone s a (b - a)) (h .back) ∙ g .back;
     }
 
-module _ {room limit : ℕ} {pattern premises places : List ℕ} {stored : Stored} {words words′ : List ℕ} {rows rows′ links links′ marks marks′ stack stack′ : Rows}
-    {counter used bound goal : ℕ} (asked : Asked room limit pattern premises places stored words rows links marks stack counter used bound goal) where
+module _ {most limit : ℕ} {pattern premises places : List ℕ} {stored : Stored} {words words′ : List ℕ} {rows rows′ links links′ marks marks′ stack stack′ : Rows}
+    {counter used bound goal : ℕ} (asked : Asked most limit pattern premises places stored words rows links marks stack counter used bound goal) where
   -- An attempt changes no term that stood.
   pub attempted-terms : {answer : Tried}
-      → Attempted room limit pattern premises places stored words words′ rows rows′ links links′ marks marks′ stack stack′ counter used bound goal answer
-      → (r : ℕ) → Reference room (cells words) counter used r → denote room (cells words) r ≡ denote room (cells words′) r
-  attempted-terms h r ref = frame-denote room (cells words) counter used (asked .state .form .words) (cells words′) (h .kept) r ref
+      → Attempted most limit pattern premises places stored words words′ rows rows′ links links′ marks marks′ stack stack′ counter used bound goal answer
+      → (r : ℕ) → Reference termRoom (cells words) counter used r → denote termRoom (cells words) r ≡ denote termRoom (cells words′) r
+  attempted-terms h r ref = frame-denote termRoom (cells words) counter used (asked .state .form .words) (cells words′) (h .kept) r ref
 
   -- And no binding.
   pub attempted-held : (answer : Tried)
-      → Attempted room limit pattern premises places stored words words′ rows rows′ links links′ marks marks′ stack stack′ counter used bound goal answer
-      → (j : ℕ) → j ≤ bound → held room words′ rows′ j ≡ held room words rows j
-  attempted-held Exceeded h j l = ap (λ (b : Rows). held room words′ b j) (h .left .same) ∙ held-older (asked .state .form) words′ (h .kept) j l
-  attempted-held (Missed c) h j l = ap (λ (b : Rows). held room words′ b j) (h .left .1 .same) ∙ held-older (asked .state .form) words′ (h .kept) j l
+      → Attempted most limit pattern premises places stored words words′ rows rows′ links links′ marks marks′ stack stack′ counter used bound goal answer
+      → (j : ℕ) → j ≤ bound → held termRoom words′ rows′ j ≡ held termRoom words rows j
+  attempted-held Exceeded h j l = ap (λ (b : Rows). held termRoom words′ b j) (h .left .same) ∙ held-older (asked .state .form) words′ (h .kept) j l
+  attempted-held (Missed c) h j l = ap (λ (b : Rows). held termRoom words′ b j) (h .left .1 .same) ∙ held-older (asked .state .form) words′ (h .kept) j l
   attempted-held (Entered c n u) h j l = added-held (asked .state .form) words′ (h .kept) (h .left .added) j l
 
   -- In form, with as many rows, it is again a state of the search.
   pub attempted-state : {answer : Tried} {counter′ used′ bound′ : ℕ}
-      → Attempted room limit pattern premises places stored words words′ rows rows′ links links′ marks marks′ stack stack′ counter used bound goal answer
-      → length rows′ ≡ length rows → Form room words′ rows′ counter′ used′ bound′ → State room limit words′ rows′ links′ marks′ stack′ counter′ used′ bound′
+      → Attempted most limit pattern premises places stored words words′ rows rows′ links links′ marks marks′ stack stack′ counter used bound goal answer
+      → length rows′ ≡ length rows → Form termRoom words′ rows′ counter′ used′ bound′ → State most limit words′ rows′ links′ marks′ stack′ counter′ used′ bound′
   attempted-state h e form =
       let a = asked .state .lentWords in let b = asked .state .lentRows in let l = h .long in
       record {
         form = form;
-        scratch = subst (λ (x : Rows). Scratch room limit links′ marks′ x) (sym (h .stackKept))
-            (subst (λ (x : Rows). Scratch room limit links′ x stack) (sym (h .marksKept))
-            (subst (λ (x : Rows). Scratch room limit x marks stack) (sym (h .linksKept)) (asked .state .scratch)));
+        scratch = subst (λ (x : Rows). Scratch termRoom limit links′ marks′ x) (sym (h .stackKept))
+            (subst (λ (x : Rows). Scratch termRoom limit links′ x stack) (sym (h .marksKept))
+            (subst (λ (x : Rows). Scratch termRoom limit x marks stack) (sym (h .linksKept)) (asked .state .scratch)));
         lentWords = omega arith;
         lentRows = omega arith;
+        enough = asked .state .enough;
         low = asked .state .low;
       }

@@ -5,6 +5,7 @@ pub mod Contracts
 pub mod RuleLaws
 pub mod Extending
 pub mod Parts
+pub mod Clashes
 pub mod Heads
 pub mod Bodies
 pub mod Outcomes

@@ -7,7 +7,7 @@ use lib.ListN.{getD, length}
 use lib.Seq.{sets, length-sets}
 use Rattle.terms.specs.Term.{sub}
 use Rattle.arena.specs.Cells.{headers, denote, Reference, WellFormed, Same, cells}
-use Rattle.arena.specs.Copies.{patternRoom, moved, copied, numbered, Copyable, Movable, PartReference}
+use Rattle.arena.specs.Copies.{patternRoom, termRoom, moved, copied, numbered, Copyable, Movable, PartReference}
 use Rattle.arena.specs.CopyLaws.{inst-frame, inst-formed, inst-reference, inst-denotes}
 use Rattle.arena.specs.Rows.{Rows}
 use Rattle.unifier.specs.Stored.{held, Form}
@@ -17,9 +17,9 @@ use Rattle.attempts.specs.Contracts.{copiedAt}
 use Rattle.attempts.specs.Extending.{held-kept}
 
 module _ {pattern places : List ℕ} {from count n : ℕ} (part : Part pattern places from count n)
-    {words : List ℕ} {rows : Rows} {room used variables bound : ℕ} (counter : ℕ) (form : Form room words rows variables used bound)
-    (more : variables ≤ counter + n) (few : counter + n ≤ room) (space : used + count ≤ length words) (small : room + used + count ≤ headers) where
-  pub copyable : Copyable pattern from count places words room used counter
+    {words : List ℕ} {rows : Rows} {used variables bound : ℕ} (counter : ℕ) (form : Form termRoom words rows variables used bound)
+    (more : variables ≤ counter + n) (few : counter + n ≤ termRoom) (space : used + count ≤ length words) (small : termRoom + used + count ≤ headers) where
+  pub copyable : Copyable pattern from count places words termRoom used counter
   copyable = record {
     part = part .there;
     space = space;
@@ -38,7 +38,7 @@ module _ {pattern places : List ℕ} {from count n : ℕ} (part : Part pattern p
   within-part r root = record { variable = λ v. let x = root .numbered v in omega arith; from-on = root .from-on; node = root .below; header = root .header }
 
   -- It can be moved: no sum is too large.
-  pub root-movable : (r : ℕ) → Root pattern places from count n r → Movable places counter (patternRoom + from) (room + used) r
+  pub root-movable : (r : ℕ) → Root pattern places from count n r → Movable places counter (patternRoom + from) (termRoom + used) r
   root-movable r root = record {
     listed = root .listed;
     number = λ v. let x = root .numbered v in omega arith;
@@ -46,38 +46,38 @@ module _ {pattern places : List ℕ} {from count n : ℕ} (part : Part pattern p
     address = λ v h. let a = root .from-on v in let b = root .below v in omega arith;
   }
 
-  module _ (words′ : List ℕ) (written : words′ ≡ sets words used (copied pattern from count places room used counter)) where
+  module _ (words′ : List ℕ) (written : words′ ≡ sets words used (copied pattern from count places termRoom used counter)) where
     -- The words in use stand, and there are as many words.
-    pub copied-kept : Same room (cells words) (cells words′) used
+    pub copied-kept : Same termRoom (cells words) (cells words′) used
     copied-kept =
-        subst (λ (w : List ℕ). Same room (cells words) (cells w) used) (sym written)
-        (inst-frame pattern from count places words room used counter patternRoom variables (counter + n) copyable (part .formed) (form .words) more few number)
+        subst (λ (w : List ℕ). Same termRoom (cells words) (cells w) used) (sym written)
+        (inst-frame pattern from count places words termRoom used counter patternRoom variables (counter + n) copyable (part .formed) (form .words) more few number)
 
     pub copied-long : length words′ ≡ length words
-    copied-long = ap length written ∙ length-sets words used (copied pattern from count places room used counter)
+    copied-long = ap length written ∙ length-sets words used (copied pattern from count places termRoom used counter)
 
-    formed : WellFormed room (cells words′) (counter + n) (used + count)
+    formed : WellFormed termRoom (cells words′) (counter + n) (used + count)
     formed =
-        subst (λ (w : List ℕ). WellFormed room (cells w) (counter + n) (used + count)) (sym written)
-        (inst-formed pattern from count places words room used counter patternRoom variables (counter + n) copyable (part .formed) (form .words) more few number)
+        subst (λ (w : List ℕ). WellFormed termRoom (cells w) (counter + n) (used + count)) (sym written)
+        (inst-formed pattern from count places words termRoom used counter patternRoom variables (counter + n) copyable (part .formed) (form .words) more few number)
 
     -- The bindings are the same, and the state is in form with the copy in it.
-    pub copied-held : held room words′ rows bound ≡ held room words rows bound
+    pub copied-held : held termRoom words′ rows bound ≡ held termRoom words rows bound
     copied-held = held-kept form words′ copied-kept
 
-    pub copied-form : counter + n ≤ length rows → Form room words′ rows (counter + n) (used + count) bound
+    pub copied-form : counter + n ≤ length rows → Form termRoom words′ rows (counter + n) (used + count) bound
     copied-form lent =
         let e = copied-long in
         form-grows form words′ copied-kept more (omega arith) formed few (omega arith) (omega arith) lent
 
     module _ (r : ℕ) (root : Root pattern places from count n r) where
       -- A judgment's reference is found in the copy, and denotes the instance.
-      pub copied-reference : Reference room (cells words′) (counter + n) (used + count) (copiedAt places counter from room used r)
+      pub copied-reference : Reference termRoom (cells words′) (counter + n) (used + count) (copiedAt places counter from used r)
       copied-reference =
-          subst (λ (w : List ℕ). Reference room (cells w) (counter + n) (used + count) (moved places counter (patternRoom + from) (room + used) r)) (sym written)
-          (inst-reference pattern from count places words room used counter patternRoom variables (counter + n) copyable (part .formed) (form .words) more few number r (within-part r root))
+          subst (λ (w : List ℕ). Reference termRoom (cells w) (counter + n) (used + count) (moved places counter (patternRoom + from) (termRoom + used) r)) (sym written)
+          (inst-reference pattern from count places words termRoom used counter patternRoom variables (counter + n) copyable (part .formed) (form .words) more few number r (within-part r root))
 
-      pub copied-denotes : denote room (cells words′) (copiedAt places counter from room used r) ≡ sub (numbered places counter) (patternOf pattern r)
+      pub copied-denotes : denote termRoom (cells words′) (copiedAt places counter from used r) ≡ sub (numbered places counter) (patternOf pattern r)
       copied-denotes =
-          ap (λ (w : List ℕ). denote room (cells w) (moved places counter (patternRoom + from) (room + used) r)) written
-          ∙ inst-denotes pattern from count places words room used counter patternRoom variables (counter + n) copyable (part .formed) (form .words) more few number r (within-part r root)
+          ap (λ (w : List ℕ). denote termRoom (cells w) (moved places counter (patternRoom + from) (termRoom + used) r)) written
+          ∙ inst-denotes pattern from count places words termRoom used counter patternRoom variables (counter + n) copyable (part .formed) (form .words) more few number r (within-part r root)

@@ -1,6 +1,8 @@
 // One call of `try_rule` on storage that is tested first. The rule: succ (succ (succ (succ x))) from pair x y and succ y, where x and y have the
 // numbers 1 and 0.
 use arena::HEADERS;
+use arena::PATTERN_ROOM;
+use arena::TERM_ROOM;
 use attempts::Stored;
 use attempts::Tried;
 use samples::unification;
@@ -10,7 +12,7 @@ ghost use mathlib.Core.Bool.{true};
 
 // The counts of a search, and a goal.
 pub struct State {
-    pub room: u32,
+    pub most: u32,
     pub limit: u32,
     pub counter: u32,
     pub used: u32,
@@ -37,27 +39,27 @@ fn has_room(
     links: &[[u32; 2]],
     marks: &[[u32; 2]],
     stack: &[[u32; 3]],
-    room: u32,
+    most: u32,
     limit: u32,
 ) -> bool
-    ensures { λ r. ⌜ (r ≡ true → Room room limit (now (words .entry)) (now (bindings .entry)) (now (links .entry)) (now (marks .entry)) (now (stack .entry))) ⌝ }
+    ensures { λ r. ⌜ (r ≡ true → Room most limit (now (words .entry)) (now (bindings .entry)) (now (links .entry)) (now (marks .entry)) (now (stack .entry))) ⌝ }
 {
-    if HEADERS < room {
+    if TERM_ROOM < most {
         return false;
     }
-    if HEADERS - room < limit {
+    if HEADERS - TERM_ROOM < limit {
         return false;
     }
     if words.len() < limit as usize {
         return false;
     }
-    if bindings.len() < room as usize {
+    if bindings.len() < most as usize {
         return false;
     }
-    if !checks::are_zero_pairs(links, (room + limit) as usize) {
+    if !checks::are_zero_pairs(links, (TERM_ROOM + limit) as usize) {
         return false;
     }
-    if !checks::are_zero_pairs(marks, (room + limit) as usize) {
+    if !checks::are_zero_pairs(marks, (TERM_ROOM + limit) as usize) {
         return false;
     }
     checks::are_zero_triples(stack, limit as usize)
@@ -74,18 +76,25 @@ fn is_state(
 ) -> bool
     ensures { λ r. ⌜ StateTold state (now (words .entry)) (now (bindings .entry)) (now (links .entry)) (now (marks .entry)) (now (marks .exit)) (now (stack .entry)) r ⌝ }
 {
-    let room = state.room;
     let counter = state.counter;
     let used = state.used;
     let bound = state.bound;
     let goal = state.goal;
-    if !checks::is_form(words, bindings, marks, room, counter, used, bound) {
+    if !checks::is_form(words, bindings, marks, counter, used, bound) {
         return false;
     }
-    if !checks::is_reference(words, room, counter, used, goal) {
+    if !checks::is_reference(words, counter, used, goal) {
         return false;
     }
-    has_room(words, bindings, links, marks, stack, room, state.limit)
+    has_room(
+        words,
+        bindings,
+        links,
+        marks,
+        stack,
+        state.most,
+        state.limit,
+    )
 }
 
 // Tries the rule.
@@ -135,7 +144,7 @@ pub fn attempt(
         links,
         marks,
         stack,
-        state.room,
+        state.most,
         state.limit,
         state.counter,
         state.used,
@@ -155,7 +164,6 @@ pub fn attempt(
 // What a premise's reference becomes by an attempt; 0 where no sum is sure to fit.
 pub fn premise(reference: u32, state: State) -> u32 {
     let counter = state.counter;
-    let room = state.room;
     let used = state.used;
     if reference < 64 {
         return 0;
@@ -163,12 +171,15 @@ pub fn premise(reference: u32, state: State) -> u32 {
     if 67 < reference {
         return 0;
     }
-    if 65536 < room {
-        return 0;
-    }
     if 262144 < used {
         return 0;
     }
     let places = [1u32, 0];
-    arena::moved_word(reference, &places, counter, 64, room + used + 8)
+    arena::moved_word(
+        reference,
+        &places,
+        counter,
+        PATTERN_ROOM,
+        TERM_ROOM + used + 8,
+    )
 }

@@ -1,4 +1,5 @@
 // Runs `try_rule` on a goal of 100,000 levels and on short ones, with just enough room and with less, and writes a line for each case.
+use arena::TERM_ROOM;
 use attempt::Came;
 use attempt::State;
 use samples::build;
@@ -9,29 +10,26 @@ use samples::unification::Case;
 
 mod attempt; // one attempt
 
-// The room for variables in most cases.
-const ROOM: u32 = 64;
+// The limit on variables in most cases.
+const MOST: u32 = 64;
 
 // More words than a case needs, and a row for each reference.
 const WORDS: usize = 200100;
 
-const REFERENCES: usize = 200164;
+const REFERENCES: usize = 265636;
 
 // Two constants and a tower of 100,000 nodes, and variable 0 as the goal, bound to the tower's node of the height given; two variables are in use, and
 // the limit leaves room for `spare` words.
 fn put_goal(
     words: &mut [u32],
     bindings: &mut [[u32; 2]],
-    room: u32,
+    most: u32,
     height: u32,
     spare: u32,
 ) -> State {
     build::put_constants(words);
-    let used = build::put_tower(words, room, 2, 100000, room);
+    let used = build::put_tower(words, 2, 100000, TERM_ROOM);
     if 100000 < height {
-        return no_state();
-    }
-    if 64 < room {
         return no_state();
     }
     if 100 < spare {
@@ -40,9 +38,9 @@ fn put_goal(
     if 262144 < used {
         return no_state();
     }
-    rows::put(bindings, 0, room + 2 * height + 1, 0);
+    rows::put(bindings, 0, TERM_ROOM + 2 * height + 1, 0);
     State {
-        room: room,
+        most: most,
         limit: used + spare,
         counter: 2,
         used: used,
@@ -54,7 +52,7 @@ fn put_goal(
 // A state that is not in form: it has a goal and no variables.
 fn no_state() -> State {
     State {
-        room: 0,
+        most: 0,
         limit: 0,
         counter: 0,
         used: 0,
@@ -103,7 +101,6 @@ fn report_attempt(
             report::number(used);
             report_premises(state);
             let after = Case {
-                room: state.room,
                 variables: counter,
                 used: used,
                 bound: bound,
@@ -116,10 +113,10 @@ fn report_attempt(
 }
 
 // Tries the rule.
-fn try_rule(name: &[u8], room: u32, height: u32, spare: u32) {
+fn try_rule(name: &[u8], most: u32, height: u32, spare: u32) {
     let mut words = [0u32; WORDS];
     let mut bindings = [[0u32; 2]; 64];
-    let state = put_goal(&mut words, &mut bindings, room, height, spare);
+    let state = put_goal(&mut words, &mut bindings, most, height, spare);
     let mut before = [[0u32; 2]; 64];
     rows::put(&mut before, 0, rows::value(&bindings, 0), 0);
     let mut links = [[0u32; 2]; REFERENCES];
@@ -140,19 +137,19 @@ fn try_rule(name: &[u8], room: u32, height: u32, spare: u32) {
 
 // Attempts with a rule that takes 1 variable and 8 words for its conclusion, and 1 and 5 more for its premises; 2 variables are in use.
 fn main() {
-    try_rule(b"a rule and a tower of 100,000", ROOM, 100000, 13);
-    try_rule(b"room for one word less", ROOM, 100000, 12);
-    try_rule(b"room for the conclusion", ROOM, 100000, 8);
+    try_rule(b"a rule and a tower of 100,000", MOST, 100000, 13);
+    try_rule(b"room for one word less", MOST, 100000, 12);
+    try_rule(b"room for the conclusion", MOST, 100000, 8);
     try_rule(
         b"room for one word less than the conclusion",
-        ROOM,
+        MOST,
         100000,
         7,
     );
     try_rule(b"room for 4 variables", 4, 100000, 13);
     try_rule(b"room for 3 variables", 3, 100000, 13);
     try_rule(b"room for 2 variables", 2, 100000, 13);
-    try_rule(b"a rule and a tower of 4", ROOM, 4, 13);
-    try_rule(b"a rule and a tower of 3", ROOM, 3, 13);
+    try_rule(b"a rule and a tower of 4", MOST, 4, 13);
+    try_rule(b"a rule and a tower of 3", MOST, 3, 13);
     try_rule(b"room for the conclusion, and a tower of 3", 3, 3, 8);
 }

@@ -7,6 +7,7 @@ use mathlib.Core.List.{List, [], _∷_}
 use lib.ListN.{getD, length}
 use Rattle.arena.specs.Cells.{cells, Reference}
 use Rattle.unifier.specs.Orders.{by-order}
+use Rattle.arena.specs.Copies.{termRoom}
 use Rattle.arena.specs.Rows.{Rows}
 use Rattle.unifier.specs.Tables.{Empty}
 use Rattle.unifier.specs.TableLaws.{column-past}
@@ -38,28 +39,28 @@ zero-three (x ∷ y ∷ z ∷ u ∷ l) n a b d c = absurd (omega arith)
 pub empty-rows : (rows : Rows) (i : ℕ) → length rows ≤ i → ((k : ℕ) → k < i → ZeroRow (getD rows k [])) → Empty rows
 empty-rows rows i l h c j = by-order j i (λ q. h j q c) (λ q. column-past rows c j (omega arith))
 
-pub form-stored : {N : ℕ} {w : List ℕ} {b : Rows} {variables used bound : ℕ} → Form N w b variables used bound → Stored N w variables used
+pub form-stored : {w : List ℕ} {b : Rows} {variables used bound : ℕ} → Form termRoom w b variables used bound → Stored w variables used
 form-stored f = record { formed = f .words; few = f .few; low = f .low; lent = f .lentWords }
 
 -- What `is_form` tells.
-module _ {N : ℕ} {w : List ℕ} {b m : Rows} {variables used bound : ℕ} where
-  pub form-no : (Formed N w b m variables used bound → ⊥) → FormTold N w b m m variables used bound false
+module _ {w : List ℕ} {b m : Rows} {variables used bound : ℕ} where
+  pub form-no : (Formed w b m variables used bound → ⊥) → FormTold w b m m variables used bound false
   form-no n = record { tells = tells-no n; kept = refl }
 
-  pub form-told : {m′ : Rows} {answer : Bool} → Zeros m (N + used) → BindingsChecked N w b m m′ variables used bound answer
-      → FormTold N w b m m′ variables used bound answer
+  pub form-told : {m′ : Rows} {answer : Bool} → Zeros m (termRoom + used) → BindingsChecked termRoom w b m m′ variables used bound answer
+      → FormTold w b m m′ variables used bound answer
   form-told z h = record {
     tells = record { yes = λ e. record { form = h .tells .yes e; free = zeros-free z }; back = λ f. h .tells .back (f .form) };
     kept = h .marks;
   }
 
 -- What `is_ready` tells.
-module _ {N : ℕ} {w : List ℕ} {b l m m′ s : Rows} {variables used bound left right : ℕ} (kept : m′ ≡ m) where
-  pub ready-no : (Ready N w b l m s variables used bound left right → ⊥) → ReadyTold N w b l m m′ s variables used bound left right false
+module _ {w : List ℕ} {b l m m′ s : Rows} {variables used bound left right : ℕ} (kept : m′ ≡ m) where
+  pub ready-no : (Ready w b l m s variables used bound left right → ⊥) → ReadyTold w b l m m′ s variables used bound left right false
   ready-no n = record { tells = tells-no n; kept = kept }
 
-  pub ready-told : {answer : Bool} → Formed N w b m variables used bound → Reference N (cells w) variables used left → Reference N (cells w) variables used right
-      → Zeros l (N + used) → Tells answer (Zeros s used) → ReadyTold N w b l m m′ s variables used bound left right answer
+  pub ready-told : {answer : Bool} → Formed w b m variables used bound → Reference termRoom (cells w) variables used left → Reference termRoom (cells w) variables used right
+      → Zeros l (termRoom + used) → Tells answer (Zeros s used) → ReadyTold w b l m m′ s variables used bound left right answer
   ready-told f x y z h = record {
     tells = record {
       yes = λ e. record {

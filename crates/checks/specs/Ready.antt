@@ -5,6 +5,7 @@ use mathlib.Core.Bool.{Bool}
 use mathlib.Core.List.{List}
 use lib.ListN.{getD, length}
 use Rattle.arena.specs.Cells.{Cells, cells, headers, arityOf, Reference, WellFormed}
+use Rattle.arena.specs.Copies.{termRoom}
 use Rattle.arena.specs.Rows.{Rows}
 use Rattle.unifier.specs.Tables.{Empty}
 use Rattle.unifier.specs.Stored.{Form}
@@ -20,38 +21,38 @@ pub record Zeros (rows : Rows) (least : ℕ) : Type 0 where
   pub empty : Empty rows
 
 -- If the word at the address a is a header, its node is in form.
-pub record NodeFormed (N : ℕ) (w : Cells) (variables used a : ℕ) : Type 0 where
+pub record NodeFormed (w : Cells) (variables used a : ℕ) : Type 0 where
   pub fits : headers ≤ w a → a + arityOf (w a) < used
-  pub arguments : (i : ℕ) → headers ≤ w a → i < arityOf (w a) → Reference N w variables a (w (a + suc i))
+  pub arguments : (i : ℕ) → headers ≤ w a → i < arityOf (w a) → Reference termRoom w variables a (w (a + suc i))
 
 -- The words in use are terms in form: what `check_bindings` asks of them.
-pub record Stored (N : ℕ) (words : List ℕ) (variables used : ℕ) : Type 0 where
-  pub formed : WellFormed N (cells words) variables used
+pub record Stored (words : List ℕ) (variables used : ℕ) : Type 0 where
+  pub formed : WellFormed termRoom (cells words) variables used
   -- there is room for the variables
-  pub few : variables ≤ N
+  pub few : variables ≤ termRoom
   -- references are below headers
-  pub low : N + used ≤ headers
+  pub low : termRoom + used ≤ headers
   -- there are so many words
   pub lent : used ≤ length words
 
 -- Words and bindings in form, and marks for every reference, all 0: what `occurs` asks of storage.
-pub record Formed (N : ℕ) (words : List ℕ) (bindings marks : Rows) (variables used bound : ℕ) : Type 0 where
-  pub form : Form N words bindings variables used bound
-  pub free : Free N used marks
+pub record Formed (words : List ℕ) (bindings marks : Rows) (variables used bound : ℕ) : Type 0 where
+  pub form : Form termRoom words bindings variables used bound
+  pub free : Free termRoom used marks
 
 -- `is_form` told so, and left the marks as they were.
-pub record FormTold (N : ℕ) (words : List ℕ) (bindings marks marks′ : Rows) (variables used bound : ℕ) (answer : Bool) : Type 0 where
-  pub tells : Tells answer (Formed N words bindings marks variables used bound)
+pub record FormTold (words : List ℕ) (bindings marks marks′ : Rows) (variables used bound : ℕ) (answer : Bool) : Type 0 where
+  pub tells : Tells answer (Formed words bindings marks variables used bound)
   pub kept : marks′ ≡ marks
 
 -- Storage and two references in form, and scratch with nothing in it: what `unify` asks.
-pub record Ready (N : ℕ) (words : List ℕ) (bindings links marks stack : Rows) (variables used bound left right : ℕ) : Type 0 where
-  pub form : Form N words bindings variables used bound
-  pub leftRefers : Reference N (cells words) variables used left
-  pub rightRefers : Reference N (cells words) variables used right
-  pub scratch : Scratch N used links marks stack
+pub record Ready (words : List ℕ) (bindings links marks stack : Rows) (variables used bound left right : ℕ) : Type 0 where
+  pub form : Form termRoom words bindings variables used bound
+  pub leftRefers : Reference termRoom (cells words) variables used left
+  pub rightRefers : Reference termRoom (cells words) variables used right
+  pub scratch : Scratch termRoom used links marks stack
 
 -- `is_ready` told so, and left the marks as they were.
-pub record ReadyTold (N : ℕ) (words : List ℕ) (bindings links marks marks′ stack : Rows) (variables used bound left right : ℕ) (answer : Bool) : Type 0 where
-  pub tells : Tells answer (Ready N words bindings links marks stack variables used bound left right)
+pub record ReadyTold (words : List ℕ) (bindings links marks marks′ stack : Rows) (variables used bound left right : ℕ) (answer : Bool) : Type 0 where
+  pub tells : Tells answer (Ready words bindings links marks stack variables used bound left right)
   pub kept : marks′ ≡ marks

@@ -1,4 +1,5 @@
 // Words of terms: two constants, and towers of nodes on a leaf.
+use arena::TERM_ROOM;
 ghost use mathlib.Core.Path.{_≡_};
 ghost use lib.ListN.{set};
 
@@ -11,7 +12,7 @@ pub const UNARY: u32 = 0x10_0000 + 32 + 1;
 
 pub const BINARY: u32 = 0x10_0000 + 64 + 2;
 
-// The most words, and the most room for variables.
+// The most words.
 const MOST: u32 = 262144;
 
 // Writes a word, unless there is no such address.
@@ -33,7 +34,7 @@ pub fn put_constants(words: &mut [u32])
 }
 
 // Writes a tower of nodes with one argument, from an address on; the address behind it.
-pub fn put_tower(words: &mut [u32], room: u32, at: u32, height: u32, leaf: u32) -> u32 {
+pub fn put_tower(words: &mut [u32], at: u32, height: u32, leaf: u32) -> u32 {
     let mut next = at;
     let mut below = leaf;
     let mut i = 0;
@@ -41,12 +42,9 @@ pub fn put_tower(words: &mut [u32], room: u32, at: u32, height: u32, leaf: u32) 
         if MOST < next {
             return next;
         }
-        if MOST < room {
-            return next;
-        }
         put(words, next, UNARY);
         put(words, next + 1, below);
-        below = room + next;
+        below = TERM_ROOM + next;
         next += 2;
         i += 1;
     }
@@ -54,7 +52,7 @@ pub fn put_tower(words: &mut [u32], room: u32, at: u32, height: u32, leaf: u32) 
 }
 
 // Writes nodes with two arguments, each with the one below as both, from an address on; the address behind them.
-pub fn put_shared(words: &mut [u32], room: u32, at: u32, height: u32, leaf: u32) -> u32 {
+pub fn put_shared(words: &mut [u32], at: u32, height: u32, leaf: u32) -> u32 {
     let mut next = at;
     let mut below = leaf;
     let mut i = 0;
@@ -62,13 +60,10 @@ pub fn put_shared(words: &mut [u32], room: u32, at: u32, height: u32, leaf: u32)
         if MOST < next {
             return next;
         }
-        if MOST < room {
-            return next;
-        }
         put(words, next, BINARY);
         put(words, next + 1, below);
         put(words, next + 2, below);
-        below = room + next;
+        below = TERM_ROOM + next;
         next += 3;
         i += 1;
     }

@@ -1,12 +1,12 @@
 // One call of `unify`, `occurs` or `check_bindings` on storage that is tested first, and of `undo` after it.
 use super::report;
 use super::rows;
+use arena::TERM_ROOM;
 ghost use Rattle.samples.specs.Same.{Clean};
 ghost use Rattle.unifier.specs.Contracts.{Tells};
 
 // The counts of storage, and two references.
 pub struct Case {
-    pub room: u32,
     pub variables: u32,
     pub used: u32,
     pub bound: u32,
@@ -47,7 +47,6 @@ pub fn solve(
     stack: &mut [[u32; 3]],
     case: Case,
 ) -> Found {
-    let room = case.room;
     let variables = case.variables;
     let used = case.used;
     let bound = case.bound;
@@ -59,7 +58,6 @@ pub fn solve(
         links,
         marks,
         stack,
-        room,
         variables,
         used,
         bound,
@@ -74,7 +72,7 @@ pub fn solve(
         links,
         marks,
         stack,
-        room,
+        TERM_ROOM,
         variables,
         used,
         bound,
@@ -92,16 +90,15 @@ pub fn solve(
 
 // Whether the variable `left` occurs in what `right` denotes.
 pub fn ask(words: &[u32], bindings: &[[u32; 2]], marks: &mut [[u32; 2]], case: Case) -> Found {
-    let room = case.room;
     let variables = case.variables;
     let used = case.used;
     let bound = case.bound;
     let x = case.left;
     let r = case.right;
-    if !checks::is_form(words, bindings, marks, room, variables, used, bound) {
+    if !checks::is_form(words, bindings, marks, variables, used, bound) {
         return Found::NotReady;
     }
-    if !checks::is_reference(words, room, variables, used, r) {
+    if !checks::is_reference(words, variables, used, r) {
         return Found::NotReady;
     }
     if variables <= x {
@@ -110,7 +107,17 @@ pub fn ask(words: &[u32], bindings: &[[u32; 2]], marks: &mut [[u32; 2]], case: C
     if bindings[x as usize][0] != 0 {
         return Found::NotReady;
     }
-    let answer = unifier::occurs(words, bindings, marks, room, variables, used, bound, x, r);
+    let answer = unifier::occurs(
+        words,
+        bindings,
+        marks,
+        TERM_ROOM,
+        variables,
+        used,
+        bound,
+        x,
+        r,
+    );
     if !checks::are_zero_pairs(marks, 0) {
         return Found::ScratchLeft;
     }
@@ -122,17 +129,16 @@ pub fn ask(words: &[u32], bindings: &[[u32; 2]], marks: &mut [[u32; 2]], case: C
 
 // Whether rows are bindings in form.
 pub fn check(words: &[u32], bindings: &[[u32; 2]], marks: &mut [[u32; 2]], case: Case) -> Found {
-    let room = case.room;
     let variables = case.variables;
     let used = case.used;
     let bound = case.bound;
-    if !checks::are_terms(words, room, variables, used) {
+    if !checks::are_terms(words, variables, used) {
         return Found::NotReady;
     }
-    if !checks::are_zero_pairs(marks, (room + used) as usize) {
+    if !checks::are_zero_pairs(marks, (TERM_ROOM + used) as usize) {
         return Found::NotReady;
     }
-    let answer = unifier::check_bindings(words, bindings, marks, room, variables, used, bound);
+    let answer = unifier::check_bindings(words, bindings, marks, TERM_ROOM, variables, used, bound);
     if !checks::are_zero_pairs(marks, 0) {
         return Found::ScratchLeft;
     }
@@ -150,11 +156,10 @@ pub fn take_back(
     case: Case,
     mark: u32,
 ) -> bool {
-    let room = case.room;
     let variables = case.variables;
     let used = case.used;
     let bound = case.bound;
-    if !checks::is_form(words, bindings, marks, room, variables, used, bound) {
+    if !checks::is_form(words, bindings, marks, variables, used, bound) {
         return false;
     }
     if bound < mark {

@@ -1,4 +1,5 @@
 // The cases: each builds its storage, runs one call, and writes a line.
+use arena::TERM_ROOM;
 use samples::build;
 use samples::report;
 use samples::rows;
@@ -6,14 +7,14 @@ use samples::unification;
 use samples::unification::Case;
 use samples::unification::Found;
 
-// The room for variables in most cases.
-pub const ROOM: u32 = 64;
+// The variables in use in most cases.
+const VARIABLES: u32 = 64;
 
-// Words for the two constants, 119,000 nodes with one argument and two with two.
-const WORDS: usize = 238008;
+// Words for the two constants, 105,000 nodes with one argument and two with two.
+const WORDS: usize = 210008;
 
 // A row for each reference.
-const REFERENCES: usize = 238072;
+const REFERENCES: usize = 275544;
 
 // Two towers, of nodes with one argument or with two, how high they are and on which references they stand, and the two references in question. A
 // pair may be built on each reference in question: of variable 0 and the left one, and of a constant and the right one.
@@ -32,11 +33,11 @@ pub struct Towers {
 fn put_towers(words: &mut [u32], towers: Towers) -> u32 {
     build::put_constants(words);
     if towers.shared {
-        let next = build::put_shared(words, ROOM, 2, towers.first, towers.first_leaf);
-        return build::put_shared(words, ROOM, next, towers.second, towers.second_leaf);
+        let next = build::put_shared(words, 2, towers.first, towers.first_leaf);
+        return build::put_shared(words, next, towers.second, towers.second_leaf);
     }
-    let next = build::put_tower(words, ROOM, 2, towers.first, towers.first_leaf);
-    build::put_tower(words, ROOM, next, towers.second, towers.second_leaf)
+    let next = build::put_tower(words, 2, towers.first, towers.first_leaf);
+    build::put_tower(words, next, towers.second, towers.second_leaf)
 }
 
 // Builds the towers, and the pairs where they are wanted; one binding stands already, of variable 60 to a constant.
@@ -44,10 +45,9 @@ fn put_case(words: &mut [u32], towers: Towers) -> Case {
     let top = put_towers(words, towers);
     if towers.paired {
         let next = build::put_pair(words, top, 0, towers.left);
-        let used = build::put_pair(words, next, ROOM, towers.right);
+        let used = build::put_pair(words, next, TERM_ROOM, towers.right);
         return Case {
-            room: ROOM,
-            variables: ROOM,
+            variables: VARIABLES,
             used: used,
             bound: 1,
             left: reference(top),
@@ -55,8 +55,7 @@ fn put_case(words: &mut [u32], towers: Towers) -> Case {
         };
     }
     Case {
-        room: ROOM,
-        variables: ROOM,
+        variables: VARIABLES,
         used: top,
         bound: 1,
         left: towers.left,
@@ -69,12 +68,12 @@ fn reference(address: u32) -> u32 {
     if 262144 < address {
         return 0;
     }
-    ROOM + address
+    TERM_ROOM + address
 }
 
 // Binds variable 60 to the first constant.
 fn bind_first(bindings: &mut [[u32; 2]]) {
-    rows::put(bindings, 60, ROOM + 1, 0);
+    rows::put(bindings, 60, TERM_ROOM + 1, 0);
     rows::put(bindings, 0, 0, 60);
 }
 
@@ -102,7 +101,6 @@ fn report_unify(
         Found::Yes(bound) => {
             report::text(b": unify");
             let after = Case {
-                room: case.room,
                 variables: case.variables,
                 used: case.used,
                 bound: bound,
@@ -168,15 +166,14 @@ pub fn occurs(name: &[u8], towers: Towers) {
     report_answer(found, b": occurs\n", b": does not occur\n");
 }
 
-// The room for variables in the checks of bindings.
+// The most variables in the checks of bindings.
 pub const MANY: u32 = 50000;
 
 // Checks bindings over a node on variable 0, at the address 0.
 fn check(name: &[u8], bindings: &[[u32; 2]], variables: u32, bound: u32) {
     let words = [build::UNARY, 0];
-    let mut marks = [[0u32; 2]; 50002];
+    let mut marks = [[0u32; 2]; 65538];
     let case = Case {
-        room: MANY,
         variables: variables,
         used: 2,
         bound: bound,

@@ -1,33 +1,33 @@
 // Runs `unify`, `occurs`, `check_bindings` and `undo` on deep, shared, cyclic and malformed storage, and writes a line for each case.
+use arena::TERM_ROOM;
 use cases::MANY;
-use cases::ROOM;
 use cases::Towers;
 
 mod cases; // storage, call and line
 
 // The nodes of towers that start at the address 2, by their height.
-const NODE_19000: u32 = ROOM + 2 * 19000;
+const NODE_5000: u32 = TERM_ROOM + 2 * 5000;
 
-const NODE_59000: u32 = ROOM + 2 * 59000;
+const NODE_52000: u32 = TERM_ROOM + 2 * 52000;
 
-const NODE_81000: u32 = ROOM + 2 * 81000;
+const NODE_95000: u32 = TERM_ROOM + 2 * 95000;
 
-const NODE_100000: u32 = ROOM + 2 * 100000;
+const NODE_100000: u32 = TERM_ROOM + 2 * 100000;
 
-const NODE_118000: u32 = ROOM + 2 * 118000;
+const NODE_104000: u32 = TERM_ROOM + 2 * 104000;
 
-const NODE_119000: u32 = ROOM + 2 * 119000;
+const NODE_105000: u32 = TERM_ROOM + 2 * 105000;
 
-const SHARED_1000: u32 = ROOM + 3 * 1000 - 1;
+const SHARED_1000: u32 = TERM_ROOM + 3 * 1000 - 1;
 
-const SHARED_1999: u32 = ROOM + 3 * 1999 - 1;
+const SHARED_1999: u32 = TERM_ROOM + 3 * 1999 - 1;
 
-const SHARED_2000: u32 = ROOM + 3 * 2000 - 1;
+const SHARED_2000: u32 = TERM_ROOM + 3 * 2000 - 1;
 
 // The constants' references.
-const CONSTANT: u32 = ROOM;
+const CONSTANT: u32 = TERM_ROOM;
 
-const OTHER: u32 = ROOM + 1;
+const OTHER: u32 = TERM_ROOM + 1;
 
 // A chain of nodes with one argument, and two references.
 fn chain(height: u32, leaf: u32, left: u32, right: u32) -> Towers {
@@ -100,20 +100,20 @@ fn variable_shared(variable: u32) -> Towers {
 // Unifications of towers.
 fn unify_towers() {
     cases::unify(
-        b"100,000 levels, the lower 81,000 shared",
-        two_towers(100000, 0, 19000, NODE_81000, NODE_100000, NODE_119000),
+        b"100,000 levels, the lower 95,000 shared",
+        two_towers(100000, 0, 5000, NODE_95000, NODE_100000, NODE_105000),
     );
     cases::unify(
-        b"59,000 levels on two variables",
-        two_towers(59000, 0, 59000, 1, NODE_59000, NODE_118000),
+        b"52,000 levels on two variables",
+        two_towers(52000, 0, 52000, 1, NODE_52000, NODE_104000),
     );
     cases::unify(
         b"a constant after 100,000 levels",
-        chain(119000, CONSTANT, NODE_119000, NODE_100000),
+        chain(105000, CONSTANT, NODE_105000, NODE_100000),
     );
     cases::unify(
         b"a binding, and a constant after 100,000 levels",
-        pairs(119000, CONSTANT, NODE_119000, NODE_100000),
+        pairs(105000, CONSTANT, NODE_105000, NODE_100000),
     );
     cases::unify(
         b"a variable and a tower of 100,000 on it",
@@ -124,8 +124,8 @@ fn unify_towers() {
         chain(100000, 0, 1, NODE_100000),
     );
     cases::unify(
-        b"100,000 levels, and 19,000 more on the same variable",
-        chain(119000, 0, NODE_119000, NODE_100000),
+        b"100,000 levels, and 5,000 more on the same variable",
+        chain(105000, 0, NODE_105000, NODE_100000),
     );
 }
 
@@ -167,7 +167,7 @@ fn occur() {
         b"a variable that is all of 2^1000 leaves",
         variable_shared(0),
     );
-    cases::occurs(b"a bound variable", chain(19000, 0, 60, NODE_19000));
+    cases::occurs(b"a bound variable", chain(5000, 0, 60, NODE_5000));
 }
 
 // Checks of bindings.
@@ -177,13 +177,19 @@ fn check_bindings() {
     cases::check_three(
         b"a variable bound to a node",
         [0, 1],
-        [MANY + 1, 0],
+        [TERM_ROOM + 1, 0],
         [0, 0],
         1,
     );
     cases::check_three(b"a cycle of 1", [1, 0], [0, 0], [0, 0], 1);
     cases::check_three(b"a cycle of 2", [2, 0], [1, 1], [0, 0], 2);
-    cases::check_three(b"a cycle through a node", [MANY + 1, 0], [0, 0], [0, 0], 1);
+    cases::check_three(
+        b"a cycle through a node",
+        [TERM_ROOM + 1, 0],
+        [0, 0],
+        [0, 0],
+        1,
+    );
     cases::check_chain(b"a chain of 50,000", 0, 0, MANY - 1);
     cases::check_chain(b"a cycle of 50,000", 1, MANY - 1, MANY);
     cases::check_three(b"a trail with a repeat", [3, 0], [0, 0], [0, 0], 2);
@@ -204,14 +210,14 @@ fn check_bindings() {
     cases::check_three(b"a trail that goes on", [3, 0], [0, 2], [0, 0], 1);
     cases::check_three(
         b"a value that is no header's",
-        [MANY + 2, 0],
+        [TERM_ROOM + 2, 0],
         [0, 0],
         [0, 0],
         1,
     );
     cases::check_three(
         b"a value behind the words",
-        [MANY + 3, 0],
+        [TERM_ROOM + 3, 0],
         [0, 0],
         [0, 0],
         1,

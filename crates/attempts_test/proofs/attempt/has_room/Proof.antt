@@ -12,6 +12,9 @@ returns : tie.Need-returns
 returns c =
     λ e. true-false e refl
 
+sub-if2 : tie.Need-sub-if2
+sub-if2 c = search needs
+
 returns-2 : tie.Need-returns-2
 returns-2 c =
     λ e. true-false e refl
@@ -59,6 +62,7 @@ returns-7 c =
       scratch = zeros-scratch ((c .before .before .before .before .are-zero-pairs .ensures .yes) (not-false _ (c .before .before .before .if5 .left))) ((c .before .before .are-zero-pairs2 .ensures .yes) (not-false _ (c .before .if6 .left))) ((c .are-zero-triples .ensures .yes) e);
       lentWords = omega arith;
       lentRows = omega arith;
+      enough = omega arith;
       low = omega arith;
     }
 
@@ -67,6 +71,7 @@ has-room-spec =
     tie.close
     (tie.spec
     returns
+    sub-if2
     returns-2
     returns-3
     returns-4

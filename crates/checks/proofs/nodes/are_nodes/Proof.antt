@@ -12,10 +12,10 @@ use Rattle.checks.proofs.nodes.are_nodes.Statement.{statement}
 use Rattle.checks.proofs.nodes.are_nodes.Tie as tie
 
 abbrev Inv-loop : tie.InvT-loop
-Inv-loop words room variables used a₀ a = (a ≤ used) × (used ≤ length words) × (used ≤ headers) × ((k : ℕ) → k < a → NodeFormed room (cells words) variables used k)
+Inv-loop words variables used a₀ a = (a ≤ used) × (used ≤ length words) × (used ≤ headers) × ((k : ℕ) → k < a → NodeFormed (cells words) variables used k)
 
 abbrev μ-loop : tie.MeasureT-loop
-μ-loop words room variables used a₀ a = used - a
+μ-loop words variables used a₀ a = used - a
 
 loop-holds : tie.Need-loop-holds Inv-loop μ-loop
 loop-holds c =

@@ -4,6 +4,7 @@ use mathlib.Core.Path.{_≡_, refl}
 use borrow.Author.Count.{below-more}
 use borrow.Author.Tests.{not-false, not-true}
 use Rattle.arena.specs.Cells.{cells, headers, arityOf, Reference}
+use Rattle.arena.specs.Copies.{termRoom}
 use Rattle.unifier.specs.Checking.{tells-yes, tells-no, tells-false}
 use native.Mathlib.Omega.{arith}
 use borrow.Author.Needs.{needs}
@@ -11,10 +12,10 @@ use Rattle.checks.proofs.nodes.is_node.Statement.{statement}
 use Rattle.checks.proofs.nodes.is_node.Tie as tie
 
 abbrev Inv-loop : tie.InvT-loop
-Inv-loop words room variables used address header arity i₀ i = (header ≡ cells words address) × (arity ≡ arityOf header) × (headers ≤ header) × (address + arity < used) × (i ≤ arity) × ((k : ℕ) → k < i → Reference room (cells words) variables address (cells words (address + suc k)))
+Inv-loop words variables used address header arity i₀ i = (header ≡ cells words address) × (arity ≡ arityOf header) × (headers ≤ header) × (address + arity < used) × (i ≤ arity) × ((k : ℕ) → k < i → Reference termRoom (cells words) variables address (cells words (address + suc k)))
 
 abbrev μ-loop : tie.MeasureT-loop
-μ-loop words room variables used address header arity i₀ i = arity - i
+μ-loop words variables used address header arity i₀ i = arity - i
 
 mul-header : tie.Need-mul-header Inv-loop μ-loop
 mul-header c = search needs
@@ -75,7 +76,7 @@ loop-again c =
       search needs,
       search needs,
       search needs,
-      below-more (λ k. Reference (args .room) (cells (args .words .now)) (args .variables) (args .address) (cells (args .words .now) ((args .address) + suc k))) (loop .i) (loop .inv .5) (rw d at ((c .before .is-reference .ensures .yes) (not-false _ (c .if3 .left)))),
+      below-more (λ k. Reference termRoom (cells (args .words .now)) (args .variables) (args .address) (cells (args .words .now) ((args .address) + suc k))) (loop .i) (loop .inv .5) (rw d at ((c .before .is-reference .ensures .yes) (not-false _ (c .if3 .left)))),
     )
 
 returns-4 : tie.Need-returns-4 Inv-loop μ-loop

@@ -7,10 +7,10 @@ use Rattle.samples.proofs.build.put_tower.Statement.{statement}
 use Rattle.samples.proofs.build.put_tower.Tie as tie
 
 abbrev Inv-loop : tie.InvT-loop
-Inv-loop words₀ room at height leaf next₀ below₀ i₀ words next below i = length words ≡ length words₀
+Inv-loop words₀ at height leaf next₀ below₀ i₀ words next below i = length words ≡ length words₀
 
 abbrev μ-loop : tie.MeasureT-loop
-μ-loop words₀ room at height leaf next₀ below₀ i₀ words next below i = height - i
+μ-loop words₀ at height leaf next₀ below₀ i₀ words next below i = height - i
 
 loop-holds : tie.Need-loop-holds Inv-loop μ-loop
 loop-holds c =
@@ -21,12 +21,6 @@ same-length c = search needs
 
 returns : tie.Need-returns Inv-loop μ-loop
 returns c = search needs
-
-same-length-2 : tie.Need-same-length-2 Inv-loop μ-loop
-same-length-2 c = search needs
-
-returns-2 : tie.Need-returns-2 Inv-loop μ-loop
-returns-2 c = search needs
 
 put-requires : tie.Need-put-requires Inv-loop μ-loop
 put-requires c κs = search needs
@@ -52,11 +46,11 @@ loop-less c = search needs
 loop-again : tie.Need-loop-again Inv-loop μ-loop
 loop-again c = search needs
 
-same-length-3 : tie.Need-same-length-3 Inv-loop μ-loop
-same-length-3 c = search needs
+same-length-2 : tie.Need-same-length-2 Inv-loop μ-loop
+same-length-2 c = search needs
 
-returns-3 : tie.Need-returns-3 Inv-loop μ-loop
-returns-3 c = search needs
+returns-2 : tie.Need-returns-2 Inv-loop μ-loop
+returns-2 c = search needs
 
 pub put-tower-spec : {M : Type 1} → statement M
 put-tower-spec =
@@ -67,8 +61,6 @@ put-tower-spec =
     loop-holds
     same-length
     returns
-    same-length-2
-    returns-2
     put-requires
     add-put
     put-requires-2
@@ -77,5 +69,5 @@ put-tower-spec =
     add-i
     loop-less
     loop-again
-    same-length-3
-    returns-3)
+    same-length-2
+    returns-2)
