@@ -12,7 +12,7 @@ use Rattle.arena.specs.Copies.{patternRoom}
 use Rattle.arena.specs.Form.{isHeader, isArgument, inForm}
 use Rattle.arena.specs.FormLaws.{form-words, form-formed}
 use Rattle.resolution.specs.Fresh.{elem, place, allVars}
-use Rattle.attempts.specs.StoredRules.{ruleOf, Part, StoredRule}
+use Rattle.attempts.specs.StoredRules.{ruleOf, Part, StoredRule, RuleInForm}
 use Rattle.attempts.specs.declared.Stored.{Stored}
 
 -- A part that is accepted behind well formed words, with a place below n for each of its variables, can be copied.
@@ -94,3 +94,8 @@ stored-example = record {
   few = omega arith;
   placed = λ x h. places-met x h;
 }
+
+-- Its words are in form over the arities of succ and le.
+pub example-in-form : RuleInForm examplePattern exampleStored (1 ∷ 2 ∷ [])
+unfolding inForm isHeader isArgument less same
+example-in-form = record { premises = refl; conclusion = refl }

@@ -14,7 +14,7 @@ use Rattle.unifier.specs.Contracts.{Undoable}
 use Rattle.unifier.specs.Holding.{form-undoable}
 use Rattle.resolution.specs.Search.{within, over}
 use Rattle.attempts.specs.Contracts.{BodyAsked, BodyTried}
-use Rattle.attempts.specs.Parts.{copyable, copied-kept, copied-long, copied-held, copied-form, copied-reference, copied-denotes}
+use Rattle.attempts.specs.Parts.{copyable, copied-kept, copied-long, copied-held, copied-form, copied-grown, copied-reference, copied-denotes}
 use Rattle.attempts.specs.Heads.{allowed}
 use Rattle.attempts.specs.declared.Stored.{Stored}
 
@@ -61,6 +61,7 @@ module _ {most limit : ℕ} {pattern places : List ℕ} {stored : Stored} {words
           form = let a = within-most in let b = asked .lentRows in copied-form (asked .part) counter (asked .form) more few space small words′ w (omega arith);
           bindings = copied-held (asked .part) counter (asked .form) more few space small words′ w;
           references = λ r h. copied-reference (asked .part) counter (asked .form) more few space small words′ w r h;
+          grown = copied-grown (asked .part) counter (asked .form) more few space small words′ w;
           denotes = λ r h. copied-denotes (asked .part) counter (asked .form) more few space small words′ w r h;
         },
       );

@@ -6,9 +6,10 @@ use mathlib.Core.Logic.{_≢_}
 use mathlib.Core.List.{List, map}
 use lib.ListN.{getD, length}
 use Rattle.terms.specs.Term.{Term, sub}
-use Rattle.terms.specs.Unification.{fails, unified, unify}
+use Rattle.terms.specs.Unification.{Outcome, fails, unified, unify}
 use Rattle.arena.specs.Cells.{headers, denote, Reference, Same, cells, termsOf}
 use Rattle.arena.specs.Copies.{patternRoom, termRoom, numbered, moved}
+use Rattle.arena.specs.Form.{inForm}
 use Rattle.arena.specs.Rows.{Rows, column}
 use Rattle.unifier.specs.Tables.{undone}
 use Rattle.unifier.specs.Stored.{held, Form}
@@ -16,15 +17,16 @@ use Rattle.unifier.specs.Contracts.{Scratch}
 use Rattle.resolution.specs.Rules.{Rule}
 use Rattle.resolution.specs.Fresh.{body}
 use Rattle.resolution.specs.Search.{within, over, Attempt, exceeded, missed, entered, attempt}
-use Rattle.attempts.specs.StoredRules.{patternOf, ruleOf, Part, Root, StoredRule}
+use Rattle.attempts.specs.StoredRules.{patternOf, ruleOf, Part, Root, StoredRule, RuleInForm}
 use Rattle.attempts.specs.declared.Stored.{Stored}
 use Rattle.attempts.specs.declared.Tried.{Tried}
 use Rattle.attempts.specs.declared.Tried.the-variants.{Exceeded, Missed, Entered}
 use Rattle.attempts.specs.declared.Meeting.{Meeting}
 use Rattle.attempts.specs.declared.Meeting.the-variants.{Refused, Apart, Unifies}
 
--- The state of a search, lent and in form: `counter` variables, `used` words and `bound` bindings; and there is room for what the limits allow, `most`
--- variables and `limit` words. The encoding's room is a number of its own, the same for a whole session whatever limits its goals have.
+-- The state of a search, lent and in form: `counter` variables, `used` words and `bound` bindings; and there is room for what the
+-- limits allow, `most` variables and `limit` words. The encoding's room is a number of its own, the same for a whole session whatever
+-- limits its goals have.
 pub record State (most limit : ℕ) (words : List ℕ) (rows links marks stack : Rows) (counter used bound : ℕ) : Type 0 where
   pub form : Form termRoom words rows counter used bound
   pub scratch : Scratch termRoom limit links marks stack
@@ -54,7 +56,14 @@ copiedAt places counter from used r = moved places counter (patternRoom + from) 
 abbrev pub premiseAt : List ℕ → ℕ → Stored → ℕ → ℕ → ℕ
 premiseAt places counter stored used r = copiedAt places counter (stored .from) (used + stored .head) r
 
--- Nothing stays but the counter's advance: the rows are those at entry, and the state is in form with as many words and bindings as at entry.
+-- Words that are in form over a signature's arities are so again with a part of the pattern copied behind them, if that part is in form.
+abbrev pub GrownInForm : List ℕ → ℕ → ℕ → List ℕ → List ℕ → ℕ → ℕ → ℕ → Type 0
+GrownInForm pattern from count words words′ used counter counter′ =
+    (arities : List ℕ) → inForm pattern from (from + count) patternRoom patternRoom arities ≡ true
+    → inForm words 0 used termRoom counter arities ≡ true → inForm words′ 0 (used + count) termRoom counter′ arities ≡ true
+
+-- Nothing stays but the counter's advance: the rows are those at entry, and the state is in form with as many words and bindings as at
+-- entry.
 pub record Back (words′ : List ℕ) (rows rows′ : Rows) (counter used bound : ℕ) : Type 0 where
   pub same : rows′ ≡ rows
   pub form : Form termRoom words′ rows′ counter used bound
@@ -74,27 +83,39 @@ pub record Inside (premises places : List ℕ) (stored : Stored) (R : Rule) (wor
   pub longer : used ≤ used′
   pub added : Added rows rows′ bound bound′
   -- each premise's reference is in form, and in order they denote the instances of the premises
-  pub references : (i : ℕ) → i < length premises → Reference termRoom (cells words′) counter′ used′ (premiseAt places counter stored used (getD premises i 0))
+  pub references : (i : ℕ) → i < length premises
+      → Reference termRoom (cells words′) counter′ used′ (premiseAt places counter stored used (getD premises i 0))
   pub denoted : termsOf (denote termRoom (cells words′)) (map (premiseAt places counter stored used) premises) ≡ body counter R
 
 -- What an answer leaves.
 abbrev pub Left : List ℕ → List ℕ → Stored → Rule → List ℕ → Rows → Rows → ℕ → ℕ → ℕ → Tried → Type 0
 Left premises places stored R words′ rows rows′ counter used bound Exceeded = Back words′ rows rows′ counter used bound
-Left premises places stored R words′ rows rows′ counter used bound (Missed counter′) = (counter ≤ counter′) × Back words′ rows rows′ counter′ used bound
+Left premises places stored R words′ rows rows′ counter used bound (Missed counter′) =
+    (counter ≤ counter′) × Back words′ rows rows′ counter′ used bound
 Left premises places stored R words′ rows rows′ counter used bound (Entered counter′ bound′ used′) =
     Inside premises places stored R words′ rows rows′ counter used bound counter′ used′ bound′
+
+-- Are the words in form over a signature's arities, with the counts that an answer leaves?
+abbrev pub leftInForm : List ℕ → ℕ → ℕ → List ℕ → Tried → Bool
+leftInForm words counter used arities Exceeded = inForm words 0 used termRoom counter arities
+leftInForm words counter used arities (Missed counter′) = inForm words 0 used termRoom counter′ arities
+leftInForm words counter used arities (Entered counter′ bound′ used′) = inForm words 0 used′ termRoom counter′ arities
 
 -- `try_rule` tried a rule with a goal.
 pub record Attempted (most limit : ℕ) (pattern premises places : List ℕ) (stored : Stored) (words words′ : List ℕ)
     (rows rows′ links links′ marks marks′ stack stack′ : Rows) (counter used bound goal : ℕ) (answer : Tried) : Type 0 where
   -- the answer is the theory's
   pub is : attemptOf words′ rows′ answer
-      ≡ attempt (within most limit) (held termRoom words rows bound) (denote termRoom (cells words) goal) used counter (ruleOf pattern premises stored)
+      ≡ attempt (within most limit) (held termRoom words rows bound) (denote termRoom (cells words) goal) used counter
+      (ruleOf pattern premises stored)
   -- the words that were in use stand, and there are as many
   pub kept : Same termRoom (cells words) (cells words′) used
   pub long : length words′ ≡ length words
   -- what the answer leaves
   pub left : Left premises places stored (ruleOf pattern premises stored) words′ rows rows′ counter used bound answer
+  -- words in form over a signature's arities stay so, if the rule's are
+  pub staysInForm : (arities : List ℕ) → RuleInForm pattern stored arities → inForm words 0 used termRoom counter arities ≡ true
+      → leftInForm words′ counter used arities answer ≡ true
   -- the scratch is as it was
   pub linksKept : links′ ≡ links
   pub marksKept : marks′ ≡ marks
@@ -116,23 +137,31 @@ abbrev pub instance : List ℕ → List ℕ → Stored → ℕ → Term
 instance pattern places stored counter = sub (numbered places counter) (patternOf pattern (stored .conclusion))
 
 -- The conclusion was unified with the goal: so many bindings stand, and the state is in form with the conclusion in it.
-pub record Joined (words′ : List ℕ) (rows rows′ : Rows) (variables used bound bound′ : ℕ) : Type 0 where
-  pub form : Form termRoom words′ rows′ variables used bound′
+pub record Joined (pattern : List ℕ) (stored : Stored) (words words′ : List ℕ) (rows rows′ : Rows)
+    (counter used bound bound′ : ℕ) : Type 0 where
+  pub form : Form termRoom words′ rows′ (counter + stored .met) (used + stored .head) bound′
   pub added : Added rows rows′ bound bound′
+  pub grown : GrownInForm pattern (stored .from + stored .body) (stored .head) words words′ used counter (counter + stored .met)
 
--- What came of the goal and the conclusion: the limits refuse the conclusion; or it does not unify, and the rows are those at entry; or it does.
+-- The theory's unification of the goal with the conclusion's instance, by what is stored.
+abbrev pub meeting : List ℕ → List ℕ → Stored → List ℕ → Rows → ℕ → ℕ → ℕ → Outcome
+meeting pattern places stored words rows counter bound goal =
+    unify (counter + stored .met) (held termRoom words rows bound) (denote termRoom (cells words) goal)
+    (instance pattern places stored counter)
+
+-- What came of the goal and the conclusion: the limits refuse the conclusion; or it does not unify, and the rows are those at entry; or it
+-- does.
 abbrev pub Met : ℕ → ℕ → List ℕ → List ℕ → Stored → List ℕ → List ℕ → Rows → Rows → ℕ → ℕ → ℕ → ℕ → Meeting → Type 0
 Met most limit pattern places stored words words′ rows rows′ counter used bound goal Refused =
     (over (within most limit) (counter + stored .met) (used + stored .head) ≡ true) × (rows′ ≡ rows)
 Met most limit pattern places stored words words′ rows rows′ counter used bound goal Apart =
     (over (within most limit) (counter + stored .met) (used + stored .head) ≡ false)
-    × (unify (counter + stored .met) (held termRoom words rows bound) (denote termRoom (cells words) goal) (instance pattern places stored counter) ≡ fails)
+    × (meeting pattern places stored words rows counter bound goal ≡ fails)
     × (rows′ ≡ rows)
 Met most limit pattern places stored words words′ rows rows′ counter used bound goal (Unifies bound′) =
     (over (within most limit) (counter + stored .met) (used + stored .head) ≡ false)
-    × (unify (counter + stored .met) (held termRoom words rows bound) (denote termRoom (cells words) goal) (instance pattern places stored counter)
-    ≡ unified (held termRoom words′ rows′ bound′))
-    × Joined words′ rows rows′ (counter + stored .met) (used + stored .head) bound bound′
+    × (meeting pattern places stored words rows counter bound goal ≡ unified (held termRoom words′ rows′ bound′))
+    × Joined pattern stored words words′ rows rows′ counter used bound bound′
 
 -- `try_head` copied the conclusion and unified the goal with it.
 pub record HeadTried (most limit : ℕ) (pattern places : List ℕ) (stored : Stored) (words words′ : List ℕ)
@@ -149,7 +178,8 @@ pub record HeadTried (most limit : ℕ) (pattern places : List ℕ) (stored : St
 -- The premises
 
 -- What copying the premises asks: their words in form, and a state in form with the conclusion in it; `mark` bindings stood at entry.
-pub record BodyAsked (most limit : ℕ) (pattern places : List ℕ) (stored : Stored) (words : List ℕ) (rows : Rows) (counter used mark bound : ℕ) : Type 0 where
+pub record BodyAsked (most limit : ℕ) (pattern places : List ℕ) (stored : Stored) (words : List ℕ) (rows : Rows)
+    (counter used mark bound : ℕ) : Type 0 where
   pub part : Part pattern places (stored .from) (stored .body) (stored .variables)
   pub few : stored .variables ≤ patternRoom
   pub grows : stored .met ≤ stored .variables
@@ -160,20 +190,26 @@ pub record BodyAsked (most limit : ℕ) (pattern places : List ℕ) (stored : St
   pub enough : most ≤ termRoom
   pub low : termRoom + limit ≤ headers
 
--- The premises were copied: the bindings are the same, the state is in form, and each reference among the premises' words denotes its instance.
-pub record Copied (pattern places : List ℕ) (stored : Stored) (words words′ : List ℕ) (rows rows′ : Rows) (counter used bound : ℕ) : Type 0 where
+-- The premises were copied: the bindings are the same, the state is in form, and each reference among the premises' words denotes its
+-- instance.
+pub record Copied (pattern places : List ℕ) (stored : Stored) (words words′ : List ℕ) (rows rows′ : Rows)
+    (counter used bound : ℕ) : Type 0 where
   pub same : rows′ ≡ rows
   pub form : Form termRoom words′ rows′ (counter + stored .variables) (used + stored .head + stored .body) bound
   pub bindings : held termRoom words′ rows′ bound ≡ held termRoom words rows bound
   pub references : (r : ℕ) → Root pattern places (stored .from) (stored .body) (stored .variables) r
-      → Reference termRoom (cells words′) (counter + stored .variables) (used + stored .head + stored .body) (premiseAt places counter stored used r)
+      → Reference termRoom (cells words′) (counter + stored .variables) (used + stored .head + stored .body)
+      (premiseAt places counter stored used r)
   pub denotes : (r : ℕ) → Root pattern places (stored .from) (stored .body) (stored .variables) r
       → denote termRoom (cells words′) (premiseAt places counter stored used r) ≡ sub (numbered places counter) (patternOf pattern r)
+  pub grown : GrownInForm pattern (stored .from) (stored .body) words words′ (used + stored .head)
+      (counter + stored .met) (counter + stored .variables)
 
 -- What came of the premises: they were copied, or the limits refuse them and the bindings are undone to the mark.
 abbrev pub Done : ℕ → ℕ → List ℕ → List ℕ → Stored → List ℕ → List ℕ → Rows → Rows → ℕ → ℕ → ℕ → ℕ → Bool → Type 0
 Done most limit pattern places stored words words′ rows rows′ counter used mark bound false =
-    (over (within most limit) (counter + stored .variables) (used + stored .head + stored .body) ≡ true) × (rows′ ≡ undone rows mark (bound - mark))
+    (over (within most limit) (counter + stored .variables) (used + stored .head + stored .body) ≡ true)
+    × (rows′ ≡ undone rows mark (bound - mark))
 Done most limit pattern places stored words words′ rows rows′ counter used mark bound true =
     (over (within most limit) (counter + stored .variables) (used + stored .head + stored .body) ≡ false)
     × Copied pattern places stored words words′ rows rows′ counter used bound

@@ -22,7 +22,7 @@ use Rattle.resolution.specs.Search.{within, over}
 use Rattle.attempts.specs.Contracts.{HeadAsked, HeadTried, instance, copiedAt}
 use Rattle.attempts.specs.Extending.{scratch-less}
 use Rattle.attempts.specs.Clashes.{Comparable, Clashes, clash-fails}
-use Rattle.attempts.specs.Parts.{copyable, copied-kept, copied-long, copied-held, copied-form, copied-reference, copied-denotes, root-movable}
+use Rattle.attempts.specs.Parts.{copyable, copied-kept, copied-long, copied-held, copied-form, copied-grown, copied-reference, copied-denotes, root-movable}
 use Rattle.attempts.specs.declared.Stored.{Stored}
 use Rattle.attempts.specs.declared.Meeting.the-variants.{Refused, Apart, Unifies}
 
@@ -147,7 +147,11 @@ module _ {most limit : ℕ} {pattern places : List ℕ} {stored : Stored} {words
           came = (
             fits,
             same t found ∙ h .is ∙ ap (λ (a : Bool). outcome a (held termRoom words′ rows′ bound′)) e,
-            record { form = h .form; added = record { more = h .more; kept = h .kept; still = h .still; back = h .back } },
+            record {
+              form = h .form;
+              added = record { more = h .more; kept = h .kept; still = h .still; back = h .back };
+              grown = copied-grown (asked .part) counter (asked .state .form) more few space small words′ written;
+            },
           );
           kept = kept;
           long = copied-long (asked .part) counter (asked .state .form) more few space small words′ written;

@@ -12,6 +12,8 @@ use Rattle.terms.specs.Bindings.{Bindings}
 use Rattle.terms.specs.Unification.{Outcome, fails, unified, unify}
 use Rattle.arena.specs.Cells.{headers, denote, Same, cells}
 use Rattle.arena.specs.Copies.{patternRoom, termRoom, numbered}
+use Rattle.arena.specs.Form.{inForm}
+use Rattle.arena.specs.FormKept.{form-same}
 use Rattle.arena.specs.Rows.{Rows}
 use Rattle.unifier.specs.Stored.{held, Form}
 use Rattle.resolution.specs.Rules.{Rule}
@@ -114,6 +116,13 @@ module _ {most limit : ℕ} {pattern premises places : List ℕ} {stored : Store
         form = subst (λ (b : Rows). Form termRoom words′ b counter′ used bound) (sym e) (form-back form words′ kept counter′ more few lent long);
       }
 
+  -- Words in form over a signature's arities stay so where they stand.
+  still-in-form : (counter′ : ℕ) (words′ : List ℕ) → counter ≤ counter′ → Same termRoom (cells words) (cells words′) used → length words′ ≡ length words
+      → (arities : List ℕ) → inForm words 0 used termRoom counter arities ≡ true → inForm words′ 0 used termRoom counter′ arities ≡ true
+  still-in-form counter′ words′ more kept long arities e =
+      let l = form .lentWords in
+      form-same words words′ 0 used termRoom counter counter′ arities (omega arith) l (omega arith) more kept e
+
   -- No sum is too large.
   pub small-counts : (counter + stored .met ≤ headers + patternRoom) × (counter + stored .variables ≤ headers + patternRoom) × (used + stored .head + stored .body ≤ headers + headers)
   small-counts =
@@ -133,6 +142,7 @@ module _ {most limit : ℕ} {pattern premises places : List ℕ} {stored : Store
       kept = h .kept;
       long = h .long;
       left = back counter (le-refl counter) (form .few) (form .lentRows) (h .kept) (h .long) (h .came .1);
+      staysInForm = λ arities r f. still-in-form counter words′ (le-refl counter) (h .kept) (h .long) arities f;
       linksKept = h .linksKept;
       marksKept = h .marksKept;
       stackKept = h .stackKept;
@@ -147,6 +157,7 @@ module _ {most limit : ℕ} {pattern premises places : List ℕ} {stored : Store
       left =
           let a = allowed most limit (counter + stored .met) (used + stored .head) (h .came .0) .0 in let b = asked .state .enough in let d = asked .state .lentRows in
           (omega arith, back (counter + stored .met) (omega arith) (omega arith) (omega arith) (h .kept) (h .long) (h .came .2));
+      staysInForm = λ arities r f. still-in-form (counter + stored .met) words′ (omega arith) (h .kept) (h .long) arities f;
       linksKept = h .linksKept;
       marksKept = h .marksKept;
       stackKept = h .stackKept;
@@ -184,6 +195,7 @@ module _ {most limit : ℕ} {pattern premises places : List ℕ} {stored : Store
           kept = kept-both words″ (k .kept);
           long = k .long ∙ h .long;
           left = back counter (le-refl counter) (form .few) (form .lentRows) (kept-both words″ (k .kept)) (k .long ∙ h .long) (k .done .1 ∙ h .came .2 .added .back);
+          staysInForm = λ arities r f. still-in-form counter words″ (le-refl counter) (kept-both words″ (k .kept)) (k .long ∙ h .long) arities f;
           linksKept = h .linksKept;
           marksKept = h .marksKept;
           stackKept = h .stackKept;
@@ -208,6 +220,7 @@ module _ {most limit : ℕ} {pattern premises places : List ℕ} {stored : Store
                 (λ i l. k .done .1 .denotes (getD premises i 0) (rule .premise i l))
                 ∙ instance-body pattern premises places stored rule counter;
           };
+          staysInForm = λ arities r f. k .done .1 .grown arities (r .premises) (h .came .2 .grown arities (r .conclusion) f);
           linksKept = h .linksKept;
           marksKept = h .marksKept;
           stackKept = h .stackKept;

@@ -2,6 +2,7 @@
 use Prim.Native.Nat.{ℕ, _+_, _-_, _≤_, _<_}
 use native.Mathlib.Omega.{arith}
 use mathlib.Core.Path.{_≡_, sym, ap, _∙_, subst}
+use mathlib.Core.Bool.{true}
 use mathlib.Core.List.{List}
 use lib.ListN.{getD, length}
 use lib.Seq.{sets, length-sets}
@@ -9,11 +10,13 @@ use Rattle.terms.specs.Term.{sub}
 use Rattle.arena.specs.Cells.{headers, denote, Reference, WellFormed, Same, cells}
 use Rattle.arena.specs.Copies.{patternRoom, termRoom, moved, copied, numbered, Copyable, Movable, PartReference}
 use Rattle.arena.specs.CopyLaws.{inst-frame, inst-formed, inst-reference, inst-denotes}
+use Rattle.arena.specs.Form.{inForm}
+use Rattle.arena.specs.FormKept.{inst-form}
 use Rattle.arena.specs.Rows.{Rows}
 use Rattle.unifier.specs.Stored.{held, Form}
 use Rattle.unifier.specs.Growth.{form-grows}
 use Rattle.attempts.specs.StoredRules.{patternOf, Part, Root}
-use Rattle.attempts.specs.Contracts.{copiedAt}
+use Rattle.attempts.specs.Contracts.{copiedAt, GrownInForm}
 use Rattle.attempts.specs.Extending.{held-kept}
 
 module _ {pattern places : List ℕ} {from count n : ℕ} (part : Part pattern places from count n)
@@ -69,6 +72,12 @@ module _ {pattern places : List ℕ} {from count n : ℕ} (part : Part pattern p
     copied-form lent =
         let e = copied-long in
         form-grows form words′ copied-kept more (omega arith) formed few (omega arith) (omega arith) lent
+
+    -- Words in form over a signature's arities stay so.
+    pub copied-grown : GrownInForm pattern from count words words′ used variables (counter + n)
+    copied-grown arities e f =
+        subst (λ (w : List ℕ). inForm w 0 (used + count) termRoom (counter + n) arities ≡ true) (sym written)
+        (inst-form pattern from count places words termRoom used counter patternRoom variables (counter + n) copyable (part .formed) (form .words) more few number arities f e)
 
     module _ (r : ℕ) (root : Root pattern places from count n r) where
       -- A judgment's reference is found in the copy, and denotes the instance.

@@ -8,6 +8,7 @@ use lib.ListN.{getD, length}
 use Rattle.terms.specs.Term.{Term}
 use Rattle.arena.specs.Cells.{headers, denote, WellFormed, cells, termsOf}
 use Rattle.arena.specs.Copies.{patternRoom}
+use Rattle.arena.specs.Form.{inForm}
 use Rattle.resolution.specs.Rules.{Rule}
 use Rattle.resolution.specs.Fresh.{elem, place, headVars, allVars}
 use Rattle.resolution.specs.Search.{words}
@@ -62,3 +63,8 @@ pub record StoredRule (pattern premises places : List ℕ) (stored : Stored) : T
   pub few : stored .variables ≤ patternRoom
   -- the table has each variable's place in meeting order
   pub placed : (x : ℕ) → elem x (allVars (ruleOf pattern premises stored)) ≡ true → getD places x 0 ≡ place (allVars (ruleOf pattern premises stored)) x
+
+-- A rule's words are in form over a signature's arities: those of its premises, and those of its conclusion behind them.
+pub record RuleInForm (pattern : List ℕ) (stored : Stored) (arities : List ℕ) : Type 0 where
+  pub premises : inForm pattern (stored .from) (stored .from + stored .body) patternRoom patternRoom arities ≡ true
+  pub conclusion : inForm pattern (stored .from + stored .body) (stored .from + stored .body + stored .head) patternRoom patternRoom arities ≡ true
