@@ -7,3 +7,4 @@ pub mod Rows
 pub mod Items
 pub mod Readings
 pub mod Domains
+pub mod AnswerLaws

@@ -9,6 +9,9 @@ use Rattle.words.specs.Utf8.{isUtf8}
 use Rattle.words.specs.Lines.{lines}
 use Rattle.words.specs.Tokens.{Reading, readLines, outsideLine}
 use Rattle.words.specs.Tokens.Reading.{tokens, refused}
+use Rattle.words.specs.Numerals.{numeralOf}
+use Rattle.words.specs.Answers.{Told, refuses, lexedTold, numeralTold, readingTold, valueTold}
+use Rattle.words.specs.declared.NumeralValue.{NumeralValue}
 use Rattle.words.specs.declared.Limits.{Limits}
 use Rattle.words.specs.declared.Lexed.{Lexed}
 use Rattle.words.specs.declared.Lexed.the-variants.{Tokens, Refused}
@@ -60,13 +63,24 @@ lexAnswer text limits rows = cond (ltb (length rows) (cappedOf limits .text)) (R
 abbrev pub lexRows : List ℕ → Limits → List (List ℕ) → List (List ℕ)
 lexRows text limits rows = cond (ltb (length rows) (cappedOf limits .text)) rows (rowsOf (length rows) (lexOf (cappedOf limits .text) text))
 
+-- The answer by the paper's numbers.
+abbrev pub lexTold : List ℕ → Limits → List (List ℕ) → Told
+lexTold text limits rows =
+    cond (ltb (length rows) (cappedOf limits .text)) (refuses 1 0) (readingTold (lexOf (cappedOf limits .text) text))
+
 -- How many rows an answer counts.
 abbrev pub countOf : Lexed → ℕ
 countOf (Tokens n) = n
 countOf (Refused r n) = 0
 
--- The promise of `lex`: answer and rows as above, and no more tokens than the limit on the text's bytes.
+-- The promise of `lex`: answer, numbers and rows as above, and no more tokens than the limit on the text's bytes.
 pub record Lexing (text : List ℕ) (limits : Limits) (before : List (List ℕ)) (r : Lexed) (after : List (List ℕ)) : Type 0 where
   pub answer : r ≡ lexAnswer text limits before
+  pub told : lexedTold r ≡ lexTold text limits before
   pub rows : after ≡ lexRows text limits before
   pub fits : countOf r ≤ cappedOf limits .text
+
+-- The promise of `numeral`: the value of the word at a place.
+pub record NumeralRead (text : List ℕ) (start n : ℕ) (r : NumeralValue) : Type 0 where
+  pub answer : r ≡ numeralOf (partOf text start n)
+  pub told : numeralTold r ≡ valueTold (partOf text start n)

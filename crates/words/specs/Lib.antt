@@ -8,6 +8,7 @@ pub mod Names
 pub mod Signs
 pub mod Tokens
 pub mod Refusals
+pub mod Answers
 pub mod Lexer
 pub mod Rows
 pub mod ByteLaws

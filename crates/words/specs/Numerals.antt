@@ -17,6 +17,10 @@ unfoldable pub valueFrom : ℕ → List ℕ → ℕ
 valueFrom v [] = v
 valueFrom v (c ∷ s) = valueFrom (v * 10 + (c - 48)) s
 
--- The value of a word of digits; what is no such word, or is over 64 bits, has none.
+-- Is a word one of digits whose value has 64 bits?
+abbrev pub isNumeral : List ℕ → Bool
+isNumeral w = ltb 0 (length w) && (allDigits w && ltb (valueFrom 0 w) (2 ^ 64))
+
+-- The value of such a word; any other has none.
 unfoldable pub numeralOf : List ℕ → NumeralValue
-numeralOf w = cond (ltb 0 (length w) && (allDigits w && ltb (valueFrom 0 w) (2 ^ 64))) (Fits (valueFrom 0 w)) TooLarge
+numeralOf w = cond (isNumeral w) (Fits (valueFrom 0 w)) TooLarge

@@ -36,9 +36,8 @@ ghost use mathlib.Core.List.{_++_};
 ghost use Prim.Native.Nat.{_+_, _-_, _≤_, _<_, min};
 ghost use lib.ListN.{length, take, replicate};
 ghost use Rattle.words.specs.Refusals.{numberOf};
-ghost use Rattle.words.specs.Numerals.{numeralOf};
 ghost use Rattle.words.specs.Rows.{Read};
-ghost use Rattle.words.specs.Lexer.{cappedOf, partOf, zeroRow, lexOf, Lexing};
+ghost use Rattle.words.specs.Lexer.{cappedOf, partOf, zeroRow, lexOf, Lexing, NumeralRead};
 
 // The limits that a caller may set. A limit over the one of document 01 counts as that one.
 pub struct Limits {
@@ -140,7 +139,7 @@ pub fn word<'a>(text: &'a [u8], start: usize, length: usize) -> &'a [u8]
 
 // The value of the numeral at a place of a text.
 pub fn numeral(text: &[u8], start: usize, length: usize) -> NumeralValue
-    ensures { λ r. ⌜ r ≡ numeralOf (partOf (now (text .entry)) start length) ⌝ }
+    ensures { λ r. ⌜ NumeralRead (now (text .entry)) start length r ⌝ }
 {
     value(word(text, start, length))
 }

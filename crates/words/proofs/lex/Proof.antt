@@ -1,4 +1,5 @@
--- `lex` meets its contract.
+-- `lex` meets its contract: on each way out the answer and the rows are those of the definition.
+-- There is no loop; after `read` the rows are those of its reading, and `clear` zeroes what lies past them.
 use mathlib.Core.Path.{_≡_, sym, ap, _∙_}
 use Prim.Native.Nat.{min}
 use lib.ListN.{length}
@@ -6,6 +7,7 @@ use borrow.Author.Tests.{lt-ltb, le-ltb}
 use Rattle.words.specs.Lexer.{lexOf, answerOf, rowsOf, countOf}
 use Rattle.words.specs.Rows.{outcome}
 use Rattle.words.proofs.Readings.{then-nil, leaves}
+use Rattle.words.proofs.AnswerLaws.{lexing}
 use native.Mathlib.Omega.{arith}
 use borrow.Author.Needs.{needs}
 use Rattle.words.proofs.lex.Statement.{statement}
@@ -23,11 +25,10 @@ returns c =
     let args = c .before .before .before .before .args in
     let if1 = c .if1 in
     let e : (capped .result .text) ≡ min ((args .limits .text)) 65536 = ap (λ l. l .text) (capped .ensures) in
-    record {
-      answer = sym (simp (← e, lt-ltb _ _ (if1 .taken)));
-      rows = sym (simp (← e, lt-ltb _ _ (if1 .taken)));
-      fits = omega arith;
-    }
+    lexing (args .text .now) (args .limits) (args .tokens .now)
+    (sym (simp (← e, lt-ltb _ _ (if1 .taken))))
+    (sym (simp (← e, lt-ltb _ _ (if1 .taken))))
+    (omega arith)
 
 read-requires : tie.Need-read-requires
 read-requires c κs =
@@ -60,11 +61,10 @@ returns-2 c =
     let reads : outcome (read′ .result) (read′ .last .1 .1 .0) ≡ lexOf (capped .result .text) (args .text .now) = (read′ .ensures .reads) ∙ then-nil _ in
     let counted : countOf (read′ .result) ≡ 0 = ap countOf (enum-told .given .1) in
     let left : (((read′ .result) ≡ answerOf (outcome (read′ .result) (read′ .last .1 .1 .0))) × ((clear .last .0) ≡ rowsOf (length (args .tokens .now)) (outcome (read′ .result) (read′ .last .1 .1 .0)))) = leaves (length (args .tokens .now)) (read′ .last .1 .1 .0) (clear .last .0) (read′ .ensures .long) (read′ .result) (omega (arith, (read′ .ensures .fits), (if1 .left))) (rw counted (clear .ensures)) in
-    record {
-      answer = left .0 ∙ ap answerOf reads ∙ sym (simp (← e, le-ltb _ _ (if1 .left)));
-      rows = left .1 ∙ ap (rowsOf (length (args .tokens .now))) reads ∙ sym (simp (← e, le-ltb _ _ (if1 .left)));
-      fits = omega arith;
-    }
+    lexing (args .text .now) (args .limits) (args .tokens .now)
+    (left .0 ∙ ap answerOf reads ∙ sym (simp (← e, le-ltb _ _ (if1 .left))))
+    (left .1 ∙ ap (rowsOf (length (args .tokens .now))) reads ∙ sym (simp (← e, le-ltb _ _ (if1 .left))))
+    (omega arith)
 
 clear-requires-2 : tie.Need-clear-requires-2
 clear-requires-2 c κs =
@@ -89,11 +89,10 @@ returns-3 c =
     let reads : outcome (read′ .result) (read′ .last .1 .1 .0) ≡ lexOf (capped .result .text) (args .text .now) = (read′ .ensures .reads) ∙ then-nil _ in
     let counted : countOf (read′ .result) ≡ (r′ .given .0 .0) = ap countOf (r′ .given .1) in
     let left : (((read′ .result) ≡ answerOf (outcome (read′ .result) (read′ .last .1 .1 .0))) × ((clear2 .last .0) ≡ rowsOf (length (args .tokens .now)) (outcome (read′ .result) (read′ .last .1 .1 .0)))) = leaves (length (args .tokens .now)) (read′ .last .1 .1 .0) (clear2 .last .0) (read′ .ensures .long) (read′ .result) (omega (arith, (read′ .ensures .fits), (if1 .left))) (rw counted (clear2 .ensures)) in
-    record {
-      answer = sym (r′ .given .1) ∙ left .0 ∙ ap answerOf reads ∙ sym (simp (← e, le-ltb _ _ (if1 .left)));
-      rows = left .1 ∙ ap (rowsOf (length (args .tokens .now))) reads ∙ sym (simp (← e, le-ltb _ _ (if1 .left)));
-      fits = omega (arith, (read′ .ensures .fits));
-    }
+    lexing (args .text .now) (args .limits) (args .tokens .now)
+    (sym (r′ .given .1) ∙ left .0 ∙ ap answerOf reads ∙ sym (simp (← e, le-ltb _ _ (if1 .left))))
+    (left .1 ∙ ap (rowsOf (length (args .tokens .now))) reads ∙ sym (simp (← e, le-ltb _ _ (if1 .left))))
+    (omega (arith, (read′ .ensures .fits)))
 
 pub lex-spec : {M : Type 1} → statement M
 lex-spec =

@@ -1,6 +1,8 @@
--- `numeral` meets its contract.
+-- `numeral` meets its contract: the word at the place, and its value.
+-- There is no loop.
 use mathlib.Core.Path.{ap, _∙_}
 use Rattle.words.specs.Numerals.{numeralOf}
+use Rattle.words.proofs.AnswerLaws.{numeral-read}
 use borrow.Author.Needs.{needs}
 use Rattle.words.proofs.numeral.Statement.{statement}
 use Rattle.words.proofs.numeral.Tie as tie
@@ -12,7 +14,7 @@ value-requires : tie.Need-value-requires
 value-requires c κs = search needs
 
 returns : tie.Need-returns
-returns c = (c .value .ensures) ∙ ap numeralOf (c .before .word .ensures)
+returns c = numeral-read _ _ _ ((c .value .ensures) ∙ ap numeralOf (c .before .word .ensures))
 
 pub numeral-spec : {M : Type 1} → statement M
 numeral-spec = tie.close (tie.spec word-requires value-requires returns)

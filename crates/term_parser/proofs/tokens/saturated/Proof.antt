@@ -19,13 +19,13 @@ enum-told : tie.Need-enum-told
 enum-told c = search needs
 
 returns : tie.Need-returns
-returns c = let e = ap value (sym (c .before .before .before .before .numeral .ensures) ∙ (c .before .before .v .given .1)) in omega (arith, e)
+returns c = let e = ap value (sym (c .before .before .before .before .numeral .ensures .answer) ∙ (c .before .before .v .given .1)) in omega (arith, e)
 
 returns-2 : tie.Need-returns-2
-returns-2 c = let e = ap value (sym (c .before .before .before .before .numeral .ensures) ∙ (c .before .before .v .given .1)) in omega (arith, e)
+returns-2 c = let e = ap value (sym (c .before .before .before .before .numeral .ensures .answer) ∙ (c .before .before .v .given .1)) in omega (arith, e)
 
 returns-3 : tie.Need-returns-3
-returns-3 c = let e = ap value (sym (c .before .before .numeral .ensures) ∙ (c .enum-told .given .1)) in omega (arith, e)
+returns-3 c = let e = ap value (sym (c .before .before .numeral .ensures .answer) ∙ (c .enum-told .given .1)) in omega (arith, e)
 
 pub saturated-spec : {M : Type 1} → statement M
 saturated-spec =
