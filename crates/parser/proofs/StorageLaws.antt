@@ -9,6 +9,7 @@ use lib.Dec.{ltb}
 use lib.ListN.{length, take, replicate}
 use lib.Seq.{length-take-le, take-at}
 use Rattle.words.specs.Lexer.{countOf, cappedOf, lexOf, zeroRow, Lexing, answerOf as lexedOf, rowsOf as lexedRows}
+use Rattle.words.specs.Answers.{refuses}
 use Rattle.words.specs.Tokens.{Reading}
 use Rattle.words.specs.Tokens.Reading.{tokens, refused as unread}
 use Rattle.words.specs.declared.Limits.{Limits}
@@ -21,7 +22,7 @@ use Rattle.parser.specs.Declarations.{Declared, parseOf}
 use Rattle.term_parser.specs.Rows.{Rows, rowsOfAll}
 use Rattle.parser.specs.Rows.{declaredRows}
 use Rattle.term_parser.specs.Contracts.{Lists}
-use Rattle.parser.specs.Parser.{answerOf, rowsAfter, usedOf, tooShort, Parsing, parsedText, tokensAfter, tokensOf, shortFor, textOf, ParsingText}
+use Rattle.parser.specs.Parser.{answerOf, answerTold, parsedTold, rowsAfter, usedOf, tooShort, Parsing, parsedText, tokensAfter, tokensOf, shortFor, textOf, ParsingText}
 use Rattle.term_parser.specs.declared.Refusal.{Refusal}
 use Rattle.term_parser.specs.declared.Refusal.the-variants.{Storage, Text}
 use Rattle.term_parser.specs.declared.Step.{Step}
@@ -40,7 +41,20 @@ neither a b e f = rw (e, f)
 first : (a b : Bool) → a ≡ true → (a || b) ≡ true
 first a b e = rw e
 
+-- The answer by the paper's numbers, from the answer itself.
+told-by : (short : Bool) (x : Parsed (List Declared)) {r : Answer} → r ≡ cond short (answer.Refused Storage 0) (answerOf x)
+    → answerTold r ≡ cond short (refuses 1 0) (parsedTold x)
+told-by true x e = ap answerTold e
+told-by false (parsed ds n) e = ap answerTold e
+told-by false absent e = ap answerTold e
+told-by false (refused v line) e = ap answerTold e
+
 module _ (text : List ℕ) (ts : Tokens) (before : Rows) where
+  -- The promise of `parse`, from its answer and its rows.
+  as-parsing : {r : Answer} {after : Rows} → r ≡ cond (tooShort ts before) (answer.Refused Storage 0) (answerOf (parseOf text ts))
+      → after ≡ cond (tooShort ts before) before (rowsAfter (length before) (parseOf text ts)) → usedOf r ≤ length ts → Parsing text ts before r after
+  as-parsing a r f = record { answer = a; told = told-by (tooShort ts before) (parseOf text ts) a; rows = r; fits = f }
+
   pub over : 65536 < length ts → tooShort ts before ≡ true
   over h = first (ltb 65536 (length ts)) (ltb (length before) (length ts)) (lt-ltb _ _ h)
 
@@ -51,19 +65,15 @@ module _ (text : List ℕ) (ts : Tokens) (before : Rows) where
   enough h k = neither (ltb 65536 (length ts)) (ltb (length before) (length ts)) (le-ltb _ _ h) (le-ltb _ _ k)
 
   pub parse-short : tooShort ts before ≡ true → Parsing text ts before (answer.Refused Storage 0) before
-  parse-short e = record {
-    answer = sym (ap (λ b. cond b (answer.Refused Storage 0) (answerOf (parseOf text ts))) e);
-    rows = sym (ap (λ b. cond b before (rowsAfter (length before) (parseOf text ts))) e);
-    fits = omega arith;
-  }
+  parse-short e =
+      as-parsing (sym (ap (λ b. cond b (answer.Refused Storage 0) (answerOf (parseOf text ts))) e))
+      (sym (ap (λ b. cond b before (rowsAfter (length before) (parseOf text ts))) e)) (omega arith)
 
   module _ (h : length ts ≤ 65536) (k : length ts ≤ length before) where
     parsing : (x : Parsed (List Declared)) → parseOf text ts ≡ x → {r : Answer} {after : Rows} → r ≡ answerOf x → after ≡ rowsAfter (length before) x → usedOf r ≤ length ts → Parsing text ts before r after
-    parsing x e f g i = record {
-      answer = f ∙ sym (ap (λ b. cond b (answer.Refused Storage 0) (answerOf (parseOf text ts))) (enough h k) ∙ ap answerOf e);
-      rows = g ∙ sym (ap (λ b. cond b before (rowsAfter (length before) (parseOf text ts))) (enough h k) ∙ ap (rowsAfter (length before)) e);
-      fits = i;
-    }
+    parsing x e f g i =
+        as-parsing (f ∙ sym (ap (λ b. cond b (answer.Refused Storage 0) (answerOf (parseOf text ts))) (enough h k) ∙ ap answerOf e))
+        (g ∙ sym (ap (λ b. cond b before (rowsAfter (length before) (parseOf text ts))) (enough h k) ∙ ap (rowsAfter (length before)) e)) i
 
     module _ {r : Step} {out : Rows} (l : Lists 0 declaredRows (parseOf text ts) ts 0 0 before r out) (long : length out ≡ length before) where
       pub parse-end : {next used n : ℕ} → r ≡ At next used n → {after : Rows} → after ≡ take used out ++ replicate (length out - used) zeroRow → Parsing text ts before (answer.Declarations n used) after
@@ -90,6 +100,7 @@ module _ (text : List ℕ) (limits : Limits) (toks rows : Rows) where
   pub text-short : shortFor limits toks rows ≡ true → ParsingText text limits toks rows (answer.Refused Storage 0) toks rows
   text-short e = record {
     answer = sym (ap (λ b. cond b (answer.Refused Storage 0) (answerOf (textOf text limits))) e);
+    told = sym (ap (λ b. cond b (refuses 1 0) (parsedTold (textOf text limits))) e);
     tokens = sym (ap (λ b. cond b toks (tokensAfter (length toks) (tokensOf (lexOf limit text)) (textOf text limits))) e);
     rows = sym (ap (λ b. cond b rows (rowsAfter (length rows) (textOf text limits))) e);
     fits = omega arith;
@@ -109,8 +120,11 @@ module _ (text : List ℕ) (limits : Limits) (toks rows : Rows) where
         → r ≡ answerOf y → toks′ ≡ tokensAfter (length toks) (tokensOf x) y → rows′ ≡ rowsAfter (length rows) y → usedOf r ≤ limit → ParsingText text limits toks rows r toks′ rows′
     whole x y e f a b c d =
         let z : textOf text limits ≡ y = ap (parsedText text) e ∙ f in
+        let i : _ ≡ cond (shortFor limits toks rows) (answer.Refused Storage 0) (answerOf (textOf text limits)) =
+        a ∙ sym (ap (λ b. cond b (answer.Refused Storage 0) (answerOf (textOf text limits))) long-enough ∙ ap answerOf z) in
         record {
-          answer = a ∙ sym (ap (λ b. cond b (answer.Refused Storage 0) (answerOf (textOf text limits))) long-enough ∙ ap answerOf z);
+          answer = i;
+          told = told-by (shortFor limits toks rows) (textOf text limits) i;
           tokens = b ∙ sym (ap (λ b. cond b toks (tokensAfter (length toks) (tokensOf (lexOf limit text)) (textOf text limits))) long-enough ∙ ap₂ (λ v w. tokensAfter (length toks) (tokensOf v) w) e z);
           rows = c ∙ sym (ap (λ b. cond b rows (rowsAfter (length rows) (textOf text limits))) long-enough ∙ ap (rowsAfter (length rows)) z);
           fits = d;

@@ -1,7 +1,7 @@
 -- `parse` and `parse_text` on all inputs: the order of the refusals, and what the lent rows hold afterwards.
 use mathlib.Core.Path.{_≡_}
 use mathlib.Core.Bool.{Bool, cond, _||_}
-use mathlib.Core.List.{List, [], _++_}
+use mathlib.Core.List.{List, [], _∷_, _++_}
 use Prim.Native.Nat.{ℕ, _-_, _≤_}
 use lib.Dec.{ltb}
 use lib.ListN.{length, replicate}
@@ -9,6 +9,7 @@ use Rattle.words.specs.Lexer.{cappedOf, lexOf, zeroRow}
 use Rattle.words.specs.Tokens.{Reading}
 use Rattle.words.specs.Tokens.Reading.{tokens, refused as unread}
 use Rattle.words.specs.Refusals.{numberOf as wordsNumber}
+use Rattle.words.specs.Answers.{Told, answers, refuses}
 use Rattle.words.specs.declared.Limits.{Limits}
 use Rattle.term_parser.specs.Parsing.{Tokens, Parsed, parsed, absent, refused}
 use Rattle.parser.specs.Declarations.{Declared, parseOf}
@@ -50,12 +51,24 @@ abbrev pub usedOf : Answer → ℕ
 usedOf (Declarations n used) = used
 usedOf (Refused r line) = 0
 
+-- The answers by the paper's numbers: how many declarations there are and how many rows they take, or the refusal.
+abbrev pub answerTold : Answer → Told
+answerTold (Declarations n used) = answers (n ∷ used ∷ [])
+answerTold (Refused r line) = refuses (numberOf r) line
+
+-- The same of what the definitions come to.
+abbrev pub parsedTold : Parsed (List Declared) → Told
+parsedTold (parsed ds n) = answers (length ds ∷ length (rowsOfAll declaredRows ds) ∷ [])
+parsedTold absent = answers (0 ∷ 0 ∷ [])
+parsedTold (refused r line) = refuses (numberOf r) line
+
 -- `parse`: over 65,536 tokens, or fewer rows than tokens, give 1 and the rows are left as they are. No more rows are used than there are tokens.
 abbrev pub tooShort : Tokens → Rows → Bool
 tooShort ts out = ltb 65536 (length ts) || ltb (length out) (length ts)
 
 pub record Parsing (text : List ℕ) (ts : Tokens) (before : Rows) (r : Answer) (after : Rows) : Type 0 where
   pub answer : r ≡ cond (tooShort ts before) (Refused Storage 0) (answerOf (parseOf text ts))
+  pub told : answerTold r ≡ cond (tooShort ts before) (refuses 1 0) (parsedTold (parseOf text ts))
   pub rows : after ≡ cond (tooShort ts before) before (rowsAfter (length before) (parseOf text ts))
   pub fits : usedOf r ≤ length ts
 
@@ -83,6 +96,7 @@ textOf text limits = parsedText text (lexOf (cappedOf limits .text) text)
 
 pub record ParsingText (text : List ℕ) (limits : Limits) (tokensBefore rowsBefore : Rows) (r : Answer) (tokensAfterwards rowsAfterwards : Rows) : Type 0 where
   pub answer : r ≡ cond (shortFor limits tokensBefore rowsBefore) (Refused Storage 0) (answerOf (textOf text limits))
+  pub told : answerTold r ≡ cond (shortFor limits tokensBefore rowsBefore) (refuses 1 0) (parsedTold (textOf text limits))
   pub tokens : tokensAfterwards ≡ cond (shortFor limits tokensBefore rowsBefore) tokensBefore (tokensAfter (length tokensBefore) (tokensOf (lexOf (cappedOf limits .text) text)) (textOf text limits))
   pub rows : rowsAfterwards ≡ cond (shortFor limits tokensBefore rowsBefore) rowsBefore (rowsAfter (length rowsBefore) (textOf text limits))
   pub fits : usedOf r ≤ cappedOf limits .text

@@ -1,7 +1,7 @@
 // Parser: from tokens to declarations. The Rust's `parse`, and the declarations of its `Parser`, with the refusals 7 to 16. Terms are read by `term_parser`.
 //
-// The entry points are `parse`, `parse_text` and `number`. They ask nothing of their caller, and each contract fixes the answer and every byte of the lent
-// rows on all inputs.
+// The entry points are `parse_text` and `number`. They ask nothing of their caller, and each contract fixes the answer and every byte of the lent rows on
+// all inputs. `parse` serves `parse_text`: its refusal 1 goes by the number of tokens, not by the limits alone.
 mod declarations; // declarations
 
 use declarations::declarations;
@@ -41,7 +41,8 @@ pub fn number(r: Refusal) -> u32
     }
 }
 
-// Parses the tokens of a text into rows, of which there are at least as many as tokens. Any list of token rows will do.
+// Parses the tokens of a text into rows, of which there are at least as many as tokens. Any list of token rows will do. It is no entry point, since how many
+// rows it asks for follows from the tokens: `parse_text` lends it as many as the limit on the text's bytes, so that its refusal 1 is never met there.
 pub fn parse(text: &[u8], tokens: &[[u32; 4]], rows: &mut [[u32; 4]]) -> Answer
     ensures { λ r. ⌜ Parsing (now (text .entry)) (now (tokens .entry)) (now (rows .entry)) r (now (rows .exit)) ⌝ }
 {
