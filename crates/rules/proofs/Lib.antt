@@ -4,4 +4,5 @@ pub mod JudgmentLaws
 pub mod OrderLaws
 pub mod ColumnLaws
 pub mod KeepLaws
+pub mod ExactLaws
 pub mod RuleLaws

@@ -21,6 +21,7 @@ use Rattle.patterns.proofs.Terms.{symbol-at, symbols-length}
 use Rattle.names.specs.SearchLaws.{columns-length}
 use Rattle.rules.specs.Rules.{barred, ruled, allKnown, closed, concluded, ruleOf}
 use Rattle.rules.specs.LayingLaws.{RuleLaid, rule-laid}
+use Rattle.rules.specs.LayoutLaws.{RuleExact, rule-exact}
 use Rattle.rules.specs.PatternLaws.{aritiesOf, FewInputs, InputsUpto, RuleMade, ruled-made}
 use Rattle.rules.specs.Contracts.{no, yes, onward, both, Bounded}
 use Rattle.rules.specs.declared.Body.{Body}
@@ -99,6 +100,10 @@ module _ (symbols : List Symbol) (name : Name) (ps : Written many) (c : Written 
 
       abbrev pub ruleMade : Rule
       ruleMade = record { name = name; sorts = map (λ (v : Variable). v .sort) vs; premises = h .premises; conclusion = h .conclusion }
+
+      -- its references and words are the rule's
+      pub exactly : (r : ℕ) (w₂ : List ℕ) (u₂ : ℕ) → l ≡ laid (r ∷ []) w₂ u₂ → RuleExact ruleMade w u rs middle r w₂
+      exactly r w₂ u₂ e = rule-exact ruleMade w u rs (h .between) middle r w₂ u₂ (h .first) (h .second ∙ e)
 
       module _ (known : allKnown vs ≡ true) where
         pub is-rule : ruleOf symbols name ps c room ≡ ruled ruleMade m

@@ -3,6 +3,7 @@ use Prim.Native.Nat.{ℕ, _+_, _*_, _≤_, _<_}
 use mathlib.Core.Path.{_≡_}
 use mathlib.Core.List.{List, [], _∷_, map}
 use lib.ListN.{length, take, getD, set}
+use lib.Seq.{sets}
 use Rattle.arena.specs.Cells.{headers, Reference, WellFormed, Same, cells, termsOf}
 use Rattle.arena.specs.Copies.{patternRoom}
 use Rattle.resolution.specs.Fresh.{met, metBack}
@@ -20,6 +21,7 @@ use Rattle.rules.specs.LayingLaws.{RuleLying}
 use Rattle.rules.specs.Rules.{Ruled, barred, ruled, ruleOf, entering}
 use Rattle.rules.specs.PatternLaws.{aritiesOf, InputsUpto}
 use Rattle.rules.specs.StoredRows.{titled, Kept}
+use Rattle.rules.specs.Layout.{references, ruleWords, rowOf}
 use Rattle.rules.specs.declared.Entered.{Entered}
 use Rattle.rules.specs.declared.Entered.the-variants.{Refused as Refusal, Done as Entry}
 use Rattle.rules.specs.declared.Title.{Title}
@@ -103,6 +105,10 @@ pub record Keeping (pattern : List ℕ) (from middle used : ℕ) (heads : List �
       → titled text (title .start) (title .size) (title .clause) ≡ R .name → map (λ x. x .sort) (variablesOf text variables v) ≡ R .sorts
       → met (R .conclusion) (met (R .premises) []) ≡ numbersBelow (length (R .sorts))
       → Kept text arities pattern row R from used
+  -- It is the row of that rule, where the references are those of its terms.
+  pub exact : (text arities : List ℕ) (R : Rule) → RuleLying arities R pattern from (take n heads) middle conclusion used
+      → map (λ x. x .sort) (variablesOf text variables v) ≡ R .sorts → met (R .conclusion) (met (R .premises) []) ≡ numbersBelow (length (R .sorts))
+      → take n heads ≡ references (R .premises) from → conclusion ∷ [] ≡ references (R .conclusion) middle → row ≡ rowOf title from R
 
 -- What stands in the rows: n premises from the row p on, and a conclusion at a row of its own.
 pub record Source (text : List ℕ) (premises : Rows) (p n : ℕ) (conclusions : Rows) (here : ℕ) : Type 0 where
@@ -135,6 +141,9 @@ pub record RuleDone (text arities : List ℕ) (title : Title) (w : List ℕ) (u 
   pub written : rules′ ≡ set rules number row
   pub placed : (column row 0 ≡ title .start) × (column row 1 ≡ title .size)
   pub kept : Kept text arities w′ row R u used
+  -- Row and words are the rule's, and no other word changed.
+  pub exact : row ≡ rowOf title u R
+  pub laid : w′ ≡ sets w u (ruleWords u R)
   pub same : Same patternRoom (cells w) (cells w′) u
   pub fits : used + 2 * room′ ≤ u + 2 * room
 

@@ -56,7 +56,7 @@ elem-metBack x (cons t ts) e =
 -- Numbers below n
 
 -- They are n.
-numbers-count : (n : ℕ) → length (numbersBelow n) ≡ n
+pub numbers-count : (n : ℕ) → length (numbersBelow n) ≡ n
 numbers-count zero = refl
 numbers-count (suc n) = let h = numbers-count n in let k = length-append (numbersBelow n) (n ∷ []) in omega arith
 

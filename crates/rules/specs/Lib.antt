@@ -5,4 +5,6 @@ pub mod CountLaws
 pub mod PatternLaws
 pub mod StoredRows
 pub mod StoredLaws
+pub mod Layout
+pub mod LayoutLaws
 pub mod Contracts

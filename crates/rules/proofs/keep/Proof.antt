@@ -2,10 +2,12 @@
 use mathlib.Core.Path.{refl, sym, ap, _∙_}
 use mathlib.Core.List.{List, [], _∷_}
 use Prim.Native.Nat.{ℕ, _-_}
-use lib.ListN.{length, length-replicate}
+use lib.ListN.{length, take, length-replicate}
+use lib.Seq.{length-take-le}
 use Rattle.meeting.specs.Places.{numbersBelow}
 use Rattle.rules.proofs.RowLaws.{sortsIn, sorts-column, sorts-length}
 use Rattle.rules.proofs.KeepLaws.{order-asked, all-recorded, row-kept, title-at}
+use Rattle.rules.proofs.ExactLaws.{places-exact, row-exact}
 use native.Mathlib.Omega.{arith}
 use borrow.Author.Needs.{needs}
 use Rattle.rules.proofs.keep.Statement.{statement}
@@ -79,6 +81,12 @@ returns c =
           ∙ sym (sorts-column text (args .variables .now) (args .v))
           ∙ sorted) (appear
           ∙ ap numbersBelow (ap length (sym sorted) ∙ sorts-length text (args .variables .now) (args .v) (pre .lent))) (k .0) (k .1);
+      exact = λ text arities R lying sorted appear refs ref. let k = all-recorded (args .n) (args .heads .now) lying (order-sized .ensures) in
+          let few = (pre .vars) in
+          row-exact (args .title) R (args .from) (args .middle) (args .used) (args .conclusion) (args .n) (args .v) (order-sized .result .met) (take (args .n) (args .heads .now)) (sortsIn [] (args .variables .now) (args .v)) _ refs ref
+          (sorts-column [] (args .variables .now) (args .v) ∙ sym (sorts-column text (args .variables .now) (args .v)) ∙ sorted)
+          (sorts-length [] (args .variables .now) (args .v) (pre .lent)) (length-take-le (args .n) (args .heads .now) (pre .references)) (lying .premises .used) (lying .conclusion .used) (k .0)
+          (places-exact R (args .v) (appear ∙ ap numbersBelow (ap length (sym sorted) ∙ sorts-length text (args .variables .now) (args .v) (pre .lent))) _ (order-sized .result .all) (k .1) (rw long few));
     }
 
 pub keep-spec : {M : Type 1} → statement M

@@ -6,7 +6,7 @@ use Rattle.term_parser.specs.Standing.{size}
 use Rattle.names.specs.Symbols.{symbolsOf, variablesOf}
 use Rattle.rules.specs.StoredRows.{titled}
 use Rattle.rules.specs.PatternLaws.{aritiesOf}
-use Rattle.rules.proofs.RuleLaws.{few-inputs, bounds, too-many, judgment-refused, bodied, not-known, ruleMade, is-rule, made, lies, not-false, not-true}
+use Rattle.rules.proofs.RuleLaws.{few-inputs, bounds, too-many, judgment-refused, bodied, not-known, ruleMade, exactly, is-rule, made, lies, not-false, not-true}
 use borrow.Author.Needs.{needs}
 use native.Mathlib.Omega.{arith}
 use Rattle.rules.proofs.rule.Statement.{statement}
@@ -159,6 +159,7 @@ returns-5 c =
           let k = (sym ((all-known .ensures) ((args .text .now))) ∙ not-false _ (if2 .left)) in
           let M = made (symbolsOf ((args .text .now)) ((args .symbols .now)) ((args .count))) (titled ((args .text .now)) ((args .title .start)) ((args .title .size)) ((args .title .clause))) ps c ((args .room)) few B k (few-inputs ((args .text .now)) ((args .symbols .now)) ((args .count)) ((pre .lent)) ((pre .inputs))) ((pre .upto .0)) ((pre .upto .1)) in
           let L = lies (symbolsOf ((args .text .now)) ((args .symbols .now)) ((args .count))) (titled ((args .text .now)) ((args .title .start)) ((args .title .size)) ((args .title .clause))) ps c ((args .room)) few B k (few-inputs ((args .text .now)) ((args .symbols .now)) ((args .count)) ((pre .lent)) ((pre .inputs))) ((pre .upto .0)) ((pre .upto .1)) _ _ _ refl ((pre .formed)) ((pre .words)) ((pre .low)) in
+          let X = exactly (symbolsOf ((args .text .now)) ((args .symbols .now)) ((args .count))) (titled ((args .text .now)) ((args .title .start)) ((args .title .size)) ((args .title .clause))) ps c ((args .room)) few B _ _ _ refl in
           rw (is-rule (symbolsOf ((args .text .now)) ((args .symbols .now)) ((args .count))) (titled ((args .text .now)) ((args .title .start)) ((args .title .size)) ((args .title .clause))) ps c ((args .room)) few B k, lt-ltb ((args .number)) 1024 ((if3 .left))) (record {
             used = _;
             is = refl;
@@ -166,6 +167,8 @@ returns-5 c =
             written = (keep .ensures .written);
             placed = (keep .ensures .placed);
             kept = (keep .ensures .kept) ((args .text .now)) (aritiesOf (symbolsOf ((args .text .now)) ((args .symbols .now)) ((args .count)))) (ruleMade (symbolsOf ((args .text .now)) ((args .symbols .now)) ((args .count))) (titled ((args .text .now)) ((args .title .start)) ((args .title .size)) ((args .title .clause))) ps c ((args .room)) few B) (L .lying) refl refl (M .order);
+            exact = (keep .ensures .exact) ((args .text .now)) (aritiesOf (symbolsOf ((args .text .now)) ((args .symbols .now)) ((args .count)))) (ruleMade (symbolsOf ((args .text .now)) ((args .symbols .now)) ((args .count))) (titled ((args .text .now)) ((args .title .start)) ((args .title .size)) ((args .title .clause))) ps c ((args .room)) few B) (L .lying) refl (M .order) (X .premises) (X .conclusion);
+            laid = X .written;
             same = L .low;
             fits = b .3;
           });
