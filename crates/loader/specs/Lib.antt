@@ -3,6 +3,8 @@ pub mod Signature
 pub mod Legal
 pub mod Rows
 pub mod TermRows
+pub mod Stored
+pub mod StoredLaws
 pub mod Growth
 pub mod Holding
 pub mod Entering
