@@ -1,20 +1,22 @@
 -- Laws of clauses in rows: how many patterns there are, and clauses one behind the other.
 use mathlib.Core.Path.{_≡_, refl, sym, ap, _∙_, subst}
-use mathlib.Core.List.{List, [], _∷_}
+use mathlib.Core.List.{List, [], _∷_, _++_}
 use Prim.Native.Nat.{ℕ, suc, _+_, _-_, _≤_, _<_}
 use native.Mathlib.Omega.{arith}
 use lib.ListN.{length}
 use Rattle.words.specs.Lexer.{partOf}
-use Rattle.term_parser.specs.Source.{allOf}
+use Rattle.term_parser.specs.Source.{place, allOf}
 use Rattle.term_parser.specs.Standing.{size, spelled}
 use Rattle.parser.specs.Source.{Clause}
 use Rattle.names.specs.Names.{Name}
 use Rattle.names.specs.Symbols.{Rows, Symbol, column, rowAt, symbolsOf}
 use Rattle.rules.specs.PatternLaws.{InputsUpto}
+use Rattle.rules.specs.declared.Title.{Title}
 use Rattle.clauses.specs.Contracts as clauses
 use Rattle.rules.specs.Rules.{Ruled, barred, ruled, entering}
 use Rattle.clauses.specs.Clauses.{clauseOf}
 use Rattle.loader.specs.Signature.{Signature, Step, no, on, andThen, roomIn, withRule, enterClause, enterClauses}
+use Rattle.loader.specs.Stored.{titleAt, withClauses}
 use Rattle.loader.specs.Entering.{Storage}
 use Rattle.loader.specs.TermRows.{spelled-size, ClauseStands}
 use Rattle.rule_checks.specs.RuleForm.{Inside}
@@ -61,12 +63,14 @@ clause-symbols limit text s f i c e =
     rule-symbols s (roomIn limit s) (entering (length (s .rules)) (clauseOf (s .symbols) f i (spelled text (allOf (c .patterns))) (spelled text (c .body)) (roomIn limit s))) e
 
 -- The clauses that are left to enter, when those before the number i are entered.
-pub record Going (text : List ℕ) (limit : ℕ) (rows : Rows) (n start size : ℕ) (symbols rules : Rows) (words : List ℕ) (st₀ st : State) (p i q : ℕ) (whole : Step) : Type 0 where
+pub record Going (text : List ℕ) (limit : ℕ) (rows : Rows) (n start size : ℕ) (symbols rules : Rows) (words : List ℕ) (st₀ st : State) (p i q : ℕ) (all : List Title) (whole : Step) : Type 0 where
+  pub titles : List Title
   pub signature : Signature
   pub rest : List Clause
-  pub ready : Ready text limit signature symbols rules words st
+  pub ready : Ready text limit titles signature symbols rules words st
   pub stand : ClausesStand text rows p rest q
   pub number : i + length rest ≡ n
+  pub titled : all ≡ withClauses titles (place start size) i rest
   pub same : whole ≡ enterClauses limit text signature (partOf text start size) i rest
   pub sorts : st .sorts ≡ st₀ .sorts
   pub symbols-kept : st .symbols ≡ st₀ .symbols
@@ -74,17 +78,17 @@ pub record Going (text : List ℕ) (limit : ℕ) (rows : Rows) (n start size : �
 -- All clauses of a function.
 abbrev pub Everywhere : List ℕ → Rows → ℕ → ℕ → ℕ → ℕ → Rows → Rows → List ℕ → State → Rows → List ℕ → State → ℕ → ℕ → Type 0
 Everywhere text rows at n start size symbols rules₀ words₀ st₀ rules words st p i =
-    (limit : ℕ) (s : Signature) → Ready text limit s symbols rules₀ words₀ st₀ → (cs : List Clause) (q : ℕ) → ClausesStand text rows at cs q → n ≡ length cs
-    → Going text limit rows n start size symbols rules words st₀ st p i q (enterClauses limit text s (partOf text start size) 0 cs)
+    (limit : ℕ) (ts : List Title) (s : Signature) → Ready text limit ts s symbols rules₀ words₀ st₀ → (cs : List Clause) (q : ℕ) → ClausesStand text rows at cs q → n ≡ length cs
+    → Going text limit rows n start size symbols rules words st₀ st p i q (withClauses ts (place start size) 0 cs) (enterClauses limit text s (partOf text start size) 0 cs)
 
 pub going-start : {text : List ℕ} {rows : Rows} {at n start size : ℕ} {symbols rules : Rows} {words : List ℕ} {st : State}
     → Everywhere text rows at n start size symbols rules words st rules words st at 0
-going-start limit s ready cs q st e =
-    record { signature = s; rest = cs; ready = ready; stand = st; number = omega arith; same = refl; sorts = refl; symbols-kept = refl }
+going-start limit ts s ready cs q st e =
+    record { titles = ts; signature = s; rest = cs; ready = ready; stand = st; number = omega arith; titled = refl; same = refl; sorts = refl; symbols-kept = refl }
 
-module _ {text : List ℕ} {limit : ℕ} {rows : Rows} {n start size : ℕ} {symbols rules : Rows} {words : List ℕ} {st₀ st : State} {p i q : ℕ} {whole : Step} where
+module _ {text : List ℕ} {limit : ℕ} {rows : Rows} {n start size : ℕ} {symbols rules : Rows} {words : List ℕ} {st₀ st : State} {p i q : ℕ} {all : List Title} {whole : Step} where
   -- The next clause stands at the row p.
-  pub going-clause : Going text limit rows n start size symbols rules words st₀ st p i q whole → i < n → (c : Clause) × (m : ℕ) × ClauseStands text rows p c m
+  pub going-clause : Going text limit rows n start size symbols rules words st₀ st p i q all whole → i < n → (c : Clause) × (m : ℕ) × ClauseStands text rows p c m
   unfolding ClausesStand
   going-clause g l = go (g .rest) (g .stand) (g .number)
     where
@@ -95,44 +99,48 @@ module _ {text : List ℕ} {limit : ℕ} {rows : Rows} {n start size : ℕ} {sym
   module _ {rules′ : Rows} {words′ : List ℕ} {r : Progress} (inside : Inside text start size)
       (declared : ClauseDeclared text rows p i start size symbols rules words st r rules′ words′) where
     -- It is refused, and so are all.
-    pub going-refused : {e : ℕ} → Going text limit rows n start size symbols rules words st₀ st p i q whole → i < n → r ≡ Refused e → whole ≡ no e
+    pub going-refused : {e : ℕ} → Going text limit rows n start size symbols rules words st₀ st p i q all whole → i < n → r ≡ Refused e → whole ≡ no e
     unfolding ClausesStand enterClauses
     going-refused {e} g l z = go (g .rest) (g .stand) (g .number) (g .same)
       where
-        step : (x : Step) (m : ℕ) → Advanced text limit x m rules′ words′ st r → x ≡ no e
-        step (no f) m h = cc
-        step (on t) m h = absurd (let d = h .1 in let w : _≡_ {A = ℕ} 0 1 = cc in omega arith)
+        step : (ts : List Title) (x : Step) (m : ℕ) → Advanced text limit ts x m rules′ words′ st r → x ≡ no e
+        step ts (no f) m h = cc
+        step ts (on t) m h = absurd (let d = h .1 in let w : _≡_ {A = ℕ} 0 1 = cc in omega arith)
 
         go : (cs : List Clause) → ClausesStand text rows p cs q → i + length cs ≡ n → whole ≡ enterClauses limit text (g .signature) (partOf text start size) i cs → whole ≡ no e
         go [] s d w = absurd (omega arith)
         go (c ∷ cs) s d w =
-            let h = step (enterClause limit text (g .signature) (partOf text start size) i c) (s .0) (declared .same limit (g .signature) (g .ready) inside c (s .0) (s .1)) in
+            let h = step _ (enterClause limit text (g .signature) (partOf text start size) i c) (s .0) (declared .same limit (g .titles) (g .signature) (g .ready) inside c (s .0) (s .1)) in
             w ∙ rw h refl
 
     -- It is entered, and the others are left.
-    pub going-on : {next : ℕ} {st′ : State} → Going text limit rows n start size symbols rules words st₀ st p i q whole → i < n → r ≡ Done next st′
-        → Going text limit rows n start size symbols rules′ words′ st₀ st′ next (i + 1) q whole
-    unfolding ClausesStand enterClauses
-    going-on {next} {st′} g l z = go (g .rest) (g .stand) (g .number) (g .same)
+    pub going-on : {next : ℕ} {st′ : State} → Going text limit rows n start size symbols rules words st₀ st p i q all whole → i < n → r ≡ Done next st′
+        → Going text limit rows n start size symbols rules′ words′ st₀ st′ next (i + 1) q all whole
+    unfolding ClausesStand enterClauses withClauses
+    going-on {next} {st′} g l z = go (g .rest) (g .stand) (g .number) (g .titled) (g .same)
       where
-        step : (x : Step) (m : ℕ) → Advanced text limit x m rules′ words′ st r → (t : Signature) × (x ≡ on t) × (next ≡ m) × Filled text limit t rules′ words′ st st′
-        step (no f) m h = absurd (let w : _≡_ {A = ℕ} 0 1 = cc in omega arith)
-        step (on t) m h =
+        step : (ts : List Title) (x : Step) (m : ℕ) → Advanced text limit ts x m rules′ words′ st r → (t : Signature) × (x ≡ on t) × (next ≡ m) × Filled text limit ts t rules′ words′ st st′
+        step ts (no f) m h = absurd (let w : _≡_ {A = ℕ} 0 1 = cc in omega arith)
+        step ts (on t) m h =
             let d = h .1 in
             let a : h .0 ≡ st′ = cc in
             let b : next ≡ m = cc in
             (t, refl, b, rw (← a) (h .2))
 
-        turn : (c : Clause) (cs : List Clause) (m : ℕ) → ClausesStand text rows m cs q → i + suc (length cs) ≡ n
+        more : List Title
+        more = g .titles ++ (titleAt (place start size) (i + 1) ∷ [])
+
+        turn : (c : Clause) (cs : List Clause) (m : ℕ) → ClausesStand text rows m cs q → i + suc (length cs) ≡ n → all ≡ withClauses more (place start size) (i + 1) cs
             → whole ≡ andThen (enterClause limit text (g .signature) (partOf text start size) i c) (λ t. enterClauses limit text t (partOf text start size) (suc i) cs)
-            → (t : Signature) → enterClause limit text (g .signature) (partOf text start size) i c ≡ on t → next ≡ m → Filled text limit t rules′ words′ st st′
-            → Going text limit rows n start size symbols rules′ words′ st₀ st′ next (i + 1) q whole
-        turn c cs m s d w t e x f =
+            → (t : Signature) → enterClause limit text (g .signature) (partOf text start size) i c ≡ on t → next ≡ m → Filled text limit more t rules′ words′ st st′
+            → Going text limit rows n start size symbols rules′ words′ st₀ st′ next (i + 1) q all whole
+        turn c cs m s d ti w t e x f =
             let sy : t .symbols ≡ g .signature .symbols = clause-symbols limit text (g .signature) (partOf text start size) i c e in
             let o : i + 1 ≡ suc i = omega arith in
             let k : st′ .symbols ≡ st .symbols = f .symbols in
             let rd = g .ready in
             record {
+              titles = more;
               signature = t;
               rest = cs;
               ready = record {
@@ -145,27 +153,28 @@ module _ {text : List ℕ} {limit : ℕ} {rows : Rows} {n start size : ℕ} {sym
               };
               stand = rw x s;
               number = omega arith;
+              titled = ti;
               same = w ∙ ap (λ (y : Step). andThen y (λ (u : Signature). enterClauses limit text u (partOf text start size) (suc i) cs)) e
                   ∙ ap (λ (j : ℕ). enterClauses limit text t (partOf text start size) j cs) (sym o);
               sorts = f .sorts ∙ g .sorts;
               symbols-kept = k ∙ g .symbols-kept;
             }
 
-        go : (cs : List Clause) → ClausesStand text rows p cs q → i + length cs ≡ n → whole ≡ enterClauses limit text (g .signature) (partOf text start size) i cs
-            → Going text limit rows n start size symbols rules′ words′ st₀ st′ next (i + 1) q whole
-        go [] s d w = absurd (omega arith)
-        go (c ∷ cs) s d w =
-            let h = step (enterClause limit text (g .signature) (partOf text start size) i c) (s .0) (declared .same limit (g .signature) (g .ready) inside c (s .0) (s .1)) in
-            turn c cs (s .0) (s .2) d w (h .0) (h .1) (h .2) (h .3)
+        go : (cs : List Clause) → ClausesStand text rows p cs q → i + length cs ≡ n → all ≡ withClauses (g .titles) (place start size) i cs
+            → whole ≡ enterClauses limit text (g .signature) (partOf text start size) i cs → Going text limit rows n start size symbols rules′ words′ st₀ st′ next (i + 1) q all whole
+        go [] s d ti w = absurd (omega arith)
+        go (c ∷ cs) s d ti w =
+            let h = step more (enterClause limit text (g .signature) (partOf text start size) i c) (s .0) (declared .same limit (g .titles) (g .signature) (g .ready) inside c (s .0) (s .1)) in
+            turn c cs (s .0) (s .2) d ti w (h .0) (h .1) (h .2) (h .3)
 
   -- No clause is left.
-  pub going-end : Going text limit rows n start size symbols rules words st₀ st p i q whole → n ≤ i → Advanced text limit whole q rules words st₀ (Done p st)
-  unfolding ClausesStand enterClauses
-  going-end g l = go (g .rest) (g .stand) (g .number) (g .same)
+  pub going-end : Going text limit rows n start size symbols rules words st₀ st p i q all whole → n ≤ i → Advanced text limit all whole q rules words st₀ (Done p st)
+  unfolding ClausesStand enterClauses withClauses
+  going-end g l = go (g .rest) (g .stand) (g .number) (g .titled) (g .same)
     where
-      go : (cs : List Clause) → ClausesStand text rows p cs q → i + length cs ≡ n → whole ≡ enterClauses limit text (g .signature) (partOf text start size) i cs → Advanced text limit whole q rules words st₀ (Done p st)
-      go [] s d w = rw w (st, ap (λ (x : ℕ). Done x st) s, record { kept = g .ready .kept; sorts = g .sorts; symbols = g .symbols-kept })
-      go (c ∷ cs) s d w = absurd (omega arith)
+      go : (cs : List Clause) → ClausesStand text rows p cs q → i + length cs ≡ n → all ≡ withClauses (g .titles) (place start size) i cs → whole ≡ enterClauses limit text (g .signature) (partOf text start size) i cs → Advanced text limit all whole q rules words st₀ (Done p st)
+      go [] s d ti w = rw (w, ti) (st, ap (λ (x : ℕ). Done x st) s, record { kept = g .ready .kept; sorts = g .sorts; symbols = g .symbols-kept })
+      go (c ∷ cs) s d ti w = absurd (omega arith)
 
 -- Entering clauses leaves sorts and symbols as they are.
 rule-names : (s : Signature) (room : ℕ) (x : Ruled) → (next : Signature → Step) (u : Signature) → andThen (withRule s room x) next ≡ on u

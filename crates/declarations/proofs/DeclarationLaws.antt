@@ -18,7 +18,7 @@ use Rattle.loader.specs.Arrows.{namesAt}
 use Rattle.loader.specs.NameRows.{names-at}
 use Rattle.loader.specs.TermRows.{JudgmentsStand, judgments-stand, ClauseStands, clause-stands}
 use Rattle.loader.specs.TokenPlaceLaws.{Within}
-use Rattle.declarations.specs.Steps.{nameAt, NameInside, ClausesStand, DeclarationAt}
+use Rattle.declarations.specs.Steps.{nameAt, placeAt, NameInside, ClausesStand, DeclarationAt}
 
 -- The number of a declaration's keyword, which is the kind of its row.
 abbrev pub kindOf : Declaration → ℕ
@@ -104,13 +104,14 @@ first-row {text} {rows} {p} {d} {q} h = go (d .line) (d .declaration) (h .split)
 -- The name of a declaration, in its second row.
 pub record Titled (text : List ℕ) (rows : Rows) (p : ℕ) (n : Place) : Type 0 where
   pub named : nameAt text rows (p + 1) ≡ bytesAt text n
+  pub placed : placeAt rows (p + 1) ≡ n
   pub inside : NameInside text rows (p + 1)
 
 titled : (text : List ℕ) (rows : Rows) (p k : ℕ) (n : Place) → rowAt rows (p + 1) ≡ row nameKind n k → Within text n → Titled text rows p n
 titled text rows p k (place s m) e i =
     let a : column (rowAt rows (p + 1)) 1 ≡ s = ap (λ (x : List ℕ). column x 1) e in
     let b : column (rowAt rows (p + 1)) 2 ≡ m = ap (λ (x : List ℕ). column x 2) e in
-    record { named = ap₂ (partOf text) a b; inside = (let j : s + m ≤ length text = i in omega arith) }
+    record { named = ap₂ (partOf text) a b; placed = ap₂ place a b; inside = (let j : s + m ≤ length text = i in omega arith) }
 
 -- Each clause takes a row at least.
 clauses-length : (cs : List Clause) → length cs ≤ length (rowsOfAll clauseRows cs)

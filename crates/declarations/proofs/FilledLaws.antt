@@ -6,13 +6,15 @@ use mathlib.Core.Bool.{cond}
 use mathlib.Core.List.{List, [], _∷_, _++_}
 use lib.Dec.{ltb}
 use lib.ListN.{length, set, length-append}
-use lib.Seq.{getD-set-same, getD-set-other}
+use lib.Seq.{sets, getD-set-same, getD-set-other}
 use borrow.Author.Tests.{ltb-true}
 use Rattle.terms.specs.Numbers.{by-bool, by-same}
 use Rattle.resolution.specs.Rules.{Rule}
 use Rattle.names.specs.Symbols.{Rows, Symbol, symbolsOf}
 use Rattle.rules.specs.Rules.{Ruled, barred, ruled, entering}
 use Rattle.rules.specs.PatternLaws.{aritiesOf, InputsUpto}
+use Rattle.rules.specs.Layout.{ruleWords, rowOf}
+use Rattle.rules.specs.LayoutLaws.{rule-words-length}
 use Rattle.rules.specs.Contracts.{Entering, RuleDone}
 use Rattle.rules.specs.declared.Title.{Title}
 use Rattle.rules.specs.declared.Entered.{Entered}
@@ -23,10 +25,11 @@ use Rattle.loader.specs.Signature.{Signature, roomIn, withRule}
 use Rattle.loader.specs.Holding.{RulesKept, rules-entered}
 use Rattle.loader.specs.Entering.{Storage}
 use Rattle.rule_checks.specs.RuleForm.{Inside}
-use Rattle.declarations.specs.Held.{RulesHeld}
+use Rattle.declarations.specs.Held.{RulesStored, RulesHeld}
 use Rattle.declarations.specs.Steps.{Ready, Told, progressOf, Advanced}
 use Rattle.declarations.specs.declared.State.{State}
 use Rattle.declarations.specs.declared.Progress.{Progress}
+use Rattle.declarations.proofs.StoredLaws.{rule-stored}
 
 -- With nothing entered but below the number.
 entering-few : (number : ℕ) (x : Ruled) {R : Rule} {m : ℕ} → entering number x ≡ ruled R m → number < 1024
@@ -35,7 +38,7 @@ entering-few number (ruled R m) q = by-bool (ltb number 1024)
     (λ e. ltb-true number 1024 e)
     (λ e. absurd (let p : cond (ltb number 1024) (ruled R m) (barred 28) ≡ barred 28 = rw e refl in let z : _≡_ {A = ℕ} 0 1 = cc in omega arith))
 
-module _ {text : List ℕ} {limit : ℕ} {s : Signature} {symbols rules : Rows} {words : List ℕ} {st : State} (ready : Ready text limit s symbols rules words st) where
+module _ {text : List ℕ} {limit : ℕ} {ts : List Title} {s : Signature} {symbols rules : Rows} {words : List ℕ} {st : State} (ready : Ready text limit ts s symbols rules words st) where
   -- The room for a rule.
   room-is : roomIn limit s ≡ min 1024 (st .left)
   room-is = let l = ready .kept .left in let e : limit - s .nodes ≡ st .left = omega arith in ap (min 1024) e
@@ -99,7 +102,7 @@ module _ {text : List ℕ} {limit : ℕ} {s : Signature} {symbols rules : Rows} 
     -- A rule entered behind the others is held.
     one-more : (R : Rule) (left : ℕ) (r : Entered) → st .rules < 1024
         → (done : RuleDone text (aritiesOf (s .symbols)) title words (st .used) (min 1024 (st .left)) rules (st .rules) words′ rules′ R left r)
-        → RulesHeld text limit (record { sorts = s .sorts; symbols = s .symbols; rules = s .rules ++ (R ∷ []); nodes = s .nodes + (min 1024 (st .left) - left) }) rules′ words′
+        → RulesHeld text limit (ts ++ (title ∷ [])) (record { sorts = s .sorts; symbols = s .symbols; rules = s .rules ++ (R ∷ []); nodes = s .nodes + (min 1024 (st .left) - left) }) rules′ words′
         (record { sorts = st .sorts; symbols = st .symbols; rules = st .rules + 1; used = done .used; left = st .left - (min 1024 (st .left) - left) })
     one-more R left r few done =
         let k = ready .kept in
@@ -116,6 +119,14 @@ module _ {text : List ℕ} {limit : ℕ} {s : Signature} {symbols rules : Rows} 
         let there : length (s .rules) < length rules = omega arith in
         let kept : RulesKept text (aritiesOf (s .symbols)) words′ (set rules (length (s .rules)) (done .row)) 0 (s .rules ++ (R ∷ [])) 0 (done .used) =
         rules-entered text (aritiesOf (s .symbols)) words words′ rules (s .rules) (st .used) (done .used) R (done .row) (done .same) (omega arith) there (k .rulesAre) (done .kept) in
+        let pu = done .kept .lying .premises .used in
+        let cu = done .kept .lying .conclusion .used in
+        let rl = rule-words-length (st .used) R in
+        let us : done .used ≡ st .used + length (ruleWords (st .used) R) = omega arith in
+        let row-is : rules′ ≡ set rules (st .rules) (rowOf title (st .used) R) = done .written ∙ ap (set rules (st .rules)) (done .exact) in
+        let stored : RulesStored (ts ++ (title ∷ [])) (s .rules ++ (R ∷ [])) (set rules (st .rules) (rowOf title (st .used) R))
+        (sets words (st .used) (ruleWords (st .used) R)) (st .rules + 1) (st .used + length (ruleWords (st .used) R)) =
+        rule-stored (k .exact) title R (omega arith) (omega arith) in
         record {
           rulesLent = omega arith;
           wordsLent = omega arith;
@@ -129,17 +140,18 @@ module _ {text : List ℕ} {limit : ℕ} {s : Signature} {symbols rules : Rows} 
           rulesInside = λ i j. rw (done .written) (by-same i (st .rules)
               (λ p e. let q = done .placed .0 in let z = done .placed .1 in rw (p, getD-set-same rules (st .rules) (done .row) [] (omega arith), q, z) inside)
               (λ p e. rw (getD-set-other rules (st .rules) i (done .row) [] p) (k .rulesInside i (omega arith))));
+          exact = rw (row-is, done .laid, us) stored;
         }
 
     -- What came of a rule, as the definition says.
     advanced : (x : Ruled) (q : ℕ) (o : Outcome) (r : Progress)
         → Entering text (aritiesOf (s .symbols)) title words (st .used) (min 1024 (st .left)) rules (st .rules) words′ rules′ (entering (st .rules) x) (entered o) → NextIs q o
-        → r ≡ progressOf st (min 1024 (st .left)) o → Advanced text limit (withRule s (min 1024 (st .left)) (entering (st .rules) x)) q rules′ words′ st r
+        → r ≡ progressOf st (min 1024 (st .left)) o → Advanced text limit (ts ++ (title ∷ [])) (withRule s (min 1024 (st .left)) (entering (st .rules) x)) q rules′ words′ st r
     advanced x q o r h nx e = go (entering (st .rules) x) (λ R m z. entering-few (st .rules) x z) o h nx e
       where
         go : (y : Ruled) → ((R : Rule) (m : ℕ) → y ≡ ruled R m → st .rules < 1024) → (o : Outcome)
             → Entering text (aritiesOf (s .symbols)) title words (st .used) (min 1024 (st .left)) rules (st .rules) words′ rules′ y (entered o) → NextIs q o
-            → r ≡ progressOf st (min 1024 (st .left)) o → Advanced text limit (withRule s (min 1024 (st .left)) y) q rules′ words′ st r
+            → r ≡ progressOf st (min 1024 (st .left)) o → Advanced text limit (ts ++ (title ∷ [])) (withRule s (min 1024 (st .left)) y) q rules′ words′ st r
         go (barred e) few (Barred f) h nx z = let a : e ≡ f = cc in rw a z
         go (barred e) few (Out next u left) h nx z = absurd (let w : _≡_ {A = ℕ} 0 1 = cc in omega arith)
         go (ruled R m) few (Barred f) h nx z = absurd (let d = h .is in let w : _≡_ {A = ℕ} 0 1 = cc in omega arith)
@@ -157,7 +169,7 @@ module _ {text : List ℕ} {limit : ℕ} {s : Signature} {symbols rules : Rows} 
     pub advanced-by : (g : List Symbol → ℕ → Ruled) (m : ℕ) → m ≡ min 1024 (st .left) → (q : ℕ) (o : Outcome) (r : Progress) → NextIs q o
         → Entering text (aritiesOf (symbolsOf text symbols (st .symbols))) title words (st .used) m rules (st .rules) words′ rules′ (entering (st .rules) (g (symbolsOf text symbols (st .symbols)) m)) (entered o)
         → r ≡ progressOf st m o
-        → Advanced text limit (withRule s (roomIn limit s) (entering (length (s .rules)) (g (s .symbols) (roomIn limit s)))) q rules′ words′ st r
+        → Advanced text limit (ts ++ (title ∷ [])) (withRule s (roomIn limit s) (entering (length (s .rules)) (g (s .symbols) (roomIn limit s)))) q rules′ words′ st r
     advanced-by g m e q o r nx h z =
         let h₁ : Entering text (aritiesOf (s .symbols)) title words (st .used) (min 1024 (st .left)) rules (st .rules) words′ rules′ (entering (st .rules) (g (s .symbols) (min 1024 (st .left)))) (entered o)
         = as-given title g m e rules′ words′ o h in

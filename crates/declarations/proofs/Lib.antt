@@ -1,5 +1,6 @@
 -- The laws that several proofs cite.
 pub mod ProgressLaws
+pub mod StoredLaws
 pub mod FilledLaws
 pub mod ClauseLaws
 pub mod NameLaws

@@ -1,22 +1,38 @@
 -- What storage holds between two declarations: the rows of sorts and symbols are those of the signature, each rule is kept, its words behind those of the rule
--- before, and the names lie in the text.
+-- before, and the names lie in the text. All are exactly those of the stored signature with these titles.
 use Prim.Native.Nat.{ℕ, _+_, _*_, _≤_, _<_}
 use mathlib.Core.Path.{_≡_}
 use mathlib.Core.List.{List}
-use lib.ListN.{length}
+use lib.ListN.{length, take}
 use Rattle.arena.specs.Cells.{WellFormed, cells}
 use Rattle.arena.specs.Copies.{patternRoom}
-use Rattle.names.specs.Symbols.{Rows, column, rowAt, sortsOf, symbolsOf}
+use Rattle.term_parser.specs.Source.{Place}
+use Rattle.resolution.specs.Rules.{Rule}
+use Rattle.names.specs.Symbols.{Rows, Symbol, column, rowAt, sortsOf, symbolsOf}
 use Rattle.rules.specs.PatternLaws.{aritiesOf}
+use Rattle.rules.specs.declared.Title.{Title}
 use Rattle.rule_checks.specs.RuleForm.{Inside}
 use Rattle.loader.specs.Signature.{Signature}
 use Rattle.loader.specs.Legal.{Legal}
+use Rattle.loader.specs.Stored.{Titles, sortRows, symbolRows, ruleRows, wordsFrom}
 use Rattle.loader.specs.Holding.{RulesKept}
 use Rattle.loader.specs.SymbolRows.{SymbolShaped}
 use Rattle.declarations.specs.declared.State.{State}
 
+-- The first rows of sorts and symbols are those of names at these places.
+pub record NamesStored (ps qs : List Place) (fs : List Symbol) (sorts symbols : Rows) (n m : ℕ) : Type 0 where
+  pub sorts-are : take n sorts ≡ sortRows ps
+  pub symbols-are : take m symbols ≡ symbolRows qs fs
+  pub number : length qs ≡ length fs
+
+-- The first rows and words of rules are those of rules with these titles.
+pub record RulesStored (ts : List Title) (Rs : List Rule) (rules : Rows) (words : List ℕ) (n u : ℕ) : Type 0 where
+  pub rows-are : take n rules ≡ ruleRows ts Rs 0
+  pub words-are : take u words ≡ wordsFrom Rs 0
+  pub number : length ts ≡ length Rs
+
 -- The rows of sorts and symbols.
-pub record NamesHeld (text : List ℕ) (s : Signature) (sorts symbols : Rows) (st : State) : Type 0 where
+pub record NamesHeld (text : List ℕ) (t : Titles) (s : Signature) (sorts symbols : Rows) (st : State) : Type 0 where
   pub sortsLent : 256 ≤ length sorts
   pub symbolsLent : 1024 ≤ length symbols
   pub fewSorts : st .sorts ≤ 256
@@ -26,9 +42,10 @@ pub record NamesHeld (text : List ℕ) (s : Signature) (sorts symbols : Rows) (s
   pub sortsInside : (i : ℕ) → i < st .sorts → Inside text (column (rowAt sorts i) 0) (column (rowAt sorts i) 1)
   pub symbolsInside : (i : ℕ) → i < st .symbols → Inside text (column (rowAt symbols i) 0) (column (rowAt symbols i) 1)
   pub shaped : (i : ℕ) → i < st .symbols → SymbolShaped (rowAt symbols i)
+  pub exact : NamesStored (t .sorts) (t .symbols) (s .symbols) sorts symbols (st .sorts) (st .symbols)
 
 -- The rows and words of rules, where `limit` nodes are allowed in all.
-pub record RulesHeld (text : List ℕ) (limit : ℕ) (s : Signature) (rules : Rows) (words : List ℕ) (st : State) : Type 0 where
+pub record RulesHeld (text : List ℕ) (limit : ℕ) (ts : List Title) (s : Signature) (rules : Rows) (words : List ℕ) (st : State) : Type 0 where
   pub rulesLent : 1024 ≤ length rules
   pub wordsLent : 2 * limit ≤ length words
   pub limited : limit ≤ 32768
@@ -39,8 +56,9 @@ pub record RulesHeld (text : List ℕ) (limit : ℕ) (s : Signature) (rules : Ro
   pub fits : st .used + 2 * st .left ≤ 2 * limit
   pub formed : WellFormed patternRoom (cells words) patternRoom (st .used)
   pub rulesInside : (i : ℕ) → i < st .rules → Inside text (column (rowAt rules i) 0) (column (rowAt rules i) 1)
+  pub exact : RulesStored ts (s .rules) rules words (st .rules) (st .used)
 
-pub record Held (text : List ℕ) (limit : ℕ) (s : Signature) (sorts symbols rules : Rows) (words : List ℕ) (st : State) : Type 0 where
-  pub names : NamesHeld text s sorts symbols st
-  pub kept : RulesHeld text limit s rules words st
+pub record Held (text : List ℕ) (limit : ℕ) (t : Titles) (s : Signature) (sorts symbols rules : Rows) (words : List ℕ) (st : State) : Type 0 where
+  pub names : NamesHeld text t s sorts symbols st
+  pub kept : RulesHeld text limit (t .rules) s rules words st
   pub legal : Legal s

@@ -6,17 +6,19 @@ use mathlib.Core.List.{List, [], _∷_, _++_}
 use lib.Dec.{eqb}
 use lib.ListN.{length}
 use Rattle.words.specs.Lexer.{partOf}
-use Rattle.term_parser.specs.Source.{Source, one}
-use Rattle.parser.specs.Source.{Clause}
+use Rattle.term_parser.specs.Source.{Place, place, Source, one}
+use Rattle.parser.specs.Source.{Clause, def}
 use Rattle.parser.specs.Declarations.{Declared}
 use Rattle.parser.specs.Rows.{declaredRows}
 use Rattle.names.specs.Names.{Name}
 use Rattle.names.specs.Symbols.{Rows, column, rowAt, symbolsOf}
 use Rattle.rules.specs.PatternLaws.{InputsUpto}
+use Rattle.rules.specs.declared.Title.{Title}
 use Rattle.clauses.specs.declared.Outcome.{Outcome}
 use Rattle.clauses.specs.declared.Outcome.the-variants.{Refused as Barred, Done as Entry}
 use Rattle.loader.specs.Signature.{Signature, Step, no, on, andThen, withSorts, withSome, numbersOf, firstOf, enterSymbol, enterJudgments, enterClause, enterClauses, declare}
 use Rattle.loader.specs.Legal.{Legal}
+use Rattle.loader.specs.Stored.{Titles, titleAt, withClauses, entitled}
 use Rattle.loader.specs.LegalLaws.{Stepping}
 use Rattle.loader.specs.Arrows.{namesAt}
 use Rattle.loader.specs.SymbolEntry.{SymbolEntered}
@@ -32,6 +34,10 @@ use Rattle.declarations.specs.declared.Progress.the-variants.{Refused, D
 -- The name in a row.
 abbrev pub nameAt : List ℕ → Rows → ℕ → Name
 nameAt text rows p = partOf text (column (rowAt rows p) 1) (column (rowAt rows p) 2)
+
+-- The place of the name in a row.
+abbrev pub placeAt : Rows → ℕ → Place
+placeAt rows p = place (column (rowAt rows p) 1) (column (rowAt rows p) 2)
 
 -- The name in a row lies in the text.
 abbrev pub NameInside : List ℕ → Rows → ℕ → Type 0
@@ -67,23 +73,23 @@ pub record SymbolDeclared (text : List ℕ) (rows : Rows) (p : ℕ) (constructor
 -- Rules
 
 -- The symbols are those of the signature, and the rules are held.
-pub record Ready (text : List ℕ) (limit : ℕ) (s : Signature) (symbols rules : Rows) (words : List ℕ) (st : State) : Type 0 where
+pub record Ready (text : List ℕ) (limit : ℕ) (ts : List Title) (s : Signature) (symbols rules : Rows) (words : List ℕ) (st : State) : Type 0 where
   pub lent : 1024 ≤ length symbols
   pub few : st .symbols ≤ 1024
   pub symbolsAre : symbolsOf text symbols (st .symbols) ≡ s .symbols
   pub inputs : (i : ℕ) → i < st .symbols → column (rowAt symbols i) 6 ≤ 16
   pub upto : InputsUpto 256 (s .symbols)
-  pub kept : RulesHeld text limit s rules words st
+  pub kept : RulesHeld text limit ts s rules words st
 
--- Rules were entered up to the row q, and the names are as they were; or the refusal.
-pub record Filled (text : List ℕ) (limit : ℕ) (t : Signature) (rules : Rows) (words : List ℕ) (st st′ : State) : Type 0 where
-  pub kept : RulesHeld text limit t rules words st′
+-- Rules were entered up to the row q, with these titles in all, and the names are as they were; or the refusal.
+pub record Filled (text : List ℕ) (limit : ℕ) (ts : List Title) (t : Signature) (rules : Rows) (words : List ℕ) (st st′ : State) : Type 0 where
+  pub kept : RulesHeld text limit ts t rules words st′
   pub sorts : st′ .sorts ≡ st .sorts
   pub symbols : st′ .symbols ≡ st .symbols
 
-abbrev pub Advanced : List ℕ → ℕ → Step → ℕ → Rows → List ℕ → State → Progress → Type 0
-Advanced text limit (no e) q rules words st r = r ≡ Refused e
-Advanced text limit (on t) q rules words st r = (st′ : State) × (r ≡ Done q st′) × Filled text limit t rules words st st′
+abbrev pub Advanced : List ℕ → ℕ → List Title → Step → ℕ → Rows → List ℕ → State → Progress → Type 0
+Advanced text limit ts (no e) q rules words st r = r ≡ Refused e
+Advanced text limit ts (on t) q rules words st r = (st′ : State) × (r ≡ Done q st′) × Filled text limit ts t rules words st st′
 
 -- How an outcome is told, where so many nodes were allowed.
 abbrev pub progressOf : State → ℕ → Outcome → Progress
@@ -100,15 +106,15 @@ Told st m (Entry next u left) = (left ≤ m) × (m ≤ st .left) × (st .rules �
 pub record RuleAsked (text : List ℕ) (rows : Rows) (p : ℕ) (symbols rules : Rows) (words : List ℕ) (st : State) : Type 0 where
   pub here : p + 2 ≤ length rows
   pub short : length rows ≤ 65536
-  pub ready : (limit : ℕ) × (s : Signature) × Ready text limit s symbols rules words st
+  pub ready : (limit : ℕ) × (ts : List Title) × (s : Signature) × Ready text limit ts s symbols rules words st
   pub stand : 0 < column (rowAt rows p) 2 → (j : Source one) × (js : List (Source one)) × (q : ℕ) × JudgmentsStand text rows (p + 2) j js q × (column (rowAt rows p) 2 ≡ length (j ∷ js))
 
 -- What it owes.
 pub record RuleDeclared (text : List ℕ) (rows : Rows) (p : ℕ) (symbols rules : Rows) (words : List ℕ) (st : State) (r : Progress) (rules′ : Rows) (words′ : List ℕ) : Type 0 where
   pub none : column (rowAt rows p) 2 ≡ 0 → r ≡ Refused 0
-  pub same : (limit : ℕ) (s : Signature) → Ready text limit s symbols rules words st → NameInside text rows (p + 1)
+  pub same : (limit : ℕ) (ts : List Title) (s : Signature) → Ready text limit ts s symbols rules words st → NameInside text rows (p + 1)
       → (j : Source one) (js : List (Source one)) (q : ℕ) → JudgmentsStand text rows (p + 2) j js q → column (rowAt rows p) 2 ≡ length (j ∷ js)
-      → Advanced text limit (enterJudgments limit text s (nameAt text rows (p + 1)) (j ∷ js)) q rules′ words′ st r
+      → Advanced text limit (ts ++ (titleAt (placeAt rows (p + 1)) 0 ∷ [])) (enterJudgments limit text s (nameAt text rows (p + 1)) (j ∷ js)) q rules′ words′ st r
 
 -- What `declare_clause` asks: a clause at the row p, and rows for flattening.
 pub record ClauseAsked (text : List ℕ) (rows : Rows) (p number : ℕ) (symbols rules : Rows) (words : List ℕ) (out calls : Rows) (st : State) : Type 0 where
@@ -116,13 +122,14 @@ pub record ClauseAsked (text : List ℕ) (rows : Rows) (p number : ℕ) (symbols
   pub few : number ≤ 65536
   pub outLent : length rows ≤ length out
   pub callsLent : length rows + 32 ≤ length calls
-  pub ready : (limit : ℕ) × (s : Signature) × Ready text limit s symbols rules words st
+  pub ready : (limit : ℕ) × (ts : List Title) × (s : Signature) × Ready text limit ts s symbols rules words st
   pub stand : (c : Clause) × (q : ℕ) × ClauseStands text rows p c q
 
 -- What it owes.
 pub record ClauseDeclared (text : List ℕ) (rows : Rows) (p number start size : ℕ) (symbols rules : Rows) (words : List ℕ) (st : State) (r : Progress) (rules′ : Rows) (words′ : List ℕ) : Type 0 where
-  pub same : (limit : ℕ) (s : Signature) → Ready text limit s symbols rules words st → Inside text start size
-      → (c : Clause) (q : ℕ) → ClauseStands text rows p c q → Advanced text limit (enterClause limit text s (partOf text start size) number c) q rules′ words′ st r
+  pub same : (limit : ℕ) (ts : List Title) (s : Signature) → Ready text limit ts s symbols rules words st → Inside text start size
+      → (c : Clause) (q : ℕ) → ClauseStands text rows p c q
+      → Advanced text limit (ts ++ (titleAt (place start size) (number + 1) ∷ [])) (enterClause limit text s (partOf text start size) number c) q rules′ words′ st r
 
 -- Clauses one behind the other.
 unfoldable pub ClausesStand : List ℕ → Rows → ℕ → List Clause → ℕ → Type 0
@@ -136,20 +143,21 @@ pub record ClausesAsked (text : List ℕ) (rows : Rows) (p n start size : ℕ) (
   pub outLent : length rows ≤ length out
   pub callsLent : length rows + 32 ≤ length calls
   pub inside : Inside text start size
-  pub ready : (limit : ℕ) × (s : Signature) × Ready text limit s symbols rules words st
+  pub ready : (limit : ℕ) × (ts : List Title) × (s : Signature) × Ready text limit ts s symbols rules words st
   pub stand : (cs : List Clause) × (q : ℕ) × ClausesStand text rows p cs q × (n ≡ length cs)
 
 -- What it owes.
 pub record ClausesDeclared (text : List ℕ) (rows : Rows) (p n start size : ℕ) (symbols rules : Rows) (words : List ℕ) (st : State) (r : Progress) (rules′ : Rows) (words′ : List ℕ) : Type 0 where
-  pub same : (limit : ℕ) (s : Signature) → Ready text limit s symbols rules words st
-      → (cs : List Clause) (q : ℕ) → ClausesStand text rows p cs q → n ≡ length cs → Advanced text limit (enterClauses limit text s (partOf text start size) 0 cs) q rules′ words′ st r
+  pub same : (limit : ℕ) (ts : List Title) (s : Signature) → Ready text limit ts s symbols rules words st
+      → (cs : List Clause) (q : ℕ) → ClausesStand text rows p cs q → n ≡ length cs
+      → Advanced text limit (withClauses ts (place start size) 0 cs) (enterClauses limit text s (partOf text start size) 0 cs) q rules′ words′ st r
 
 -- Declarations
 
--- One declaration was entered up to the row q, or refused.
-abbrev pub Stepped : List ℕ → ℕ → Step → ℕ → Rows → Rows → Rows → List ℕ → Progress → Type 0
-Stepped text limit (no e) q sorts symbols rules words r = r ≡ Refused e
-Stepped text limit (on t) q sorts symbols rules words r = (st : State) × (r ≡ Done q st) × Held text limit t sorts symbols rules words st
+-- One declaration was entered up to the row q, with these titles in all, or refused.
+abbrev pub Stepped : List ℕ → ℕ → Titles → Step → ℕ → Rows → Rows → Rows → List ℕ → Progress → Type 0
+Stepped text limit ts (no e) q sorts symbols rules words r = r ≡ Refused e
+Stepped text limit ts (on t) q sorts symbols rules words r = (st : State) × (r ≡ Done q st) × Held text limit ts t sorts symbols rules words st
 
 -- `def` of a name by its sorts' names and its clauses.
 abbrev pub defOf : ℕ → List ℕ → Signature → Name → List Name → List Clause → Step
@@ -164,16 +172,16 @@ pub record DefAsked (text : List ℕ) (rows : Rows) (p : ℕ) (sorts symbols rul
   pub short : length rows ≤ 65536
   pub outLent : length rows ≤ length out
   pub callsLent : length rows + 32 ≤ length calls
-  pub ready : (limit : ℕ) × (s : Signature) × Held text limit s sorts symbols rules words st
+  pub ready : (limit : ℕ) × (ts : Titles) × (s : Signature) × Held text limit ts s sorts symbols rules words st
   pub inside : NameInside text rows (p + 1)
   pub stand : (cs : List Clause) × (q : ℕ) × ClausesStand text rows (p + 2 + column (rowAt rows p) 2) cs q × (column (rowAt rows p) 3 ≡ length cs)
 
 -- What it owes.
 pub record DefDeclared (text : List ℕ) (rows : Rows) (p : ℕ) (sorts symbols rules : Rows) (words : List ℕ) (st : State) (r : Progress) (symbols′ rules′ : Rows) (words′ : List ℕ) : Type 0 where
-  pub same : (limit : ℕ) (s : Signature) → Held text limit s sorts symbols rules words st
+  pub same : (limit : ℕ) (ts : Titles) (s : Signature) → Held text limit ts s sorts symbols rules words st
       → (cs : List Clause) (q : ℕ) → ClausesStand text rows (p + 2 + column (rowAt rows p) 2) cs q → column (rowAt rows p) 3 ≡ length cs
       → Stepping Legal (defOf limit text s (nameAt text rows (p + 1)) (namesAt text rows (p + 2) (column (rowAt rows p) 2)) cs)
-      → Stepped text limit (defOf limit text s (nameAt text rows (p + 1)) (namesAt text rows (p + 2) (column (rowAt rows p) 2)) cs) q sorts symbols′ rules′ words′ r
+      → Stepped text limit (entitled ts (def (placeAt rows (p + 1)) [] cs)) (defOf limit text s (nameAt text rows (p + 1)) (namesAt text rows (p + 2) (column (rowAt rows p) 2)) cs) q sorts symbols′ rules′ words′ r
 
 -- A declaration in the rows from p on and before q, whose name lies in the text.
 pub record DeclarationAt (text : List ℕ) (rows : Rows) (p : ℕ) (d : Declared) (q : ℕ) : Type 0 where
@@ -189,10 +197,10 @@ pub record DeclareAsked (text : List ℕ) (rows : Rows) (p : ℕ) (sorts symbols
   pub short : length rows ≤ 65536
   pub outLent : length rows ≤ length out
   pub callsLent : length rows + 32 ≤ length calls
-  pub ready : (limit : ℕ) × (s : Signature) × Held text limit s sorts symbols rules words st
+  pub ready : (limit : ℕ) × (ts : Titles) × (s : Signature) × Held text limit ts s sorts symbols rules words st
   pub stand : (d : Declared) × (q : ℕ) × DeclarationAt text rows p d q
 
 -- What it owes.
 pub record DeclareDone (text : List ℕ) (rows : Rows) (p : ℕ) (sorts symbols rules : Rows) (words : List ℕ) (st : State) (r : Progress) (sorts′ symbols′ rules′ : Rows) (words′ : List ℕ) : Type 0 where
-  pub same : (limit : ℕ) (s : Signature) → Held text limit s sorts symbols rules words st
-      → (d : Declared) (q : ℕ) → DeclarationAt text rows p d q → Stepped text limit (declare limit text s (d .declaration)) q sorts′ symbols′ rules′ words′ r
+  pub same : (limit : ℕ) (ts : Titles) (s : Signature) → Held text limit ts s sorts symbols rules words st
+      → (d : Declared) (q : ℕ) → DeclarationAt text rows p d q → Stepped text limit (entitled ts (d .declaration)) (declare limit text s (d .declaration)) q sorts′ symbols′ rules′ words′ r

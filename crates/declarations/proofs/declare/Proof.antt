@@ -19,13 +19,13 @@ declare-sort-requires : tie.Need-declare-sort-requires
 declare-sort-requires c κs =
     let pre = c .before .before .before .before .before .before .pre in
     let match′ = c .before .before .match in
-    let t = sort-there (pre .ready .2) (pre .stand .2) (match′ .keys1) in (
+    let t = sort-there (pre .ready .3) (pre .stand .2) (match′ .keys1) in (
       t,
       (pre .short),
-      (pre .ready .2) .names .sortsLent,
-      (pre .ready .2) .names .fewSorts,
-      (let a = (pre .ready .2) .names .symbolsLent in
-          let b = (pre .ready .2) .names .fewSymbols in
+      (pre .ready .3) .names .sortsLent,
+      (pre .ready .3) .names .fewSorts,
+      (let a = (pre .ready .3) .names .symbolsLent in
+          let b = (pre .ready .3) .names .fewSymbols in
           omega arith),
     )
 
@@ -39,31 +39,31 @@ index-2-if1 : tie.Need-index-2-if1
 index-2-if1 c = search needs
 
 returns : tie.Need-returns
-returns c = record { same = λ limit s held d q st. ctor-none held st _ _ _ _ (c .before .before .match .keys2) (c .if1 .taken) }
+returns c = record { same = λ limit ts s held d q st. ctor-none held st _ _ _ _ (c .before .before .match .keys2) (c .if1 .taken) }
 
 declare-symbol-requires : tie.Need-declare-symbol-requires
 declare-symbol-requires c κs =
     let pre = c .before .before .before .before .before .before .before .before .pre in
     let match′ = c .before .before .before .before .match in
-    ctor-asked (pre .ready .2) (pre .stand .2) (pre .short) (match′ .keys2)
+    ctor-asked (pre .ready .3) (pre .stand .2) (pre .short) (match′ .keys2)
 
 declare-symbol-requires-2 : tie.Need-declare-symbol-requires-2
 declare-symbol-requires-2 c κs =
     let pre = c .before .before .before .before .before .before .pre in
     let match′ = c .before .before .match in
-    pred-asked (pre .ready .2) (pre .stand .2) (pre .short) (match′ .keys3)
+    pred-asked (pre .ready .3) (pre .stand .2) (pre .short) (match′ .keys3)
 
 declare-rule-requires : tie.Need-declare-rule-requires
 declare-rule-requires c κs =
     let pre = c .before .before .before .before .before .before .before .pre in
     let match′ = c .before .before .before .match in
-    rule-asked (pre .ready .2) (pre .stand .2) (pre .short) (match′ .keys4)
+    rule-asked (pre .ready .3) (pre .stand .2) (pre .short) (match′ .keys4)
 
 declare-def-requires : tie.Need-declare-def-requires
 declare-def-requires c κs =
     let pre = c .before .before .before .before .before .before .before .before .before .before .pre in
     let match′ = c .before .before .before .before .before .before .match in
-    def-asked (pre .ready .2) (pre .stand .2) _ _ (pre .short) (pre .outLent) (pre .callsLent) (match′ .keys5)
+    def-asked (pre .ready .3) (pre .stand .2) _ _ (pre .short) (pre .outLent) (pre .callsLent) (match′ .keys5)
 
 add-skip : tie.Need-add-skip
 add-skip c = let w = first-row (c .before .before .before .before .pre .stand .2) .within in omega (arith, (c .before .before .before .before .pre .short))
@@ -80,7 +80,7 @@ same-length-2 c = search needs
 returns-2 : tie.Need-returns-2
 returns-2 c =
     record {
-      same = λ limit s held d q st. sort-done held st _ _ (c .before .before .before .before .match .keys1) (c .before .declare-sort .ensures .0) (c .before .declare-sort .ensures .1);
+      same = λ limit ts s held d q st. sort-done held st _ _ (c .before .before .before .before .match .keys1) (c .before .declare-sort .ensures .0) (c .before .declare-sort .ensures .1);
     }
 
 same-length-3 : tie.Need-same-length-3
@@ -95,7 +95,7 @@ returns-3 c =
     let if1 = c .before .before .before .before .if1 in
     let declare-symbol = c .before .declare-symbol in
     record {
-      same = λ limit s held d q st. ctor-done held st _ _ (match′ .keys2) (omega (arith, (if1 .left))) (declare-symbol .ensures);
+      same = λ limit ts s held d q st. ctor-done held st _ _ (match′ .keys2) (omega (arith, (if1 .left))) (declare-symbol .ensures);
     }
 
 same-length-5 : tie.Need-same-length-5
@@ -107,7 +107,7 @@ same-length-6 c = search needs
 returns-4 : tie.Need-returns-4
 returns-4 c =
     record {
-      same = λ limit s held d q st. pred-done held st _ _ (c .before .before .before .before .match .keys3) (c .before .declare-symbol2 .ensures);
+      same = λ limit ts s held d q st. pred-done held st _ _ (c .before .before .before .before .match .keys3) (c .before .declare-symbol2 .ensures);
     }
 
 same-length-7 : tie.Need-same-length-7
@@ -122,7 +122,7 @@ same-length-9 c = search needs
 returns-5 : tie.Need-returns-5
 returns-5 c =
     record {
-      same = λ limit s held d q st. rule-done held st _ _ _ (c .before .before .before .before .before .before .before .match .keys4) (c .before .before .before .declare-rule .ensures);
+      same = λ limit ts s held d q st. rule-done held st _ _ _ (c .before .before .before .before .before .before .before .match .keys4) (c .before .before .before .declare-rule .ensures);
     }
 
 same-length-10 : tie.Need-same-length-10
@@ -148,17 +148,17 @@ returns-6 c =
     let match′ = c .before .before .before .before .before .before .before .before .before .before .before .before .before .match in
     let declare-def = c .before .before .before .before .before .before .declare-def in
     record {
-      same = λ limit s held d q st. def-done held st _ _ _ _ (match′ .keys5) (declare-def .ensures);
+      same = λ limit ts s held d q st. def-done held st _ _ _ _ (match′ .keys5) (declare-def .ensures);
     }
 
 returns-7 : tie.Need-returns-7
-returns-7 c = record { same = λ limit s held d q st. eval-done held st _ (c .before .match .keys6) (c .skip .ensures) }
+returns-7 c = record { same = λ limit ts s held d q st. eval-done held st _ (c .before .match .keys6) (c .skip .ensures) }
 
 returns-8 : tie.Need-returns-8
 returns-8 c =
     let match′ = c .match in
     record {
-      same = λ limit s held d q st. others-done held st _ _ _ _ (match′ .rest .0 .0 .0 .0 .0 .1) (match′ .rest .0 .0 .0 .0 .1) (match′ .rest .0 .0 .0 .1) (match′ .rest .0 .0 .1) (match′ .rest .0 .1) (match′ .rest .1);
+      same = λ limit ts s held d q st. others-done held st _ _ _ _ (match′ .rest .0 .0 .0 .0 .0 .1) (match′ .rest .0 .0 .0 .0 .1) (match′ .rest .0 .0 .0 .1) (match′ .rest .0 .0 .1) (match′ .rest .0 .1) (match′ .rest .1);
     }
 
 pub declare-spec : {M : Type 1} → statement M

@@ -43,7 +43,7 @@ clause-requires c κs =
     let pre = c .before .before .before .before .before .before .before .before .before .pre in
     let wide = c .before .before .before .before .before .wide in
     let room = c .before .before .before .before .room in
-    clause-asked ((pre .stand .2)) (wide .ensures) (pre .short) (pre .outLent) (pre .callsLent) (rw ((room .ensures)) (storage ((pre .ready .2))))
+    clause-asked ((pre .stand .2)) (wide .ensures) (pre .short) (pre .outLent) (pre .callsLent) (rw ((room .ensures)) (storage ((pre .ready .3))))
 
 told-requires : tie.Need-told-requires
 told-requires c κs =
@@ -54,7 +54,7 @@ told-requires c κs =
     let wide = c .before .before .before .before .before .before .before .before .before .before .before .wide in
     let st = (pre .stand .2) in
     let e : (args .number) + 1 ≡ suc (args .number) = omega arith in
-    told-by (pre .ready .2) (record { start = (args .start); size = (args .size); clause = (args .number) + 1 }) (λ (F : List Symbol) (m : ℕ). clauseOf F (partOf (args .text .now) (args .start) (args .size)) (args .number) (spelled (args .text .now) (allOf ((pre .stand .0) .patterns))) (spelled (args .text .now) ((pre .stand .0) .body)) m) (room .result) (room .ensures) ((clause .last .1 .1 .1 .1 .1 .1 .1 .1 .1 .0)) ((clause .last .1 .1 .1 .1 .1 .1 .0)) (clause .result) ((clause .ensures .same) _ _ (st .patterns) (patterns-number st
+    told-by (pre .ready .3) (record { start = (args .start); size = (args .size); clause = (args .number) + 1 }) (λ (F : List Symbol) (m : ℕ). clauseOf F (partOf (args .text .now) (args .start) (args .size)) (args .number) (spelled (args .text .now) (allOf ((pre .stand .0) .patterns))) (spelled (args .text .now) ((pre .stand .0) .body)) m) (room .result) (room .ensures) ((clause .last .1 .1 .1 .1 .1 .1 .1 .1 .1 .0)) ((clause .last .1 .1 .1 .1 .1 .1 .0)) (clause .result) ((clause .ensures .same) _ _ (st .patterns) (patterns-number st
     ∙ sym (wide .ensures)) _ _ (st .right) (args .number) e .1)
 
 same-length : tie.Need-same-length
@@ -77,7 +77,7 @@ returns c =
     let room = c .before .before .before .before .before .before .before .before .before .before .before .room in
     let told = c .told in
     record {
-      same = λ limit s ready inside cl q st. let e : (args .number) + 1 ≡ suc (args .number) = omega arith in
+      same = λ limit ts s ready inside cl q st. let e : (args .number) + 1 ≡ suc (args .number) = omega arith in
           let h = (clause .ensures .same) _ _ (st .patterns) (patterns-number st ∙ sym (wide .ensures)) _ _ (st .right) (args .number) e in
           advanced-by ready (record {
             start = (args .start);

@@ -22,7 +22,7 @@ declare-clause-requires c κs =
     let loop = c .before .before .before .before .before .loop in
     let pre = c .before .before .before .before .before .before .before .before .pre in
     let loop-test = c .before .before .before .before .loop-test in
-    let g = (loop .inv .5) (pre .ready .0) (pre .ready .1) (pre .ready .2) (pre .stand .0) (pre .stand .1) (pre .stand .2) (pre .stand .3) in
+    let g = (loop .inv .5) (pre .ready .0) (pre .ready .1) (pre .ready .2) (pre .ready .3) (pre .stand .0) (pre .stand .1) (pre .stand .2) (pre .stand .3) in
     let t = (loop-test .taken) in
     let f = (pre .few) in
     let a = (pre .outLent) in
@@ -32,7 +32,7 @@ declare-clause-requires c κs =
       few = omega arith;
       outLent = omega (arith, (loop .inv .3));
       callsLent = omega (arith, (loop .inv .4));
-      ready = ((pre .ready .0), g .signature, g .ready);
+      ready = ((pre .ready .0), g .titles, g .signature, g .ready);
       stand = going-clause g t;
     }
 
@@ -71,7 +71,7 @@ returns c =
     let loop-test = c .before .before .before .before .before .before .before .before .before .before .before .before .before .loop-test in
     let e = c .before .e in
     record {
-      same = λ limit s ready cs q st n. let g = (loop .inv .5) limit s ready cs q st n in
+      same = λ limit ts s ready cs q st n. let g = (loop .inv .5) limit ts s ready cs q st n in
           rw (going-refused (pre .inside) (declare-clause .ensures) g (loop-test .taken) (e .given .1)) refl;
     }
 
@@ -100,7 +100,7 @@ loop-again c =
           ∙ (loop .inv .3),
       (declare-clause .kept .1 .1 .1 .1 .1 .1 .1 .1 .1 .1 .0)
           ∙ (loop .inv .4),
-      λ limit s ready cs q st e. going-on (pre .inside) (declare-clause .ensures) ((loop .inv .5) limit s ready cs q st e) (loop-test .taken) (next .given .1),
+      λ limit ts s ready cs q st e. going-on (pre .inside) (declare-clause .ensures) ((loop .inv .5) limit ts s ready cs q st e) (loop-test .taken) (next .given .1),
     )
 
 same-length-5 : tie.Need-same-length-5 Inv-loop μ-loop
@@ -116,7 +116,7 @@ same-length-8 : tie.Need-same-length-8 Inv-loop μ-loop
 same-length-8 c = (c .before .loop .inv .4)
 
 returns-2 : tie.Need-returns-2 Inv-loop μ-loop
-returns-2 c = record { same = λ limit s ready cs q st e. going-end ((c .before .loop .inv .5) limit s ready cs q st e) (omega (arith, (c .loop-test .left))) }
+returns-2 c = record { same = λ limit ts s ready cs q st e. going-end ((c .before .loop .inv .5) limit ts s ready cs q st e) (omega (arith, (c .loop-test .left))) }
 
 pub declare-clauses-spec : {M : Type 1} → statement M
 declare-clauses-spec =

@@ -27,7 +27,7 @@ returns c =
     let wide = c .before .wide in
     let if1 = c .if1 in
     record {
-      same = λ limit s held cs q st e legal. def-no held (args .rows .now) (args .at) (pre .inside) cs 0 q _ _ _ (def-none held (args .rows .now) (args .at) (pre .inside) cs (sym (wide .ensures)
+      same = λ limit ts s held cs q st e legal. def-no held (args .rows .now) (args .at) (pre .inside) cs 0 q _ _ _ (def-none held (args .rows .now) (args .at) (pre .inside) cs (sym (wide .ensures)
           ∙ (if1 .taken)));
     }
 
@@ -96,7 +96,7 @@ returns-2 c =
     let w = (wide .ensures) in
     let h = rw (z, w) at (enter-symbol .ensures) in
     record {
-      same = λ limit s held cs q st e legal. def-no held (args .rows .now) (args .at) (pre .inside) cs (enter-symbol .result) q _ _ _ (def-refused held (args .rows .now) (args .at) (pre .inside) cs (omega (arith, (if1 .left))) (first-is held (args .rows .now) (args .at) (pre .inside) cs (first-clause .ensures) ((wide2 .ensures) ∙ e)) ((wide2 .ensures)
+      same = λ limit ts s held cs q st e legal. def-no held (args .rows .now) (args .at) (pre .inside) cs (enter-symbol .result) q _ _ _ (def-refused held (args .rows .now) (args .at) (pre .inside) cs (omega (arith, (if1 .left))) (first-is held (args .rows .now) (args .at) (pre .inside) cs (first-clause .ensures) ((wide2 .ensures) ∙ e)) ((wide2 .ensures)
           ∙ e) h (if2 .taken));
     }
 
@@ -122,7 +122,7 @@ declare-clauses-requires c κs =
     let z : (args .at) + 1 + 1 ≡ (args .at) + 2 = omega arith in
     let w = (wide .ensures) in
     let h = rw (z, w) at (enter-symbol .ensures) in
-    let held = (pre .ready .2) in
+    let held = (pre .ready .3) in
     let cs = (pre .stand .0) in
     let e = (wide2 .ensures) ∙ (pre .stand .3) in
     let some : 0 < column (rowAt (args .rows .now) (args .at)) 2 = omega (arith, (if1 .left)) in
@@ -135,7 +135,7 @@ declare-clauses-requires c κs =
       outLent = (pre .outLent);
       callsLent = (pre .callsLent);
       inside = (pre .inside);
-      ready = ((pre .ready .0), _, def-ready held (args .rows .now) (args .at) (pre .inside) cs some f e h d);
+      ready = ((pre .ready .0), (pre .ready .1) .rules, _, def-ready held (args .rows .now) (args .at) (pre .inside) cs some f e h d);
       stand = (cs, (pre .stand .1), rw (w) (pre .stand .2), e);
     }
 
@@ -170,10 +170,10 @@ returns-3 c =
     let h = rw (z, w) at (enter-symbol .ensures) in
     let some : 0 < column (rowAt (args .rows .now) (args .at)) 2 = omega (arith, (if1 .left)) in
     record {
-      same = λ limit s held cs q st m legal. let e = (wide2 .ensures) ∙ m in
+      same = λ limit ts s held cs q st m legal. let e = (wide2 .ensures) ∙ m in
           let f = first-is held (args .rows .now) (args .at) (pre .inside) cs (first-clause .ensures) e in
           let d = def-entered held (args .rows .now) (args .at) (pre .inside) cs some f e h (if2 .left) in
-          def-stepped held (args .rows .now) (args .at) (pre .inside) cs some f e h d q _ _ _ ((declare-clauses .ensures .same) limit _ (def-ready held (args .rows .now) (args .at) (pre .inside) cs some f e h d) cs q (rw (w) st) e) legal;
+          def-stepped held (args .rows .now) (args .at) (pre .inside) cs some f e h d q _ _ _ ((declare-clauses .ensures .same) limit (ts .rules) _ (def-ready held (args .rows .now) (args .at) (pre .inside) cs some f e h d) cs q (rw (w) st) e) legal;
     }
 
 pub declare-def-spec : {M : Type 1} → statement M

@@ -30,7 +30,7 @@ returns : tie.Need-returns
 returns c =
     record {
       none = λ z. refl;
-      same = λ limit s ready inside j js q st kn. absurd (let z = (c .if1 .taken) in
+      same = λ limit ts s ready inside j js q st kn. absurd (let z = (c .if1 .taken) in
           let w = (c .before .wide .ensures) in
           omega arith);
     }
@@ -83,7 +83,7 @@ enter-rule-requires c κs =
       here = here;
       later = omega arith;
       short = (pre .short);
-      storage = rw ((room .ensures)) (storage ((pre .ready .2)));
+      storage = rw ((room .ensures)) (storage ((pre .ready .3)));
     }
 
 told-requires : tie.Need-told-requires
@@ -96,7 +96,7 @@ told-requires c κs =
     let enter-rule = c .before .before .before .enter-rule in
     let w = (wide .ensures) in
     let st = (pre .stand) (omega (arith, (if1 .left))) in
-    told-by (pre .ready .2) (record { start = column (rowAt (args .rows .now) ((args .at) + 1)) 1; size = column (rowAt (args .rows .now) ((args .at) + 1)) 2; clause = 0 }) (λ (F : List Symbol) (m : ℕ). ruleOf F (nameAt (args .text .now) (args .rows .now) ((args .at) + 1)) (spelled (args .text .now) (allOf (frontOf (st .0 ∷ st .1)))) (spelled (args .text .now) (lastJudgment (st .0) (st .1))) m) (room .result) (room .ensures) ((enter-rule .last .1 .1 .1 .1 .1 .1 .1 .1 .1 .1 .1 .0)) ((enter-rule .last .1 .1 .1 .1 .1 .1 .1 .1 .0)) (enter-rule .result) ((enter-rule .ensures .same) (st .0) (st .1) (st .2) (st .3) (w
+    told-by (pre .ready .3) (record { start = column (rowAt (args .rows .now) ((args .at) + 1)) 1; size = column (rowAt (args .rows .now) ((args .at) + 1)) 2; clause = 0 }) (λ (F : List Symbol) (m : ℕ). ruleOf F (nameAt (args .text .now) (args .rows .now) ((args .at) + 1)) (spelled (args .text .now) (allOf (frontOf (st .0 ∷ st .1)))) (spelled (args .text .now) (lastJudgment (st .0) (st .1))) m) (room .result) (room .ensures) ((enter-rule .last .1 .1 .1 .1 .1 .1 .1 .1 .1 .1 .1 .0)) ((enter-rule .last .1 .1 .1 .1 .1 .1 .1 .1 .0)) (enter-rule .result) ((enter-rule .ensures .same) (st .0) (st .1) (st .2) (st .3) (w
     ∙ st .4) .1)
 
 same-length : tie.Need-same-length
@@ -115,7 +115,7 @@ returns-2 c =
     let told = c .told in
     record {
       none = λ z. absurd ((if1 .left) ((wide .ensures) ∙ z));
-      same = λ limit s ready inside j js q st kn. let h = (enter-rule .ensures .same) j js q st ((wide .ensures) ∙ kn) in
+      same = λ limit ts s ready inside j js q st kn. let h = (enter-rule .ensures .same) j js q st ((wide .ensures) ∙ kn) in
           advanced-by ready (record { start = column (rowAt (args .rows .now) ((args .at) + 1)) 1; size = column (rowAt (args .rows .now) ((args .at) + 1)) 2; clause = 0 }) inside ((enter-rule .last .1 .1 .1 .1 .1 .1 .1 .1 .1 .1 .1 .0)) ((enter-rule .last .1 .1 .1 .1 .1 .1 .1 .1 .0)) ((enter-rule .kept .1 .1 .1 .1 .1 .1 .1 .1 .1 .1 .1 .0)) ((enter-rule .kept .1 .1 .1 .1 .1 .1 .1 .1 .0)) (λ (F : List Symbol) (m : ℕ). ruleOf F (nameAt (args .text .now) (args .rows .now) ((args .at) + 1)) (spelled (args .text .now) (allOf (frontOf (j ∷ js)))) (spelled (args .text .now) (lastJudgment j js)) m) (room .result) (room .ensures) q (enter-rule .result) (told .result) (h .0) (h .1) (told .ensures);
     }
 
