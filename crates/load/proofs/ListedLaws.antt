@@ -17,9 +17,11 @@ use Rattle.names.specs.SearchLaws.{columns-length, columns-at, sorts-length}
 use Rattle.patterns.proofs.Terms.{symbol-at, symbols-length}
 use Rattle.rules.specs.StoredRows.{Kept}
 use Rattle.rules.specs.PatternLaws.{aritiesOf}
+use Rattle.rules.specs.declared.Title.{Title}
 use Rattle.rule_checks.specs.RuleForm.{ruleIn, Inside, RuleFormed}
 use Rattle.rule_checks.specs.RuleLaws.{kept-is}
 use Rattle.loader.specs.Signature.{Signature}
+use Rattle.loader.specs.Stored.{Titles}
 use Rattle.loader.specs.Legal.{SymbolLegal, RuleLegal, noRule}
 use Rattle.loader.specs.Holding.{RulesKept, rules-same}
 use Rattle.loader.specs.SymbolRows.{SymbolShaped}
@@ -36,10 +38,10 @@ rules-are text arities words rows i (R ∷ Rs) u u′ l h =
     ap (λ (x : Rows). map (ruleIn text words) (take (suc (length Rs)) x)) (drop-cons rows i [] (omega arith))
     ∙ ap₂ (λ (x : Rule) (xs : List Rule). x ∷ xs) (sym (kept-is (h .1))) (rules-are text arities words rows (suc i) Rs (h .0) u′ (omega arith) (h .2))
 
-pub held-rules : {text : List ℕ} {limit : ℕ} {s : Signature} {sorts symbols rules : Rows} {words : List ℕ} {st : State} → Held text limit s sorts symbols rules words st
+pub held-rules : {text : List ℕ} {limit : ℕ} {ts : Titles} {s : Signature} {sorts symbols rules : Rows} {words : List ℕ} {st : State} → Held text limit ts s sorts symbols rules words st
     → rulesOf text words rules (st .rules) ≡ s .rules
 unfolding rulesOf
-held-rules {text} {limit} {s} {sorts} {symbols} {rules} {words} {st} h =
+held-rules {text} {limit} {ts} {s} {sorts} {symbols} {rules} {words} {st} h =
     let k = h .kept in
     let a = k .rulesLent in
     let b = k .fewRules in
@@ -98,9 +100,9 @@ kept-at text arities words rows i (R ∷ Rs) u u′ (suc j) h l =
     let z : i + suc j ≡ suc i + j = omega arith in
     rw z (kept-at text arities words rows (suc i) Rs (h .0) u′ j (h .2) (omega arith))
 
-pub held-listed : {text : List ℕ} {limit : ℕ} {s : Signature} {sorts symbols rules : Rows} {words : List ℕ} {st : State} → (limits : Limits) → limit ≡ cappedOf limits .nodes
-    → Held text limit s sorts symbols rules words st → Listed text limits sorts symbols rules words (st .sorts) (st .symbols) (st .rules) (st .used)
-held-listed {text} {limit} {s} {sorts} {symbols} {rules} {words} {st} limits e h =
+pub held-listed : {text : List ℕ} {limit : ℕ} {ts : Titles} {s : Signature} {sorts symbols rules : Rows} {words : List ℕ} {st : State} → (limits : Limits) → limit ≡ cappedOf limits .nodes
+    → Held text limit ts s sorts symbols rules words st → Listed text limits sorts symbols rules words (st .sorts) (st .symbols) (st .rules) (st .used)
+held-listed {text} {limit} {ts} {s} {sorts} {symbols} {rules} {words} {st} limits e h =
     let a = h .names in
     let k = h .kept in
     let g = h .legal in
@@ -151,10 +153,10 @@ module _ {A : Type 0} (n : ℕ) (l : List A) (a : A) (h : n ≤ length l) where
       List·getD-append (take n l) (replicate (length l - n) a) d i (omega arith) ∙ getD-take n l i d b
 
 -- The names and rules, with rows and words past the counts cleared.
-names-cleared : {text : List ℕ} {s : Signature} {sorts symbols : Rows} {st : State} → NamesHeld text s sorts symbols st → (a b : List ℕ)
-    → NamesHeld text s (take (st .sorts) sorts ++ replicate (length sorts - st .sorts) a) (take (st .symbols) symbols ++ replicate (length symbols - st .symbols) b) st
+names-cleared : {text : List ℕ} {ts : Titles} {s : Signature} {sorts symbols : Rows} {st : State} → NamesHeld text ts s sorts symbols st → (a b : List ℕ)
+    → NamesHeld text ts s (take (st .sorts) sorts ++ replicate (length sorts - st .sorts) a) (take (st .symbols) symbols ++ replicate (length symbols - st .symbols) b) st
 unfolding sortsOf symbolsOf
-names-cleared {text} {s} {sorts} {symbols} {st} h a b =
+names-cleared {text} {ts} {s} {sorts} {symbols} {st} h a b =
     let h₁ = h .sortsLent in
     let h₂ = h .fewSorts in
     let h₃ = h .symbolsLent in
@@ -173,11 +175,16 @@ names-cleared {text} {s} {sorts} {symbols} {st} h a b =
       sortsInside = λ i l. rw (cleared-at (st .sorts) sorts a m i [] l) (h .sortsInside i l);
       symbolsInside = λ i l. rw (cleared-at (st .symbols) symbols b n i [] l) (h .symbolsInside i l);
       shaped = λ i l. rw (cleared-at (st .symbols) symbols b n i [] l) (h .shaped i l);
+      exact = record {
+        sorts-are = cleared-take (st .sorts) sorts a m ∙ h .exact .sorts-are;
+        symbols-are = cleared-take (st .symbols) symbols b n ∙ h .exact .symbols-are;
+        number = h .exact .number;
+      };
     }
 
-rules-cleared : {text : List ℕ} {limit : ℕ} {s : Signature} {rules : Rows} {words : List ℕ} {st : State} → RulesHeld text limit s rules words st → (c : List ℕ)
-    → RulesHeld text limit s (take (st .rules) rules ++ replicate (length rules - st .rules) c) (take (st .used) words ++ replicate (length words - st .used) 0) st
-rules-cleared {text} {limit} {s} {rules} {words} {st} h c =
+rules-cleared : {text : List ℕ} {limit : ℕ} {ts : List Title} {s : Signature} {rules : Rows} {words : List ℕ} {st : State} → RulesHeld text limit ts s rules words st → (c : List ℕ)
+    → RulesHeld text limit ts s (take (st .rules) rules ++ replicate (length rules - st .rules) c) (take (st .used) words ++ replicate (length words - st .used) 0) st
+rules-cleared {text} {limit} {ts} {s} {rules} {words} {st} h c =
     let h₁ = h .rulesLent in
     let h₂ = h .fewRules in
     let h₃ = h .wordsLent in
@@ -202,10 +209,15 @@ rules-cleared {text} {limit} {s} {rules} {words} {st} h c =
       fits = h₄;
       formed = formed-same patternRoom same (h .formed);
       rulesInside = λ i l. rw (cleared-at (st .rules) rules c m i [] l) (h .rulesInside i l);
+      exact = record {
+        rows-are = cleared-take (st .rules) rules c m ∙ h .exact .rows-are;
+        words-are = cleared-take (st .used) words 0 n ∙ h .exact .words-are;
+        number = h .exact .number;
+      };
     }
 
-pub held-cleared : {text : List ℕ} {limit : ℕ} {s : Signature} {sorts symbols rules : Rows} {words : List ℕ} {st : State} → Held text limit s sorts symbols rules words st
+pub held-cleared : {text : List ℕ} {limit : ℕ} {ts : Titles} {s : Signature} {sorts symbols rules : Rows} {words : List ℕ} {st : State} → Held text limit ts s sorts symbols rules words st
     → (a b c : List ℕ)
-    → Held text limit s (take (st .sorts) sorts ++ replicate (length sorts - st .sorts) a) (take (st .symbols) symbols ++ replicate (length symbols - st .symbols) b)
+    → Held text limit ts s (take (st .sorts) sorts ++ replicate (length sorts - st .sorts) a) (take (st .symbols) symbols ++ replicate (length symbols - st .symbols) b)
     (take (st .rules) rules ++ replicate (length rules - st .rules) c) (take (st .used) words ++ replicate (length words - st .used) 0) st
 held-cleared h a b c = record { names = names-cleared (h .names) a b; kept = rules-cleared (h .kept) c; legal = h .legal }

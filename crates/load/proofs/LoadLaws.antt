@@ -5,7 +5,7 @@ use mathlib.Core.Path.{_≡_, refl, sym, ap, _∙_, subst}
 use mathlib.Core.Bool.{false}
 use mathlib.Core.List.{List, _++_}
 use lib.ListN.{length, take, replicate}
-use lib.Seq.{take-at}
+use lib.Seq.{take-at, length-take-le}
 use borrow.Author.Tests.{le-ltb}
 use Rattle.words.specs.Lexer.{cappedOf, lexOf, zeroRow}
 use Rattle.words.specs.Tokens.{Reading}
@@ -22,6 +22,8 @@ use Rattle.parser.specs.declared.Answer.the-variants.{Declarations, Refused}
 use Rattle.names.specs.Symbols.{Rows}
 use Rattle.loader.specs.Signature.{Signature, Loaded, refused, loaded, loadOf}
 use Rattle.loader.specs.PlaceLaws.{TitlesInside, titles-inside}
+use Rattle.loader.specs.Stored.{wordsFrom}
+use Rattle.loader.specs.StoredLaws.{padded-is}
 use Rattle.declarations.specs.declared.State.{State}
 use Rattle.declarations.proofs.NameLaws.{sorts-number, symbols-number}
 use Rattle.load.specs.Load.{declaredIn, ofParsed, loadText, evalsFrom}
@@ -30,7 +32,7 @@ use Rattle.load.specs.Clearing.{RowsAsked, RowsKept, RowsLeft}
 use Rattle.load.specs.declared.Loading.{Loading}
 use Rattle.load.specs.declared.Loading.the-variants.{Refused as Barred}
 use Rattle.load.proofs.ShortLaws.{Enough}
-use Rattle.load.proofs.RowsLaws.{SameLengths, wiped-same}
+use Rattle.load.proofs.RowsLaws.{buffers, SameLengths, wiped-same}
 use Rattle.load.proofs.ListedLaws.{held-rules, held-listed}
 
 -- What the parser answers where its buffers are long enough.
@@ -89,21 +91,29 @@ module _ (text : List ℕ) (limits : Limits) (b c d : Buffers) (same : SameLengt
         let a : st .sorts ≡ length (s .sorts) = sym (sorts-number (held .names)) in
         let f : st .symbols ≡ length (s .symbols) = sym (symbols-number (held .names)) in
         let g : st .rules ≡ length (s .rules) = held .kept .number in
+        let x = held .names .exact in
+        let y = held .kept .exact in
+        let fs = held .names .fewSorts in
+        let ls = held .names .sortsLent in
+        let ff = held .names .fewSymbols in
+        let lf = held .names .symbolsLent in
+        let fr = held .kept .fewRules in
+        let lr = held .kept .rulesLent in
+        let fw = held .kept .fits in
+        let lw = held .kept .wordsLent in
+        let u : st .used ≡ length (wordsFrom (s .rules) 0) = sym (length-take-le (st .used) (d .words) (omega arith)) ∙ ap length (y .words-are) in
         record {
-          used = st .used;
-          answer = h .answer ∙ rw (m, a, f, g) refl;
+          answer = h .answer ∙ rw (m, a, f, g, u) refl;
+          stored = buffers (h .tokens ∙ ap (λ (k : ℕ). replicate k zeroRow) (same .tokens)) (h .rows ∙ rows) (h .calls ∙ ap (λ (k : ℕ). replicate k zeroRow) (same .calls))
+              (padded-is zeroPair (length (b .sorts)) (st .sorts) (d .sorts) _ (omega arith) (x .sorts-are) (h .sortsClear ∙ ap (λ (k : ℕ). replicate (k - st .sorts) zeroPair) (same .sorts)))
+              (padded-is zeroSymbol (length (b .symbols)) (st .symbols) (d .symbols) _ (omega arith) (x .symbols-are) (h .symbolsClear ∙ ap (λ (k : ℕ). replicate (k - st .symbols) zeroSymbol) (same .symbols)))
+              (padded-is zeroRule (length (b .rules)) (st .rules) (d .rules) _ (omega arith) (y .rows-are) (h .rulesClear ∙ ap (λ (k : ℕ). replicate (k - st .rules) zeroRule) (same .rules)))
+              (padded-is 0 (length (b .words)) (st .used) (d .words) _ (omega arith) (y .words-are) (h .wordsClear ∙ ap (λ (k : ℕ). replicate (k - st .used) 0) (same .words)))
+              (h .evals ∙ ap (λ (k : ℕ). evalsFrom 0 ds ++ replicate (k - length (evalsFrom 0 ds)) zeroPair) (same .evals));
           sortsAre = rw (← a) (held .names .sortsAre);
           symbolsAre = rw (← f) (held .names .symbolsAre);
           rulesAre = rw (← g) (held-rules held);
-          listed = rw (← a, ← f, ← g) (held-listed limits limited held);
-          sortsClear = rw (← a) (h .sortsClear ∙ ap (λ (k : ℕ). replicate (k - st .sorts) zeroPair) (same .sorts));
-          symbolsClear = rw (← f) (h .symbolsClear ∙ ap (λ (k : ℕ). replicate (k - st .symbols) zeroSymbol) (same .symbols));
-          rulesClear = rw (← g) (h .rulesClear ∙ ap (λ (k : ℕ). replicate (k - st .rules) zeroRule) (same .rules));
-          wordsClear = h .wordsClear ∙ ap (λ (k : ℕ). replicate (k - st .used) 0) (same .words);
-          rows = h .rows ∙ rows;
-          evals = h .evals ∙ ap (λ (k : ℕ). evalsFrom 0 ds ++ replicate (k - length (evalsFrom 0 ds)) zeroPair) (same .evals);
-          tokens = h .tokens ∙ ap (λ (k : ℕ). replicate k zeroRow) (same .tokens);
-          calls = h .calls ∙ ap (λ (k : ℕ). replicate k zeroRow) (same .calls);
+          listed = rw (← a, ← f, ← g, ← u) (held-listed limits limited held);
         }
 
     pub rows-left : (ds : List Declared) (x : Loaded) → n ≡ length ds → c .rows ≡ rowsAfter (length (b .rows)) (textOf text limits) → RowsLeft text limit n c ds x r d → Left text limits b ds x r d

@@ -9,6 +9,7 @@ use Rattle.words.specs.Lexer.{zeroRow}
 use Rattle.parser.specs.Declarations.{Declared}
 use Rattle.names.specs.Symbols.{Rows}
 use Rattle.loader.specs.Signature.{Signature, Loaded, refused, loaded}
+use Rattle.loader.specs.Stored.{Titles, titlesOf}
 use Rattle.declarations.specs.Held.{Held}
 use Rattle.declarations.specs.declared.State.{State}
 use Rattle.load.specs.Load.{evalsFrom, Came}
@@ -20,16 +21,16 @@ use Rattle.load.specs.declared.Loading.the-variants.{Refused as Barred, 
 use Rattle.load.proofs.ListedLaws.{held-cleared}
 
 -- What an answer of `enter_all` says.
-module _ (text : List ℕ) (limit : ℕ) (waiting : Rows) (r : Walk) (sorts symbols rules : Rows) (words : List ℕ) (evals : Rows) where
-  came-refused : {e line : ℕ} (x : Loaded) → Came text limit waiting x r sorts symbols rules words evals → r ≡ Refused e line → x ≡ refused e line
+module _ (text : List ℕ) (limit : ℕ) (ts : Titles) (waiting : Rows) (r : Walk) (sorts symbols rules : Rows) (words : List ℕ) (evals : Rows) where
+  came-refused : {e line : ℕ} (x : Loaded) → Came text limit ts waiting x r sorts symbols rules words evals → r ≡ Refused e line → x ≡ refused e line
   came-refused (refused f l) h z = cc
   came-refused (loaded s) h z = absurd (let i = h .is in let w : _≡_ {A = ℕ} 0 1 = cc in omega arith)
 
 -- All declarations are entered.
-pub record AllEntered (text : List ℕ) (limit : ℕ) (waiting : Rows) (x : Loaded) (st : State) (k : ℕ) (sorts symbols rules : Rows) (words : List ℕ) (evals : Rows) : Type 0 where
+pub record AllEntered (text : List ℕ) (limit : ℕ) (ts : Titles) (waiting : Rows) (x : Loaded) (st : State) (k : ℕ) (sorts symbols rules : Rows) (words : List ℕ) (evals : Rows) : Type 0 where
   pub signature : Signature
   pub is : x ≡ loaded signature
-  pub held : Held text limit signature sorts symbols rules words st
+  pub held : Held text limit ts signature sorts symbols rules words st
   pub number : k ≡ length waiting
   pub lent : k ≤ length evals
   pub waits : take k evals ≡ waiting
@@ -38,10 +39,10 @@ pub record AllEntered (text : List ℕ) (limit : ℕ) (waiting : Rows) (x : Load
 pub part-is : {A : Type 0} (n : ℕ) (l : List A) → take (n - 0) l ≡ take n l
 part-is n l = let e : n - 0 ≡ n = omega arith in ap (λ (k : ℕ). take k l) e
 
-pub came-done : (text : List ℕ) (limit : ℕ) (waiting : Rows) (r : Walk) (sorts symbols rules : Rows) (words : List ℕ) (evals : Rows) {st : State} {k : ℕ} (x : Loaded)
-    → Came text limit waiting x r sorts symbols rules words evals → r ≡ Done st k → AllEntered text limit waiting x st k sorts symbols rules words evals
-came-done text limit waiting r sorts symbols rules words evals (refused f l) h z = absurd (let w : _≡_ {A = ℕ} 0 1 = cc in omega arith)
-came-done text limit waiting r sorts symbols rules words evals {st} {k} (loaded s) h z =
+pub came-done : (text : List ℕ) (limit : ℕ) (ts : Titles) (waiting : Rows) (r : Walk) (sorts symbols rules : Rows) (words : List ℕ) (evals : Rows) {st : State} {k : ℕ} (x : Loaded)
+    → Came text limit ts waiting x r sorts symbols rules words evals → r ≡ Done st k → AllEntered text limit ts waiting x st k sorts symbols rules words evals
+came-done text limit ts waiting r sorts symbols rules words evals (refused f l) h z = absurd (let w : _≡_ {A = ℕ} 0 1 = cc in omega arith)
+came-done text limit ts waiting r sorts symbols rules words evals {st} {k} (loaded s) h z =
     let i = h .is in
     let a : h .state ≡ st = cc in
     let b : k ≡ length waiting = cc in
@@ -49,7 +50,7 @@ came-done text limit waiting r sorts symbols rules words evals {st} {k} (loaded 
     record {
       signature = s;
       is = refl;
-      held = subst (λ (y : State). Held text limit s sorts symbols rules words y) a (h .held);
+      held = subst (λ (y : State). Held text limit ts s sorts symbols rules words y) a (h .held);
       number = b;
       lent = omega arith;
       waits = ap (λ (y : ℕ). take y evals) b ∙ h .waits;
@@ -63,7 +64,8 @@ clear-past : {A : Type 0} (z : A) (n : ℕ) (l l₀ : List A) → n ≤ length l
 clear-past z n l l₀ h e =
     drop-at (take n l) (replicate (length l - n) z) n (length-take-le n l h) ∙ ap (λ (k : ℕ). replicate (k - n) z) e
 
-buffers : {a a′ b b′ c c′ d d′ e e′ f f′ : Rows} {g g′ : List ℕ} {h h′ : Rows} → a ≡ a′ → b ≡ b′ → c ≡ c′ → d ≡ d′ → e ≡ e′ → f ≡ f′ → g ≡ g′ → h ≡ h′
+-- Buffers are the same if each is.
+pub buffers : {a a′ b b′ c c′ d d′ e e′ f f′ : Rows} {g g′ : List ℕ} {h h′ : Rows} → a ≡ a′ → b ≡ b′ → c ≡ c′ → d ≡ d′ → e ≡ e′ → f ≡ f′ → g ≡ g′ → h ≡ h′
     → _≡_ {A = Buffers} (record { tokens = a; rows = b; calls = c; sorts = d; symbols = e; rules = f; words = g; evals = h })
     (record { tokens = a′; rows = b′; calls = c′; sorts = d′; symbols = e′; rules = f′; words = g′; evals = h′ })
 buffers p q r s t u v w = rw (p, q, r, s, t, u, v, w) refl
@@ -99,12 +101,12 @@ module _ (b c d : Buffers) (same : SameLengths b c) where
       buffers e1 r e2 e3 e4 e5 e6 e7
 
   module _ (text : List ℕ) (limit : ℕ) (ds : List Declared) (r : Walk) where
-    pub rows-refused : (n : ℕ) {e line : ℕ} (x : Loaded) → Came text limit (evalsFrom 0 ds) x r (c .sorts) (c .symbols) (c .rules) (c .words) (c .evals) → r ≡ Refused e line → d ≡ wiped b
+    pub rows-refused : (n : ℕ) {e line : ℕ} (x : Loaded) → Came text limit (titlesOf ds) (evalsFrom 0 ds) x r (c .sorts) (c .symbols) (c .rules) (c .words) (c .evals) → r ≡ Refused e line → d ≡ wiped b
         → RowsLeft text limit n b ds x (Barred e line) d
     rows-refused n {e} {line} x h z w =
-        subst (λ (y : Loaded). RowsLeft text limit n b ds y (Barred e line) d) (sym (came-refused text limit (evalsFrom 0 ds) r (c .sorts) (c .symbols) (c .rules) (c .words) (c .evals) x h z)) (refl, w)
+        subst (λ (y : Loaded). RowsLeft text limit n b ds y (Barred e line) d) (sym (came-refused text limit (titlesOf ds) (evalsFrom 0 ds) r (c .sorts) (c .symbols) (c .rules) (c .words) (c .evals) x h z)) (refl, w)
 
-    pub rows-done : (n : ℕ) {k : ℕ} {st : State} (x : Loaded) → AllEntered text limit (evalsFrom 0 ds) x st k (c .sorts) (c .symbols) (c .rules) (c .words) (c .evals) → d .rows ≡ b .rows
+    pub rows-done : (n : ℕ) {k : ℕ} {st : State} (x : Loaded) → AllEntered text limit (titlesOf ds) (evalsFrom 0 ds) x st k (c .sorts) (c .symbols) (c .rules) (c .words) (c .evals) → d .rows ≡ b .rows
         → ScratchCleared (c .tokens) (c .calls) (c .evals) k (d .tokens) (d .calls) (d .evals)
         → SignatureCleared (c .sorts) (c .symbols) (c .rules) (c .words) (st .sorts) (st .symbols) (st .rules) (st .used) (d .sorts) (d .symbols) (d .rules) (d .words)
         → RowsLeft text limit n b ds x (Entered n k (record { sorts = st .sorts; symbols = st .symbols; rules = st .rules; words = st .used })) d
@@ -118,8 +120,8 @@ module _ (b c d : Buffers) (same : SameLengths b c) where
         let g₁ = held .kept .rulesLent in
         let u = held .kept .fits in
         let u₁ = held .kept .wordsLent in
-        let now : Held text limit (h .signature) (clearedFrom zeroPair (st .sorts) (c .sorts)) (clearedFrom zeroSymbol (st .symbols) (c .symbols)) (clearedFrom zeroRule (st .rules) (c .rules)) (clearedFrom 0 (st .used) (c .words)) st = held-cleared held zeroPair zeroSymbol zeroRule in
-        let now₁ : Held text limit (h .signature) (d .sorts) (d .symbols) (d .rules) (d .words) st = rw (z .sorts-are, z .symbols-are, z .rules-are, z .words-are) now in
+        let now : Held text limit (titlesOf ds) (h .signature) (clearedFrom zeroPair (st .sorts) (c .sorts)) (clearedFrom zeroSymbol (st .symbols) (c .symbols)) (clearedFrom zeroRule (st .rules) (c .rules)) (clearedFrom 0 (st .used) (c .words)) st = held-cleared held zeroPair zeroSymbol zeroRule in
+        let now₁ : Held text limit (titlesOf ds) (h .signature) (d .sorts) (d .symbols) (d .rules) (d .words) st = rw (z .sorts-are, z .symbols-are, z .rules-are, z .words-are) now in
         subst (λ (w : Loaded). RowsLeft text limit n b ds w (Entered n k (record { sorts = st .sorts; symbols = st .symbols; rules = st .rules; words = st .used })) d) (sym (h .is))
         (record {
           state = st;

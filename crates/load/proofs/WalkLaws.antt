@@ -17,6 +17,7 @@ use Rattle.loader.specs.Signature.{Signature, empty, Step, no, on, Loaded, refu
 use Rattle.loader.specs.LegalLaws.{empty-legal}
 use Rattle.loader.specs.Holding.{RulesKept}
 use Rattle.loader.specs.PlaceLaws.{TitlesInside}
+use Rattle.loader.specs.Stored.{Titles, untitled, entitled, titlesFrom, titlesOf, symbolRows, ruleRows, wordsFrom}
 use Rattle.declarations.specs.Held.{Held}
 use Rattle.declarations.specs.Steps.{Stepped, DeclarationAt, DeclareDone}
 use Rattle.declarations.specs.declared.State.{State}
@@ -28,8 +29,8 @@ use Rattle.load.specs.declared.Walk.the-variants.{Refused, Done}
 
 -- Storage with nothing entered holds the empty signature.
 pub held-none : (text : List ℕ) (limit : ℕ) (sorts symbols rules : Rows) (words : List ℕ) → 256 ≤ length sorts → 1024 ≤ length symbols → 1024 ≤ length rules → 2 * limit ≤ length words
-    → limit ≤ 32768 → Held text limit empty sorts symbols rules words (record { sorts = 0; symbols = 0; rules = 0; used = 0; left = limit })
-unfolding sortsOf symbolsOf RulesKept
+    → limit ≤ 32768 → Held text limit untitled empty sorts symbols rules words (record { sorts = 0; symbols = 0; rules = 0; used = 0; left = limit })
+unfolding sortsOf symbolsOf RulesKept symbolRows ruleRows wordsFrom
 held-none text limit sorts symbols rules words a b c d e =
     record {
       names = record {
@@ -42,6 +43,7 @@ held-none text limit sorts symbols rules words a b c d e =
         sortsInside = λ i l. absurd (omega arith);
         symbolsInside = λ i l. absurd (omega arith);
         shaped = λ i l. absurd (omega arith);
+        exact = record { sorts-are = refl; symbols-are = refl; number = refl };
       };
       kept = record {
         rulesLent = c;
@@ -54,12 +56,14 @@ held-none text limit sorts symbols rules words a b c d e =
         fits = omega arith;
         formed = record { fits = λ x l. absurd (omega arith); arguments = λ x i l. absurd (omega arith) };
         rulesInside = λ i l. absurd (omega arith);
+        exact = record { rows-are = refl; words-are = refl; number = refl };
       };
       legal = empty-legal;
     }
 
 -- The declarations before the number i are entered; those from the row p on are left.
-pub record Sofar (text : List ℕ) (limit : ℕ) (rows : Rows) (n : ℕ) (sorts symbols rules : Rows) (words : List ℕ) (evals : Rows) (st : State) (count p i : ℕ) (waiting : Rows) (whole : Loaded) : Type 0 where
+pub record Sofar (text : List ℕ) (limit : ℕ) (rows : Rows) (n : ℕ) (sorts symbols rules : Rows) (words : List ℕ) (evals : Rows) (st : State) (count p i : ℕ) (all : Titles) (waiting : Rows) (whole : Loaded) : Type 0 where
+  pub titles : Titles
   pub signature : Signature
   pub before : Rows
   pub rest : List Declared
@@ -67,7 +71,8 @@ pub record Sofar (text : List ℕ) (limit : ℕ) (rows : Rows) (n : ℕ) (sorts 
   pub from : length before ≡ p
   pub inside : TitlesInside text rest
   pub number : i + length rest ≡ n
-  pub held : Held text limit signature sorts symbols rules words st
+  pub titled : all ≡ titlesFrom titles rest
+  pub held : Held text limit titles signature sorts symbols rules words st
   pub same : whole ≡ loadFrom limit text signature rest
   pub waits : waiting ≡ take count evals ++ evalsFrom p rest
   pub few : 2 * count ≤ p
@@ -76,13 +81,14 @@ pub record Sofar (text : List ℕ) (limit : ℕ) (rows : Rows) (n : ℕ) (sorts 
 abbrev pub Everywhere : List ℕ → ℕ → Rows → ℕ → Rows → Rows → Rows → List ℕ → Rows → State → ℕ → ℕ → ℕ → Type 0
 Everywhere text limit rows n sorts symbols rules words evals st count p i =
     (ds : List Declared) → rows ≡ rowsOfAll declaredRows ds → n ≡ length ds → TitlesInside text ds
-    → Sofar text limit rows n sorts symbols rules words evals st count p i (evalsFrom 0 ds) (loadOf limit text ds)
+    → Sofar text limit rows n sorts symbols rules words evals st count p i (titlesOf ds) (evalsFrom 0 ds) (loadOf limit text ds)
 
 pub sofar-start : {text : List ℕ} {limit : ℕ} {rows : Rows} {n : ℕ} {sorts symbols rules : Rows} {words : List ℕ} {evals : Rows} → length rows ≤ 2 * length evals + 1
-    → Held text limit empty sorts symbols rules words (record { sorts = 0; symbols = 0; rules = 0; used = 0; left = limit })
+    → Held text limit untitled empty sorts symbols rules words (record { sorts = 0; symbols = 0; rules = 0; used = 0; left = limit })
     → Everywhere text limit rows n sorts symbols rules words evals (record { sorts = 0; symbols = 0; rules = 0; used = 0; left = limit }) 0 0 0
 sofar-start l h ds e m t =
     record {
+      titles = untitled;
       signature = empty;
       before = [];
       rest = ds;
@@ -90,6 +96,7 @@ sofar-start l h ds e m t =
       from = refl;
       inside = t;
       number = omega arith;
+      titled = refl;
       held = h;
       same = refl;
       waits = refl;
@@ -150,8 +157,8 @@ at-row : {text : List ℕ} {rows : Rows} {p : ℕ} (before : Rows) (d : Declared
 unfolding rowsOfAll
 at-row before d ds e f t = record { before = before; after = rowsOfAll declaredRows ds; split = e; from = f; to = refl; inside = t .0 }
 
-module _ {text : List ℕ} {limit : ℕ} {rows : Rows} {n : ℕ} {sorts symbols rules : Rows} {words : List ℕ} {evals : Rows} {st : State} {count p i : ℕ} {waiting : Rows} {whole : Loaded} where
-  pub sofar-declaration : Sofar text limit rows n sorts symbols rules words evals st count p i waiting whole → i < n → (d : Declared) × (q : ℕ) × DeclarationAt text rows p d q
+module _ {text : List ℕ} {limit : ℕ} {rows : Rows} {n : ℕ} {sorts symbols rules : Rows} {words : List ℕ} {evals : Rows} {st : State} {count p i : ℕ} {all : Titles} {waiting : Rows} {whole : Loaded} where
+  pub sofar-declaration : Sofar text limit rows n sorts symbols rules words evals st count p i all waiting whole → i < n → (d : Declared) × (q : ℕ) × DeclarationAt text rows p d q
   sofar-declaration g l = go (g .rest) (g .split) (g .inside) (g .number)
     where
       go : (ds : List Declared) → rows ≡ g .before ++ rowsOfAll declaredRows ds → TitlesInside text ds → i + length ds ≡ n → (d : Declared) × (q : ℕ) × DeclarationAt text rows p d q
@@ -160,47 +167,48 @@ module _ {text : List ℕ} {limit : ℕ} {rows : Rows} {n : ℕ} {sorts symbols 
 
   module _ {r : Progress} {sorts′ symbols′ rules′ : Rows} {words′ : List ℕ} (done : DeclareDone text rows p sorts symbols rules words st r sorts′ symbols′ rules′ words′) where
     -- It is refused, at its line, and so is the text.
-    sofar-refused : {e : ℕ} → Sofar text limit rows n sorts symbols rules words evals st count p i waiting whole → i < n → r ≡ Barred e → whole ≡ refused e (column (rowAt rows p) 1)
+    sofar-refused : {e : ℕ} → Sofar text limit rows n sorts symbols rules words evals st count p i all waiting whole → i < n → r ≡ Barred e → whole ≡ refused e (column (rowAt rows p) 1)
     unfolding loadFrom
     sofar-refused {e} g l z = go (g .rest) (g .split) (g .inside) (g .number) (g .same)
       where
-        step : (x : Step) (q : ℕ) → Stepped text limit x q sorts′ symbols′ rules′ words′ r → x ≡ no e
-        step (no f) q h = cc
-        step (on t) q h = absurd (let d = h .1 in let w : _≡_ {A = ℕ} 0 1 = cc in omega arith)
+        step : (ts : Titles) (x : Step) (q : ℕ) → Stepped text limit ts x q sorts′ symbols′ rules′ words′ r → x ≡ no e
+        step ts (no f) q h = cc
+        step ts (on t) q h = absurd (let d = h .1 in let w : _≡_ {A = ℕ} 0 1 = cc in omega arith)
 
         go : (ds : List Declared) → rows ≡ g .before ++ rowsOfAll declaredRows ds → TitlesInside text ds → i + length ds ≡ n → whole ≡ loadFrom limit text (g .signature) ds
             → whole ≡ refused e (column (rowAt rows p) 1)
         go [] e t m w = absurd (omega arith)
         go (d ∷ ds) s t m w =
             let a = at-row (g .before) d ds s (g .from) t in
-            let h = step (declare limit text (g .signature) (d .declaration)) (p + length (declaredRows d)) (done .same limit (g .signature) (g .held) d _ a) in
+            let h = step (entitled (g .titles) (d .declaration)) (declare limit text (g .signature) (d .declaration)) (p + length (declaredRows d)) (done .same limit (g .titles) (g .signature) (g .held) d _ a) in
             w ∙ ap (λ (x : Step). goOn x (d .line) (λ (u : Signature). loadFrom limit text u ds)) h ∙ ap (refused e) (sym (first-row a .line))
 
-    pub sofar-stops : {e : ℕ} → Sofar text limit rows n sorts symbols rules words evals st count p i waiting whole → i < n → r ≡ Barred e
-        → (sorts₁ symbols₁ rules₁ : Rows) (words₁ : List ℕ) (evals₁ : Rows) → Came text limit waiting whole (Refused e (column (rowAt rows p) 1)) sorts₁ symbols₁ rules₁ words₁ evals₁
+    pub sofar-stops : {e : ℕ} → Sofar text limit rows n sorts symbols rules words evals st count p i all waiting whole → i < n → r ≡ Barred e
+        → (sorts₁ symbols₁ rules₁ : Rows) (words₁ : List ℕ) (evals₁ : Rows) → Came text limit all waiting whole (Refused e (column (rowAt rows p) 1)) sorts₁ symbols₁ rules₁ words₁ evals₁
     sofar-stops {e} g l z sorts₁ symbols₁ rules₁ words₁ evals₁ =
-        subst (λ (x : Loaded). Came text limit waiting x (Refused e (column (rowAt rows p) 1)) sorts₁ symbols₁ rules₁ words₁ evals₁) (sym (sofar-refused g l z)) refl
+        subst (λ (x : Loaded). Came text limit all waiting x (Refused e (column (rowAt rows p) 1)) sorts₁ symbols₁ rules₁ words₁ evals₁) (sym (sofar-refused g l z)) refl
 
     -- It is entered, and the others are left.
-    pub sofar-on : {next : ℕ} {st′ : State} → Sofar text limit rows n sorts symbols rules words evals st count p i waiting whole → i < n → r ≡ Next next st′
-        → Sofar text limit rows n sorts′ symbols′ rules′ words′ (noted evals count (column (rowAt rows p) 0) (column (rowAt rows p) 1) p) st′ (cond (eqb (column (rowAt rows p) 0) 10) (count + 1) count) next (i + 1) waiting whole
-    unfolding loadFrom evalsFrom rowsOfAll
-    sofar-on {next} {st′} g l z = go (g .rest) (g .split) (g .inside) (g .number) (g .same) (g .waits)
+    pub sofar-on : {next : ℕ} {st′ : State} → Sofar text limit rows n sorts symbols rules words evals st count p i all waiting whole → i < n → r ≡ Next next st′
+        → Sofar text limit rows n sorts′ symbols′ rules′ words′ (noted evals count (column (rowAt rows p) 0) (column (rowAt rows p) 1) p) st′ (cond (eqb (column (rowAt rows p) 0) 10) (count + 1) count) next (i + 1) all waiting whole
+    unfolding loadFrom titlesFrom evalsFrom rowsOfAll
+    sofar-on {next} {st′} g l z = go (g .rest) (g .split) (g .inside) (g .number) (g .titled) (g .same) (g .waits)
       where
-        step : (x : Step) (q : ℕ) → Stepped text limit x q sorts′ symbols′ rules′ words′ r → (t : Signature) × (x ≡ on t) × (next ≡ q) × Held text limit t sorts′ symbols′ rules′ words′ st′
-        step (no f) q h = absurd (let w : _≡_ {A = ℕ} 0 1 = cc in omega arith)
-        step (on t) q h =
+        step : (ts : Titles) (x : Step) (q : ℕ) → Stepped text limit ts x q sorts′ symbols′ rules′ words′ r → (t : Signature) × (x ≡ on t) × (next ≡ q) × Held text limit ts t sorts′ symbols′ rules′ words′ st′
+        step ts (no f) q h = absurd (let w : _≡_ {A = ℕ} 0 1 = cc in omega arith)
+        step ts (on t) q h =
             let d = h .1 in
             let a : h .0 ≡ st′ = cc in
             let b : next ≡ q = cc in
             (t, refl, b, rw (← a) (h .2))
 
         turn : (d : Declared) (ds : List Declared) → rows ≡ g .before ++ (declaredRows d ++ rowsOfAll declaredRows ds) → DeclarationAt text rows p d (p + length (declaredRows d)) → TitlesInside text ds
-            → i + suc (length ds) ≡ n → whole ≡ goOn (declare limit text (g .signature) (d .declaration)) (d .line) (λ t. loadFrom limit text t ds)
+            → i + suc (length ds) ≡ n → all ≡ titlesFrom (entitled (g .titles) (d .declaration)) ds → whole ≡ goOn (declare limit text (g .signature) (d .declaration)) (d .line) (λ t. loadFrom limit text t ds)
             → waiting ≡ take count evals ++ (evalOf p (d .line) (d .declaration) ++ evalsFrom (p + length (declaredRows d)) ds)
-            → (t : Signature) → declare limit text (g .signature) (d .declaration) ≡ on t → next ≡ p + length (declaredRows d) → Held text limit t sorts′ symbols′ rules′ words′ st′
-            → Sofar text limit rows n sorts′ symbols′ rules′ words′ (noted evals count (column (rowAt rows p) 0) (column (rowAt rows p) 1) p) st′ (cond (eqb (column (rowAt rows p) 0) 10) (count + 1) count) next (i + 1) waiting whole
-        turn d ds s a t m w v u e x held =
+            → (t : Signature) → declare limit text (g .signature) (d .declaration) ≡ on t → next ≡ p + length (declaredRows d)
+            → Held text limit (entitled (g .titles) (d .declaration)) t sorts′ symbols′ rules′ words′ st′
+            → Sofar text limit rows n sorts′ symbols′ rules′ words′ (noted evals count (column (rowAt rows p) 0) (column (rowAt rows p) 1) p) st′ (cond (eqb (column (rowAt rows p) 0) 10) (count + 1) count) next (i + 1) all waiting whole
+        turn d ds s a t m ti w v u e x held =
             let f = first-row a in
             let here : Rows = declaredRows d in
             let lh : length (g .before ++ here) ≡ length (g .before) + length here = length-append (g .before) here in
@@ -212,6 +220,7 @@ module _ {text : List ℕ} {limit : ℕ} {rows : Rows} {n : ℕ} {sorts symbols 
             let ln = noted-length (eqb (kindOf (d .declaration)) 10) evals count (d .line ∷ (p + 1) ∷ []) in
             let gl = g .lent in
             rw (f .kind, f .line) (record {
+              titles = entitled (g .titles) (d .declaration);
               signature = u;
               before = g .before ++ here;
               rest = ds;
@@ -219,6 +228,7 @@ module _ {text : List ℕ} {limit : ℕ} {rows : Rows} {n : ℕ} {sorts symbols 
               from = omega arith;
               inside = t;
               number = omega arith;
+              titled = ti;
               held = held;
               same = w ∙ ap (λ (y : Step). goOn y (d .line) (λ (o : Signature). loadFrom limit text o ds)) e;
               waits = v ∙ sym (append-assoc (take count evals) (evalOf p (d .line) (d .declaration)) (evalsFrom (p + length here) ds))
@@ -227,23 +237,23 @@ module _ {text : List ℕ} {limit : ℕ} {rows : Rows} {n : ℕ} {sorts symbols 
               lent = omega arith;
             })
 
-        go : (ds : List Declared) → rows ≡ g .before ++ rowsOfAll declaredRows ds → TitlesInside text ds → i + length ds ≡ n → whole ≡ loadFrom limit text (g .signature) ds
-            → waiting ≡ take count evals ++ evalsFrom p ds
-            → Sofar text limit rows n sorts′ symbols′ rules′ words′ (noted evals count (column (rowAt rows p) 0) (column (rowAt rows p) 1) p) st′ (cond (eqb (column (rowAt rows p) 0) 10) (count + 1) count) next (i + 1) waiting whole
-        go [] s t m w v = absurd (omega arith)
-        go (d ∷ ds) s t m w v =
+        go : (ds : List Declared) → rows ≡ g .before ++ rowsOfAll declaredRows ds → TitlesInside text ds → i + length ds ≡ n → all ≡ titlesFrom (g .titles) ds
+            → whole ≡ loadFrom limit text (g .signature) ds → waiting ≡ take count evals ++ evalsFrom p ds
+            → Sofar text limit rows n sorts′ symbols′ rules′ words′ (noted evals count (column (rowAt rows p) 0) (column (rowAt rows p) 1) p) st′ (cond (eqb (column (rowAt rows p) 0) 10) (count + 1) count) next (i + 1) all waiting whole
+        go [] s t m ti w v = absurd (omega arith)
+        go (d ∷ ds) s t m ti w v =
             let a = at-row (g .before) d ds s (g .from) t in
-            let h = step (declare limit text (g .signature) (d .declaration)) (p + length (declaredRows d)) (done .same limit (g .signature) (g .held) d _ a) in
-            turn d ds s a (t .1) m w v (h .0) (h .1) (h .2) (h .3)
+            let h = step (entitled (g .titles) (d .declaration)) (declare limit text (g .signature) (d .declaration)) (p + length (declaredRows d)) (done .same limit (g .titles) (g .signature) (g .held) d _ a) in
+            turn d ds s a (t .1) m ti w v (h .0) (h .1) (h .2) (h .3)
 
   -- No declaration is left.
-  pub sofar-end : Sofar text limit rows n sorts symbols rules words evals st count p i waiting whole → n ≤ i → Came text limit waiting whole (Done st count) sorts symbols rules words evals
-  unfolding loadFrom evalsFrom
-  sofar-end g l = go (g .rest) (g .split) (g .number) (g .same) (g .waits)
+  pub sofar-end : Sofar text limit rows n sorts symbols rules words evals st count p i all waiting whole → n ≤ i → Came text limit all waiting whole (Done st count) sorts symbols rules words evals
+  unfolding loadFrom titlesFrom evalsFrom
+  sofar-end g l = go (g .rest) (g .split) (g .number) (g .titled) (g .same) (g .waits)
     where
-      go : (ds : List Declared) → rows ≡ g .before ++ rowsOfAll declaredRows ds → i + length ds ≡ n → whole ≡ loadFrom limit text (g .signature) ds → waiting ≡ take count evals ++ evalsFrom p ds
-          → Came text limit waiting whole (Done st count) sorts symbols rules words evals
-      go [] s m w v =
+      go : (ds : List Declared) → rows ≡ g .before ++ rowsOfAll declaredRows ds → i + length ds ≡ n → all ≡ titlesFrom (g .titles) ds → whole ≡ loadFrom limit text (g .signature) ds
+          → waiting ≡ take count evals ++ evalsFrom p ds → Came text limit all waiting whole (Done st count) sorts symbols rules words evals
+      go [] s m ti w v =
           let e : waiting ≡ take count evals = v ∙ append-nil (take count evals) in
           let a = ap length s ∙ length-append (g .before) (rowsOfAll declaredRows []) in
           let b = g .from in
@@ -251,9 +261,9 @@ module _ {text : List ℕ} {limit : ℕ} {rows : Rows} {n : ℕ} {sorts symbols 
           let o = g .lent in
           let k : count ≤ length evals = omega arith in
           let m : length waiting ≡ count = ap length e ∙ length-take-le count evals k in
-          subst (λ (x : Loaded). Came text limit waiting x (Done st count) sorts symbols rules words evals) (sym w)
-          (record { state = st; is = ap (Done st) (sym m); held = g .held; lent = omega arith; waits = ap (λ (x : ℕ). take x evals) m ∙ sym e })
-      go (d ∷ ds) s m w v = absurd (omega arith)
+          subst (λ (x : Loaded). Came text limit all waiting x (Done st count) sorts symbols rules words evals) (sym w)
+          (record { state = st; is = ap (Done st) (sym m); held = rw ti (g .held); lent = omega arith; waits = ap (λ (x : ℕ). take x evals) m ∙ sym e })
+      go (d ∷ ds) s m ti w v = absurd (omega arith)
 
 -- Each `#eval` takes two rows at least.
 eval-few : (e : Declaration) (line p : ℕ) → 2 * length (evalOf p line e) ≤ length (declaredRows (record { line = line; declaration = e }))

@@ -10,6 +10,7 @@ use Rattle.parser.specs.Rows.{declaredRows}
 use Rattle.names.specs.Symbols.{Rows}
 use Rattle.loader.specs.Signature.{Signature, Loaded, refused, loaded, loadOf}
 use Rattle.loader.specs.PlaceLaws.{TitlesInside}
+use Rattle.loader.specs.Stored.{titlesOf}
 use Rattle.declarations.specs.Held.{Held}
 use Rattle.declarations.specs.declared.State.{State}
 use Rattle.load.specs.Load.{evalsFrom}
@@ -59,7 +60,7 @@ pub record RowsAsked (text : List ℕ) (limit n used : ℕ) (tokens rows calls s
 pub record RowsKept (text : List ℕ) (limit n : ℕ) (b : Buffers) (ds : List Declared) (s : Signature) (r : Loading) (b′ : Buffers) : Type 0 where
   pub state : State
   pub answer : r ≡ Entered n (length (evalsFrom 0 ds)) (record { sorts = state .sorts; symbols = state .symbols; rules = state .rules; words = state .used })
-  pub held : Held text limit s (b′ .sorts) (b′ .symbols) (b′ .rules) (b′ .words) state
+  pub held : Held text limit (titlesOf ds) s (b′ .sorts) (b′ .symbols) (b′ .rules) (b′ .words) state
   pub sortsClear : drop (state .sorts) (b′ .sorts) ≡ replicate (length (b .sorts) - state .sorts) zeroPair
   pub symbolsClear : drop (state .symbols) (b′ .symbols) ≡ replicate (length (b .symbols) - state .symbols) zeroSymbol
   pub rulesClear : drop (state .rules) (b′ .rules) ≡ replicate (length (b .rules) - state .rules) zeroRule

@@ -15,6 +15,7 @@ use Rattle.parser.specs.Rows.{declaredRows}
 use Rattle.parser.specs.Parser.{numberOf, textOf}
 use Rattle.names.specs.Symbols.{Rows}
 use Rattle.loader.specs.PlaceLaws.{TitlesInside}
+use Rattle.loader.specs.Stored.{Titles, titlesOf}
 use Rattle.loader.specs.Signature.{Signature, Loaded, refused, loaded, loadOf}
 use Rattle.declarations.specs.Held.{Held}
 use Rattle.declarations.specs.declared.State.{State}
@@ -70,17 +71,17 @@ pub record WalkAsked (text : List ℕ) (limit : ℕ) (rows : Rows) (n : ℕ) (so
   pub callsLent : length rows + 32 ≤ length calls
 
 -- What it owes: the refusal; or storage that holds the signature, and the `#eval` that wait.
-pub record Filled (text : List ℕ) (limit : ℕ) (waiting : Rows) (s : Signature) (r : Walk) (sorts symbols rules : Rows) (words : List ℕ) (evals : Rows) : Type 0 where
+pub record Filled (text : List ℕ) (limit : ℕ) (ts : Titles) (waiting : Rows) (s : Signature) (r : Walk) (sorts symbols rules : Rows) (words : List ℕ) (evals : Rows) : Type 0 where
   pub state : State
   pub is : r ≡ Done state (length waiting)
-  pub held : Held text limit s sorts symbols rules words state
+  pub held : Held text limit ts s sorts symbols rules words state
   pub lent : length waiting ≤ length evals
   pub waits : take (length waiting) evals ≡ waiting
 
-abbrev pub Came : List ℕ → ℕ → Rows → Loaded → Walk → Rows → Rows → Rows → List ℕ → Rows → Type 0
-Came text limit waiting (refused e line) r sorts symbols rules words evals = r ≡ Refused e line
-Came text limit waiting (loaded s) r sorts symbols rules words evals = Filled text limit waiting s r sorts symbols rules words evals
+abbrev pub Came : List ℕ → ℕ → Titles → Rows → Loaded → Walk → Rows → Rows → Rows → List ℕ → Rows → Type 0
+Came text limit ts waiting (refused e line) r sorts symbols rules words evals = r ≡ Refused e line
+Came text limit ts waiting (loaded s) r sorts symbols rules words evals = Filled text limit ts waiting s r sorts symbols rules words evals
 
 pub record Walked (text : List ℕ) (limit : ℕ) (rows : Rows) (n : ℕ) (r : Walk) (sorts symbols rules : Rows) (words : List ℕ) (evals : Rows) : Type 0 where
   pub same : (ds : List Declared) → rows ≡ rowsOfAll declaredRows ds → n ≡ length ds → TitlesInside text ds
-      → Came text limit (evalsFrom 0 ds) (loadOf limit text ds) r sorts symbols rules words evals
+      → Came text limit (titlesOf ds) (evalsFrom 0 ds) (loadOf limit text ds) r sorts symbols rules words evals

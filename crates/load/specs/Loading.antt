@@ -4,13 +4,14 @@ use mathlib.Core.Path.{_≡_}
 use mathlib.Core.Bool.{Bool, true, false, _||_}
 use mathlib.Core.List.{List, [], _∷_, _++_}
 use lib.Dec.{ltb}
-use lib.ListN.{length, drop, take, replicate}
+use lib.ListN.{length, take, replicate}
 use Rattle.words.specs.Lexer.{cappedOf, zeroRow}
 use Rattle.words.specs.declared.Limits.{Limits}
 use Rattle.parser.specs.Declarations.{Declared}
 use Rattle.parser.specs.Parser.{textOf, rowsAfter}
 use Rattle.names.specs.Symbols.{Rows, sortsOf, symbolsOf}
 use Rattle.loader.specs.Signature.{Signature, Loaded, refused, loaded}
+use Rattle.loader.specs.Stored.{titlesOf, sortRows, symbolRows, ruleRows, wordsFrom, padded}
 use Rattle.signature.specs.Form.{rulesOf, Listed}
 use Rattle.load.specs.Load.{declaredIn, loadText, evalsFrom}
 use Rattle.load.specs.declared.Loading.{Loading}
@@ -68,27 +69,40 @@ wiped b =
       evals = replicate (length (b .evals)) zeroPair;
     }
 
+-- All that is left of a text with the declarations ds and the signature s: the stored signature, the declarations' rows, the line of
+-- each `#eval` with the row of its term, and zero past these and in the scratch. So no two programs that load a text differ in a byte.
+abbrev pub storedOf : List ℕ → Limits → List Declared → Signature → Buffers → Buffers
+storedOf text limits ds s b =
+    record {
+      tokens = replicate (length (b .tokens)) zeroRow;
+      rows = rowsAfter (length (b .rows)) (textOf text limits);
+      calls = replicate (length (b .calls)) zeroRow;
+      sorts = padded zeroPair (length (b .sorts)) (sortRows (titlesOf ds .sorts));
+      symbols = padded zeroSymbol (length (b .symbols)) (symbolRows (titlesOf ds .symbols) (s .symbols));
+      rules = padded zeroRule (length (b .rules)) (ruleRows (titlesOf ds .rules) (s .rules) 0);
+      words = padded 0 (length (b .words)) (wordsFrom (s .rules) 0);
+      evals = padded zeroPair (length (b .evals)) (evalsFrom 0 ds);
+    }
+
 -- The signature s of the declarations ds was loaded.
-pub record LoadedInto (text : List ℕ) (limits : Limits) (b : Buffers) (ds : List Declared) (s : Signature) (r : Loading) (b′ : Buffers) : Type 0 where
-  -- How many words are in use, and how many of each kind there are.
-  pub used : ℕ
-  pub answer : r ≡ Entered (length ds) (length (evalsFrom 0 ds)) (record { sorts = length (s .sorts); symbols = length (s .symbols); rules = length (s .rules); words = used })
-  -- The rows and words denote the signature,
+pub record LoadedInto (text : List ℕ) (limits : Limits) (b : Buffers) (ds : List Declared) (s : Signature)
+    (r : Loading) (b′ : Buffers) : Type 0 where
+  -- How many declarations and waiting `#eval` there are, and how many of each kind are stored; and every buffer, whole.
+  pub answer : r ≡ Entered (length ds) (length (evalsFrom 0 ds))
+      (record {
+        sorts = length (s .sorts);
+        symbols = length (s .symbols);
+        rules = length (s .rules);
+        words = length (wordsFrom (s .rules) 0);
+      })
+  pub stored : b′ ≡ storedOf text limits ds s b
+  -- These rows and words denote the signature,
   pub sortsAre : sortsOf text (b′ .sorts) (length (s .sorts)) ≡ s .sorts
   pub symbolsAre : symbolsOf text (b′ .symbols) (length (s .symbols)) ≡ s .symbols
   pub rulesAre : rulesOf text (b′ .words) (b′ .rules) (length (s .rules)) ≡ s .rules
-  -- are in the listed form, which `check_signature` accepts,
-  pub listed : Listed text limits (b′ .sorts) (b′ .symbols) (b′ .rules) (b′ .words) (length (s .sorts)) (length (s .symbols)) (length (s .rules)) used
-  -- and are zero past the counts.
-  pub sortsClear : drop (length (s .sorts)) (b′ .sorts) ≡ replicate (length (b .sorts) - length (s .sorts)) zeroPair
-  pub symbolsClear : drop (length (s .symbols)) (b′ .symbols) ≡ replicate (length (b .symbols) - length (s .symbols)) zeroSymbol
-  pub rulesClear : drop (length (s .rules)) (b′ .rules) ≡ replicate (length (b .rules) - length (s .rules)) zeroRule
-  pub wordsClear : drop used (b′ .words) ≡ replicate (length (b .words) - used) 0
-  -- The declarations' rows stay, and each `#eval` waits with its line and the row of its term; the scratch is zero.
-  pub rows : b′ .rows ≡ rowsAfter (length (b .rows)) (textOf text limits)
-  pub evals : b′ .evals ≡ evalsFrom 0 ds ++ replicate (length (b .evals) - length (evalsFrom 0 ds)) zeroPair
-  pub tokens : b′ .tokens ≡ replicate (length (b .tokens)) zeroRow
-  pub calls : b′ .calls ≡ replicate (length (b .calls)) zeroRow
+  -- and are in the listed form, which `check_signature` accepts.
+  pub listed : Listed text limits (b′ .sorts) (b′ .symbols) (b′ .rules) (b′ .words)
+      (length (s .sorts)) (length (s .symbols)) (length (s .rules)) (length (wordsFrom (s .rules) 0))
 
 -- What is left of a text that is refused, by number and line, or loaded.
 abbrev pub Left : List ℕ → Limits → Buffers → List Declared → Loaded → Loading → Buffers → Type 0

@@ -115,7 +115,7 @@ declare-requires c κs =
       short = s;
       outLent = omega (arith, (loop .inv .6));
       callsLent = omega (arith, (loop .inv .7));
-      ready = ((args .limit), g .signature, g .held);
+      ready = ((args .limit), g .titles, g .signature, g .held);
       stand = d;
     }
 

@@ -4,6 +4,7 @@ use Prim.Native.Nat.{_-_}
 use lib.ListN.{length, take}
 use lib.Seq.{length-take-le}
 use Rattle.loader.specs.Signature.{loadOf}
+use Rattle.loader.specs.Stored.{titlesOf}
 use Rattle.load.specs.Load.{evalsFrom}
 use Rattle.load.specs.Loading.{Buffers}
 use Rattle.load.proofs.WalkLaws.{evals-few}
@@ -60,7 +61,7 @@ leave-requires c κs =
     let pre = c .before .before .before .before .before .before .before .before .before .before .before .before .before .before .before .before .before .before .before .before .before .before .before .before .before .before .before .before .before .before .pre in
     let enter-all = c .before .before .before .before .before .before .before .before .before .before .before .before .before .before .before .before .before .before .enter-all in
     let state = c .before .before .before .before .before .before .before .before .state in
-    let g = came-done (args .text .now) (args .limit) (evalsFrom 0 (pre .declared .0)) (enter-all .result) ((enter-all .last .1 .1 .1 .1 .0)) ((enter-all .last .1 .1 .1 .1 .1 .0)) ((enter-all .last .1 .1 .1 .1 .1 .1 .0)) ((enter-all .last .1 .1 .1 .1 .1 .1 .1 .0)) ((enter-all .last .1 .1 .1 .1 .1 .1 .1 .1 .0)) (loadOf (args .limit) (args .text .now) (pre .declared .0)) ((enter-all .ensures .same) (pre .declared .0) (part-is (args .used) (args .rows .now)
+    let g = came-done (args .text .now) (args .limit) (titlesOf (pre .declared .0)) (evalsFrom 0 (pre .declared .0)) (enter-all .result) ((enter-all .last .1 .1 .1 .1 .0)) ((enter-all .last .1 .1 .1 .1 .1 .0)) ((enter-all .last .1 .1 .1 .1 .1 .1 .0)) ((enter-all .last .1 .1 .1 .1 .1 .1 .1 .0)) ((enter-all .last .1 .1 .1 .1 .1 .1 .1 .1 .0)) (loadOf (args .limit) (args .text .now) (pre .declared .0)) ((enter-all .ensures .same) (pre .declared .0) (part-is (args .used) (args .rows .now)
     ∙ (pre .declared .1)) (pre .declared .2) (pre .declared .3)) (state .given .1) in
     let h = g .held in
     let a = h .names .fewSorts in
@@ -80,7 +81,7 @@ cast-t70 c =
     let pre = c .before .before .before .before .before .before .before .before .before .before .before .before .before .before .before .before .before .before .before .before .before .before .before .before .before .before .before .before .before .before .before .before .before .before .before .before .before .before .before .pre in
     let enter-all = c .before .before .before .before .before .before .before .before .before .before .before .before .before .before .before .before .before .before .before .before .before .before .before .before .before .before .before .enter-all in
     let state = c .before .before .before .before .before .before .before .before .before .before .before .before .before .before .before .before .before .state in
-    let g = came-done (args .text .now) (args .limit) (evalsFrom 0 (pre .declared .0)) (enter-all .result) ((enter-all .last .1 .1 .1 .1 .0)) ((enter-all .last .1 .1 .1 .1 .1 .0)) ((enter-all .last .1 .1 .1 .1 .1 .1 .0)) ((enter-all .last .1 .1 .1 .1 .1 .1 .1 .0)) ((enter-all .last .1 .1 .1 .1 .1 .1 .1 .1 .0)) (loadOf (args .limit) (args .text .now) (pre .declared .0)) ((enter-all .ensures .same) (pre .declared .0) (part-is (args .used) (args .rows .now)
+    let g = came-done (args .text .now) (args .limit) (titlesOf (pre .declared .0)) (evalsFrom 0 (pre .declared .0)) (enter-all .result) ((enter-all .last .1 .1 .1 .1 .0)) ((enter-all .last .1 .1 .1 .1 .1 .0)) ((enter-all .last .1 .1 .1 .1 .1 .1 .0)) ((enter-all .last .1 .1 .1 .1 .1 .1 .1 .0)) ((enter-all .last .1 .1 .1 .1 .1 .1 .1 .1 .0)) (loadOf (args .limit) (args .text .now) (pre .declared .0)) ((enter-all .ensures .same) (pre .declared .0) (part-is (args .used) (args .rows .now)
     ∙ (pre .declared .1)) (pre .declared .2) (pre .declared .3)) (state .given .1) in
     let m = g .number in
     let f = evals-few (pre .declared .0) 0 in
@@ -94,7 +95,7 @@ cast-t71 c =
     let pre = c .before .before .before .before .before .before .before .before .before .before .before .before .before .before .before .before .before .before .before .before .before .before .before .before .before .before .before .before .before .before .before .before .before .before .before .before .before .before .before .before .pre in
     let enter-all = c .before .before .before .before .before .before .before .before .before .before .before .before .before .before .before .before .before .before .before .before .before .before .before .before .before .before .before .before .enter-all in
     let state = c .before .before .before .before .before .before .before .before .before .before .before .before .before .before .before .before .before .before .state in
-    let g = came-done (args .text .now) (args .limit) (evalsFrom 0 (pre .declared .0)) (enter-all .result) ((enter-all .last .1 .1 .1 .1 .0)) ((enter-all .last .1 .1 .1 .1 .1 .0)) ((enter-all .last .1 .1 .1 .1 .1 .1 .0)) ((enter-all .last .1 .1 .1 .1 .1 .1 .1 .0)) ((enter-all .last .1 .1 .1 .1 .1 .1 .1 .1 .0)) (loadOf (args .limit) (args .text .now) (pre .declared .0)) ((enter-all .ensures .same) (pre .declared .0) (part-is (args .used) (args .rows .now)
+    let g = came-done (args .text .now) (args .limit) (titlesOf (pre .declared .0)) (evalsFrom 0 (pre .declared .0)) (enter-all .result) ((enter-all .last .1 .1 .1 .1 .0)) ((enter-all .last .1 .1 .1 .1 .1 .0)) ((enter-all .last .1 .1 .1 .1 .1 .1 .0)) ((enter-all .last .1 .1 .1 .1 .1 .1 .1 .0)) ((enter-all .last .1 .1 .1 .1 .1 .1 .1 .1 .0)) (loadOf (args .limit) (args .text .now) (pre .declared .0)) ((enter-all .ensures .same) (pre .declared .0) (part-is (args .used) (args .rows .now)
     ∙ (pre .declared .1)) (pre .declared .2) (pre .declared .3)) (state .given .1) in
     let a = g .held .names .fewSorts in
     omega arith
@@ -105,7 +106,7 @@ cast-t72 c =
     let pre = c .before .before .before .before .before .before .before .before .before .before .before .before .before .before .before .before .before .before .before .before .before .before .before .before .before .before .before .before .before .before .before .before .before .before .before .before .before .before .before .before .before .pre in
     let enter-all = c .before .before .before .before .before .before .before .before .before .before .before .before .before .before .before .before .before .before .before .before .before .before .before .before .before .before .before .before .before .enter-all in
     let state = c .before .before .before .before .before .before .before .before .before .before .before .before .before .before .before .before .before .before .before .state in
-    let g = came-done (args .text .now) (args .limit) (evalsFrom 0 (pre .declared .0)) (enter-all .result) ((enter-all .last .1 .1 .1 .1 .0)) ((enter-all .last .1 .1 .1 .1 .1 .0)) ((enter-all .last .1 .1 .1 .1 .1 .1 .0)) ((enter-all .last .1 .1 .1 .1 .1 .1 .1 .0)) ((enter-all .last .1 .1 .1 .1 .1 .1 .1 .1 .0)) (loadOf (args .limit) (args .text .now) (pre .declared .0)) ((enter-all .ensures .same) (pre .declared .0) (part-is (args .used) (args .rows .now)
+    let g = came-done (args .text .now) (args .limit) (titlesOf (pre .declared .0)) (evalsFrom 0 (pre .declared .0)) (enter-all .result) ((enter-all .last .1 .1 .1 .1 .0)) ((enter-all .last .1 .1 .1 .1 .1 .0)) ((enter-all .last .1 .1 .1 .1 .1 .1 .0)) ((enter-all .last .1 .1 .1 .1 .1 .1 .1 .0)) ((enter-all .last .1 .1 .1 .1 .1 .1 .1 .1 .0)) (loadOf (args .limit) (args .text .now) (pre .declared .0)) ((enter-all .ensures .same) (pre .declared .0) (part-is (args .used) (args .rows .now)
     ∙ (pre .declared .1)) (pre .declared .2) (pre .declared .3)) (state .given .1) in
     let a = g .held .names .fewSymbols in
     omega arith
@@ -116,7 +117,7 @@ cast-t73 c =
     let pre = c .before .before .before .before .before .before .before .before .before .before .before .before .before .before .before .before .before .before .before .before .before .before .before .before .before .before .before .before .before .before .before .before .before .before .before .before .before .before .before .before .before .before .pre in
     let enter-all = c .before .before .before .before .before .before .before .before .before .before .before .before .before .before .before .before .before .before .before .before .before .before .before .before .before .before .before .before .before .before .enter-all in
     let state = c .before .before .before .before .before .before .before .before .before .before .before .before .before .before .before .before .before .before .before .before .state in
-    let g = came-done (args .text .now) (args .limit) (evalsFrom 0 (pre .declared .0)) (enter-all .result) ((enter-all .last .1 .1 .1 .1 .0)) ((enter-all .last .1 .1 .1 .1 .1 .0)) ((enter-all .last .1 .1 .1 .1 .1 .1 .0)) ((enter-all .last .1 .1 .1 .1 .1 .1 .1 .0)) ((enter-all .last .1 .1 .1 .1 .1 .1 .1 .1 .0)) (loadOf (args .limit) (args .text .now) (pre .declared .0)) ((enter-all .ensures .same) (pre .declared .0) (part-is (args .used) (args .rows .now)
+    let g = came-done (args .text .now) (args .limit) (titlesOf (pre .declared .0)) (evalsFrom 0 (pre .declared .0)) (enter-all .result) ((enter-all .last .1 .1 .1 .1 .0)) ((enter-all .last .1 .1 .1 .1 .1 .0)) ((enter-all .last .1 .1 .1 .1 .1 .1 .0)) ((enter-all .last .1 .1 .1 .1 .1 .1 .1 .0)) ((enter-all .last .1 .1 .1 .1 .1 .1 .1 .1 .0)) (loadOf (args .limit) (args .text .now) (pre .declared .0)) ((enter-all .ensures .same) (pre .declared .0) (part-is (args .used) (args .rows .now)
     ∙ (pre .declared .1)) (pre .declared .2) (pre .declared .3)) (state .given .1) in
     let a = g .held .kept .fewRules in
     omega arith
@@ -127,7 +128,7 @@ cast-t74 c =
     let pre = c .before .before .before .before .before .before .before .before .before .before .before .before .before .before .before .before .before .before .before .before .before .before .before .before .before .before .before .before .before .before .before .before .before .before .before .before .before .before .before .before .before .before .before .pre in
     let enter-all = c .before .before .before .before .before .before .before .before .before .before .before .before .before .before .before .before .before .before .before .before .before .before .before .before .before .before .before .before .before .before .before .enter-all in
     let state = c .before .before .before .before .before .before .before .before .before .before .before .before .before .before .before .before .before .before .before .before .before .state in
-    let g = came-done (args .text .now) (args .limit) (evalsFrom 0 (pre .declared .0)) (enter-all .result) ((enter-all .last .1 .1 .1 .1 .0)) ((enter-all .last .1 .1 .1 .1 .1 .0)) ((enter-all .last .1 .1 .1 .1 .1 .1 .0)) ((enter-all .last .1 .1 .1 .1 .1 .1 .1 .0)) ((enter-all .last .1 .1 .1 .1 .1 .1 .1 .1 .0)) (loadOf (args .limit) (args .text .now) (pre .declared .0)) ((enter-all .ensures .same) (pre .declared .0) (part-is (args .used) (args .rows .now)
+    let g = came-done (args .text .now) (args .limit) (titlesOf (pre .declared .0)) (evalsFrom 0 (pre .declared .0)) (enter-all .result) ((enter-all .last .1 .1 .1 .1 .0)) ((enter-all .last .1 .1 .1 .1 .1 .0)) ((enter-all .last .1 .1 .1 .1 .1 .1 .0)) ((enter-all .last .1 .1 .1 .1 .1 .1 .1 .0)) ((enter-all .last .1 .1 .1 .1 .1 .1 .1 .1 .0)) (loadOf (args .limit) (args .text .now) (pre .declared .0)) ((enter-all .ensures .same) (pre .declared .0) (part-is (args .used) (args .rows .now)
     ∙ (pre .declared .1)) (pre .declared .2) (pre .declared .3)) (state .given .1) in
     let a = g .held .kept .fits in
     let m = (pre .limited) in
@@ -320,7 +321,7 @@ returns-2 c =
       evals = (enter-all .kept .1 .1 .1 .1 .1 .1 .1 .1 .0);
     } in
     record {
-      same = λ ds x y t. rows-done b m d l (args .text .now) (args .limit) ds (enter-all .result) (args .n) (loadOf (args .limit) (args .text .now) ds) (came-done (args .text .now) (args .limit) (evalsFrom 0 ds) (enter-all .result) ((enter-all .last .1 .1 .1 .1 .0)) ((enter-all .last .1 .1 .1 .1 .1 .0)) ((enter-all .last .1 .1 .1 .1 .1 .1 .0)) ((enter-all .last .1 .1 .1 .1 .1 .1 .1 .0)) ((enter-all .last .1 .1 .1 .1 .1 .1 .1 .1 .0)) (loadOf (args .limit) (args .text .now) ds) ((enter-all .ensures .same) ds (part-is (args .used) (args .rows .now)
+      same = λ ds x y t. rows-done b m d l (args .text .now) (args .limit) ds (enter-all .result) (args .n) (loadOf (args .limit) (args .text .now) ds) (came-done (args .text .now) (args .limit) (titlesOf ds) (evalsFrom 0 ds) (enter-all .result) ((enter-all .last .1 .1 .1 .1 .0)) ((enter-all .last .1 .1 .1 .1 .1 .0)) ((enter-all .last .1 .1 .1 .1 .1 .1 .0)) ((enter-all .last .1 .1 .1 .1 .1 .1 .1 .0)) ((enter-all .last .1 .1 .1 .1 .1 .1 .1 .1 .0)) (loadOf (args .limit) (args .text .now) ds) ((enter-all .ensures .same) ds (part-is (args .used) (args .rows .now)
           ∙ x) y t) (state .given .1)) refl (leave .ensures .0) (leave .ensures .1);
     }
 
