@@ -3,3 +3,5 @@ pub mod TermRows
 pub mod Walk
 pub mod LyingLaws
 pub mod WalkLaws
+pub mod TermLaws
+pub mod ParsedTerms
