@@ -3,7 +3,7 @@
 #![allow(dead_code)] // each program calls some of it
 
 use horn_oracle::tokens::Row;
-use horn_oracle::unify::Problem;
+use horn_oracle::unify::{Problem, ROOM};
 
 unsafe extern "C" {
     fn horn_lex(text: *const u8, text_length: usize, limit: u32, tokens: *mut Row, rows: usize) -> u64;
@@ -27,7 +27,6 @@ unsafe extern "C" {
         marks_rows: usize,
         stack: *mut [u32; 3],
         stack_rows: usize,
-        room: u32,
         variables: u32,
         used: u32,
         bound: u32,
@@ -45,7 +44,6 @@ unsafe extern "C" {
         marks_rows: usize,
         stack: *mut [u32; 3],
         stack_rows: usize,
-        room: u32,
         variables: u32,
         used: u32,
         bound: u32,
@@ -78,8 +76,8 @@ pub struct Storage {
 impl Storage {
     /// The bindings of a problem, entered in order; scratch as the contract asks.
     pub fn new(problem: &Problem) -> Storage {
-        let references = problem.room as usize + problem.words.len();
-        let mut bindings = vec![[0; 2]; problem.room as usize];
+        let references = ROOM as usize + problem.words.len();
+        let mut bindings = vec![[0; 2]; problem.variables as usize + 1];
         for (position, &(variable, reference)) in problem.bindings.iter().enumerate() {
             bindings[variable as usize][0] = reference + 1;
             bindings[position][1] = variable;
@@ -88,7 +86,7 @@ impl Storage {
             bindings,
             links: vec![[0; 2]; references],
             marks: vec![[0; 2]; references],
-            stack: vec![[0; 3]; references],
+            stack: vec![[0; 3]; problem.words.len() + 1],
         }
     }
 }
@@ -96,7 +94,6 @@ impl Storage {
 /// The counts and references of a call.
 #[derive(Clone)]
 pub struct Counts {
-    pub room: u32,
     pub variables: u32,
     pub used: u32,
     pub bound: u32,
@@ -108,7 +105,6 @@ impl Counts {
     pub fn new(problem: &Problem) -> Counts {
         let (used, bound) = (problem.words.len() as u32, problem.bindings.len() as u32);
         Counts {
-            room: problem.room,
             variables: problem.variables,
             used,
             bound,
@@ -137,7 +133,6 @@ macro_rules! call {
             marks.len(),
             stack.as_mut_ptr(),
             stack.len(),
-            counts.room,
             counts.variables,
             counts.used,
             counts.bound,

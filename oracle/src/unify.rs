@@ -5,16 +5,18 @@ use super::theory::prover;
 use crate::random::Random;
 use std::rc::Rc;
 
+/// The room for variables in stored words: a reference below it is a variable.
+pub const ROOM: u32 = 1 << 16;
+
 /// The least header of a node; all references are below it.
 const HEADERS: u32 = 1 << 20;
 
 /// Symbols with their number of arguments.
 const SYMBOLS: [(u32, usize); 6] = [(0, 0), (1, 0), (2, 1), (3, 2), (4, 2), (5, 3)];
 
-/// Two references to be unified, in stored words with room for `room` variables, under bindings in the order in which they were made.
+/// Two references to be unified, in stored words, under bindings in the order in which they were made.
 #[derive(Clone)]
 pub struct Problem {
-    pub room: u32,
     pub variables: u32,
     pub words: Vec<u32>,
     pub bindings: Vec<(u32, u32)>,
@@ -56,7 +58,7 @@ impl Problem {
         let bindings = prover.trail.iter().map(|&x| (x, prover.binding[x].clone().expect("bound"))).collect();
         let (left, right) = pair(random, variables, depth);
         let share = random.percent(50);
-        Problem::stored(Question { bindings, left, right }, variables, random.between(variables, 12) as u32, share)
+        Problem::stored(Question { bindings, left, right }, variables, share)
     }
 
     /// A term without variables, and the same with some of its parts replaced by a variable each, so that the two unify.
@@ -64,7 +66,7 @@ impl Problem {
         let left = ground(random, depth);
         let mut variables = 0;
         let right = opened(random, &left, &mut variables);
-        Problem::stored(Question { bindings: Vec::new(), left, right }, variables, variables as u32 + 1, false)
+        Problem::stored(Question { bindings: Vec::new(), left, right }, variables, false)
     }
 
     /// Two towers of 2^height leaves each, alike and with each level of each tower stored once.
@@ -75,20 +77,20 @@ impl Problem {
 
     /// The same for our side alone, of any height.
     pub fn stored_towers(height: usize) -> Problem {
-        let mut store = Store { room: 1, words: Vec::new(), seen: None };
+        let mut store = Store { words: Vec::new(), seen: None };
         let [left, right] = [(); 2].map(|()| {
             let leaf = store.node(0, &[]);
             (0..height).fold(leaf, |below, _| store.node(3, &[below, below]))
         });
         let question = Question { bindings: Vec::new(), left: T::V(0), right: T::V(0) };
-        Problem { room: 1, variables: 0, words: store.words, bindings: Vec::new(), left, right, question }
+        Problem { variables: 0, words: store.words, bindings: Vec::new(), left, right, question }
     }
 
-    fn stored(question: Question, variables: usize, room: u32, share: bool) -> Problem {
-        let mut store = Store { room, words: Vec::new(), seen: share.then(Vec::new) };
+    fn stored(question: Question, variables: usize, share: bool) -> Problem {
+        let mut store = Store { words: Vec::new(), seen: share.then(Vec::new) };
         let bindings = question.bindings.iter().map(|(x, t)| (*x as u32, store.term(t))).collect();
         let (left, right) = (store.term(&question.left), store.term(&question.right));
-        Problem { room, variables: variables as u32, words: store.words, bindings, left, right, question }
+        Problem { variables: variables as u32, words: store.words, bindings, left, right, question }
     }
 
     /// The original's answer.
@@ -107,10 +109,10 @@ impl Problem {
 
     /// What a reference stands for.
     pub fn read(&self, reference: u32) -> Raw {
-        if reference < self.room {
+        if reference < ROOM {
             return Raw::Variable(reference as usize);
         }
-        let at = (reference - self.room) as usize;
+        let at = (reference - ROOM) as usize;
         let header = self.words[at] - HEADERS;
         let arguments = &self.words[at + 1..at + 1 + (header % 32) as usize];
         Raw::Node(header / 32, arguments.iter().map(|&argument| self.read(argument)).collect())
@@ -143,7 +145,6 @@ fn raw(t: &T) -> Raw {
 
 /// Stored words; `seen` has the terms stored so far where equal terms are stored once.
 struct Store {
-    room: u32,
     words: Vec<u32>,
     seen: Option<Vec<(T, u32)>>,
 }
@@ -167,7 +168,7 @@ impl Store {
     }
 
     fn node(&mut self, symbol: u32, arguments: &[u32]) -> u32 {
-        let reference = self.room + self.words.len() as u32;
+        let reference = ROOM + self.words.len() as u32;
         self.words.push(HEADERS + symbol * 32 + arguments.len() as u32);
         self.words.extend(arguments);
         reference

@@ -6,6 +6,7 @@ use mathlib.Core.Bool.{Bool, true, false}
 use mathlib.Core.List.{List}
 use lib.Dec.{leb}
 use borrow.Author.Tests.{le-leb, lt-leb}
+use Rattle.arena.specs.Copies.{termRoom}
 use Rattle.arena.specs.Rows.{Rows}
 use Rattle.unifier.specs.Contracts.{Unified}
 use Rattle.unifier.specs.Checking.{form-few}
@@ -21,11 +22,11 @@ abbrev pub refusal : ℕ
 refusal = 1 * 2 ^ 32
 
 -- `unify` ended as its contract says, with this number for its answer.
-pub record UnifiedAs (N : ℕ) (w : List ℕ) (b b′ l l′ m m′ s s′ : Rows) (variables used k r t answer : ℕ) : Type 0 where
+pub record UnifiedAs (w : List ℕ) (b b′ l l′ m m′ s s′ : Rows) (variables used k r t answer : ℕ) : Type 0 where
   pub unified : Bool
   pub bound : ℕ
   pub packed : answer ≡ packedUnify unified bound
-  pub ended : Unified N w b b′ l l′ m m′ s s′ variables used k bound r t unified
+  pub ended : Unified termRoom w b b′ l l′ m m′ s s′ variables used k bound r t unified
 
 -- It was refused, and every buffer is as it was.
 pub record RefusedAs (b b′ l l′ m m′ s s′ : Rows) (answer : ℕ) : Type 0 where
@@ -36,21 +37,22 @@ pub record RefusedAs (b b′ l l′ m m′ s s′ : Rows) (answer : ℕ) : Type 
   pub stack : s′ ≡ s
 
 -- Storage that is what `unify` asks is unified over, and any other is refused.
-pub data Answered (N : ℕ) (w : List ℕ) (b b′ l l′ m m′ s s′ : Rows) (variables used k r t answer : ℕ) : Type 0 where
-  accepted : Ready N w b l m s variables used k r t → UnifiedAs N w b b′ l l′ m m′ s s′ variables used k r t answer
-      → Answered N w b b′ l l′ m m′ s s′ variables used k r t answer
-  refused : (Ready N w b l m s variables used k r t → ⊥) → RefusedAs b b′ l l′ m m′ s s′ answer → Answered N w b b′ l l′ m m′ s s′ variables used k r t answer
+pub data Answered (w : List ℕ) (b b′ l l′ m m′ s s′ : Rows) (variables used k r t answer : ℕ) : Type 0 where
+  accepted : Ready w b l m s variables used k r t → UnifiedAs w b b′ l l′ m m′ s s′ variables used k r t answer
+      → Answered w b b′ l l′ m m′ s s′ variables used k r t answer
+  refused : (Ready w b l m s variables used k r t → ⊥) → RefusedAs b b′ l l′ m m′ s s′ answer
+      → Answered w b b′ l l′ m m′ s s′ variables used k r t answer
 
 -- Laws
 
-module _ {N : ℕ} {w : List ℕ} {b b′ l l′ m m′ s s′ : Rows} {variables used k r t answer : ℕ} where
+module _ {w : List ℕ} {b b′ l l′ m m′ s s′ : Rows} {variables used k r t answer : ℕ} where
   -- By the storage alone it is known which of the two holds.
-  pub ready-answered : Answered N w b b′ l l′ m m′ s s′ variables used k r t answer → Ready N w b l m s variables used k r t
-      → UnifiedAs N w b b′ l l′ m m′ s s′ variables used k r t answer
+  pub ready-answered : Answered w b b′ l l′ m m′ s s′ variables used k r t answer → Ready w b l m s variables used k r t
+      → UnifiedAs w b b′ l l′ m m′ s s′ variables used k r t answer
   ready-answered (accepted h u) x = u
   ready-answered (refused n h) x = absurd (n x)
 
-  pub other-answered : Answered N w b b′ l l′ m m′ s s′ variables used k r t answer → (Ready N w b l m s variables used k r t → ⊥) → RefusedAs b b′ l l′ m m′ s s′ answer
+  pub other-answered : Answered w b b′ l l′ m m′ s s′ variables used k r t answer → (Ready w b l m s variables used k r t → ⊥) → RefusedAs b b′ l l′ m m′ s s′ answer
   other-answered (accepted h u) x = absurd (x h)
   other-answered (refused n h) x = h
 
@@ -63,8 +65,8 @@ packed-tells : (u : Bool) (n : ℕ) → n < 2 ^ 31 → u ≡ leb (2 ^ 31) (packe
 packed-tells true n h = sym (le-leb (2 ^ 31) (2 ^ 31 + n) (omega arith))
 packed-tells false n h = sym (lt-leb (2 ^ 31) n h)
 
-module _ {N : ℕ} {w : List ℕ} {b b′ l l′ m m′ s s′ : Rows} {variables used k r t answer : ℕ}
-    (h : UnifiedAs N w b b′ l l′ m m′ s s′ variables used k r t answer) where
+module _ {w : List ℕ} {b b′ l l′ m m′ s s′ : Rows} {variables used k r t answer : ℕ}
+    (h : UnifiedAs w b b′ l l′ m m′ s s′ variables used k r t answer) where
   few : h .bound < 2 ^ 31
   few =
       let f = h .ended .form in

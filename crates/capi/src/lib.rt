@@ -1,4 +1,5 @@
 // The functions that programs in other languages call: numbers, byte slices and rows.
+use arena::TERM_ROOM;
 ghost use mathlib.Core.Path.{_≡_};
 ghost use Prim.Native.Nat.{_≤_};
 ghost use mathlib.Core.Bool.{cond};
@@ -155,14 +156,13 @@ pub extern "C" fn horn_unify(
     links: &mut [[u32; 2]],
     marks: &mut [[u32; 2]],
     stack: &mut [[u32; 3]],
-    room: u32,
     variables: u32,
     used: u32,
     bound: u32,
     left: u32,
     right: u32,
 ) -> u64
-    ensures { λ r. ⌜ Answered room (now (words .entry)) (now (bindings .entry)) (now (bindings .exit)) (now (links .entry)) (now (links .exit))
+    ensures { λ r. ⌜ Answered (now (words .entry)) (now (bindings .entry)) (now (bindings .exit)) (now (links .entry)) (now (links .exit))
         (now (marks .entry)) (now (marks .exit)) (now (stack .entry)) (now (stack .exit)) variables used bound left right r ⌝ }
 {
     if !checks::is_ready(
@@ -171,7 +171,6 @@ pub extern "C" fn horn_unify(
         links,
         marks,
         stack,
-        room,
         variables,
         used,
         bound,
@@ -186,7 +185,7 @@ pub extern "C" fn horn_unify(
         links,
         marks,
         stack,
-        room,
+        TERM_ROOM,
         variables,
         used,
         bound,

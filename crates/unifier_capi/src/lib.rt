@@ -1,5 +1,7 @@
 // `unifier::unify` for programs in other languages that see to what it asks, as the measurements of its speed do. `capi::horn_unify` is the one for users.
+use arena::TERM_ROOM;
 ghost use Rattle.arena.specs.Cells.{cells, Reference};
+ghost use Rattle.arena.specs.Copies.{termRoom};
 ghost use Rattle.unifier.specs.Contracts.{Scratch};
 ghost use Rattle.unifier.specs.Stored.{Form};
 ghost use Rattle.capi.specs.Unification.{UnifiedAs};
@@ -12,17 +14,17 @@ pub extern "C" fn horn_unify_unchecked(
     links: &mut [[u32; 2]],
     marks: &mut [[u32; 2]],
     stack: &mut [[u32; 3]],
-    room: u32,
     variables: u32,
     used: u32,
     bound: u32,
     left: u32,
     right: u32,
 ) -> u64
-    requires { ⌜ Form room (now words) (now bindings) variables used bound ⌝
-        ∗ ⌜ (Reference room (cells (now words)) variables used left) × (Reference room (cells (now words)) variables used right) ⌝
-        ∗ ⌜ Scratch room used (now links) (now marks) (now stack) ⌝ }
-    ensures { λ r. ⌜ UnifiedAs room (now (words .entry)) (now (bindings .entry)) (now (bindings .exit)) (now (links .entry)) (now (links .exit))
+    requires { ⌜ Form termRoom (now words) (now bindings) variables used bound ⌝
+        ∗ ⌜ (Reference termRoom (cells (now words)) variables used left)
+        × (Reference termRoom (cells (now words)) variables used right) ⌝
+        ∗ ⌜ Scratch termRoom used (now links) (now marks) (now stack) ⌝ }
+    ensures { λ r. ⌜ UnifiedAs (now (words .entry)) (now (bindings .entry)) (now (bindings .exit)) (now (links .entry)) (now (links .exit))
         (now (marks .entry)) (now (marks .exit)) (now (stack .entry)) (now (stack .exit)) variables used bound left right r ⌝ }
 {
     let ended = unifier::unify(
@@ -31,7 +33,7 @@ pub extern "C" fn horn_unify_unchecked(
         links,
         marks,
         stack,
-        room,
+        TERM_ROOM,
         variables,
         used,
         bound,

@@ -4,7 +4,7 @@
 mod ours;
 
 use horn_oracle::random::Random;
-use horn_oracle::unify::{Problem, Unified};
+use horn_oracle::unify::{Problem, ROOM, Unified};
 use ours::{Counts, Storage};
 
 /// The header of a node with one argument.
@@ -66,16 +66,16 @@ fn answer(problem: &Problem) -> Unified {
 /// Whether storage that is not in form is refused, and every buffer is as it was.
 fn refused(problem: &Problem, damage: usize) -> bool {
     let (mut words, mut before, mut counts) = (problem.words.clone(), Storage::new(problem), Counts::new(problem));
-    let (end, last) = (problem.room + counts.used, before.links.len() - 1);
+    let (end, last) = (ROOM + counts.used, before.links.len() - 1);
     match damage {
         0 => before.links[last][0] = 1,
         1 => before.marks[last][1] = 1,
-        2 => before.stack[last][2] = 1,
+        2 => before.stack[counts.used as usize][2] = 1,
         3 => counts.left = end,
         4 => counts.right = u32::MAX,
         5 => counts.used += 1,
         6 => counts.bound += 1,
-        7 => counts.variables = problem.room + 1,
+        7 => counts.variables = ROOM + 1,
         8 => before.bindings[0] = [end + 1, before.bindings[0][1]],
         9 => _ = before.links.pop(),
         10 => {
@@ -84,7 +84,7 @@ fn refused(problem: &Problem, damage: usize) -> bool {
             before.links.push([0; 2]);
             before.marks.push([0; 2]);
         }
-        _ => counts.room = u32::MAX,
+        _ => counts.used = u32::MAX,
     }
     let mut storage = before.clone();
     ours::unify(&words, &mut storage, &counts) == ours::REFUSED && storage == before
