@@ -9,9 +9,9 @@ use lib.Seq.{sets}
 use Rattle.arena.specs.Cells.{headers}
 use Rattle.arena.specs.Copies.{termRoom, copied, Copyable}
 use Rattle.arena.specs.Rows.{Rows}
-use Rattle.unifier.specs.Tables.{undone}
-use Rattle.unifier.specs.Contracts.{Undoable}
-use Rattle.unifier.specs.Holding.{form-undoable}
+use Rattle.bindings.specs.Tables.{undone}
+use Rattle.bindings.specs.Contracts.{Undoable}
+use Rattle.bindings.specs.Holding.{form-undoable}
 use Rattle.resolution.specs.Search.{within, over}
 use Rattle.attempts.specs.Contracts.{BodyAsked, BodyTried}
 use Rattle.attempts.specs.Parts.{copyable, copied-kept, copied-long, copied-held, copied-form, copied-grown, copied-reference, copied-denotes}

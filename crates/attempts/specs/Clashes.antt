@@ -15,8 +15,8 @@ use Rattle.terms.specs.Robinson.{Unified, unify-ok}
 use Rattle.arena.specs.Cells.{headers, Cells, symbolOf, arityOf, args, denote, Reference, WellFormed, denote-node, reference-argument, cells}
 use Rattle.arena.specs.Copies.{patternRoom, termRoom}
 use Rattle.arena.specs.Rows.{Rows}
-use Rattle.unifier.specs.Stored.{held, Form}
-use Rattle.unifier.specs.Contracts.{Walked}
+use Rattle.bindings.specs.Stored.{held, Form}
+use Rattle.bindings.specs.Contracts.{Walked}
 use Rattle.attempts.specs.StoredRules.{patternOf, Part, Root}
 
 -- Nothing that agrees with the bindings makes the terms equal.

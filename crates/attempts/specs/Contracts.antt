@@ -11,8 +11,8 @@ use Rattle.arena.specs.Cells.{headers, denote, Reference, Same, cells, termsOf}
 use Rattle.arena.specs.Copies.{patternRoom, termRoom, numbered, moved}
 use Rattle.arena.specs.Form.{inForm}
 use Rattle.arena.specs.Rows.{Rows, column}
-use Rattle.unifier.specs.Tables.{undone}
-use Rattle.unifier.specs.Stored.{held, Form}
+use Rattle.bindings.specs.Tables.{undone}
+use Rattle.bindings.specs.Stored.{held, Form}
 use Rattle.unifier.specs.Contracts.{Scratch}
 use Rattle.resolution.specs.Rules.{Rule}
 use Rattle.resolution.specs.Fresh.{body}

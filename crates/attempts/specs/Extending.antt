@@ -11,11 +11,11 @@ use Rattle.arena.specs.Cells.{headers, Cells, denote, Same, frame-denote, cells
 use Rattle.arena.specs.NodeLaws.{formed-same, formed-up}
 use Rattle.arena.specs.Rows.{Rows, column}
 use Rattle.acyclicity.specs.Contract.{bindingOf}
-use Rattle.unifier.specs.Tables.{Empty}
-use Rattle.unifier.specs.Stored.{bindings, held, Form}
+use Rattle.bindings.specs.Tables.{Empty}
+use Rattle.bindings.specs.Stored.{bindings, held, Form}
 use Rattle.unifier.specs.Contracts.{Scratch}
-use Rattle.unifier.specs.Holding.{form-holds, bindings-low}
-use Rattle.unifier.specs.Growth.{form-grows}
+use Rattle.bindings.specs.Holding.{form-holds, bindings-low}
+use Rattle.bindings.specs.Growth.{form-grows}
 
 -- Bindings to references that denote the same in both words.
 bindings-kept : (N : ℕ) (w w′ values trail : Cells) (variables k : ℕ) → ((v r : ℕ) → v < variables → values v ≡ suc r → denote N w′ r ≡ denote N w r)

@@ -16,7 +16,7 @@ use Rattle.arena.specs.Cells.{headers, denote, Reference, Same, reference-up, f
 use Rattle.arena.specs.NodeLaws.{reference-same}
 use Rattle.arena.specs.Copies.{termRoom, copied, numbered, Copyable, Movable, patternRoom}
 use Rattle.arena.specs.Rows.{Rows}
-use Rattle.unifier.specs.Stored.{held, Form}
+use Rattle.bindings.specs.Stored.{held, Form}
 use Rattle.unifier.specs.Contracts.{Scratch, Unified, outcome}
 use Rattle.resolution.specs.Search.{within, over}
 use Rattle.attempts.specs.Contracts.{HeadAsked, HeadTried, instance, copiedAt}

@@ -7,12 +7,12 @@ use lib.ListN.{length}
 use Rattle.arena.specs.Cells.{denote, Reference, Same, frame-denote, cells}
 use Rattle.arena.specs.Copies.{termRoom}
 use Rattle.arena.specs.Rows.{Rows, column}
-use Rattle.unifier.specs.Tables.{undone}
-use Rattle.unifier.specs.Stored.{held, Form}
+use Rattle.bindings.specs.Tables.{undone}
+use Rattle.bindings.specs.Stored.{held, Form}
 use Rattle.unifier.specs.Contracts.{Scratch}
-use Rattle.unifier.specs.Holding.{bindings-same, form-holds}
-use Rattle.unifier.specs.Growth.{undone-marks}
-use Rattle.unifier.specs.TableLaws.{undone-none}
+use Rattle.bindings.specs.Holding.{bindings-same, form-holds}
+use Rattle.bindings.specs.Growth.{undone-marks}
+use Rattle.bindings.specs.TableLaws.{undone-none}
 use Rattle.attempts.specs.Contracts.{State, Asked, Added, Attempted}
 use Rattle.attempts.specs.Extending.{held-older}
 use Rattle.attempts.specs.declared.Stored.{Stored}

@@ -15,7 +15,7 @@ use Rattle.arena.specs.Copies.{patternRoom, termRoom, numbered}
 use Rattle.arena.specs.Form.{inForm}
 use Rattle.arena.specs.FormKept.{form-same}
 use Rattle.arena.specs.Rows.{Rows}
-use Rattle.unifier.specs.Stored.{held, Form}
+use Rattle.bindings.specs.Stored.{held, Form}
 use Rattle.resolution.specs.Rules.{Rule}
 use Rattle.resolution.specs.Fresh.{allVars, head, body}
 use Rattle.resolution.specs.Search.{words, within, over, Attempt, exceeded, missed, entered, guard, unifying, attempt}

@@ -13,8 +13,8 @@ use Rattle.arena.specs.CopyLaws.{inst-frame, inst-formed, inst-reference, inst-
 use Rattle.arena.specs.Form.{inForm}
 use Rattle.arena.specs.FormKept.{inst-form}
 use Rattle.arena.specs.Rows.{Rows}
-use Rattle.unifier.specs.Stored.{held, Form}
-use Rattle.unifier.specs.Growth.{form-grows}
+use Rattle.bindings.specs.Stored.{held, Form}
+use Rattle.bindings.specs.Growth.{form-grows}
 use Rattle.attempts.specs.StoredRules.{patternOf, Part, Root}
 use Rattle.attempts.specs.Contracts.{copiedAt, GrownInForm}
 use Rattle.attempts.specs.Extending.{held-kept}

@@ -10,9 +10,9 @@ use arena::SYMBOL_STEP;
 use arena::TERM_ROOM;
 use arena::inst;
 use arena::moved_word;
-use unifier::undo;
+use bindings::undo;
+use bindings::walk;
 use unifier::unify;
-use unifier::walk;
 
 // A stored rule: where its words start among the pattern's, how many its conclusion takes and how many its premises before them, the reference of its
 // conclusion, and how many variables are met in the conclusion and in all.

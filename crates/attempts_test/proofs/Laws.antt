@@ -4,7 +4,7 @@ use mathlib.Core.Path.{_≡_, sym}
 use mathlib.Core.List.{List}
 use Rattle.arena.specs.Copies.{termRoom}
 use Rattle.arena.specs.Rows.{Rows}
-use Rattle.unifier.specs.Stored.{Form}
+use Rattle.bindings.specs.Stored.{Form}
 use Rattle.attempts.specs.Contracts as contracts
 use Rattle.checks.specs.ReadyLaws.{scratch-kept}
 use Rattle.attempts_test.specs.Told.{Room}

@@ -5,7 +5,7 @@ use mathlib.Core.Bool.{Bool, true, false}
 use mathlib.Core.List.{List}
 use Rattle.arena.specs.Copies.{termRoom}
 use Rattle.arena.specs.Rows.{Rows}
-use Rattle.unifier.specs.Checking.{tells-false}
+use Rattle.bindings.specs.Checking.{tells-false}
 use Rattle.checks.specs.Ready.{ReadyTold}
 use Rattle.unifier.specs.Contracts.{Unified}
 use Rattle.capi.specs.Unification.{packedUnify, refusal, UnifiedAs, Answered, accepted, refused}

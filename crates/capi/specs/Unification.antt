@@ -9,7 +9,7 @@ use borrow.Author.Tests.{le-leb, lt-leb}
 use Rattle.arena.specs.Copies.{termRoom}
 use Rattle.arena.specs.Rows.{Rows}
 use Rattle.unifier.specs.Contracts.{Unified}
-use Rattle.unifier.specs.Checking.{form-few}
+use Rattle.bindings.specs.Checking.{form-few}
 use Rattle.checks.specs.Ready.{Ready}
 
 -- How many variables are bound, and 2^31 more where the terms unify; fewer than 2^31 are bound (`answer-low`, `answer-tells`).

@@ -6,14 +6,14 @@ use mathlib.Core.Bool.{Bool, false}
 use mathlib.Core.List.{List, [], _∷_}
 use lib.ListN.{getD, length}
 use Rattle.arena.specs.Cells.{cells, Reference}
-use Rattle.unifier.specs.Orders.{by-order}
+use Rattle.bindings.specs.Orders.{by-order}
 use Rattle.arena.specs.Copies.{termRoom}
 use Rattle.arena.specs.Rows.{Rows}
-use Rattle.unifier.specs.Tables.{Empty}
-use Rattle.unifier.specs.TableLaws.{column-past}
-use Rattle.unifier.specs.Stored.{Form}
-use Rattle.unifier.specs.Contracts.{Tells, BindingsChecked}
-use Rattle.unifier.specs.Checking.{tells-no}
+use Rattle.bindings.specs.Tables.{Empty}
+use Rattle.bindings.specs.TableLaws.{column-past}
+use Rattle.bindings.specs.Stored.{Form}
+use Rattle.bindings.specs.Contracts.{Tells, BindingsChecked}
+use Rattle.bindings.specs.Checking.{tells-no}
 use Rattle.checks.specs.ReadyLaws.{zeros-free}
 use Rattle.checks.specs.Ready.{ZeroRow, Zeros, Stored, Formed, FormTold, Ready, ReadyTold}
 

@@ -7,9 +7,10 @@ use lib.ListN.{getD, length}
 use Rattle.arena.specs.Cells.{Cells, cells, headers, arityOf, Reference, WellFormed}
 use Rattle.arena.specs.Copies.{termRoom}
 use Rattle.arena.specs.Rows.{Rows}
-use Rattle.unifier.specs.Tables.{Empty}
-use Rattle.unifier.specs.Stored.{Form}
-use Rattle.unifier.specs.Contracts.{Free, Scratch, Tells}
+use Rattle.bindings.specs.Tables.{Empty}
+use Rattle.bindings.specs.Stored.{Form}
+use Rattle.bindings.specs.Contracts.{Free, Tells}
+use Rattle.unifier.specs.Contracts.{Scratch}
 
 -- Every number of the row is 0.
 abbrev pub ZeroRow : List ℕ → Type 0

@@ -2,7 +2,8 @@
 use Prim.Native.Nat.{ℕ, _+_}
 use mathlib.Core.Path.{_≡_, sym, subst}
 use Rattle.arena.specs.Rows.{Rows}
-use Rattle.unifier.specs.Contracts.{Free, Scratch}
+use Rattle.bindings.specs.Contracts.{Free}
+use Rattle.unifier.specs.Contracts.{Scratch}
 use Rattle.checks.specs.Ready.{Zeros}
 
 pub zeros-free : {N used : ℕ} {rows : Rows} → Zeros rows (N + used) → Free N used rows

@@ -26,7 +26,7 @@ pub fn is_form(
     if !are_zero_pairs(marks, (TERM_ROOM + used) as usize) {
         return false;
     }
-    unifier::check_bindings(words, bindings, marks, TERM_ROOM, variables, used, bound)
+    bindings::check_bindings(words, bindings, marks, TERM_ROOM, variables, used, bound)
 }
 
 // Whether storage and two references are what `unifier::unify` asks; the marks are left as they are.

@@ -6,7 +6,7 @@ ghost use Prim.Native.Nat.{_+_, _<_, _≤_};
 ghost use lib.ListN.{length};
 ghost use Rattle.arena.specs.Cells.{cells, headers, Reference, WellFormed};
 ghost use Rattle.arena.specs.Copies.{termRoom};
-ghost use Rattle.unifier.specs.Contracts.{Tells};
+ghost use Rattle.bindings.specs.Contracts.{Tells};
 ghost use Rattle.checks.specs.Ready.{NodeFormed, Stored};
 
 // Whether a reference is a variable in use, or a node whose address is before `end`.

@@ -1,5 +1,5 @@
 // Whether scratch is zero.
-ghost use Rattle.unifier.specs.Contracts.{Tells};
+ghost use Rattle.bindings.specs.Contracts.{Tells};
 ghost use Rattle.checks.specs.Ready.{ZeroRow, Zeros};
 
 // Whether a row of two numbers is zero.

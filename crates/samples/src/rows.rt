@@ -4,7 +4,7 @@ ghost use mathlib.Core.List.{[], _∷_};
 ghost use lib.ListN.{set};
 ghost use Rattle.arena.specs.Rows.{column};
 ghost use Rattle.samples.specs.Same.{Same};
-ghost use Rattle.unifier.specs.Contracts.{Tells};
+ghost use Rattle.bindings.specs.Contracts.{Tells};
 
 // Writes a row, unless there is no such place.
 pub fn put(rows: &mut [[u32; 2]], at: u32, value: u32, listed: u32)

@@ -3,7 +3,7 @@ use super::report;
 use super::rows;
 use arena::TERM_ROOM;
 ghost use Rattle.samples.specs.Same.{Clean};
-ghost use Rattle.unifier.specs.Contracts.{Tells};
+ghost use Rattle.bindings.specs.Contracts.{Tells};
 
 // The counts of storage, and two references.
 pub struct Case {
@@ -107,7 +107,7 @@ pub fn ask(words: &[u32], bindings: &[[u32; 2]], marks: &mut [[u32; 2]], case: C
     if bindings[x as usize][0] != 0 {
         return Found::NotReady;
     }
-    let answer = unifier::occurs(
+    let answer = bindings::occurs(
         words,
         bindings,
         marks,
@@ -138,7 +138,15 @@ pub fn check(words: &[u32], bindings: &[[u32; 2]], marks: &mut [[u32; 2]], case:
     if !checks::are_zero_pairs(marks, (TERM_ROOM + used) as usize) {
         return Found::NotReady;
     }
-    let answer = unifier::check_bindings(words, bindings, marks, TERM_ROOM, variables, used, bound);
+    let answer = bindings::check_bindings(
+        words,
+        bindings,
+        marks,
+        TERM_ROOM,
+        variables,
+        used,
+        bound,
+    );
     if !checks::are_zero_pairs(marks, 0) {
         return Found::ScratchLeft;
     }
@@ -165,7 +173,7 @@ pub fn take_back(
     if bound < mark {
         return false;
     }
-    unifier::undo(bindings, bound, mark);
+    bindings::undo(bindings, bound, mark);
     checks::are_zero_pairs(marks, 0)
 }
 

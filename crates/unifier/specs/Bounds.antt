@@ -12,8 +12,8 @@ use Rattle.terms.specs.Bindings.{Bindings, full}
 use Rattle.terms.specs.Unification.{Eqn}
 use Rattle.terms.specs.BindingLaws.{full-solves}
 use Rattle.arena.specs.Cells.{Cells, denote}
-use Rattle.unifier.specs.Orders.{by-order, pigeonhole}
-use Rattle.unifier.specs.Entries.{zeros, zeros-less}
+use Rattle.bindings.specs.Orders.{by-order, pigeonhole}
+use Rattle.bindings.specs.Entries.{zeros, zeros-less}
 use Rattle.unifier.specs.Pairs.{Stack, bottom, pair, State}
 
 -- Twice the arguments not taken, of the first d open pairs.

@@ -7,10 +7,11 @@ use mathlib.Core.List.{List}
 use lib.ListN.{length}
 use Rattle.arena.specs.Cells.{cells, arityOf}
 use Rattle.arena.specs.Rows.{Rows, column}
-use Rattle.unifier.specs.Stored.{Form, WalksTo, LeadsTo}
-use Rattle.unifier.specs.Contracts.{Walked, Ways, Alike, met, constants, linked, Opening}
+use Rattle.bindings.specs.Stored.{Form, WalksTo}
+use Rattle.unifier.specs.Contracts.{LeadsTo, Ways, Alike, met, constants, linked, Opening}
+use Rattle.bindings.specs.Contracts.{Walked}
 use Rattle.unifier.specs.Linking.{leads-one}
-use Rattle.unifier.specs.Search.{reference-low}
+use Rattle.bindings.specs.Search.{reference-low}
 
 module _ {N : ℕ} {w : List ℕ} {b : Rows} {variables used k x y p q : ℕ} (vx : Walked N w b variables used k x p) (vy : Walked N w b variables used k y q) where
   pub ways : Ways N b x y p q

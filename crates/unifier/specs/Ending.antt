@@ -9,13 +9,14 @@ use lib.ListN.{getD, length, set, length-set}
 use lib.Seq.{getD-set-same, getD-set-other, ext-getD}
 use Rattle.terms.specs.Numbers.{true-false}
 use Rattle.arena.specs.Rows.{Rows, column}
-use Rattle.unifier.specs.Tables.{undone}
-use Rattle.unifier.specs.Stored.{held, Form}
-use Rattle.unifier.specs.Contracts.{Undoable, Unified, cleared}
-use Rattle.unifier.specs.Orders.{by-order}
-use Rattle.unifier.specs.TableLaws.{undone-none}
-use Rattle.unifier.specs.Entries.{entries-undoable}
-use Rattle.unifier.specs.Holding.{form-undoable}
+use Rattle.bindings.specs.Tables.{undone}
+use Rattle.bindings.specs.Stored.{held, Form}
+use Rattle.bindings.specs.Contracts.{Undoable}
+use Rattle.unifier.specs.Contracts.{Unified, cleared}
+use Rattle.bindings.specs.Orders.{by-order}
+use Rattle.bindings.specs.TableLaws.{undone-none}
+use Rattle.bindings.specs.Entries.{entries-undoable}
+use Rattle.bindings.specs.Holding.{form-undoable}
 use Rattle.unifier.specs.Equating.{StackedFrom, Equated, whole}
 
 cleared-long : (s : Rows) (d : ℕ) → length (cleared s d) ≡ length s

@@ -15,15 +15,16 @@ use Rattle.terms.specs.Unification.{Outcome, unify}
 use Rattle.terms.specs.Loops.{occurs-var}
 use Rattle.arena.specs.Cells.{Cells, cells, headers, arityOf, denote, Reference, WellFormed, denote-variable}
 use Rattle.arena.specs.Rows.{Rows, column}
-use Rattle.unifier.specs.Tables.{Empty, undone}
-use Rattle.unifier.specs.Stored.{held, Form, free, LeadsTo}
-use Rattle.unifier.specs.Contracts.{Entered, Free, Falling, Ways, Alike, met, constants, linked, Binding, ofFirst, ofSecond, Clashing, inFirst, inSecond, heads, Says, Joined, outcome}
+use Rattle.bindings.specs.Tables.{Empty, undone}
+use Rattle.bindings.specs.Stored.{held, Form, free}
+use Rattle.unifier.specs.Contracts.{LeadsTo, Falling, Ways, Alike, met, constants, linked, Binding, ofFirst, ofSecond, Clashing, inFirst, inSecond, heads, Says, Joined, outcome}
+use Rattle.bindings.specs.Contracts.{Entered, Free}
 use Rattle.unifier.specs.declared.Decision.the-variants.{Same, Bind, Open, Clash}
-use Rattle.unifier.specs.Orders.{by-order, low-or-high, not-zero, put, put-at, put-off}
-use Rattle.unifier.specs.TableLaws.{Changed, column-same, column-other, undone-none}
-use Rattle.unifier.specs.Entries.{Entries, entries-none, entries-room, entries-more, enter-changed, enter-back}
-use Rattle.unifier.specs.Holding.{Holds, form-holds, walks, walks-ref, walks-end, bindings-more, trail-in}
-use Rattle.unifier.specs.Search.{reference-low, undone-zero}
+use Rattle.bindings.specs.Orders.{by-order, low-or-high, not-zero, put, put-at, put-off}
+use Rattle.bindings.specs.TableLaws.{Changed, column-same, column-other, undone-none}
+use Rattle.bindings.specs.Entries.{Entries, entries-none, entries-room, entries-more, enter-changed, enter-back}
+use Rattle.bindings.specs.Holding.{Holds, form-holds, walks, walks-ref, walks-end, bindings-more, trail-in}
+use Rattle.bindings.specs.Search.{reference-low, undone-zero}
 use Rattle.unifier.specs.Linking.{lead-is}
 use Rattle.unifier.specs.Pairs.{EqualUnder, OpenPair, Pending, Resuming, stack-same}
 use Rattle.unifier.specs.Steps.{leads-eq, leads-ref, leads-root, skip-constants, skip-linked, bind-first, bind-second, open-pair, occurs-in-first, occurs-in-second, heads-differ}

@@ -1,15 +1,6 @@
 -- Unification over stored terms, in reading order. Definitions:
-pub mod Tables
-pub mod Stored
 pub mod Contracts
 -- Laws, in the order in which they are needed:
-pub mod Orders
-pub mod TableLaws
-pub mod Entries
-pub mod Holding
-pub mod Walking
-pub mod Occurrence
-pub mod Search
 pub mod Linking
 pub mod Deciding
 pub mod Pairs
@@ -18,6 +9,5 @@ pub mod Turns
 pub mod Bounds
 pub mod Equating
 pub mod Ending
+-- What callers need of `bindings`:
 pub mod Checking
--- What callers need of it:
-pub mod Growth

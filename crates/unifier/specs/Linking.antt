@@ -7,9 +7,9 @@ use lib.ListN.{length}
 use Rattle.terms.specs.Numbers.{by-same}
 use Rattle.arena.specs.Cells.{Cells}
 use Rattle.arena.specs.Rows.{Rows, column}
-use Rattle.unifier.specs.Stored.{LeadsTo, stay, go}
-use Rattle.unifier.specs.Contracts.{Falling, Entered, Joined}
-use Rattle.unifier.specs.Orders.{by-order, not-zero}
+use Rattle.unifier.specs.Contracts.{LeadsTo, stay, go, Falling, Joined}
+use Rattle.bindings.specs.Contracts.{Entered}
+use Rattle.bindings.specs.Orders.{by-order, not-zero}
 
 -- There is one root.
 pub leads-one : {links : Cells} {a p q : ℕ} → LeadsTo links a p → LeadsTo links a q → p ≡ q

@@ -10,8 +10,8 @@ use Rattle.terms.specs.Bindings.{Bindings, bind, walk, Acyclic, Solves}
 use Rattle.terms.specs.Unification.{Eqn, eqn, eqns, Outcome, unifies, BelowE}
 use Rattle.terms.specs.BindingLaws.{solves-walk}
 use Rattle.arena.specs.Cells.{Cells, symbolOf, arityOf, args, denote, Reference, WellFormed, denote-node}
-use Rattle.unifier.specs.Stored.{LeadsTo, go}
-use Rattle.unifier.specs.Holding.{Holds}
+use Rattle.unifier.specs.Contracts.{LeadsTo, go}
+use Rattle.bindings.specs.Holding.{Holds}
 
 -- Equal for whatever agrees with the bindings.
 abbrev pub EqualUnder : Bindings → Term → Term → Type 0

@@ -16,9 +16,10 @@ use Rattle.terms.specs.UnificationLaws.{Answers, Over, unifies-ok, unifies-over
 use Rattle.terms.specs.Loops.{Next, unify-next}
 use Rattle.terms.specs.Skips.{skips}
 use Rattle.arena.specs.Cells.{Cells, headers, symbolOf, arityOf, args, denote, Reference, denote-node, denote-variable, below-denote}
-use Rattle.unifier.specs.Orders.{by-order, low-or-high}
-use Rattle.unifier.specs.Stored.{WalksTo, LeadsTo, stay, go}
-use Rattle.unifier.specs.Holding.{walks, walks-ref, walks-end, bindings-more}
+use Rattle.bindings.specs.Orders.{by-order, low-or-high}
+use Rattle.bindings.specs.Stored.{WalksTo}
+use Rattle.unifier.specs.Contracts.{LeadsTo, stay, go}
+use Rattle.bindings.specs.Holding.{walks, walks-ref, walks-end, bindings-more}
 use Rattle.unifier.specs.Pairs.{EqualUnder, argumentsFrom, pair, State, Pending, Resuming, walked, stack-equal, stack-bind, stack-same}
 
 module _ (N : ℕ) where

@@ -12,9 +12,10 @@ use Rattle.terms.specs.Unification.{Eqn, eqn, eqns, Outcome, unified, unifies, 
 use Rattle.terms.specs.BindingLaws.{full-solves}
 use Rattle.terms.specs.Loops.{unify-next}
 use Rattle.arena.specs.Cells.{Cells, arityOf, denote, Reference, WellFormed, reference-argument}
-use Rattle.unifier.specs.Orders.{by-order}
-use Rattle.unifier.specs.Stored.{bindings, LeadsTo, stay, go}
-use Rattle.unifier.specs.Holding.{Holds}
+use Rattle.bindings.specs.Orders.{by-order}
+use Rattle.bindings.specs.Stored.{bindings}
+use Rattle.unifier.specs.Contracts.{LeadsTo, stay, go}
+use Rattle.bindings.specs.Holding.{Holds}
 use Rattle.unifier.specs.Pairs.{EqualUnder, argumentsFrom, argumentAt, OpenPair, Stack, bottom, pair, Pending, Resuming, stack-same, arguments-cons, arguments-nil, argument-less, all-equal}
 use Rattle.unifier.specs.Steps.{leads-eq, unifies-done}
 

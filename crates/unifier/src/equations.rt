@@ -6,16 +6,17 @@ use super::links::find;
 use super::links::link;
 use super::nodes::argument;
 use super::nodes::arity;
-use super::occurs;
 use super::stack::pair_at;
 use super::stack::put_pair;
-use super::tables::enter;
-use super::walk;
+use bindings::enter;
+use bindings::occurs;
+use bindings::walk;
 ghost use Prim.Native.Nat.{_+_, _≤_};
 ghost use lib.ListN.{length};
 ghost use Rattle.arena.specs.Cells.{cells, Reference};
-ghost use Rattle.unifier.specs.Stored.{Form};
-ghost use Rattle.unifier.specs.Contracts.{Free, Falling, Decided, Scratch};
+ghost use Rattle.bindings.specs.Stored.{Form};
+ghost use Rattle.bindings.specs.Contracts.{Free};
+ghost use Rattle.unifier.specs.Contracts.{Falling, Decided, Scratch};
 ghost use Rattle.unifier.specs.Equating.{Equated};
 
 // What is to be done with x and y.

@@ -1,31 +1,19 @@
-// Unification over stored terms (the Rust's `walk`, `occurs`, `unify` and the undoing of its trail), on lent slices.
+// Unification over stored terms (the Rust's `unify`), on lent slices.
 //
 // `w` are the words, `b` the rows of the bindings with their trail, `links`, `m` (marks) and `s` (stack) lent scratch that is left as it was.
-// `room` is the number of variables there is room for, `variables` how many are in use, `used` how many words are in use, `k` how many bindings there are.
-pub use tables::undo;
-
-mod tables; // a table with the list of its entries
-mod visits; // marks and the queue of the occurs check
+// `room` is the number of variables there is room for, `variables` how many are in use, `used` how many words are in use, `k` how many bindings there
+// are. The room is a number here as in `bindings`; the crates above pass `arena::TERM_ROOM`.
 mod links; // links between equal nodes
 mod nodes; // the parts of a node
 mod stack; // the stack of open pairs
 mod equations; // one decision, and the loop of unification
-mod trails; // the check of trail and values
 
-use acyclicity::is_acyclic;
+use bindings::undo;
 use equations::equate;
 use stack::clear;
-use trails::check_rest;
-use trails::check_trail;
-use visits::visit;
-use visits::visit_edges;
-ghost use mathlib.Core.Path.{_≡_};
-ghost use Prim.Native.Nat.{_+_, _<_, _≤_};
-ghost use lib.ListN.{length};
-ghost use Rattle.arena.specs.Cells.{cells, headers, Reference, WellFormed};
-ghost use Rattle.arena.specs.Rows.{column};
-ghost use Rattle.unifier.specs.Stored.{Form};
-ghost use Rattle.unifier.specs.Contracts.{Walked, Free, Checked, Scratch, Unified, BindingsChecked};
+ghost use Rattle.arena.specs.Cells.{cells, Reference};
+ghost use Rattle.bindings.specs.Stored.{Form};
+ghost use Rattle.unifier.specs.Contracts.{Scratch, Unified};
 
 // What is to be done with two references that are to be made equal.
 pub enum Decision {
@@ -58,53 +46,6 @@ pub struct Ending {
 pub struct Ended {
     pub unified: bool,
     pub bound: u32,
-}
-
-// Where the bindings lead from r; only `b` and `room` are read, the rest serves the contract.
-pub fn walk(w: &[u32], b: &[[u32; 2]], room: u32, variables: u32, used: u32, k: u32, r: u32) -> u32
-    requires { ⌜ Form room (now w) (now b) variables used k ⌝ ∗ ⌜ Reference room (cells (now w)) variables used r ⌝ }
-    ensures { λ q. ⌜ Walked room (now (w .entry)) (now (b .entry)) variables used k r q ⌝ }
-{
-    let mut q = r;
-    while q < room {
-        let value = b[q as usize][0];
-        if value == 0 {
-            return q;
-        }
-        q = value - 1;
-    }
-    q
-}
-
-// Whether the unbound variable x occurs in what r denotes, the bindings put in: a search that visits each reachable reference once.
-pub fn occurs(
-    w: &[u32],
-    b: &[[u32; 2]],
-    m: &mut [[u32; 2]],
-    room: u32,
-    variables: u32,
-    used: u32,
-    k: u32,
-    x: u32,
-    r: u32,
-) -> bool
-    requires { ⌜ Form room (now w) (now b) variables used k ⌝ ∗ ⌜ Reference room (cells (now w)) variables used r ⌝
-        ∗ ⌜ (x < variables) × (column 0 (now b) x ≡ 0) ⌝ ∗ ⌜ Free room used (now m) ⌝ }
-    ensures { λ answer. ⌜ Checked room (now (w .entry)) (now (b .entry)) (now (m .entry)) (now (m .exit)) k x r answer ⌝ }
-{
-    let mut t = visit(m, room + used, 0, r);
-    let mut h = 0;
-    while h < t {
-        let y = m[h as usize][1];
-        if y == x {
-            undo(m, t, 0);
-            return true;
-        }
-        t = visit_edges(w, b, m, room, variables, used, k, t, y);
-        h += 1;
-    }
-    undo(m, t, 0);
-    false
 }
 
 // Unifies what r and t denote under the first k bindings; without success the bindings are undone to k, and the scratch is left as it was.
@@ -145,32 +86,4 @@ pub fn unify(
         unified: false,
         bound: k,
     }
-}
-
-// Whether rows of any contents are bindings in form over words in form.
-pub fn check_bindings(
-    w: &[u32],
-    b: &[[u32; 2]],
-    m: &mut [[u32; 2]],
-    room: u32,
-    variables: u32,
-    used: u32,
-    k: u32,
-) -> bool
-    requires { ⌜ WellFormed room (cells (now w)) variables used ⌝ ∗ ⌜ (variables ≤ room) × (room + used ≤ headers) × (used ≤ length (now w)) ⌝ ∗ ⌜ Free room used (now m) ⌝ }
-    ensures { λ answer. ⌜ BindingsChecked room (now (w .entry)) (now (b .entry)) (now (m .entry)) (now (m .exit)) variables used k answer ⌝ }
-{
-    if b.len() < variables as usize {
-        return false;
-    }
-    if variables < k {
-        return false;
-    }
-    if check_trail(w, b, m, room, variables, used, k) {
-        if check_rest(b, k) {
-            return is_acyclic(w, b, room, variables, used, m);
-        }
-        return false;
-    }
-    false
 }

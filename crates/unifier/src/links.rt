@@ -1,11 +1,10 @@
 // Links between nodes that were found equal, used only to skip.
-use super::tables::enter;
+use bindings::enter;
 ghost use Prim.Native.Nat.{_<_, _≤_};
 ghost use lib.ListN.{length};
 ghost use Rattle.arena.specs.Cells.{headers};
 ghost use Rattle.arena.specs.Rows.{column};
-ghost use Rattle.unifier.specs.Stored.{LeadsTo};
-ghost use Rattle.unifier.specs.Contracts.{Falling, Joined};
+ghost use Rattle.unifier.specs.Contracts.{LeadsTo, Falling, Joined};
 
 // The root to which the links lead from r.
 pub fn find(links: &[[u32; 2]], r: u32) -> u32

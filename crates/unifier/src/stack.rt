@@ -5,7 +5,8 @@ ghost use mathlib.Core.List.{[], _∷_};
 ghost use Prim.Native.Nat.{_<_, _≤_};
 ghost use lib.ListN.{length, set};
 ghost use Rattle.arena.specs.Rows.{column};
-ghost use Rattle.unifier.specs.Contracts.{Replaced, cleared};
+ghost use Rattle.bindings.specs.Contracts.{Replaced};
+ghost use Rattle.unifier.specs.Contracts.{cleared};
 
 // A row of three numbers has three numbers.
 fn three(row: [u32; 3])

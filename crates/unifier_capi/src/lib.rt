@@ -3,7 +3,7 @@ use arena::TERM_ROOM;
 ghost use Rattle.arena.specs.Cells.{cells, Reference};
 ghost use Rattle.arena.specs.Copies.{termRoom};
 ghost use Rattle.unifier.specs.Contracts.{Scratch};
-ghost use Rattle.unifier.specs.Stored.{Form};
+ghost use Rattle.bindings.specs.Stored.{Form};
 ghost use Rattle.capi.specs.Unification.{UnifiedAs};
 
 // The caller sees to what `unify` asks. The answer is that of `capi::horn_unify`.

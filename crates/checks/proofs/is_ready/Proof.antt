@@ -1,6 +1,6 @@
 -- `is_ready` meets its contract: each test is one part of it.
 use borrow.Author.Tests.{not-false, not-true}
-use Rattle.unifier.specs.Checking.{tells-false}
+use Rattle.bindings.specs.Checking.{tells-false}
 use Rattle.checks.specs.ReadyLaws.{free-zeros}
 use Rattle.checks.proofs.Laws.{ready-no, ready-told}
 use native.Mathlib.Omega.{arith}

@@ -4,7 +4,7 @@ use lib.ListN.{length}
 use borrow.Author.Count.{below-more}
 use borrow.Author.Tests.{not-false, not-true}
 use Rattle.arena.specs.Cells.{headers, cells}
-use Rattle.unifier.specs.Checking.{tells-yes, tells-no, tells-false}
+use Rattle.bindings.specs.Checking.{tells-yes, tells-no, tells-false}
 use Rattle.checks.specs.Ready.{NodeFormed}
 use native.Mathlib.Omega.{arith}
 use borrow.Author.Needs.{needs}

@@ -1,5 +1,5 @@
 -- `are_terms` meets its contract: each test is one part of it.
-use Rattle.unifier.specs.Checking.{tells-no}
+use Rattle.bindings.specs.Checking.{tells-no}
 use native.Mathlib.Omega.{arith}
 use borrow.Author.Needs.{needs}
 use Rattle.checks.proofs.nodes.are_terms.Statement.{statement}

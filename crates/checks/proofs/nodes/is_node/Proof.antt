@@ -5,7 +5,7 @@ use borrow.Author.Count.{below-more}
 use borrow.Author.Tests.{not-false, not-true}
 use Rattle.arena.specs.Cells.{cells, headers, arityOf, Reference}
 use Rattle.arena.specs.Copies.{termRoom}
-use Rattle.unifier.specs.Checking.{tells-yes, tells-no, tells-false}
+use Rattle.bindings.specs.Checking.{tells-yes, tells-no, tells-false}
 use native.Mathlib.Omega.{arith}
 use borrow.Author.Needs.{needs}
 use Rattle.checks.proofs.nodes.is_node.Statement.{statement}

@@ -1,5 +1,5 @@
 -- `is_reference` meets its contract: each way out is one case of a reference.
-use Rattle.unifier.specs.Checking.{tells-yes, tells-no}
+use Rattle.bindings.specs.Checking.{tells-yes, tells-no}
 use native.Mathlib.Omega.{arith}
 use borrow.Author.Needs.{needs}
 use Rattle.checks.proofs.nodes.is_reference.Statement.{statement}

@@ -6,7 +6,7 @@ use borrow.Author.Count.{below-more}
 use borrow.Author.Tests.{not-false, not-true}
 use Rattle.checks.specs.Ready.{ZeroRow}
 use Rattle.checks.proofs.Laws.{empty-rows}
-use Rattle.unifier.specs.Checking.{tells-yes, tells-no, tells-false}
+use Rattle.bindings.specs.Checking.{tells-yes, tells-no, tells-false}
 use native.Mathlib.Omega.{arith}
 use borrow.Author.Needs.{needs}
 use Rattle.checks.proofs.zeros.are_zero_triples.Statement.{statement}

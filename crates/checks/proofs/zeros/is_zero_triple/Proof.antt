@@ -2,7 +2,7 @@
 use mathlib.Core.Path.{_≡_}
 use lib.ListN.{length}
 use Rattle.checks.proofs.Laws.{zero-three}
-use Rattle.unifier.specs.Checking.{tells-yes, tells-no}
+use Rattle.bindings.specs.Checking.{tells-yes, tells-no}
 use borrow.Author.Needs.{needs}
 use Rattle.checks.proofs.zeros.is_zero_triple.Statement.{statement}
 use Rattle.checks.proofs.zeros.is_zero_triple.Tie as tie

@@ -4,7 +4,7 @@ use mathlib.Core.Path.{_≡_}
 use lib.ListN.{length}
 use borrow.Author.Count.{below-more}
 use Rattle.arena.specs.Rows.{column}
-use Rattle.unifier.specs.Checking.{tells-yes, tells-no}
+use Rattle.bindings.specs.Checking.{tells-yes, tells-no}
 use borrow.Author.Needs.{needs}
 use native.Mathlib.Omega.{arith}
 use Rattle.samples.proofs.rows.are_same.Statement.{statement}

@@ -1,6 +1,6 @@
 -- `is_clean` meets its contract.
 use borrow.Author.Tests.{not-false, not-true}
-use Rattle.unifier.specs.Checking.{tells-no, tells-false}
+use Rattle.bindings.specs.Checking.{tells-no, tells-false}
 use borrow.Author.Needs.{needs}
 use Rattle.samples.proofs.unification.is_clean.Statement.{statement}
 use Rattle.samples.proofs.unification.is_clean.Tie as tie

@@ -1,6 +1,6 @@
 -- `take_back` is safe: bindings in form can be undone.
 use borrow.Author.Tests.{not-false}
-use Rattle.unifier.specs.Holding.{form-undoable}
+use Rattle.bindings.specs.Holding.{form-undoable}
 use borrow.Author.Needs.{needs}
 use Rattle.samples.proofs.unification.take_back.Statement.{statement}
 use Rattle.samples.proofs.unification.take_back.Tie as tie

@@ -5,7 +5,7 @@ use Rattle.arena.specs.Rows.{column}
 use Rattle.unifier.specs.Contracts.{Says}
 use Rattle.unifier.specs.declared.Decision.{Decision}
 use Rattle.unifier.specs.declared.Decision.the-variants.{Same, Bind, Open, Clash}
-use Rattle.unifier.specs.Entries.{entries-few}
+use Rattle.bindings.specs.Entries.{entries-few}
 use Rattle.unifier.specs.Bounds.{measure}
 use Rattle.unifier.specs.Equating.{Loop, loop-start, loop-false, loop-free, links-long, less-stage, pending-form, pending-references, turn-same, turn-open, turn-enter, bind-in, bind-room, open-in, open-room, less-open, turn-clash, turn-done, deep-in, last-nodes, last-taken, turn-next, less-next, link-room, turn-close, less-close}
 use borrow.Author.Needs.{needs}

@@ -1,5 +1,5 @@
 -- `find` meets its contract. The loop's invariant: from q on the links lead where they lead from r; q falls.
-use Rattle.unifier.specs.Stored.{stay}
+use Rattle.unifier.specs.Contracts.{stay}
 use Rattle.unifier.specs.Linking.{Finding, find-next}
 use borrow.Author.Needs.{needs}
 use native.Mathlib.Omega.{arith}

@@ -1,6 +1,6 @@
 -- `pair_at` meets its contract: past the end of the stack everything is 0.
 use mathlib.Core.Path.{sym}
-use Rattle.unifier.specs.TableLaws.{column-past}
+use Rattle.bindings.specs.TableLaws.{column-past}
 use native.Mathlib.Omega.{arith}
 use borrow.Author.Needs.{needs}
 use Rattle.unifier.proofs.stack.pair_at.Statement.{statement}
