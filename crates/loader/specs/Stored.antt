@@ -1,5 +1,5 @@
--- The stored signature of a text (docs/STORAGE.md, "A signature's storage"): where each name stands, and from there every row and word. A name is kept at the
--- place of its own declaration's word, and rows and words follow in entry order.
+-- The stored signature of a text (docs/STORAGE.md, "A signature's storage"): where each name stands, and from there every row and word.
+-- A name is kept at the place of its own declaration's word, and rows and words follow in entry order.
 use Prim.Native.Nat.{ℕ, _+_, _-_}
 use mathlib.Core.List.{List, [], _∷_, _++_, map}
 use lib.ListN.{length, replicate}

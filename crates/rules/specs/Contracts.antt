@@ -107,7 +107,8 @@ pub record Keeping (pattern : List ℕ) (from middle used : ℕ) (heads : List �
       → Kept text arities pattern row R from used
   -- It is the row of that rule, where the references are those of its terms.
   pub exact : (text arities : List ℕ) (R : Rule) → RuleLying arities R pattern from (take n heads) middle conclusion used
-      → map (λ x. x .sort) (variablesOf text variables v) ≡ R .sorts → met (R .conclusion) (met (R .premises) []) ≡ numbersBelow (length (R .sorts))
+      → map (λ x. x .sort) (variablesOf text variables v) ≡ R .sorts
+      → met (R .conclusion) (met (R .premises) []) ≡ numbersBelow (length (R .sorts))
       → take n heads ≡ references (R .premises) from → conclusion ∷ [] ≡ references (R .conclusion) middle → row ≡ rowOf title from R
 
 -- What stands in the rows: n premises from the row p on, and a conclusion at a row of its own.

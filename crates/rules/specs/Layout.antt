@@ -1,5 +1,5 @@
--- A rule as words and as a row (docs/STORAGE.md, "A signature's storage"): both are functions of the rule, of the place of its name and of the address of its
--- first word. Each node stands behind its arguments, from left to right, each once.
+-- A rule as words and as a row (docs/STORAGE.md, "A signature's storage"): both are functions of the rule, of the place of its name and
+-- of the address of its first word. Each node stands behind its arguments, from left to right, each once.
 use Prim.Native.Nat.{ℕ, _+_}
 use mathlib.Core.List.{List, [], _∷_, _++_, map}
 use lib.ListN.{length, getD}
@@ -35,8 +35,11 @@ ruleWords u R = laidWords (R .premises) u ++ laidWords (R .conclusion) (u + word
 abbrev pub ruleNumbers : Title → ℕ → Rule → List ℕ
 ruleNumbers title u R =
     title .start ∷ title .size ∷ title .clause ∷ length (R .sorts) ∷ count (R .premises)
-    ∷ getD (references (R .conclusion) (u + words (R .premises))) 0 0 ∷ u ∷ words (R .premises) ∷ words (R .conclusion) ∷ length (headVars R) ∷ []
+    ∷ getD (references (R .conclusion) (u + words (R .premises))) 0 0
+    ∷ u ∷ words (R .premises) ∷ words (R .conclusion) ∷ length (headVars R) ∷ []
 
 -- The row of a rule with this title, whose words start at the address u.
 unfoldable pub rowOf : Title → ℕ → Rule → List ℕ
-rowOf title u R = ruleRow (ruleNumbers title u R) (references (R .premises) u) (R .sorts) (map (place (allVars R)) (numbersBelow (length (R .sorts))))
+rowOf title u R =
+    ruleRow (ruleNumbers title u R) (references (R .premises) u) (R .sorts)
+    (map (place (allVars R)) (numbersBelow (length (R .sorts))))

@@ -8,3 +8,4 @@ pub mod StoredLaws
 pub mod Layout
 pub mod LayoutLaws
 pub mod Contracts
+mod Examples
