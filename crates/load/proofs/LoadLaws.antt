@@ -4,7 +4,7 @@ use native.Mathlib.Omega.{arith}
 use mathlib.Core.Path.{_≡_, refl, sym, ap, _∙_, subst}
 use mathlib.Core.Bool.{false}
 use mathlib.Core.List.{List, _++_}
-use lib.ListN.{length, take, replicate}
+use lib.ListN.{length, take, replicate, length-map}
 use lib.Seq.{take-at, length-take-le}
 use borrow.Author.Tests.{le-ltb}
 use Rattle.words.specs.Lexer.{cappedOf, lexOf, zeroRow}
@@ -22,7 +22,7 @@ use Rattle.parser.specs.declared.Answer.the-variants.{Declarations, Refused}
 use Rattle.names.specs.Symbols.{Rows}
 use Rattle.loader.specs.Signature.{Signature, Loaded, refused, loaded, loadOf}
 use Rattle.loader.specs.PlaceLaws.{TitlesInside, titles-inside}
-use Rattle.loader.specs.Stored.{wordsFrom}
+use Rattle.loader.specs.Stored.{titlesOf, sortRow, wordsFrom}
 use Rattle.loader.specs.StoredLaws.{padded-is}
 use Rattle.declarations.specs.declared.State.{State}
 use Rattle.declarations.proofs.NameLaws.{sorts-number, symbols-number}
@@ -110,6 +110,9 @@ module _ (text : List ℕ) (limits : Limits) (b c d : Buffers) (same : SameLengt
               (padded-is zeroRule (length (b .rules)) (st .rules) (d .rules) _ (omega arith) (y .rows-are) (h .rulesClear ∙ ap (λ (k : ℕ). replicate (k - st .rules) zeroRule) (same .rules)))
               (padded-is 0 (length (b .words)) (st .used) (d .words) _ (omega arith) (y .words-are) (h .wordsClear ∙ ap (λ (k : ℕ). replicate (k - st .used) 0) (same .words)))
               (h .evals ∙ ap (λ (k : ℕ). evalsFrom 0 ds ++ replicate (k - length (evalsFrom 0 ds)) zeroPair) (same .evals));
+          sortTitles = sym (length-map (titlesOf ds .sorts) sortRow) ∙ ap length (sym (x .sorts-are)) ∙ length-take-le (st .sorts) (d .sorts) (omega arith) ∙ a;
+          symbolTitles = x .number;
+          ruleTitles = y .number;
           sortsAre = rw (← a) (held .names .sortsAre);
           symbolsAre = rw (← f) (held .names .symbolsAre);
           rulesAre = rw (← g) (held-rules held);

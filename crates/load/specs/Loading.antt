@@ -96,6 +96,10 @@ pub record LoadedInto (text : List ℕ) (limits : Limits) (b : Buffers) (ds : Li
         words = length (wordsFrom (s .rules) 0);
       })
   pub stored : b′ ≡ storedOf text limits ds s b
+  -- Each sort, symbol and rule has its title, so there are as many rows as are counted.
+  pub sortTitles : length (titlesOf ds .sorts) ≡ length (s .sorts)
+  pub symbolTitles : length (titlesOf ds .symbols) ≡ length (s .symbols)
+  pub ruleTitles : length (titlesOf ds .rules) ≡ length (s .rules)
   -- These rows and words denote the signature,
   pub sortsAre : sortsOf text (b′ .sorts) (length (s .sorts)) ≡ s .sorts
   pub symbolsAre : symbolsOf text (b′ .symbols) (length (s .symbols)) ≡ s .symbols
