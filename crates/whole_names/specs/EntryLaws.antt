@@ -33,7 +33,8 @@ map-more f [] x = refl
 map-more f (y ∷ l) x = ap (λ r. f y ∷ r) (map-more f l x)
 
 -- Two images that are equal, with one item more of each.
-both-more : {A B C : Type 0} (f : A → C) (g : B → C) (l : List A) (m : List B) (a : A) (b : B) → map f l ≡ map g m → f a ≡ g b → map f (l ++ (a ∷ [])) ≡ map g (m ++ (b ∷ []))
+both-more : {A B C : Type 0} (f : A → C) (g : B → C) (l : List A) (m : List B) (a : A) (b : B) → map f l ≡ map g m → f a ≡ g b
+    → map f (l ++ (a ∷ [])) ≡ map g (m ++ (b ∷ []))
 both-more f g l m a b e q = map-more f l a ∙ ap (λ x. map f l ++ (x ∷ [])) q ∙ ap (λ x. x ++ (g b ∷ [])) e ∙ sym (map-more g m b)
 
 -- The number of a clause stands behind its function's name.
@@ -46,7 +47,8 @@ unless-steps : (P : Signature → Type 0) (e : ℕ) (s : Signature) → P s → 
 unless-steps P zero s h = h
 unless-steps P (suc e) s h = tt
 
-sorts-steps : (P : Signature → Type 0) (o : Numbers) (next : List ℕ → Step) → ((ns : List ℕ) → Stepping P (next ns)) → Stepping P (withSorts o next)
+sorts-steps : (P : Signature → Type 0) (o : Numbers) (next : List ℕ → Step) → ((ns : List ℕ) → Stepping P (next ns))
+    → Stepping P (withSorts o next)
 sorts-steps P unknown next f = tt
 sorts-steps P (numbers ns) next f = f ns
 
@@ -55,7 +57,8 @@ some-steps P [] o h = tt
 some-steps P (n ∷ ns) o h = h
 
 -- A rule has the name that it is given.
-rule-named : (symbols : List Symbol) (name : Name) (ps : Written many) (c : Written one) (room : ℕ) → Ruling (λ R left. R .name ≡ name) (ruleOf symbols name ps c room)
+rule-named : (symbols : List Symbol) (name : Name) (ps : Written many) (c : Written one) (room : ℕ)
+    → Ruling (λ R left. R .name ≡ name) (ruleOf symbols name ps c room)
 unfolding ruleOf
 rule-named symbols name ps c room = by-bool (ltb 16 (size ps)) (λ e. rw e tt) (λ e. rw e (premises (patternOf symbols ps [] [] room)))
   where
@@ -71,11 +74,13 @@ ruling-is : (v w : Name) (r : Ruled) → v ≡ w → Ruling (λ R left. R .name 
 ruling-is v w (barred e) q h = tt
 ruling-is v w (ruled R left) q h = h ∙ q
 
-then-steps : (P Q : Signature → Type 0) (o : Step) (next : Signature → Step) → Stepping P o → ((s : Signature) → P s → Stepping Q (next s)) → Stepping Q (andThen o next)
+then-steps : (P Q : Signature → Type 0) (o : Step) (next : Signature → Step) → Stepping P o
+    → ((s : Signature) → P s → Stepping Q (next s)) → Stepping Q (andThen o next)
 then-steps P Q (no e) next h f = tt
 then-steps P Q (on s) next h f = f s h
 
-then-loads : (P Q : Signature → Type 0) (o : Step) (line : ℕ) (next : Signature → Loaded) → Stepping P o → ((s : Signature) → P s → Loading Q (next s)) → Loading Q (goOn o line next)
+then-loads : (P Q : Signature → Type 0) (o : Step) (line : ℕ) (next : Signature → Loaded) → Stepping P o
+    → ((s : Signature) → P s → Loading Q (next s)) → Loading Q (goOn o line next)
 then-loads P Q (no e) line next h f = tt
 then-loads P Q (on s) line next h f = f s h
 
@@ -94,7 +99,8 @@ module _ (text : List ℕ) where
       unless-steps (Named (sortTitled t p)) (sortRefusal (s .sorts) (s .symbols) (bytesAt text p)) _
       (record { sorts = ap (λ l. l ++ (bytesAt text p ∷ [])) (h .sorts) ∙ sym (map-more (bytesAt text) (t .sorts) p); symbols = h .symbols; rules = h .rules })
 
-  symbol-named : (t : Titles) (s : Signature) (p : Place) (f : Symbol) → f .name ≡ bytesAt text p → Named t s → Stepping (Named (symbolTitled t p)) (enterSymbol s f)
+  symbol-named : (t : Titles) (s : Signature) (p : Place) (f : Symbol) → f .name ≡ bytesAt text p → Named t s
+      → Stepping (Named (symbolTitled t p)) (enterSymbol s f)
   symbol-named t s p f e h =
       unless-steps (Named (symbolTitled t p)) (symbolRefusal (s .sorts) (s .symbols) (f .name) (length (f .inputs))) _
       (record { sorts = h .sorts; symbols = both-more (λ (f : Symbol). f .name) (bytesAt text) (s .symbols) (t .symbols) f p (h .symbols) e; rules = h .rules })
@@ -110,7 +116,8 @@ module _ (text : List ℕ) where
   -- Rules and clauses
 
   module _ (limit : ℕ) where
-    rule-enters : (t : Titles) (s : Signature) (x : Title) (name : Name) (ps : Written many) (c : Written one) → name ≡ spelling text x → Named t s
+    rule-enters : (t : Titles) (s : Signature) (x : Title) (name : Name) (ps : Written many) (c : Written one) → name ≡ spelling text x
+        → Named t s
         → Stepping (Named (withRules t (t .rules ++ (x ∷ [])))) (enterRule limit text s name ps c)
     rule-enters t s x name ps c e h =
         let r : Ruled = ruleOf (s .symbols) name ps c (roomIn limit s) in
@@ -145,7 +152,8 @@ module _ (text : List ℕ) where
     -- Declarations
 
     -- A function: its symbol, and then its clauses.
-    def-named : (t : Titles) (s : Signature) (p : Place) (ss : List Place) (cs : List Clause) (f : Symbol) → f .name ≡ bytesAt text p → Named t s
+    def-named : (t : Titles) (s : Signature) (p : Place) (ss : List Place) (cs : List Clause) (f : Symbol) → f .name ≡ bytesAt text p
+        → Named t s
         → Stepping (Named (entitled t (def p ss cs))) (andThen (enterSymbol s f) (λ u. enterClauses limit text u (bytesAt text p) 0 cs))
     def-named t s p ss cs f e h =
         then-steps (Named (symbolTitled t p)) (Named (entitled t (def p ss cs))) (enterSymbol s f) (λ u. enterClauses limit text u (bytesAt text p) 0 cs)
@@ -169,7 +177,8 @@ module _ (text : List ℕ) where
     declare-named t s (eval x) h = h
     declare-named t s (check x) h = tt
 
-    from-named : (ds : List Declared) (t : Titles) (s : Signature) → Named t s → Loading (Named (titlesFrom t ds)) (loadFrom limit text s ds)
+    from-named : (ds : List Declared) (t : Titles) (s : Signature) → Named t s
+        → Loading (Named (titlesFrom t ds)) (loadFrom limit text s ds)
     unfolding loadFrom titlesFrom
     from-named [] t s h = h
     from-named (d ∷ ds) t s h =

@@ -127,7 +127,8 @@ module _ (text : List ℕ) (ds : List Declared) (s : Signature) (names : NamesWh
   same-row : (v w : Name) (i j : ℕ) → i < length all → j < length all → v ≡ getD all i [] → w ≡ getD all j [] → (v ≡ w) ↔ (i ≡ j)
   same-row v w i j l m p q = let o = names .once i j l m in (λ e. o .0 (sym p ∙ e ∙ q), λ e. p ∙ o .1 e ∙ sym q)
 
-  rows-whole : (used : ℕ) → NamesStoredWhole text ds b (record { sorts = length (s .sorts); symbols = length (s .symbols); rules = length (s .rules); words = used })
+  rows-whole : (used : ℕ)
+      → NamesStoredWhole text ds b (record { sorts = length (s .sorts); symbols = length (s .symbols); rules = length (s .rules); words = used })
   rows-whole used =
       let n : ℕ = length (s .sorts) in
       let long = all-long in

@@ -28,6 +28,8 @@ use Rattle.whole_names.specs.Titles.{Titles, untitled, titleAt, withClau
 use Rattle.whole_names.specs.Uses.{WholeName, DeclarationWhole, DeclaredWhole}
 use Rattle.whole_names.specs.UsesWhole.{uses-whole}
 use Rattle.whole_names.specs.EntryLaws.{load-names}
+use Rattle.whole_names.specs.Variables.{VariablesWhole}
+use Rattle.whole_names.specs.VariablesWhole.{variables-whole}
 
 -- At each of these places and titles stands a whole word of the text, and it is a name.
 pub record TitlesWhole (text : List ℕ) (t : Titles) : Type 0 where
@@ -43,6 +45,8 @@ pub record NamesWhole (text : List ℕ) (ds : List Declared) (s : Signature) : T
   pub rules : map (λ r. r .name) (s .rules) ≡ map (spelling text) (titlesOf ds .rules)
   -- Each of these is a whole word.
   pub whole : TitlesWhole text (titlesOf ds)
+  -- The name of each variable, while its rule is compiled, is a whole word of its declaration too.
+  pub variables : Each (λ d. VariablesWhole text (d .declaration)) ds
   -- Two of the sorts and symbols, counted on from the sorts to the symbols, are one exactly if all bytes of their names are equal.
   pub once : (i j : ℕ) → i < length (namesOf (s .sorts) (s .symbols)) → j < length (namesOf (s .sorts) (s .symbols))
       → (getD (namesOf (s .sorts) (s .symbols)) i [] ≡ getD (namesOf (s .sorts) (s .symbols)) j []) ↔ (i ≡ j)
@@ -53,7 +57,8 @@ module _ (text : List ℕ) where
   abbrev RuleWhole : Title → Type 0
   RuleWhole r = NameAt text (r .start) (r .size)
 
-  clauses-whole : (cs : List Clause) (ts : List Title) (p : Place) (n : ℕ) → WholeName text p → Each RuleWhole ts → Each RuleWhole (withClauses ts p n cs)
+  clauses-whole : (cs : List Clause) (ts : List Title) (p : Place) (n : ℕ) → WholeName text p → Each RuleWhole ts
+      → Each RuleWhole (withClauses ts p n cs)
   unfolding withClauses
   clauses-whole [] ts p n w h = h
   clauses-whole (c ∷ cs) ts (place a b) n w h =
@@ -82,14 +87,16 @@ module _ (text : List ℕ) where
   titles-whole (d ∷ ds) t w h = titles-whole ds (entitled t (d .declaration)) (w .1) (entitled-whole t (d .declaration) (w .0) h)
 
 -- One name, one item.
-pub distinct-once : (names : List Name) → Distinct names → (i j : ℕ) → i < length names → j < length names → (getD names i [] ≡ getD names j []) ↔ (i ≡ j)
+pub distinct-once : (names : List Name) → Distinct names → (i j : ℕ) → i < length names → j < length names
+    → (getD names i [] ≡ getD names j []) ↔ (i ≡ j)
 distinct-once names d i j l m = (
   λ e. by-less i j (λ k _. absurd (d i j k m e)) (λ k _. by-less j i (λ q _. absurd (d j i q l (sym e))) (λ q _. omega arith)),
   λ e. ap (λ (k : ℕ). getD names k []) e,
 )
 
 -- The theorem, for declarations whose words are whole.
-declared-whole : (limit : ℕ) (text : List ℕ) (ds : List Declared) (s : Signature) → Each (DeclaredWhole text) ds → loadOf limit text ds ≡ loaded s → NamesWhole text ds s
+declared-whole : (limit : ℕ) (text : List ℕ) (ds : List Declared) (s : Signature) → Each (DeclaredWhole text) ds
+    → loadOf limit text ds ≡ loaded s → NamesWhole text ds s
 declared-whole limit text ds s h e =
     let n = load-names limit text ds s e in
     let legal : Legal s = load-legal limit text ds s e in
@@ -98,11 +105,13 @@ declared-whole limit text ds s h e =
       symbols = n .1;
       rules = n .2;
       whole = titles-whole text ds untitled h (record { sorts = tt; symbols = tt; rules = tt });
+      variables = variables-whole text ds h;
       once = distinct-once (namesOf (s .sorts) (s .symbols)) (legal .distinct);
     }
 
 -- The names of every signature that is loaded are whole.
-pub names-whole : (text : List ℕ) (limits : Limits) (s : Signature) → loadText text limits ≡ loaded s → NamesWhole text (declaredIn (textOf text limits)) s
+pub names-whole : (text : List ℕ) (limits : Limits) (s : Signature) → loadText text limits ≡ loaded s
+    → NamesWhole text (declaredIn (textOf text limits)) s
 names-whole text limits s e = read (lexOf (cappedOf limits .text) text) refl e
   where
     parse : (ts : Tokens) → lexOf (cappedOf limits .text) text ≡ tokens ts → (o : Parsed (List Declared)) → parseOf text ts ≡ o
@@ -111,6 +120,7 @@ names-whole text limits s e = read (lexOf (cappedOf limits .text) text) refl e
     parse ts l absent p e = declared-whole (cappedOf limits .nodes) text [] s tt e
     parse ts l (barred r line) p e = absurd (let z : _≡_ {A = ℕ} 0 1 = cc in omega arith)
 
-    read : (r : Reading) → lexOf (cappedOf limits .text) text ≡ r → ofParsed text (cappedOf limits .nodes) (parsedText text r) ≡ loaded s → NamesWhole text (declaredIn (parsedText text r)) s
+    read : (r : Reading) → lexOf (cappedOf limits .text) text ≡ r → ofParsed text (cappedOf limits .nodes) (parsedText text r) ≡ loaded s
+        → NamesWhole text (declaredIn (parsedText text r)) s
     read (tokens ts) l e = parse ts l (parseOf text ts) refl e
     read (unread r line) l e = absurd (let z : _≡_ {A = ℕ} 0 1 = cc in omega arith)

@@ -20,12 +20,14 @@ image-at f (x ∷ l) a b zero m = refl
 image-at f (x ∷ l) a b (suc i) m = image-at f l a b i (omega arith)
 
 -- The item with number i of a list that is an image.
-pub of-image : {A B : Type 0} (f : A → B) (l : List A) (m : List B) (a : A) (b : B) → map f l ≡ m → (i : ℕ) → i < length m → f (getD l i a) ≡ getD m i b
+pub of-image : {A B : Type 0} (f : A → B) (l : List A) (m : List B) (a : A) (b : B) → map f l ≡ m → (i : ℕ) → i < length m
+    → f (getD l i a) ≡ getD m i b
 of-image f l m a b e i k =
     let n : length l ≡ length m = sym (length-map l f) ∙ ap length e in
     sym (image-at f l a b i (omega arith)) ∙ ap (λ (z : List _). getD z i b) e
 
-pub of-rows : {B : Type 0} (f : List ℕ → B) (rows : Rows) (m : List B) (b : B) → map f (take (length m) rows) ≡ m → (i : ℕ) → i < length m → f (rowAt rows i) ≡ getD m i b
+pub of-rows : {B : Type 0} (f : List ℕ → B) (rows : Rows) (m : List B) (b : B) → map f (take (length m) rows) ≡ m → (i : ℕ) → i < length m
+    → f (rowAt rows i) ≡ getD m i b
 of-rows f rows m b e i k = ap f (sym (getD-take (length m) rows i [] k)) ∙ of-image f (take (length m) rows) m [] b e i k
 
 pub each-at : {A : Type 0} (P : A → Type 0) (l : List A) (d : A) → Each P l → (i : ℕ) → i < length l → P (getD l i d)

@@ -32,7 +32,7 @@ each-drop T zero l h = h
 each-drop T (suc n) [] h = tt
 each-drop T (suc n) (a ∷ l) h = each-drop T n l (h .1)
 
-each-take : {A : Type 0} (T : A → Type 0) (n : ℕ) (l : List A) → Each T l → Each T (take n l)
+pub each-take : {A : Type 0} (T : A → Type 0) (n : ℕ) (l : List A) → Each T l → Each T (take n l)
 each-take T zero l h = tt
 each-take T (suc n) [] h = tt
 each-take T (suc n) (a ∷ l) h = (h .0, each-take T n l (h .1))
@@ -50,7 +50,8 @@ module _ (text : List ℕ) where
   extend-whole none t h g = (g, tt)
   extend-whole (more u us) t h g = (h .0, extend-whole us t (h .1) g)
 
-  applied-whole : (line : ℕ) (t : Source one) (l : List (Source one)) → TermWhole text t → Each (TermWhole text) l → Comes (TermWhole text) (applied line t l)
+  applied-whole : (line : ℕ) (t : Source one) (l : List (Source one)) → TermWhole text t → Each (TermWhole text) l
+      → Comes (TermWhole text) (applied line t l)
   unfolding TermWhole
   applied-whole line t [] h g = h
   applied-whole line (called f) (a ∷ l) h g = (h, all-whole (a ∷ l) g)
@@ -82,7 +83,8 @@ module _ (text : List ℕ) where
   abbrev Reads : {A : Type 0} → (A → Type 0) → (Tokens → Parsed A) → Type 0
   Reads P item = (ts : Tokens) → Tokened ts → Comes P (item ts)
 
-  follow-each : {A B : Type 0} (P : A → Type 0) (Q : B → Type 0) (o : Parsed A) (ts : Tokens) (next : A → Tokens → Parsed B) → Tokened ts → Comes P o
+  follow-each : {A B : Type 0} (P : A → Type 0) (Q : B → Type 0) (o : Parsed A) (ts : Tokens) (next : A → Tokens → Parsed B) → Tokened ts
+      → Comes P o
       → ((a : A) (us : Tokens) → Tokened us → P a → Comes Q (next a us)) → Comes Q (follow o ts next)
   follow-each P Q (parsed a n) ts next w h f = plus-comes Q n (next a (drop n ts)) (f a (drop n ts) (each-drop (TokenWhole text) n ts w) h)
   follow-each P Q absent ts next w h f = tt
@@ -96,7 +98,8 @@ module _ (text : List ℕ) where
   behind-each : {A : Type 0} (P : A → Type 0) (item : Tokens → Parsed A) (kind : ℕ) → Reads P item → Reads P (behind kind item)
   behind-each P item kind f ts w = when-comes P (eqb (kindOf ts) kind) _ _ (plus-comes P 1 (item (drop 1 ts)) (f (drop 1 ts) (each-drop (TokenWhole text) 1 ts w))) tt
 
-  all-each : {A : Type 0} (P : A → Type 0) (item : Tokens → Parsed A) → Reads P item → (ts : Tokens) (done : List A) → Tokened ts → Each P done → Comes (Each P) (repeat item ts 0 0 done)
+  all-each : {A : Type 0} (P : A → Type 0) (item : Tokens → Parsed A) → Reads P item → (ts : Tokens) (done : List A) → Tokened ts
+      → Each P done → Comes (Each P) (repeat item ts 0 0 done)
   all-each P item f ts done w h = repeat-each (TokenWhole text) P item f ts 0 0 done w h
 
   separated-each : {A : Type 0} (P : A → Type 0) (item : Tokens → Parsed A) (kind : ℕ) → Reads P item → Reads (Each P) (separated kind item)
@@ -290,5 +293,6 @@ module _ (text : List ℕ) where
       rw e at g
 
 -- Every word of every declaration of a text that is read and parsed is taken whole.
-pub uses-whole : (limit : ℕ) (text : List ℕ) (ts : Tokens) (ds : List Declared) (n : ℕ) → lexOf limit text ≡ tokens ts → parseOf text ts ≡ parsed ds n → Each (DeclaredWhole text) ds
+pub uses-whole : (limit : ℕ) (text : List ℕ) (ts : Tokens) (ds : List Declared) (n : ℕ) → lexOf limit text ≡ tokens ts
+    → parseOf text ts ≡ parsed ds n → Each (DeclaredWhole text) ds
 uses-whole limit text ts ds n l e = parsed-whole text ts ds n (tokens-whole limit text ts l .whole) e

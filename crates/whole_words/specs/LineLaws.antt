@@ -107,7 +107,8 @@ lines-step c [] = by-bool (eqb c 10) (λ e. simp e) (λ e. simp e)
 lines-step c (d ∷ s) = by-bool (eqb c 10) (λ e. simp e) (λ e. simp (e, lines-step d s))
 
 -- The first line is that of the text, and the others are the lines behind it.
-pub lines-first : (d x : List ℕ) (ls : List (List ℕ)) → lines d ≡ x ∷ ls → (x ≡ lineOf d) × (ls ≡ lines (drop (suc (length x)) d)) × (1 ≤ length d)
+pub lines-first : (d x : List ℕ) (ls : List (List ℕ)) → lines d ≡ x ∷ ls
+    → (x ≡ lineOf d) × (ls ≡ lines (drop (suc (length x)) d)) × (1 ≤ length d)
 unfolding lines
 lines-first [] x ls e = absurd (let z : _≡_ {A = ℕ} 0 1 = cc in omega arith)
 lines-first (c ∷ d) x ls e =

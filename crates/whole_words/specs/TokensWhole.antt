@@ -157,7 +157,8 @@ module _ (text : List ℕ) where
         ap (λ j. drop j text) z ∙ sym (drop-drop 1 p text) ∙ ap (λ l. drop 1 l) h
 
     -- One item, and what is read behind it.
-    item-reads : (c : ℕ) (s : List ℕ) (p n : ℕ) → drop p text ≡ (c ∷ s) ++ post → Seam text p → Outside text p (suc p + length s) → (o : Item) → Good (c ∷ s) post o
+    item-reads : (c : ℕ) (s : List ℕ) (p n : ℕ) → drop p text ≡ (c ∷ s) ++ post → Seam text p → Outside text p (suc p + length s)
+        → (o : Item) → Good (c ∷ s) post o
         → ((k : ℕ) → k ≤ length s → Seam text (suc p + k) → Reads (suc p + k) (suc p + length s) (readAfter s k (suc p) n))
         → Reads p (suc p + length s) (andThen (readItem o p n) (readAfter s (itemLength o - 1) (suc p) n))
     unfolding andThen
@@ -182,7 +183,8 @@ module _ (text : List ℕ) where
     item-reads c s p n h seam out (Refused r) g rest = tt
 
     -- A line's code from the place p on, of which the first k bytes are the rest of the token before.
-    after-reads : (s : List ℕ) (k p n : ℕ) → k ≤ length s → drop p text ≡ s ++ post → Seam text (p + k) → Outside text p (p + length s) → Reads (p + k) (p + length s) (readAfter s k p n)
+    after-reads : (s : List ℕ) (k p n : ℕ) → k ≤ length s → drop p text ≡ s ++ post → Seam text (p + k) → Outside text p (p + length s)
+        → Reads (p + k) (p + length s) (readAfter s k p n)
     unfolding readAfter
     after-reads [] k p n b h seam out = record { whole = tt; ordered = omega arith; covers = λ i l m e w. absurd (omega arith) }
     after-reads (c ∷ s) (suc k) p n b h seam out =
@@ -207,12 +209,14 @@ module _ (text : List ℕ) where
       }
 
   -- So no token is read between the code of a line and the next line.
-  then-rest : (p : ℕ) (x : List ℕ) → x ≡ lineOf (drop p text) → (o : Reading) → Reads (p + length x + 1) (length text + 1) o → Reads (p + length (codeOf x)) (length text + 1) o
+  then-rest : (p : ℕ) (x : List ℕ) → x ≡ lineOf (drop p text) → (o : Reading) → Reads (p + length x + 1) (length text + 1) o
+      → Reads (p + length (codeOf x)) (length text + 1) o
   unfolding andThen
   then-rest p x is (refused r n) h = tt
   then-rest p x is (tokens ts) h = then-reads (p + length (codeOf x)) (p + length x + 1) (length text + 1) (tokens []) (tokens ts) (rest-reads p x is) h
 
-  lines-read : (ls : List (List ℕ)) (p n : ℕ) → p ≤ length text + 1 → lines (drop p text) ≡ ls → Seam text p → Begins text p → Reads p (length text + 1) (readLines ls p n)
+  lines-read : (ls : List (List ℕ)) (p n : ℕ) → p ≤ length text + 1 → lines (drop p text) ≡ ls → Seam text p → Begins text p
+      → Reads p (length text + 1) (readLines ls p n)
   unfolding readLines
   lines-read [] p n b e seam begins =
       let z = lines-none (drop p text) e in
@@ -240,7 +244,8 @@ lex-reads limit text =
     (λ f. rw f (go (outsideLine (lines text) 1) (lines-read text (lines text) 0 1 (omega arith) refl (λ i q t. absurd (omega arith)) (λ i q l. absurd (omega arith)))))
     (λ f. rw f tt)))
   where
-    go : (n : ℕ) → Reads text 0 (length text + 1) (readLines (lines text) 0 1) → Reads text 0 (length text + 1) (inDomain n (readLines (lines text) 0 1))
+    go : (n : ℕ) → Reads text 0 (length text + 1) (readLines (lines text) 0 1)
+        → Reads text 0 (length text + 1) (inDomain n (readLines (lines text) 0 1))
     go zero h = h
     go (suc n) h = tt
 

@@ -133,7 +133,8 @@ number-range (v ∷ vs) k w l = by-bool (sameBytes w v)
     (λ e. rw e (omega arith, omega arith))
     (λ e. rw e (let h = number-range vs (suc k) w (omega arith) in (omega arith, h .1)))
 
-number-word : (vs : List (List ℕ)) (k : ℕ) (w : List ℕ) → k + length vs ≤ 12 → numberAmong vs k w ≤ 11 → w ≡ getD vs (numberAmong vs k w - k) []
+number-word : (vs : List (List ℕ)) (k : ℕ) (w : List ℕ) → k + length vs ≤ 12 → numberAmong vs k w ≤ 11
+    → w ≡ getD vs (numberAmong vs k w - k) []
 unfolding numberAmong
 number-word [] k w l m = absurd (omega arith)
 number-word (v ∷ vs) k w l m = by-bool (sameBytes w v)
@@ -143,7 +144,8 @@ number-word (v ∷ vs) k w l m = by-bool (sameBytes w v)
     let z : numberAmong vs (suc k) w - k ≡ suc (numberAmong vs (suc k) w - suc k) = omega arith in
     rw (e, z) (number-word vs (suc k) w (omega arith) m₁))
 
-number-none : (vs : List (List ℕ)) (k : ℕ) (w : List ℕ) → k + length vs ≤ 12 → numberAmong vs k w ≡ 12 → (i : ℕ) → i < length vs → getD vs i [] ≡ w → ⊥
+number-none : (vs : List (List ℕ)) (k : ℕ) (w : List ℕ) → k + length vs ≤ 12 → numberAmong vs k w ≡ 12 → (i : ℕ) → i < length vs
+    → getD vs i [] ≡ w → ⊥
 unfolding numberAmong
 number-none [] k w l m i b q = omega arith
 number-none (v ∷ vs) k w l m zero b q =
@@ -226,7 +228,8 @@ word-read w =
     made : (kind : ℕ) → ltb 64 (length w) ≡ false → kind ≤ 14 → ReadAs kind w → WordRead w kind (length w)
     made kind e l r = record { whole = refl; short = ltb-false 64 (length w) e; low = l; reads = r }
 
-    fitted : (v : NumeralValue) → ltb 64 (length w) ≡ false → allDigits w ≡ true → numeralOf w ≡ v → Holds (WordRead w) (ifFits v (Token numeralKind (length w)))
+    fitted : (v : NumeralValue) → ltb 64 (length w) ≡ false → allDigits w ≡ true → numeralOf w ≡ v
+        → Holds (WordRead w) (ifFits v (Token numeralKind (length w)))
     fitted (Fits v) e g q = made 14 e (omega arith) (numeral-read w v g q)
     fitted TooLarge e g q = tt
 
@@ -298,7 +301,8 @@ sign-more x xs s (Token kind m) h =
     }
 sign-more x xs s (Refused r) h = tt
 
-sign-first : (x : Sign) (xs : List Sign) (s : List ℕ) → plain x ≡ true → startsWith (x .written) s ≡ true → SignRead (x ∷ xs) s (x .kind) (length (x .written))
+sign-first : (x : Sign) (xs : List Sign) (s : List ℕ) → plain x ≡ true → startsWith (x .written) s ≡ true
+    → SignRead (x ∷ xs) s (x .kind) (length (x .written))
 sign-first x xs s p e =
     let a : leb 1 (length (x .written)) ≡ true = and-left _ _ p in
     let b : (noneWord (x .written) && (leb 15 (x .kind) && leb (x .kind) 23)) ≡ true = and-right (leb 1 (length (x .written))) _ p in
@@ -339,7 +343,8 @@ Good s post Blank = isWordByte (getD s 0 0) ≡ false
 Good s post (Token kind m) = Fit s post kind m
 Good s post (Refused r) = Unit {0}
 
-good-word : (c : ℕ) (s post : List ℕ) → isWordByte c ≡ true → isWordByte (getD post 0 0) ≡ false → (o : Item) → (o ≡ Blank → ⊥) → Holds (WordRead (wordOf (c ∷ s))) o → Good (c ∷ s) post o
+good-word : (c : ℕ) (s post : List ℕ) → isWordByte c ≡ true → isWordByte (getD post 0 0) ≡ false → (o : Item) → (o ≡ Blank → ⊥)
+    → Holds (WordRead (wordOf (c ∷ s))) o → Good (c ∷ s) post o
 good-word c s post e p Blank n h = absurd (n refl)
 good-word c s post e p (Token kind m) n h =
     let q : m ≡ length (wordOf (c ∷ s)) = h .whole in
