@@ -24,18 +24,8 @@ use Rattle.clauses.specs.Clauses.{flatRule, clauseOf}
 use Rattle.loader.specs.Signature.{Signature, empty, Step, no, on, andThen, unless, sortRefusal, enterSort, symbolRefusal, enterSymbol, Numbers, unknown, numbers, numbersOf, withSorts, withSome, lastOf, frontOf, roomIn, withRule, lastJudgment, firstOf, Loaded, refused, loaded, goOn, enterRule, enterClause, enterClauses, enterJudgments, declare, loadFrom, loadOf}
 use Rattle.loader.specs.LegalLaws.{Stepping, Loading}
 use Rattle.rules.specs.declared.Title.{Title}
+use Rattle.whole_names.specs.ListLaws.{map-more, both-more}
 use Rattle.whole_names.specs.Titles.{Titles, untitled, titleAt, sortTitled, symbolTitled, withClauses, entitled, titlesFrom, titlesOf, spelling}
-
--- Lists
-
-map-more : {A B : Type 0} (f : A → B) (l : List A) (x : A) → map f (l ++ (x ∷ [])) ≡ map f l ++ (f x ∷ [])
-map-more f [] x = refl
-map-more f (y ∷ l) x = ap (λ r. f y ∷ r) (map-more f l x)
-
--- Two images that are equal, with one item more of each.
-both-more : {A B C : Type 0} (f : A → C) (g : B → C) (l : List A) (m : List B) (a : A) (b : B) → map f l ≡ map g m → f a ≡ g b
-    → map f (l ++ (a ∷ [])) ≡ map g (m ++ (b ∷ []))
-both-more f g l m a b e q = map-more f l a ∙ ap (λ x. map f l ++ (x ∷ [])) q ∙ ap (λ x. x ++ (g b ∷ [])) e ∙ sym (map-more g m b)
 
 -- The number of a clause stands behind its function's name.
 clause-spelling : (text : List ℕ) (p : Place) (n : ℕ) → clauseName (bytesAt text p) n ≡ spelling text (titleAt p (n + 1))

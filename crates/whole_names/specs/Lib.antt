@@ -1,12 +1,14 @@
--- Names are taken and stored whole, in reading order. What declarations name, and what it means that all their words are whole:
+-- Names are taken and stored whole, in reading order. What declarations name, and what it means that their words and variables are whole:
 pub mod Titles
 pub mod Uses
 pub mod Variables
--- Laws: of what is parsed, of what is loaded, and of stored rows:
+-- Laws, of lists, of what is parsed, of variables and of what is loaded:
+pub mod ListLaws
 pub mod UsesWhole
-pub mod EntryLaws
-pub mod RowLaws
 pub mod VariablesWhole
--- The theorems, `names-whole` for a signature and `names-stored-whole` for what `load` stores:
+pub mod EntryLaws
+-- The theorem for a signature, `names-whole`:
 pub mod NamesWhole
+-- Laws of stored rows, and the theorem for what `load` stores, `names-stored-whole`:
+pub mod RowLaws
 pub mod NamesStored

@@ -1,39 +1,31 @@
--- Laws of stored rows: the name that a row keeps, where the rows denote a list of names.
-use Prim.Native.Nat.{ℕ, zero, suc, _+_, _-_, _<_}
+-- Laws of stored rows: the names that they keep, where they denote a signature whose names are whole.
+use Prim.Native.Nat.{ℕ, _+_, _-_, _<_}
 use native.Mathlib.Omega.{arith}
-use mathlib.Core.Path.{_≡_, refl, sym, ap, _∙_}
+use mathlib.Core.Path.{_≡_, sym, ap, _∙_}
+use mathlib.Core.Logic.{_↔_}
 use mathlib.Core.Bool.{true, false}
-use mathlib.Core.List.{List, [], _∷_, map}
+use mathlib.Core.List.{List, [], map}
 use lib.Dec.{leb}
-use lib.ListN.{length, getD, take, drop, length-map, length-drop}
-use lib.Seq.{getD-take, getD-drop, length-take-le}
+use lib.ListN.{length, getD, take, drop, length-append, length-map, length-drop, List·getD-append, List·getD-map}
+use lib.Seq.{getD-take, getD-drop, getD-append-add, length-take-le}
 use borrow.Author.Tests.{leb-true}
 use Rattle.terms.specs.Numbers.{by-bool}
 use Rattle.words.specs.Lexer.{partOf}
-use Rattle.term_parser.specs.ReaderLaws.{Each}
-use Rattle.names.specs.Symbols.{Rows, rowAt}
+use Rattle.term_parser.specs.Source.{place}
+use Rattle.term_parser.specs.Standing.{bytesAt}
+use Rattle.parser.specs.Declarations.{Declared}
+use Rattle.names.specs.Names.{Name}
+use Rattle.names.specs.Symbols.{Symbol, rowAt, sortOf as nameIn, symbolOf, sortsOf, symbolsOf, noSymbol}
+use Rattle.resolution.specs.Rules.{Rule}
+use Rattle.rule_checks.specs.RuleForm.{ruleIn}
+use Rattle.loader.specs.Signature.{Signature}
+use Rattle.loader.specs.Legal.{namesOf, noRule}
+use Rattle.signature.specs.Form.{rulesOf}
+use Rattle.load.specs.Loading.{Buffers}
 use Rattle.whole_words.specs.Words.{WholeWord}
-
-image-at : {A B : Type 0} (f : A → B) (l : List A) (a : A) (b : B) (i : ℕ) → i < length l → getD (map f l) i b ≡ f (getD l i a)
-image-at f [] a b i m = absurd (omega arith)
-image-at f (x ∷ l) a b zero m = refl
-image-at f (x ∷ l) a b (suc i) m = image-at f l a b i (omega arith)
-
--- The item with number i of a list that is an image.
-pub of-image : {A B : Type 0} (f : A → B) (l : List A) (m : List B) (a : A) (b : B) → map f l ≡ m → (i : ℕ) → i < length m
-    → f (getD l i a) ≡ getD m i b
-of-image f l m a b e i k =
-    let n : length l ≡ length m = sym (length-map l f) ∙ ap length e in
-    sym (image-at f l a b i (omega arith)) ∙ ap (λ (z : List _). getD z i b) e
-
-pub of-rows : {B : Type 0} (f : List ℕ → B) (rows : Rows) (m : List B) (b : B) → map f (take (length m) rows) ≡ m → (i : ℕ) → i < length m
-    → f (rowAt rows i) ≡ getD m i b
-of-rows f rows m b e i k = ap f (sym (getD-take (length m) rows i [] k)) ∙ of-image f (take (length m) rows) m [] b e i k
-
-pub each-at : {A : Type 0} (P : A → Type 0) (l : List A) (d : A) → Each P l → (i : ℕ) → i < length l → P (getD l i d)
-each-at P [] d h i m = absurd (omega arith)
-each-at P (a ∷ l) d h zero m = h .0
-each-at P (a ∷ l) d h (suc i) m = each-at P l d (h .1) i (omega arith)
+use Rattle.whole_names.specs.ListLaws.{of-image, of-rows}
+use Rattle.whole_names.specs.Titles.{titleAt, titlesOf, spelling, rowTitle, placeNumber, titleNumber}
+use Rattle.whole_names.specs.NamesWhole.{NamesWhole}
 
 -- A part of a text that is equal to a whole word has as many bytes, and the same.
 module _ (text : List ℕ) (start n a m : ℕ) (w : WholeWord text start n) (e : partOf text a m ≡ partOf text start n) where
@@ -61,3 +53,99 @@ module _ (text : List ℕ) (start n a m : ℕ) (w : WholeWord text start n) (e :
       let l = part-long .0 in
       let q : take m (drop a text) ≡ partOf text start n = sym (part-long .1) ∙ e in
       (l, λ k b. sym (getD-drop a text k 0) ∙ sym (getD-take m (drop a text) k 0 (omega arith)) ∙ ap (λ r. getD r k 0) q ∙ w .bytes k b)
+
+-- Rows that denote a signature whose names are whole
+module _ (text : List ℕ) (ds : List Declared) (s : Signature) (names : NamesWhole text ds s) (b : Buffers)
+    (sortsAre : sortsOf text (b .sorts) (length (s .sorts)) ≡ s .sorts)
+    (symbolsAre : symbolsOf text (b .symbols) (length (s .symbols)) ≡ s .symbols)
+    (rulesAre : rulesOf text (b .words) (b .rules) (length (s .rules)) ≡ s .rules) where
+  abbrev symbolNames : List Name
+  symbolNames = map (λ f. f .name) (s .symbols)
+
+  abbrev ruleNames : List Name
+  ruleNames = map (λ r. r .name) (s .rules)
+
+  abbrev sortRow : ℕ → List ℕ
+  sortRow i = rowAt (b .sorts) i
+
+  abbrev symbolRow : ℕ → List ℕ
+  symbolRow i = rowAt (b .symbols) i
+
+  abbrev ruleRow : ℕ → List ℕ
+  ruleRow i = rowAt (b .rules) i
+
+  -- There are as many rows as names are declared.
+  pub sort-count : length (s .sorts) ≡ length (titlesOf ds .sorts)
+  sort-count = ap length (names .sorts) ∙ length-map (titlesOf ds .sorts) (bytesAt text)
+
+  pub symbol-count : length (s .symbols) ≡ length (titlesOf ds .symbols)
+  symbol-count = sym (length-map (s .symbols) (λ f. f .name)) ∙ ap length (names .symbols) ∙ length-map (titlesOf ds .symbols) (bytesAt text)
+
+  pub rule-count : length (s .rules) ≡ length (titlesOf ds .rules)
+  rule-count = sym (length-map (s .rules) (λ r. r .name)) ∙ ap length (names .rules) ∙ length-map (titlesOf ds .rules) (spelling text)
+
+  -- The rows' names are those of the signature,
+  sort-name : (i : ℕ) → i < length (s .sorts) → nameIn text (sortRow i) ≡ getD (s .sorts) i []
+  unfolding sortsOf
+  sort-name i l = of-rows (nameIn text) (b .sorts) (s .sorts) [] sortsAre i l
+
+  symbol-name : (i : ℕ) → i < length (s .symbols) → nameIn text (symbolRow i) ≡ getD symbolNames i []
+  unfolding symbolsOf symbolOf
+  symbol-name i l =
+      ap (λ (f : Symbol). f .name) (of-rows (symbolOf text) (b .symbols) (s .symbols) noSymbol symbolsAre i l)
+      ∙ sym (List·getD-map (λ (f : Symbol). f .name) (s .symbols) i noSymbol)
+
+  rule-name : (i : ℕ) → i < length (s .rules) → spelling text (rowTitle (ruleRow i)) ≡ getD ruleNames i []
+  unfolding rulesOf
+  rule-name i l =
+      ap (λ (R : Rule). R .name) (of-rows (ruleIn text (b .words)) (b .rules) (s .rules) noRule rulesAre i l)
+      ∙ sym (List·getD-map (λ (R : Rule). R .name) (s .rules) i noRule)
+
+  -- and so those of the declarations.
+  pub sort-spelled : (i : ℕ) → i < length (s .sorts) → nameIn text (sortRow i) ≡ bytesAt text (placeNumber (titlesOf ds .sorts) i)
+  sort-spelled i l = sort-name i l ∙ sym (of-image (bytesAt text) (titlesOf ds .sorts) (s .sorts) (place 0 0) [] (sym (names .sorts)) i l)
+
+  pub symbol-spelled : (i : ℕ) → i < length (s .symbols) → nameIn text (symbolRow i) ≡ bytesAt text (placeNumber (titlesOf ds .symbols) i)
+  symbol-spelled i l =
+      let n = length-map (s .symbols) (λ f. f .name) in
+      symbol-name i l ∙ sym (of-image (bytesAt text) (titlesOf ds .symbols) symbolNames (place 0 0) [] (sym (names .symbols)) i (omega arith))
+
+  pub rule-spelled : (i : ℕ) → i < length (s .rules) → spelling text (rowTitle (ruleRow i)) ≡ spelling text (titleNumber (titlesOf ds .rules) i)
+  rule-spelled i l =
+      let n = length-map (s .rules) (λ r. r .name) in
+      rule-name i l ∙ sym (of-image (spelling text) (titlesOf ds .rules) ruleNames (titleAt (place 0 0) 0) [] (sym (names .rules)) i (omega arith))
+
+  -- Two names of the sorts and symbols together
+  abbrev all : List Name
+  all = namesOf (s .sorts) (s .symbols)
+
+  all-long : length all ≡ length (s .sorts) + length (s .symbols)
+  all-long = length-append (s .sorts) symbolNames ∙ ap (λ n. length (s .sorts) + n) (length-map (s .symbols) (λ f. f .name))
+
+  sort-all : (i : ℕ) → i < length (s .sorts) → nameIn text (sortRow i) ≡ getD all i []
+  sort-all i l = sort-name i l ∙ sym (List·getD-append (s .sorts) symbolNames [] i l)
+
+  symbol-all : (i : ℕ) → i < length (s .symbols) → nameIn text (symbolRow i) ≡ getD all (length (s .sorts) + i) []
+  symbol-all i l = symbol-name i l ∙ sym (getD-append-add (s .sorts) symbolNames i [])
+
+  -- are equal exactly where they are one.
+  same-name : (v w : Name) (i j : ℕ) → i < length all → j < length all → v ≡ getD all i [] → w ≡ getD all j [] → (v ≡ w) ↔ (i ≡ j)
+  same-name v w i j l m p q = let o = names .once i j l m in (λ e. o .0 (sym p ∙ e ∙ q), λ e. p ∙ o .1 e ∙ sym q)
+
+  pub one-sort : (i j : ℕ) → i < length (s .sorts) → j < length (s .sorts) → (nameIn text (sortRow i) ≡ nameIn text (sortRow j)) ↔ (i ≡ j)
+  one-sort i j l m = let n = all-long in same-name (nameIn text (sortRow i)) (nameIn text (sortRow j)) i j (omega arith) (omega arith) (sort-all i l) (sort-all j m)
+
+  pub one-symbol : (i j : ℕ) → i < length (s .symbols) → j < length (s .symbols)
+      → (nameIn text (symbolRow i) ≡ nameIn text (symbolRow j)) ↔ (i ≡ j)
+  one-symbol i j l m =
+      let k : ℕ = length (s .sorts) in
+      let n = all-long in
+      let o = same-name (nameIn text (symbolRow i)) (nameIn text (symbolRow j)) (k + i) (k + j) (omega arith) (omega arith) (symbol-all i l) (symbol-all j m) in
+      (λ e. (let q = o .0 e in omega arith), λ e. o .1 (ap (λ x. k + x) e))
+
+  pub sort-symbol : (i j : ℕ) → i < length (s .sorts) → j < length (s .symbols) → nameIn text (sortRow i) ≡ nameIn text (symbolRow j) → ⊥
+  sort-symbol i j l m e =
+      let k : ℕ = length (s .sorts) in
+      let n = all-long in
+      let q = same-name (nameIn text (sortRow i)) (nameIn text (symbolRow j)) i (k + j) (omega arith) (omega arith) (sort-all i l) (symbol-all j m) .0 e in
+      omega arith

@@ -6,6 +6,7 @@ use Rattle.term_parser.specs.Source.{Place, place}
 use Rattle.parser.specs.Source.{Clause, Declaration, sort, ctor, pred, rule, def, theorem, eval, check}
 use Rattle.parser.specs.Declarations.{Declared}
 use Rattle.names.specs.Names.{Name}
+use Rattle.names.specs.Symbols.{column}
 use Rattle.rules.specs.StoredRows.{titled}
 use Rattle.rules.specs.declared.Title.{Title}
 
@@ -57,6 +58,10 @@ titlesOf ds = titlesFrom untitled ds
 -- What a title spells: the bytes at its place, and `.n` behind them for the clause with number n.
 abbrev pub spelling : List ℕ → Title → Name
 spelling text t = titled text (t .start) (t .size) (t .clause)
+
+-- The title that a rule's row keeps: its columns are start and length of the name, and 0 or a clause's number + 1.
+abbrev pub rowTitle : List ℕ → Title
+rowTitle row = record { start = column row 0; size = column row 1; clause = column row 2 }
 
 -- The place and the title with number i.
 abbrev pub placeNumber : List Place → ℕ → Place

@@ -24,18 +24,7 @@ use Rattle.parser.specs.Declarations.{endsInProp, Declared, behindOpen, binders
 use Rattle.whole_words.specs.Words.{ReadAs, TokenWhole, WordAt}
 use Rattle.whole_names.specs.Uses.{WholeName, TermWhole, ClauseWhole, BindersWhole, TacticWhole, DeclarationWhole, DeclaredWhole}
 use Rattle.whole_words.specs.TokensWhole.{tokens-whole}
-
--- Lists
-
-each-drop : {A : Type 0} (T : A → Type 0) (n : ℕ) (l : List A) → Each T l → Each T (drop n l)
-each-drop T zero l h = h
-each-drop T (suc n) [] h = tt
-each-drop T (suc n) (a ∷ l) h = each-drop T n l (h .1)
-
-pub each-take : {A : Type 0} (T : A → Type 0) (n : ℕ) (l : List A) → Each T l → Each T (take n l)
-each-take T zero l h = tt
-each-take T (suc n) [] h = tt
-each-take T (suc n) (a ∷ l) h = (h .0, each-take T n l (h .1))
+use Rattle.whole_names.specs.ListLaws.{each-drop, each-take}
 
 -- Terms made of terms
 

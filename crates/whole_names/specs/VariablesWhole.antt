@@ -22,20 +22,8 @@ use Rattle.terms.specs.Term.{Syn}
 use Rattle.loader.specs.Signature.{frontOf, lastJudgment}
 use Rattle.whole_names.specs.Titles.{placeNumber}
 use Rattle.whole_names.specs.Uses.{Whole, TermWhole, ClauseWhole, DeclarationWhole, DeclaredWhole}
-use Rattle.whole_names.specs.UsesWhole.{each-take}
-use Rattle.whole_names.specs.RowLaws.{each-at}
+use Rattle.whole_names.specs.ListLaws.{each-map, each-set, each-take, each-at}
 use Rattle.whole_names.specs.Variables.{wordsIn, WordAmong, ClauseWord, written, result, VariablesNamed, JudgmentsNamed, ClauseNamed, VariablesWhole}
-
--- Lists
-
-each-map : {A : Type 0} (P Q : A → Type 0) (l : List A) → ((a : A) → P a → Q a) → Each P l → Each Q l
-each-map P Q [] f h = tt
-each-map P Q (a ∷ l) f h = (f a (h .0), each-map P Q l f (h .1))
-
-each-set : {A : Type 0} (P : A → Type 0) (l : List A) (i : ℕ) (a : A) → P a → Each P l → Each P (set l i a)
-each-set P [] i a p h = tt
-each-set P (b ∷ l) zero a p h = (p, h .1)
-each-set P (b ∷ l) (suc i) a p h = (h .0, each-set P l i a p (h .1))
 
 -- Words that may become variables
 
