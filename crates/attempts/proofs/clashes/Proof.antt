@@ -36,16 +36,27 @@ mul-header : tie.Need-mul-header Inv-loop μ-loop
 mul-header c = search needs
 
 shared-slice-read-header : tie.Need-shared-slice-read-header Inv-loop μ-loop
-shared-slice-read-header c = let l = goal-in (c .before .before .before .before .before .before .pre) (c .before .before .walk .ensures) (omega arith) (omega arith) in omega arith
+shared-slice-read-header c =
+    let pre = c .before .before .before .before .before .before .pre in
+    let walk = c .before .before .walk in
+    let l = goal-in pre (walk .ensures) (omega arith) (omega arith) in
+    omega arith
 
 mul-if3 : tie.Need-mul-if3 Inv-loop μ-loop
 mul-if3 c = search needs
 
 shared-slice-read-if3 : tie.Need-shared-slice-read-if3 Inv-loop μ-loop
-shared-slice-read-if3 c = let l = pattern-in (c .before .before .before .before .before .before .before .pre) (c .before .before .before .walk .ensures) (omega arith) (omega arith) in omega arith
+shared-slice-read-if3 c =
+    let pre = c .before .before .before .before .before .before .before .pre in
+    let walk = c .before .before .before .walk in
+    let l = pattern-in pre (walk .ensures) (omega arith) (omega arith) in
+    omega arith
 
 returns-3 : tie.Need-returns-3 Inv-loop μ-loop
-returns-3 c = λ e. heads-clash (c .before .before .before .before .before .before .before .before .pre) (c .before .before .before .before .walk .ensures) (omega arith) (omega arith) (c .if3 .taken)
+returns-3 c =
+    let pre = c .before .before .before .before .before .before .before .before .pre in
+    let walk = c .before .before .before .before .walk in
+    λ e. heads-clash pre (walk .ensures) (omega arith) (omega arith) (c .if3 .taken)
 
 cast-count : tie.Need-cast-count Inv-loop μ-loop
 cast-count c = search needs
@@ -63,7 +74,11 @@ mul-heads-differ : tie.Need-mul-heads-differ Inv-loop μ-loop
 mul-heads-differ c = search needs
 
 shared-slice-read-heads-differ : tie.Need-shared-slice-read-heads-differ Inv-loop μ-loop
-shared-slice-read-heads-differ c = let l = goal-in (c .before .before .before .before .before .before .before .before .before .before .before .pre) (c .before .before .before .before .before .before .before .walk .ensures) (omega arith) (omega arith) in omega arith
+shared-slice-read-heads-differ c =
+    let pre = c .before .before .before .before .before .before .before .before .before .before .before .pre in
+    let walk = c .before .before .before .before .before .before .before .walk in
+    let l = goal-in pre (walk .ensures) (omega arith) (omega arith) in
+    omega arith
 
 add-heads-differ-3 : tie.Need-add-heads-differ-3 Inv-loop μ-loop
 add-heads-differ-3 c = search needs
@@ -76,16 +91,29 @@ mul-heads-differ-2 c = search needs
 
 shared-slice-read-heads-differ-2 : tie.Need-shared-slice-read-heads-differ-2 Inv-loop μ-loop
 shared-slice-read-heads-differ-2 c =
-    let l = pattern-in (c .before .before .before .before .before .before .before .before .before .before .before .before .pre) (c .before .before .before .before .before .before .before .before .walk .ensures) (omega arith) (omega arith) in
-    let e = c .before .before .before .before .if3 .left in omega arith
+    let pre = c .before .before .before .before .before .before .before .before .before .before .before .before .pre in
+    let walk = c .before .before .before .before .before .before .before .before .walk in
+    let if3 = c .before .before .before .before .if3 in
+    let l = pattern-in pre (walk .ensures) (omega arith) (omega arith) in
+    let e = if3 .left in
+    omega arith
 
 heads-differ-requires : tie.Need-heads-differ-requires Inv-loop μ-loop
 heads-differ-requires c κs =
-    arguments-comparable (c .before .before .before .before .before .before .before .before .before .before .before .before .pre) (c .before .before .before .before .before .before .before .before .walk .ensures) (omega arith) (omega arith) (c .before .before .before .before .if3 .left) (c .before .before .before .loop .i) (omega arith)
+    let pre = c .before .before .before .before .before .before .before .before .before .before .before .before .pre in
+    let walk = c .before .before .before .before .before .before .before .before .walk in
+    let if3 = c .before .before .before .before .if3 in
+    let loop = c .before .before .before .loop in
+    arguments-comparable pre (walk .ensures) (omega arith) (omega arith) (if3 .left) (loop .i) (omega arith)
 
 returns-4 : tie.Need-returns-4 Inv-loop μ-loop
 returns-4 c =
-    λ e. arguments-clash (c .before .before .before .before .before .before .before .before .before .before .before .before .before .before .pre) (c .before .before .before .before .before .before .before .before .before .before .walk .ensures) (omega arith) (omega arith) (c .before .before .before .before .before .before .if3 .left) (c .before .before .before .before .before .loop .i) (omega arith) (c .before .heads-differ .ensures (c .if4 .taken))
+    let pre = c .before .before .before .before .before .before .before .before .before .before .before .before .before .before .pre in
+    let walk = c .before .before .before .before .before .before .before .before .before .before .walk in
+    let if3 = c .before .before .before .before .before .before .if3 in
+    let loop = c .before .before .before .before .before .loop in
+    let heads-differ = c .before .heads-differ in
+    λ e. arguments-clash pre (walk .ensures) (omega arith) (omega arith) (if3 .left) (loop .i) (omega arith) (heads-differ .ensures (c .if4 .taken))
 
 add-i : tie.Need-add-i Inv-loop μ-loop
 add-i c = search needs

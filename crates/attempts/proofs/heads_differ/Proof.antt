@@ -27,19 +27,30 @@ mul-if3 : tie.Need-mul-if3
 mul-if3 c = search needs
 
 shared-slice-read-if3 : tie.Need-shared-slice-read-if3
-shared-slice-read-if3 c = let l = goal-in (c .before .before .before .before .before .before .pre) (c .before .before .walk .ensures) (omega arith) (omega arith) in omega arith
+shared-slice-read-if3 c =
+    let pre = c .before .before .before .before .before .before .pre in
+    let walk = c .before .before .walk in
+    let l = goal-in pre (walk .ensures) (omega arith) (omega arith) in
+    omega arith
 
 mul-if3-2 : tie.Need-mul-if3-2
 mul-if3-2 c = search needs
 
 shared-slice-read-if3-2 : tie.Need-shared-slice-read-if3-2
-shared-slice-read-if3-2 c = let l = pattern-in (c .before .before .before .before .before .before .before .pre) (c .before .before .before .walk .ensures) (omega arith) (omega arith) in omega arith
+shared-slice-read-if3-2 c =
+    let pre = c .before .before .before .before .before .before .before .pre in
+    let walk = c .before .before .before .walk in
+    let l = pattern-in pre (walk .ensures) (omega arith) (omega arith) in
+    omega arith
 
 returns-3 : tie.Need-returns-3
 returns-3 c = λ e. true-false e refl
 
 returns-4 : tie.Need-returns-4
-returns-4 c = λ e. heads-clash (c .before .before .before .before .before .before .before .before .pre) (c .before .before .before .before .walk .ensures) (omega arith) (omega arith) (c .if3 .left)
+returns-4 c =
+    let pre = c .before .before .before .before .before .before .before .before .pre in
+    let walk = c .before .before .before .before .walk in
+    λ e. heads-clash pre (walk .ensures) (omega arith) (omega arith) (c .if3 .left)
 
 pub heads-differ-spec : {M : Type 1} → statement M
 heads-differ-spec =

@@ -18,7 +18,10 @@ exceeds-requires : tie.Need-exceeds-requires
 exceeds-requires c κs = search needs
 
 returns : tie.Need-returns
-returns c = head-refused (c .before .before .before .before .before .before .before .pre) (sym (c .before .exceeds .ensures) ∙ (c .if1 .taken))
+returns c =
+    let pre = c .before .before .before .before .before .before .before .pre in
+    let exceeds = c .before .exceeds in
+    head-refused pre (sym (exceeds .ensures) ∙ (c .if1 .taken))
 
 clashes-requires : tie.Need-clashes-requires
 clashes-requires c κs = head-comparable (c .before .before .before .before .before .before .before .before .before .pre)
@@ -30,7 +33,12 @@ same-length-2 : tie.Need-same-length-2
 same-length-2 c = search needs
 
 returns-2 : tie.Need-returns-2
-returns-2 c = head-clashes (c .before .before .before .before .before .before .before .before .before .before .before .pre) (sym (c .before .before .before .before .before .exceeds .ensures) ∙ (c .before .before .before .before .if1 .left)) (c .before .clashes .ensures (c .if2 .taken))
+returns-2 c =
+    let pre = c .before .before .before .before .before .before .before .before .before .before .before .pre in
+    let exceeds = c .before .before .before .before .before .exceeds in
+    let if1 = c .before .before .before .before .if1 in
+    let clashes = c .before .clashes in
+    head-clashes pre (sym (exceeds .ensures) ∙ (if1 .left)) (clashes .ensures (c .if2 .taken))
 
 add-moved-word : tie.Need-add-moved-word
 add-moved-word c = search needs
@@ -39,21 +47,33 @@ add-moved-word-2 : tie.Need-add-moved-word-2
 add-moved-word-2 c = search needs
 
 moved-word-requires : tie.Need-moved-word-requires
-moved-word-requires c κs = head-movable (c .before .before .before .before .before .before .before .before .before .before .before .pre) (sym (c .before .before .before .before .before .exceeds .ensures) ∙ (c .before .before .before .before .if1 .left))
+moved-word-requires c κs =
+    let pre = c .before .before .before .before .before .before .before .before .before .before .before .pre in
+    let exceeds = c .before .before .before .before .before .exceeds in
+    let if1 = c .before .before .before .before .if1 in
+    head-movable pre (sym (exceeds .ensures) ∙ (if1 .left))
 
 inst-requires : tie.Need-inst-requires
-inst-requires c κs = head-copyable (c .before .before .before .before .before .before .before .before .before .before .before .before .before .pre) (sym (c .before .before .before .before .before .before .before .exceeds .ensures) ∙ (c .before .before .before .before .before .before .if1 .left))
+inst-requires c κs =
+    let pre = c .before .before .before .before .before .before .before .before .before .before .before .before .before .pre in
+    let exceeds = c .before .before .before .before .before .before .before .exceeds in
+    let if1 = c .before .before .before .before .before .before .if1 in
+    head-copyable pre (sym (exceeds .ensures) ∙ (if1 .left))
 
 unify-requires : tie.Need-unify-requires
 unify-requires c κs =
     let pre = c .before .before .before .before .before .before .before .before .before .before .before .before .before .before .before .before .before .before .before .before .before .pre in
-    let fits = sym (c .before .before .before .before .before .before .before .before .before .before .before .before .before .before .before .exceeds .ensures) ∙ (c .before .before .before .before .before .before .before .before .before .before .before .before .before .before .if1 .left) in
+    let exceeds = c .before .before .before .before .before .before .before .before .before .before .before .before .before .before .before .exceeds in
+    let if1 = c .before .before .before .before .before .before .before .before .before .before .before .before .before .before .if1 in
     let inst = c .before .before .before .before .before .before .before .inst in
     let moved-word = c .before .before .before .before .before .before .before .before .before .moved-word in
+    let fits = sym (exceeds .ensures) ∙ (if1 .left) in
     (head-form pre fits _ (inst .ensures), ((head-goal pre fits _ (inst .ensures), head-conclusion pre fits _ (inst .ensures) _ (moved-word .ensures)), head-scratch pre fits))
 
 same-length-3 : tie.Need-same-length-3
-same-length-3 c = c .before .before .before .before .before .before .before .before .before .before .before .before .before .inst .kept .1 .1 .1 .1 .0
+same-length-3 c =
+    let inst = c .before .before .before .before .before .before .before .before .before .before .before .before .before .inst in
+    inst .kept .1 .1 .1 .1 .0
 
 same-length-4 : tie.Need-same-length-4
 same-length-4 c = c .before .before .before .before .before .unify .kept .1 .0
@@ -70,11 +90,18 @@ same-length-7 c = c .before .before .before .before .before .unify .kept .1 .1 .
 returns-3 : tie.Need-returns-3
 returns-3 c =
     let pre = c .before .before .before .before .before .before .before .before .before .before .before .before .before .before .before .before .before .before .before .before .before .before .before .before .before .before .before .pre in
-    let fits = sym (c .before .before .before .before .before .before .before .before .before .before .before .before .before .before .before .before .before .before .before .before .before .exceeds .ensures) ∙ (c .before .before .before .before .before .before .before .before .before .before .before .before .before .before .before .before .before .before .before .before .if1 .left) in
-    head-unifies pre fits _ (c .before .before .before .before .before .before .before .before .before .before .before .before .before .inst .ensures) (c .before .before .before .before .before .before .before .before .before .before .before .before .before .before .before .moved-word .ensures) (c .before .before .before .before .before .unify .ensures) (c .if3 .taken)
+    let exceeds = c .before .before .before .before .before .before .before .before .before .before .before .before .before .before .before .before .before .before .before .before .before .exceeds in
+    let if1 = c .before .before .before .before .before .before .before .before .before .before .before .before .before .before .before .before .before .before .before .before .if1 in
+    let inst = c .before .before .before .before .before .before .before .before .before .before .before .before .before .inst in
+    let moved-word = c .before .before .before .before .before .before .before .before .before .before .before .before .before .before .before .moved-word in
+    let unify = c .before .before .before .before .before .unify in
+    let fits = sym (exceeds .ensures) ∙ (if1 .left) in
+    head-unifies pre fits _ (inst .ensures) (moved-word .ensures) (unify .ensures) (c .if3 .taken)
 
 same-length-8 : tie.Need-same-length-8
-same-length-8 c = c .before .before .before .before .before .before .before .before .before .before .before .before .before .inst .kept .1 .1 .1 .1 .0
+same-length-8 c =
+    let inst = c .before .before .before .before .before .before .before .before .before .before .before .before .before .inst in
+    inst .kept .1 .1 .1 .1 .0
 
 same-length-9 : tie.Need-same-length-9
 same-length-9 c = c .before .before .before .before .before .unify .kept .1 .0
@@ -91,8 +118,13 @@ same-length-12 c = c .before .before .before .before .before .unify .kept .1 .1 
 returns-4 : tie.Need-returns-4
 returns-4 c =
     let pre = c .before .before .before .before .before .before .before .before .before .before .before .before .before .before .before .before .before .before .before .before .before .before .before .before .before .before .before .pre in
-    let fits = sym (c .before .before .before .before .before .before .before .before .before .before .before .before .before .before .before .before .before .before .before .before .before .exceeds .ensures) ∙ (c .before .before .before .before .before .before .before .before .before .before .before .before .before .before .before .before .before .before .before .before .if1 .left) in
-    head-apart pre fits _ (c .before .before .before .before .before .before .before .before .before .before .before .before .before .inst .ensures) (c .before .before .before .before .before .before .before .before .before .before .before .before .before .before .before .moved-word .ensures) (c .before .before .before .before .before .unify .ensures) (c .if3 .left)
+    let exceeds = c .before .before .before .before .before .before .before .before .before .before .before .before .before .before .before .before .before .before .before .before .before .exceeds in
+    let if1 = c .before .before .before .before .before .before .before .before .before .before .before .before .before .before .before .before .before .before .before .before .if1 in
+    let inst = c .before .before .before .before .before .before .before .before .before .before .before .before .before .inst in
+    let moved-word = c .before .before .before .before .before .before .before .before .before .before .before .before .before .before .before .moved-word in
+    let unify = c .before .before .before .before .before .unify in
+    let fits = sym (exceeds .ensures) ∙ (if1 .left) in
+    head-apart pre fits _ (inst .ensures) (moved-word .ensures) (unify .ensures) (c .if3 .left)
 
 pub try-head-spec : {M : Type 1} → statement M
 try-head-spec =

@@ -1,4 +1,5 @@
 -- `unify` meets its contract: after the loop the links are undone and the stack is cleared, and without success the bindings are undone.
+use mathlib.Core.Path.{_∙_}
 use Rattle.unifier.specs.Ending.{links-undoable, bindings-undoable, stack-within, ended-yes, ended-no}
 use borrow.Author.Needs.{needs}
 use Rattle.unifier.proofs.unify.Statement.{statement}
@@ -15,16 +16,16 @@ clear-requires : tie.Need-clear-requires
 clear-requires c κs = stack-within (c .before .before .before .before .before .before .before .before .equate .ensures)
 
 same-length : tie.Need-same-length
-same-length c = search needs
+same-length c = c .before .before .before .before .before .before .before .before .before .before .before .equate .kept .1 .0
 
 same-length-2 : tie.Need-same-length-2
-same-length-2 c = search needs
+same-length-2 c = (c .before .before .before .before .before .undo .kept .0) ∙ (c .before .before .before .before .before .before .before .before .before .before .before .equate .kept .1 .1 .0)
 
 same-length-3 : tie.Need-same-length-3
-same-length-3 c = search needs
+same-length-3 c = c .before .before .before .before .before .before .before .before .before .before .before .equate .kept .1 .1 .1 .0
 
 same-length-4 : tie.Need-same-length-4
-same-length-4 c = search needs
+same-length-4 c = (c .before .before .clear .kept .0) ∙ (c .before .before .before .before .before .before .before .before .before .before .before .equate .kept .1 .1 .1 .1 .0)
 
 returns : tie.Need-returns
 returns c =
@@ -38,16 +39,16 @@ undo-requires-2 : tie.Need-undo-requires-2
 undo-requires-2 c κs = bindings-undoable (c .before .before .before .before .before .before .before .before .before .before .before .before .equate .ensures)
 
 same-length-5 : tie.Need-same-length-5
-same-length-5 c = search needs
+same-length-5 c = (c .before .undo2 .kept .0) ∙ (c .before .before .before .before .before .before .before .before .before .before .before .before .before .before .equate .kept .1 .0)
 
 same-length-6 : tie.Need-same-length-6
-same-length-6 c = search needs
+same-length-6 c = (c .before .before .before .before .before .before .before .before .undo .kept .0) ∙ (c .before .before .before .before .before .before .before .before .before .before .before .before .before .before .equate .kept .1 .1 .0)
 
 same-length-7 : tie.Need-same-length-7
-same-length-7 c = search needs
+same-length-7 c = c .before .before .before .before .before .before .before .before .before .before .before .before .before .before .equate .kept .1 .1 .1 .0
 
 same-length-8 : tie.Need-same-length-8
-same-length-8 c = search needs
+same-length-8 c = (c .before .before .before .before .before .clear .kept .0) ∙ (c .before .before .before .before .before .before .before .before .before .before .before .before .before .before .equate .kept .1 .1 .1 .1 .0)
 
 returns-2 : tie.Need-returns-2
 returns-2 c =

@@ -24,7 +24,7 @@ occurs-requires c κs =
     ((pre .0), ((walk2 .ensures .inForm), (((walk .ensures .inForm .variable) (if2 .taken), (walk .ensures .ends) (if2 .taken)), (pre .1 .1 .1 .1))))
 
 same-length : tie.Need-same-length
-same-length c = search needs
+same-length c = c .before .before .occurs .kept .1 .1 .0
 
 returns-2 : tie.Need-returns-2
 returns-2 c =
@@ -40,7 +40,7 @@ returns-2 c =
     }
 
 same-length-2 : tie.Need-same-length-2
-same-length-2 c = search needs
+same-length-2 c = c .before .before .occurs .kept .1 .1 .0
 
 returns-3 : tie.Need-returns-3
 returns-3 c =
@@ -64,7 +64,7 @@ occurs-requires-2 c κs =
     ((pre .0), ((walk .ensures .inForm), (((walk2 .ensures .inForm .variable) (if4 .taken), (walk2 .ensures .ends) (if4 .taken)), (pre .1 .1 .1 .1))))
 
 same-length-3 : tie.Need-same-length-3
-same-length-3 c = search needs
+same-length-3 c = c .before .before .occurs2 .kept .1 .1 .0
 
 returns-4 : tie.Need-returns-4
 returns-4 c =
@@ -79,7 +79,7 @@ returns-4 c =
     }
 
 same-length-4 : tie.Need-same-length-4
-same-length-4 c = search needs
+same-length-4 c = c .before .before .occurs2 .kept .1 .1 .0
 
 returns-5 : tie.Need-returns-5
 returns-5 c =

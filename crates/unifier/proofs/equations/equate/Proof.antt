@@ -1,6 +1,7 @@
 -- `equate` meets its contract. The loop's invariant: what is left to be made equal, under the bindings held, comes to what the whole comes to; links
 -- join equal terms; bindings, links and open pairs were only added. What falls: links still possible, room on the stack, arguments left, the stage.
-use mathlib.Core.Path.{subst}
+use mathlib.Core.Path.{ap, _∙_, subst}
+use lib.ListN.{length}
 use Rattle.arena.specs.Rows.{column}
 use Rattle.unifier.specs.Contracts.{Says}
 use Rattle.unifier.specs.declared.Decision.{Decision}
@@ -155,16 +156,16 @@ enum-told-2 : tie.Need-enum-told-2 Inv-loop μ-loop
 enum-told-2 c = search needs
 
 same-length : tie.Need-same-length Inv-loop μ-loop
-same-length c = search needs
+same-length c = c .before .before .before .before .before .before .before .before .loop .inv .binding .long
 
 same-length-2 : tie.Need-same-length-2 Inv-loop μ-loop
-same-length-2 c = search needs
+same-length-2 c = c .before .before .before .before .before .before .before .before .loop .inv .linking .long
 
 same-length-3 : tie.Need-same-length-3 Inv-loop μ-loop
-same-length-3 c = search needs
+same-length-3 c = (c .before .before .before .decide .kept .1 .1 .1 .0) ∙ ap length (c .before .before .before .before .before .before .before .before .loop .inv .marks)
 
 same-length-4 : tie.Need-same-length-4 Inv-loop μ-loop
-same-length-4 c = search needs
+same-length-4 c = c .before .before .before .before .before .before .before .before .loop .inv .stacking .long
 
 returns : tie.Need-returns Inv-loop μ-loop
 returns c =
@@ -177,16 +178,16 @@ returns c =
     turn-clash (loop .inv) (if1 .taken) _ (decide .ensures .marks) says
 
 same-length-5 : tie.Need-same-length-5 Inv-loop μ-loop
-same-length-5 c = search needs
+same-length-5 c = c .before .before .loop .inv .binding .long
 
 same-length-6 : tie.Need-same-length-6 Inv-loop μ-loop
-same-length-6 c = search needs
+same-length-6 c = c .before .before .loop .inv .linking .long
 
 same-length-7 : tie.Need-same-length-7 Inv-loop μ-loop
-same-length-7 c = search needs
+same-length-7 c = ap length (c .before .before .loop .inv .marks)
 
 same-length-8 : tie.Need-same-length-8 Inv-loop μ-loop
-same-length-8 c = search needs
+same-length-8 c = c .before .before .loop .inv .stacking .long
 
 returns-2 : tie.Need-returns-2 Inv-loop μ-loop
 returns-2 c = turn-done (c .before .before .loop .inv) (c .before .if1 .left) (c .if2 .taken)
