@@ -1,9 +1,9 @@
 -- Laws of rows that are those of terms: several terms one after the other, and a term's first row with those of its arguments.
-use Prim.Native.Nat.{ℕ, zero, suc, _+_, _-_, _≤_, _<_, min}
+use Prim.Native.Nat.{ℕ, _+_, _<_, min}
 use native.Mathlib.Numerals.{add-one}
 use native.Mathlib.Omega.{arith}
 use mathlib.Core.Path.{_≡_, refl, sym, ap, ap₂, _∙_}
-use mathlib.Core.Bool.{Bool, true, false, cond, _&&_, _||_}
+use mathlib.Core.Bool.{true, false, cond, _&&_, _||_}
 use mathlib.Core.List.{List, [], _∷_, _++_, append-assoc}
 use lib.Dec.{eqb, leb, ltb}
 use lib.ListN.{length, getD, drop, length-append, length-drop}
@@ -14,12 +14,11 @@ use Rattle.words.specs.ByteLaws.{and-left, and-right}
 use Rattle.words.specs.Numerals.{numeralOf}
 use Rattle.words.specs.declared.NumeralValue.{NumeralValue}
 use Rattle.words.specs.declared.NumeralValue.the-variants.{Fits, TooLarge}
-use Rattle.term_parser.specs.Source.{place, Arity, one, many, Source, numeral, metavariable, name, application, none, more, count}
+use Rattle.term_parser.specs.Source.{place, one, many, Source, numeral, metavariable, name, application, none, more, count}
 use Rattle.term_parser.specs.Rows.{Rows, rowsOf}
 use Rattle.term_parser.specs.Depth.{depth}
-use Rattle.term_check.specs.TermRows.{WordPlace, Word, Worded, Lies}
+use Rattle.term_check.specs.TermRows.{WordPlace, Worded, Lies}
 use Rattle.term_check.specs.Walk.{isWordPlace, isHeld, takes, column, wordIn, topOf}
-use Rattle.term_check.specs.declared.Top.{Top}
 use Rattle.term_check.specs.declared.Top.the-variants.{Takes, NoTerm}
 
 -- Rows one after the other

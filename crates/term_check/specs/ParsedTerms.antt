@@ -2,7 +2,6 @@
 use Prim.Native.Nat.{ℕ, zero, suc, _+_, _-_, _≤_, _<_}
 use native.Mathlib.Omega.{arith}
 use mathlib.Core.Path.{_≡_, refl, sym, ap, _∙_}
-use mathlib.Core.Bool.{_&&_}
 use mathlib.Core.List.{List, [], _∷_, _++_, append-assoc}
 use lib.Dec.{eqb}
 use lib.ListN.{length, getD, drop, replicate, length-append}
@@ -11,27 +10,27 @@ use borrow.Author.Tests.{eqb-true}
 use Rattle.words.proofs.Scans.{by-bool}
 use Rattle.words.specs.Names.{nameKind, metavariableKind, numeralKind}
 use Rattle.words.specs.Numerals.{numeralOf}
-use Rattle.words.specs.Lexer.{partOf, zeroRow}
+use Rattle.words.specs.Tokens.{Reading}
+use Rattle.words.specs.Tokens.Reading.{tokens, refused as unread}
+use Rattle.words.specs.Lexer.{cappedOf, lexOf, partOf, zeroRow}
+use Rattle.words.specs.declared.Limits.{Limits}
 use Rattle.words.specs.declared.NumeralValue.the-variants.{Fits}
 use Rattle.term_parser.specs.Source.{Source, one, many, numeral, metavariable, name as called, application, none, more, count, allOf, extend}
 use Rattle.term_parser.specs.Parsing.{Tokens, kindOf, lineOf, lastLine, Parsed, parsed, absent, refused, plus, follow, required, signOf, repeat}
 use Rattle.term_parser.specs.Grammar.{value, applied, equated, atomOf, appOf, termOf, parenthesis}
 use Rattle.term_parser.specs.Rows.{Rows, rowsOf, rowsOfAll}
 use Rattle.term_parser.specs.Lists.{name, titleOf, arrowsOf, term, judgmentsOf}
-use Rattle.term_parser.specs.ReaderLaws.{Each, Comes, Any, any-comes, plus-comes, past-comes, required-comes, when-comes, repeat-each}
+use Rattle.term_parser.specs.ReaderLaws.{Each, Comes, plus-comes, past-comes, required-comes, when-comes, repeat-each}
 use Rattle.term_parser.specs.declared.Refusal.the-variants.{TermExpected}
 use Rattle.parser.specs.Source.{Declaration, sort, ctor, pred, rule, def, theorem, eval, check}
 use Rattle.parser.specs.Declarations.{endsInProp, Declared, bindersOf, tacticOf, clauseOf, sortOf, ctorOf, predOf, ruleOf, defOf, theoremOf, evalOf, checkOf, bodyOf, declarationOf, parseOf}
 use Rattle.parser.specs.Rows.{declaredRows}
-use Rattle.parser.specs.Parser.{rowsAfter}
+use Rattle.parser.specs.Parser.{rowsAfter, parsedText, textOf}
 use Rattle.term_parser.specs.Depth.{depth}
 use Rattle.parser.specs.Depth.{ShallowDeclared, parse-shallow}
+use Rattle.whole_words.specs.Words.{TokenWhole}
+use Rattle.whole_words.specs.TokensWhole.{tokens-whole}
 use Rattle.term_check.specs.TermRows.{WordPlace, Worded, TermAt}
-
--- A token that is a name, a metavariable or a numeral stands at a word's place, and a numeral has a value.
-pub record TokenWorded (text row : List ℕ) : Type 0 where
-  pub word : 12 ≤ getD row 0 0 → getD row 0 0 ≤ 14 → WordPlace text (getD row 1 0) (getD row 2 0)
-  pub numeral : getD row 0 0 ≡ 14 → (v : ℕ) × (numeralOf (partOf text (getD row 1 0) (getD row 2 0)) ≡ Fits v)
 
 -- The term of an `#eval` or a `#check` is as `check_term` asks; other declarations are not asked.
 abbrev pub Evaluable : List ℕ → Declaration → Type 0
@@ -80,7 +79,7 @@ module _ (text : List ℕ) where
   -- Readers of such tokens
 
   abbrev Tokened : Tokens → Type 0
-  Tokened ts = Each (TokenWorded text) ts
+  Tokened ts = Each (TokenWhole text) ts
 
   -- P holds of what a reader reads from them.
   abbrev Reads : {A : Type 0} → (A → Type 0) → (Tokens → Parsed A) → Type 0
@@ -88,14 +87,18 @@ module _ (text : List ℕ) where
 
   follow-each : {A B : Type 0} (P : A → Type 0) (Q : B → Type 0) (o : Parsed A) (ts : Tokens) (next : A → Tokens → Parsed B) → Tokened ts → Comes P o
       → ((a : A) (us : Tokens) → Tokened us → P a → Comes Q (next a us)) → Comes Q (follow o ts next)
-  follow-each P Q (parsed a n) ts next w h f = plus-comes Q n (next a (drop n ts)) (f a (drop n ts) (each-drop (TokenWorded text) n ts w) h)
+  follow-each P Q (parsed a n) ts next w h f = plus-comes Q n (next a (drop n ts)) (f a (drop n ts) (each-drop (TokenWhole text) n ts w) h)
   follow-each P Q absent ts next w h f = tt
   follow-each P Q (refused r l) ts next w h f = tt
 
+  -- A name, a metavariable and a numeral stand at a word's place.
+  token-place : (t : List ℕ) (kind : ℕ) → kind ≤ 14 → TokenWhole text t → getD t 0 0 ≡ kind → WordPlace text (getD t 1 0) (getD t 2 0)
+  token-place t kind l h e = let w = h .word (omega arith) in record { inside = w .inside; some = w .some; short = w .short }
+
   -- A numeral's token has the value that the parser takes.
-  token-value : (t : List ℕ) → TokenWorded text t → getD t 0 0 ≡ 14
+  token-value : (t : List ℕ) → TokenWhole text t → getD t 0 0 ≡ 14
       → numeralOf (partOf text (getD t 1 0) (getD t 2 0)) ≡ Fits (value (numeralOf (partOf text (getD t 1 0) (getD t 2 0))))
-  token-value t h e = let (v, q) = h .numeral e in rw q refl
+  token-value t h e = let (v, _, q) = h .reads .numeral e in rw q refl
 
   module _ (last : ℕ) where
     module _ (inner : Tokens → Parsed (Source one)) (reads : Reads (Worded text) inner) where
@@ -103,9 +106,10 @@ module _ (text : List ℕ) where
       unfolding atomOf
       atom-reads [] w = tt
       atom-reads (t ∷ ts) w =
-          by-bool (eqb (getD t 0 0) nameKind) (λ e. rw e (let z = eqb-true (getD t 0 0) 12 e in w .0 .word (omega arith) (omega arith)))
-          (λ e. rw e (by-bool (eqb (getD t 0 0) metavariableKind) (λ f. rw f (let z = eqb-true (getD t 0 0) 13 f in w .0 .word (omega arith) (omega arith)))
-          (λ f. rw f (by-bool (eqb (getD t 0 0) numeralKind) (λ g. rw g (let z = eqb-true (getD t 0 0) 14 g in (w .0 .word (omega arith) (omega arith), token-value t (w .0) z)))
+          by-bool (eqb (getD t 0 0) nameKind) (λ e. rw e (token-place t 12 (omega arith) (w .0) (eqb-true _ _ e)))
+          (λ e. rw e (by-bool (eqb (getD t 0 0) metavariableKind) (λ f. rw f (token-place t 13 (omega arith) (w .0) (eqb-true _ _ f)))
+          (λ f. rw f (by-bool (eqb (getD t 0 0) numeralKind)
+          (λ g. rw g (token-place t 14 (omega arith) (w .0) (eqb-true _ _ g), token-value t (w .0) (eqb-true _ _ g)))
           (λ g. rw g (when-comes (Worded text) (eqb (getD t 0 0) 18) (λ _. inner (t ∷ ts)) (λ _. absent) (reads (t ∷ ts) w) tt))))))
 
       app-reads : Reads (Worded text) (appOf text last inner)
@@ -114,14 +118,14 @@ module _ (text : List ℕ) where
           follow-each (Worded text) (Worded text) (required TermExpected (lineOf last ts) (atomOf text last inner ts)) ts _ w
           (required-comes (Worded text) TermExpected (lineOf last ts) (atomOf text last inner ts) (atom-reads ts w))
           (λ t us v h. follow-each (Each (Worded text)) (Worded text) (repeat (atomOf text last inner) us 0 0 []) us _ v
-          (repeat-each (TokenWorded text) (Worded text) (atomOf text last inner) atom-reads us 0 0 [] v tt)
+          (repeat-each (TokenWhole text) (Worded text) (atomOf text last inner) atom-reads us 0 0 [] v tt)
           (λ args vs _ g. applied-worded (lineOf last vs) t args h g))
 
       equals-reads : (t : Source one) → Worded text t → (us : Tokens) → Tokened us
           → Comes (Worded text) (plus 1 (follow (appOf text last inner (drop 1 us)) (drop 1 us) (λ r vs. equated (lineOf last vs) t r)))
       equals-reads t h us w =
           let next : Source one → Tokens → Parsed (Source one) = λ r vs. equated (lineOf last vs) t r in
-          let v = each-drop (TokenWorded text) 1 us w in
+          let v = each-drop (TokenWhole text) 1 us w in
           plus-comes (Worded text) 1 (follow (appOf text last inner (drop 1 us)) (drop 1 us) next)
           (follow-each (Worded text) (Worded text) (appOf text last inner (drop 1 us)) (drop 1 us) next v (app-reads (drop 1 us) v)
           (λ r vs _ g. equated-worded (lineOf last vs) t r h g))
@@ -138,7 +142,7 @@ module _ (text : List ℕ) where
     parenthesis-reads (suc left) ts w =
         let inside : Parsed (Source one) = termOf text last (parenthesis text last left) (drop 1 ts) in
         let closing : Source one → Tokens → Parsed (Source one) = λ t us. follow (signOf last 19 us) us (λ _ vs. parsed t 0) in
-        let v = each-drop (TokenWorded text) 1 ts w in
+        let v = each-drop (TokenWhole text) 1 ts w in
         plus-comes (Worded text) 1 (follow inside (drop 1 ts) closing)
         (follow-each (Worded text) (Worded text) inside (drop 1 ts) closing v (term-reads (parenthesis text last left) (parenthesis-reads left) (drop 1 ts) v)
         (λ t us _ h. past-comes (Worded text) (signOf last 19 us) us (λ _ vs. parsed t 0) (λ _ vs. h)))
@@ -214,7 +218,7 @@ module _ (text : List ℕ) where
   unfolding parseOf
   parsed-evaluable ts ds n w e =
       let g : Comes (Each (Declares (lastLine ts))) (repeat (declarationOf text (lastLine ts)) ts 0 0 [])
-      = repeat-each (TokenWorded text) (Declares (lastLine ts)) (declarationOf text (lastLine ts)) (declared-reads (lastLine ts)) ts 0 0 [] w tt in
+      = repeat-each (TokenWhole text) (Declares (lastLine ts)) (declarationOf text (lastLine ts)) (declared-reads (lastLine ts)) ts 0 0 [] w tt in
       rw e at g
 
 -- Where the rows stand
@@ -245,19 +249,33 @@ term-at text before after t {p} e w d =
     }
 
 -- The declarations `before` take the first rows, then comes the row of the `#eval`, and then its term.
-pub eval-passes : (text : List ℕ) (ts : Tokens) (before after : List Declared) (line : ℕ) (t : Source one) (n m : ℕ) → Each (TokenWorded text) ts
-    → parseOf text ts ≡ parsed (before ++ (record { line = line; declaration = eval t } ∷ after)) n
-    → TermAt text (rowsAfter m (parseOf text ts)) (length (rowsOfAll declaredRows before) + 1) (length (rowsOfAll declaredRows before) + 1 + length (rowsOf t))
-unfolding rowsOfAll
-eval-passes text ts before after line t n m w e =
-    let d : Declared = record { line = line; declaration = eval t } in
-    let ds : List Declared = before ++ (d ∷ after) in
-    let good : Worded text t = each-here (λ d. Evaluable text (d .declaration)) before d after (parsed-evaluable text ts ds n w e) in
-    let flat : depth t ≤ 131 = each-here ShallowDeclared before d after (parse-shallow text ts ds n e) in
-    let first : Rows = rowsOfAll declaredRows before in
-    let top : Rows = (10 ∷ line ∷ 0 ∷ 0 ∷ []) ∷ [] in
-    let rest : Rows = rowsOfAll declaredRows after ++ replicate (m - length (rowsOfAll declaredRows ds)) zeroRow in
-    let a : rowsOfAll declaredRows ds ≡ first ++ (top ++ (rowsOf t ++ rowsOfAll declaredRows after)) = all-append declaredRows before (d ∷ after) in
-    let b : rowsAfter m (parseOf text ts) ≡ (first ++ top) ++ (rowsOf t ++ rest) =
-    ap (rowsAfter m) e ∙ ap (λ (r : Rows). r ++ replicate (m - length (rowsOfAll declaredRows ds)) zeroRow) a ∙ simp append-assoc in
-    rw b (term-at text (first ++ top) rest t (length-append first top) good flat)
+module _ (text : List ℕ) (before after : List Declared) (line : ℕ) (t : Source one) (n m : ℕ) where
+  abbrev evaluation : Declared
+  evaluation = record { line = line; declaration = eval t }
+
+  abbrev first : Rows
+  first = rowsOfAll declaredRows before
+
+  eval-rows : (ts : Tokens) → Each (TokenWhole text) ts → (o : Parsed (List Declared)) → parseOf text ts ≡ o → o ≡ parsed (before ++ (evaluation ∷ after)) n
+      → TermAt text (rowsAfter m o) (length first + 1) (length first + 1 + length (rowsOf t))
+  unfolding rowsOfAll
+  eval-rows ts w o e f =
+      let ds : List Declared = before ++ (evaluation ∷ after) in
+      let good : Worded text t = each-here (λ d. Evaluable text (d .declaration)) before evaluation after (parsed-evaluable text ts ds n w (e ∙ f)) in
+      let flat : depth t ≤ 131 = each-here ShallowDeclared before evaluation after (parse-shallow text ts ds n (e ∙ f)) in
+      let top : Rows = (10 ∷ line ∷ 0 ∷ 0 ∷ []) ∷ [] in
+      let rest : Rows = rowsOfAll declaredRows after ++ replicate (m - length (rowsOfAll declaredRows ds)) zeroRow in
+      let a : rowsOfAll declaredRows ds ≡ first ++ (top ++ (rowsOf t ++ rowsOfAll declaredRows after)) = all-append declaredRows before (evaluation ∷ after) in
+      let b : rowsAfter m o ≡ (first ++ top) ++ (rowsOf t ++ rest) =
+      ap (rowsAfter m) f ∙ ap (λ (r : Rows). r ++ replicate (m - length (rowsOfAll declaredRows ds)) zeroRow) a ∙ simp append-assoc in
+      rw b (term-at text (first ++ top) rest t (length-append first top) good flat)
+
+  -- In the m rows that `parse_text` and `load` leave, the term of every `#eval` passes.
+  pub eval-passes : (limits : Limits) → textOf text limits ≡ parsed (before ++ (evaluation ∷ after)) n
+      → TermAt text (rowsAfter m (textOf text limits)) (length first + 1) (length first + 1 + length (rowsOf t))
+  eval-passes limits e = go (lexOf (cappedOf limits .text) text) refl e
+    where
+      go : (x : Reading) → lexOf (cappedOf limits .text) text ≡ x → parsedText text x ≡ parsed (before ++ (evaluation ∷ after)) n
+          → TermAt text (rowsAfter m (parsedText text x)) (length first + 1) (length first + 1 + length (rowsOf t))
+      go (tokens ts) l f = eval-rows ts (tokens-whole (cappedOf limits .text) text ts l .whole) (parseOf text ts) refl f
+      go (unread r k) l f = absurd (let z : _≡_ {A = ℕ} 0 1 = cc in omega arith)

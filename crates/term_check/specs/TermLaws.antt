@@ -1,16 +1,16 @@
 -- What checked rows are worth: they stand for a term, and for one term only, which ends at one place.
-use Prim.Native.Nat.{ℕ, _+_, _≤_, _<_, min}
+use Prim.Native.Nat.{ℕ, _+_, _≤_, _<_}
 use native.Mathlib.Omega.{arith}
 use mathlib.Core.Path.{_≡_, refl, sym, ap, ap₂, _∙_, subst}
-use mathlib.Core.List.{List, [], _∷_, _++_, append-assoc}
+use mathlib.Core.List.{List, _∷_, _++_, append-assoc}
 use lib.ListN.{length, take, drop, take-append-drop}
 use lib.Seq.{length-take-le}
 use Rattle.words.specs.Numerals.{numeralOf}
 use Rattle.words.specs.Lexer.{partOf}
 use Rattle.words.specs.declared.NumeralValue.the-variants.{Fits}
-use Rattle.term_parser.specs.Source.{Place, place, Arity, one, many, Source, numeral, metavariable, name, application, none, more, count}
+use Rattle.term_parser.specs.Source.{place, Arity, one, many, Source, numeral, metavariable, name, application, none, more, count}
 use Rattle.term_parser.specs.Rows.{Rows, rowsOf}
-use Rattle.term_parser.specs.Standing.{Written, spelled, Stands, stands}
+use Rattle.term_parser.specs.Standing.{spelled, Stands, stands}
 use Rattle.term_check.specs.TermRows.{Worded, Lies, TermAt}
 use Rattle.term_check.specs.LyingLaws.{split, top-inside}
 

@@ -6,13 +6,12 @@ use mathlib.Core.Path.{_≡_, refl, sym, ap, ap₂, _∙_, subst}
 use mathlib.Core.List.{List, [], _∷_}
 use lib.ListN.{length, getD, set, length-set}
 use lib.Seq.{getD-set-same, getD-set-other}
-use Rattle.term_parser.specs.Source.{Source, one, many, none, more, count}
-use Rattle.term_parser.specs.Rows.{Rows, rowsOf}
+use Rattle.term_parser.specs.Source.{Source, many, none, more, count}
+use Rattle.term_parser.specs.Rows.{Rows}
 use Rattle.term_parser.specs.Depth.{depth}
 use Rattle.term_check.specs.TermRows.{Worded, Lies, TermAt, Checking}
-use Rattle.term_check.specs.Walk.{topOf, Topped, Level, Coming, pending, Iff, Walking}
+use Rattle.term_check.specs.Walk.{topOf, Topped, Coming, pending, Iff, Walking}
 use Rattle.term_check.specs.LyingLaws.{lies-none, none-ends, lies-join, middle, lies-first, lies-rest, lies-under, top-inside, top-row, lies-over, none-is, made, split}
-use Rattle.term_check.specs.declared.Top.{Top}
 use Rattle.term_check.specs.declared.Top.the-variants.{Takes, NoTerm}
 use Rattle.term_check.specs.declared.TermChecked.the-variants.{Ends, NoTerm as Nothing}
 
