@@ -1,16 +1,16 @@
 -- What checked rows are worth: they stand for a term, and for one term only, which ends at one place.
-use Prim.Native.Nat.{ℕ, _+_, _≤_, _<_}
+use Prim.Native.Nat.{ℕ, _+_, _≤_, _<_, min}
 use native.Mathlib.Omega.{arith}
 use mathlib.Core.Path.{_≡_, refl, sym, ap, ap₂, _∙_, subst}
 use mathlib.Core.List.{List, _∷_, _++_, append-assoc}
-use lib.ListN.{length, take, drop, take-append-drop}
+use lib.ListN.{length, take, drop, take-append-drop, length-append, length-drop}
 use lib.Seq.{length-take-le}
 use Rattle.words.specs.Numerals.{numeralOf}
 use Rattle.words.specs.Lexer.{partOf}
 use Rattle.words.specs.declared.NumeralValue.the-variants.{Fits}
 use Rattle.term_parser.specs.Source.{place, Arity, one, many, Source, numeral, metavariable, name, application, none, more, count}
 use Rattle.term_parser.specs.Rows.{Rows, rowsOf}
-use Rattle.term_parser.specs.Standing.{spelled, Stands, stands}
+use Rattle.term_parser.specs.Standing.{Written, number, meta, called, applied, nil, cons, size, spelled, Stands, stands}
 use Rattle.term_check.specs.TermRows.{Worded, Lies, TermAt}
 use Rattle.term_check.specs.LyingLaws.{split, top-inside}
 
@@ -28,6 +28,19 @@ lies-stands text {rows} {p} {q} t b l =
 
 pub term-inside : {text : List ℕ} {rows : Rows} {p q : ℕ} → TermAt text rows p q → p < length rows
 term-inside {text} g = let x = split text (g .term) (g .worded) in top-inside (g .term) (x .row) (x .terms) (x .rows) (g .lies)
+
+-- It has a row, and ends inside the rows.
+pub term-ends : {text : List ℕ} {rows : Rows} {p q : ℕ} → TermAt text rows p q → (p < q) × (q ≤ length rows)
+term-ends {text} {rows} {p} {q} g =
+    let x = split text (g .term) (g .worded) in
+    let a = ap length (x .rows) in
+    let b = g .lies .ends in
+    let c = term-inside g in
+    let d = ap length (g .lies .are) in
+    let e = length-drop p rows in
+    let f = length-drop q rows in
+    let h = length-append (rowsOf (g .term)) (drop q rows) in
+    (omega arith, omega arith)
 
 pub term-stands : {text : List ℕ} {rows : Rows} {p q : ℕ} (g : TermAt text rows p q) → Stands text rows p (spelled text (g .term)) q
 term-stands {text} g = let b = term-inside g in lies-stands text (g .term) (omega arith) (g .lies)
@@ -110,3 +123,69 @@ pub term-one : {text : List ℕ} {rows : Rows} {p q m : ℕ} (g : TermAt text ro
 term-one {text} {rows} {p} {q} {m} g h =
     let e : g .term ≡ h .term = rows-one text (g .term) (h .term) (drop q rows) (drop m rows) (g .worded) (h .worded) (alone (g .term) (h .term)) (sym (g .lies .are) ∙ h .lies .are) .0 in
     (e, g .lies .ends ∙ ap (λ (t : Source one). p + length (rowsOf t)) e ∙ sym (h .lies .ends))
+
+-- So whatever term they stand for is that term; but a row holds no numeral above 2^32 - 1.
+
+-- The term with each numeral cut to what a row holds.
+abbrev pub cut : {n : Arity} → Written n → Written n
+cut (number v) = number (min v 4294967295)
+cut (meta w) = meta w
+cut (called w) = called w
+cut (applied w ts) = applied w (cut ts)
+cut nil = nil
+cut (cons t ts) = cons (cut t) (cut ts)
+
+-- How many terms there are; one is not counted.
+unfoldable breadth : {n : Arity} → Written n → ℕ
+breadth (number v) = 0
+breadth (meta w) = 0
+breadth (called w) = 0
+breadth (applied w ts) = 0
+breadth nil = 0
+breadth (cons t ts) = 1 + breadth ts
+
+single : (t : Written one) → 0 ≡ breadth t
+unfolding breadth
+single (number v) = refl
+single (meta w) = refl
+single (called w) = refl
+single (applied w ts) = refl
+
+breadth-size : (ts : Written many) → breadth ts ≡ size ts
+unfolding breadth size
+breadth-size nil = refl
+breadth-size (cons t ts) = ap (λ (i : ℕ). 1 + i) (breadth-size ts)
+
+module _ (text : List ℕ) (rows : Rows) where
+  -- Terms that stand at one place are the same, and end at the same place.
+  stands-same : {n : Arity} (t u : Written n) (p q m : ℕ) → breadth t ≡ breadth u → Stands text rows p t q → Stands text rows p u m → (cut t ≡ cut u) × (q ≡ m)
+  unfolding Stands breadth
+  stands-same (number v) (number w) p q m i h g = (ap number (sym (h .2) ∙ g .2), h .3 ∙ sym (g .3))
+  stands-same (meta v) (meta w) p q m i h g = (ap meta (sym (h .0 .spells) ∙ g .0 .spells), h .1 ∙ sym (g .1))
+  stands-same (called v) (called w) p q m i h g = (ap called (sym (h .0 .spells) ∙ g .0 .spells), h .1 ∙ sym (g .1))
+  stands-same (applied v ts) (applied w us) p q m i h g =
+      let e : size ts ≡ size us = sym (h .0 .counts) ∙ g .0 .counts in
+      let r = stands-same ts us (p + 1) q m (breadth-size ts ∙ e ∙ sym (breadth-size us)) (h .1) (g .1) in
+      (ap₂ applied (sym (h .0 .spells) ∙ g .0 .spells) (r .0), r .1)
+  stands-same nil nil p q m i h g = (refl, h ∙ sym g)
+  stands-same (cons t ts) (cons u us) p q m i h g =
+      let r = stands-same t u p (h .0) (g .0) (sym (single t) ∙ single u) (h .1) (g .1) in
+      let s = stands-same ts us (h .0) q m (omega arith) (h .2) (subst (λ (k : ℕ). Stands text rows k us m) (sym (r .1)) (g .2)) in
+      (ap₂ cons (r .0) (s .0), s .1)
+  stands-same (number v) (meta w) p q m i h g = absurd (let a = h .1 in let b = g .0 .kinded in omega arith)
+  stands-same (number v) (called w) p q m i h g = absurd (let a = h .1 in let b = g .0 .kinded in omega arith)
+  stands-same (number v) (applied w us) p q m i h g = absurd (let a = h .1 in let b = g .0 .kinded in omega arith)
+  stands-same (meta v) (number w) p q m i h g = absurd (let a = h .0 .kinded in let b = g .1 in omega arith)
+  stands-same (meta v) (called w) p q m i h g = absurd (let a = h .0 .kinded in let b = g .0 .kinded in omega arith)
+  stands-same (meta v) (applied w us) p q m i h g = absurd (let a = h .0 .kinded in let b = g .0 .kinded in omega arith)
+  stands-same (called v) (number w) p q m i h g = absurd (let a = h .0 .kinded in let b = g .1 in omega arith)
+  stands-same (called v) (meta w) p q m i h g = absurd (let a = h .0 .kinded in let b = g .0 .kinded in omega arith)
+  stands-same (called v) (applied w us) p q m i h g = absurd (let a = h .0 .kinded in let b = g .0 .kinded in omega arith)
+  stands-same (applied v ts) (number w) p q m i h g = absurd (let a = h .0 .kinded in let b = g .1 in omega arith)
+  stands-same (applied v ts) (meta w) p q m i h g = absurd (let a = h .0 .kinded in let b = g .0 .kinded in omega arith)
+  stands-same (applied v ts) (called w) p q m i h g = absurd (let a = h .0 .kinded in let b = g .0 .kinded in omega arith)
+  stands-same nil (cons u us) p q m i h g = absurd (omega arith)
+  stands-same (cons t ts) nil p q m i h g = absurd (omega arith)
+
+  pub stands-one : {p q m : ℕ} (g : TermAt text rows p q) (w : Written one) → Stands text rows p w m → (cut w ≡ cut (spelled text (g .term))) × (m ≡ q)
+  stands-one {p} {q} {m} g w h = stands-same w (spelled text (g .term)) p m q (sym (single w) ∙ single (spelled text (g .term))) h (term-stands g)

@@ -1,16 +1,18 @@
--- Document 01, The table by place, 1: what is stored must have the form that docs/ lists. The form of a term's rows: exactly those that the parser leaves.
+-- Document 01, The table by place, 1: what is stored must have the form that docs/ lists. The form of a term's rows: exactly those that
+-- the parser leaves.
 use Prim.Native.Nat.{ℕ, _+_, _≤_, _<_}
 use mathlib.Core.Path.{_≡_}
-use mathlib.Core.List.{List, _++_}
+use mathlib.Core.List.{List, [], _∷_, _++_}
 use lib.ListN.{length, drop}
 use Rattle.words.specs.Numerals.{numeralOf}
+use Rattle.words.specs.Answers.{Told, answers, refuses}
 use Rattle.words.specs.declared.NumeralValue.the-variants.{Fits}
 use Rattle.term_parser.specs.Source.{Place, place, Arity, one, Source, numeral, metavariable, name, application, none, more, count}
 use Rattle.term_parser.specs.Rows.{Rows, rowsOf}
 use Rattle.term_parser.specs.Depth.{depth}
 use Rattle.term_parser.specs.Standing.{bytesAt}
 use Rattle.term_check.specs.declared.TermChecked.{TermChecked}
-use Rattle.term_check.specs.declared.TermChecked.the-variants.{Ends}
+use Rattle.term_check.specs.declared.TermChecked.the-variants.{Ends, NoTerm}
 
 -- A word's place: inside the text, of 1 to 64 bytes.
 pub record WordPlace (text : List ℕ) (start n : ℕ) : Type 0 where
@@ -42,7 +44,14 @@ pub record TermAt (text : List ℕ) (rows : Rows) (p q : ℕ) : Type 0 where
   pub worded : Worded text term
   pub shallow : depth term ≤ 131
 
+-- What `check_term` answers, by the paper's numbers: where the term ends, or 1.
+abbrev pub checkedTold : TermChecked → Told
+checkedTold (Ends q) = answers (q ∷ [])
+checkedTold NoTerm = refuses 1 0
+
 -- The promise of `check_term`: it answers where such a term ends, exactly if there is one.
 pub record Checking (text : List ℕ) (rows : Rows) (at : ℕ) (r : TermChecked) : Type 0 where
   pub sound : (q : ℕ) → r ≡ Ends q → TermAt text rows at q
   pub complete : (q : ℕ) → TermAt text rows at q → r ≡ Ends q
+  pub told : (q : ℕ) → TermAt text rows at q → checkedTold r ≡ answers (q ∷ [])
+  pub barred : ((q : ℕ) → TermAt text rows at q → ⊥) → checkedTold r ≡ refuses 1 0

@@ -44,7 +44,9 @@ wordIn text row = partOf text (column row 1) (column row 2)
 -- How many arguments the term takes whose first row this is, if it is one.
 unfoldable pub topOf : List ℕ → List ℕ → Top
 topOf text row =
-    cond (isWordPlace text (column row 1) (column row 2)) (takes (column row 0) (column row 3) (isHeld (numeralOf (wordIn text row)) (column row 3))) NoTerm
+    cond (isWordPlace text (column row 1) (column row 2))
+    (takes (column row 0) (column row 3) (isHeld (numeralOf (wordIn text row)) (column row 3)))
+    NoTerm
 
 -- `top_of`, of a row of four numbers.
 pub record Topped (text row : List ℕ) (r : Top) : Type 0 where

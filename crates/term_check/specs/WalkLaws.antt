@@ -9,7 +9,7 @@ use lib.Seq.{getD-set-same, getD-set-other}
 use Rattle.term_parser.specs.Source.{Source, many, none, more, count}
 use Rattle.term_parser.specs.Rows.{Rows}
 use Rattle.term_parser.specs.Depth.{depth}
-use Rattle.term_check.specs.TermRows.{Worded, Lies, TermAt, Checking}
+use Rattle.term_check.specs.TermRows.{Worded, Lies, TermAt, checkedTold, Checking}
 use Rattle.term_check.specs.Walk.{topOf, Topped, Coming, pending, Iff, Walking}
 use Rattle.term_check.specs.LyingLaws.{lies-none, none-ends, lies-join, middle, lies-first, lies-rest, lies-under, top-inside, top-row, lies-over, none-is, made, split}
 use Rattle.term_check.specs.declared.Top.the-variants.{Takes, NoTerm}
@@ -18,7 +18,13 @@ use Rattle.term_check.specs.declared.TermChecked.the-variants.{Ends, NoT
 -- Ways out
 
 pub checked-none : (text : List ℕ) (rows : Rows) (at : ℕ) → ((q : ℕ) → TermAt text rows at q → ⊥) → Checking text rows at Nothing
-checked-none text rows at never = record { sound = λ q e. absurd (let z : _≡_ {A = ℕ} 0 1 = cc in omega arith); complete = λ q t. absurd (never q t) }
+checked-none text rows at never =
+    record {
+      sound = λ q e. absurd (let z : _≡_ {A = ℕ} 0 1 = cc in omega arith);
+      complete = λ q t. absurd (never q t);
+      told = λ q t. absurd (never q t);
+      barred = λ _. refl;
+    }
 
 -- Turns, over lists of levels
 
@@ -139,9 +145,13 @@ module _ {text : List ℕ} {rows : Rows} {at : ℕ} {left : List ℕ} {d p : ℕ
   pub walk-ends : d ≡ 0 → Checking text rows at (Ends p)
   unfolding pending
   walk-ends e =
+      let here : (q : ℕ) → TermAt text rows at q → p ≡ q = λ q t. subst (λ (i : ℕ). To q (pending left i)) e (h .same q .to t) in
+      let there : (q : ℕ) → p ≡ q → TermAt text rows at q = λ q z. h .same q .from (subst (λ (i : ℕ). To q (pending left i)) (sym e) z) in
       record {
-        sound = λ q f. h .same q .from (subst (λ (i : ℕ). To q (pending left i)) (sym e) (let z : p ≡ q = cc in z));
-        complete = λ q t. let z : p ≡ q = subst (λ (i : ℕ). To q (pending left i)) e (h .same q .to t) in ap Ends z;
+        sound = λ q f. there q (let z : p ≡ q = cc in z);
+        complete = λ q t. ap Ends (here q t);
+        told = λ q t. ap (λ (i : ℕ). checkedTold (Ends i)) (here q t);
+        barred = λ never. absurd (never p (there p refl));
       }
 
   -- A level is done.

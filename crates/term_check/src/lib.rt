@@ -1,7 +1,7 @@
-// Term check: whether stored rows are exactly those of a term, as the parser leaves one; for the tests of goals and expressions. It is a crate of its own
-// and no module of `term_parser`, so that the proofs and edits there stay quick.
+// Term check: whether stored rows are exactly those of a term, as the parser leaves one; for the tests of goals and expressions. It is a
+// crate of its own and no module of `term_parser`, so that the proofs and edits there stay quick, and since its laws speak of whole texts.
 //
-// `check_term` asks nothing of its caller.
+// `check_term` asks nothing of its caller, and its contract fixes the answer on all inputs.
 use words::NumeralValue;
 ghost use mathlib.Core.Path.{_≡_};
 ghost use Rattle.words.specs.Numerals.{numeralOf};
