@@ -13,5 +13,7 @@ fn main() {
         words: 8192,
     };
     let mut rows = [[0u32; 4]; 8192];
-    listing::list(&text[..n], limits, &mut rows);
+    // `listing::size` of these limits.
+    let mut out = [0u8; 213027];
+    listing::list(&text[..n], limits, &mut rows, &mut out);
 }

@@ -1,69 +1,82 @@
-// The token listing of a text, written to standard output.
+// The token listing of a text, written into a lent buffer, and from there to standard output.
 pub mod recorded; // recorded lists of texts
+mod lines; // the line of a token, and of a refused text
 
 use libc::STDOUT_FILENO;
+use lines::write_refused_line;
+use lines::write_token;
 use words::Lexed;
 use words::Limits;
 use words::Row;
 ghost use mathlib.Core.Path.{_≡_};
-ghost use Rattle.words.specs.Lexer.{lexRows};
+ghost use Prim.Native.Nat.{_≤_};
+ghost use lib.ListN.{length, take};
+ghost use Rattle.byte_output.specs.Output.{Written};
+ghost use Rattle.listing.specs.Listing.{tokenLines, listingSize, listedBuffer, listedRows, ListingWritten};
 
-// Writes a line `LINE KIND TEXT` for each token of a text, or the one line `refused N line L`. The rows are left as `lex` leaves them.
-pub fn list(text: &[u8], limits: Limits, rows: &mut [Row])
-    ensures { λ _. ⌜ now (rows .exit) ≡ lexRows (now (text .entry)) limits (now (rows .entry)) ⌝ }
+// What `write_listing` answers: how many bytes it wrote, or that the buffer is shorter than `size` says.
+pub enum Listed {
+    Bytes(usize),
+    TooShort,
+}
+
+// A buffer of so many bytes is enough for the listing of any text under these limits.
+pub fn size(limits: Limits) -> usize
+    ensures { λ r. ⌜ r ≡ listingSize limits ⌝ }
 {
-    match words::lex(text, limits, rows) {
-        Lexed::Tokens(n) => list_rows(text, rows, n),
-        Lexed::Refused(r, line) => write_refusal(words::number(r), line),
-    }
+    35 + 26 * (limits.capped().text as usize)
 }
 
-// Writes the line `refused N line L`.
-pub fn write_refusal(number: u32, line: u32) {
-    io::write_all(STDOUT_FILENO, b"refused ");
-    io::print_decimal(STDOUT_FILENO, number as u64);
-    io::write_all(STDOUT_FILENO, b" line ");
-    io::print_decimal(STDOUT_FILENO, line as u64);
-    io::write_all(STDOUT_FILENO, b"\n");
-}
-
-fn list_rows(text: &[u8], rows: &[Row], count: usize) {
+// Writes the lines of the first `count` rows.
+fn write_tokens(text: &[u8], rows: &[Row], count: usize, out: &mut [u8]) -> usize
+    requires { ⌜ (count ≤ length (now rows)) × (length (tokenLines (now text) (take count (now rows))) ≤ length (now out)) ⌝ }
+    ensures { λ next. ⌜ Written (now (out .entry)) 0 (tokenLines (now (text .entry)) (take count (now (rows .entry))))
+        next (now (out .exit)) ⌝ }
+{
+    let mut at = 0;
     let mut i = 0;
     while i < count {
-        if rows.len() <= i {
-            return;
-        }
-        list_token(text, rows[i]);
+        at = write_token(text, rows[i], out, at);
         i += 1;
     }
+    at
 }
 
-fn list_token(text: &[u8], row: Row) {
-    io::print_decimal(STDOUT_FILENO, row[3] as u64);
-    write_kind(row[0]);
-    io::write_all(
-        STDOUT_FILENO,
-        words::word(text, row[1] as usize, row[2] as usize),
-    );
-    io::write_all(STDOUT_FILENO, b"\n");
+// Writes a line `LINE KIND TEXT` for each token of a text, or the one line `refused N line L`, from the buffer's start on. The rows are
+// left as `lex` leaves them; a buffer that is too short is refused, and nothing is written.
+pub fn write_listing(text: &[u8], limits: Limits, rows: &mut [Row], out: &mut [u8]) -> Listed
+    ensures { λ r. ⌜ ListingWritten (now (text .entry)) limits (now (rows .entry)) (now (rows .exit))
+        (now (out .entry)) (now (out .exit)) r ⌝ }
+{
+    if out.len() < size(limits) {
+        return Listed::TooShort;
+    }
+    match words::lex(text, limits, rows) {
+        Lexed::Tokens(n) => {
+            let end = write_tokens(text, rows, n, out);
+            Listed::Bytes(end)
+        }
+        Lexed::Refused(r, line) => {
+            let end = write_refused_line(words::number(r), line, out, 0);
+            Listed::Bytes(end)
+        }
+    }
 }
 
-fn write_kind(kind: u32) {
-    if kind < words::NAME {
-        io::write_all(STDOUT_FILENO, b" keyword ");
+// Writes the listing of a text to standard output, by way of the buffer.
+pub fn list(text: &[u8], limits: Limits, rows: &mut [Row], out: &mut [u8])
+    ensures buffer { λ _. ⌜ now (out .exit) ≡ listedBuffer (now (text .entry)) limits (now (rows .entry)) (now (out .entry)) ⌝ }
+    ensures rows { λ _. ⌜ now (rows .exit) ≡ listedRows (now (text .entry)) limits (now (rows .entry)) (now (out .entry)) ⌝ }
+{
+    let Listed::Bytes(n) = write_listing(text, limits, rows, out) else {
         return;
-    }
-    if kind == words::NAME {
-        io::write_all(STDOUT_FILENO, b" name ");
-        return;
-    }
-    if kind == words::METAVARIABLE {
-        io::write_all(STDOUT_FILENO, b" metavariable ");
-        return;
-    }
-    if kind == words::NUMERAL {
-        io::write_all(STDOUT_FILENO, b" numeral ");
-        return;
-    }
-    io::write_all(STDOUT_FILENO, b" sign ");
+    };
+    io::write_all(STDOUT_FILENO, words::word(out, 0, n));
+}
+
+// Writes the line `refused N line L` to standard output.
+pub fn write_refusal(number: u32, line: u32) {
+    let mut out = [0u8; 35];
+    let n = write_refused_line(number, line, &mut out, 0);
+    io::write_all(STDOUT_FILENO, words::word(&out, 0, n));
 }

@@ -3,7 +3,9 @@
 // A list has for each text a line `LENGTH LIMIT ROWS`, then LENGTH bytes, then a line end.
 use libc::STDOUT_FILENO;
 use words::Limits;
-ghost use Prim.Native.Nat.{_+_, _^_, _≤_, _<_};
+ghost use mathlib.Core.Path.{_≡_};
+ghost use Prim.Native.Nat.{_+_, _^_, _≤_, _<_, min};
+ghost use Rattle.listing.specs.Recorded.{endOf, digitAt, decimalAt, recordedAt};
 
 // A text of a list: where it stands, the limits and the number of lent rows to read it with, and the place of the next one's line.
 pub struct Recorded {
@@ -25,7 +27,7 @@ const LARGEST: u32 = 0x10_0000;
 
 // Where a list ends.
 pub fn end(list: &[u8]) -> usize
-    ensures { λ r. ⌜ r ≤ 1048576 ⌝ }
+    ensures { λ r. ⌜ r ≡ endOf (now (list .entry)) ⌝ }
 {
     if list.len() < LARGEST as usize {
         return list.len();
@@ -33,9 +35,11 @@ pub fn end(list: &[u8]) -> usize
     LARGEST as usize
 }
 
+// The decimal number at a place: at most 20 digits are read.
 fn read_decimal(list: &[u8], at: usize) -> Decimal
     requires { ⌜ at < 2 ^ 62 ⌝ }
-    ensures { λ r. ⌜ (at < r .next) × (r .next ≤ at + 21) × (r .value ≤ 1048576) ⌝ }
+    ensures is { λ r. ⌜ r ≡ decimalAt (now (list .entry)) at ⌝ }
+    ensures near { λ r. ⌜ (at < r .next) × (r .next ≤ at + 21) × (r .value ≤ 1048576) ⌝ }
 {
     let mut value: u32 = 0;
     let mut i = 0;
@@ -58,7 +62,8 @@ fn read_decimal(list: &[u8], at: usize) -> Decimal
 
 // The digit at a place, or 10.
 fn digit(list: &[u8], at: usize) -> u32
-    ensures { λ r. ⌜ r ≤ 10 ⌝ }
+    ensures is { λ r. ⌜ r ≡ digitAt (now (list .entry)) at ⌝ }
+    ensures small { λ r. ⌜ r ≤ 10 ⌝ }
 {
     if list.len() <= at {
         return 10;
@@ -74,7 +79,7 @@ fn digit(list: &[u8], at: usize) -> u32
 }
 
 fn least(a: u32, b: u32) -> u32
-    ensures { λ r. ⌜ r ≤ b ⌝ }
+    ensures { λ r. ⌜ r ≡ min a b ⌝ }
 {
     if a < b { a } else { b }
 }
@@ -82,7 +87,8 @@ fn least(a: u32, b: u32) -> u32
 // The text whose line is at a place. Only its bytes are limited: no other limit matters before the search.
 pub fn read(list: &[u8], at: usize) -> Recorded
     requires { ⌜ at < 2 ^ 61 ⌝ }
-    ensures { λ r. ⌜ (at < r .next) × (r .next ≤ at + 2000000) ⌝ }
+    ensures is { λ r. ⌜ r ≡ recordedAt (now (list .entry)) at ⌝ }
+    ensures near { λ r. ⌜ (at < r .next) × (r .next ≤ at + 2000000) ⌝ }
 {
     let length = read_decimal(list, at);
     let limit = read_decimal(list, length.next);

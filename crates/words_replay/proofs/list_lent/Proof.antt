@@ -1,4 +1,5 @@
 -- `list_lent` is safe: the rows lent are among those at hand.
+-- No loop.
 use mathlib.Core.Path.{sym}
 use lib.Seq.{length-take-le}
 use borrow.Author.Needs.{needs}
@@ -12,13 +13,16 @@ slice-relend-prefix-list : tie.Need-slice-relend-prefix-list
 slice-relend-prefix-list c = search needs
 
 slice-aggregate-list : tie.Need-slice-aggregate-list
-slice-aggregate-list c = sym (length-take-le (c .before .before .before .args .count) (c .before .before .before .args .rows .now) (c .before .if1 .left))
+slice-aggregate-list c = sym (length-take-le _ _ (c .before .if1 .left))
 
 list-requires : tie.Need-list-requires
 list-requires c κs = search needs
 
 same-length : tie.Need-same-length
 same-length c = search needs
+
+same-length-2 : tie.Need-same-length-2
+same-length-2 c = search needs
 
 returns-2 : tie.Need-returns-2
 returns-2 c = search needs
@@ -32,4 +36,5 @@ list-lent-spec =
     slice-aggregate-list
     list-requires
     same-length
+    same-length-2
     returns-2)

@@ -1,4 +1,5 @@
 -- `replay` is safe and ends: each text moves the place forward.
+-- The loop's invariant: no more texts were listed than bytes passed, and the lent slices keep their lengths.
 use mathlib.Core.Path.{_≡_}
 use Prim.Native.Nat.{_≤_, _-_, _+_}
 use lib.ListN.{length}
@@ -7,10 +8,10 @@ use Rattle.words_replay.proofs.replay.Statement.{statement}
 use Rattle.words_replay.proofs.replay.Tie as tie
 
 abbrev Inv-loop : tie.InvT-loop
-Inv-loop list rows₀ end at₀ number₀ rows at number = (number ≤ at + 1) × (length rows ≡ length rows₀)
+Inv-loop list rows₀ out₀ end at₀ number₀ rows out at number = (number ≤ at + 1) × (length rows ≡ length rows₀) × (length out ≡ length out₀)
 
 abbrev μ-loop : tie.MeasureT-loop
-μ-loop list rows₀ end at₀ number₀ rows at number = end - at
+μ-loop list rows₀ out₀ end at₀ number₀ rows out at number = end - at
 
 end-requires : tie.Need-end-requires Inv-loop μ-loop
 end-requires c κs = search needs
@@ -36,6 +37,9 @@ loop-again c = search needs
 same-length : tie.Need-same-length Inv-loop μ-loop
 same-length c = search needs
 
+same-length-2 : tie.Need-same-length-2 Inv-loop μ-loop
+same-length-2 c = search needs
+
 returns : tie.Need-returns Inv-loop μ-loop
 returns c = search needs
 
@@ -53,4 +57,5 @@ replay-spec =
     loop-less
     loop-again
     same-length
+    same-length-2
     returns)
