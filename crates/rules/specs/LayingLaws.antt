@@ -8,7 +8,7 @@ use mathlib.Core.Bool.{true}
 use mathlib.Core.Logic.{⊎-elim}
 use mathlib.Core.List.{List, [], _∷_, _++_}
 use lib.ListN.{getD, length, take, drop, length-append}
-use lib.Seq.{sets, length-sets, slice, slice-empty, slice-cons, length-slice, length-take-le, take-add, drop-append-le, drop-at, getD-take, getD-drop, ext-getD}
+use lib.Seq.{sets, length-sets, slice, slice-empty, slice-cons, length-slice, length-take-le, take-add, drop-append-le, drop-at}
 use Rattle.terms.specs.Numbers.{same-refl, same-true, by-bool, true-false, less-yes, less-no, or-left, or-right}
 use Rattle.terms.specs.Term.{Kind, one, many, Syn, var, app, nil, cons, Term, Terms, count, append, mem, Below}
 use Rattle.terms.specs.TermLaws.{below-mem, cons-inj}
@@ -483,16 +483,7 @@ nodes-any : (p : Place) (arities xs : List ℕ) (at m n : ℕ) → nodes p ariti
 nodes-any p arities [] at m n = refl
 nodes-any p arities (x ∷ xs) at m n = refl
 
--- A part reads only its own words,
-slice-same : (w w′ : List ℕ) (from to : ℕ) → to ≤ length w → to ≤ length w′ → ((i : ℕ) → i < to → getD w i 0 ≡ getD w′ i 0) → slice from to w ≡ slice from to w′
-slice-same w w′ from to a b s =
-    let m = length-slice from to w a in
-    let n = length-slice from to w′ b in
-    ext-getD 0 (slice from to w) (slice from to w′) (m ∙ sym n)
-    (λ i l. getD-drop from (take to w) i 0 ∙ getD-take to w (from + i) 0 (omega arith) ∙ s (from + i) (omega arith)
-    ∙ sym (getD-drop from (take to w′) i 0 ∙ getD-take to w′ (from + i) 0 (omega arith)))
-
--- and is in two where it is cut.
+-- A part is in two where it is cut.
 slice-append : (w : List ℕ) (from mid to : ℕ) → from ≤ mid → mid ≤ to → to ≤ length w → slice from to w ≡ slice from mid w ++ slice mid to w
 slice-append w from mid to a b c =
     let n = length-take-le mid w (omega arith) in
@@ -500,15 +491,6 @@ slice-append w from mid to a b c =
     let t : take (mid + (to - mid)) w ≡ take mid w ++ take (to - mid) (drop mid w) = take-add mid (to - mid) w in
     let t′ : take to w ≡ take mid w ++ take (to - mid) (drop mid w) = rw d at t in
     rw (t′, drop-append-le from (take mid w) (take (to - mid) (drop mid w)) (omega arith), drop-at (take mid w) (take (to - mid) (drop mid w)) mid n)
-
--- Words written behind words in form change nothing.
-pub form-same : (w w′ : List ℕ) (from to room nv : ℕ) (arities : List ℕ) → from ≤ to → to ≤ length w → to ≤ length w′ → Same room (cells w) (cells w′) to
-    → inForm w from to room nv arities ≡ true → inForm w′ from to room nv arities ≡ true
-unfolding inForm
-form-same w w′ from to room nv arities a b c s e =
-    let n = length-slice from to w b in
-    rw (← (slice-same w w′ from to b c s)) (nodes-elsewhere (record { words = w; room = room; variables = nv; from = from })
-    (record { words = w′; room = room; variables = nv; from = from }) arities to refl refl (omega arith) s (slice from to w) from from 0 (omega arith) (omega arith) e)
 
 -- Words in form behind words in form are in form with them.
 pub form-append : (w : List ℕ) (from mid to room nv : ℕ) (arities : List ℕ) → from ≤ mid → mid ≤ to → to ≤ length w
