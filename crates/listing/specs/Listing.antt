@@ -33,6 +33,7 @@ numeralWord = 32 ∷ 110 ∷ 117 ∷ 109 ∷ 101 ∷ 114 ∷ 97 ∷ 108 ∷ 32 �
 abbrev pub signWord : List ℕ
 signWord = 32 ∷ 115 ∷ 105 ∷ 103 ∷ 110 ∷ 32 ∷ []
 
+-- The word of a kind's number: 1 to 11 are the keywords.
 abbrev pub kindWord : ℕ → List ℕ
 kindWord kind =
     cond (ltb kind nameKind) keywordWord

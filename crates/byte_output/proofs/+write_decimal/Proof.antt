@@ -1,4 +1,5 @@
--- `write_decimal` meets its contract: a number of one digit is written at once, and any other behind the digits of its tenth. The measure is the number.
+-- `write_decimal` meets its contract: a number of one digit is written at once, and any other behind the digits of its tenth.
+-- No loop; the measure of the recursion is the number, so it is at most ten calls deep.
 use native.Mathlib.Omega.{arith}
 use mathlib.Core.Path.{sym, _∙_}
 use Rattle.byte_output.specs.OutputLaws.{written-as}

@@ -1,4 +1,5 @@
--- `write_bytes` meets its contract. The loop's invariant: the first i bytes are written.
+-- `write_bytes` meets its contract: the bytes stand in the buffer from the place on.
+-- The loop's invariant: the first i bytes are written.
 use Prim.Native.Nat.{_+_, _-_, _≤_}
 use native.Mathlib.Omega.{arith}
 use native.Mathlib.Numerals.{add-one}
