@@ -116,7 +116,8 @@ module _ (text : List ℕ) where
     judgments-named : (t : Titles) (s : Signature) (x : Title) (js : List (Source one)) → Named t s
         → Stepping (Named (withRules t (t .rules ++ (x ∷ [])))) (enterJudgments limit text s (spelling text x) js)
     judgments-named t s x [] h = tt
-    judgments-named t s x (j ∷ js) h = rule-enters t s x (spelling text x) (spelled text (allOf (frontOf (j ∷ js)))) (spelled text (lastJudgment j js)) refl h
+    judgments-named t s x (j ∷ js) h =
+        rule-enters t s x (spelling text x) (spelled text (allOf (frontOf (j ∷ js)))) (spelled text (lastJudgment j js)) refl h
 
     clause-named : (t : Titles) (s : Signature) (p : Place) (n : ℕ) (c : Clause) → Named t s
         → Stepping (Named (withRules t (t .rules ++ (titleAt p (n + 1) ∷ [])))) (enterClause limit text s (bytesAt text p) n c)
@@ -126,7 +127,8 @@ module _ (text : List ℕ) where
         go : (o : Flat one) → Stepping (Named (withRules t (t .rules ++ (titleAt p (n + 1) ∷ []))))
             (withRule s (roomIn limit s) (entering (length (s .rules)) (flatRule (s .symbols) (bytesAt text p) n (spelled text (allOf (c .patterns))) o (roomIn limit s))))
         go (flat r ps) =
-            rule-enters t s (titleAt p (n + 1)) (clauseName (bytesAt text p) n) ps (applied (bytesAt text p) (snoc (spelled text (allOf (c .patterns))) r)) (clause-spelling text p n) h
+            rule-enters t s (titleAt p (n + 1)) (clauseName (bytesAt text p) n) ps
+            (applied (bytesAt text p) (snoc (spelled text (allOf (c .patterns))) r)) (clause-spelling text p n) h
 
     clauses-named : (cs : List Clause) (t : Titles) (s : Signature) (p : Place) (n : ℕ) → Named t s
         → Stepping (Named (withRules t (withClauses (t .rules) p n cs))) (enterClauses limit text s (bytesAt text p) n cs)
@@ -135,7 +137,8 @@ module _ (text : List ℕ) where
     clauses-named (c ∷ cs) t s p n h =
         let t₁ : Titles = withRules t (t .rules ++ (titleAt p (n + 1) ∷ [])) in
         let z : n + 1 ≡ suc n = omega arith in
-        then-steps (Named t₁) (Named (withRules t (withClauses (t₁ .rules) p (n + 1) cs))) (enterClause limit text s (bytesAt text p) n c) (λ u. enterClauses limit text u (bytesAt text p) (suc n) cs)
+        then-steps (Named t₁) (Named (withRules t (withClauses (t₁ .rules) p (n + 1) cs))) (enterClause limit text s (bytesAt text p) n c)
+        (λ u. enterClauses limit text u (bytesAt text p) (suc n) cs)
         (clause-named t s p n c h)
         (λ u g. subst (λ (k : ℕ). Stepping (Named (withRules t (withClauses (t₁ .rules) p k cs))) (enterClauses limit text u (bytesAt text p) (suc n) cs)) (sym z) (clauses-named cs t₁ u p (suc n) g))
 
@@ -146,7 +149,8 @@ module _ (text : List ℕ) where
         → Named t s
         → Stepping (Named (entitled t (def p ss cs))) (andThen (enterSymbol s f) (λ u. enterClauses limit text u (bytesAt text p) 0 cs))
     def-named t s p ss cs f e h =
-        then-steps (Named (symbolTitled t p)) (Named (entitled t (def p ss cs))) (enterSymbol s f) (λ u. enterClauses limit text u (bytesAt text p) 0 cs)
+        then-steps (Named (symbolTitled t p)) (Named (entitled t (def p ss cs))) (enterSymbol s f)
+        (λ u. enterClauses limit text u (bytesAt text p) 0 cs)
         (symbol-named t s p f e h) (λ u g. clauses-named cs (symbolTitled t p) u p 0 g)
 
     declare-named : (t : Titles) (s : Signature) (d : Declaration) → Named t s → Stepping (Named (entitled t d)) (declare limit text s d)
@@ -172,7 +176,8 @@ module _ (text : List ℕ) where
     unfolding loadFrom titlesFrom
     from-named [] t s h = h
     from-named (d ∷ ds) t s h =
-        then-loads (Named (entitled t (d .declaration))) (Named (titlesFrom (entitled t (d .declaration)) ds)) (declare limit text s (d .declaration)) (d .line) (λ u. loadFrom limit text u ds)
+        then-loads (Named (entitled t (d .declaration))) (Named (titlesFrom (entitled t (d .declaration)) ds))
+        (declare limit text s (d .declaration)) (d .line) (λ u. loadFrom limit text u ds)
         (declare-named t s (d .declaration) h) (λ u g. from-named ds (entitled t (d .declaration)) u g)
 
 -- The names of a loaded signature are those that its declarations' titles spell.

@@ -95,9 +95,11 @@ module _ (text : List ℕ) (ds : List Declared) (s : Signature) (names : NamesWh
         symbolCount = m;
         ruleCount = k;
         sorts = λ i l. keeps text (rowAt (b .sorts) i) (placeNumber (t .sorts) i)
-            (each-at (WholeName text) (t .sorts) (place 0 0) (names .whole .sorts) i (omega arith)) (sort-spelled text ds s names b x y z i l);
+            (each-at (WholeName text) (t .sorts) (place 0 0) (names .whole .sorts) i (omega arith))
+            (sort-spelled text ds s names b x y z i l);
         symbols = λ i l. keeps text (rowAt (b .symbols) i) (placeNumber (t .symbols) i)
-            (each-at (WholeName text) (t .symbols) (place 0 0) (names .whole .symbols) i (omega arith)) (symbol-spelled text ds s names b x y z i l);
+            (each-at (WholeName text) (t .symbols) (place 0 0) (names .whole .symbols) i (omega arith))
+            (symbol-spelled text ds s names b x y z i l);
         rules = λ i l. record {
           word = each-at (λ (r : Title). NameAt text (r .start) (r .size)) (t .rules) (titleAt (place 0 0) 0) (names .whole .rules) i (omega arith);
           is = rule-spelled text ds s names b x y z i l;
@@ -125,4 +127,5 @@ names-stored-whole text limits b r b′ h n m counts e =
         let names : NamesWhole text ds s = names-whole text limits s q in
         let f = l .answer in
         let c : countsWith text ds s names b′ (l .sortsAre) (l .symbolsAre) (l .rulesAre) (l .used) ≡ counts = cc in
-        subst (λ (k : Counts). NamesStoredWhole text ds b′ k) c (rows-whole text ds s names b′ (l .sortsAre) (l .symbolsAre) (l .rulesAre) (l .used))
+        subst (λ (k : Counts). NamesStoredWhole text ds b′ k) c
+        (rows-whole text ds s names b′ (l .sortsAre) (l .symbolsAre) (l .rulesAre) (l .used))

@@ -62,13 +62,17 @@ module _ (text : List ℕ) where
   unfolding withClauses
   clauses-whole [] ts p n w h = h
   clauses-whole (c ∷ cs) ts (place a b) n w h =
-      clauses-whole cs (ts ++ (titleAt (place a b) (n + 1) ∷ [])) (place a b) (n + 1) w (each-append RuleWhole ts (titleAt (place a b) (n + 1) ∷ []) h (w, tt))
+      clauses-whole cs (ts ++ (titleAt (place a b) (n + 1) ∷ [])) (place a b) (n + 1) w
+      (each-append RuleWhole ts (titleAt (place a b) (n + 1) ∷ []) h (w, tt))
 
   -- With those of a declaration whose words are whole.
   entitled-whole : (t : Titles) (d : Declaration) → DeclarationWhole text d → TitlesWhole text t → TitlesWhole text (entitled t d)
-  entitled-whole t (sort p) w h = record { sorts = each-append (WholeName text) (t .sorts) (p ∷ []) (h .sorts) (w, tt); symbols = h .symbols; rules = h .rules }
-  entitled-whole t (ctor p ss) w h = record { sorts = h .sorts; symbols = each-append (WholeName text) (t .symbols) (p ∷ []) (h .symbols) (w .0, tt); rules = h .rules }
-  entitled-whole t (pred p ss) w h = record { sorts = h .sorts; symbols = each-append (WholeName text) (t .symbols) (p ∷ []) (h .symbols) (w .0, tt); rules = h .rules }
+  entitled-whole t (sort p) w h =
+      record { sorts = each-append (WholeName text) (t .sorts) (p ∷ []) (h .sorts) (w, tt); symbols = h .symbols; rules = h .rules }
+  entitled-whole t (ctor p ss) w h =
+      record { sorts = h .sorts; symbols = each-append (WholeName text) (t .symbols) (p ∷ []) (h .symbols) (w .0, tt); rules = h .rules }
+  entitled-whole t (pred p ss) w h =
+      record { sorts = h .sorts; symbols = each-append (WholeName text) (t .symbols) (p ∷ []) (h .symbols) (w .0, tt); rules = h .rules }
   entitled-whole t (rule (place a b) js) w h =
       record { sorts = h .sorts; symbols = h .symbols; rules = each-append RuleWhole (t .rules) (titleAt (place a b) 0 ∷ []) (h .rules) (w .0, tt) }
   entitled-whole t (def p ss cs) w h =

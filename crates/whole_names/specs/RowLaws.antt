@@ -108,12 +108,14 @@ module _ (text : List ℕ) (ds : List Declared) (s : Signature) (names : NamesWh
   pub symbol-spelled : (i : ℕ) → i < length (s .symbols) → nameIn text (symbolRow i) ≡ bytesAt text (placeNumber (titlesOf ds .symbols) i)
   symbol-spelled i l =
       let n = length-map (s .symbols) (λ f. f .name) in
-      symbol-name i l ∙ sym (of-image (bytesAt text) (titlesOf ds .symbols) symbolNames (place 0 0) [] (sym (names .symbols)) i (omega arith))
+      symbol-name i l ∙ sym
+      (of-image (bytesAt text) (titlesOf ds .symbols) symbolNames (place 0 0) [] (sym (names .symbols)) i (omega arith))
 
   pub rule-spelled : (i : ℕ) → i < length (s .rules) → spelling text (rowTitle (ruleRow i)) ≡ spelling text (titleNumber (titlesOf ds .rules) i)
   rule-spelled i l =
       let n = length-map (s .rules) (λ r. r .name) in
-      rule-name i l ∙ sym (of-image (spelling text) (titlesOf ds .rules) ruleNames (titleAt (place 0 0) 0) [] (sym (names .rules)) i (omega arith))
+      rule-name i l ∙ sym
+      (of-image (spelling text) (titlesOf ds .rules) ruleNames (titleAt (place 0 0) 0) [] (sym (names .rules)) i (omega arith))
 
   -- Two names of the sorts and symbols together
   abbrev all : List Name
@@ -133,7 +135,8 @@ module _ (text : List ℕ) (ds : List Declared) (s : Signature) (names : NamesWh
   same-name v w i j l m p q = let o = names .once i j l m in (λ e. o .0 (sym p ∙ e ∙ q), λ e. p ∙ o .1 e ∙ sym q)
 
   pub one-sort : (i j : ℕ) → i < length (s .sorts) → j < length (s .sorts) → (nameIn text (sortRow i) ≡ nameIn text (sortRow j)) ↔ (i ≡ j)
-  one-sort i j l m = let n = all-long in same-name (nameIn text (sortRow i)) (nameIn text (sortRow j)) i j (omega arith) (omega arith) (sort-all i l) (sort-all j m)
+  one-sort i j l m =
+      let n = all-long in same-name (nameIn text (sortRow i)) (nameIn text (sortRow j)) i j (omega arith) (omega arith) (sort-all i l) (sort-all j m)
 
   pub one-symbol : (i j : ℕ) → i < length (s .symbols) → j < length (s .symbols)
       → (nameIn text (symbolRow i) ≡ nameIn text (symbolRow j)) ↔ (i ≡ j)

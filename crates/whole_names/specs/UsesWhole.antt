@@ -85,24 +85,30 @@ module _ (text : List ℕ) where
   past-each Q o ts next w f = follow-each Any Q o ts next w (any-comes o) (λ a us v _. f a us v)
 
   behind-each : {A : Type 0} (P : A → Type 0) (item : Tokens → Parsed A) (kind : ℕ) → Reads P item → Reads P (behind kind item)
-  behind-each P item kind f ts w = when-comes P (eqb (kindOf ts) kind) _ _ (plus-comes P 1 (item (drop 1 ts)) (f (drop 1 ts) (each-drop (TokenWhole text) 1 ts w))) tt
+  behind-each P item kind f ts w =
+      when-comes P (eqb (kindOf ts) kind) _ _ (plus-comes P 1 (item (drop 1 ts)) (f (drop 1 ts) (each-drop (TokenWhole text) 1 ts w))) tt
 
   all-each : {A : Type 0} (P : A → Type 0) (item : Tokens → Parsed A) → Reads P item → (ts : Tokens) (done : List A) → Tokened ts
       → Each P done → Comes (Each P) (repeat item ts 0 0 done)
   all-each P item f ts done w h = repeat-each (TokenWhole text) P item f ts 0 0 done w h
 
   separated-each : {A : Type 0} (P : A → Type 0) (item : Tokens → Parsed A) (kind : ℕ) → Reads P item → Reads (Each P) (separated kind item)
-  separated-each P item kind f ts w = follow-each P (Each P) (item ts) ts _ w (f ts w) (λ a us v p. all-each P (behind kind item) (behind-each P item kind f) us (a ∷ []) v (p, tt))
+  separated-each P item kind f ts w =
+      follow-each P (Each P) (item ts) ts _ w (f ts w)
+      (λ a us v p. all-each P (behind kind item) (behind-each P item kind f) us (a ∷ []) v (p, tt))
 
   -- Names
 
   module _ (last : ℕ) where
     name-reads : Reads (WholeName text) (name last)
     name-reads [] w = tt
-    name-reads (t ∷ ts) w = by-bool (eqb (getD t 0 0) nameKind) (λ e. rw e (token-word text t 12 (omega arith) (w .0) (eqb-true _ _ e))) (λ e. rw e tt)
+    name-reads (t ∷ ts) w =
+        by-bool (eqb (getD t 0 0) nameKind) (λ e. rw e (token-word text t 12 (omega arith) (w .0) (eqb-true _ _ e))) (λ e. rw e tt)
 
     title-reads : Reads (WholeName text) (titleOf last)
-    title-reads ts w = follow-each (WholeName text) (WholeName text) (name last ts) ts _ w (name-reads ts w) (λ n us v p. past-each (WholeName text) (signOf last 20 us) us _ v (λ _ vs _. p))
+    title-reads ts w =
+        follow-each (WholeName text) (WholeName text) (name last ts) ts _ w (name-reads ts w)
+        (λ n us v p. past-each (WholeName text) (signOf last 20 us) us _ v (λ _ vs _. p))
 
     arrows-read : Reads (Each (WholeName text)) (arrowsOf last)
     arrows-read = separated-each (WholeName text) (name last) 15 name-reads
@@ -131,7 +137,8 @@ module _ (text : List ℕ) where
 
     tactic-reads : Reads (TacticWhole text) (tacticOf last)
     tactic-reads ts w =
-        when-comes (TacticWhole text) (eqb (kindOf ts) 17) _ _ (plus-comes (TacticWhole text) 1 (byOf last (drop 1 ts)) (by-reads (drop 1 ts) (each-drop (TokenWhole text) 1 ts w))) tt
+        when-comes (TacticWhole text) (eqb (kindOf ts) 17) _ _
+        (plus-comes (TacticWhole text) 1 (byOf last (drop 1 ts)) (by-reads (drop 1 ts) (each-drop (TokenWhole text) 1 ts w))) tt
 
   -- Terms
 
@@ -195,7 +202,8 @@ module _ (text : List ℕ) where
     judgments-read = separated-each (TermWhole text) (term text last) 15 a-term
 
     patterns-read : Reads (Each (TermWhole text)) (patternsOf text last)
-    patterns-read ts w = when-comes (Each (TermWhole text)) (eqb (kindOf ts) 16) _ _ tt (separated-each (TermWhole text) (app text last) 21 an-app ts w)
+    patterns-read ts w =
+        when-comes (Each (TermWhole text)) (eqb (kindOf ts) 16) _ _ tt (separated-each (TermWhole text) (app text last) 21 an-app ts w)
 
     clause-reads : Reads (ClauseWhole text) (clauseOf text last)
     clause-reads = behind-each (ClauseWhole text) (behindBar text last) 22 (λ ts w.

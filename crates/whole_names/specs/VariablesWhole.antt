@@ -82,16 +82,20 @@ module _ (text : List ℕ) where
   own-words (application p ts) h = own-words ts (h .1)
   own-words none h = tt
   own-words (more t ts) h = (
-    words-map (WordAmong text (wordsIn t)) (WordAmong text (wordsIn t ++ wordsIn ts)) (among-left (wordsIn t) (wordsIn ts)) (spelled text t) (own-words t (h .0)),
-    words-map (WordAmong text (wordsIn ts)) (WordAmong text (wordsIn t ++ wordsIn ts)) (among-right (wordsIn t) (wordsIn ts)) (spelled text ts) (own-words ts (h .1)),
+    words-map (WordAmong text (wordsIn t)) (WordAmong text (wordsIn t ++ wordsIn ts)) (among-left (wordsIn t) (wordsIn ts))
+        (spelled text t) (own-words t (h .0)),
+    words-map (WordAmong text (wordsIn ts)) (WordAmong text (wordsIn t ++ wordsIn ts)) (among-right (wordsIn t) (wordsIn ts))
+        (spelled text ts) (own-words ts (h .1)),
   )
 
   each-own : (l : List (Source one)) → Each (TermWhole text) l → Each (λ t. Words (WordAmong text (wordsIn (allOf l))) (spelled text t)) l
   unfolding wordsIn allOf
   each-own [] h = tt
   each-own (t ∷ l) h = (
-    words-map (WordAmong text (wordsIn t)) (WordAmong text (wordsIn (allOf (t ∷ l)))) (among-left (wordsIn t) (wordsIn (allOf l))) (spelled text t) (own-words t (h .0)),
-    each-map (λ u. Words (WordAmong text (wordsIn (allOf l))) (spelled text u)) (λ u. Words (WordAmong text (wordsIn (allOf (t ∷ l)))) (spelled text u)) l
+    words-map (WordAmong text (wordsIn t)) (WordAmong text (wordsIn (allOf (t ∷ l)))) (among-left (wordsIn t) (wordsIn (allOf l)))
+        (spelled text t) (own-words t (h .0)),
+    each-map (λ u. Words (WordAmong text (wordsIn (allOf l))) (spelled text u))
+        (λ u. Words (WordAmong text (wordsIn (allOf (t ∷ l)))) (spelled text u)) l
         (λ u. words-map (WordAmong text (wordsIn (allOf l))) (WordAmong text (wordsIn (allOf (t ∷ l)))) (among-right (wordsIn t) (wordsIn (allOf l))) (spelled text u))
         (each-own l (h .1)),
   )
@@ -202,7 +206,8 @@ module _ (P : Name → Type 0) where
     unfolding Words
     resulted-words w us ps h g = (
       results (suc (size ps)),
-      snoc-words P ps (applied w (snoc us (called (resultName (suc (size ps)))))) g (snoc-words P us (called (resultName (suc (size ps)))) h (results (suc (size ps)))),
+      snoc-words P ps (applied w (snoc us (called (resultName (suc (size ps)))))) g
+          (snoc-words P us (called (resultName (suc (size ps)))) h (results (suc (size ps)))),
     )
 
     calling-words : (b : Bool) (w : Name) (o : Flat many) → Flattens o → Flattens (calling b w o)
@@ -225,7 +230,8 @@ module _ (P : Name → Type 0) where
     flatten-words symbols (number v) ps w h = (tt, h)
     flatten-words symbols (meta x) ps w h = (w, h)
     flatten-words symbols (called x) ps w h = by-bool (isFunction symbols x) (λ e. rw e (resulted-words x nil ps tt h)) (λ e. rw e (w, h))
-    flatten-words symbols (applied x ts) ps w h = calling-words (isFunction symbols x) x (flattenOf symbols ts ps) (flatten-words symbols ts ps w h)
+    flatten-words symbols (applied x ts) ps w h =
+        calling-words (isFunction symbols x) x (flattenOf symbols ts ps) (flatten-words symbols ts ps w h)
     flatten-words symbols nil ps w h = (tt, h)
     flatten-words symbols (cons t ts) ps w h =
         and-words (flattenOf symbols t ps) (λ u qs. paired u (flattenOf symbols ts qs)) (flatten-words symbols t ps (w .0) h)
@@ -256,7 +262,8 @@ module _ (text : List ℕ) where
       (own-words text (c .body) (h .body)) in
       let k = flatten-words P (λ n. result n refl) symbols (spelled text (c .body)) nil body tt in
       let g : Flattens P (flat r ps) = rw e at k in
-      rule-names P symbols ps (applied (bytesAt text f) (snoc (spelled text (allOf (c .patterns))) r)) room (g .1) (snoc-words P (spelled text (allOf (c .patterns))) r patterns (g .0))
+      rule-names P symbols ps (applied (bytesAt text f) (snoc (spelled text (allOf (c .patterns))) r)) room (g .1)
+      (snoc-words P (spelled text (allOf (c .patterns))) r patterns (g .0))
 
   declared-variables : (d : Declaration) → DeclarationWhole text d → VariablesWhole text d
   declared-variables (sort p) h = tt

@@ -93,14 +93,16 @@ ordered-append low mid high (t ∷ ts) us h g = (h .0, ordered-append (getD t 1 
 ordered-from : (low high : ℕ) (ts : List (List ℕ)) → Ordered low high ts → (j : ℕ) → j < length ts → low ≤ getD (getD ts j []) 1 0
 ordered-from low high [] h j l = absurd (omega arith)
 ordered-from low high (t ∷ ts) h zero l = h .0
-ordered-from low high (t ∷ ts) h (suc j) l = let k = ordered-from (getD t 1 0 + getD t 2 0) high ts (h .1) j (omega arith) in let m = h .0 in omega arith
+ordered-from low high (t ∷ ts) h (suc j) l =
+    let k = ordered-from (getD t 1 0 + getD t 2 0) high ts (h .1) j (omega arith) in let m = h .0 in omega arith
 
 ordered-apart : (low high : ℕ) (ts : List (List ℕ)) → Ordered low high ts → (i j : ℕ) → i < j → j < length ts
     → getD (getD ts i []) 1 0 + getD (getD ts i []) 2 0 ≤ getD (getD ts j []) 1 0
 ordered-apart low high [] h i j l m = absurd (omega arith)
 ordered-apart low high (t ∷ ts) h i zero l m = absurd (omega arith)
 ordered-apart low high (t ∷ ts) h zero (suc j) l m = ordered-from (getD t 1 0 + getD t 2 0) high ts (h .1) j (omega arith)
-ordered-apart low high (t ∷ ts) h (suc i) (suc j) l m = ordered-apart (getD t 1 0 + getD t 2 0) high ts (h .1) i j (omega arith) (omega arith)
+ordered-apart low high (t ∷ ts) h (suc i) (suc j) l m =
+    ordered-apart (getD t 1 0 + getD t 2 0) high ts (h .1) i j (omega arith) (omega arith)
 
 -- Tokens in front and behind
 
@@ -213,7 +215,8 @@ module _ (text : List ℕ) where
       → Reads (p + length (codeOf x)) (length text + 1) o
   unfolding andThen
   then-rest p x is (refused r n) h = tt
-  then-rest p x is (tokens ts) h = then-reads (p + length (codeOf x)) (p + length x + 1) (length text + 1) (tokens []) (tokens ts) (rest-reads p x is) h
+  then-rest p x is (tokens ts) h =
+      then-reads (p + length (codeOf x)) (p + length x + 1) (length text + 1) (tokens []) (tokens ts) (rest-reads p x is) h
 
   lines-read : (ls : List (List ℕ)) (p n : ℕ) → p ≤ length text + 1 → lines (drop p text) ≡ ls → Seam text p → Begins text p
       → Reads p (length text + 1) (readLines ls p n)
@@ -232,7 +235,8 @@ module _ (text : List ℕ) where
       let post : List ℕ = comment text p x (h .0) ++ lineRest text p x (h .0) in
       let code : Reads (p + 0) (p + length (codeOf x)) (readAfter (codeOf x) 0 p n)
       = after-reads post (comment-plain text p x (h .0)) (codeOf x) 0 p n (omega arith) (code-split text p x (h .0)) (rw z seam) (code-outside text p x (h .0) begins) in
-      then-reads p (p + length (codeOf x)) (length text + 1) (readAfter (codeOf x) 0 p n) (readLines ls (p + length x + 1) (n + 1)) (rw z at code)
+      then-reads p (p + length (codeOf x)) (length text + 1) (readAfter (codeOf x) 0 p n) (readLines ls (p + length x + 1) (n + 1))
+      (rw z at code)
       (then-rest p x (h .0) (readLines ls (p + length x + 1) (n + 1))
       (lines-read ls (p + length x + 1) (n + 1) (omega arith) (ap (λ j. lines (drop j text)) (sym y) ∙ ap lines (sym (drop-drop (suc (length x)) p text)) ∙ sym (h .1)) (line-seam text p x (h .0)) (line-begins text p x (h .0))))
 

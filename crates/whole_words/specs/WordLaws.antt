@@ -118,7 +118,8 @@ word-take (c ∷ s) = by-bool (isWordByte c) (λ e. rw (word-more c s e) (ap (λ
 
 word-fits : (s : List ℕ) → length (wordOf s) ≤ length s
 word-fits [] = rw word-end (omega arith)
-word-fits (c ∷ s) = by-bool (isWordByte c) (λ e. rw (word-more c s e) (let h = word-fits s in omega arith)) (λ e. rw (word-none c s e) (omega arith))
+word-fits (c ∷ s) =
+    by-bool (isWordByte c) (λ e. rw (word-more c s e) (let h = word-fits s in omega arith)) (λ e. rw (word-none c s e) (omega arith))
 
 word-some : (c : ℕ) (s : List ℕ) → isWordByte c ≡ true → 1 ≤ length (wordOf (c ∷ s))
 word-some c s e = rw (word-more c s e) (omega arith)
