@@ -4,3 +4,4 @@ pub mod ShortLaws
 pub mod ListedLaws
 pub mod RowsLaws
 pub mod LoadLaws
+pub mod ToldLaws

@@ -1,11 +1,12 @@
 -- The contract of `load`: the answer and every lent buffer, on all inputs.
 use Prim.Native.Nat.{ℕ, _+_, _-_, _*_, _/_}
 use mathlib.Core.Path.{_≡_}
-use mathlib.Core.Bool.{Bool, true, false, _||_}
+use mathlib.Core.Bool.{Bool, true, false, cond, _||_}
 use mathlib.Core.List.{List, [], _∷_, _++_}
 use lib.Dec.{ltb}
 use lib.ListN.{length, take, replicate}
 use Rattle.words.specs.Lexer.{cappedOf, zeroRow}
+use Rattle.words.specs.Answers.{Told, answers, refuses}
 use Rattle.words.specs.declared.Limits.{Limits}
 use Rattle.parser.specs.Declarations.{Declared}
 use Rattle.parser.specs.Parser.{textOf, rowsAfter}
@@ -113,7 +114,26 @@ abbrev pub Left : List ℕ → Limits → Buffers → List Declared → Loaded �
 Left text limits b ds (refused e line) r b′ = (r ≡ Barred e line) × (b′ ≡ wiped b)
 Left text limits b ds (loaded s) r b′ = LoadedInto text limits b ds s r b′
 
+-- The answer by the paper's numbers: how many declarations and waiting `#eval` there are, and how many sorts, symbols, rules and words; or the refusal.
+abbrev pub loadingTold : Loading → Told
+loadingTold (Barred e line) = refuses e line
+loadingTold (Entered n k c) = answers (n ∷ k ∷ c .sorts ∷ c .symbols ∷ c .rules ∷ c .words ∷ [])
+
+-- The same of what the definitions come to.
+abbrev pub loadedTold : List Declared → Loaded → Told
+loadedTold ds (refused e line) = refuses e line
+loadedTold ds (loaded s) =
+    answers
+    (length ds
+    ∷ length (evalsFrom 0 ds)
+    ∷ length (s .sorts)
+    ∷ length (s .symbols)
+    ∷ length (s .rules)
+    ∷ length (wordsFrom (s .rules) 0)
+    ∷ [])
+
 -- A buffer that is too short gives 1, and nothing is written.
 pub record LoadingText (text : List ℕ) (limits : Limits) (b : Buffers) (r : Loading) (b′ : Buffers) : Type 0 where
+  pub told : loadingTold r ≡ cond (tooShort limits b) (refuses 1 0) (loadedTold (declaredIn (textOf text limits)) (loadText text limits))
   pub short : tooShort limits b ≡ true → (r ≡ Barred 1 0) × (b′ ≡ b)
   pub enough : tooShort limits b ≡ false → Left text limits b (declaredIn (textOf text limits)) (loadText text limits) r b′

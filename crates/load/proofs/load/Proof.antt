@@ -10,6 +10,7 @@ use Rattle.load.specs.Loading.{Buffers}
 use Rattle.load.proofs.ShortLaws.{enough}
 use Rattle.load.proofs.RowsLaws.{SameLengths, wiped-same}
 use Rattle.load.proofs.LoadLaws.{answered, parse-refused, refused-left, declared, rows-asked, accepted-left}
+use Rattle.load.proofs.ToldLaws.{as-loading}
 use borrow.Author.Needs.{needs}
 use Rattle.load.proofs.load.Statement.{statement}
 use Rattle.load.proofs.load.Tie as tie
@@ -18,7 +19,7 @@ is-short-requires : tie.Need-is-short-requires
 is-short-requires c κs = search needs
 
 returns : tie.Need-returns
-returns c = record { short = λ z. (refl, refl); enough = λ z. true-false (sym (c .before .is-short .ensures) ∙ (c .if1 .taken)) z }
+returns c = as-loading _ _ _ _ _ (λ z. (refl, refl)) (λ z. true-false (sym (c .before .is-short .ensures) ∙ (c .if1 .taken)) z)
 
 parse-text-requires : tie.Need-parse-text-requires
 parse-text-requires c κs = search needs
@@ -133,10 +134,8 @@ returns-2 c =
     } in
     let p = parse-refused (textOf (args .text .now) (args .limits)) (sym (refusal .given .1) ∙ an .is) in
     let w = (leave-nothing .ensures .is) ∙ wiped-same b m l ((parse-text .kept .1 .1 .1 .0)) in
-    record {
-      short = λ z. true-false z no;
-      enough = λ z. refused-left (args .text .now) (args .limits) b d _ _ (number .result) p (number .ensures) w;
-    }
+    as-loading _ _ _ _ _ (λ z. true-false z no)
+    (λ z. refused-left (args .text .now) (args .limits) b d _ _ (number .result) p (number .ensures) w)
 
 same-length-9 : tie.Need-same-length-9
 same-length-9 c = search needs
@@ -216,10 +215,8 @@ returns-3 c =
       evals = (load-rows .last .1 .1 .1 .1 .1 .1 .1 .1 .1 .1 .1 .0);
     } in
     let q = declared (args .text .now) (args .limits) (args .tokens .now) (args .rows .now) (args .calls .now) (args .sorts .now) (args .symbols .now) (args .rules .now) (args .words .now) (args .evals .now) lent an (capped .result .nodes) in
-    record {
-      short = λ z. true-false z no;
-      enough = λ z. accepted-left (args .text .now) (args .limits) (args .tokens .now) (args .rows .now) (args .calls .now) (args .sorts .now) (args .symbols .now) (args .rules .now) (args .words .now) (args .evals .now) lent an (capped .result .nodes) lm b m d l refl refl ((parse-text .kept .1 .1 .1 .0)) (load-rows .result) ((load-rows .ensures .same) (declaredIn (textOf (args .text .now) (args .limits))) (q .0) (q .1) (q .2));
-    }
+    as-loading _ _ _ _ _ (λ z. true-false z no)
+    (λ z. accepted-left (args .text .now) (args .limits) (args .tokens .now) (args .rows .now) (args .calls .now) (args .sorts .now) (args .symbols .now) (args .rules .now) (args .words .now) (args .evals .now) lent an (capped .result .nodes) lm b m d l refl refl ((parse-text .kept .1 .1 .1 .0)) (load-rows .result) ((load-rows .ensures .same) (declaredIn (textOf (args .text .now) (args .limits))) (q .0) (q .1) (q .2)))
 
 pub load-spec : {M : Type 1} → statement M
 load-spec =
