@@ -3,12 +3,13 @@ use mathlib.Core.Path.{_≡_, refl, sym, ap, _∙_, subst}
 use mathlib.Core.List.{List, [], _∷_, _++_}
 use Prim.Native.Nat.{ℕ, suc, _+_, _-_, _≤_, _<_}
 use native.Mathlib.Omega.{arith}
-use lib.ListN.{length}
+use lib.ListN.{length, length-append}
 use Rattle.words.specs.Lexer.{partOf}
 use Rattle.term_parser.specs.Source.{place, allOf}
 use Rattle.term_parser.specs.Standing.{size, spelled}
 use Rattle.parser.specs.Source.{Clause}
 use Rattle.names.specs.Names.{Name}
+use Rattle.names.specs.NamePlaces.{NamePlace}
 use Rattle.names.specs.Symbols.{Rows, Symbol, column, rowAt, symbolsOf}
 use Rattle.rules.specs.PatternLaws.{InputsUpto}
 use Rattle.rules.specs.declared.Title.{Title}
@@ -19,7 +20,6 @@ use Rattle.loader.specs.Signature.{Signature, Step, no, on, andThen, roomIn, wi
 use Rattle.loader.specs.Stored.{titleAt, withClauses}
 use Rattle.loader.specs.Entering.{Storage}
 use Rattle.loader.specs.TermRows.{spelled-size, ClauseStands}
-use Rattle.rule_checks.specs.RuleForm.{Inside}
 use Rattle.declarations.specs.Steps.{Ready, Filled, Advanced, ClauseDeclared, ClausesStand}
 use Rattle.declarations.specs.declared.State.{State}
 use Rattle.declarations.specs.declared.Progress.{Progress}
@@ -62,6 +62,19 @@ clause-symbols : (limit : ℕ) (text : List ℕ) (s : Signature) (f : Name) (i :
 clause-symbols limit text s f i c e =
     rule-symbols s (roomIn limit s) (entering (length (s .rules)) (clauseOf (s .symbols) f i (spelled text (allOf (c .patterns))) (spelled text (c .body)) (roomIn limit s))) e
 
+-- It adds one rule.
+rule-more : (s : Signature) (room : ℕ) (x : Ruled) {t : Signature} → withRule s room x ≡ on t → length (t .rules) ≡ suc (length (s .rules))
+rule-more s room (barred e) q = absurd (let z : _≡_ {A = ℕ} 0 1 = cc in omega arith)
+rule-more s room (ruled R left) {t} q =
+    let e : t .rules ≡ s .rules ++ (R ∷ []) = cc in
+    let l = length-append (s .rules) (R ∷ []) in
+    ap length e ∙ omega arith
+
+clause-more : (limit : ℕ) (text : List ℕ) (s : Signature) (f : Name) (i : ℕ) (c : Clause) {t : Signature} → enterClause limit text s f i c ≡ on t
+    → length (t .rules) ≡ suc (length (s .rules))
+clause-more limit text s f i c e =
+    rule-more s (roomIn limit s) (entering (length (s .rules)) (clauseOf (s .symbols) f i (spelled text (allOf (c .patterns))) (spelled text (c .body)) (roomIn limit s))) e
+
 -- The clauses that are left to enter, when those before the number i are entered.
 pub record Going (text : List ℕ) (limit : ℕ) (rows : Rows) (n start size : ℕ) (symbols rules : Rows) (words : List ℕ) (st₀ st : State) (p i q : ℕ) (all : List Title) (whole : Step) : Type 0 where
   pub titles : List Title
@@ -74,6 +87,8 @@ pub record Going (text : List ℕ) (limit : ℕ) (rows : Rows) (n start size : �
   pub same : whole ≡ enterClauses limit text signature (partOf text start size) i rest
   pub sorts : st .sorts ≡ st₀ .sorts
   pub symbols-kept : st .symbols ≡ st₀ .symbols
+  -- each clause before is a rule.
+  pub counted : i ≤ st .rules
 
 -- All clauses of a function.
 abbrev pub Everywhere : List ℕ → Rows → ℕ → ℕ → ℕ → ℕ → Rows → Rows → List ℕ → State → Rows → List ℕ → State → ℕ → ℕ → Type 0
@@ -84,7 +99,7 @@ Everywhere text rows at n start size symbols rules₀ words₀ st₀ rules words
 pub going-start : {text : List ℕ} {rows : Rows} {at n start size : ℕ} {symbols rules : Rows} {words : List ℕ} {st : State}
     → Everywhere text rows at n start size symbols rules words st rules words st at 0
 going-start limit ts s ready cs q st e =
-    record { titles = ts; signature = s; rest = cs; ready = ready; stand = st; number = omega arith; titled = refl; same = refl; sorts = refl; symbols-kept = refl }
+    record { titles = ts; signature = s; rest = cs; ready = ready; stand = st; number = omega arith; titled = refl; same = refl; sorts = refl; symbols-kept = refl; counted = omega arith }
 
 module _ {text : List ℕ} {limit : ℕ} {rows : Rows} {n start size : ℕ} {symbols rules : Rows} {words : List ℕ} {st₀ st : State} {p i q : ℕ} {all : List Title} {whole : Step} where
   -- The next clause stands at the row p.
@@ -96,7 +111,7 @@ module _ {text : List ℕ} {limit : ℕ} {rows : Rows} {n start size : ℕ} {sym
       go [] s e = absurd (omega arith)
       go (c ∷ cs) s e = (c, s .0, s .1)
 
-  module _ {rules′ : Rows} {words′ : List ℕ} {r : Progress} (inside : Inside text start size)
+  module _ {rules′ : Rows} {words′ : List ℕ} {r : Progress} (inside : NamePlace text start size)
       (declared : ClauseDeclared text rows p i start size symbols rules words st r rules′ words′) where
     -- It is refused, and so are all.
     pub going-refused : {e : ℕ} → Going text limit rows n start size symbols rules words st₀ st p i q all whole → i < n → r ≡ Refused e → whole ≡ no e
@@ -110,7 +125,7 @@ module _ {text : List ℕ} {limit : ℕ} {rows : Rows} {n start size : ℕ} {sym
         go : (cs : List Clause) → ClausesStand text rows p cs q → i + length cs ≡ n → whole ≡ enterClauses limit text (g .signature) (partOf text start size) i cs → whole ≡ no e
         go [] s d w = absurd (omega arith)
         go (c ∷ cs) s d w =
-            let h = step _ (enterClause limit text (g .signature) (partOf text start size) i c) (s .0) (declared .same limit (g .titles) (g .signature) (g .ready) inside c (s .0) (s .1)) in
+            let h = step _ (enterClause limit text (g .signature) (partOf text start size) i c) (s .0) (declared .same limit (g .titles) (g .signature) (g .ready) inside (g .counted) c (s .0) (s .1)) in
             w ∙ rw h refl
 
     -- It is entered, and the others are left.
@@ -158,13 +173,14 @@ module _ {text : List ℕ} {limit : ℕ} {rows : Rows} {n start size : ℕ} {sym
                   ∙ ap (λ (j : ℕ). enterClauses limit text t (partOf text start size) j cs) (sym o);
               sorts = f .sorts ∙ g .sorts;
               symbols-kept = k ∙ g .symbols-kept;
+              counted = (let a = f .kept .number in let b = rd .kept .number in let m = clause-more limit text (g .signature) (partOf text start size) i c e in let n = g .counted in omega arith);
             }
 
         go : (cs : List Clause) → ClausesStand text rows p cs q → i + length cs ≡ n → all ≡ withClauses (g .titles) (place start size) i cs
             → whole ≡ enterClauses limit text (g .signature) (partOf text start size) i cs → Going text limit rows n start size symbols rules′ words′ st₀ st′ next (i + 1) q all whole
         go [] s d ti w = absurd (omega arith)
         go (c ∷ cs) s d ti w =
-            let h = step more (enterClause limit text (g .signature) (partOf text start size) i c) (s .0) (declared .same limit (g .titles) (g .signature) (g .ready) inside c (s .0) (s .1)) in
+            let h = step more (enterClause limit text (g .signature) (partOf text start size) i c) (s .0) (declared .same limit (g .titles) (g .signature) (g .ready) inside (g .counted) c (s .0) (s .1)) in
             turn c cs (s .0) (s .2) d ti w (h .0) (h .1) (h .2) (h .3)
 
   -- No clause is left.

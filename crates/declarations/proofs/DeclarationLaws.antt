@@ -17,7 +17,7 @@ use Rattle.names.specs.Symbols.{Rows, column, rowAt}
 use Rattle.loader.specs.Arrows.{namesAt}
 use Rattle.loader.specs.NameRows.{names-at}
 use Rattle.loader.specs.TermRows.{JudgmentsStand, judgments-stand, ClauseStands, clause-stands}
-use Rattle.loader.specs.TokenPlaceLaws.{Within}
+use Rattle.loader.specs.TokenPlaceLaws.{Named}
 use Rattle.declarations.specs.Steps.{nameAt, placeAt, NameInside, ClausesStand, DeclarationAt}
 
 -- The number of a declaration's keyword, which is the kind of its row.
@@ -107,11 +107,11 @@ pub record Titled (text : List ℕ) (rows : Rows) (p : ℕ) (n : Place) : Type 0
   pub placed : placeAt rows (p + 1) ≡ n
   pub inside : NameInside text rows (p + 1)
 
-titled : (text : List ℕ) (rows : Rows) (p k : ℕ) (n : Place) → rowAt rows (p + 1) ≡ row nameKind n k → Within text n → Titled text rows p n
+titled : (text : List ℕ) (rows : Rows) (p k : ℕ) (n : Place) → rowAt rows (p + 1) ≡ row nameKind n k → Named text n → Titled text rows p n
 titled text rows p k (place s m) e i =
     let a : column (rowAt rows (p + 1)) 1 ≡ s = ap (λ (x : List ℕ). column x 1) e in
     let b : column (rowAt rows (p + 1)) 2 ≡ m = ap (λ (x : List ℕ). column x 2) e in
-    record { named = ap₂ (partOf text) a b; placed = ap₂ place a b; inside = (let j : s + m ≤ length text = i in omega arith) }
+    record { named = ap₂ (partOf text) a b; placed = ap₂ place a b; inside = rw (a, b) i }
 
 -- Each clause takes a row at least.
 clauses-length : (cs : List Clause) → length cs ≤ length (rowsOfAll clauseRows cs)
@@ -139,7 +139,7 @@ module _ (text : List ℕ) (rows : Rows) (p line : ℕ) where
     pub there : p + 2 + length ss ≤ length rows
 
   arrow : (before : Rows) → length before ≡ p → (k b : ℕ) (n : Place) (ss : List Place) (after : Rows) → rows ≡ before ++ ((k ∷ line ∷ length ss ∷ b ∷ []) ∷ (row nameKind n 0 ∷ (rowsOfAll nameRows ss ++ after)))
-      → Within text n → Arrow n ss
+      → Named text n → Arrow n ss
   arrow before from k b n ss after e inside =
       let r : List ℕ = k ∷ line ∷ length ss ∷ b ∷ [] in
       let here = row-here rows before p from r (row nameKind n 0 ∷ (rowsOfAll nameRows ss ++ after)) e in

@@ -10,7 +10,8 @@ use lib.Seq.{sets, getD-set-same, getD-set-other}
 use borrow.Author.Tests.{ltb-true}
 use Rattle.terms.specs.Numbers.{by-bool, by-same}
 use Rattle.resolution.specs.Rules.{Rule}
-use Rattle.names.specs.Symbols.{Rows, Symbol, symbolsOf}
+use Rattle.names.specs.NamePlaces.{NamePlace}
+use Rattle.names.specs.Symbols.{Rows, Symbol, column, symbolsOf}
 use Rattle.rules.specs.Rules.{Ruled, barred, ruled, entering}
 use Rattle.rules.specs.PatternLaws.{aritiesOf, InputsUpto}
 use Rattle.rules.specs.Layout.{ruleWords, rowOf}
@@ -24,7 +25,7 @@ use Rattle.clauses.specs.declared.Outcome.the-variants.{Refused as Barred, Done
 use Rattle.loader.specs.Signature.{Signature, roomIn, withRule}
 use Rattle.loader.specs.Holding.{RulesKept, rules-entered}
 use Rattle.loader.specs.Entering.{Storage}
-use Rattle.rule_checks.specs.RuleForm.{Inside}
+use Rattle.rule_checks.specs.RuleForm.{RuleNamed}
 use Rattle.declarations.specs.Held.{RulesStored, RulesHeld}
 use Rattle.declarations.specs.Steps.{Ready, Told, progressOf, Advanced}
 use Rattle.declarations.specs.declared.State.{State}
@@ -98,7 +99,11 @@ module _ {text : List ℕ} {limit : ℕ} {ts : List Title} {s : Signature} {symb
   told-by title g m e rules′ words′ o h =
       subst (λ (x : ℕ). Told st x o) (sym e) (told-fits title rules′ words′ (entering (st .rules) (g (s .symbols) (min 1024 (st .left)))) o (as-given title g m e rules′ words′ o h))
 
-  module _ (title : Title) (inside : Inside text (title .start) (title .size)) (rules′ : Rows) (words′ : List ℕ) (lentRules : length rules′ ≡ length rules) (lentWords : length words′ ≡ length words) where
+  module _ (title : Title) (inside : NamePlace text (title .start) (title .size)) (clause : title .clause ≤ st .rules + 1) (rules′ : Rows) (words′ : List ℕ) (lentRules : length rules′ ≡ length rules) (lentWords : length words′ ≡ length words) where
+    -- The row of a rule with this title is named.
+    row-named : (row : List ℕ) → (column row 0 ≡ title .start) × (column row 1 ≡ title .size) × (column row 2 ≡ title .clause) → st .rules < 1024 → RuleNamed text row
+    row-named row h few = let e = h .2 in record { place = rw (h .0, h .1) inside; clause = omega arith }
+
     -- A rule entered behind the others is held.
     one-more : (R : Rule) (left : ℕ) (r : Entered) → st .rules < 1024
         → (done : RuleDone text (aritiesOf (s .symbols)) title words (st .used) (min 1024 (st .left)) rules (st .rules) words′ rules′ R left r)
@@ -138,7 +143,7 @@ module _ {text : List ℕ} {limit : ℕ} {ts : List Title} {s : Signature} {symb
           fits = omega arith;
           formed = done .kept .lying .conclusion .formed;
           rulesInside = λ i j. rw (done .written) (by-same i (st .rules)
-              (λ p e. let q = done .placed .0 in let z = done .placed .1 in rw (p, getD-set-same rules (st .rules) (done .row) [] (omega arith), q, z) inside)
+              (λ p e. rw (p, getD-set-same rules (st .rules) (done .row) [] (omega arith)) (row-named (done .row) (done .placed) few))
               (λ p e. rw (getD-set-other rules (st .rules) i (done .row) [] p) (k .rulesInside i (omega arith))));
           exact = rw (row-is, done .laid, us) stored;
         }

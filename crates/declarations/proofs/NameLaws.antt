@@ -12,6 +12,7 @@ use Rattle.terms.specs.Numbers.{by-same}
 use Rattle.words.specs.Lexer.{partOf}
 use Rattle.term_parser.specs.Source.{place}
 use Rattle.names.specs.Names.{Name}
+use Rattle.names.specs.NamePlaces.{NamePlace}
 use Rattle.names.specs.Symbols.{Rows, Symbol, column, rowAt, sortOf, sortsOf, symbolsOf}
 use Rattle.names.specs.SearchLaws.{table-more, sorts-length}
 use Rattle.rules.specs.PatternLaws.{aritiesOf}
@@ -28,7 +29,6 @@ use Rattle.loader.specs.SymbolRows.{SymbolShaped, row-placed, row-shaped, row-m
 use Rattle.loader.specs.SymbolEntry.{inputsOf, outputOf, symbolNamed, arrowRefusal, SymbolEntered}
 use Rattle.loader.proofs.SymbolLaws.{not-refused}
 use Rattle.patterns.proofs.Terms.{symbols-length}
-use Rattle.rule_checks.specs.RuleForm.{Inside}
 use Rattle.declarations.specs.Held.{NamesHeld, RulesHeld, Held}
 use Rattle.declarations.specs.Steps.{sortProgress, Stepped}
 use Rattle.declarations.specs.declared.State.{State}
@@ -61,7 +61,7 @@ module _ {text : List ℕ} {ts : Titles} {s : Signature} {sorts symbols : Rows} 
   symbols-number = let a = names .symbolsLent in let b = names .fewSymbols in sym (ap length (names .symbolsAre)) ∙ symbols-length text symbols (st .symbols) (omega arith)
 
   -- One sort more.
-  sort-held : (start size : ℕ) → Inside text start size → st .sorts < 256
+  sort-held : (start size : ℕ) → NamePlace text start size → st .sorts < 256
       → NamesHeld text (sortTitled ts (place start size)) (record { sorts = s .sorts ++ (partOf text start size ∷ []); symbols = s .symbols; rules = s .rules; nodes = s .nodes }) (set sorts (st .sorts) (start ∷ size ∷ [])) symbols
       (record { sorts = st .sorts + 1; symbols = st .symbols; rules = st .rules; used = st .used; left = st .left })
   unfolding sortsOf
@@ -75,14 +75,14 @@ module _ {text : List ℕ} {ts : Titles} {s : Signature} {sorts symbols : Rows} 
         fewSymbols = names .fewSymbols;
         sortsAre = table-more (sortOf text) sorts (st .sorts) (start ∷ size ∷ []) (omega arith) ∙ ap (λ (x : List Name). x ++ (partOf text start size ∷ [])) (names .sortsAre);
         symbolsAre = names .symbolsAre;
-        sortsInside = row-more (λ (x : List ℕ). Inside text (column x 0) (column x 1)) sorts (st .sorts) (start ∷ size ∷ []) (omega arith) (names .sortsInside) inside;
+        sortsInside = row-more (λ (x : List ℕ). NamePlace text (column x 0) (column x 1)) sorts (st .sorts) (start ∷ size ∷ []) (omega arith) (names .sortsInside) inside;
         symbolsInside = names .symbolsInside;
         shaped = names .shaped;
         exact = sort-stored (names .exact) (place start size) (omega arith);
       }
 
   -- One symbol more.
-  pub symbol-held : (start size output function first clauses : ℕ) (inputs : List ℕ) → Inside text start size → length inputs ≤ 16 → st .symbols < 1024
+  pub symbol-held : (start size output function first clauses : ℕ) (inputs : List ℕ) → NamePlace text start size → length inputs ≤ 16 → st .symbols < 1024
       → NamesHeld text (symbolTitled ts (place start size)) (record { sorts = s .sorts; symbols = s .symbols ++ (record { name = partOf text start size; inputs = inputs; output = output; function = function; first = first; clauses = clauses } ∷ []); rules = s .rules; nodes = s .nodes })
       sorts (set symbols (st .symbols) (symbolRow start size output function first clauses (length inputs) inputs))
       (record { sorts = st .sorts; symbols = st .symbols + 1; rules = st .rules; used = st .used; left = st .left })
@@ -100,7 +100,7 @@ module _ {text : List ℕ} {ts : Titles} {s : Signature} {sorts symbols : Rows} 
         symbolsAre = symbols-more text symbols (set symbols (st .symbols) row) (st .symbols) row (omega arith) refl
             ∙ ap₂ (λ (x : List Symbol) (y : Symbol). x ++ (y ∷ [])) (names .symbolsAre) (row-means start size output function first clauses inputs few text);
         sortsInside = names .sortsInside;
-        symbolsInside = row-more (λ (x : List ℕ). Inside text (column x 0) (column x 1)) symbols (st .symbols) row (omega arith) (names .symbolsInside) (rw (pl .0, pl .1) inside);
+        symbolsInside = row-more (λ (x : List ℕ). NamePlace text (column x 0) (column x 1)) symbols (st .symbols) row (omega arith) (names .symbolsInside) (rw (pl .0, pl .1) inside);
         shaped = row-more SymbolShaped symbols (st .symbols) row (omega arith) (names .shaped) (row-shaped start size output function first clauses inputs few);
         exact = symbol-stored (names .exact) (place start size)
             (record { name = partOf text start size; inputs = inputs; output = output; function = function; first = first; clauses = clauses }) (omega arith);
@@ -131,7 +131,7 @@ abbrev withSort : Signature → Name → Signature
 withSort s w = record { sorts = s .sorts ++ (w ∷ []); symbols = s .symbols; rules = s .rules; nodes = s .nodes }
 
 pub sort-stepped : {text : List ℕ} {limit : ℕ} {ts : Titles} {s : Signature} {sorts symbols rules : Rows} {words : List ℕ} {st : State}
-    → Held text limit ts s sorts symbols rules words st → (p : ℕ) (sorts′ : Rows) (r : Progress) (start size : ℕ) → Inside text start size
+    → Held text limit ts s sorts symbols rules words st → (p : ℕ) (sorts′ : Rows) (r : Progress) (start size : ℕ) → NamePlace text start size
     → r ≡ sortProgress (sortRefusal (sortsOf text sorts (st .sorts)) (symbolsOf text symbols (st .symbols)) (partOf text start size)) p st
     → sorts′ ≡ entered (sortRefusal (sortsOf text sorts (st .sorts)) (symbolsOf text symbols (st .symbols)) (partOf text start size)) sorts (st .sorts) (start ∷ size ∷ [])
     → Stepping Legal (enterSort s (partOf text start size)) → Stepped text limit (sortTitled ts (place start size)) (enterSort s (partOf text start size)) (p + 2) sorts′ symbols rules words r
@@ -188,7 +188,7 @@ unless-no zero t n = absurd (n refl)
 unless-no (suc e) t n = refl
 
 pub symbol-came : {text : List ℕ} {ts : Titles} {s : Signature} {sorts symbols : Rows} {st : State} → NamesHeld text ts s sorts symbols st
-    → {rows : Rows} {p k start size : ℕ} {c : Bool} {function first clauses e : ℕ} {symbols′ : Rows} → Inside text start size
+    → {rows : Rows} {p k start size : ℕ} {c : Bool} {function first clauses e : ℕ} {symbols′ : Rows} → NamePlace text start size
     → SymbolEntered text rows p k start size c function first clauses sorts (st .sorts) symbols (st .symbols) e symbols′
     → Came text (symbolTitled ts (place start size)) s sorts st c (partOf text start size) function first clauses symbols′ e (numbersOf (s .sorts) (namesAt text rows p k))
 symbol-came {text} {ts} {s} {sorts} {symbols} {st} names {rows} {p} {k} {start} {size} {c} {function} {first} {clauses} {e} {symbols′} inside h =

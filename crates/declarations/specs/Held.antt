@@ -1,5 +1,5 @@
 -- What storage holds between two declarations: the rows of sorts and symbols are those of the signature, each rule is kept, its words behind those of the rule
--- before, and the names lie in the text. All are exactly those of the stored signature with these titles.
+-- before, and the names have places in the text. All are exactly those of the stored signature with these titles.
 use Prim.Native.Nat.{ℕ, _+_, _*_, _≤_, _<_}
 use mathlib.Core.Path.{_≡_}
 use mathlib.Core.List.{List}
@@ -8,10 +8,11 @@ use Rattle.arena.specs.Cells.{WellFormed, cells}
 use Rattle.arena.specs.Copies.{patternRoom}
 use Rattle.term_parser.specs.Source.{Place}
 use Rattle.resolution.specs.Rules.{Rule}
+use Rattle.names.specs.NamePlaces.{NamePlace}
 use Rattle.names.specs.Symbols.{Rows, Symbol, column, rowAt, sortsOf, symbolsOf}
 use Rattle.rules.specs.PatternLaws.{aritiesOf}
 use Rattle.rules.specs.declared.Title.{Title}
-use Rattle.rule_checks.specs.RuleForm.{Inside}
+use Rattle.rule_checks.specs.RuleForm.{RuleNamed}
 use Rattle.loader.specs.Signature.{Signature}
 use Rattle.loader.specs.Legal.{Legal}
 use Rattle.loader.specs.Stored.{Titles, sortRows, symbolRows, ruleRows, wordsFrom}
@@ -39,8 +40,8 @@ pub record NamesHeld (text : List ℕ) (t : Titles) (s : Signature) (sorts symbo
   pub fewSymbols : st .symbols ≤ 1024
   pub sortsAre : sortsOf text sorts (st .sorts) ≡ s .sorts
   pub symbolsAre : symbolsOf text symbols (st .symbols) ≡ s .symbols
-  pub sortsInside : (i : ℕ) → i < st .sorts → Inside text (column (rowAt sorts i) 0) (column (rowAt sorts i) 1)
-  pub symbolsInside : (i : ℕ) → i < st .symbols → Inside text (column (rowAt symbols i) 0) (column (rowAt symbols i) 1)
+  pub sortsInside : (i : ℕ) → i < st .sorts → NamePlace text (column (rowAt sorts i) 0) (column (rowAt sorts i) 1)
+  pub symbolsInside : (i : ℕ) → i < st .symbols → NamePlace text (column (rowAt symbols i) 0) (column (rowAt symbols i) 1)
   pub shaped : (i : ℕ) → i < st .symbols → SymbolShaped (rowAt symbols i)
   pub exact : NamesStored (t .sorts) (t .symbols) (s .symbols) sorts symbols (st .sorts) (st .symbols)
 
@@ -55,7 +56,7 @@ pub record RulesHeld (text : List ℕ) (limit : ℕ) (ts : List Title) (s : Sign
   pub left : st .left + s .nodes ≡ limit
   pub fits : st .used + 2 * st .left ≤ 2 * limit
   pub formed : WellFormed patternRoom (cells words) patternRoom (st .used)
-  pub rulesInside : (i : ℕ) → i < st .rules → Inside text (column (rowAt rules i) 0) (column (rowAt rules i) 1)
+  pub rulesInside : (i : ℕ) → i < st .rules → RuleNamed text (rowAt rules i)
   pub exact : RulesStored ts (s .rules) rules words (st .rules) (st .used)
 
 pub record Held (text : List ℕ) (limit : ℕ) (t : Titles) (s : Signature) (sorts symbols rules : Rows) (words : List ℕ) (st : State) : Type 0 where

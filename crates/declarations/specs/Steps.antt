@@ -11,6 +11,7 @@ use Rattle.parser.specs.Source.{Clause, def}
 use Rattle.parser.specs.Declarations.{Declared}
 use Rattle.parser.specs.Rows.{declaredRows}
 use Rattle.names.specs.Names.{Name}
+use Rattle.names.specs.NamePlaces.{NamePlace}
 use Rattle.names.specs.Symbols.{Rows, column, rowAt, symbolsOf}
 use Rattle.rules.specs.PatternLaws.{InputsUpto}
 use Rattle.rules.specs.declared.Title.{Title}
@@ -23,9 +24,8 @@ use Rattle.loader.specs.LegalLaws.{Stepping}
 use Rattle.loader.specs.Arrows.{namesAt}
 use Rattle.loader.specs.SymbolEntry.{SymbolEntered}
 use Rattle.loader.specs.TermRows.{JudgmentsStand, ClauseStands}
-use Rattle.loader.specs.TokenPlaceLaws.{Within}
-use Rattle.loader.specs.PlaceLaws.{titlePlace}
-use Rattle.rule_checks.specs.RuleForm.{Inside}
+use Rattle.loader.specs.TokenPlaceLaws.{Named}
+use Rattle.loader.specs.PlaceLaws.{Titled}
 use Rattle.declarations.specs.Held.{RulesHeld, Held}
 use Rattle.declarations.specs.declared.State.{State}
 use Rattle.declarations.specs.declared.Progress.{Progress}
@@ -39,9 +39,9 @@ nameAt text rows p = partOf text (column (rowAt rows p) 1) (column (rowAt rows p
 abbrev pub placeAt : Rows → ℕ → Place
 placeAt rows p = place (column (rowAt rows p) 1) (column (rowAt rows p) 2)
 
--- The name in a row lies in the text.
+-- The name in a row has a place in the text.
 abbrev pub NameInside : List ℕ → Rows → ℕ → Type 0
-NameInside text rows p = Inside text (column (rowAt rows p) 1) (column (rowAt rows p) 2)
+NameInside text rows p = NamePlace text (column (rowAt rows p) 1) (column (rowAt rows p) 2)
 
 -- Names
 
@@ -125,9 +125,9 @@ pub record ClauseAsked (text : List ℕ) (rows : Rows) (p number : ℕ) (symbols
   pub ready : (limit : ℕ) × (ts : List Title) × (s : Signature) × Ready text limit ts s symbols rules words st
   pub stand : (c : Clause) × (q : ℕ) × ClauseStands text rows p c q
 
--- What it owes.
+-- What it owes, where there are as many rules as clauses before it.
 pub record ClauseDeclared (text : List ℕ) (rows : Rows) (p number start size : ℕ) (symbols rules : Rows) (words : List ℕ) (st : State) (r : Progress) (rules′ : Rows) (words′ : List ℕ) : Type 0 where
-  pub same : (limit : ℕ) (ts : List Title) (s : Signature) → Ready text limit ts s symbols rules words st → Inside text start size
+  pub same : (limit : ℕ) (ts : List Title) (s : Signature) → Ready text limit ts s symbols rules words st → NamePlace text start size → number ≤ st .rules
       → (c : Clause) (q : ℕ) → ClauseStands text rows p c q
       → Advanced text limit (ts ++ (titleAt (place start size) (number + 1) ∷ [])) (enterClause limit text s (partOf text start size) number c) q rules′ words′ st r
 
@@ -142,7 +142,7 @@ pub record ClausesAsked (text : List ℕ) (rows : Rows) (p n start size : ℕ) (
   pub few : n ≤ 65536
   pub outLent : length rows ≤ length out
   pub callsLent : length rows + 32 ≤ length calls
-  pub inside : Inside text start size
+  pub inside : NamePlace text start size
   pub ready : (limit : ℕ) × (ts : List Title) × (s : Signature) × Ready text limit ts s symbols rules words st
   pub stand : (cs : List Clause) × (q : ℕ) × ClausesStand text rows p cs q × (n ≡ length cs)
 
@@ -183,14 +183,14 @@ pub record DefDeclared (text : List ℕ) (rows : Rows) (p : ℕ) (sorts symbols 
       → Stepping Legal (defOf limit text s (nameAt text rows (p + 1)) (namesAt text rows (p + 2) (column (rowAt rows p) 2)) cs)
       → Stepped text limit (entitled ts (def (placeAt rows (p + 1)) [] cs)) (defOf limit text s (nameAt text rows (p + 1)) (namesAt text rows (p + 2) (column (rowAt rows p) 2)) cs) q sorts symbols′ rules′ words′ r
 
--- A declaration in the rows from p on and before q, whose name lies in the text.
+-- A declaration in the rows from p on and before q, whose name has a place in the text.
 pub record DeclarationAt (text : List ℕ) (rows : Rows) (p : ℕ) (d : Declared) (q : ℕ) : Type 0 where
   pub before : Rows
   pub after : Rows
   pub split : rows ≡ before ++ (declaredRows d ++ after)
   pub from : length before ≡ p
   pub to : q ≡ p + length (declaredRows d)
-  pub inside : Within text (titlePlace (d .declaration))
+  pub inside : Titled (Named text) (d .declaration)
 
 -- What `declare` asks.
 pub record DeclareAsked (text : List ℕ) (rows : Rows) (p : ℕ) (sorts symbols rules : Rows) (words : List ℕ) (out calls : Rows) (st : State) : Type 0 where

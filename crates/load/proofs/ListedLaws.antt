@@ -10,15 +10,14 @@ use Rattle.arena.specs.Cells.{Same, cells}
 use Rattle.arena.specs.Copies.{patternRoom}
 use Rattle.arena.specs.NodeLaws.{formed-same}
 use Rattle.resolution.specs.Rules.{Rule}
-use Rattle.words.specs.Lexer.{cappedOf}
-use Rattle.words.specs.declared.Limits.{Limits}
+use Rattle.names.specs.NamePlaces.{NamePlace}
 use Rattle.names.specs.Symbols.{Rows, Symbol, column, columns, rowAt, sortOf, symbolOf, sortsOf, symbolsOf, symbolAt}
 use Rattle.names.specs.SearchLaws.{columns-length, columns-at, sorts-length}
 use Rattle.patterns.proofs.Terms.{symbol-at, symbols-length}
 use Rattle.rules.specs.StoredRows.{Kept}
 use Rattle.rules.specs.PatternLaws.{aritiesOf}
 use Rattle.rules.specs.declared.Title.{Title}
-use Rattle.rule_checks.specs.RuleForm.{ruleIn, Inside, RuleFormed}
+use Rattle.rule_checks.specs.RuleForm.{ruleIn, RuleNamed, RuleFormed}
 use Rattle.rule_checks.specs.RuleLaws.{kept-is}
 use Rattle.loader.specs.Signature.{Signature}
 use Rattle.loader.specs.Stored.{Titles}
@@ -50,13 +49,13 @@ held-rules {text} {limit} {ts} {s} {sorts} {symbols} {rules} {words} {st} h =
     ∙ rules-are text (aritiesOf (s .symbols)) words rules 0 (s .rules) 0 (st .used) (omega arith) (k .rulesAre)
 
 -- The row of a legal symbol is in form.
-symbol-formed : {text row : List ℕ} {sorts rules : ℕ} → Inside text (column row 0) (column row 1) → SymbolShaped row → SymbolLegal sorts rules (symbolOf text row)
+symbol-formed : {text row : List ℕ} {sorts rules : ℕ} → NamePlace text (column row 0) (column row 1) → SymbolShaped row → SymbolLegal sorts rules (symbolOf text row)
     → SymbolFormed text sorts rules row
 unfolding symbolOf
 symbol-formed {text} {row} {sorts} {rules} i h g =
     let n : length (columns row 8 (column row 6)) ≡ column row 6 = columns-length row 8 (column row 6) in
     record {
-      inside = i;
+      named = i;
       output = g .output;
       few = h .few;
       inputs = λ j l. let e = columns-at row 8 (column row 6) j l in
@@ -72,7 +71,7 @@ symbol-formed {text} {row} {sorts} {rules} i h g =
     }
 
 -- The row of a legal rule that is kept is in form.
-rule-formed : {text arities words row : List ℕ} {symbols : List Symbol} {sorts u u′ : ℕ} {R : Rule} → Inside text (column row 0) (column row 1) → RuleLegal symbols sorts R
+rule-formed : {text arities words row : List ℕ} {symbols : List Symbol} {sorts u u′ : ℕ} {R : Rule} → RuleNamed text row → RuleLegal symbols sorts R
     → Kept text arities words row R u u′ → RuleFormed text words sorts row
 rule-formed {text} {arities} {words} {row} {symbols} {sorts} {u} {u′} {R} i g k =
     let e = kept-is k in
@@ -83,7 +82,7 @@ rule-formed {text} {arities} {words} {row} {symbols} {sorts} {u} {u′} {R} i g 
     let t = k .to in
     let w = g .small in
     record {
-      inside = i;
+      named = i;
       sorted = λ j l. let d = columns-at row 26 (column row 3) j l in
           let p = f .sorted j (omega arith) in (omega arith, omega arith);
       order = rw n at (f .order);
@@ -100,9 +99,9 @@ kept-at text arities words rows i (R ∷ Rs) u u′ (suc j) h l =
     let z : i + suc j ≡ suc i + j = omega arith in
     rw z (kept-at text arities words rows (suc i) Rs (h .0) u′ j (h .2) (omega arith))
 
-pub held-listed : {text : List ℕ} {limit : ℕ} {ts : Titles} {s : Signature} {sorts symbols rules : Rows} {words : List ℕ} {st : State} → (limits : Limits) → limit ≡ cappedOf limits .nodes
-    → Held text limit ts s sorts symbols rules words st → Listed text limits sorts symbols rules words (st .sorts) (st .symbols) (st .rules) (st .used)
-held-listed {text} {limit} {ts} {s} {sorts} {symbols} {rules} {words} {st} limits e h =
+pub held-listed : {text : List ℕ} {limit : ℕ} {ts : Titles} {s : Signature} {sorts symbols rules : Rows} {words : List ℕ} {st : State}
+    → Held text limit ts s sorts symbols rules words st → Listed text sorts symbols rules words (st .sorts) (st .symbols) (st .rules) (st .used)
+held-listed {text} {limit} {ts} {s} {sorts} {symbols} {rules} {words} {st} h =
     let a = h .names in
     let k = h .kept in
     let g = h .legal in
@@ -112,6 +111,7 @@ held-listed {text} {limit} {ts} {s} {sorts} {symbols} {rules} {words} {st} limit
     let a₄ = a .fewSymbols in
     let k₁ = k .wordsLent in
     let k₂ = k .fits in
+    let k₃ = k .limited in
     let ns : length (s .sorts) ≡ st .sorts = ap length (sym (a .sortsAre)) ∙ sorts-length text sorts (st .sorts) (omega arith) in
     let nf : length (s .symbols) ≡ st .symbols = ap length (sym (a .symbolsAre)) ∙ symbols-length text symbols (st .symbols) (omega arith) in
     let nr : length (s .rules) ≡ st .rules = sym (k .number) in
@@ -121,12 +121,12 @@ held-listed {text} {limit} {ts} {s} {sorts} {symbols} {rules} {words} {st} limit
       sortsLent = a₁;
       symbolsLent = a₃;
       rulesLent = k .rulesLent;
-      wordsLent = rw e at k₁;
       fewSorts = a₂;
       fewSymbols = a₄;
       fewRules = k .fewRules;
-      fewWords = let w : st .used ≤ 2 * limit = omega arith in rw e at w;
-      sortsInside = a .sortsInside;
+      fewWords = omega arith;
+      wordsLent = omega arith;
+      sortsNamed = a .sortsInside;
       distinct = rw (a .sortsAre, a .symbolsAre) (g .distinct);
       symbolsFormed = λ i l. symbol-formed (a .symbolsInside i l) (a .shaped i l) (rw (ns, nr, at i l) at (g .symbols i (omega arith)));
       rulesKept = rw (a .symbolsAre, held-rules h) (k .rulesAre);

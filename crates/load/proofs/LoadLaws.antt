@@ -116,7 +116,7 @@ module _ (text : List ℕ) (limits : Limits) (b c d : Buffers) (same : SameLengt
           sortsAre = rw (← a) (held .names .sortsAre);
           symbolsAre = rw (← f) (held .names .symbolsAre);
           rulesAre = rw (← g) (held-rules held);
-          listed = rw (← a, ← f, ← g, ← u) (held-listed limits limited held);
+          listed = rw (← a, ← f, ← g, ← u) (held-listed held);
         }
 
     pub rows-left : (ds : List Declared) (x : Loaded) → n ≡ length ds → c .rows ≡ rowsAfter (length (b .rows)) (textOf text limits) → RowsLeft text limit n c ds x r d → Left text limits b ds x r d

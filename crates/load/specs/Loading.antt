@@ -106,7 +106,7 @@ pub record LoadedInto (text : List ℕ) (limits : Limits) (b : Buffers) (ds : Li
   pub symbolsAre : symbolsOf text (b′ .symbols) (length (s .symbols)) ≡ s .symbols
   pub rulesAre : rulesOf text (b′ .words) (b′ .rules) (length (s .rules)) ≡ s .rules
   -- and are in the listed form, which `check_signature` accepts.
-  pub listed : Listed text limits (b′ .sorts) (b′ .symbols) (b′ .rules) (b′ .words)
+  pub listed : Listed text (b′ .sorts) (b′ .symbols) (b′ .rules) (b′ .words)
       (length (s .sorts)) (length (s .symbols)) (length (s .rules)) (length (wordsFrom (s .rules) 0))
 
 -- What is left of a text that is refused, by number and line, or loaded.

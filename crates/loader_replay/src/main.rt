@@ -37,7 +37,6 @@ fn parse(text: &[u8], limits: Limits, tokens: &mut [TermRow], rows: &mut [TermRo
 // Lists an answer, and tests the buffers: zero past the counts, zero throughout after a refusal, and after refusal 1 as they were.
 fn list_answer(
     text: &[u8],
-    limits: Limits,
     answer: Loading,
     parsed: Parsed,
     tokens: &[TermRow],
@@ -84,7 +83,7 @@ fn list_answer(
             buffers::test_scratch(tokens, rows, parsed.rows, calls, evals, n as usize, 0);
             buffers::test_signature(sorts, symbols, rules, words, counts, 0);
             buffers::expect(
-                signature::check_signature(text, limits, sorts, symbols, rules, words, counts),
+                signature::check_signature(text, sorts, symbols, rules, words, counts),
                 b"loaded in the listed form",
             );
         }
@@ -137,7 +136,6 @@ fn load_text(
 // Lists an answer, and damages what was loaded.
 fn list_loaded(
     text: &[u8],
-    limits: Limits,
     answer: Loading,
     parsed: Parsed,
     tokens: &[TermRow],
@@ -151,7 +149,6 @@ fn list_loaded(
 ) {
     list_answer(
         text,
-        limits,
         answer,
         parsed,
         tokens,
@@ -163,7 +160,7 @@ fn list_loaded(
         words,
         evals,
     );
-    damage::test(text, limits, sorts, symbols, rules, words, answer);
+    damage::test(text, sorts, symbols, rules, words, answer);
 }
 
 // Loads a text and lists the answer.
@@ -194,7 +191,6 @@ fn list_parsed(
     );
     list_loaded(
         text,
-        limits,
         answer,
         parsed,
         tokens,

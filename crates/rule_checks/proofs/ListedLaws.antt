@@ -58,7 +58,7 @@ module _ (text arities pattern : List ℕ) (sorts used : ℕ) (row : List ℕ) (
         let t = h .kept .to in
         let w = h .within in
         record {
-          inside = h .formed .inside;
+          named = h .formed .named;
           variables = h .kept .few;
           premises = h .kept .premises;
           from = h .kept .from;
@@ -184,7 +184,7 @@ module _ (text arities pattern : List ℕ) (sorts used : ℕ) (row : List ℕ) (
                 sorts-clear = c .sorts-clear;
                 places-clear = c .places-clear;
               };
-              formed = record { inside = n .inside; sorted = c .sorted; order = o .order; small = n .small };
+              formed = record { named = n .named; sorted = c .sorted; order = o .order; small = n .small };
               within = n .within;
             }
 

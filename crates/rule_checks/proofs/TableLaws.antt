@@ -25,9 +25,9 @@ same-at (suc n) v (suc k) l = same-at n v k (omega arith)
 pub records-new : Records [] (replicate 64 64) 0
 records-new = records-none (replicate 64 64) (λ x l. same-at 64 64 x l)
 
--- There is room in a new table and a new stack,
-pub lent-new : Lent (replicate 64 64) (replicate 2048 (0 ∷ 0 ∷ []))
-lent-new = record { long = rw (length-replicate {A = ℕ} 64 64) (omega arith); room = rw (length-replicate {A = List ℕ} 2048 (0 ∷ 0 ∷ [])) (omega arith) }
+-- There is room in a new table and a stack that is lent,
+pub lent-new : {stack : arena.Rows} → 2048 ≤ length stack → Lent (replicate 64 64) stack
+lent-new l = record { long = rw (length-replicate {A = ℕ} 64 64) (omega arith); room = l }
 
 -- and in those that a walk left.
 pub lent-kept : {table table′ : List ℕ} {stack stack′ : arena.Rows} → length table′ ≡ length table → length stack′ ≡ length stack → Lent table stack → Lent table′ stack′

@@ -9,6 +9,7 @@ use Rattle.meeting.specs.Contract.{termOf}
 use Rattle.meeting.specs.Places.{numbersBelow}
 use Rattle.resolution.specs.Rules.{Rule}
 use Rattle.resolution.specs.Fresh.{met}
+use Rattle.names.specs.NamePlaces.{NamePlace}
 use Rattle.names.specs.Symbols.{column, columns}
 use Rattle.rules.specs.StoredRows.{titled, headsIn, Kept}
 use Rattle.rule_checks.specs.declared.Verdict.{Verdict}
@@ -24,14 +25,15 @@ ruleIn text words row =
       conclusion = termOf words (column row 5);
     }
 
--- A place lies inside the text.
-abbrev pub Inside : List ℕ → ℕ → ℕ → Type 0
-Inside text start size = start + size ≤ length text
+-- A rule's name has a place in the text; a clause's number + 1 is at most 1,024, as many as there may be rules.
+pub record RuleNamed (text row : List ℕ) : Type 0 where
+  pub place : NamePlace text (column row 0) (column row 1)
+  pub clause : column row 2 ≤ 1024
 
--- A rule's row, beside what it is for it to be kept: its name is in the text, its variables have sorts that there are and are numbered in the order in which
+-- A rule's row, beside what it is for it to be kept: it is named, its variables have sorts that there are and are numbered in the order in which
 -- they appear, premises first, and its words are at most 2 for each of 1,024 nodes.
 pub record RuleFormed (text words : List ℕ) (sorts : ℕ) (row : List ℕ) : Type 0 where
-  pub inside : Inside text (column row 0) (column row 1)
+  pub named : RuleNamed text row
   pub sorted : (j : ℕ) → j < column row 3 → (0 < column row (26 + j)) × (column row (26 + j) ≤ sorts)
   pub order : met (ruleIn text words row .conclusion) (met (ruleIn text words row .premises) []) ≡ numbersBelow (column row 3)
   pub small : column row 7 + column row 8 ≤ 2048

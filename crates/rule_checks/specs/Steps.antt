@@ -17,15 +17,15 @@ use Rattle.resolution.specs.Fresh.{met, metBack, place}
 use Rattle.resolution.specs.Search.{words}
 use Rattle.names.specs.Symbols.{column}
 use Rattle.rules.specs.StoredRows.{headsIn}
-use Rattle.rule_checks.specs.RuleForm.{Inside}
+use Rattle.rule_checks.specs.RuleForm.{RuleNamed}
 use Rattle.rule_checks.specs.declared.Outcome.{Outcome}
 use Rattle.rule_checks.specs.declared.Outcome.the-variants.{Differs, Fits}
 
 -- The row
 
--- The ten numbers: the name is in the text, variables and premises are few, and the words start at u, are few, and end where words are in use.
+-- The ten numbers: the rule is named, variables and premises are few, and the words start at u, are few, and end where words are in use.
 pub record Numbers (text : List ℕ) (used u : ℕ) (row : List ℕ) : Type 0 where
-  pub inside : Inside text (column row 0) (column row 1)
+  pub named : RuleNamed text row
   pub variables : column row 3 ≤ 64
   pub premises : column row 4 ≤ 16
   pub from : column row 6 ≡ u

@@ -10,9 +10,10 @@ ghost use Rattle.arena.specs.Copies.{patternRoom};
 ghost use Rattle.resolution.specs.Fresh.{met, metBack};
 ghost use Rattle.meeting.specs.Contract.{termOf};
 ghost use Rattle.meeting.specs.Places.{Records};
+ghost use Rattle.names.specs.NamePlaces.{NamePlace};
 ghost use Rattle.names.specs.Symbols.{rowAt, column};
 ghost use Rattle.unifier.specs.Contracts.{Tells};
-ghost use Rattle.rule_checks.specs.RuleForm.{Inside, RuleCheckable, RuleChecked};
+ghost use Rattle.rule_checks.specs.RuleForm.{RuleCheckable, RuleChecked};
 ghost use Rattle.rule_checks.specs.Steps.{Numbers, Zeros, Sorted, Columns, Roots, Parts, Walkable, RootAsked, TermAsked, Lent, premisesOf, Walked, Placed, OrderAsked, InOrder, InPlaces};
 use rules::RuleRow;
 
@@ -20,11 +21,21 @@ use rules::RuleRow;
 const ROOM: u32 = 64;
 // The most words that the terms of a rule take: 2 for each of 1,024 nodes.
 const MOST: u32 = 2048;
+// The most bytes of a name, and the most rules.
+const BYTES: u32 = 64;
 
-// Does a place lie inside the text?
-pub fn is_inside(text: &[u8], start: u32, size: u32) -> bool
-    ensures { λ r. ⌜ Tells r (Inside (now (text .entry)) start size) ⌝ }
+const RULES: u32 = 1024;
+
+// May a name have this place: inside the text, with 1 to 64 bytes?
+pub fn is_name(text: &[u8], start: u32, size: u32) -> bool
+    ensures { λ r. ⌜ Tells r (NamePlace (now (text .entry)) start size) ⌝ }
 {
+    if size == 0 {
+        return false;
+    }
+    if BYTES < size {
+        return false;
+    }
     start as usize + size as usize <= text.len()
 }
 
@@ -49,7 +60,10 @@ fn are_numbers(text: &[u8], used: u32, from: u32, rules: &[RuleRow], i: usize) -
     requires { ⌜ (i < length (now rules)) × (from ≤ used) ⌝ }
     ensures { λ r. ⌜ Tells r (Numbers (now (text .entry)) used from (rowAt (now (rules .entry)) i)) ⌝ }
 {
-    if !is_inside(text, rules[i][0], rules[i][1]) {
+    if !is_name(text, rules[i][0], rules[i][1]) {
+        return false;
+    }
+    if RULES < rules[i][2] {
         return false;
     }
     if 64 < rules[i][3] {
@@ -245,14 +259,21 @@ fn are_placed(words: &[u32], from: u32, to: u32, places: &[u32]) -> bool
     true
 }
 
-// Whether the terms of row i take the words that it counts, and its variables are numbered in writing order.
-fn is_in_order(words: &[u32], from: u32, middle: u32, end: u32, rules: &[RuleRow], i: usize) -> bool
-    requires { ⌜ (i < length (now rules)) × OrderAsked from middle end (rowAt (now rules) i) × Walkable (now words) end (rowAt (now rules) i) ⌝ }
+// Whether the terms of row i take the words that it counts, and its variables are numbered in writing order. The stack is scratch.
+fn is_in_order(
+    words: &[u32],
+    from: u32,
+    middle: u32,
+    end: u32,
+    rules: &[RuleRow],
+    i: usize,
+    stack: &mut [[u32; 2]],
+) -> bool
+    requires { ⌜ (i < length (now rules)) × OrderAsked from middle end (rowAt (now rules) i) × Walkable (now words) end (rowAt (now rules) i) × (2048 ≤ length (now stack)) ⌝ }
     ensures { λ r. ⌜ Tells r (InOrder (now (words .entry)) from (rowAt (now (rules .entry)) i)) ⌝ }
 {
     let mut places = [64u32; 64];
-    let mut stack = [[0u32; 2]; 2048];
-    let Outcome::Fits { count: met } = walk_premises(words, end, rules, i, &mut places, &mut stack)
+    let Outcome::Fits { count: met } = walk_premises(words, end, rules, i, &mut places, stack)
     else {
         return false;
     };
@@ -266,7 +287,7 @@ fn is_in_order(words: &[u32], from: u32, middle: u32, end: u32, rules: &[RuleRow
         &mut places,
         met,
         rules[i][8],
-        &mut stack,
+        stack,
     ) else {
         return false;
     };
@@ -331,7 +352,7 @@ fn are_places(rules: &[RuleRow], i: usize, places: &[u32]) -> bool
     true
 }
 
-// Whether row i has the variables of its conclusion counted and the places of all in meeting order.
+// Whether row i has the variables of its conclusion counted and the places of all in meeting order. The stack is scratch.
 fn is_in_places(
     words: &[u32],
     from: u32,
@@ -339,20 +360,20 @@ fn is_in_places(
     end: u32,
     rules: &[RuleRow],
     i: usize,
+    stack: &mut [[u32; 2]],
 ) -> bool
-    requires { ⌜ (i < length (now rules)) × OrderAsked from middle end (rowAt (now rules) i) × Walkable (now words) end (rowAt (now rules) i) × InOrder (now words) from (rowAt (now rules) i) ⌝ }
+    requires { ⌜ (i < length (now rules)) × OrderAsked from middle end (rowAt (now rules) i) × Walkable (now words) end (rowAt (now rules) i) × InOrder (now words) from (rowAt (now rules) i) × (2048 ≤ length (now stack)) ⌝ }
     ensures { λ r. ⌜ Tells r (InPlaces (now (words .entry)) from (rowAt (now (rules .entry)) i)) ⌝ }
 {
     let mut places = [64u32; 64];
-    let mut stack = [[0u32; 2]; 2048];
-    let met = walk(words, rules[i][5], end, &mut places, 0, &mut stack);
+    let met = walk(words, rules[i][5], end, &mut places, 0, stack);
     if met != rules[i][9] {
         return false;
     }
     if !are_placed(words, middle, end, &places) {
         return false;
     }
-    walk_back(words, end, rules, i, &mut places, met, &mut stack);
+    walk_back(words, end, rules, i, &mut places, met, stack);
     are_places(rules, i, &places)
 }
 
@@ -362,7 +383,8 @@ pub enum Verdict {
     Good { next: u32 },
 }
 
-// Tests the rule in row i, whose words start at `from`; `used` words are in use, and there are so many sorts.
+// Tests the rule in row i, whose words start at `from`; `used` words are in use, and there are so many sorts. The stack is scratch, lent once for all
+// rules: laying one out takes longer than the walk through a small rule.
 pub fn check_rule(
     text: &[u8],
     arities: &[u32],
@@ -372,8 +394,9 @@ pub fn check_rule(
     sorts: u32,
     rules: &[RuleRow],
     i: usize,
+    stack: &mut [[u32; 2]],
 ) -> Verdict
-    requires { ⌜ RuleCheckable (now words) used from ⌝ ∗ ⌜ i < length (now rules) ⌝ }
+    requires { ⌜ RuleCheckable (now words) used from ⌝ ∗ ⌜ (i < length (now rules)) × (2048 ≤ length (now stack)) ⌝ }
     ensures { λ r. ⌜ RuleChecked (now (text .entry)) (now (arities .entry)) (now (words .entry)) sorts used (rowAt (now (rules .entry)) i) from r ⌝ }
 {
     if !are_numbers(text, used, from, rules, i) {
@@ -387,10 +410,10 @@ pub fn check_rule(
     if !are_parts(arities, words, from, middle, end, rules, i) {
         return Verdict::Bad;
     }
-    if !is_in_order(words, from, middle, end, rules, i) {
+    if !is_in_order(words, from, middle, end, rules, i, stack) {
         return Verdict::Bad;
     }
-    if !is_in_places(words, from, middle, end, rules, i) {
+    if !is_in_places(words, from, middle, end, rules, i, stack) {
         return Verdict::Bad;
     }
     Verdict::Good { next: end }

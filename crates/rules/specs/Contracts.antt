@@ -100,7 +100,7 @@ pub record KeepAsked (pattern : List ℕ) (from middle used : ℕ) (heads : List
 pub record Keeping (pattern : List ℕ) (from middle used : ℕ) (heads : List ℕ) (n conclusion : ℕ) (variables : Rows) (v : ℕ) (title : Title) (rules : Rows) (i : ℕ) (rules′ : Rows) : Type 0 where
   pub row : List ℕ
   pub written : rules′ ≡ set rules i row
-  pub placed : (column row 0 ≡ title .start) × (column row 1 ≡ title .size)
+  pub placed : (column row 0 ≡ title .start) × (column row 1 ≡ title .size) × (column row 2 ≡ title .clause)
   pub kept : (text arities : List ℕ) (R : Rule) → RuleLying arities R pattern from (take n heads) middle conclusion used
       → titled text (title .start) (title .size) (title .clause) ≡ R .name → map (λ x. x .sort) (variablesOf text variables v) ≡ R .sorts
       → met (R .conclusion) (met (R .premises) []) ≡ numbersBelow (length (R .sorts))
@@ -134,13 +134,13 @@ pub record RuleAsked (text : List ℕ) (premises : Rows) (p n : ℕ) (conclusion
   pub small : room ≤ 1024
   pub rows : 1024 ≤ length rules
 
--- A rule was entered: its row and its words keep it, its name stands at the title's place, and no earlier word changed.
+-- A rule was entered: its row and its words keep it, its name stands at the title's place, with the title's clause number, and no earlier word changed.
 pub record RuleDone (text arities : List ℕ) (title : Title) (w : List ℕ) (u room : ℕ) (rules : Rows) (number : ℕ) (w′ : List ℕ) (rules′ : Rows) (R : Rule) (room′ : ℕ) (r : Entered) : Type 0 where
   pub used : ℕ
   pub is : r ≡ Entry used room′
   pub row : List ℕ
   pub written : rules′ ≡ set rules number row
-  pub placed : (column row 0 ≡ title .start) × (column row 1 ≡ title .size)
+  pub placed : (column row 0 ≡ title .start) × (column row 1 ≡ title .size) × (column row 2 ≡ title .clause)
   pub kept : Kept text arities w′ row R u used
   -- Row and words are the rule's, and no other word changed.
   pub exact : row ≡ rowOf title u R

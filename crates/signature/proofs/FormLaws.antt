@@ -4,25 +4,24 @@ use native.Mathlib.Omega.{arith}
 use mathlib.Core.Bool.{Bool}
 use mathlib.Core.List.{List}
 use lib.ListN.{length}
-use Rattle.words.specs.declared.Limits.{Limits}
 use Rattle.names.specs.Names.{Distinct}
+use Rattle.names.specs.NamePlaces.{NamePlace}
 use Rattle.names.specs.Symbols.{Rows, column, sortsOf, symbolsOf}
 use Rattle.unifier.specs.Contracts.{Tells}
 use Rattle.rules.specs.PatternLaws.{aritiesOf}
-use Rattle.rule_checks.specs.RuleForm.{Inside}
 use Rattle.loader.specs.Legal.{namesOf}
 use Rattle.signature.specs.Form.{SymbolFormed, Listed, Checked}
-use Rattle.signature.specs.Parts.{Lent, Counted, SortsInside, NumbersFormed, MarkFormed, ClausesFormed, InputsFormed, SymbolsFormed, RulesListed}
+use Rattle.signature.specs.Parts.{Lent, Counted, SortsNamed, NumbersFormed, MarkFormed, ClausesFormed, InputsFormed, SymbolsFormed, RulesListed}
 
 -- A symbol's row.
 module _ (text : List ℕ) (sorts rules : ℕ) (row : List ℕ) where
-  pub row-formed : Inside text (column row 0) (column row 1) → NumbersFormed sorts (column row 2) (column row 6) (column row 7)
+  pub row-formed : NamePlace text (column row 0) (column row 1) → NumbersFormed sorts (column row 2) (column row 6) (column row 7)
       → MarkFormed (column row 2) (column row 3) (column row 5) (column row 6) → ClausesFormed (column row 4) (column row 5) rules → InputsFormed sorts row
       → SymbolFormed text sorts rules row
   row-formed i n m c p =
       let few = n .few in
       record {
-        inside = i;
+        named = i;
         output = n .output;
         few = n .few;
         inputs = λ j l. p j (omega arith) .used l;
@@ -50,7 +49,7 @@ module _ (text : List ℕ) (sorts rules : ℕ) (row : List ℕ) where
     row-inputs j l = record { used = h .inputs j; clear = λ b. h .clear j b l }
 
 -- A signature.
-module _ {limits : Limits} {sorts symbols rules : Rows} {words : List ℕ} {n m k u : ℕ} (lent : Lent limits sorts symbols rules words) (counted : Counted limits n m k u) where
+module _ {sorts symbols rules : Rows} {words : List ℕ} {n m k u : ℕ} (lent : Lent sorts symbols rules) (counted : Counted words n m k u) where
   pub sorts-there : n ≤ length sorts
   sorts-there = let a = lent .sortsLent in let b = counted .fewSorts in omega arith
 
@@ -60,41 +59,35 @@ module _ {limits : Limits} {sorts symbols rules : Rows} {words : List ℕ} {n m 
   pub rules-there : k ≤ length rules
   rules-there = let a = lent .rulesLent in let b = counted .fewRules in omega arith
 
-  pub words-there : u ≤ length words
-  words-there = let a = lent .wordsLent in let b = counted .fewWords in omega arith
-
-  pub words-few : u ≤ 65536
-  words-few = let b = counted .fewWords in omega arith
-
-  pub listed : {text : List ℕ} → SortsInside text sorts n → Distinct (namesOf (sortsOf text sorts n) (symbolsOf text symbols m)) → SymbolsFormed text n k symbols m
-      → RulesListed text (aritiesOf (symbolsOf text symbols m)) words n rules k u → Listed text limits sorts symbols rules words n m k u
-  listed inside distinct formed kept =
+  pub listed : {text : List ℕ} → SortsNamed text sorts n → Distinct (namesOf (sortsOf text sorts n) (symbolsOf text symbols m)) → SymbolsFormed text n k symbols m
+      → RulesListed text (aritiesOf (symbolsOf text symbols m)) words n rules k u → Listed text sorts symbols rules words n m k u
+  listed named distinct formed kept =
       record {
         sortsLent = lent .sortsLent;
         symbolsLent = lent .symbolsLent;
         rulesLent = lent .rulesLent;
-        wordsLent = lent .wordsLent;
         fewSorts = counted .fewSorts;
         fewSymbols = counted .fewSymbols;
         fewRules = counted .fewRules;
         fewWords = counted .fewWords;
-        sortsInside = inside;
+        wordsLent = counted .wordsLent;
+        sortsNamed = named;
         distinct = distinct;
         symbolsFormed = formed;
         rulesKept = kept .kept;
         rulesFormed = kept .formed;
       }
 
-module _ {text : List ℕ} {limits : Limits} {sorts symbols rules : Rows} {words : List ℕ} {n m k u : ℕ} where
-  pub checked : {r : Bool} → Tells r (Listed text limits sorts symbols rules words n m k u) → Checked text limits sorts symbols rules words n m k u r
+module _ {text : List ℕ} {sorts symbols rules : Rows} {words : List ℕ} {n m k u : ℕ} where
+  pub checked : {r : Bool} → Tells r (Listed text sorts symbols rules words n m k u) → Checked text sorts symbols rules words n m k u r
   checked d = record { sound = d .yes; complete = d .back }
 
-  module _ (h : Listed text limits sorts symbols rules words n m k u) where
-    pub listed-lent : Lent limits sorts symbols rules words
-    listed-lent = record { sortsLent = h .sortsLent; symbolsLent = h .symbolsLent; rulesLent = h .rulesLent; wordsLent = h .wordsLent }
+  module _ (h : Listed text sorts symbols rules words n m k u) where
+    pub listed-lent : Lent sorts symbols rules
+    listed-lent = record { sortsLent = h .sortsLent; symbolsLent = h .symbolsLent; rulesLent = h .rulesLent }
 
-    pub listed-counted : Counted limits n m k u
-    listed-counted = record { fewSorts = h .fewSorts; fewSymbols = h .fewSymbols; fewRules = h .fewRules; fewWords = h .fewWords }
+    pub listed-counted : Counted words n m k u
+    listed-counted = record { fewSorts = h .fewSorts; fewSymbols = h .fewSymbols; fewRules = h .fewRules; fewWords = h .fewWords; wordsLent = h .wordsLent }
 
     pub listed-rules : RulesListed text (aritiesOf (symbolsOf text symbols m)) words n rules k u
     listed-rules = record { kept = h .rulesKept; formed = h .rulesFormed }

@@ -1,17 +1,17 @@
 -- The listed form of a stored signature (document 01, refusal 1; docs/STORAGE.md, "A signature's storage"): what `load` leaves and `check_signature` accepts,
--- for rows and words of any contents. Names are places in the text; what stands past the counts is of no concern.
-use Prim.Native.Nat.{ℕ, _+_, _*_, _≤_, _<_}
+-- for rows and words of any contents. It goes by document 01's limits and by what is lent, and not by the limits of a call. Names are places in the text; what
+-- stands past the counts is of no concern.
+use Prim.Native.Nat.{ℕ, _+_, _≤_, _<_}
 use mathlib.Core.Path.{_≡_}
 use mathlib.Core.Bool.{Bool, true}
 use mathlib.Core.List.{List, map}
 use lib.ListN.{length, take}
 use Rattle.resolution.specs.Rules.{Rule}
-use Rattle.words.specs.Lexer.{cappedOf}
-use Rattle.words.specs.declared.Limits.{Limits}
 use Rattle.names.specs.Names.{Distinct}
+use Rattle.names.specs.NamePlaces.{NamePlace}
 use Rattle.names.specs.Symbols.{Rows, column, rowAt, sortsOf, symbolsOf}
 use Rattle.rules.specs.PatternLaws.{aritiesOf}
-use Rattle.rule_checks.specs.RuleForm.{ruleIn, Inside, RuleFormed}
+use Rattle.rule_checks.specs.RuleForm.{ruleIn, RuleFormed}
 use Rattle.loader.specs.Legal.{namesOf}
 use Rattle.loader.specs.Holding.{RulesKept}
 
@@ -21,7 +21,7 @@ rulesOf text words rows n = map (ruleIn text words) (take n rows)
 
 -- A symbol's row, where there are so many sorts and rules.
 pub record SymbolFormed (text : List ℕ) (sorts rules : ℕ) (row : List ℕ) : Type 0 where
-  pub inside : Inside text (column row 0) (column row 1)
+  pub named : NamePlace text (column row 0) (column row 1)
   -- the output is a sort, or 0;
   pub output : column row 2 ≤ sorts
   -- at most 16 inputs, each a sort, and zero past them;
@@ -39,18 +39,18 @@ pub record SymbolFormed (text : List ℕ) (sorts rules : ℕ) (row : List ℕ) :
   pub others : column row 3 ≡ 0 → column row 5 ≡ 0
 
 -- The form: n sorts, m symbols, k rules and u words.
-pub record Listed (text : List ℕ) (limits : Limits) (sorts symbols rules : Rows) (words : List ℕ) (n m k u : ℕ) : Type 0 where
-  -- as many rows and words are lent as the limits ask, and the counts are within them;
+pub record Listed (text : List ℕ) (sorts symbols rules : Rows) (words : List ℕ) (n m k u : ℕ) : Type 0 where
+  -- as many rows are lent as there may be, and the counts are within document 01's limits and the words lent;
   pub sortsLent : 256 ≤ length sorts
   pub symbolsLent : 1024 ≤ length symbols
   pub rulesLent : 1024 ≤ length rules
-  pub wordsLent : 2 * cappedOf limits .nodes ≤ length words
   pub fewSorts : n ≤ 256
   pub fewSymbols : m ≤ 1024
   pub fewRules : k ≤ 1024
-  pub fewWords : u ≤ 2 * cappedOf limits .nodes
+  pub fewWords : u ≤ 65536
+  pub wordsLent : u ≤ length words
   -- names are in the text, and none serves twice among sorts and symbols together;
-  pub sortsInside : (i : ℕ) → i < n → Inside text (column (rowAt sorts i) 0) (column (rowAt sorts i) 1)
+  pub sortsNamed : (i : ℕ) → i < n → NamePlace text (column (rowAt sorts i) 0) (column (rowAt sorts i) 1)
   pub distinct : Distinct (namesOf (sortsOf text sorts n) (symbolsOf text symbols m))
   -- the symbols' rows are in form;
   pub symbolsFormed : (i : ℕ) → i < m → SymbolFormed text n k (rowAt symbols i)
@@ -59,6 +59,6 @@ pub record Listed (text : List ℕ) (limits : Limits) (sorts symbols rules : Row
   pub rulesFormed : (i : ℕ) → i < k → RuleFormed text words n (rowAt rules i)
 
 -- What `check_signature` answers: whether the storage is in the listed form.
-pub record Checked (text : List ℕ) (limits : Limits) (sorts symbols rules : Rows) (words : List ℕ) (n m k u : ℕ) (r : Bool) : Type 0 where
-  pub sound : r ≡ true → Listed text limits sorts symbols rules words n m k u
-  pub complete : Listed text limits sorts symbols rules words n m k u → r ≡ true
+pub record Checked (text : List ℕ) (sorts symbols rules : Rows) (words : List ℕ) (n m k u : ℕ) (r : Bool) : Type 0 where
+  pub sound : r ≡ true → Listed text sorts symbols rules words n m k u
+  pub complete : Listed text sorts symbols rules words n m k u → r ≡ true

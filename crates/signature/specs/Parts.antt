@@ -1,32 +1,31 @@
 -- The parts of the listed form, each decided by a function of its own.
-use Prim.Native.Nat.{ℕ, _+_, _*_, _≤_, _<_}
+use Prim.Native.Nat.{ℕ, _+_, _≤_, _<_}
 use mathlib.Core.Path.{_≡_}
 use mathlib.Core.List.{List, [], _∷_}
 use lib.ListN.{length}
-use Rattle.words.specs.Lexer.{cappedOf}
-use Rattle.words.specs.declared.Limits.{Limits}
+use Rattle.names.specs.NamePlaces.{NamePlace}
 use Rattle.names.specs.Symbols.{Rows, column, rowAt}
-use Rattle.rule_checks.specs.RuleForm.{Inside, RuleFormed}
+use Rattle.rule_checks.specs.RuleForm.{RuleFormed}
 use Rattle.loader.specs.Holding.{RulesKept}
 use Rattle.signature.specs.Form.{rulesOf, SymbolFormed}
 
--- As many rows and words are lent as the limits ask,
-pub record Lent (limits : Limits) (sorts symbols rules : Rows) (words : List ℕ) : Type 0 where
+-- As many rows are lent as there may be,
+pub record Lent (sorts symbols rules : Rows) : Type 0 where
   pub sortsLent : 256 ≤ length sorts
   pub symbolsLent : 1024 ≤ length symbols
   pub rulesLent : 1024 ≤ length rules
-  pub wordsLent : 2 * cappedOf limits .nodes ≤ length words
 
--- and the counts are within them.
-pub record Counted (limits : Limits) (n m k u : ℕ) : Type 0 where
+-- and the counts are within document 01's limits and the words lent.
+pub record Counted (words : List ℕ) (n m k u : ℕ) : Type 0 where
   pub fewSorts : n ≤ 256
   pub fewSymbols : m ≤ 1024
   pub fewRules : k ≤ 1024
-  pub fewWords : u ≤ 2 * cappedOf limits .nodes
+  pub fewWords : u ≤ 65536
+  pub wordsLent : u ≤ length words
 
--- The names of the first n sorts are in the text.
-abbrev pub SortsInside : List ℕ → Rows → ℕ → Type 0
-SortsInside text sorts n = (i : ℕ) → i < n → Inside text (column (rowAt sorts i) 0) (column (rowAt sorts i) 1)
+-- The names of the first n sorts have places in the text.
+abbrev pub SortsNamed : List ℕ → Rows → ℕ → Type 0
+SortsNamed text sorts n = (i : ℕ) → i < n → NamePlace text (column (rowAt sorts i) 0) (column (rowAt sorts i) 1)
 
 -- The places of the names of m symbols stand behind the first n places, which are kept.
 pub record SymbolsPut (symbols : Rows) (m : ℕ) (before after : Rows) (n : ℕ) : Type 0 where

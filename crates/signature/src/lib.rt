@@ -2,16 +2,15 @@
 //
 // The entry point is `check_signature`. It asks nothing of its caller.
 ghost use mathlib.Core.Path.{_≡_};
-ghost use Prim.Native.Nat.{ℕ, _+_, _*_, _≤_, _<_};
+ghost use Prim.Native.Nat.{ℕ, _+_, _≤_, _<_};
 ghost use lib.ListN.{length, getD};
-ghost use Rattle.words.specs.Lexer.{cappedOf};
 ghost use Rattle.names.specs.Names.{Distinct};
 ghost use Rattle.names.specs.Symbols.{column, rowAt, sortsOf, symbolsOf};
 ghost use Rattle.unifier.specs.Contracts.{Tells};
 ghost use Rattle.rules.specs.PatternLaws.{aritiesOf};
 ghost use Rattle.loader.specs.Legal.{namesOf};
 ghost use Rattle.signature.specs.Form.{SymbolFormed, Checked};
-ghost use Rattle.signature.specs.Parts.{Lent, Counted, SortsInside, SymbolsPut, NumbersFormed, MarkFormed, ClausesFormed, InputFormed, InputsFormed, SymbolsFormed, RulesListed};
+ghost use Rattle.signature.specs.Parts.{Lent, Counted, SortsNamed, SymbolsPut, NumbersFormed, MarkFormed, ClausesFormed, InputFormed, InputsFormed, SymbolsFormed, RulesListed};
 use names::SortRow;
 use names::SymbolRow;
 use rule_checks::Verdict;
@@ -29,6 +28,12 @@ const RULES: usize = 1024;
 
 const INPUTS: usize = 16;
 
+// How many words there may be: 2 for each of 32,768 nodes.
+const WORDS: usize = 65536;
+
+// The most words of one rule's terms, and so the rows of the stack with which they are walked through.
+const RULE_WORDS: usize = 2048;
+
 // How much is stored of each kind.
 pub struct Counts {
     pub sorts: u32,
@@ -37,22 +42,9 @@ pub struct Counts {
     pub words: u32,
 }
 
-// How many words there may be: 2 for each node.
-fn most_words(limits: words::Limits) -> usize
-    ensures { λ r. ⌜ r ≡ 2 * cappedOf limits .nodes ⌝ }
-{
-    2 * limits.capped().nodes as usize
-}
-
-// Are as many rows and words lent as the limits ask?
-fn is_lent(
-    limits: words::Limits,
-    sorts: &[SortRow],
-    symbols: &[SymbolRow],
-    rules: &[RuleRow],
-    words: &[u32],
-) -> bool
-    ensures { λ r. ⌜ Tells r (Lent limits (now (sorts .entry)) (now (symbols .entry)) (now (rules .entry)) (now (words .entry))) ⌝ }
+// Are as many rows lent as there may be?
+fn is_lent(sorts: &[SortRow], symbols: &[SymbolRow], rules: &[RuleRow]) -> bool
+    ensures { λ r. ⌜ Tells r (Lent (now (sorts .entry)) (now (symbols .entry)) (now (rules .entry))) ⌝ }
 {
     if sorts.len() < SORTS {
         return false;
@@ -60,15 +52,12 @@ fn is_lent(
     if symbols.len() < SYMBOLS {
         return false;
     }
-    if rules.len() < RULES {
-        return false;
-    }
-    most_words(limits) <= words.len()
+    RULES <= rules.len()
 }
 
-// Are the counts within the limits?
-fn is_counted(limits: words::Limits, counts: Counts) -> bool
-    ensures { λ r. ⌜ Tells r (Counted limits (counts .sorts) (counts .symbols) (counts .rules) (counts .words)) ⌝ }
+// Are the counts within the limits and the words lent?
+fn is_counted(words: &[u32], counts: Counts) -> bool
+    ensures { λ r. ⌜ Tells r (Counted (now (words .entry)) (counts .sorts) (counts .symbols) (counts .rules) (counts .words)) ⌝ }
 {
     if SORTS < counts.sorts as usize {
         return false;
@@ -79,17 +68,20 @@ fn is_counted(limits: words::Limits, counts: Counts) -> bool
     if RULES < counts.rules as usize {
         return false;
     }
-    counts.words as usize <= most_words(limits)
+    if WORDS < counts.words as usize {
+        return false;
+    }
+    counts.words as usize <= words.len()
 }
 
-// Are the names of the first n sorts in the text?
-fn are_sorts_inside(text: &[u8], sorts: &[SortRow], n: usize) -> bool
+// Do the names of the first n sorts have places in the text?
+fn are_sorts_named(text: &[u8], sorts: &[SortRow], n: usize) -> bool
     requires { ⌜ n ≤ length (now sorts) ⌝ }
-    ensures { λ r. ⌜ Tells r (SortsInside (now (text .entry)) (now (sorts .entry)) n) ⌝ }
+    ensures { λ r. ⌜ Tells r (SortsNamed (now (text .entry)) (now (sorts .entry)) n) ⌝ }
 {
     let mut i = 0;
     while i < n {
-        if !rule_checks::is_inside(text, sorts[i][0], sorts[i][1]) {
+        if !rule_checks::is_name(text, sorts[i][0], sorts[i][1]) {
             return false;
         }
         i += 1;
@@ -214,7 +206,7 @@ fn is_symbol_formed(text: &[u8], sorts: u32, rules: u32, symbols: &[SymbolRow], 
     requires { ⌜ i < length (now symbols) ⌝ }
     ensures { λ r. ⌜ Tells r (SymbolFormed (now (text .entry)) sorts rules (rowAt (now (symbols .entry)) i)) ⌝ }
 {
-    if !rule_checks::is_inside(text, symbols[i][0], symbols[i][1]) {
+    if !rule_checks::is_name(text, symbols[i][0], symbols[i][1]) {
         return false;
     }
     if !are_numbers_formed(sorts, symbols[i][2], symbols[i][6], symbols[i][7]) {
@@ -256,7 +248,7 @@ fn put_arities(symbols: &[SymbolRow], m: usize, arities: &mut [u32])
     }
 }
 
-// Are the first k rules in form, one behind the other in the words in use, and do they end where these end?
+// Are the first k rules in form, one behind the other in the words in use, and do they end where these end? The stack is scratch.
 fn are_rules_listed(
     text: &[u8],
     arities: &[u32],
@@ -265,14 +257,25 @@ fn are_rules_listed(
     sorts: u32,
     rules: &[RuleRow],
     k: usize,
+    stack: &mut [[u32; 2]],
 ) -> bool
-    requires { ⌜ (used ≤ length (now words)) × (used ≤ 65536) × (k ≤ length (now rules)) ⌝ }
+    requires { ⌜ (used ≤ length (now words)) × (used ≤ 65536) × (k ≤ length (now rules)) × (2048 ≤ length (now stack)) ⌝ }
     ensures { λ r. ⌜ Tells r (RulesListed (now (text .entry)) (now (arities .entry)) (now (words .entry)) sorts (now (rules .entry)) k used) ⌝ }
 {
     let mut at = 0;
     let mut i = 0;
     while i < k {
-        let verdict = rule_checks::check_rule(text, arities, words, used, at, sorts, rules, i);
+        let verdict = rule_checks::check_rule(
+            text,
+            arities,
+            words,
+            used,
+            at,
+            sorts,
+            rules,
+            i,
+            stack,
+        );
         let Verdict::Good { next } = verdict else {
             return false;
         };
@@ -297,6 +300,7 @@ fn are_rules_of(
     let k = counts.rules as usize;
     let mut arities = [0u32; SYMBOLS];
     put_arities(symbols, m, &mut arities);
+    let mut stack = [[0u32; 2]; RULE_WORDS];
     are_rules_listed(
         text,
         &arities[0..m],
@@ -305,30 +309,30 @@ fn are_rules_of(
         counts.sorts,
         rules,
         k,
+        &mut stack,
     )
 }
 
 // Is the stored signature in the listed form? Every entry point that is lent one asks this first.
 pub fn check_signature(
     text: &[u8],
-    limits: words::Limits,
     sorts: &[SortRow],
     symbols: &[SymbolRow],
     rules: &[RuleRow],
     words: &[u32],
     counts: Counts,
 ) -> bool
-    ensures { λ r. ⌜ Checked (now (text .entry)) limits (now (sorts .entry)) (now (symbols .entry)) (now (rules .entry)) (now (words .entry)) (counts .sorts) (counts .symbols) (counts .rules) (counts .words) r ⌝ }
+    ensures { λ r. ⌜ Checked (now (text .entry)) (now (sorts .entry)) (now (symbols .entry)) (now (rules .entry)) (now (words .entry)) (counts .sorts) (counts .symbols) (counts .rules) (counts .words) r ⌝ }
 {
-    if !is_lent(limits, sorts, symbols, rules, words) {
+    if !is_lent(sorts, symbols, rules) {
         return false;
     }
-    if !is_counted(limits, counts) {
+    if !is_counted(words, counts) {
         return false;
     }
     let n = counts.sorts as usize;
     let m = counts.symbols as usize;
-    if !are_sorts_inside(text, sorts, n) {
+    if !are_sorts_named(text, sorts, n) {
         return false;
     }
     if !are_names_distinct(text, sorts, n, symbols, m) {

@@ -5,12 +5,16 @@ use names::SortRow;
 use names::SymbolRow;
 use rules::RuleRow;
 use signature::Counts;
-use words::Limits;
 ghost use mathlib.Core.Path.{_≡_};
 ghost use Prim.Native.Nat.{_<_};
 ghost use lib.ListN.{length, set};
 ghost use Rattle.signature.specs.Form.{Checked};
 ghost use Rattle.signature_tests.specs.Damage.{changed};
+
+// The most bytes of a name, and the largest clause number.
+const BYTES: u32 = 64;
+
+const CLAUSES: u32 = 1024;
 
 // Neither a header nor a reference.
 const NO_WORD: u32 = 0xFFFF_FFFF;
@@ -18,8 +22,13 @@ const NO_WORD: u32 = 0xFFFF_FFFF;
 // Where references to nodes start.
 const FIRST_NODE: u32 = 64;
 
-// The columns that are changed: of a name its place, of a symbol its output, of a rule its number of variables and its first premise.
+// The columns that are changed: of a name its place and its length, of a symbol its output, of a rule its clause number, its number of variables and its
+// first premise.
 const PLACE: usize = 0;
+
+const SIZE: usize = 1;
+
+const CLAUSE: usize = 2;
 
 const OUTPUT: usize = 2;
 
@@ -30,7 +39,6 @@ const FIRST_PREMISE: usize = 10;
 // Is the signature accepted with another number in the row of a sort? The storage is left as it was.
 fn is_taken_with_sort(
     text: &[u8],
-    limits: Limits,
     sorts: &mut [SortRow],
     symbols: &[SymbolRow],
     rules: &[RuleRow],
@@ -41,11 +49,11 @@ fn is_taken_with_sort(
     value: u32,
 ) -> bool
     requires { ⌜ (i < length (now sorts)) × (column < 2) ⌝ }
-    ensures { λ r. ⌜ Checked (now (text .entry)) limits (changed (now (sorts .entry)) i column value) (now (symbols .entry)) (now (rules .entry)) (now (words .entry)) (counts .sorts) (counts .symbols) (counts .rules) (counts .words) r × (now (sorts .exit) ≡ now (sorts .entry)) ⌝ }
+    ensures { λ r. ⌜ Checked (now (text .entry)) (changed (now (sorts .entry)) i column value) (now (symbols .entry)) (now (rules .entry)) (now (words .entry)) (counts .sorts) (counts .symbols) (counts .rules) (counts .words) r × (now (sorts .exit) ≡ now (sorts .entry)) ⌝ }
 {
     let kept = sorts[i];
     sorts[i][column] = value;
-    let taken = signature::check_signature(text, limits, sorts, symbols, rules, words, counts);
+    let taken = signature::check_signature(text, sorts, symbols, rules, words, counts);
     sorts[i] = kept;
     taken
 }
@@ -53,7 +61,6 @@ fn is_taken_with_sort(
 // Is the signature accepted with another number in the row of a symbol? The storage is left as it was.
 fn is_taken_with_symbol(
     text: &[u8],
-    limits: Limits,
     sorts: &[SortRow],
     symbols: &mut [SymbolRow],
     rules: &[RuleRow],
@@ -64,11 +71,11 @@ fn is_taken_with_symbol(
     value: u32,
 ) -> bool
     requires { ⌜ (i < length (now symbols)) × (column < 24) ⌝ }
-    ensures { λ r. ⌜ Checked (now (text .entry)) limits (now (sorts .entry)) (changed (now (symbols .entry)) i column value) (now (rules .entry)) (now (words .entry)) (counts .sorts) (counts .symbols) (counts .rules) (counts .words) r × (now (symbols .exit) ≡ now (symbols .entry)) ⌝ }
+    ensures { λ r. ⌜ Checked (now (text .entry)) (now (sorts .entry)) (changed (now (symbols .entry)) i column value) (now (rules .entry)) (now (words .entry)) (counts .sorts) (counts .symbols) (counts .rules) (counts .words) r × (now (symbols .exit) ≡ now (symbols .entry)) ⌝ }
 {
     let kept = symbols[i];
     symbols[i][column] = value;
-    let taken = signature::check_signature(text, limits, sorts, symbols, rules, words, counts);
+    let taken = signature::check_signature(text, sorts, symbols, rules, words, counts);
     symbols[i] = kept;
     taken
 }
@@ -76,7 +83,6 @@ fn is_taken_with_symbol(
 // Is the signature accepted with another number in the row of a rule? The storage is left as it was.
 fn is_taken_with_rule(
     text: &[u8],
-    limits: Limits,
     sorts: &[SortRow],
     symbols: &[SymbolRow],
     rules: &mut [RuleRow],
@@ -87,11 +93,11 @@ fn is_taken_with_rule(
     value: u32,
 ) -> bool
     requires { ⌜ (i < length (now rules)) × (column < 154) ⌝ }
-    ensures { λ r. ⌜ Checked (now (text .entry)) limits (now (sorts .entry)) (now (symbols .entry)) (changed (now (rules .entry)) i column value) (now (words .entry)) (counts .sorts) (counts .symbols) (counts .rules) (counts .words) r × (now (rules .exit) ≡ now (rules .entry)) ⌝ }
+    ensures { λ r. ⌜ Checked (now (text .entry)) (now (sorts .entry)) (now (symbols .entry)) (changed (now (rules .entry)) i column value) (now (words .entry)) (counts .sorts) (counts .symbols) (counts .rules) (counts .words) r × (now (rules .exit) ≡ now (rules .entry)) ⌝ }
 {
     let kept = rules[i];
     rules[i][column] = value;
-    let taken = signature::check_signature(text, limits, sorts, symbols, rules, words, counts);
+    let taken = signature::check_signature(text, sorts, symbols, rules, words, counts);
     rules[i] = kept;
     taken
 }
@@ -99,7 +105,6 @@ fn is_taken_with_rule(
 // Is the signature accepted with another number as a word? The storage is left as it was.
 fn is_taken_with_word(
     text: &[u8],
-    limits: Limits,
     sorts: &[SortRow],
     symbols: &[SymbolRow],
     rules: &[RuleRow],
@@ -109,11 +114,11 @@ fn is_taken_with_word(
     value: u32,
 ) -> bool
     requires { ⌜ i < length (now words) ⌝ }
-    ensures { λ r. ⌜ Checked (now (text .entry)) limits (now (sorts .entry)) (now (symbols .entry)) (now (rules .entry)) (set (now (words .entry)) i value) (counts .sorts) (counts .symbols) (counts .rules) (counts .words) r × (now (words .exit) ≡ now (words .entry)) ⌝ }
+    ensures { λ r. ⌜ Checked (now (text .entry)) (now (sorts .entry)) (now (symbols .entry)) (now (rules .entry)) (set (now (words .entry)) i value) (counts .sorts) (counts .symbols) (counts .rules) (counts .words) r × (now (words .exit) ≡ now (words .entry)) ⌝ }
 {
     let kept = words[i];
     words[i] = value;
-    let taken = signature::check_signature(text, limits, sorts, symbols, rules, words, counts);
+    let taken = signature::check_signature(text, sorts, symbols, rules, words, counts);
     words[i] = kept;
     taken
 }
@@ -129,7 +134,6 @@ fn end(text: &[u8]) -> u32 {
 // Tests one sort.
 fn test_sort(
     text: &[u8],
-    limits: Limits,
     sorts: &mut [SortRow],
     symbols: &[SymbolRow],
     rules: &[RuleRow],
@@ -141,7 +145,6 @@ fn test_sort(
 {
     let taken = is_taken_with_sort(
         text,
-        limits,
         sorts,
         symbols,
         rules,
@@ -152,12 +155,25 @@ fn test_sort(
         end(text),
     );
     buffers::expect(!taken, b"refused with a sort's name past the text");
+    let empty = is_taken_with_sort(text, sorts, symbols, rules, words, counts, i, SIZE, 0);
+    buffers::expect(!empty, b"refused with an empty sort's name");
+    let long = is_taken_with_sort(
+        text,
+        sorts,
+        symbols,
+        rules,
+        words,
+        counts,
+        i,
+        SIZE,
+        BYTES + 1,
+    );
+    buffers::expect(!long, b"refused with a sort's name of 65 bytes");
 }
 
 // Tests one symbol.
 fn test_symbol(
     text: &[u8],
-    limits: Limits,
     sorts: &[SortRow],
     symbols: &mut [SymbolRow],
     rules: &[RuleRow],
@@ -169,7 +185,6 @@ fn test_symbol(
 {
     let placed = is_taken_with_symbol(
         text,
-        limits,
         sorts,
         symbols,
         rules,
@@ -182,7 +197,6 @@ fn test_symbol(
     buffers::expect(!placed, b"refused with a symbol's name past the text");
     let sorted = is_taken_with_symbol(
         text,
-        limits,
         sorts,
         symbols,
         rules,
@@ -195,10 +209,119 @@ fn test_symbol(
     buffers::expect(!sorted, b"refused with an output past the sorts");
 }
 
+// Tests the length of one symbol's name.
+fn test_symbol_name(
+    text: &[u8],
+    sorts: &[SortRow],
+    symbols: &mut [SymbolRow],
+    rules: &[RuleRow],
+    words: &[u32],
+    counts: Counts,
+    i: usize,
+)
+    requires { ⌜ i < length (now symbols) ⌝ }
+{
+    let empty = is_taken_with_symbol(text, sorts, symbols, rules, words, counts, i, SIZE, 0);
+    buffers::expect(!empty, b"refused with an empty symbol's name");
+    let long = is_taken_with_symbol(
+        text,
+        sorts,
+        symbols,
+        rules,
+        words,
+        counts,
+        i,
+        SIZE,
+        BYTES + 1,
+    );
+    buffers::expect(!long, b"refused with a symbol's name of 65 bytes");
+}
+
+// Is the signature accepted with a name of one rule that has so many bytes?
+fn is_taken_with_name(
+    text: &[u8],
+    sorts: &[SortRow],
+    symbols: &[SymbolRow],
+    rules: &mut [RuleRow],
+    words: &[u32],
+    counts: Counts,
+    i: usize,
+    size: u32,
+) -> bool
+    requires { ⌜ i < length (now rules) ⌝ }
+{
+    is_taken_with_rule(text, sorts, symbols, rules, words, counts, i, SIZE, size)
+}
+
+// Has the text 64 bytes from a place on?
+fn has_bytes(text: &[u8], start: u32) -> bool {
+    start as usize + BYTES as usize <= text.len()
+}
+
+// Tests the length of one rule's name: rules may have the same name, so 64 bytes are accepted where the text has them.
+fn test_rule_name(
+    text: &[u8],
+    sorts: &[SortRow],
+    symbols: &[SymbolRow],
+    rules: &mut [RuleRow],
+    words: &[u32],
+    counts: Counts,
+    i: usize,
+)
+    requires { ⌜ i < length (now rules) ⌝ }
+{
+    let empty = is_taken_with_name(text, sorts, symbols, rules, words, counts, i, 0);
+    buffers::expect(!empty, b"refused with an empty rule's name");
+    let long = is_taken_with_name(text, sorts, symbols, rules, words, counts, i, BYTES + 1);
+    buffers::expect(!long, b"refused with a rule's name of 65 bytes");
+    if !has_bytes(text, rules[i][PLACE]) {
+        return;
+    }
+    let taken = is_taken_with_name(text, sorts, symbols, rules, words, counts, i, BYTES);
+    buffers::expect(taken, b"accepted with a rule's name of 64 bytes");
+}
+
+// Tests the clause number of one rule.
+fn test_clause(
+    text: &[u8],
+    sorts: &[SortRow],
+    symbols: &[SymbolRow],
+    rules: &mut [RuleRow],
+    words: &[u32],
+    counts: Counts,
+    i: usize,
+)
+    requires { ⌜ i < length (now rules) ⌝ }
+{
+    let last = is_taken_with_rule(
+        text,
+        sorts,
+        symbols,
+        rules,
+        words,
+        counts,
+        i,
+        CLAUSE,
+        CLAUSES,
+    );
+    buffers::expect(last, b"accepted with the clause number 1,024");
+    let past = is_taken_with_rule(
+        text,
+        sorts,
+        symbols,
+        rules,
+        words,
+        counts,
+        i,
+        CLAUSE,
+        CLAUSES + 1,
+    );
+    buffers::expect(!past, b"refused with the clause number 1,025");
+}
+
 // Tests the variables of one rule.
 fn test_variables(
     text: &[u8],
-    limits: Limits,
     sorts: &[SortRow],
     symbols: &[SymbolRow],
     rules: &mut [RuleRow],
@@ -211,7 +334,6 @@ fn test_variables(
     let more = std::num::wrapping_add_u32(rules[i][VARIABLES], 1);
     let taken = is_taken_with_rule(
         text,
-        limits,
         sorts,
         symbols,
         rules,
@@ -232,7 +354,6 @@ fn past_premises(first: u32, count: u32) -> u32 {
 // Tests the first premise of one rule, if it has any.
 fn test_premise(
     text: &[u8],
-    limits: Limits,
     sorts: &[SortRow],
     symbols: &[SymbolRow],
     rules: &mut [RuleRow],
@@ -249,7 +370,6 @@ fn test_premise(
     let end = past_premises(row[6], row[7]);
     let taken = is_taken_with_rule(
         text,
-        limits,
         sorts,
         symbols,
         rules,
@@ -262,10 +382,27 @@ fn test_premise(
     buffers::expect(!taken, b"refused with a premise past its part");
 }
 
+// Tests one rule.
+fn test_rule(
+    text: &[u8],
+    sorts: &[SortRow],
+    symbols: &[SymbolRow],
+    rules: &mut [RuleRow],
+    words: &[u32],
+    counts: Counts,
+    i: usize,
+)
+    requires { ⌜ i < length (now rules) ⌝ }
+{
+    test_rule_name(text, sorts, symbols, rules, words, counts, i);
+    test_clause(text, sorts, symbols, rules, words, counts, i);
+    test_variables(text, sorts, symbols, rules, words, counts, i);
+    test_premise(text, sorts, symbols, rules, words, counts, i);
+}
+
 // Tests one word.
 fn test_word(
     text: &[u8],
-    limits: Limits,
     sorts: &[SortRow],
     symbols: &[SymbolRow],
     rules: &[RuleRow],
@@ -275,24 +412,13 @@ fn test_word(
 )
     requires { ⌜ i < length (now words) ⌝ }
 {
-    let taken = is_taken_with_word(
-        text,
-        limits,
-        sorts,
-        symbols,
-        rules,
-        words,
-        counts,
-        i,
-        NO_WORD,
-    );
+    let taken = is_taken_with_word(text, sorts, symbols, rules, words, counts, i, NO_WORD);
     buffers::expect(!taken, b"refused with a word that is none");
 }
 
 // Tests each sort.
 fn test_sorts(
     text: &[u8],
-    limits: Limits,
     sorts: &mut [SortRow],
     symbols: &[SymbolRow],
     rules: &[RuleRow],
@@ -305,7 +431,7 @@ fn test_sorts(
         if count <= i {
             return;
         }
-        test_sort(text, limits, sorts, symbols, rules, words, counts, i);
+        test_sort(text, sorts, symbols, rules, words, counts, i);
         i += 1;
     }
 }
@@ -313,7 +439,6 @@ fn test_sorts(
 // Tests each symbol.
 fn test_symbols(
     text: &[u8],
-    limits: Limits,
     sorts: &[SortRow],
     symbols: &mut [SymbolRow],
     rules: &[RuleRow],
@@ -326,7 +451,8 @@ fn test_symbols(
         if count <= i {
             return;
         }
-        test_symbol(text, limits, sorts, symbols, rules, words, counts, i);
+        test_symbol(text, sorts, symbols, rules, words, counts, i);
+        test_symbol_name(text, sorts, symbols, rules, words, counts, i);
         i += 1;
     }
 }
@@ -334,7 +460,6 @@ fn test_symbols(
 // Tests each rule.
 fn test_rules(
     text: &[u8],
-    limits: Limits,
     sorts: &[SortRow],
     symbols: &[SymbolRow],
     rules: &mut [RuleRow],
@@ -347,8 +472,7 @@ fn test_rules(
         if count <= i {
             return;
         }
-        test_variables(text, limits, sorts, symbols, rules, words, counts, i);
-        test_premise(text, limits, sorts, symbols, rules, words, counts, i);
+        test_rule(text, sorts, symbols, rules, words, counts, i);
         i += 1;
     }
 }
@@ -356,7 +480,6 @@ fn test_rules(
 // Tests each word.
 fn test_words(
     text: &[u8],
-    limits: Limits,
     sorts: &[SortRow],
     symbols: &[SymbolRow],
     rules: &[RuleRow],
@@ -369,7 +492,7 @@ fn test_words(
         if count <= i {
             return;
         }
-        test_word(text, limits, sorts, symbols, rules, words, counts, i);
+        test_word(text, sorts, symbols, rules, words, counts, i);
         i += 1;
     }
 }
@@ -377,7 +500,6 @@ fn test_words(
 // Tests a signature that was loaded.
 pub fn test(
     text: &[u8],
-    limits: Limits,
     sorts: &mut [SortRow],
     symbols: &mut [SymbolRow],
     rules: &mut [RuleRow],
@@ -392,8 +514,8 @@ pub fn test(
     else {
         return;
     };
-    test_sorts(text, limits, sorts, symbols, rules, words, counts);
-    test_symbols(text, limits, sorts, symbols, rules, words, counts);
-    test_rules(text, limits, sorts, symbols, rules, words, counts);
-    test_words(text, limits, sorts, symbols, rules, words, counts);
+    test_sorts(text, sorts, symbols, rules, words, counts);
+    test_symbols(text, sorts, symbols, rules, words, counts);
+    test_rules(text, sorts, symbols, rules, words, counts);
+    test_words(text, sorts, symbols, rules, words, counts);
 }

@@ -77,13 +77,13 @@ returns c =
     let room = c .before .before .before .before .before .before .before .before .before .before .before .room in
     let told = c .told in
     record {
-      same = λ limit ts s ready inside cl q st. let e : (args .number) + 1 ≡ suc (args .number) = omega arith in
+      same = λ limit ts s ready inside counted cl q st. let e : (args .number) + 1 ≡ suc (args .number) = omega arith in
           let h = (clause .ensures .same) _ _ (st .patterns) (patterns-number st ∙ sym (wide .ensures)) _ _ (st .right) (args .number) e in
           advanced-by ready (record {
             start = (args .start);
             size = (args .size);
             clause = (args .number) + 1;
-          }) inside ((clause .last .1 .1 .1 .1 .1 .1 .1 .1 .1 .0)) ((clause .last .1 .1 .1 .1 .1 .1 .0)) ((clause .kept .1 .1 .1 .1 .1 .1 .1 .1 .1 .0)) ((clause .kept .1 .1 .1 .1 .1 .1 .0)) (λ (F : List Symbol) (m : ℕ). clauseOf F (partOf (args .text .now) (args .start) (args .size)) (args .number) (spelled (args .text .now) (allOf (cl .patterns))) (spelled (args .text .now) (cl .body)) m) (room .result) (room .ensures) q (clause .result) (told .result) (h .0) (h .1) (told .ensures);
+          }) inside (omega (arith, counted)) ((clause .last .1 .1 .1 .1 .1 .1 .1 .1 .1 .0)) ((clause .last .1 .1 .1 .1 .1 .1 .0)) ((clause .kept .1 .1 .1 .1 .1 .1 .1 .1 .1 .0)) ((clause .kept .1 .1 .1 .1 .1 .1 .0)) (λ (F : List Symbol) (m : ℕ). clauseOf F (partOf (args .text .now) (args .start) (args .size)) (args .number) (spelled (args .text .now) (allOf (cl .patterns))) (spelled (args .text .now) (cl .body)) m) (room .result) (room .ensures) q (clause .result) (told .result) (h .0) (h .1) (told .ensures);
     }
 
 pub declare-clause-spec : {M : Type 1} → statement M

@@ -116,7 +116,7 @@ returns-2 c =
     record {
       none = λ z. absurd ((if1 .left) ((wide .ensures) ∙ z));
       same = λ limit ts s ready inside j js q st kn. let h = (enter-rule .ensures .same) j js q st ((wide .ensures) ∙ kn) in
-          advanced-by ready (record { start = column (rowAt (args .rows .now) ((args .at) + 1)) 1; size = column (rowAt (args .rows .now) ((args .at) + 1)) 2; clause = 0 }) inside ((enter-rule .last .1 .1 .1 .1 .1 .1 .1 .1 .1 .1 .1 .0)) ((enter-rule .last .1 .1 .1 .1 .1 .1 .1 .1 .0)) ((enter-rule .kept .1 .1 .1 .1 .1 .1 .1 .1 .1 .1 .1 .0)) ((enter-rule .kept .1 .1 .1 .1 .1 .1 .1 .1 .0)) (λ (F : List Symbol) (m : ℕ). ruleOf F (nameAt (args .text .now) (args .rows .now) ((args .at) + 1)) (spelled (args .text .now) (allOf (frontOf (j ∷ js)))) (spelled (args .text .now) (lastJudgment j js)) m) (room .result) (room .ensures) q (enter-rule .result) (told .result) (h .0) (h .1) (told .ensures);
+          advanced-by ready (record { start = column (rowAt (args .rows .now) ((args .at) + 1)) 1; size = column (rowAt (args .rows .now) ((args .at) + 1)) 2; clause = 0 }) inside (omega arith) ((enter-rule .last .1 .1 .1 .1 .1 .1 .1 .1 .1 .1 .1 .0)) ((enter-rule .last .1 .1 .1 .1 .1 .1 .1 .1 .0)) ((enter-rule .kept .1 .1 .1 .1 .1 .1 .1 .1 .1 .1 .1 .0)) ((enter-rule .kept .1 .1 .1 .1 .1 .1 .1 .1 .0)) (λ (F : List Symbol) (m : ℕ). ruleOf F (nameAt (args .text .now) (args .rows .now) ((args .at) + 1)) (spelled (args .text .now) (allOf (frontOf (j ∷ js)))) (spelled (args .text .now) (lastJudgment j js)) m) (room .result) (room .ensures) q (enter-rule .result) (told .result) (h .0) (h .1) (told .ensures);
     }
 
 pub declare-rule-spec : {M : Type 1} → statement M

@@ -18,19 +18,19 @@ use Rattle.rule_checks.proofs.is_in_order.Tie as tie
 slice-aggregate-walk-premises : tie.Need-slice-aggregate-walk-premises
 slice-aggregate-walk-premises c = search needs
 
-slice-aggregate-walk-premises-2 : tie.Need-slice-aggregate-walk-premises-2
-slice-aggregate-walk-premises-2 c = search needs
-
 walk-premises-requires : tie.Need-walk-premises-requires
 walk-premises-requires c κs =
     let s = (c .before .before .before .pre .1 .small) in
-    ((c .before .before .before .pre .0), omega arith, (c .before .before .before .pre .2), lent-new, records-new)
+    ((c .before .before .before .pre .0), omega arith, (c .before .before .before .pre .2), lent-new (c .before .before .before .pre .3), records-new)
 
 enum-known-met : tie.Need-enum-known-met
 enum-known-met c = search needs
 
 enum-told : tie.Need-enum-told
 enum-told c = search needs
+
+same-length : tie.Need-same-length
+same-length c = search needs
 
 returns : tie.Need-returns
 returns c = tells-no (λ h. (c .before .before .before .before .walk-premises .ensures .other) (c .enum-told .given .1) (h .body))
@@ -40,6 +40,9 @@ slice-aggregate-are-placed c = search needs
 
 are-placed-requires : tie.Need-are-placed-requires
 are-placed-requires c κs = search needs
+
+same-length-2 : tie.Need-same-length-2
+same-length-2 c = search needs
 
 returns-2 : tie.Need-returns-2
 returns-2 c =
@@ -74,23 +77,24 @@ index-1-walk-term-2 c = search needs
 index-2-walk-term-2 : tie.Need-index-2-walk-term-2
 index-2-walk-term-2 c = search needs
 
-slice-aggregate-walk-term-2 : tie.Need-slice-aggregate-walk-term-2
-slice-aggregate-walk-term-2 c = search needs
-
 walk-term-requires : tie.Need-walk-term-requires
 walk-term-requires c κs =
     let pre = c .before .before .before .before .before .before .before .before .before .before .before .before .before .before .before .before .pre in
     let walk-premises = c .before .before .before .before .before .before .before .before .before .before .before .before .walk-premises in
+    let args = c .before .before .before .before .before .before .before .before .before .before .before .before .before .before .before .before .args in
     let met = c .before .before .before .before .before .before .before .before .met in
     let s = (pre .1 .small) in
     let w = (pre .2) in
-    (omega arith, record { within = w .within; low = w .low; formed = w .formed; root = w .root }, lent-kept (walk-premises .kept .1 .1 .1 .1 .0) (walk-premises .kept .1 .1 .1 .1 .1 .0) lent-new, (_, (walk-premises .ensures .records) _ (met .given .1) [] records-new))
+    (omega arith, record { within = w .within; low = w .low; formed = w .formed; root = w .root }, lent-kept (walk-premises .kept .1 .1 .1 .1 .0) (walk-premises .kept .1 .1 .1 .1 .1 .0) (lent-new {stack = (args .stack .now)} (pre .3)), (_, (walk-premises .ensures .records) _ (met .given .1) [] records-new))
 
 enum-known-all : tie.Need-enum-known-all
 enum-known-all c = search needs
 
 enum-told-2 : tie.Need-enum-told-2
 enum-told-2 c = search needs
+
+same-length-3 : tie.Need-same-length-3
+same-length-3 c = search needs
 
 returns-3 : tie.Need-returns-3
 returns-3 c = tells-no (λ h. (c .before .before .before .before .walk-term .ensures .other) (c .enum-told2 .given .1) (h .head))
@@ -106,6 +110,9 @@ index-1-if2 c = search needs
 
 index-2-if2 : tie.Need-index-2-if2
 index-2-if2 c = search needs
+
+same-length-4 : tie.Need-same-length-4
+same-length-4 c = search needs
 
 returns-4 : tie.Need-returns-4
 returns-4 c =
@@ -123,6 +130,9 @@ slice-aggregate-is-in-order c = search needs
 
 is-in-order-requires : tie.Need-is-in-order-requires
 is-in-order-requires c κs = search needs
+
+same-length-5 : tie.Need-same-length-5
+same-length-5 c = search needs
 
 returns-5 : tie.Need-returns-5
 returns-5 c =
@@ -155,13 +165,14 @@ is-in-order-spec =
     tie.close
     (tie.spec
     slice-aggregate-walk-premises
-    slice-aggregate-walk-premises-2
     walk-premises-requires
     enum-known-met
     enum-told
+    same-length
     returns
     slice-aggregate-are-placed
     are-placed-requires
+    same-length-2
     returns-2
     mul-walk-term
     index-1-walk-term
@@ -170,15 +181,17 @@ is-in-order-spec =
     mul-walk-term-2
     index-1-walk-term-2
     index-2-walk-term-2
-    slice-aggregate-walk-term-2
     walk-term-requires
     enum-known-all
     enum-told-2
+    same-length-3
     returns-3
     mul-if2
     index-1-if2
     index-2-if2
+    same-length-4
     returns-4
     slice-aggregate-is-in-order
     is-in-order-requires
+    same-length-5
     returns-5)

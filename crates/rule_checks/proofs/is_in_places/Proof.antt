@@ -25,12 +25,8 @@ index-2-walk c = search needs
 slice-aggregate-walk : tie.Need-slice-aggregate-walk
 slice-aggregate-walk c = search needs
 
-slice-aggregate-walk-2 : tie.Need-slice-aggregate-walk-2
-slice-aggregate-walk-2 c = search needs
-
 walk-requires : tie.Need-walk-requires
-walk-requires c κs =
-    (conclusion-asked (c .before .before .before .before .pre .2) (c .before .before .before .before .pre .1) (c .before .before .before .before .pre .3), lent-new, ([], records-new))
+walk-requires c κs = let pre = c .before .before .before .before .pre in (conclusion-asked (pre .2) (pre .1) (pre .3), lent-new (pre .4), ([], records-new))
 
 mul-if1 : tie.Need-mul-if1
 mul-if1 c = search needs
@@ -41,6 +37,9 @@ index-1-if1 c = search needs
 index-2-if1 : tie.Need-index-2-if1
 index-2-if1 c = search needs
 
+same-length : tie.Need-same-length
+same-length c = search needs
+
 returns : tie.Need-returns
 returns c = tells-no (λ h. (c .if1 .taken) ((c .before .before .before .before .walk .ensures) [] records-new .counted ∙ sym (h .meets)))
 
@@ -49,6 +48,9 @@ slice-aggregate-are-placed c = search needs
 
 are-placed-requires : tie.Need-are-placed-requires
 are-placed-requires c κs = search needs
+
+same-length-2 : tie.Need-same-length-2
+same-length-2 c = search needs
 
 returns-2 : tie.Need-returns-2
 returns-2 c =
@@ -64,20 +66,21 @@ returns-2 c =
 slice-aggregate-walk-back : tie.Need-slice-aggregate-walk-back
 slice-aggregate-walk-back c = search needs
 
-slice-aggregate-walk-back-2 : tie.Need-slice-aggregate-walk-back-2
-slice-aggregate-walk-back-2 c = search needs
-
 walk-back-requires : tie.Need-walk-back-requires
 walk-back-requires c κs =
     let pre = c .before .before .before .before .before .before .before .before .before .before .before .before .before .before .pre in
     let walk = c .before .before .before .before .before .before .before .before .before .walk in
-    ((pre .0), (pre .2 .premises), premise-asked (pre .2) (pre .1) (pre .3), lent-kept (walk .kept .1 .1 .1 .0) (walk .kept .1 .1 .1 .1 .1 .0) lent-new, (_, (walk .ensures) [] records-new))
+    let args = c .before .before .before .before .before .before .before .before .before .before .before .before .before .before .args in
+    ((pre .0), (pre .2 .premises), premise-asked (pre .2) (pre .1) (pre .3), lent-kept (walk .kept .1 .1 .1 .0) (walk .kept .1 .1 .1 .1 .1 .0) (lent-new {stack = (args .stack .now)} (pre .4)), (_, (walk .ensures) [] records-new))
 
 slice-aggregate-are-places : tie.Need-slice-aggregate-are-places
 slice-aggregate-are-places c = search needs
 
 are-places-requires : tie.Need-are-places-requires
 are-places-requires c κs = search needs
+
+same-length-3 : tie.Need-same-length-3
+same-length-3 c = search needs
 
 returns-3 : tie.Need-returns-3
 returns-3 c =
@@ -112,18 +115,19 @@ is-in-places-spec =
     index-1-walk
     index-2-walk
     slice-aggregate-walk
-    slice-aggregate-walk-2
     walk-requires
     mul-if1
     index-1-if1
     index-2-if1
+    same-length
     returns
     slice-aggregate-are-placed
     are-placed-requires
+    same-length-2
     returns-2
     slice-aggregate-walk-back
-    slice-aggregate-walk-back-2
     walk-back-requires
     slice-aggregate-are-places
     are-places-requires
+    same-length-3
     returns-3)

@@ -75,7 +75,11 @@ returns c =
     record {
       row = _;
       written = (store .ensures) [];
-      placed = (title-at (args .n) (args .v) numbers (args .heads .now) (sortsIn [] (args .variables .now) (args .v)) _ refl (pre .few) (pre .references) (sorts-length [] (args .variables .now) (args .v) (pre .lent)) (pre .vars) long 0 (omega arith), title-at (args .n) (args .v) numbers (args .heads .now) (sortsIn [] (args .variables .now) (args .v)) _ refl (pre .few) (pre .references) (sorts-length [] (args .variables .now) (args .v) (pre .lent)) (pre .vars) long 1 (omega arith));
+      placed = (
+        title-at (args .n) (args .v) numbers (args .heads .now) (sortsIn [] (args .variables .now) (args .v)) _ refl (pre .few) (pre .references) (sorts-length [] (args .variables .now) (args .v) (pre .lent)) (pre .vars) long 0 (omega arith),
+        title-at (args .n) (args .v) numbers (args .heads .now) (sortsIn [] (args .variables .now) (args .v)) _ refl (pre .few) (pre .references) (sorts-length [] (args .variables .now) (args .v) (pre .lent)) (pre .vars) long 1 (omega arith),
+        title-at (args .n) (args .v) numbers (args .heads .now) (sortsIn [] (args .variables .now) (args .v)) _ refl (pre .few) (pre .references) (sorts-length [] (args .variables .now) (args .v) (pre .lent)) (pre .vars) long 2 (omega arith),
+      );
       kept = λ text arities R lying named sorted appear. let k = all-recorded (args .n) (args .heads .now) lying (order-sized .ensures) in
           row-kept (args .n) (args .heads .now) lying text (args .v) (args .title .start) (args .title .size) (args .title .clause) _ _ (order-sized .result) (pre .rising) (pre .few) (pre .references) (pre .vars) long (sorts-length [] (args .variables .now) (args .v) (pre .lent)) named (sorts-column [] (args .variables .now) (args .v)
           ∙ sym (sorts-column text (args .variables .now) (args .v))

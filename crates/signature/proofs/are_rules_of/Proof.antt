@@ -28,28 +28,20 @@ part-are-rules-listed-start c = search needs
 part-are-rules-listed-end : tie.Need-part-are-rules-listed-end
 part-are-rules-listed-end c = search needs
 
+slice-aggregate-are-rules-listed : tie.Need-slice-aggregate-are-rules-listed
+slice-aggregate-are-rules-listed c = search needs
+
 are-rules-listed-requires : tie.Need-are-rules-listed-requires
 are-rules-listed-requires c κs = search needs
 
 returns : tie.Need-returns
 returns c =
-    let args = c .before .before .before .before .before .before .before .before .before .before .args in
-    let put-arities = c .before .before .before .before .put-arities in
-    let pre = c .before .before .before .before .before .before .before .before .before .before .pre in
-    let are-rules-listed = c .are-rules-listed in
+    let args = c .before .before .before .before .before .before .before .before .before .before .before .before .args in
+    let put-arities = c .before .before .before .before .before .before .put-arities in
+    let pre = c .before .before .before .before .before .before .before .before .before .before .before .before .pre in
+    let are-rules-listed = c .before .are-rules-listed in
     let all : (args .counts .symbols) - 0 ≡ (args .counts .symbols) = omega arith in
     rw (all, arities-of (args .text .now) (put-arities .last .1 .1 .0) (args .symbols .now) (args .counts .symbols) (pre .1) (omega (arith, (pre .0), (put-arities .kept .1 .1 .0))) (put-arities .ensures)) at (are-rules-listed .ensures)
 
 pub are-rules-of-spec : {M : Type 1} → statement M
-are-rules-of-spec =
-    tie.close
-    (tie.spec
-    cast-m
-    cast-k
-    slice-aggregate-put-arities
-    put-arities-requires
-    sub-are-rules-listed
-    part-are-rules-listed-start
-    part-are-rules-listed-end
-    are-rules-listed-requires
-    returns)
+are-rules-of-spec = tie.close (tie.spec cast-m cast-k slice-aggregate-put-arities put-arities-requires sub-are-rules-listed part-are-rules-listed-start part-are-rules-listed-end slice-aggregate-are-rules-listed are-rules-listed-requires returns)

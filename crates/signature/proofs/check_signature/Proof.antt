@@ -2,7 +2,7 @@
 use borrow.Author.Tests.{not-true}
 use Rattle.unifier.specs.Checking.{tells-no, tells-false}
 use Rattle.signature.proofs.Laws.{holds, same}
-use Rattle.signature.proofs.FormLaws.{checked, sorts-there, symbols-there, rules-there, words-there, words-few, listed, listed-lent, listed-counted, listed-rules}
+use Rattle.signature.proofs.FormLaws.{checked, sorts-there, symbols-there, rules-there, listed, listed-lent, listed-counted, listed-rules}
 use borrow.Author.Needs.{needs}
 use Rattle.signature.proofs.check_signature.Statement.{statement}
 use Rattle.signature.proofs.check_signature.Tie as tie
@@ -25,12 +25,12 @@ cast-n c = search needs
 cast-m : tie.Need-cast-m
 cast-m c = search needs
 
-are-sorts-inside-requires : tie.Need-are-sorts-inside-requires
-are-sorts-inside-requires c κs =
+are-sorts-named-requires : tie.Need-are-sorts-named-requires
+are-sorts-named-requires c κs =
     sorts-there (holds (c .before .before .before .before .before .is-lent .ensures) (c .before .before .before .before .if1 .left)) (holds (c .before .before .before .is-counted .ensures) (c .before .before .if2 .left))
 
 returns-3 : tie.Need-returns-3
-returns-3 c = checked (tells-no (λ h. tells-false (c .before .are-sorts-inside .ensures) (not-true _ (c .if3 .taken)) (h .sortsInside)))
+returns-3 c = checked (tells-no (λ h. tells-false (c .before .are-sorts-named .ensures) (not-true _ (c .if3 .taken)) (h .sortsNamed)))
 
 are-names-distinct-requires : tie.Need-are-names-distinct-requires
 are-names-distinct-requires c κs =
@@ -64,7 +64,7 @@ are-rules-of-requires c κs =
     let if2 = c .before .before .before .before .before .before .before .before .if2 in
     let lent = holds (is-lent .ensures) (if1 .left) in
     let counted = holds (is-counted .ensures) (if2 .left) in
-    (counted .fewSymbols, symbols-there lent counted, words-there lent counted, words-few lent counted, rules-there lent counted)
+    (counted .fewSymbols, symbols-there lent counted, counted .wordsLent, counted .fewWords, rules-there lent counted)
 
 returns-6 : tie.Need-returns-6
 returns-6 c =
@@ -72,14 +72,14 @@ returns-6 c =
     let if1 = c .before .before .before .before .before .before .before .before .before .before .before .if1 in
     let is-counted = c .before .before .before .before .before .before .before .before .before .before .is-counted in
     let if2 = c .before .before .before .before .before .before .before .before .before .if2 in
-    let are-sorts-inside = c .before .before .before .before .before .before .are-sorts-inside in
+    let are-sorts-named = c .before .before .before .before .before .before .are-sorts-named in
     let if3 = c .before .before .before .before .before .if3 in
     let are-names-distinct = c .before .before .before .before .are-names-distinct in
     let if4 = c .before .before .before .if4 in
     let are-symbols-formed = c .before .before .are-symbols-formed in
     let if5 = c .before .if5 in
     let are-rules-of = c .are-rules-of in
-    checked (same (listed (holds (is-lent .ensures) (if1 .left)) (holds (is-counted .ensures) (if2 .left)) (holds (are-sorts-inside .ensures) (if3 .left)) (holds (are-names-distinct .ensures) (if4 .left)) (holds (are-symbols-formed .ensures) (if5 .left))) listed-rules (are-rules-of .ensures))
+    checked (same (listed (holds (is-lent .ensures) (if1 .left)) (holds (is-counted .ensures) (if2 .left)) (holds (are-sorts-named .ensures) (if3 .left)) (holds (are-names-distinct .ensures) (if4 .left)) (holds (are-symbols-formed .ensures) (if5 .left))) listed-rules (are-rules-of .ensures))
 
 pub check-signature-spec : {M : Type 1} → statement M
 check-signature-spec =
@@ -91,7 +91,7 @@ check-signature-spec =
     returns-2
     cast-n
     cast-m
-    are-sorts-inside-requires
+    are-sorts-named-requires
     returns-3
     are-names-distinct-requires
     returns-4

@@ -8,29 +8,29 @@ use borrow.Author.Needs.{needs}
 use Rattle.signature.proofs.is_symbol_formed.Statement.{statement}
 use Rattle.signature.proofs.is_symbol_formed.Tie as tie
 
-mul-is-inside : tie.Need-mul-is-inside
-mul-is-inside c = search needs
+mul-is-name : tie.Need-mul-is-name
+mul-is-name c = search needs
 
-index-1-is-inside : tie.Need-index-1-is-inside
-index-1-is-inside c = search needs
+index-1-is-name : tie.Need-index-1-is-name
+index-1-is-name c = search needs
 
-index-2-is-inside : tie.Need-index-2-is-inside
-index-2-is-inside c = search needs
+index-2-is-name : tie.Need-index-2-is-name
+index-2-is-name c = search needs
 
-mul-is-inside-2 : tie.Need-mul-is-inside-2
-mul-is-inside-2 c = search needs
+mul-is-name-2 : tie.Need-mul-is-name-2
+mul-is-name-2 c = search needs
 
-index-1-is-inside-2 : tie.Need-index-1-is-inside-2
-index-1-is-inside-2 c = search needs
+index-1-is-name-2 : tie.Need-index-1-is-name-2
+index-1-is-name-2 c = search needs
 
-index-2-is-inside-2 : tie.Need-index-2-is-inside-2
-index-2-is-inside-2 c = search needs
+index-2-is-name-2 : tie.Need-index-2-is-name-2
+index-2-is-name-2 c = search needs
 
-is-inside-requires : tie.Need-is-inside-requires
-is-inside-requires c κs = search needs
+is-name-requires : tie.Need-is-name-requires
+is-name-requires c κs = search needs
 
 returns : tie.Need-returns
-returns c = tells-no (λ h. tells-false (c .before .is-inside .ensures) (not-true _ (c .if1 .taken)) (h .inside))
+returns c = tells-no (λ h. tells-false (c .before .is-name .ensures) (not-true _ (c .if1 .taken)) (h .named))
 
 mul-are-numbers-formed : tie.Need-mul-are-numbers-formed
 mul-are-numbers-formed c = search needs
@@ -149,7 +149,7 @@ are-inputs-formed-requires c κs = search needs
 returns-5 : tie.Need-returns-5
 returns-5 c =
     let args = c .before .before .before .before .before .before .before .before .before .before .before .before .before .before .before .before .before .before .before .before .before .args in
-    let is-inside = c .before .before .before .before .before .before .before .before .before .before .before .before .before .before .before .before .before .is-inside in
+    let is-name = c .before .before .before .before .before .before .before .before .before .before .before .before .before .before .before .before .before .is-name in
     let if1 = c .before .before .before .before .before .before .before .before .before .before .before .before .before .before .before .before .if1 in
     let are-numbers-formed = c .before .before .before .before .before .before .before .before .before .before .before .before .are-numbers-formed in
     let if2 = c .before .before .before .before .before .before .before .before .before .before .before .if2 in
@@ -158,19 +158,19 @@ returns-5 c =
     let are-clauses-formed = c .before .before .are-clauses-formed in
     let if4 = c .before .if4 in
     let are-inputs-formed = c .are-inputs-formed in
-    same (row-formed (args .text .now) (args .sorts) (args .rules) (rowAt (args .symbols .now) (args .i)) (holds (is-inside .ensures) (if1 .left)) (holds (are-numbers-formed .ensures) (if2 .left)) (holds (is-mark-formed .ensures) (if3 .left)) (holds (are-clauses-formed .ensures) (if4 .left))) (row-inputs (args .text .now) (args .sorts) (args .rules) (rowAt (args .symbols .now) (args .i))) (are-inputs-formed .ensures)
+    same (row-formed (args .text .now) (args .sorts) (args .rules) (rowAt (args .symbols .now) (args .i)) (holds (is-name .ensures) (if1 .left)) (holds (are-numbers-formed .ensures) (if2 .left)) (holds (is-mark-formed .ensures) (if3 .left)) (holds (are-clauses-formed .ensures) (if4 .left))) (row-inputs (args .text .now) (args .sorts) (args .rules) (rowAt (args .symbols .now) (args .i))) (are-inputs-formed .ensures)
 
 pub is-symbol-formed-spec : {M : Type 1} → statement M
 is-symbol-formed-spec =
     tie.close
     (tie.spec
-    mul-is-inside
-    index-1-is-inside
-    index-2-is-inside
-    mul-is-inside-2
-    index-1-is-inside-2
-    index-2-is-inside-2
-    is-inside-requires
+    mul-is-name
+    index-1-is-name
+    index-2-is-name
+    mul-is-name-2
+    index-1-is-name-2
+    index-2-is-name-2
+    is-name-requires
     returns
     mul-are-numbers-formed
     index-1-are-numbers-formed

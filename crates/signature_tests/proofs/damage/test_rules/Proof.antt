@@ -8,10 +8,10 @@ use Rattle.signature_tests.proofs.damage.test_rules.Statement.{statemen
 use Rattle.signature_tests.proofs.damage.test_rules.Tie as tie
 
 abbrev Inv-loop : tie.InvT-loop
-Inv-loop text limits sorts symbols rules₀ words counts count i₀ rules i = (i ≤ length rules₀) × (length rules ≡ length rules₀)
+Inv-loop text sorts symbols rules₀ words counts count i₀ rules i = (i ≤ length rules₀) × (length rules ≡ length rules₀)
 
 abbrev μ-loop : tie.MeasureT-loop
-μ-loop text limits sorts symbols rules₀ words counts count i₀ rules i = length rules₀ - i
+μ-loop text sorts symbols rules₀ words counts count i₀ rules i = length rules₀ - i
 
 cast-count : tie.Need-cast-count Inv-loop μ-loop
 cast-count c = search needs
@@ -25,11 +25,8 @@ same-length c = search needs
 returns : tie.Need-returns Inv-loop μ-loop
 returns c = search needs
 
-test-variables-requires : tie.Need-test-variables-requires Inv-loop μ-loop
-test-variables-requires c κs = search needs
-
-test-premise-requires : tie.Need-test-premise-requires Inv-loop μ-loop
-test-premise-requires c κs = search needs
+test-rule-requires : tie.Need-test-rule-requires Inv-loop μ-loop
+test-rule-requires c κs = search needs
 
 add-i : tie.Need-add-i Inv-loop μ-loop
 add-i c = search needs
@@ -56,8 +53,7 @@ test-rules-spec =
     loop-holds
     same-length
     returns
-    test-variables-requires
-    test-premise-requires
+    test-rule-requires
     add-i
     loop-less
     loop-again

@@ -8,10 +8,10 @@ use Rattle.signature_tests.proofs.damage.test_sorts.Statement.{statemen
 use Rattle.signature_tests.proofs.damage.test_sorts.Tie as tie
 
 abbrev Inv-loop : tie.InvT-loop
-Inv-loop text limits sorts₀ symbols rules words counts count i₀ sorts i = (i ≤ length sorts₀) × (length sorts ≡ length sorts₀)
+Inv-loop text sorts₀ symbols rules words counts count i₀ sorts i = (i ≤ length sorts₀) × (length sorts ≡ length sorts₀)
 
 abbrev μ-loop : tie.MeasureT-loop
-μ-loop text limits sorts₀ symbols rules words counts count i₀ sorts i = length sorts₀ - i
+μ-loop text sorts₀ symbols rules words counts count i₀ sorts i = length sorts₀ - i
 
 cast-count : tie.Need-cast-count Inv-loop μ-loop
 cast-count c = search needs

@@ -8,10 +8,10 @@ use Rattle.signature_tests.proofs.damage.test_symbols.Statement.{statem
 use Rattle.signature_tests.proofs.damage.test_symbols.Tie as tie
 
 abbrev Inv-loop : tie.InvT-loop
-Inv-loop text limits sorts symbols₀ rules words counts count i₀ symbols i = (i ≤ length symbols₀) × (length symbols ≡ length symbols₀)
+Inv-loop text sorts symbols₀ rules words counts count i₀ symbols i = (i ≤ length symbols₀) × (length symbols ≡ length symbols₀)
 
 abbrev μ-loop : tie.MeasureT-loop
-μ-loop text limits sorts symbols₀ rules words counts count i₀ symbols i = length symbols₀ - i
+μ-loop text sorts symbols₀ rules words counts count i₀ symbols i = length symbols₀ - i
 
 cast-count : tie.Need-cast-count Inv-loop μ-loop
 cast-count c = search needs
@@ -27,6 +27,9 @@ returns c = search needs
 
 test-symbol-requires : tie.Need-test-symbol-requires Inv-loop μ-loop
 test-symbol-requires c κs = search needs
+
+test-symbol-name-requires : tie.Need-test-symbol-name-requires Inv-loop μ-loop
+test-symbol-name-requires c κs = search needs
 
 add-i : tie.Need-add-i Inv-loop μ-loop
 add-i c = search needs
@@ -54,6 +57,7 @@ test-symbols-spec =
     same-length
     returns
     test-symbol-requires
+    test-symbol-name-requires
     add-i
     loop-less
     loop-again

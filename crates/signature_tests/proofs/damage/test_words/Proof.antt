@@ -8,10 +8,10 @@ use Rattle.signature_tests.proofs.damage.test_words.Statement.{statemen
 use Rattle.signature_tests.proofs.damage.test_words.Tie as tie
 
 abbrev Inv-loop : tie.InvT-loop
-Inv-loop text limits sorts symbols rules words₀ counts count i₀ words i = (i ≤ length words₀) × (length words ≡ length words₀)
+Inv-loop text sorts symbols rules words₀ counts count i₀ words i = (i ≤ length words₀) × (length words ≡ length words₀)
 
 abbrev μ-loop : tie.MeasureT-loop
-μ-loop text limits sorts symbols rules words₀ counts count i₀ words i = length words₀ - i
+μ-loop text sorts symbols rules words₀ counts count i₀ words i = length words₀ - i
 
 cast-count : tie.Need-cast-count Inv-loop μ-loop
 cast-count c = search needs
