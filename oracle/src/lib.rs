@@ -17,6 +17,7 @@ pub mod load_cases;
 pub mod load_definitions;
 pub mod load_examples;
 pub mod load_rows;
+pub mod load_texts;
 pub mod loaded;
 pub mod parse_cases;
 pub mod parse_examples;

@@ -1,4 +1,4 @@
-//! Our loader, in the static library that `rt staticlib capi` makes, called as any foreign program would.
+//! Our loader and the test of what it leaves, in the static library that `rt staticlib capi` makes, called as any foreign program would.
 
 use horn_oracle::loaded::{Buffers, Lent, Limits, Pair, RuleRow, SymbolRow};
 use horn_oracle::tokens::Row;
@@ -26,6 +26,21 @@ unsafe extern "C" {
         evals: *mut Pair,
         evals_rows: usize,
         counts: *mut u32,
+        counts_length: usize,
+    ) -> u64;
+
+    fn horn_check_signature(
+        text: *const u8,
+        text_length: usize,
+        sorts: *const Pair,
+        sorts_rows: usize,
+        symbols: *const SymbolRow,
+        symbols_rows: usize,
+        rules: *const RuleRow,
+        rules_rows: usize,
+        words: *const u32,
+        words_length: usize,
+        counts: *const u32,
         counts_length: usize,
     ) -> u64;
 }
@@ -61,6 +76,31 @@ pub fn load(text: &[u8], limits: Limits, lent: &Lent, buffers: &mut Buffers) -> 
             evals.as_mut_ptr(),
             evals.len(),
             counts.as_mut_ptr(),
+            counts.len(),
+        )
+    }
+}
+
+/// Tests the signature in the lent part of the buffers.
+#[allow(dead_code)]
+pub fn check(text: &[u8], lent: &Lent, buffers: &Buffers) -> u64 {
+    let Buffers { sorts, symbols, rules, words, counts, .. } = buffers;
+    let (sorts, symbols) = (&sorts[..lent.sorts], &symbols[..lent.symbols]);
+    let (rules, words, counts) = (&rules[..lent.rules], &words[..lent.words], &counts[..lent.counts]);
+    // All slices are lent whole for the length of the call, which only reads them.
+    unsafe {
+        horn_check_signature(
+            text.as_ptr(),
+            text.len(),
+            sorts.as_ptr(),
+            sorts.len(),
+            symbols.as_ptr(),
+            symbols.len(),
+            rules.as_ptr(),
+            rules.len(),
+            words.as_ptr(),
+            words.len(),
+            counts.as_ptr(),
             counts.len(),
         )
     }

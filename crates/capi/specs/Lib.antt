@@ -3,3 +3,4 @@ pub mod Words
 pub mod Unification
 pub mod Declarations
 pub mod Signatures
+pub mod Checks

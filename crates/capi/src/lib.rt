@@ -8,6 +8,7 @@ ghost use mathlib.Core.List.{[], _∷_};
 ghost use lib.ListN.{length, replicate};
 ghost use lib.Seq.{sets};
 ghost use Rattle.capi.specs.Declarations.{ParsedAs};
+ghost use Rattle.capi.specs.Checks.{CheckedAs};
 ghost use Rattle.capi.specs.Signatures.{LoadedAs};
 ghost use Rattle.capi.specs.Unification.{packedUnify, Answered};
 ghost use Rattle.capi.specs.Words.{packed, textLimit};
@@ -135,6 +136,35 @@ pub extern "C" fn horn_load(
             declarations as u64
         }
     }
+}
+
+// `signature::check_signature` on storage of any contents, with the first four counts that `horn_load` leaves. The answer is 0 for a signature in the listed
+// form, and else 2^32, refusal 1.
+#[no_mangle]
+pub extern "C" fn horn_check_signature(
+    text: &[u8],
+    sorts: &[[u32; 2]],
+    symbols: &[[u32; 24]],
+    rules: &[[u32; 154]],
+    words: &[u32],
+    counts: &[u32],
+) -> u64
+    ensures { λ r. ⌜ CheckedAs (now (text .entry)) (now (sorts .entry)) (now (symbols .entry)) (now (rules .entry))
+        (now (words .entry)) (now (counts .entry)) r ⌝ }
+{
+    if counts.len() < 4 {
+        return 0x1_0000_0000;
+    }
+    let stored = signature::Counts {
+        sorts: counts[0],
+        symbols: counts[1],
+        rules: counts[2],
+        words: counts[3],
+    };
+    if !signature::check_signature(text, sorts, symbols, rules, words, stored) {
+        return 0x1_0000_0000;
+    }
+    0
 }
 
 // How unification ended, as one number: how many variables are bound, and 2^31 more where the terms unify.
