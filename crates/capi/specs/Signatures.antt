@@ -7,7 +7,8 @@ use lib.Dec.{eqb}
 use lib.ListN.{length, replicate}
 use lib.Seq.{sets}
 use Rattle.words.specs.declared.Limits.{Limits}
-use Rattle.load.specs.Loading.{Buffers, LoadingText}
+use Rattle.load_storage.specs.Storage.{Buffers}
+use Rattle.load.specs.Loading.{LoadingText}
 use Rattle.load.specs.declared.Loading.{Loading}
 use Rattle.load.specs.declared.Loading.the-variants.{Refused, Loaded}
 

@@ -1,6 +1,5 @@
 -- The laws that several proofs cite.
 pub mod WalkLaws
-pub mod ShortLaws
 pub mod ListedLaws
 pub mod RowsLaws
 pub mod LoadLaws

@@ -27,12 +27,13 @@ use Rattle.loader.specs.StoredLaws.{padded-is}
 use Rattle.declarations.specs.declared.State.{State}
 use Rattle.declarations.proofs.NameLaws.{sorts-number, symbols-number}
 use Rattle.load.specs.Load.{declaredIn, ofParsed, loadText, evalsFrom}
-use Rattle.load.specs.Loading.{Buffers, zeroPair, zeroSymbol, zeroRule, wiped, LoadedInto, Left}
+use Rattle.load_storage.specs.Storage.{Buffers, zeroPair, zeroSymbol, zeroRule, wiped}
+use Rattle.load.specs.Loading.{LoadedInto, Left}
 use Rattle.load.specs.Clearing.{RowsAsked, RowsKept, RowsLeft}
 use Rattle.load.specs.declared.Loading.{Loading}
 use Rattle.load.specs.declared.Loading.the-variants.{Refused as Barred}
-use Rattle.load.proofs.ShortLaws.{Enough}
-use Rattle.load.proofs.RowsLaws.{buffers, SameLengths, wiped-same}
+use Rattle.load_storage.proofs.ShortLaws.{Enough}
+use Rattle.load_storage.proofs.WipeLaws.{buffers, SameLengths, wiped-same}
 use Rattle.load.proofs.ListedLaws.{held-rules, held-listed}
 
 -- What the parser answers where its buffers are long enough.

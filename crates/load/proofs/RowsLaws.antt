@@ -13,11 +13,13 @@ use Rattle.loader.specs.Stored.{Titles, titlesOf}
 use Rattle.declarations.specs.Held.{Held}
 use Rattle.declarations.specs.declared.State.{State}
 use Rattle.load.specs.Load.{evalsFrom, Came}
-use Rattle.load.specs.Loading.{Buffers, zeroPair, zeroSymbol, zeroRule, clearedFrom, wiped}
-use Rattle.load.specs.Clearing.{SignatureCleared, ScratchCleared, RowsLeft}
+use Rattle.load_storage.specs.Storage.{Buffers, zeroPair, zeroSymbol, zeroRule, clearedFrom, wiped}
+use Rattle.load_storage.specs.Storage.{SignatureCleared, ScratchCleared}
+use Rattle.load.specs.Clearing.{RowsLeft}
 use Rattle.load.specs.declared.Walk.{Walk}
 use Rattle.load.specs.declared.Walk.the-variants.{Refused, Done}
 use Rattle.load.specs.declared.Loading.the-variants.{Refused as Barred, Loaded as Entered}
+use Rattle.load_storage.proofs.WipeLaws.{wipe, SameLengths}
 use Rattle.load.proofs.ListedLaws.{held-cleared}
 
 -- What an answer of `enter_all` says.
@@ -56,50 +58,11 @@ came-done text limit ts waiting r sorts symbols rules words evals {st} {k} (load
       waits = ap (λ (y : ℕ). take y evals) b ∙ h .waits;
     }
 
--- Cleared from the beginning, and from a place on.
-pub wipe : {A : Type 0} (z : A) (l l₀ : List A) → length l ≡ length l₀ → clearedFrom z 0 l ≡ replicate (length l₀) z
-wipe z l l₀ e = let d : length l - 0 ≡ length l₀ = omega arith in ap (λ (n : ℕ). replicate n z) d
-
 clear-past : {A : Type 0} (z : A) (n : ℕ) (l l₀ : List A) → n ≤ length l → length l ≡ length l₀ → drop n (clearedFrom z n l) ≡ replicate (length l₀ - n) z
 clear-past z n l l₀ h e =
     drop-at (take n l) (replicate (length l - n) z) n (length-take-le n l h) ∙ ap (λ (k : ℕ). replicate (k - n) z) e
 
--- Buffers are the same if each is.
-pub buffers : {a a′ b b′ c c′ d d′ e e′ f f′ : Rows} {g g′ : List ℕ} {h h′ : Rows} → a ≡ a′ → b ≡ b′ → c ≡ c′ → d ≡ d′ → e ≡ e′ → f ≡ f′ → g ≡ g′ → h ≡ h′
-    → _≡_ {A = Buffers} (record { tokens = a; rows = b; calls = c; sorts = d; symbols = e; rules = f; words = g; evals = h })
-    (record { tokens = a′; rows = b′; calls = c′; sorts = d′; symbols = e′; rules = f′; words = g′; evals = h′ })
-buffers p q r s t u v w = rw (p, q, r, s, t, u, v, w) refl
-
--- Buffers of the same lengths, as they are after `enter_all`.
-pub record SameLengths (b c : Buffers) : Type 0 where
-  pub tokens : length (c .tokens) ≡ length (b .tokens)
-  pub calls : length (c .calls) ≡ length (b .calls)
-  pub sorts : length (c .sorts) ≡ length (b .sorts)
-  pub symbols : length (c .symbols) ≡ length (b .symbols)
-  pub rules : length (c .rules) ≡ length (b .rules)
-  pub words : length (c .words) ≡ length (b .words)
-  pub evals : length (c .evals) ≡ length (b .evals)
-
-pub wiped-same : (b c : Buffers) → SameLengths b c → length (c .rows) ≡ length (b .rows) → wiped c ≡ wiped b
-wiped-same b c same rows =
-    buffers (ap (λ (n : ℕ). replicate n zeroRow) (same .tokens)) (ap (λ (n : ℕ). replicate n zeroRow) rows) (ap (λ (n : ℕ). replicate n zeroRow) (same .calls))
-    (ap (λ (n : ℕ). replicate n zeroPair) (same .sorts)) (ap (λ (n : ℕ). replicate n zeroSymbol) (same .symbols)) (ap (λ (n : ℕ). replicate n zeroRule) (same .rules))
-    (ap (λ (n : ℕ). replicate n 0) (same .words)) (ap (λ (n : ℕ). replicate n zeroPair) (same .evals))
-
 module _ (b c d : Buffers) (same : SameLengths b c) where
-  -- Everything is wiped.
-  pub all-wiped : d .rows ≡ replicate (length (b .rows)) zeroRow → ScratchCleared (c .tokens) (c .calls) (c .evals) 0 (d .tokens) (d .calls) (d .evals)
-      → SignatureCleared (c .sorts) (c .symbols) (c .rules) (c .words) 0 0 0 0 (d .sorts) (d .symbols) (d .rules) (d .words) → d ≡ wiped b
-  all-wiped r x y =
-      let e1 : d .tokens ≡ replicate (length (b .tokens)) zeroRow = x .tokens-are ∙ wipe zeroRow (c .tokens) (b .tokens) (same .tokens) in
-      let e2 : d .calls ≡ replicate (length (b .calls)) zeroRow = x .calls-are ∙ wipe zeroRow (c .calls) (b .calls) (same .calls) in
-      let e3 : d .sorts ≡ replicate (length (b .sorts)) zeroPair = y .sorts-are ∙ wipe zeroPair (c .sorts) (b .sorts) (same .sorts) in
-      let e4 : d .symbols ≡ replicate (length (b .symbols)) zeroSymbol = y .symbols-are ∙ wipe zeroSymbol (c .symbols) (b .symbols) (same .symbols) in
-      let e5 : d .rules ≡ replicate (length (b .rules)) zeroRule = y .rules-are ∙ wipe zeroRule (c .rules) (b .rules) (same .rules) in
-      let e6 : d .words ≡ replicate (length (b .words)) 0 = y .words-are ∙ wipe 0 (c .words) (b .words) (same .words) in
-      let e7 : d .evals ≡ replicate (length (b .evals)) zeroPair = x .evals-are ∙ wipe zeroPair (c .evals) (b .evals) (same .evals) in
-      buffers e1 r e2 e3 e4 e5 e6 e7
-
   module _ (text : List ℕ) (limit : ℕ) (ds : List Declared) (r : Walk) where
     pub rows-refused : (n : ℕ) {e line : ℕ} (x : Loaded) → Came text limit (titlesOf ds) (evalsFrom 0 ds) x r (c .sorts) (c .symbols) (c .rules) (c .words) (c .evals) → r ≡ Refused e line → d ≡ wiped b
         → RowsLeft text limit n b ds x (Barred e line) d

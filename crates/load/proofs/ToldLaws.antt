@@ -10,7 +10,8 @@ use Rattle.parser.specs.Declarations.{Declared}
 use Rattle.parser.specs.Parser.{textOf}
 use Rattle.loader.specs.Signature.{Loaded, refused, loaded}
 use Rattle.load.specs.Load.{declaredIn, loadText}
-use Rattle.load.specs.Loading.{Buffers, tooShort, Left, loadingTold, loadedTold, LoadingText}
+use Rattle.load_storage.specs.Storage.{Buffers, tooShort}
+use Rattle.load.specs.Loading.{Left, loadingTold, loadedTold, LoadingText}
 use Rattle.load.specs.declared.Loading.{Loading}
 use Rattle.load.specs.declared.Loading.the-variants.{Refused as Barred}
 

@@ -13,34 +13,10 @@ use Rattle.loader.specs.PlaceLaws.{TitlesInside}
 use Rattle.loader.specs.Stored.{titlesOf}
 use Rattle.declarations.specs.Held.{Held}
 use Rattle.declarations.specs.declared.State.{State}
+use Rattle.load_storage.specs.Storage.{Buffers, zeroPair, zeroSymbol, zeroRule, wiped}
 use Rattle.load.specs.Load.{evalsFrom}
-use Rattle.load.specs.Loading.{Buffers, zeroPair, zeroSymbol, zeroRule, clearedFrom, wiped}
 use Rattle.load.specs.declared.Loading.{Loading}
 use Rattle.load.specs.declared.Loading.the-variants.{Refused as Barred, Loaded as Entered}
-
--- The counts from which on storage is cleared are within it.
-pub record Clearable (sorts symbols rules : Rows) (words : List ℕ) (n m k u : ℕ) : Type 0 where
-  pub sortsThere : n ≤ length sorts
-  pub symbolsThere : m ≤ length symbols
-  pub rulesThere : k ≤ length rules
-  pub wordsThere : u ≤ length words
-
--- A signature's storage is zero from the counts on.
-pub record SignatureCleared (sorts symbols rules : Rows) (words : List ℕ) (n m k u : ℕ) (sorts′ symbols′ rules′ : Rows) (words′ : List ℕ) : Type 0 where
-  pub sorts-are : sorts′ ≡ clearedFrom zeroPair n sorts
-  pub symbols-are : symbols′ ≡ clearedFrom zeroSymbol m symbols
-  pub rules-are : rules′ ≡ clearedFrom zeroRule k rules
-  pub words-are : words′ ≡ clearedFrom 0 u words
-
--- The scratch is zero, and so are the rows of `#eval` from a count on.
-pub record ScratchCleared (tokens calls evals : Rows) (n : ℕ) (tokens′ calls′ evals′ : Rows) : Type 0 where
-  pub tokens-are : tokens′ ≡ clearedFrom zeroRow 0 tokens
-  pub calls-are : calls′ ≡ clearedFrom zeroRow 0 calls
-  pub evals-are : evals′ ≡ clearedFrom zeroPair n evals
-
--- Every buffer is zero throughout.
-pub record Wiped (b b′ : Buffers) : Type 0 where
-  pub is : b′ ≡ wiped b
 
 -- What `load_rows` asks: declarations in the first `used` rows, zero past them, and storage of the listed sizes.
 pub record RowsAsked (text : List ℕ) (limit n used : ℕ) (tokens rows calls sorts symbols rules : Rows) (words : List ℕ) (evals : Rows) : Type 0 where

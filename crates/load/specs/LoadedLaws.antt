@@ -12,7 +12,8 @@ use Rattle.loader.specs.Signature.{Signature}
 use Rattle.loader.specs.Stored.{titlesOf, sortRow, sortRows, symbolRows, ruleRows, wordsFrom, padded}
 use Rattle.loader.specs.StoredLaws.{symbol-rows-length, rule-rows-length}
 use Rattle.load.specs.Load.{evalsFrom}
-use Rattle.load.specs.Loading.{Buffers, zeroPair, zeroSymbol, zeroRule, LoadedInto}
+use Rattle.load_storage.specs.Storage.{Buffers, zeroPair, zeroSymbol, zeroRule}
+use Rattle.load.specs.Loading.{LoadedInto}
 use Rattle.load.specs.declared.Loading.{Loading}
 
 -- Past a list of k items is z.

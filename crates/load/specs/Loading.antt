@@ -14,61 +14,10 @@ use Rattle.names.specs.Symbols.{Rows, sortsOf, symbolsOf}
 use Rattle.loader.specs.Signature.{Signature, Loaded, refused, loaded}
 use Rattle.loader.specs.Stored.{titlesOf, sortRows, symbolRows, ruleRows, wordsFrom, padded}
 use Rattle.signature.specs.Form.{rulesOf, Listed}
+use Rattle.load_storage.specs.Storage.{Buffers, tooShort, zeroPair, zeroSymbol, zeroRule, wiped}
 use Rattle.load.specs.Load.{declaredIn, loadText, evalsFrom}
 use Rattle.load.specs.declared.Loading.{Loading}
 use Rattle.load.specs.declared.Loading.the-variants.{Refused as Barred, Loaded as Entered}
-
--- All that a caller lends.
-pub record Buffers : Type 0 where
-  pub tokens : Rows
-  pub rows : Rows
-  pub calls : Rows
-  pub sorts : Rows
-  pub symbols : Rows
-  pub rules : Rows
-  pub words : List ℕ
-  pub evals : Rows
-
--- Is a buffer of these lengths shorter than docs/STORAGE.md lists, where so many bytes and nodes are allowed?
-abbrev pub shortBy : ℕ → ℕ → ℕ → ℕ → ℕ → ℕ → ℕ → ℕ → ℕ → ℕ → Bool
-shortBy text nodes tokens rows calls sorts symbols rules words evals =
-    ltb tokens text
-    || (ltb rows text || (ltb calls (text + 32) || (ltb sorts 256 || (ltb symbols 1024 || (ltb rules 1024 || (ltb words (2 * nodes) || ltb evals (text / 2)))))))
-
-abbrev pub isShort : Limits → ℕ → ℕ → ℕ → ℕ → ℕ → ℕ → ℕ → ℕ → Bool
-isShort limits tokens rows calls sorts symbols rules words evals = shortBy (cappedOf limits .text) (cappedOf limits .nodes) tokens rows calls sorts symbols rules words evals
-
-abbrev pub tooShort : Limits → Buffers → Bool
-tooShort limits b =
-    isShort limits (length (b .tokens)) (length (b .rows)) (length (b .calls)) (length (b .sorts)) (length (b .symbols)) (length (b .rules)) (length (b .words)) (length (b .evals))
-
--- Rows of zeros.
-abbrev pub zeroPair : List ℕ
-zeroPair = 0 ∷ 0 ∷ []
-
-abbrev pub zeroSymbol : List ℕ
-zeroSymbol = replicate 24 0
-
-abbrev pub zeroRule : List ℕ
-zeroRule = replicate 154 0
-
--- Zero from the item n on.
-abbrev pub clearedFrom : {A : Type 0} → A → ℕ → List A → List A
-clearedFrom z n l = take n l ++ replicate (length l - n) z
-
--- Zero throughout.
-abbrev pub wiped : Buffers → Buffers
-wiped b =
-    record {
-      tokens = replicate (length (b .tokens)) zeroRow;
-      rows = replicate (length (b .rows)) zeroRow;
-      calls = replicate (length (b .calls)) zeroRow;
-      sorts = replicate (length (b .sorts)) zeroPair;
-      symbols = replicate (length (b .symbols)) zeroSymbol;
-      rules = replicate (length (b .rules)) zeroRule;
-      words = replicate (length (b .words)) 0;
-      evals = replicate (length (b .evals)) zeroPair;
-    }
 
 -- All that is left of a text with the declarations ds and the signature s: the stored signature, the declarations' rows, the line of
 -- each `#eval` with the row of its term, and zero past these and in the scratch. So no two programs that load a text differ in a byte.

@@ -23,7 +23,8 @@ use Rattle.loader.specs.Signature.{Signature, Loaded, refused, loaded}
 use Rattle.signature.specs.Form.{rulesOf}
 use Rattle.signature.specs.declared.Counts.{Counts}
 use Rattle.load.specs.Load.{declaredIn, loadText}
-use Rattle.load.specs.Loading.{Buffers, tooShort, Left, LoadingText}
+use Rattle.load_storage.specs.Storage.{Buffers, tooShort}
+use Rattle.load.specs.Loading.{Left, LoadingText}
 use Rattle.load.specs.declared.Loading.{Loading}
 use Rattle.load.specs.declared.Loading.the-variants.{Refused as Barred, Loaded as Entered}
 use Rattle.whole_words.specs.Words.{NameAt}

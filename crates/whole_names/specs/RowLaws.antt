@@ -21,7 +21,7 @@ use Rattle.rule_checks.specs.RuleForm.{ruleIn}
 use Rattle.loader.specs.Signature.{Signature}
 use Rattle.loader.specs.Legal.{namesOf, noRule}
 use Rattle.signature.specs.Form.{rulesOf}
-use Rattle.load.specs.Loading.{Buffers}
+use Rattle.load_storage.specs.Storage.{Buffers}
 use Rattle.whole_words.specs.Words.{WholeWord}
 use Rattle.whole_names.specs.ListLaws.{of-image, of-rows}
 use Rattle.whole_names.specs.Titles.{titleAt, titlesOf, spelling, rowTitle, placeNumber, titleNumber}

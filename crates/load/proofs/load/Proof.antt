@@ -6,9 +6,9 @@ use Rattle.words.specs.Lexer.{cappedOf}
 use Rattle.words.specs.declared.Limits.{Limits}
 use Rattle.parser.specs.Parser.{textOf}
 use Rattle.load.specs.Load.{declaredIn}
-use Rattle.load.specs.Loading.{Buffers}
-use Rattle.load.proofs.ShortLaws.{enough}
-use Rattle.load.proofs.RowsLaws.{SameLengths, wiped-same}
+use Rattle.load_storage.specs.Storage.{Buffers}
+use Rattle.load_storage.proofs.ShortLaws.{enough}
+use Rattle.load_storage.proofs.WipeLaws.{SameLengths, wiped-same}
 use Rattle.load.proofs.LoadLaws.{answered, parse-refused, refused-left, declared, rows-asked, accepted-left}
 use Rattle.load.proofs.ToldLaws.{as-loading}
 use borrow.Author.Needs.{needs}

@@ -6,9 +6,10 @@ use lib.Seq.{length-take-le}
 use Rattle.loader.specs.Signature.{loadOf}
 use Rattle.loader.specs.Stored.{titlesOf}
 use Rattle.load.specs.Load.{evalsFrom}
-use Rattle.load.specs.Loading.{Buffers}
+use Rattle.load_storage.specs.Storage.{Buffers}
 use Rattle.load.proofs.WalkLaws.{evals-few}
-use Rattle.load.proofs.RowsLaws.{part-is, came-done, SameLengths, wiped-same, rows-refused, rows-done}
+use Rattle.load_storage.proofs.WipeLaws.{SameLengths, wiped-same}
+use Rattle.load.proofs.RowsLaws.{part-is, came-done, rows-refused, rows-done}
 use borrow.Author.Needs.{needs}
 use native.Mathlib.Omega.{arith}
 use Rattle.load.proofs.load_rows.Statement.{statement}

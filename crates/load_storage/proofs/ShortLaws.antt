@@ -5,7 +5,7 @@ use mathlib.Core.Bool.{Bool, true, false, _||_}
 use lib.Dec.{ltb}
 use borrow.Author.Tests.{lt-ltb, le-ltb, ltb-false}
 use Rattle.terms.specs.Numbers.{true-false}
-use Rattle.load.specs.Loading.{shortBy}
+use Rattle.load_storage.specs.Storage.{shortBy}
 
 module _ (text nodes tokens rows calls sorts symbols rules words evals : ℕ) where
   pub short-tokens : tokens < text → true ≡ shortBy text nodes tokens rows calls sorts symbols rules words evals

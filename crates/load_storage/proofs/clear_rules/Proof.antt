@@ -3,11 +3,11 @@ use mathlib.Core.Path.{_≡_, refl, sym, ap, _∙_}
 use Prim.Native.Nat.{_≤_, _-_}
 use lib.ListN.{length, set, length-set}
 use Rattle.words.proofs.Rows.{cleared, clear-none, clear-more, clear-all}
-use Rattle.load.specs.Loading.{zeroRule}
+use Rattle.load_storage.specs.Storage.{zeroRule}
 use borrow.Author.Needs.{needs}
 use native.Mathlib.Omega.{arith}
-use Rattle.load.proofs.clear_rules.Statement.{statement}
-use Rattle.load.proofs.clear_rules.Tie as tie
+use Rattle.load_storage.proofs.clear_rules.Statement.{statement}
+use Rattle.load_storage.proofs.clear_rules.Tie as tie
 
 abbrev Inv-loop : tie.InvT-loop
 Inv-loop rows₀ from i₀ rows i = (from ≤ i) × (i ≤ length rows₀) × (length rows ≡ length rows₀) × (rows ≡ cleared rows₀ from zeroRule i)

@@ -4,11 +4,11 @@ use mathlib.Core.Bool.{true}
 use Prim.Native.Nat.{_/_}
 use lib.Dec.{ltb}
 use Rattle.words.specs.declared.Limits.{Limits}
-use Rattle.load.specs.Loading.{shortBy}
-use Rattle.load.proofs.ShortLaws.{short-tokens, short-rows, short-calls, short-sorts, short-symbols, short-rules, short-words, short-evals}
+use Rattle.load_storage.specs.Storage.{shortBy}
+use Rattle.load_storage.proofs.ShortLaws.{short-tokens, short-rows, short-calls, short-sorts, short-symbols, short-rules, short-words, short-evals}
 use borrow.Author.Needs.{needs}
-use Rattle.load.proofs.is_short.Statement.{statement}
-use Rattle.load.proofs.is_short.Tie as tie
+use Rattle.load_storage.proofs.is_short.Statement.{statement}
+use Rattle.load_storage.proofs.is_short.Tie as tie
 
 capped-requires : tie.Need-capped-requires
 capped-requires c κs = search needs

@@ -1,11 +1,11 @@
 -- `leave_nothing` meets its contract: all buffers are cleared from the beginning.
 use mathlib.Core.Path.{refl, _∙_}
 use Rattle.words.specs.Lexer.{zeroRow}
-use Rattle.load.specs.Loading.{Buffers}
-use Rattle.load.proofs.RowsLaws.{SameLengths, all-wiped, wipe}
+use Rattle.load_storage.specs.Storage.{Buffers}
+use Rattle.load_storage.proofs.WipeLaws.{SameLengths, all-wiped, wipe}
 use borrow.Author.Needs.{needs}
-use Rattle.load.proofs.leave_nothing.Statement.{statement}
-use Rattle.load.proofs.leave_nothing.Tie as tie
+use Rattle.load_storage.proofs.leave_nothing.Statement.{statement}
+use Rattle.load_storage.proofs.leave_nothing.Tie as tie
 
 clear-requires : tie.Need-clear-requires
 clear-requires c κs = search needs

@@ -1,22 +1,22 @@
--- `clear_symbols` meets its contract. The loop's invariant: the rows from `from` up to i are zero, the others as they were.
+-- `clear_pairs` meets its contract. The loop's invariant: the rows from `from` up to i are zero, the others as they were.
 use mathlib.Core.Path.{_≡_, refl, sym, ap, _∙_}
 use Prim.Native.Nat.{_≤_, _-_}
 use lib.ListN.{length, set, length-set}
 use Rattle.words.proofs.Rows.{cleared, clear-none, clear-more, clear-all}
-use Rattle.load.specs.Loading.{zeroSymbol}
+use Rattle.load_storage.specs.Storage.{zeroPair}
 use borrow.Author.Needs.{needs}
 use native.Mathlib.Omega.{arith}
-use Rattle.load.proofs.clear_symbols.Statement.{statement}
-use Rattle.load.proofs.clear_symbols.Tie as tie
+use Rattle.load_storage.proofs.clear_pairs.Statement.{statement}
+use Rattle.load_storage.proofs.clear_pairs.Tie as tie
 
 abbrev Inv-loop : tie.InvT-loop
-Inv-loop rows₀ from i₀ rows i = (from ≤ i) × (i ≤ length rows₀) × (length rows ≡ length rows₀) × (rows ≡ cleared rows₀ from zeroSymbol i)
+Inv-loop rows₀ from i₀ rows i = (from ≤ i) × (i ≤ length rows₀) × (length rows ≡ length rows₀) × (rows ≡ cleared rows₀ from zeroPair i)
 
 abbrev μ-loop : tie.MeasureT-loop
 μ-loop rows₀ from i₀ rows i = length rows₀ - i
 
 loop-holds : tie.Need-loop-holds Inv-loop μ-loop
-loop-holds c = (omega arith, omega arith, refl, sym (clear-none (c .args .rows .now) (c .args .from) zeroSymbol))
+loop-holds c = (omega arith, omega arith, refl, sym (clear-none (c .args .rows .now) (c .args .from) zeroPair))
 
 mul-t4 : tie.Need-mul-t4 Inv-loop μ-loop
 mul-t4 c = search needs
@@ -37,8 +37,8 @@ loop-again c =
       omega arith,
       omega arith,
       simp length-set (loop .inv .2),
-      ap (λ l. set l (loop .i) zeroSymbol) (loop .inv .3)
-          ∙ clear-more (args .rows .now) (args .from) zeroSymbol (loop .i) (loop .inv .0) (omega (arith, (loop .inv))),
+      ap (λ l. set l (loop .i) zeroPair) (loop .inv .3)
+          ∙ clear-more (args .rows .now) (args .from) zeroPair (loop .i) (loop .inv .0) (omega (arith, (loop .inv))),
     )
 
 same-length : tie.Need-same-length Inv-loop μ-loop
@@ -47,10 +47,10 @@ same-length c = search needs
 returns : tie.Need-returns Inv-loop μ-loop
 returns c =
     (c .before .loop .inv .3)
-    ∙ clear-all (c .before .before .args .rows .now) (c .before .before .args .from) zeroSymbol (c .before .loop .i) (omega (arith, (c .before .loop .inv))) (c .before .loop .inv .1)
+    ∙ clear-all (c .before .before .args .rows .now) (c .before .before .args .from) zeroPair (c .before .loop .i) (omega (arith, (c .before .loop .inv))) (c .before .loop .inv .1)
 
-pub clear-symbols-spec : {M : Type 1} → statement M
-clear-symbols-spec =
+pub clear-pairs-spec : {M : Type 1} → statement M
+clear-pairs-spec =
     tie.close
     (tie.spec
     Inv-loop

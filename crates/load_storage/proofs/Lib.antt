@@ -1,0 +1,3 @@
+-- The laws that several proofs cite.
+pub mod ShortLaws
+pub mod WipeLaws

@@ -1,0 +1,2 @@
+-- What the contracts of `load_storage` cite.
+pub mod Storage
