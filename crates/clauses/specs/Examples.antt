@@ -1,7 +1,7 @@
 -- `add` of document 01, "One text in full", by running the definitions.
 use mathlib.Core.Path.{_≡_, refl}
 use mathlib.Core.List.{List, [], _∷_, _++_}
-use Rattle.words.specs.Bytes.{sameBytes}
+use Rattle.source_text.specs.Bytes.{sameBytes}
 use Rattle.terms.specs.Term.{var, app, nil, cons}
 use Rattle.term_parser.specs.Standing.{number, called, applied, nil as none, cons as more, size}
 use Rattle.names.specs.Names.{Name, find, digits, resultName}

@@ -6,7 +6,7 @@ use mathlib.Core.List.{List, [], _∷_, _++_, map, append-assoc}
 use lib.ListN.{length, length-append}
 use lib.Seq.{getD-append-seam}
 use Rattle.words.specs.Names.{nameKind}
-use Rattle.words.specs.Lexer.{partOf}
+use Rattle.source_text.specs.Parts.{partOf}
 use Rattle.term_parser.specs.Source.{Place, place, Source, one}
 use Rattle.term_parser.specs.Rows.{row, rowsOf, rowsOfAll, nameRows}
 use Rattle.term_parser.specs.Standing.{bytesAt, spelled, Stands, stands}

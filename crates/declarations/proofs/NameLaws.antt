@@ -9,7 +9,7 @@ use lib.ListN.{length, set, length-set}
 use lib.Seq.{getD-set-same, getD-set-other}
 use borrow.Author.Tests.{ltb-true, ne-eqb}
 use Rattle.terms.specs.Numbers.{by-same}
-use Rattle.words.specs.Lexer.{partOf}
+use Rattle.source_text.specs.Parts.{partOf}
 use Rattle.term_parser.specs.Source.{place}
 use Rattle.names.specs.Names.{Name}
 use Rattle.names.specs.NamePlaces.{NamePlace}

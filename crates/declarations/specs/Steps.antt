@@ -5,7 +5,7 @@ use mathlib.Core.Bool.{Bool, cond}
 use mathlib.Core.List.{List, [], _∷_, _++_}
 use lib.Dec.{eqb}
 use lib.ListN.{length}
-use Rattle.words.specs.Lexer.{partOf}
+use Rattle.source_text.specs.Parts.{partOf}
 use Rattle.term_parser.specs.Source.{Place, place, Source, one}
 use Rattle.parser.specs.Source.{Clause, def}
 use Rattle.parser.specs.Declarations.{Declared}

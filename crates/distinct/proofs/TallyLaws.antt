@@ -5,10 +5,10 @@ use native.Mathlib.Omega.{arith}
 use mathlib.Core.Path.{_≡_, refl, sym, ap, _∙_}
 use mathlib.Core.Bool.{true, false}
 use Rattle.terms.specs.Numbers.{by-bool, by-less, true-false}
-use Rattle.words.specs.Bytes.{sameBytes}
-use Rattle.words.specs.ByteLaws.{same-is}
+use Rattle.source_text.specs.Bytes.{sameBytes}
+use Rattle.source_text.specs.ByteLaws.{same-is}
 use Rattle.names.specs.Names.{Name}
-use Rattle.words.specs.ByteLaws.{same-itself}
+use Rattle.source_text.specs.ByteLaws.{same-itself}
 use Rattle.distinct.specs.Order.{isBefore}
 use Rattle.distinct.specs.Sorting.{once, tally, Ascending, SameNames, Repeated}
 use Rattle.distinct.proofs.OrderLaws.{before-itself, before-trans}

@@ -7,7 +7,7 @@ use mathlib.Core.List.{List}
 use lib.Dec.{eqb}
 use lib.ListN.{length}
 use Rattle.words.specs.Names.{metavariableKind, numeralKind}
-use Rattle.words.specs.Lexer.{partOf}
+use Rattle.source_text.specs.Parts.{partOf}
 use Rattle.term_parser.specs.Source.{Arity, one, many}
 use Rattle.term_parser.specs.Rows.{applicationKind}
 use Rattle.term_parser.specs.Standing as parsed

@@ -5,7 +5,7 @@ use names::SymbolRow;
 ghost use mathlib.Core.Path.{_≡_};
 ghost use Prim.Native.Nat.{_+_, _-_, _*_, _≤_, _<_};
 ghost use lib.ListN.{length};
-ghost use Rattle.words.specs.Lexer.{partOf};
+ghost use Rattle.source_text.specs.Parts.{partOf};
 ghost use Rattle.names.specs.Names.{resultLength};
 ghost use Rattle.names.specs.Symbols.{symbolsOf};
 ghost use Rattle.flattening.specs.Flattening.{isFunction};

@@ -2,11 +2,11 @@
 use mathlib.Core.Path.{_≡_, refl}
 use mathlib.Core.List.{List, [], _∷_}
 use Prim.Native.Nat.{ℕ}
-use Rattle.words.specs.Bytes.{oneOf, startsWith, sameBytes, upTo}
-use Rattle.words.specs.Utf8.{forms, formOf, leadOf, tailsOf, characterLength, utf8After, isUtf8}
-use Rattle.words.specs.Characters.{classOf, characterOf, outsideAfter, hasOutside}
-use Rattle.words.specs.Lines.{lines, codeOf}
-use Rattle.words.specs.Numerals.{allDigits, valueFrom, numeralOf}
+use Rattle.source_text.specs.Bytes.{oneOf, startsWith, sameBytes, upTo}
+use Rattle.source_text.specs.Utf8.{forms, formOf, leadOf, tailsOf, characterLength, utf8After, isUtf8}
+use Rattle.source_text.specs.Characters.{classOf, characterOf, outsideAfter, hasOutside}
+use Rattle.source_text.specs.Lines.{lines, codeOf}
+use Rattle.source_text.specs.Numerals.{allDigits, valueFrom, numeralOf}
 use Rattle.words.specs.Names.{keywords, numberAmong, keywordOf, wordItem}
 use Rattle.words.specs.Signs.{signs, signAmong, signItem}
 use Rattle.words.specs.Tokens.{andThen, wordOf, itemOf, readAfter, readLines, outsideLine}

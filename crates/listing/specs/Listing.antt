@@ -10,7 +10,8 @@ use Rattle.words.specs.Names.{nameKind, metavariableKind, numeralKind}
 use Rattle.words.specs.Tokens.{Reading}
 use Rattle.words.specs.Tokens.Reading.{tokens, refused}
 use Rattle.words.specs.Refusals.{numberOf}
-use Rattle.words.specs.Lexer.{cappedOf, partOf, lexOf, lexRows}
+use Rattle.source_text.specs.Parts.{partOf}
+use Rattle.words.specs.Lexer.{cappedOf, lexOf, lexRows}
 use Rattle.words.specs.declared.Limits.{Limits}
 use Rattle.words.specs.declared.Refusal.the-variants.{Storage}
 use Rattle.byte_output.specs.Output.{numeral}

@@ -13,7 +13,8 @@ use Rattle.words.specs.Names.{nameKind, metavariableKind, numeralKind}
 use Rattle.words.specs.Tokens.{Reading}
 use Rattle.words.specs.Tokens.Reading.{tokens, refused}
 use Rattle.words.specs.Refusals.{numberOf}
-use Rattle.words.specs.Lexer.{cappedOf, partOf, zeroRow, lexOf, answerOf, rowsOf, countOf, lexAnswer, lexRows}
+use Rattle.source_text.specs.Parts.{partOf}
+use Rattle.words.specs.Lexer.{cappedOf, zeroRow, lexOf, answerOf, rowsOf, countOf, lexAnswer, lexRows}
 use Rattle.words.specs.declared.Limits.{Limits}
 use Rattle.words.specs.declared.Lexed.{Lexed}
 use Rattle.words.specs.declared.Lexed.the-variants.{Tokens, Refused}

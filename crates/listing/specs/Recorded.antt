@@ -4,7 +4,7 @@ use mathlib.Core.Bool.{cond}
 use mathlib.Core.List.{List}
 use lib.Dec.{ltb}
 use lib.ListN.{getD, length}
-use Rattle.words.specs.Bytes.{within}
+use Rattle.source_text.specs.Bytes.{within}
 use Rattle.listing.specs.declared.recorded.Decimal.{Decimal}
 use Rattle.listing.specs.declared.recorded.Recorded.{Recorded}
 

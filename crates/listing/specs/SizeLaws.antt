@@ -8,21 +8,22 @@ use lib.Dec.{eqb, ltb, leb}
 use lib.ListN.{getD, length, take, drop, length-append, length-take}
 use borrow.Author.Tests.{ltb-false}
 use Rattle.terms.specs.Numbers.{by-bool}
-use Rattle.words.specs.Bytes.{startsWith, upTo}
-use Rattle.words.specs.ByteLaws.{and-right}
-use Rattle.words.specs.Characters.{characterOf, blank, sign}
-use Rattle.words.specs.Lines.{prepend, lines, codeOf}
-use Rattle.words.specs.Numerals.{allDigits, numeralOf}
+use Rattle.source_text.specs.Bytes.{startsWith, upTo}
+use Rattle.source_text.specs.ByteLaws.{and-right}
+use Rattle.source_text.specs.Characters.{characterOf, blank, sign}
+use Rattle.source_text.specs.Lines.{prepend, lines, codeOf}
+use Rattle.source_text.specs.Numerals.{allDigits, numeralOf}
 use Rattle.words.specs.Names.{nameKind, metavariableKind, numeralKind, ifFits, wordItem}
 use Rattle.words.specs.Signs.{Sign, signs, signAmong, signItem}
 use Rattle.words.specs.Tokens.{Reading, isWord, wordOf, itemOf, andThen, readItem, itemLength, readAfter, readLines, outsideLine}
 use Rattle.words.specs.Tokens.Reading.{tokens, refused}
-use Rattle.words.specs.Utf8.{isUtf8}
+use Rattle.source_text.specs.Utf8.{isUtf8}
 use Rattle.words.specs.Refusals.{numberOf}
-use Rattle.words.specs.Lexer.{cappedOf, partOf, inDomain, lexOf}
+use Rattle.source_text.specs.Parts.{partOf}
+use Rattle.words.specs.Lexer.{cappedOf, inDomain, lexOf}
 use Rattle.words.specs.declared.Limits.{Limits}
-use Rattle.words.specs.declared.NumeralValue.{NumeralValue}
-use Rattle.words.specs.declared.NumeralValue.the-variants.{Fits, TooLarge}
+use Rattle.source_text.specs.declared.NumeralValue.{NumeralValue}
+use Rattle.source_text.specs.declared.NumeralValue.the-variants.{Fits, TooLarge}
 use Rattle.words.specs.declared.tokens.Item.{Item}
 use Rattle.words.specs.declared.tokens.Item.the-variants.{Blank, Token, Refused}
 use Rattle.byte_output.specs.Output.{numeral}

@@ -4,7 +4,7 @@ use mathlib.Core.Bool.{true, false, cond}
 use mathlib.Core.List.{List}
 use Prim.Native.Nat.{ℕ}
 use Rattle.terms.specs.Numbers.{by-bool}
-use Rattle.words.specs.Answers.{Told, refuses}
+use Rattle.source_text.specs.Answers.{Told, refuses}
 use Rattle.words.specs.declared.Limits.{Limits}
 use Rattle.parser.specs.Declarations.{Declared}
 use Rattle.parser.specs.Parser.{textOf}

@@ -6,7 +6,7 @@ use mathlib.Core.List.{List, [], _∷_, _++_}
 use lib.Dec.{ltb}
 use lib.ListN.{length, take, replicate}
 use Rattle.words.specs.Lexer.{cappedOf, zeroRow}
-use Rattle.words.specs.Answers.{Told, answers, refuses}
+use Rattle.source_text.specs.Answers.{Told, answers, refuses}
 use Rattle.words.specs.declared.Limits.{Limits}
 use Rattle.parser.specs.Declarations.{Declared}
 use Rattle.parser.specs.Parser.{textOf, rowsAfter}

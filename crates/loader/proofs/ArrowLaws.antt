@@ -8,7 +8,7 @@ use lib.Dec.{ltb, leb}
 use lib.ListN.{length, take, set, length-append, length-set}
 use lib.Seq.{take-set-le, take-append-le, take-suc-set, take-all}
 use borrow.Author.Tests.{lt-ltb, le-ltb, leb-true, leb-false}
-use Rattle.words.specs.Lexer.{partOf}
+use Rattle.source_text.specs.Parts.{partOf}
 use Rattle.names.specs.Names.{Name}
 use Rattle.names.specs.Symbols.{Rows, column, rowAt, sortNumber, sortsOf}
 use Rattle.names.specs.SearchLaws.{sorts-length}

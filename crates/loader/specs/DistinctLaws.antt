@@ -9,10 +9,10 @@ use lib.ListN.{length, getD, length-append, length-map, List·getD-append, List�
 use lib.Seq.{getD-append-seam, getD-append-add}
 use borrow.Author.Tests.{ltb-false}
 use Rattle.terms.specs.Numbers.{by-bool, by-less, by-same, or-false}
-use Rattle.words.specs.Bytes.{sameBytes}
+use Rattle.source_text.specs.Bytes.{sameBytes}
 use Rattle.names.specs.Names.{Name, Distinct, find}
 use Rattle.names.specs.Symbols.{Symbol, sortNumber, symbolNumber, noSymbol}
-use Rattle.words.specs.ByteLaws.{same-itself}
+use Rattle.source_text.specs.ByteLaws.{same-itself}
 use Rattle.loader.specs.Signature.{isTaken}
 use Rattle.loader.specs.Legal.{namesOf}
 

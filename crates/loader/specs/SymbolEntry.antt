@@ -5,7 +5,7 @@ use mathlib.Core.Bool.{Bool, true, false}
 use mathlib.Core.List.{List}
 use lib.ListN.{length, set}
 use Rattle.names.specs.Names.{Name}
-use Rattle.words.specs.Lexer.{partOf}
+use Rattle.source_text.specs.Parts.{partOf}
 use Rattle.names.specs.Symbols.{Rows, Symbol, sortsOf, symbolsOf}
 use Rattle.loader.specs.Signature.{Numbers, unknown, numbers, numbersOf, frontOf, lastOf, symbolRefusal}
 use Rattle.loader.specs.Rows.{symbolRow}

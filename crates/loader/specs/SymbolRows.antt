@@ -5,7 +5,7 @@ use Prim.Native.Nat.{ℕ, _+_, _≤_, _<_}
 use native.Mathlib.Omega.{arith}
 use lib.ListN.{length, set}
 use lib.Seq.{getD-drop}
-use Rattle.words.specs.Lexer.{partOf}
+use Rattle.source_text.specs.Parts.{partOf}
 use Rattle.arena.specs.NodeLaws.{sets-below, sets-within, sets-past}
 use Rattle.names.specs.Symbols.{Rows, column, columns, symbolOf, symbolsOf}
 use Rattle.names.specs.SearchLaws.{table-more, columns-are, zero-at}

@@ -5,7 +5,7 @@ ghost use mathlib.Core.Path.{_≡_};
 ghost use mathlib.Core.List.{[], _∷_};
 ghost use Prim.Native.Nat.{_+_, _-_, _≤_, _<_};
 ghost use lib.ListN.{length, take, set};
-ghost use Rattle.words.specs.Lexer.{partOf};
+ghost use Rattle.source_text.specs.Parts.{partOf};
 ghost use lib.Seq.{sets};
 ghost use Rattle.names.specs.Symbols.{column, rowAt, sortsOf, symbolsOf};
 ghost use mathlib.Core.Bool.{cond};

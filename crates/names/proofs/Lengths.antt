@@ -7,9 +7,9 @@ use mathlib.Core.List.{List, []}
 use lib.Dec.{leb}
 use lib.ListN.{length, take, drop, length-take, length-drop}
 use borrow.Author.Tests.{leb-true}
-use Rattle.words.specs.Bytes.{sameBytes}
-use Rattle.words.specs.ByteLaws.{same-is}
-use Rattle.words.specs.Lexer.{partOf}
+use Rattle.source_text.specs.Bytes.{sameBytes}
+use Rattle.source_text.specs.ByteLaws.{same-is}
+use Rattle.source_text.specs.Parts.{partOf}
 
 -- The word at a place is as long as the place says, or empty.
 part-length : (t : List ℕ) (start n : ℕ) → 0 < length (partOf t start n) → length (partOf t start n) ≡ n

@@ -8,9 +8,9 @@ use mathlib.Core.List.{List, [], _∷_, _++_}
 use lib.Dec.{eqb, ltb}
 use lib.ListN.{length, getD}
 use borrow.Author.Count.{below-more}
-use Rattle.words.specs.Bytes.{sameBytes}
-use Rattle.words.specs.ByteLaws.{and-left, and-right, same-is}
-use Rattle.words.specs.Lexer.{partOf}
+use Rattle.source_text.specs.Bytes.{sameBytes}
+use Rattle.source_text.specs.ByteLaws.{and-left, and-right, same-is}
+use Rattle.source_text.specs.Parts.{partOf}
 
 abbrev pub Name : Type 0
 Name = List ℕ

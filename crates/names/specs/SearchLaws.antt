@@ -7,7 +7,7 @@ use native.Mathlib.Numerals.{add-one}
 use native.Mathlib.Omega.{arith}
 use lib.ListN.{length, getD, drop, take, set, replicate, List·getD-map, drop-of-length-le}
 use lib.Seq.{drop-cons, getD-take, length-take-le, take-set-lt, take-suc-set}
-use Rattle.words.specs.Bytes.{sameBytes}
+use Rattle.source_text.specs.Bytes.{sameBytes}
 use Rattle.names.specs.Names.{Name, find}
 use Rattle.names.specs.Symbols.{Rows, rowAt, column, columns, sortOf, sortsOf}
 

@@ -4,8 +4,8 @@
 ghost use mathlib.Core.Path.{_≡_};
 ghost use Prim.Native.Nat.{_≤_};
 ghost use lib.ListN.{length};
-ghost use Rattle.words.specs.Bytes.{sameBytes};
-ghost use Rattle.words.specs.Lexer.{partOf};
+ghost use Rattle.source_text.specs.Bytes.{sameBytes};
+ghost use Rattle.source_text.specs.Parts.{partOf};
 ghost use Rattle.names.specs.Names.{resultNames, nameOf};
 ghost use Rattle.names.specs.Symbols.{sortsOf, symbolsOf, variablesOf, sortNumber, symbolNumber, variableNumber};
 

@@ -8,8 +8,8 @@ use borrow.Author.Tests.{ne-eqb}
 use native.Mathlib.Decide.{decLt}
 use lib.ListN.{length, take, drop, set, getD, length-append, length-set, drop-of-length-le}
 use lib.Seq.{drop-cons, take-set-lt, set-at, getD-at, getD-take, take-at, take-take, length-take-le}
-use Rattle.words.specs.Bytes.{sameBytes}
-use Rattle.words.specs.Lexer.{partOf}
+use Rattle.source_text.specs.Bytes.{sameBytes}
+use Rattle.source_text.specs.Parts.{partOf}
 use Rattle.words.specs.Names.{nameKind}
 use Rattle.term_parser.specs.declared.Refusal.{Refusal}
 use Rattle.term_parser.specs.declared.Refusal.the-variants.{OtherKeyword, DeclarationExpected}

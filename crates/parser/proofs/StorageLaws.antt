@@ -9,7 +9,7 @@ use lib.Dec.{ltb}
 use lib.ListN.{length, take, replicate}
 use lib.Seq.{length-take-le, take-at}
 use Rattle.words.specs.Lexer.{countOf, cappedOf, lexOf, zeroRow, Lexing, answerOf as lexedOf, rowsOf as lexedRows}
-use Rattle.words.specs.Answers.{refuses}
+use Rattle.source_text.specs.Answers.{refuses}
 use Rattle.words.specs.Tokens.{Reading}
 use Rattle.words.specs.Tokens.Reading.{tokens, refused as unread}
 use Rattle.words.specs.declared.Limits.{Limits}

@@ -4,8 +4,8 @@ use mathlib.Core.Bool.{Bool, false, _&&_}
 use mathlib.Core.List.{List, [], _∷_}
 use lib.Dec.{eqb}
 use lib.ListN.{length, take, drop, getD}
-use Rattle.words.specs.Bytes.{sameBytes}
-use Rattle.words.specs.Lexer.{partOf}
+use Rattle.source_text.specs.Bytes.{sameBytes}
+use Rattle.source_text.specs.Parts.{partOf}
 use Rattle.term_parser.specs.Source.{Place, place}
 use Rattle.term_parser.specs.Parsing.{Tokens, kindOf, lineOf, lastLine, when, Parsed, parsed, absent, refused, plus, follow, signOf, behind, repeat}
 use Rattle.term_parser.specs.Lists.{name, titleOf, arrowsOf, namesOf, term, app, judgmentsOf, patternsOf}

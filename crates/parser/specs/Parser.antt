@@ -9,7 +9,7 @@ use Rattle.words.specs.Lexer.{cappedOf, lexOf, zeroRow}
 use Rattle.words.specs.Tokens.{Reading}
 use Rattle.words.specs.Tokens.Reading.{tokens, refused as unread}
 use Rattle.words.specs.Refusals.{numberOf as wordsNumber}
-use Rattle.words.specs.Answers.{Told, answers, refuses}
+use Rattle.source_text.specs.Answers.{Told, answers, refuses}
 use Rattle.words.specs.declared.Limits.{Limits}
 use Rattle.term_parser.specs.Parsing.{Tokens, Parsed, parsed, absent, refused}
 use Rattle.parser.specs.Declarations.{Declared, parseOf}

@@ -15,7 +15,7 @@ use Rattle.terms.specs.Term.Kind.{one as single, many as several}
 use Rattle.terms.specs.TermLaws.{below-le}
 use Rattle.term_parser.specs.Source.{Arity, one, many}
 use Rattle.term_parser.specs.Standing.{Written, number, meta, called, applied, nil as none, cons as more, size}
-use Rattle.words.specs.ByteLaws.{and-left, and-right}
+use Rattle.source_text.specs.ByteLaws.{and-left, and-right}
 use Rattle.names.specs.Names.{Name}
 use Rattle.names.specs.Symbols.{Symbol, Variable, symbolNumber, variableNumber, noSymbol, symbolAt}
 use Rattle.patterns.specs.Patterns.{noVariable, Entry, refused, entered, known, enter, kindOf, Out, bad, good, bind, counted, misfit, spent, unless, isCtor, zeroName, succName, first, rest, chain, patternOf}

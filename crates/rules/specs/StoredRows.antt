@@ -8,7 +8,7 @@ use mathlib.Core.List.{List}
 use lib.Dec.{eqb}
 use lib.ListN.{length, getD, replicate}
 use lib.Seq.{sets}
-use Rattle.words.specs.Lexer.{partOf}
+use Rattle.source_text.specs.Parts.{partOf}
 use Rattle.names.specs.Names.{Name, clauseName}
 use Rattle.names.specs.Symbols.{column, columns}
 use Rattle.resolution.specs.Rules.{Rule}

@@ -8,7 +8,7 @@ use rules::RuleRow;
 use signature::Counts;
 ghost use mathlib.Core.Path.{_≡_};
 ghost use Prim.Native.Nat.{_≤_};
-ghost use Rattle.words.specs.Lexer.{partOf};
+ghost use Rattle.source_text.specs.Parts.{partOf};
 ghost use Rattle.signature_listing.specs.Nodes.{arityAt};
 
 // References to nodes start here, those below are variables; headers start at the other.

@@ -7,8 +7,8 @@ use mathlib.Core.List.{List}
 use lib.Dec.{eqb, leb}
 use lib.ListN.{length}
 use borrow.Author.Tests.{lt-ltb, le-ltb, le-leb, lt-leb, eq-eqb, ne-eqb}
-use Rattle.words.specs.Numerals.{numeralOf}
-use Rattle.words.specs.declared.NumeralValue.the-variants.{Fits}
+use Rattle.source_text.specs.Numerals.{numeralOf}
+use Rattle.source_text.specs.declared.NumeralValue.the-variants.{Fits}
 use Rattle.term_check.specs.Walk.{isWordPlace, isHeld, column, wordIn, topOf}
 use Rattle.term_check.specs.declared.Top.the-variants.{Takes, NoTerm}
 

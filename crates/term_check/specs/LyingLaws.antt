@@ -9,11 +9,11 @@ use lib.Dec.{eqb, leb, ltb}
 use lib.ListN.{length, getD, drop, length-append, length-drop}
 use lib.Seq.{drop-cons, drop-drop, drop-append-seam, getD-drop}
 use borrow.Author.Tests.{ltb-true, lt-ltb, leb-true, le-leb, eqb-true, eq-eqb, eqb-false}
-use Rattle.words.proofs.Scans.{by-bool}
-use Rattle.words.specs.ByteLaws.{and-left, and-right}
-use Rattle.words.specs.Numerals.{numeralOf}
-use Rattle.words.specs.declared.NumeralValue.{NumeralValue}
-use Rattle.words.specs.declared.NumeralValue.the-variants.{Fits, TooLarge}
+use Rattle.source_text.proofs.Scans.{by-bool}
+use Rattle.source_text.specs.ByteLaws.{and-left, and-right}
+use Rattle.source_text.specs.Numerals.{numeralOf}
+use Rattle.source_text.specs.declared.NumeralValue.{NumeralValue}
+use Rattle.source_text.specs.declared.NumeralValue.the-variants.{Fits, TooLarge}
 use Rattle.term_parser.specs.Source.{place, one, many, Source, numeral, metavariable, name, application, none, more, count}
 use Rattle.term_parser.specs.Rows.{Rows, rowsOf}
 use Rattle.term_parser.specs.Depth.{depth}

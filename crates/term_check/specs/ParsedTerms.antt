@@ -7,14 +7,15 @@ use lib.Dec.{eqb}
 use lib.ListN.{length, getD, drop, replicate, length-append}
 use lib.Seq.{drop-at}
 use borrow.Author.Tests.{eqb-true}
-use Rattle.words.proofs.Scans.{by-bool}
+use Rattle.source_text.proofs.Scans.{by-bool}
 use Rattle.words.specs.Names.{nameKind, metavariableKind, numeralKind}
-use Rattle.words.specs.Numerals.{numeralOf}
+use Rattle.source_text.specs.Numerals.{numeralOf}
 use Rattle.words.specs.Tokens.{Reading}
 use Rattle.words.specs.Tokens.Reading.{tokens, refused as unread}
-use Rattle.words.specs.Lexer.{cappedOf, lexOf, partOf, zeroRow}
+use Rattle.source_text.specs.Parts.{partOf}
+use Rattle.words.specs.Lexer.{cappedOf, lexOf, zeroRow}
 use Rattle.words.specs.declared.Limits.{Limits}
-use Rattle.words.specs.declared.NumeralValue.the-variants.{Fits}
+use Rattle.source_text.specs.declared.NumeralValue.the-variants.{Fits}
 use Rattle.term_parser.specs.Source.{Source, one, many, numeral, metavariable, name as called, application, none, more, count, allOf, extend}
 use Rattle.term_parser.specs.Parsing.{Tokens, kindOf, lineOf, lastLine, Parsed, parsed, absent, refused, plus, follow, required, signOf, repeat}
 use Rattle.term_parser.specs.Grammar.{value, applied, equated, atomOf, appOf, termOf, parenthesis}

@@ -5,9 +5,9 @@ use mathlib.Core.Path.{_≡_, refl, sym, ap, ap₂, _∙_, subst}
 use mathlib.Core.List.{List, _∷_, _++_, append-assoc}
 use lib.ListN.{length, take, drop, take-append-drop, length-append, length-drop}
 use lib.Seq.{length-take-le}
-use Rattle.words.specs.Numerals.{numeralOf}
-use Rattle.words.specs.Lexer.{partOf}
-use Rattle.words.specs.declared.NumeralValue.the-variants.{Fits}
+use Rattle.source_text.specs.Numerals.{numeralOf}
+use Rattle.source_text.specs.Parts.{partOf}
+use Rattle.source_text.specs.declared.NumeralValue.the-variants.{Fits}
 use Rattle.term_parser.specs.Source.{place, Arity, one, many, Source, numeral, metavariable, name, application, none, more, count}
 use Rattle.term_parser.specs.Rows.{Rows, rowsOf}
 use Rattle.term_parser.specs.Standing.{Written, number, meta, called, applied, nil, cons, size, spelled, Stands, stands}

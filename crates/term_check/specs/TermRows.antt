@@ -4,9 +4,9 @@ use Prim.Native.Nat.{ℕ, _+_, _≤_, _<_}
 use mathlib.Core.Path.{_≡_}
 use mathlib.Core.List.{List, [], _∷_, _++_}
 use lib.ListN.{length, drop}
-use Rattle.words.specs.Numerals.{numeralOf}
-use Rattle.words.specs.Answers.{Told, answers, refuses}
-use Rattle.words.specs.declared.NumeralValue.the-variants.{Fits}
+use Rattle.source_text.specs.Numerals.{numeralOf}
+use Rattle.source_text.specs.Answers.{Told, answers, refuses}
+use Rattle.source_text.specs.declared.NumeralValue.the-variants.{Fits}
 use Rattle.term_parser.specs.Source.{Place, place, Arity, one, Source, numeral, metavariable, name, application, none, more, count}
 use Rattle.term_parser.specs.Rows.{Rows, rowsOf}
 use Rattle.term_parser.specs.Depth.{depth}

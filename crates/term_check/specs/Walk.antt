@@ -6,10 +6,10 @@ use mathlib.Core.List.{List, [], _∷_}
 use lib.Dec.{eqb, leb, ltb}
 use lib.ListN.{length, getD}
 use Rattle.words.specs.Names.{nameKind, metavariableKind, numeralKind}
-use Rattle.words.specs.Numerals.{numeralOf}
-use Rattle.words.specs.Lexer.{partOf}
-use Rattle.words.specs.declared.NumeralValue.{NumeralValue}
-use Rattle.words.specs.declared.NumeralValue.the-variants.{Fits, TooLarge}
+use Rattle.source_text.specs.Numerals.{numeralOf}
+use Rattle.source_text.specs.Parts.{partOf}
+use Rattle.source_text.specs.declared.NumeralValue.{NumeralValue}
+use Rattle.source_text.specs.declared.NumeralValue.the-variants.{Fits, TooLarge}
 use Rattle.term_parser.specs.Source.{Source, many, count}
 use Rattle.term_parser.specs.Rows.{Rows, applicationKind}
 use Rattle.term_parser.specs.Depth.{depth}

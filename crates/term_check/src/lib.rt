@@ -4,8 +4,8 @@
 // `check_term` asks nothing of its caller, and its contract fixes the answer on all inputs.
 use words::NumeralValue;
 ghost use mathlib.Core.Path.{_≡_};
-ghost use Rattle.words.specs.Numerals.{numeralOf};
-ghost use Rattle.words.specs.Lexer.{partOf};
+ghost use Rattle.source_text.specs.Numerals.{numeralOf};
+ghost use Rattle.source_text.specs.Parts.{partOf};
 ghost use lib.ListN.{length};
 ghost use Rattle.term_check.specs.TermRows.{Checking};
 ghost use Rattle.term_check.specs.Walk.{isWordPlace, isHeld, Topped};

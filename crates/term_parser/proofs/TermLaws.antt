@@ -13,8 +13,8 @@ use lib.Seq.{drop-drop, take-suc-set, take-set-lt, set-at, getD-at, getD-take, l
 use Rattle.words.specs.Names.{nameKind, metavariableKind, numeralKind}
 use Rattle.term_parser.specs.declared.Refusal.{Refusal}
 use Rattle.term_parser.specs.declared.Refusal.the-variants.{ParenthesisLimit, TermExpected}
-use Rattle.words.specs.Numerals.{numeralOf}
-use Rattle.words.specs.Lexer.{partOf}
+use Rattle.source_text.specs.Numerals.{numeralOf}
+use Rattle.source_text.specs.Parts.{partOf}
 use Rattle.term_parser.specs.declared.Token.{Token}
 use Rattle.term_parser.specs.declared.Step.{Step}
 use Rattle.term_parser.specs.declared.Step.the-variants.{At, Absent, Refused}

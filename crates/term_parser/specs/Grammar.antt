@@ -4,10 +4,10 @@ use mathlib.Core.List.{List, [], _∷_}
 use lib.Dec.{eqb}
 use lib.ListN.{length, drop}
 use Rattle.words.specs.Names.{nameKind, metavariableKind, numeralKind}
-use Rattle.words.specs.Numerals.{numeralOf}
-use Rattle.words.specs.Lexer.{partOf}
-use Rattle.words.specs.declared.NumeralValue.{NumeralValue}
-use Rattle.words.specs.declared.NumeralValue.the-variants.{Fits, TooLarge}
+use Rattle.source_text.specs.Numerals.{numeralOf}
+use Rattle.source_text.specs.Parts.{partOf}
+use Rattle.source_text.specs.declared.NumeralValue.{NumeralValue}
+use Rattle.source_text.specs.declared.NumeralValue.the-variants.{Fits, TooLarge}
 use Rattle.term_parser.specs.Source.{Place, Source, one, numeral, metavariable, name, application, none, more, allOf, extend}
 use Rattle.term_parser.specs.Parsing.{Tokens, tokenOf, kindOf, placeOf, lineOf, when, Parsed, parsed, absent, refused, plus, follow, required, signOf, repeat}
 use Rattle.term_parser.specs.declared.Refusal.the-variants.{ParenthesisLimit, NameExpected, TermExpected, OnlyNames, LeftOfEquals}

@@ -8,7 +8,7 @@ use lib.ListN.{length}
 use borrow.Author.Tests.{ne-eqb}
 use Rattle.terms.specs.Numbers.{by-bool}
 use Rattle.terms.specs.Term.{Terms}
-use Rattle.words.specs.Lexer.{partOf}
+use Rattle.source_text.specs.Parts.{partOf}
 use Rattle.term_parser.specs.Source.{Place, place, Source, one, many, allOf}
 use Rattle.term_parser.specs.Standing.{Written, applied, size, spelled, bytesAt, nil as none}
 use Rattle.parser.specs.Source.{Clause, Declaration, sort, ctor, pred, rule, def, theorem, eval, check}

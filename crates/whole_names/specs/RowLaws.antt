@@ -10,7 +10,7 @@ use lib.ListN.{length, getD, take, drop, length-append, length-map, length-drop,
 use lib.Seq.{getD-take, getD-drop, getD-append-add, length-take-le}
 use borrow.Author.Tests.{leb-true}
 use Rattle.terms.specs.Numbers.{by-bool}
-use Rattle.words.specs.Lexer.{partOf}
+use Rattle.source_text.specs.Parts.{partOf}
 use Rattle.term_parser.specs.Source.{place}
 use Rattle.term_parser.specs.Standing.{bytesAt}
 use Rattle.parser.specs.Declarations.{Declared}

@@ -2,8 +2,8 @@
 use Prim.Native.Nat.{ℕ}
 use mathlib.Core.Path.{_≡_}
 use mathlib.Core.List.{List}
-use Rattle.words.specs.Numerals.{numeralOf}
-use Rattle.words.specs.declared.NumeralValue.the-variants.{Fits}
+use Rattle.source_text.specs.Numerals.{numeralOf}
+use Rattle.source_text.specs.declared.NumeralValue.the-variants.{Fits}
 use Rattle.term_parser.specs.Source.{Place, place, Arity, Source, numeral, metavariable, name, application, none, more}
 use Rattle.term_parser.specs.Standing.{bytesAt}
 use Rattle.term_parser.specs.ReaderLaws.{Each}

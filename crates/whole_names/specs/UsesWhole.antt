@@ -9,10 +9,11 @@ use lib.ListN.{length, getD, take, drop}
 use borrow.Author.Tests.{eqb-true}
 use Rattle.terms.specs.Numbers.{by-bool}
 use Rattle.words.specs.Names.{nameKind, metavariableKind, numeralKind}
-use Rattle.words.specs.Numerals.{numeralOf}
+use Rattle.source_text.specs.Numerals.{numeralOf}
 use Rattle.words.specs.Tokens.Reading.{tokens}
-use Rattle.words.specs.Lexer.{partOf, lexOf}
-use Rattle.words.specs.declared.NumeralValue.the-variants.{Fits}
+use Rattle.source_text.specs.Parts.{partOf}
+use Rattle.words.specs.Lexer.{lexOf}
+use Rattle.source_text.specs.declared.NumeralValue.the-variants.{Fits}
 use Rattle.term_parser.specs.Source.{Place, Source, one, many, numeral, metavariable, name as called, application, none, more, allOf, extend}
 use Rattle.term_parser.specs.Parsing.{Tokens, kindOf, lineOf, lastLine, Parsed, parsed, absent, refused, plus, follow, required, signOf, behind, repeat}
 use Rattle.term_parser.specs.Grammar.{value, applied, equated, atomOf, appOf, termOf, parenthesis}

@@ -9,9 +9,9 @@ use lib.ListN.{length, getD, drop, length-append, length-drop, List·getD-append
 use lib.Seq.{getD-append-add, getD-drop}
 use borrow.Author.Tests.{eqb-true, eqb-false}
 use Rattle.terms.specs.Numbers.{by-bool, by-less, true-false}
-use Rattle.words.specs.Bytes.{startsWith, upTo}
-use Rattle.words.specs.ByteLaws.{and-left, and-right}
-use Rattle.words.specs.Lines.{lines, lineOf, codeOf}
+use Rattle.source_text.specs.Bytes.{startsWith, upTo}
+use Rattle.source_text.specs.ByteLaws.{and-left, and-right}
+use Rattle.source_text.specs.Lines.{lines, lineOf, codeOf}
 use Rattle.whole_words.specs.Words.{isWordByte, InComment}
 use Rattle.whole_words.specs.WordLaws.{zero-byte, feed-byte, dash-byte}
 

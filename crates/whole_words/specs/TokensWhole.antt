@@ -9,11 +9,12 @@ use lib.ListN.{length, getD, take, drop, length-append, length-drop, List·getD-
 use lib.Seq.{getD-take, drop-drop, take-append-le, length-take-le, getD-append-add}
 use borrow.Author.Tests.{le-leb}
 use Rattle.terms.specs.Numbers.{by-bool, by-less, true-false}
-use Rattle.words.specs.Lines.{lines, lineOf, codeOf}
+use Rattle.source_text.specs.Lines.{lines, lineOf, codeOf}
 use Rattle.words.specs.Tokens.{Reading, itemOf, andThen, readItem, itemLength, readAfter, readLines, outsideLine}
 use Rattle.words.specs.Tokens.Reading.{tokens, refused}
-use Rattle.words.specs.Utf8.{isUtf8}
-use Rattle.words.specs.Lexer.{partOf, inDomain, lexOf}
+use Rattle.source_text.specs.Utf8.{isUtf8}
+use Rattle.source_text.specs.Parts.{partOf}
+use Rattle.words.specs.Lexer.{inDomain, lexOf}
 use Rattle.words.specs.declared.tokens.Item.{Item}
 use Rattle.words.specs.declared.tokens.Item.the-variants.{Blank, Token, Refused}
 use Rattle.term_parser.specs.ReaderLaws.{Each, each-append}

@@ -9,15 +9,15 @@ use lib.ListN.{length, getD, take}
 use lib.Seq.{getD-take}
 use borrow.Author.Tests.{ltb-true, ltb-false, leb-true, lt-leb, eqb-true, eqb-false, ne-eqb, not-true}
 use Rattle.terms.specs.Numbers.{by-bool, by-less, true-false}
-use Rattle.words.specs.Bytes.{oneOf, startsWith, sameBytes, upTo}
-use Rattle.words.specs.ByteLaws.{and-left, and-right, same-is, same-itself}
-use Rattle.words.specs.Characters.{arrow, classOf, characterOf, blank, sign}
+use Rattle.source_text.specs.Bytes.{oneOf, startsWith, sameBytes, upTo}
+use Rattle.source_text.specs.ByteLaws.{and-left, and-right, same-is, same-itself}
+use Rattle.source_text.specs.Characters.{arrow, classOf, characterOf, blank, sign}
 use Rattle.words.specs.Names.{numeralKind, keywords, numberAmong, keywordOf, ifFits, wordItem}
-use Rattle.words.specs.Numerals.{allDigits, numeralOf}
+use Rattle.source_text.specs.Numerals.{allDigits, numeralOf}
 use Rattle.words.specs.Signs.{Sign, entry, signs, signAmong, signItem}
 use Rattle.words.specs.Tokens.{isWord, wordOf, itemOf}
-use Rattle.words.specs.declared.NumeralValue.{NumeralValue}
-use Rattle.words.specs.declared.NumeralValue.the-variants.{Fits, TooLarge}
+use Rattle.source_text.specs.declared.NumeralValue.{NumeralValue}
+use Rattle.source_text.specs.declared.NumeralValue.the-variants.{Fits, TooLarge}
 use Rattle.words.specs.declared.Refusal.{Refusal}
 use Rattle.words.specs.declared.Refusal.the-variants.{WordTooLong}
 use Rattle.words.specs.declared.tokens.Item.{Item}

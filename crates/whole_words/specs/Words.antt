@@ -5,12 +5,12 @@ use mathlib.Core.Path.{_≡_}
 use mathlib.Core.Bool.{Bool, true, false, _||_}
 use mathlib.Core.List.{List, [], _∷_}
 use lib.ListN.{length, getD}
-use Rattle.words.specs.Bytes.{within, oneOf}
+use Rattle.source_text.specs.Bytes.{within, oneOf}
 use Rattle.words.specs.Names.{keywords}
-use Rattle.words.specs.Numerals.{allDigits, numeralOf}
+use Rattle.source_text.specs.Numerals.{allDigits, numeralOf}
 use Rattle.words.specs.Signs.{entry, signs}
-use Rattle.words.specs.Lexer.{partOf}
-use Rattle.words.specs.declared.NumeralValue.the-variants.{Fits}
+use Rattle.source_text.specs.Parts.{partOf}
+use Rattle.source_text.specs.declared.NumeralValue.the-variants.{Fits}
 use Rattle.term_parser.specs.ReaderLaws.{Each}
 
 -- Does a byte make words? The letters A to Z and a to z, the digits, and _ . ' # ? do; no other byte does.

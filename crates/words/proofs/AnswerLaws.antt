@@ -5,16 +5,14 @@ use mathlib.Core.List.{List}
 use Prim.Native.Nat.{ℕ, _≤_}
 use lib.Dec.{ltb}
 use lib.ListN.{length}
-use Rattle.words.specs.Numerals.{isNumeral, valueFrom, numeralOf}
 use Rattle.words.specs.Tokens.{Reading}
 use Rattle.words.specs.Tokens.Reading.{tokens, refused}
-use Rattle.words.specs.Answers.{refuses, lexedTold, numeralTold, readingTold, valueTold}
-use Rattle.words.specs.Lexer.{cappedOf, partOf, lexOf, answerOf, lexAnswer, lexRows, lexTold, countOf, Lexing, NumeralRead}
+use Rattle.source_text.specs.Answers.{refuses}
+use Rattle.words.specs.Answers.{lexedTold, readingTold}
+use Rattle.words.specs.Lexer.{cappedOf, lexOf, answerOf, lexAnswer, lexRows, countOf, Lexing}
 use Rattle.words.specs.declared.Limits.{Limits}
 use Rattle.words.specs.declared.Lexed.{Lexed}
 use Rattle.words.specs.declared.Lexed.the-variants.{Refused}
-use Rattle.words.specs.declared.NumeralValue.{NumeralValue}
-use Rattle.words.specs.declared.NumeralValue.the-variants.{Fits, TooLarge}
 use Rattle.words.specs.declared.Refusal.the-variants.{Storage}
 
 -- Short rows, or a reading.
@@ -33,14 +31,3 @@ lexing text limits before answer rows fits =
       rows = rows;
       fits = fits;
     }
-
-value-told : (fits : Bool) (w : List ℕ) → isNumeral w ≡ fits → numeralTold (cond fits (Fits (valueFrom 0 w)) TooLarge) ≡ valueTold w
-value-told true w e = rw e
-value-told false w e = rw e
-
--- The promise of `numeral`, from its answer.
-pub numeral-read : (text : List ℕ) (start n : ℕ) {r : NumeralValue} → r ≡ numeralOf (partOf text start n) → NumeralRead text start n r
-unfolding numeralOf
-numeral-read text start n answer =
-    let w : List ℕ = partOf text start n in
-    record { answer = answer; told = ap numeralTold answer ∙ value-told (isNumeral w) w refl }

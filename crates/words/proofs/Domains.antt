@@ -7,20 +7,20 @@ use native.Mathlib.Omega.{arith}
 use lib.ListN.{length, getD}
 use lib.Dec.{eqb, ltb}
 use borrow.Author.Tests.{ne-eqb, eqb-true, ltb-true}
-use Rattle.words.specs.Bytes.{within, startsWith, upTo, oneOf}
-use Rattle.words.specs.Characters.{arrow, characterOf, classOf, hasOutside, outsideAfter}
-use Rattle.words.specs.Lines.{codeOf}
+use Rattle.source_text.specs.Bytes.{within, startsWith, upTo, oneOf}
+use Rattle.source_text.specs.Characters.{arrow, characterOf, classOf, hasOutside, outsideAfter}
+use Rattle.source_text.specs.Lines.{codeOf}
 use Rattle.words.specs.Names.{wordItem, ifFits}
-use Rattle.words.specs.Numerals.{allDigits, numeralOf}
+use Rattle.source_text.specs.Numerals.{allDigits, numeralOf}
 use Rattle.words.specs.Signs.{signItem}
 use Rattle.words.specs.Tokens.{Reading, andThen, isWord, wordOf, itemOf, itemLength, readItem, readAfter, readLines, outsideLine}
 use Rattle.words.specs.Tokens.Reading.{tokens, refused}
-use Rattle.words.specs.declared.NumeralValue.{NumeralValue}
-use Rattle.words.specs.declared.NumeralValue.the-variants.{Fits, TooLarge}
+use Rattle.source_text.specs.declared.NumeralValue.{NumeralValue}
+use Rattle.source_text.specs.declared.NumeralValue.the-variants.{Fits, TooLarge}
 use Rattle.words.specs.Lexer.{inDomain}
 use Rattle.words.specs.declared.Refusal.the-variants.{UnexpectedCharacter, OutsideDomain}
 use Rattle.words.specs.declared.tokens.Item.the-variants.{Token, Refused}
-use Rattle.words.proofs.Scans.{by-bool, and-left, and-right}
+use Rattle.source_text.proofs.Scans.{by-bool, and-left, and-right}
 use Rattle.words.proofs.Items.{sign-at, signBy, no-arrow}
 
 -- Is a reading no refusal?

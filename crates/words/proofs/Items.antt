@@ -8,16 +8,16 @@ use native.Mathlib.Omega.{arith}
 use lib.ListN.{length, getD, take, drop, length-drop}
 use lib.Dec.{eqb}
 use borrow.Author.Tests.{ne-eqb}
-use Rattle.words.specs.Bytes.{startsWith, sameBytes}
-use Rattle.words.specs.Characters.{arrow, characterOf}
+use Rattle.source_text.specs.Bytes.{startsWith, sameBytes}
+use Rattle.source_text.specs.Characters.{arrow, characterOf}
 use Rattle.words.specs.Names.{keywords, keywordOf, numberAmong, nameKind}
 use Rattle.words.specs.Signs.{signs, signAmong, signItem}
 use Rattle.words.specs.Tokens.{isWord, wordOf}
 use Rattle.words.specs.declared.Refusal.the-variants.{UnexpectedCharacter}
-use Rattle.words.specs.declared.characters.Character.{Character}
+use Rattle.source_text.specs.declared.characters.Character.{Character}
 use Rattle.words.specs.declared.tokens.Item.{Item}
 use Rattle.words.specs.declared.tokens.Item.the-variants.{Token, Refused}
-use Rattle.words.proofs.Scans.{one-at, two-at, scan-next, scan-stop, scan-end, scan-fits, scan-take}
+use Rattle.source_text.proofs.Scans.{one-at, two-at, scan-next, scan-stop, scan-end, scan-fits, scan-take}
 
 -- The sign whose first bytes are a and b; t: → stands there.
 abbrev pub signBy : ℕ → ℕ → Bool → Item

@@ -1,8 +1,4 @@
 -- The laws that several proofs cite.
-pub mod Table
-pub mod Scans
-pub mod Encodings
-pub mod Numbers
 pub mod Rows
 pub mod Items
 pub mod Readings

@@ -10,25 +10,25 @@ use lib.ListN.{length, getD, take, drop, set, replicate, length-drop, drop-of-le
 use lib.Seq.{drop-cons, take-suc-set, length-take-le}
 use lib.Dec.{eqb, ltb}
 use borrow.Author.Tests.{ltb-true}
-use Rattle.words.specs.Bytes.{startsWith}
-use Rattle.words.specs.Characters.{characterOf, hasOutside}
-use Rattle.words.specs.Lines.{lines, lineOf, codeOf}
+use Rattle.source_text.specs.Bytes.{startsWith}
+use Rattle.source_text.specs.Characters.{characterOf, hasOutside}
+use Rattle.source_text.specs.Lines.{lines, lineOf, codeOf}
 use Rattle.words.specs.Names.{wordItem, ifFits}
-use Rattle.words.specs.Numerals.{allDigits, numeralOf}
+use Rattle.source_text.specs.Numerals.{allDigits, numeralOf}
 use Rattle.words.specs.Signs.{Sign, signs, signAmong, signItem}
 use Rattle.words.specs.Tokens.{Reading, andThen, isWord, wordOf, itemOf, itemLength, readItem, readAfter, readLines, outsideLine}
 use Rattle.words.specs.Rows.{outcome}
 use Rattle.words.specs.Tokens.Reading.{tokens, refused}
 use Rattle.words.specs.Lexer.{answerOf, rowsOf, zeroRow, countOf}
-use Rattle.words.specs.declared.NumeralValue.{NumeralValue}
-use Rattle.words.specs.declared.NumeralValue.the-variants.{Fits, TooLarge}
+use Rattle.source_text.specs.declared.NumeralValue.{NumeralValue}
+use Rattle.source_text.specs.declared.NumeralValue.the-variants.{Fits, TooLarge}
 use Rattle.words.specs.declared.Lexed.{Lexed}
 use Rattle.words.specs.declared.Lexed.the-variants as lexed
 use Rattle.words.specs.declared.Refusal.{Refusal}
 use Rattle.words.specs.declared.tokens.Item.{Item}
 use Rattle.words.specs.declared.tokens.Item.the-variants.{Blank, Token, Refused}
-use Rattle.words.proofs.Scans.{by-bool, and-left, and-right, prefix-fits, line-long, lines-at, code-part}
-use Rattle.words.proofs.Encodings.{past}
+use Rattle.source_text.proofs.Scans.{by-bool, and-left, and-right, prefix-fits, line-long, lines-at, code-part}
+use Rattle.source_text.proofs.Encodings.{past}
 use Rattle.words.proofs.Items.{word-next, word-fits}
 
 -- One reading after another.

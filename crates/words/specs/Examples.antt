@@ -4,12 +4,12 @@ use mathlib.Core.Bool.{Bool, true, _&&_}
 use mathlib.Core.List.{List, [], _∷_, _++_, List·Memᴰ, List·Memᴰ·not-nil, List·Memᴰ·cases-cons}
 use mathlib.Core.Logic.{⊎-elim}
 use Prim.Native.Nat.{ℕ}
-use Rattle.words.specs.Bytes.{oneOf, startsWith, sameBytes, upTo}
-use Rattle.words.specs.ByteLaws.{and-left, and-right, same-is}
-use Rattle.words.specs.Utf8.{forms, formOf, leadOf, tailsOf, characterLength, utf8After, isUtf8}
-use Rattle.words.specs.Characters.{classOf, characterOf, outsideAfter, hasOutside}
-use Rattle.words.specs.Lines.{lines, codeOf}
-use Rattle.words.specs.Numerals.{allDigits, valueFrom, numeralOf}
+use Rattle.source_text.specs.Bytes.{oneOf, startsWith, sameBytes, upTo}
+use Rattle.source_text.specs.ByteLaws.{and-left, and-right, same-is}
+use Rattle.source_text.specs.Utf8.{forms, formOf, leadOf, tailsOf, characterLength, utf8After, isUtf8}
+use Rattle.source_text.specs.Characters.{classOf, characterOf, outsideAfter, hasOutside}
+use Rattle.source_text.specs.Lines.{lines, codeOf}
+use Rattle.source_text.specs.Numerals.{allDigits, valueFrom, numeralOf}
 use Rattle.words.specs.Names.{keywords, numberAmong, keywordOf, wordItem}
 use Rattle.words.specs.Signs.{signs, signAmong, signItem}
 use Rattle.words.specs.Tokens.{Reading, andThen, wordOf, itemOf, readAfter, readLines, outsideLine}

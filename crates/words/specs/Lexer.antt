@@ -2,16 +2,15 @@
 use mathlib.Core.Path.{_≡_}
 use mathlib.Core.Bool.{cond}
 use mathlib.Core.List.{List, [], _∷_, _++_}
-use Prim.Native.Nat.{ℕ, zero, suc, _+_, _-_, _≤_, min}
-use lib.Dec.{leb, ltb}
-use lib.ListN.{length, take, drop, replicate}
-use Rattle.words.specs.Utf8.{isUtf8}
-use Rattle.words.specs.Lines.{lines}
+use Prim.Native.Nat.{ℕ, zero, suc, _-_, _≤_, min}
+use lib.Dec.{ltb}
+use lib.ListN.{length, replicate}
+use Rattle.source_text.specs.Utf8.{isUtf8}
+use Rattle.source_text.specs.Lines.{lines}
 use Rattle.words.specs.Tokens.{Reading, readLines, outsideLine}
 use Rattle.words.specs.Tokens.Reading.{tokens, refused}
-use Rattle.words.specs.Numerals.{numeralOf}
-use Rattle.words.specs.Answers.{Told, refuses, lexedTold, numeralTold, readingTold, valueTold}
-use Rattle.words.specs.declared.NumeralValue.{NumeralValue}
+use Rattle.source_text.specs.Answers.{Told, refuses}
+use Rattle.words.specs.Answers.{lexedTold, readingTold}
 use Rattle.words.specs.declared.Limits.{Limits}
 use Rattle.words.specs.declared.Lexed.{Lexed}
 use Rattle.words.specs.declared.Lexed.the-variants.{Tokens, Refused}
@@ -27,10 +26,6 @@ cappedOf l =
       variables = min (l .variables) 65536;
       words = min (l .words) 262144;
     }
-
--- The part of a text at a place; a place outside the text gives the empty part.
-abbrev pub partOf : List ℕ → ℕ → ℕ → List ℕ
-partOf t start n = cond (leb (start + n) (length t)) (take n (drop start t)) []
 
 -- With no line outside the domain, the reading; else 3 at that line.
 abbrev pub inDomain : ℕ → Reading → Reading
@@ -79,8 +74,3 @@ pub record Lexing (text : List ℕ) (limits : Limits) (before : List (List ℕ))
   pub told : lexedTold r ≡ lexTold text limits before
   pub rows : after ≡ lexRows text limits before
   pub fits : countOf r ≤ cappedOf limits .text
-
--- The promise of `numeral`: the value of the word at a place.
-pub record NumeralRead (text : List ℕ) (start n : ℕ) (r : NumeralValue) : Type 0 where
-  pub answer : r ≡ numeralOf (partOf text start n)
-  pub told : numeralTold r ≡ valueTold (partOf text start n)

@@ -4,11 +4,11 @@ use mathlib.Core.List.{List, [], _∷_}
 use Prim.Native.Nat.{ℕ, suc}
 use lib.Dec.{eqb, ltb}
 use lib.ListN.{length, getD}
-use Rattle.words.specs.Bytes.{sameBytes}
-use Rattle.words.specs.Numerals.{allDigits, numeralOf}
+use Rattle.source_text.specs.Bytes.{sameBytes}
+use Rattle.source_text.specs.Numerals.{allDigits, numeralOf}
 use Rattle.words.specs.declared.Refusal.the-variants.{NumeralTooLarge, WordTooLong}
-use Rattle.words.specs.declared.NumeralValue.{NumeralValue}
-use Rattle.words.specs.declared.NumeralValue.the-variants.{Fits, TooLarge}
+use Rattle.source_text.specs.declared.NumeralValue.{NumeralValue}
+use Rattle.source_text.specs.declared.NumeralValue.the-variants.{Fits, TooLarge}
 use Rattle.words.specs.declared.tokens.Item.{Item}
 use Rattle.words.specs.declared.tokens.Item.the-variants.{Token, Refused}
 

@@ -3,7 +3,7 @@ use mathlib.Core.Path.{_≡_}
 use mathlib.Core.List.{List}
 use Prim.Native.Nat.{ℕ, _+_, _≤_}
 use lib.ListN.{length, take}
-use Rattle.words.specs.Characters.{classTable}
+use Rattle.source_text.specs.Characters.{classTable}
 use Rattle.words.specs.Lexer.{countOf}
 use Rattle.words.specs.Tokens.{Reading, andThen}
 use Rattle.words.specs.Tokens.Reading.{tokens, refused}

@@ -3,8 +3,8 @@ use mathlib.Core.Bool.{cond}
 use mathlib.Core.List.{List, [], _∷_}
 use Prim.Native.Nat.{ℕ}
 use lib.ListN.{length}
-use Rattle.words.specs.Bytes.{startsWith}
-use Rattle.words.specs.Characters.{arrow}
+use Rattle.source_text.specs.Bytes.{startsWith}
+use Rattle.source_text.specs.Characters.{arrow}
 use Rattle.words.specs.declared.Refusal.the-variants.{UnexpectedCharacter}
 use Rattle.words.specs.declared.tokens.Item.{Item}
 use Rattle.words.specs.declared.tokens.Item.the-variants.{Token, Refused}

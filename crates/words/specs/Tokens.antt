@@ -4,9 +4,9 @@ use mathlib.Core.List.{List, [], _∷_, _++_}
 use Prim.Native.Nat.{ℕ, zero, suc, _+_, _-_}
 use lib.Dec.{eqb}
 use lib.ListN.{length}
-use Rattle.words.specs.Bytes.{upTo}
-use Rattle.words.specs.Characters.{blank, letter, digit, sign, characterOf, hasOutside}
-use Rattle.words.specs.Lines.{codeOf}
+use Rattle.source_text.specs.Bytes.{upTo}
+use Rattle.source_text.specs.Characters.{blank, letter, digit, sign, characterOf, hasOutside}
+use Rattle.source_text.specs.Lines.{codeOf}
 use Rattle.words.specs.Names.{wordItem}
 use Rattle.words.specs.Signs.{signItem}
 use Rattle.words.specs.declared.Refusal.{Refusal}

@@ -2,8 +2,7 @@
 //
 // The entry points are `lex`, `word`, `numeral`, `number` and the methods of `Limits`. They ask nothing
 // of their caller, and each contract fixes the answer and every byte of the lent rows on all inputs.
-// `same` and `clear` serve the crates above.
-pub use bytes::same;
+// `same` and `clear` serve the crates above. What stands below tokens is in `source_text`.
 pub use names::METAVARIABLE;
 pub use names::NAME;
 pub use names::NUMERAL;
@@ -16,28 +15,26 @@ pub use signs::DEFINES;
 pub use signs::DOUBLE_ARROW;
 pub use signs::EQUALS;
 pub use signs::OPEN;
+pub use source_text::NumeralValue;
+pub use source_text::bytes::same;
+pub use source_text::numeral;
+pub use source_text::word;
 pub use tokens::Row;
 
-mod bytes; // comparing and reading bytes
-mod utf8; // RFC 3629
-mod characters; // the class table and the character test
-mod lines; // line ends and comments
-mod numerals; // 64-bit values
 mod names; // keywords and kinds of words
 mod signs; // the signs, longest first
 mod tokens; // one token, one line, all lines
 
-use numerals::value;
+use source_text::utf8::is_utf8;
 use tokens::outside_line;
 use tokens::read_lines;
-use utf8::is_utf8;
 ghost use mathlib.Core.Path.{_≡_};
 ghost use mathlib.Core.List.{_++_};
-ghost use Prim.Native.Nat.{_+_, _-_, _≤_, _<_, min};
+ghost use Prim.Native.Nat.{_-_, _≤_, min};
 ghost use lib.ListN.{length, take, replicate};
 ghost use Rattle.words.specs.Refusals.{numberOf};
 ghost use Rattle.words.specs.Rows.{Read};
-ghost use Rattle.words.specs.Lexer.{cappedOf, partOf, zeroRow, lexOf, Lexing, NumeralRead};
+ghost use Rattle.words.specs.Lexer.{cappedOf, zeroRow, lexOf, Lexing};
 
 // The limits that a caller may set. A limit over the one of document 01 counts as that one.
 pub struct Limits {
@@ -83,12 +80,6 @@ pub enum Lexed {
     Refused(Refusal, u32),
 }
 
-// What `numeral` answers: the value, or 5.
-pub enum NumeralValue {
-    Fits(u64),
-    TooLarge,
-}
-
 // The number of a refusal in document 01's table.
 pub fn number(r: Refusal) -> u32
     ensures { λ n. ⌜ n ≡ numberOf r ⌝ }
@@ -123,25 +114,6 @@ impl Limits {
             words: least(self.words, WORDS),
         }
     }
-}
-
-// A word of a text, whole: the part of `length` bytes from `start` on. A place outside the text gives the empty part.
-pub fn word<'a>(text: &'a [u8], start: usize, length: usize) -> &'a [u8]
-    ensures { λ r. ⌜ now r ≡ partOf (now (text .entry)) start length ⌝ }
-{
-    if start <= text.len() {
-        if length <= text.len() - start {
-            return &text[start..start + length];
-        }
-    }
-    &text[0..0]
-}
-
-// The value of the numeral at a place of a text.
-pub fn numeral(text: &[u8], start: usize, length: usize) -> NumeralValue
-    ensures { λ r. ⌜ NumeralRead (now (text .entry)) start length r ⌝ }
-{
-    value(word(text, start, length))
 }
 
 // Zeroes the rows from a place on; for the crates above.

@@ -1,10 +1,10 @@
 // Keywords, and the tokens that words make.
-use super::NumeralValue;
 use super::Refusal;
-use super::bytes::same;
-use super::numerals::all_digits;
-use super::numerals::value;
 use super::tokens::Item;
+use source_text::NumeralValue;
+use source_text::bytes::same;
+use source_text::numerals::all_digits;
+use source_text::numerals::value;
 ghost use mathlib.Core.Path.{_≡_};
 ghost use Prim.Native.Nat.{_<_};
 ghost use lib.ListN.{length};

@@ -1,9 +1,9 @@
 // The signs: two bytes are tried before one.
 use super::Refusal;
-use super::bytes::byte;
-use super::bytes::starts_with;
-use super::characters::UNICODE_ARROW;
 use super::tokens::Item;
+use source_text::bytes::byte;
+use source_text::bytes::starts_with;
+use source_text::characters::UNICODE_ARROW;
 ghost use mathlib.Core.Path.{_≡_};
 ghost use Prim.Native.Nat.{_<_};
 ghost use lib.ListN.{length, drop};

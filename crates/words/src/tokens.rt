@@ -1,23 +1,23 @@
 // One item, one line, all lines.
 use super::Lexed;
 use super::Refusal;
-use super::characters::BLANK;
-use super::characters::Classes;
-use super::characters::DIGIT;
-use super::characters::LETTER;
-use super::characters::SIGN;
-use super::characters::character_at;
-use super::characters::class_table;
-use super::characters::has_outside;
-use super::lines::code_end;
-use super::lines::line_end;
 use super::names::word_item;
 use super::signs::sign_item;
+use source_text::characters::BLANK;
+use source_text::characters::Classes;
+use source_text::characters::DIGIT;
+use source_text::characters::LETTER;
+use source_text::characters::SIGN;
+use source_text::characters::character_at;
+use source_text::characters::class_table;
+use source_text::characters::has_outside;
+use source_text::lines::code_end;
+use source_text::lines::line_end;
 ghost use mathlib.Core.Path.{_≡_};
 ghost use Prim.Native.Nat.{_+_, _≤_, _<_};
 ghost use lib.ListN.{length, drop};
-ghost use Rattle.words.specs.Characters.{classTable};
-ghost use Rattle.words.specs.Lines.{lines};
+ghost use Rattle.source_text.specs.Characters.{classTable};
+ghost use Rattle.source_text.specs.Lines.{lines};
 ghost use Rattle.words.specs.Rows.{Room, Read};
 ghost use Rattle.words.specs.Tokens.{isWord, wordOf, itemOf, readAfter, readLines, outsideLine};
 

@@ -1,6 +1,6 @@
 -- `clause` meets its contract: the conclusion's rows, the calls, and then the rule.
 use mathlib.Core.Path.{refl}
-use Rattle.words.specs.Lexer.{partOf}
+use Rattle.source_text.specs.Parts.{partOf}
 use Rattle.names.specs.Symbols.{symbolsOf}
 use Rattle.clauses.proofs.ClauseLaws.{seventeenth, clause-is, over-limit, prepared}
 use borrow.Author.Needs.{needs}

@@ -2,7 +2,7 @@
 use mathlib.Core.Path.{_≡_, sym, _∙_}
 use Prim.Native.Nat.{ℕ, suc, _+_}
 use mathlib.Core.List.{List}
-use Rattle.words.specs.Lexer.{partOf}
+use Rattle.source_text.specs.Parts.{partOf}
 use Rattle.term_parser.specs.Source.{allOf}
 use Rattle.term_parser.specs.Standing.{spelled}
 use Rattle.names.specs.Symbols.{Symbol}

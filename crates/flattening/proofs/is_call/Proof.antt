@@ -1,7 +1,7 @@
 -- `is_call` meets its contract: metavariables and numerals are no calls.
 use mathlib.Core.Path.{sym, _∙_}
 use borrow.Author.Tests.{eq-eqb, ne-eqb}
-use Rattle.words.specs.Lexer.{partOf}
+use Rattle.source_text.specs.Parts.{partOf}
 use Rattle.names.specs.Symbols.{symbolsOf}
 use Rattle.flattening.proofs.SymbolLaws.{call-of}
 use borrow.Author.Needs.{needs}

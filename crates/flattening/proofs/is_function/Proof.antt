@@ -1,6 +1,6 @@
 -- `is_function` meets its contract: the symbol that is found has the mark of a function.
 use mathlib.Core.Path.{ap, _∙_}
-use Rattle.words.specs.Lexer.{partOf}
+use Rattle.source_text.specs.Parts.{partOf}
 use Rattle.names.specs.Symbols.{symbolsOf, symbolNumber}
 use Rattle.flattening.proofs.SymbolLaws.{function-found, function-absent}
 use borrow.Author.Needs.{needs}

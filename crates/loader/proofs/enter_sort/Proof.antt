@@ -1,6 +1,6 @@
 -- `enter_sort` meets its contract: one law for each way out.
 use mathlib.Core.Path.{refl, sym, _∙_}
-use Rattle.words.specs.Lexer.{partOf}
+use Rattle.source_text.specs.Parts.{partOf}
 use Rattle.loader.proofs.EntryLaws.{sort-taken, sort-new, sort-full}
 use borrow.Author.Needs.{needs}
 use native.Mathlib.Omega.{arith}

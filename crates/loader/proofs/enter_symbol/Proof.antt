@@ -2,7 +2,7 @@
 use mathlib.Core.Path.{_≡_, refl, sym, ap, _∙_}
 use lib.ListN.{set}
 use Prim.Native.Nat.{_+_}
-use Rattle.words.specs.Lexer.{partOf}
+use Rattle.source_text.specs.Parts.{partOf}
 use Rattle.names.specs.Symbols.{column, rowAt, sortsOf, symbolsOf}
 use Rattle.loader.specs.Signature.{numbersOf, symbolRefusal}
 use Rattle.loader.specs.Arrows.{namesAt}

@@ -1,6 +1,6 @@
 -- `is_taken` meets its contract: first the sorts, then the symbols.
 use mathlib.Core.Path.{ap, _∙_}
-use Rattle.words.specs.Lexer.{partOf}
+use Rattle.source_text.specs.Parts.{partOf}
 use Rattle.names.specs.Names.{Name}
 use Rattle.names.specs.Symbols.{sortsOf, symbolsOf, sortNumber, symbolNumber}
 use Rattle.loader.proofs.EntryLaws.{is-sort, no-sort}

@@ -1,6 +1,6 @@
 -- `symbol_refusal` meets its contract: one law for each way out.
 use mathlib.Core.Path.{sym, _∙_}
-use Rattle.words.specs.Lexer.{partOf}
+use Rattle.source_text.specs.Parts.{partOf}
 use Rattle.loader.proofs.EntryLaws.{symbol-taken, symbol-wide, symbol-new, symbol-full}
 use borrow.Author.Needs.{needs}
 use Rattle.loader.proofs.symbol_refusal.Statement.{statement}

@@ -1,6 +1,6 @@
 -- `is_called` meets its contract: a word of another length is not the one at the place.
 use mathlib.Core.Path.{ap, _∙_}
-use Rattle.words.specs.Bytes.{sameBytes}
+use Rattle.source_text.specs.Bytes.{sameBytes}
 use Rattle.names.specs.Names.{Name}
 use Rattle.names.proofs.Lengths.{other-length}
 use borrow.Author.Needs.{needs}

@@ -1,6 +1,6 @@
 -- `is_result` meets its contract: the table holds the names of the flattening variables.
 use mathlib.Core.Path.{ap, _∙_}
-use Rattle.words.specs.Bytes.{sameBytes}
+use Rattle.source_text.specs.Bytes.{sameBytes}
 use Rattle.names.specs.Names.{Name, resultNames}
 use borrow.Author.Needs.{needs}
 use Rattle.names.proofs.is_result.Statement.{statement}

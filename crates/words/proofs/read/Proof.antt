@@ -6,7 +6,7 @@ use borrow.Author.Tests.{lt-ltb, le-ltb, not-true, not-false}
 use Rattle.words.specs.Lexer.{lexOf, inDomain}
 use Rattle.words.specs.Tokens.{readLines}
 use Rattle.words.specs.Rows.{outcome}
-use Rattle.words.specs.Lines.{lines}
+use Rattle.source_text.specs.Lines.{lines}
 use Rattle.words.proofs.Readings.{then-nil}
 use Rattle.words.proofs.Domains.{accepted, lines-inside, in-domain, out-of-domain}
 use native.Mathlib.Omega.{arith}

@@ -1,7 +1,7 @@
 -- `is_prop` meets its contract.
 use mathlib.Core.Path.{ap, _∙_}
 use Prim.Native.Nat.{_-_}
-use Rattle.words.specs.Bytes.{sameBytes}
+use Rattle.source_text.specs.Bytes.{sameBytes}
 use Rattle.parser.specs.Declarations.{propName}
 use borrow.Author.Needs.{needs}
 use Rattle.parser.proofs.declarations.is_prop.Statement.{statement}

@@ -1,7 +1,7 @@
 -- `keyword` meets its contract: a word is compared with the keywords that start as it does.
 use mathlib.Core.Path.{refl, _∙_}
 use mathlib.Core.List.{[], _∷_}
-use Rattle.words.specs.Bytes.{sameBytes}
+use Rattle.source_text.specs.Bytes.{sameBytes}
 use Rattle.words.specs.Names.{keywords, keywordOf, numberAmong, numberIf, hashKeywordOf}
 use Rattle.words.proofs.Items.{keyword-by, keyword-none}
 use borrow.Author.Needs.{needs}

@@ -2,9 +2,9 @@
 use mathlib.Core.Path.{_≡_, refl, sym, _∙_}
 use Prim.Native.Nat.{_≤_, _-_, _+_}
 use lib.ListN.{length, drop}
-use Rattle.words.specs.Lines.{lines}
+use Rattle.source_text.specs.Lines.{lines}
 use Rattle.words.specs.Tokens.{outsideLine}
-use Rattle.words.proofs.Scans.{code-fits, code-within, line-within}
+use Rattle.source_text.proofs.Scans.{code-fits, code-within, line-within}
 use Rattle.words.proofs.Readings.{outside-line, lines-past}
 use borrow.Author.Needs.{needs}
 use native.Mathlib.Omega.{arith}

@@ -3,12 +3,12 @@
 use mathlib.Core.Path.{_≡_, refl, sym, ap, _∙_}
 use Prim.Native.Nat.{_≤_, _-_, _+_}
 use lib.ListN.{length, drop, take}
-use Rattle.words.specs.Lines.{lines}
+use Rattle.source_text.specs.Lines.{lines}
 use Rattle.words.specs.Tokens.{andThen, readLines}
 use Rattle.words.specs.Rows.{outcome}
 use Rattle.words.specs.Lexer.{countOf}
 use Rattle.words.specs.Tokens.Reading.{tokens}
-use Rattle.words.proofs.Scans.{code-fits, part-long, code-within, line-within}
+use Rattle.source_text.proofs.Scans.{code-fits, part-long, code-within, line-within}
 use Rattle.words.proofs.Readings.{then-nil, then-end, line-read, lines-past, stopped}
 use borrow.Author.Needs.{needs}
 use native.Mathlib.Omega.{arith}
