@@ -17,7 +17,8 @@ use Rattle.source_text.specs.declared.NumeralValue.the-variants.{Fits, TooLarge
 use Rattle.term_parser.specs.Source.{place, one, many, Source, numeral, metavariable, name, application, none, more, count}
 use Rattle.term_parser.specs.Rows.{Rows, rowsOf}
 use Rattle.term_parser.specs.Depth.{depth}
-use Rattle.term_check.specs.TermRows.{WordPlace, Worded, Lies}
+use Rattle.names.specs.NamePlaces.{NamePlace}
+use Rattle.term_check.specs.TermRows.{Worded, Lies}
 use Rattle.term_check.specs.Walk.{isWordPlace, isHeld, takes, column, wordIn, topOf}
 use Rattle.term_check.specs.declared.Top.the-variants.{Takes, NoTerm}
 
@@ -90,7 +91,7 @@ module _ {rows : Rows} {p m : ℕ} (t : Source one) (row : List ℕ) (ts : Sourc
 
 -- One row
 
-pub word-is : (text : List ℕ) (s n : ℕ) → isWordPlace text s n ≡ true → WordPlace text s n
+pub word-is : (text : List ℕ) (s n : ℕ) → isWordPlace text s n ≡ true → NamePlace text s n
 word-is text s n e =
     let f = and-right (ltb 0 n) (leb n 64 && leb (s + n) (length text)) e in
     record {
@@ -99,7 +100,7 @@ word-is text s n e =
       short = leb-true _ _ (and-left (leb n 64) (leb (s + n) (length text)) f);
     }
 
-pub is-word : (text : List ℕ) (s n : ℕ) → WordPlace text s n → isWordPlace text s n ≡ true
+pub is-word : (text : List ℕ) (s n : ℕ) → NamePlace text s n → isWordPlace text s n ≡ true
 is-word text s n w = rw (lt-ltb 0 n (w .some), le-leb n 64 (w .short), le-leb (s + n) (length text) (w .inside)) refl
 
 four-is : (row : List ℕ) → length row ≡ 4 → row ≡ column row 0 ∷ column row 1 ∷ column row 2 ∷ column row 3 ∷ []
@@ -140,7 +141,7 @@ module _ (text row : List ℕ) (long : length row ≡ 4) (ts : Source many) (fin
         deep = d ∙ ap (λ (x : Source many). 1 + depth x) (sym o);
       }
 
-  module _ (w : WordPlace text (column row 1) (column row 2)) where
+  module _ (w : NamePlace text (column row 1) (column row 2)) where
     of-numeral : (v : NumeralValue) → numeralOf (wordIn text row) ≡ v → column row 0 ≡ 14 → cond (isHeld v (column row 3)) (Takes 0) NoTerm ≡ Takes (count ts) → Topmost text row ts
     unfolding rowsOf depth
     of-numeral (Fits v) f a e =

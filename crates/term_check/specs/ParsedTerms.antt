@@ -31,7 +31,8 @@ use Rattle.term_parser.specs.Depth.{depth}
 use Rattle.parser.specs.Depth.{ShallowDeclared, parse-shallow}
 use Rattle.whole_words.specs.Words.{TokenWhole}
 use Rattle.whole_words.specs.TokensWhole.{tokens-whole}
-use Rattle.term_check.specs.TermRows.{WordPlace, Worded, TermAt}
+use Rattle.names.specs.NamePlaces.{NamePlace}
+use Rattle.term_check.specs.TermRows.{Worded, TermAt}
 
 -- The term of an `#eval` or a `#check` is as `check_term` asks; other declarations are not asked.
 abbrev pub Evaluable : List ℕ → Declaration → Type 0
@@ -93,7 +94,7 @@ module _ (text : List ℕ) where
   follow-each P Q (refused r l) ts next w h f = tt
 
   -- A name, a metavariable and a numeral stand at a word's place.
-  token-place : (t : List ℕ) (kind : ℕ) → kind ≤ 14 → TokenWhole text t → getD t 0 0 ≡ kind → WordPlace text (getD t 1 0) (getD t 2 0)
+  token-place : (t : List ℕ) (kind : ℕ) → kind ≤ 14 → TokenWhole text t → getD t 0 0 ≡ kind → NamePlace text (getD t 1 0) (getD t 2 0)
   token-place t kind l h e = let w = h .word (omega arith) in record { inside = w .inside; some = w .some; short = w .short }
 
   -- A numeral's token has the value that the parser takes.

@@ -11,17 +11,13 @@ use Rattle.term_parser.specs.Source.{Place, place, Arity, one, Source, numeral,
 use Rattle.term_parser.specs.Rows.{Rows, rowsOf}
 use Rattle.term_parser.specs.Depth.{depth}
 use Rattle.term_parser.specs.Standing.{bytesAt}
+use Rattle.names.specs.NamePlaces.{NamePlace}
 use Rattle.term_check.specs.declared.TermChecked.{TermChecked}
 use Rattle.term_check.specs.declared.TermChecked.the-variants.{Ends, NoTerm}
 
--- A word's place: inside the text, of 1 to 64 bytes.
-pub record WordPlace (text : List ℕ) (start n : ℕ) : Type 0 where
-  pub inside : start + n ≤ length text
-  pub some : 0 < n
-  pub short : n ≤ 64
-
+-- A word has a name's place: inside the text, of 1 to 64 bytes.
 abbrev pub Word : List ℕ → Place → Type 0
-Word text (place start n) = WordPlace text start n
+Word text (place start n) = NamePlace text start n
 
 -- Each word of a term, or of several, has such a place; a numeral has the value that is read there; an application has arguments.
 abbrev pub Worded : {n : Arity} → List ℕ → Source n → Type 0

@@ -25,7 +25,8 @@ use Rattle.loader.specs.Signature.{Signature, empty, Step, no, on, andThen, unl
 use Rattle.loader.specs.LegalLaws.{Stepping, Loading}
 use Rattle.rules.specs.declared.Title.{Title}
 use Rattle.whole_names.specs.ListLaws.{map-more, both-more}
-use Rattle.whole_names.specs.Titles.{Titles, untitled, titleAt, sortTitled, symbolTitled, withClauses, entitled, titlesFrom, titlesOf, spelling}
+use Rattle.loader.specs.Stored.{Titles, untitled, titleAt, sortTitled, symbolTitled, withClauses, entitled, titlesFrom, titlesOf}
+use Rattle.whole_names.specs.Titles.{spelling}
 
 -- The number of a clause stands behind its function's name.
 clause-spelling : (text : List ℕ) (p : Place) (n : ℕ) → clauseName (bytesAt text p) n ≡ spelling text (titleAt p (n + 1))

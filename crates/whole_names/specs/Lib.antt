@@ -11,4 +11,5 @@ pub mod EntryLaws
 pub mod NamesWhole
 -- Laws of stored rows, and the theorem for what `load` stores, `names-stored-whole`:
 pub mod RowLaws
+pub mod PlacedLaws
 pub mod NamesStored

@@ -1,56 +1,51 @@
--- Names are stored whole. For every text that `load` loads, into whatever storage: the name that each stored row keeps is, byte for byte,
--- the whole word by which its declaration names it; and no two sorts or symbols have the same bytes.
+-- Names are stored whole. For every text that `load` loads, into whatever storage: each stored row keeps the place of the whole word by which
+-- its declaration names it, and so all bytes of that word and no other; and no two sorts or symbols have the same bytes.
 --
 -- The theorem is `names-stored-whole`, at the end; the record `NamesStoredWhole` says what it gives. It rests on two notions:
 -- a whole word (`WholeWord` in whole_words/specs/Words.antt) is a run of 1 to 64 bytes that make words, which goes on neither before nor
--- behind, and is in no comment; the titles of declarations (Titles.antt) are the places of the words by which they name sorts, symbols and
+-- behind, and is in no comment; the titles of declarations (loader/specs/Stored.antt) are the places of the words by which they name sorts, symbols and
 -- rules, in text order.
 use Prim.Native.Nat.{ℕ, _+_, _<_}
 use native.Mathlib.Omega.{arith}
-use mathlib.Core.Path.{_≡_, refl, subst}
+use mathlib.Core.Path.{_≡_, refl, sym, ap, subst}
 use mathlib.Core.Logic.{_↔_}
 use mathlib.Core.List.{List}
-use lib.ListN.{length, getD}
+use lib.ListN.{length}
 use Rattle.terms.specs.Numbers.{by-bool}
 use Rattle.words.specs.declared.Limits.{Limits}
 use Rattle.term_parser.specs.Source.{Place, place}
-use Rattle.term_parser.specs.Standing.{bytesAt}
 use Rattle.parser.specs.Declarations.{Declared}
 use Rattle.parser.specs.Parser.{textOf}
-use Rattle.names.specs.Symbols.{column, rowAt, sortOf as nameIn, sortsOf, symbolsOf}
+use Rattle.names.specs.Symbols.{rowAt, sortOf as nameIn, sortsOf, symbolsOf}
 use Rattle.rules.specs.declared.Title.{Title}
 use Rattle.loader.specs.Signature.{Signature, Loaded, refused, loaded}
 use Rattle.signature.specs.Form.{rulesOf}
 use Rattle.signature.specs.declared.Counts.{Counts}
 use Rattle.load.specs.Load.{declaredIn, loadText}
-use Rattle.load_storage.specs.Storage.{Buffers, tooShort}
-use Rattle.load.specs.Loading.{Left, LoadingText}
+use Rattle.load_storage.specs.Storage.{Buffers, tooShort, zeroPair, zeroSymbol, zeroRule}
+use Rattle.load.specs.Loading.{storedOf, Left, LoadingText}
 use Rattle.load.specs.declared.Loading.{Loading}
 use Rattle.load.specs.declared.Loading.the-variants.{Refused as Barred, Loaded as Entered}
 use Rattle.whole_words.specs.Words.{NameAt}
-use Rattle.whole_names.specs.Titles.{Titles, titleAt, titlesOf, spelling, rowTitle, placeNumber, titleNumber}
+use Rattle.loader.specs.Stored.{Titles, titleAt, titlesOf, wordsFrom}
+use Rattle.whole_names.specs.Titles.{rowPlace, rowTitle, placeNumber, titleNumber}
 use Rattle.whole_names.specs.Uses.{WholeName}
 use Rattle.whole_names.specs.ListLaws.{each-at}
 use Rattle.whole_names.specs.NamesWhole.{NamesWhole, names-whole}
-use Rattle.whole_names.specs.RowLaws.{part-same, sort-count, symbol-count, rule-count, sort-spelled, symbol-spelled, rule-spelled, one-sort, one-symbol, sort-symbol}
+use Rattle.whole_names.specs.RowLaws.{sort-count, symbol-count, rule-count, one-sort, one-symbol, sort-symbol}
+use Rattle.whole_names.specs.PlacedLaws.{sort-placed, symbol-placed, rule-placed}
 
--- A row, whose columns 0 and 1 are the start and the length of its name, keeps the name that is declared by the n bytes from `start` on.
-pub record KeepsWord (text row : List ℕ) (start n : ℕ) : Type 0 where
-  -- These are a whole word of the text, and a name;
-  pub word : NameAt text start n
-  -- the row's name has as many bytes, and they are the same.
-  pub long : column row 1 ≡ n
-  pub bytes : (k : ℕ) → k < n → getD text (column row 0 + k) 0 ≡ getD text (start + k) 0
+-- The row of a sort or a symbol keeps the name that is declared at this place: there stands a whole word of the text, which is a name, and
+-- the row's start and length are those of the word.
+pub record KeepsName (text row : List ℕ) (p : Place) : Type 0 where
+  pub word : WholeName text p
+  pub is : rowPlace row ≡ p
 
-abbrev pub KeepsName : List ℕ → List ℕ → Place → Type 0
-KeepsName text row (place start n) = KeepsWord text row start n
-
--- A rule's row, whose column 2 is 0 for a written rule and n + 1 for the clause with number n, keeps the name that this title spells.
+-- A rule's row keeps this title: at its place stands a whole word, which is the name of the rule or that of the clause's function, and the
+-- row's start, length and number are the title's. (The number is 0 for a written rule and n + 1 for the clause `f.n`.)
 pub record KeepsTitle (text row : List ℕ) (t : Title) : Type 0 where
-  -- At the title stands a whole word of the text, and it is a name: that of the rule, or that of the clause's function;
   pub word : NameAt text (t .start) (t .size)
-  -- the row's name is that word, and `.n` behind it for the clause with number n.
-  pub is : spelling text (rowTitle row) ≡ spelling text t
+  pub is : rowTitle row ≡ t
 
 -- Storage keeps the names of the declarations ds whole, in as many rows of each kind as are counted.
 pub record NamesStoredWhole (text : List ℕ) (ds : List Declared) (b : Buffers) (n : Counts) : Type 0 where
@@ -71,14 +66,9 @@ pub record NamesStoredWhole (text : List ℕ) (ds : List Declared) (b : Buffers)
 
 -- The theorem
 
--- A row keeps the word at a place, where its name is that word.
-keeps : (text row : List ℕ) (p : Place) → WholeName text p → nameIn text row ≡ bytesAt text p → KeepsName text row p
-keeps text row (place a n) w e =
-    let s = part-same text a n (column row 0) (column row 1) (w .whole) e in
-    record { word = w; long = s .0; bytes = s .1 }
-
--- For rows that denote a signature whose names are whole.
-module _ (text : List ℕ) (ds : List Declared) (s : Signature) (names : NamesWhole text ds s) (b : Buffers)
+-- For the stored signature of a text, whose names are whole.
+module _ (text : List ℕ) (limits : Limits) (ds : List Declared) (s : Signature) (names : NamesWhole text ds s) (b₀ b : Buffers)
+    (e : b ≡ storedOf text limits ds s b₀)
     (x : sortsOf text (b .sorts) (length (s .sorts)) ≡ s .sorts)
     (y : symbolsOf text (b .symbols) (length (s .symbols)) ≡ s .symbols)
     (z : rulesOf text (b .words) (b .rules) (length (s .rules)) ≡ s .rules) where
@@ -95,15 +85,17 @@ module _ (text : List ℕ) (ds : List Declared) (s : Signature) (names : NamesWh
         sortCount = n;
         symbolCount = m;
         ruleCount = k;
-        sorts = λ i l. keeps text (rowAt (b .sorts) i) (placeNumber (t .sorts) i)
-            (each-at (WholeName text) (t .sorts) (place 0 0) (names .whole .sorts) i (omega arith))
-            (sort-spelled text ds s names b x y z i l);
-        symbols = λ i l. keeps text (rowAt (b .symbols) i) (placeNumber (t .symbols) i)
-            (each-at (WholeName text) (t .symbols) (place 0 0) (names .whole .symbols) i (omega arith))
-            (symbol-spelled text ds s names b x y z i l);
+        sorts = λ i l. record {
+          word = each-at (WholeName text) (t .sorts) (place 0 0) (names .whole .sorts) i (omega arith);
+          is = sort-placed zeroPair (length (b₀ .sorts)) (t .sorts) (b .sorts) (ap (λ (c : Buffers). c .sorts) e) i (omega arith);
+        };
+        symbols = λ i l. record {
+          word = each-at (WholeName text) (t .symbols) (place 0 0) (names .whole .symbols) i (omega arith);
+          is = symbol-placed zeroSymbol (length (b₀ .symbols)) (t .symbols) (s .symbols) (b .symbols) (sym m) (ap (λ (c : Buffers). c .symbols) e) i (omega arith);
+        };
         rules = λ i l. record {
           word = each-at (λ (r : Title). NameAt text (r .start) (r .size)) (t .rules) (titleAt (place 0 0) 0) (names .whole .rules) i (omega arith);
-          is = rule-spelled text ds s names b x y z i l;
+          is = rule-placed zeroRule (length (b₀ .rules)) (t .rules) (s .rules) (b .rules) (sym k) (ap (λ (c : Buffers). c .rules) e) i (omega arith);
         };
         oneSort = one-sort text ds s names b x y z;
         oneSymbol = one-symbol text ds s names b x y z;
@@ -127,6 +119,6 @@ names-stored-whole text limits b r b′ h n m counts e =
         let ds : List Declared = declaredIn (textOf text limits) in
         let names : NamesWhole text ds s = names-whole text limits s q in
         let f = l .answer in
-        let c : countsWith text ds s names b′ (l .sortsAre) (l .symbolsAre) (l .rulesAre) (l .used) ≡ counts = cc in
+        let c : countsWith text limits ds s names b b′ (l .stored) (l .sortsAre) (l .symbolsAre) (l .rulesAre) (length (wordsFrom (s .rules) 0)) ≡ counts = cc in
         subst (λ (k : Counts). NamesStoredWhole text ds b′ k) c
-        (rows-whole text ds s names b′ (l .sortsAre) (l .symbolsAre) (l .rulesAre) (l .used))
+        (rows-whole text limits ds s names b b′ (l .stored) (l .sortsAre) (l .symbolsAre) (l .rulesAre) (length (wordsFrom (s .rules) 0)))

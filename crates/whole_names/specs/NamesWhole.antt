@@ -24,7 +24,8 @@ use Rattle.loader.specs.Legal.{namesOf, Legal}
 use Rattle.loader.specs.LegalLaws.{load-legal}
 use Rattle.load.specs.Load.{declaredIn, ofParsed, loadText}
 use Rattle.whole_words.specs.Words.{NameAt}
-use Rattle.whole_names.specs.Titles.{Titles, untitled, titleAt, withClauses, entitled, titlesFrom, titlesOf, spelling}
+use Rattle.loader.specs.Stored.{Titles, untitled, titleAt, withClauses, entitled, titlesFrom, titlesOf}
+use Rattle.whole_names.specs.Titles.{spelling}
 use Rattle.whole_names.specs.Uses.{WholeName, DeclarationWhole, DeclaredWhole}
 use Rattle.whole_names.specs.UsesWhole.{uses-whole}
 use Rattle.whole_names.specs.EntryLaws.{load-names}

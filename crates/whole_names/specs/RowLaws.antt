@@ -24,35 +24,9 @@ use Rattle.signature.specs.Form.{rulesOf}
 use Rattle.load_storage.specs.Storage.{Buffers}
 use Rattle.whole_words.specs.Words.{WholeWord}
 use Rattle.whole_names.specs.ListLaws.{of-image, of-rows}
-use Rattle.whole_names.specs.Titles.{titleAt, titlesOf, spelling, rowTitle, placeNumber, titleNumber}
+use Rattle.loader.specs.Stored.{titleAt, titlesOf}
+use Rattle.whole_names.specs.Titles.{spelling, rowTitle, placeNumber, titleNumber}
 use Rattle.whole_names.specs.NamesWhole.{NamesWhole}
-
--- A part of a text that is equal to a whole word has as many bytes, and the same.
-module _ (text : List ℕ) (start n a m : ℕ) (w : WholeWord text start n) (e : partOf text a m ≡ partOf text start n) where
-  part-long : (m ≡ n) × (partOf text a m ≡ take m (drop a text))
-  part-long = by-bool (leb (a + m) (length text)) inside outside
-    where
-      inside : leb (a + m) (length text) ≡ true → (m ≡ n) × (partOf text a m ≡ take m (drop a text))
-      inside t =
-          let p : partOf text a m ≡ take m (drop a text) = rw t in
-          let b = leb-true (a + m) (length text) t in
-          let d : length (drop a text) ≡ length text - a = length-drop a text in
-          let l : length (take m (drop a text)) ≡ m = length-take-le m (drop a text) (omega arith) in
-          (sym l ∙ ap length (sym p ∙ e) ∙ w .long, p)
-
-      outside : leb (a + m) (length text) ≡ false → (m ≡ n) × (partOf text a m ≡ take m (drop a text))
-      outside t =
-          let p : partOf text a m ≡ [] = rw t in
-          let some = w .some in
-          let l : length (partOf text start n) ≡ n = w .long in
-          let z : length (partOf text start n) ≡ 0 = ap length (sym e ∙ p) in
-          absurd (omega arith)
-
-  pub part-same : (m ≡ n) × ((k : ℕ) → k < n → getD text (a + k) 0 ≡ getD text (start + k) 0)
-  part-same =
-      let l = part-long .0 in
-      let q : take m (drop a text) ≡ partOf text start n = sym (part-long .1) ∙ e in
-      (l, λ k b. sym (getD-drop a text k 0) ∙ sym (getD-take m (drop a text) k 0 (omega arith)) ∙ ap (λ r. getD r k 0) q ∙ w .bytes k b)
 
 -- Rows that denote a signature whose names are whole
 module _ (text : List ℕ) (ds : List Declared) (s : Signature) (names : NamesWhole text ds s) (b : Buffers)
