@@ -8,7 +8,8 @@ use Rattle.arena.specs.Rows.{Rows}
 use Rattle.bindings.specs.Checking.{tells-false}
 use Rattle.checks.specs.Ready.{ReadyTold}
 use Rattle.unifier.specs.Contracts.{Unified}
-use Rattle.capi.specs.Unification.{packedUnify, refusal, UnifiedAs, Answered, accepted, refused}
+use Rattle.unifier.specs.Packing.{packedUnify, UnifiedAs}
+use Rattle.capi.specs.Unification.{refusal, Answered, accepted, refused}
 
 module _ {w : List ℕ} {b l m m₁ s : Rows} {variables used k r t : ℕ} {test : Bool} (told : ReadyTold w b l m m₁ s variables used k r t test) where
   pub answered-no : test ≡ false → Answered w b b l l m m₁ s s variables used k r t refusal

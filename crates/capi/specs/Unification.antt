@@ -8,25 +8,13 @@ use lib.Dec.{leb}
 use borrow.Author.Tests.{le-leb, lt-leb}
 use Rattle.arena.specs.Copies.{termRoom}
 use Rattle.arena.specs.Rows.{Rows}
-use Rattle.unifier.specs.Contracts.{Unified}
+use Rattle.unifier.specs.Packing.{packedUnify, UnifiedAs}
 use Rattle.bindings.specs.Checking.{form-few}
 use Rattle.checks.specs.Ready.{Ready}
-
--- How many variables are bound, and 2^31 more where the terms unify; fewer than 2^31 are bound (`answer-low`, `answer-tells`).
-abbrev pub packedUnify : Bool → ℕ → ℕ
-packedUnify true bound = 2 ^ 31 + bound
-packedUnify false bound = bound
 
 -- 2^32 times the number of refusal 1, and line 0.
 abbrev pub refusal : ℕ
 refusal = 1 * 2 ^ 32
-
--- `unify` ended as its contract says, with this number for its answer.
-pub record UnifiedAs (w : List ℕ) (b b′ l l′ m m′ s s′ : Rows) (variables used k r t answer : ℕ) : Type 0 where
-  pub unified : Bool
-  pub bound : ℕ
-  pub packed : answer ≡ packedUnify unified bound
-  pub ended : Unified termRoom w b b′ l l′ m m′ s s′ variables used k bound r t unified
 
 -- It was refused, and every buffer is as it was.
 pub record RefusedAs (b b′ l l′ m m′ s s′ : Rows) (answer : ℕ) : Type 0 where

@@ -10,7 +10,7 @@ ghost use lib.Seq.{sets};
 ghost use Rattle.capi.specs.Declarations.{ParsedAs};
 ghost use Rattle.capi.specs.Checks.{CheckedAs};
 ghost use Rattle.capi.specs.Signatures.{LoadedAs};
-ghost use Rattle.capi.specs.Unification.{packedUnify, Answered};
+ghost use Rattle.capi.specs.Unification.{Answered};
 ghost use Rattle.capi.specs.Words.{packed, textLimit};
 ghost use Rattle.words.specs.Lexer.{lexAnswer, lexRows};
 
@@ -167,16 +167,6 @@ pub extern "C" fn horn_check_signature(
     0
 }
 
-// How unification ended, as one number: how many variables are bound, and 2^31 more where the terms unify.
-pub fn packed(ended: unifier::Ended) -> u64
-    ensures { λ r. ⌜ r ≡ packedUnify (ended .unified) (ended .bound) ⌝ }
-{
-    if ended.unified {
-        return 0x8000_0000 + (ended.bound as u64);
-    }
-    ended.bound as u64
-}
-
 // `unifier::unify` on storage of any contents. Where words, bindings, scratch and references are what it asks, the answer is how it ended, as `packed`
 // tells it, below 2^32. Else the answer is 2^32, refusal 1 with line 0, and nothing is written.
 #[no_mangle]
@@ -222,5 +212,5 @@ pub extern "C" fn horn_unify(
         left,
         right,
     );
-    packed(ended)
+    unifier::packed(ended)
 }

@@ -160,7 +160,15 @@ fn list_loaded(
         words,
         evals,
     );
-    damage::test(text, sorts, symbols, rules, words, answer);
+    let Loading::Loaded {
+        declarations: _,
+        evals: _,
+        counts,
+    } = answer
+    else {
+        return;
+    };
+    damage::test(text, sorts, symbols, rules, words, counts);
 }
 
 // Loads a text and lists the answer.

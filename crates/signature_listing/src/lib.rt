@@ -1,7 +1,7 @@
 // Stored signatures, listed as the recorded answers are: a line for each sort and symbol, for each rule its heading, its nodes in order and its
 // references, and a line for each `#eval`.
 use libc::STDOUT_FILENO;
-use load::EvalRow;
+use load_storage::EvalRow;
 use names::SortRow;
 use names::SymbolRow;
 use rules::RuleRow;

@@ -1,6 +1,6 @@
 // The lent buffers: what they hold before a call, and the tests of what they hold afterwards.
 use libc::STDOUT_FILENO;
-use load::EvalRow;
+use load_storage::EvalRow;
 use names::SortRow;
 use names::SymbolRow;
 use patterns::TermRow;

@@ -1,6 +1,5 @@
 // Damaged signatures, which `check_signature` must refuse: in a stored one that it accepts a single number is changed, and then put back.
 use crate::buffers;
-use load::Loading;
 use names::SortRow;
 use names::SymbolRow;
 use rules::RuleRow;
@@ -504,16 +503,8 @@ pub fn test(
     symbols: &mut [SymbolRow],
     rules: &mut [RuleRow],
     words: &mut [u32],
-    answer: Loading,
+    counts: Counts,
 ) {
-    let Loading::Loaded {
-        declarations: _,
-        evals: _,
-        counts,
-    } = answer
-    else {
-        return;
-    };
     test_sorts(text, sorts, symbols, rules, words, counts);
     test_symbols(text, sorts, symbols, rules, words, counts);
     test_rules(text, sorts, symbols, rules, words, counts);

@@ -1,5 +1,6 @@
 -- Unification over stored terms, in reading order. Definitions:
 pub mod Contracts
+pub mod Packing
 -- Laws, in the order in which they are needed:
 pub mod Linking
 pub mod Deciding

@@ -11,9 +11,11 @@ mod equations; // one decision, and the loop of unification
 use bindings::undo;
 use equations::equate;
 use stack::clear;
+ghost use mathlib.Core.Path.{_≡_};
 ghost use Rattle.arena.specs.Cells.{cells, Reference};
 ghost use Rattle.bindings.specs.Stored.{Form};
 ghost use Rattle.unifier.specs.Contracts.{Scratch, Unified};
+ghost use Rattle.unifier.specs.Packing.{packedUnify};
 
 // What is to be done with two references that are to be made equal.
 pub enum Decision {
@@ -46,6 +48,16 @@ pub struct Ending {
 pub struct Ended {
     pub unified: bool,
     pub bound: u32,
+}
+
+// How unification ended, as one number for programs in other languages: how many variables are bound, and 2^31 more where the terms unify.
+pub fn packed(ended: Ended) -> u64
+    ensures { λ r. ⌜ r ≡ packedUnify (ended .unified) (ended .bound) ⌝ }
+{
+    if ended.unified {
+        return 0x8000_0000 + (ended.bound as u64);
+    }
+    ended.bound as u64
 }
 
 // Unifies what r and t denote under the first k bindings; without success the bindings are undone to k, and the scratch is left as it was.

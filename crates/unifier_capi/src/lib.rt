@@ -4,7 +4,7 @@ ghost use Rattle.arena.specs.Cells.{cells, Reference};
 ghost use Rattle.arena.specs.Copies.{termRoom};
 ghost use Rattle.unifier.specs.Contracts.{Scratch};
 ghost use Rattle.bindings.specs.Stored.{Form};
-ghost use Rattle.capi.specs.Unification.{UnifiedAs};
+ghost use Rattle.unifier.specs.Packing.{UnifiedAs};
 
 // The caller sees to what `unify` asks. The answer is that of `capi::horn_unify`.
 #[no_mangle]
@@ -40,5 +40,5 @@ pub extern "C" fn horn_unify_unchecked(
         left,
         right,
     );
-    capi::packed(ended)
+    unifier::packed(ended)
 }

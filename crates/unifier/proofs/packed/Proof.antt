@@ -1,10 +1,10 @@
 -- `packed` meets its contract: by whether the terms unify.
 -- No loop.
 use mathlib.Core.Path.{sym, ap}
-use Rattle.capi.specs.Unification.{packedUnify}
+use Rattle.unifier.specs.Packing.{packedUnify}
 use borrow.Author.Needs.{needs}
-use Rattle.capi.proofs.packed.Statement.{statement}
-use Rattle.capi.proofs.packed.Tie as tie
+use Rattle.unifier.proofs.packed.Statement.{statement}
+use Rattle.unifier.proofs.packed.Tie as tie
 
 cast-result : tie.Need-cast-result
 cast-result c = search needs
