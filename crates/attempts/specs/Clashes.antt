@@ -17,7 +17,7 @@ use Rattle.arena.specs.Copies.{patternRoom, termRoom}
 use Rattle.arena.specs.Rows.{Rows}
 use Rattle.bindings.specs.Stored.{held, Form}
 use Rattle.bindings.specs.Contracts.{Walked}
-use Rattle.attempts.specs.StoredRules.{patternOf, Part, Root}
+use Rattle.attempts.specs.StoredRules.{patternOf}
 
 -- Nothing that agrees with the bindings makes the terms equal.
 abbrev pub Clash : Bindings → Term → Term → Type 0

@@ -8,7 +8,7 @@ use lib.ListN.{getD, length}
 use Rattle.terms.specs.Bindings.{walk, occurs}
 use Rattle.arena.specs.Cells.{cells, denote, Reference}
 use Rattle.arena.specs.Rows.{Rows, column}
-use Rattle.bindings.specs.Tables.{Empty, entered, removed, undone}
+use Rattle.bindings.specs.Tables.{Empty, entered, removed}
 use Rattle.bindings.specs.Stored.{held, Form, WalksTo}
 
 -- A row was replaced.

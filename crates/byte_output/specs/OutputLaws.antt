@@ -1,7 +1,7 @@
 -- Laws of bytes written into a buffer: one more byte, and bytes behind bytes.
-use Prim.Native.Nat.{ℕ, zero, suc, _+_, _≤_, _<_}
+use Prim.Native.Nat.{ℕ, suc, _+_, _≤_, _<_}
 use native.Mathlib.Omega.{arith}
-use mathlib.Core.Path.{_≡_, refl, sym, ap, _∙_}
+use mathlib.Core.Path.{_≡_, sym, ap, _∙_}
 use mathlib.Core.List.{List, [], _∷_, _++_}
 use lib.ListN.{getD, length, set, take, length-append}
 use lib.Seq.{sets, length-sets, take-suc, length-take-le}

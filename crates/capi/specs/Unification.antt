@@ -6,7 +6,6 @@ use mathlib.Core.Bool.{Bool, true, false}
 use mathlib.Core.List.{List}
 use lib.Dec.{leb}
 use borrow.Author.Tests.{le-leb, lt-leb}
-use Rattle.arena.specs.Copies.{termRoom}
 use Rattle.arena.specs.Rows.{Rows}
 use Rattle.unifier.specs.Packing.{packedUnify, UnifiedAs}
 use Rattle.bindings.specs.Checking.{form-few}

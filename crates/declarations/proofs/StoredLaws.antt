@@ -5,7 +5,7 @@ use mathlib.Core.Path.{_≡_, sym, ap, _∙_}
 use mathlib.Core.List.{List, [], _∷_, _++_}
 use lib.ListN.{length, set, length-append}
 use lib.Seq.{sets, length-take-le}
-use Rattle.term_parser.specs.Source.{Place, place}
+use Rattle.term_parser.specs.Source.{Place}
 use Rattle.resolution.specs.Rules.{Rule}
 use Rattle.names.specs.Symbols.{Rows, Symbol}
 use Rattle.rules.specs.Layout.{ruleWords, rowOf}

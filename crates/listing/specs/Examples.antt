@@ -1,7 +1,6 @@
 -- The definitions run: the listings of `sort A` and of `-`, and a recorded text.
 use mathlib.Core.Path.{_≡_, refl}
-use mathlib.Core.List.{List, [], _∷_}
-use Prim.Native.Nat.{ℕ}
+use mathlib.Core.List.{[], _∷_}
 use Rattle.source_text.specs.Bytes.{oneOf, startsWith, sameBytes, upTo}
 use Rattle.source_text.specs.Utf8.{forms, formOf, leadOf, tailsOf, characterLength, utf8After, isUtf8}
 use Rattle.source_text.specs.Characters.{classOf, characterOf, outsideAfter, hasOutside}

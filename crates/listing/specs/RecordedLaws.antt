@@ -7,7 +7,6 @@ use lib.ListN.{getD, length}
 use borrow.Author.Tests.{lt-ltb, le-ltb, le-leb, lt-leb}
 use Rattle.listing.specs.Recorded.{largest, digitAt, decimalFrom, decimalAt, recordedBy, recordedAt}
 use Rattle.listing.specs.declared.recorded.Decimal.{Decimal}
-use Rattle.listing.specs.declared.recorded.Recorded.{Recorded}
 
 module _ (list : List ℕ) (at : ℕ) where
   pub digit-low : getD list at 0 < 48 → digitAt list at ≡ 10

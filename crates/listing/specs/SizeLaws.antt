@@ -1,11 +1,11 @@
 -- A listing has at most 26 bytes for each byte of the text, or 35: the tokens are parts of the text, and each has at least a byte.
-use Prim.Native.Nat.{ℕ, zero, suc, _+_, _*_, _-_, _≤_, min}
+use Prim.Native.Nat.{ℕ, zero, suc, _+_, _*_, _-_, _≤_}
 use native.Mathlib.Omega.{arith}
 use mathlib.Core.Path.{_≡_}
-use mathlib.Core.Bool.{Bool, true, false, not}
+use mathlib.Core.Bool.{Bool, true, false}
 use mathlib.Core.List.{List, [], _∷_, _++_}
 use lib.Dec.{eqb, ltb, leb}
-use lib.ListN.{getD, length, take, drop, length-append, length-take}
+use lib.ListN.{getD, length, drop, length-append, length-take}
 use borrow.Author.Tests.{ltb-false}
 use Rattle.terms.specs.Numbers.{by-bool}
 use Rattle.source_text.specs.Bytes.{startsWith, upTo}
@@ -26,9 +26,8 @@ use Rattle.source_text.specs.declared.NumeralValue.{NumeralValue}
 use Rattle.source_text.specs.declared.NumeralValue.the-variants.{Fits, TooLarge}
 use Rattle.words.specs.declared.tokens.Item.{Item}
 use Rattle.words.specs.declared.tokens.Item.the-variants.{Blank, Token, Refused}
-use Rattle.byte_output.specs.Output.{numeral}
 use Rattle.byte_output.specs.NumeralLaws.{numeral-short}
-use Rattle.listing.specs.Listing.{kindWord, tokenLine, tokenLines, refusedLine, readingLines, readingOf, listingOf, listingSize}
+use Rattle.listing.specs.Listing.{kindWord, tokenLine, tokenLines, refusedLine, readingLines, listingOf, listingSize}
 use Rattle.listing.specs.ListingLaws.{line-length, refused-length}
 
 -- Lines

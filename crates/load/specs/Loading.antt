@@ -1,16 +1,15 @@
 -- The contract of `load`: the answer and every lent buffer, on all inputs.
-use Prim.Native.Nat.{ℕ, _+_, _-_, _*_, _/_}
+use Prim.Native.Nat.{ℕ}
 use mathlib.Core.Path.{_≡_}
-use mathlib.Core.Bool.{Bool, true, false, cond, _||_}
-use mathlib.Core.List.{List, [], _∷_, _++_}
-use lib.Dec.{ltb}
-use lib.ListN.{length, take, replicate}
-use Rattle.words.specs.Lexer.{cappedOf, zeroRow}
+use mathlib.Core.Bool.{true, false, cond}
+use mathlib.Core.List.{List, [], _∷_}
+use lib.ListN.{length, replicate}
+use Rattle.words.specs.Lexer.{zeroRow}
 use Rattle.source_text.specs.Answers.{Told, answers, refuses}
 use Rattle.words.specs.declared.Limits.{Limits}
 use Rattle.parser.specs.Declarations.{Declared}
 use Rattle.parser.specs.Parser.{textOf, rowsAfter}
-use Rattle.names.specs.Symbols.{Rows, sortsOf, symbolsOf}
+use Rattle.names.specs.Symbols.{sortsOf, symbolsOf}
 use Rattle.loader.specs.Signature.{Signature, Loaded, refused, loaded}
 use Rattle.loader.specs.Stored.{titlesOf, sortRows, symbolRows, ruleRows, wordsFrom, padded}
 use Rattle.signature.specs.Form.{rulesOf, Listed}

@@ -8,7 +8,7 @@ use lib.ListN.{length, getD}
 use Rattle.words.specs.Tokens.Reading.{tokens}
 use Rattle.words.specs.Lexer.{lexOf}
 use Rattle.words.specs.Names.{nameKind}
-use Rattle.term_parser.specs.Source.{Place, place}
+use Rattle.term_parser.specs.Source.{Place}
 use Rattle.term_parser.specs.Parsing.{Tokens, kindOf, lastLine, Parsed, parsed, follow, signOf, repeat}
 use Rattle.term_parser.specs.Lists.{name, titleOf, arrowsOf, term, judgmentsOf}
 use Rattle.term_parser.specs.ReaderLaws.{Each, Comes, plus-comes, follow-comes, past-comes, when-comes, repeat-each}

@@ -2,10 +2,10 @@
 use Prim.Native.Nat.{ℕ, suc, _+_, _-_, _≤_, _<_}
 use native.Mathlib.Omega.{arith}
 use mathlib.Core.Path.{_≡_, refl, sym, ap, ap₂, _∙_}
-use mathlib.Core.List.{List, [], _∷_, _++_, map, append-assoc, append-nil}
-use lib.ListN.{length, take, drop, set, replicate, length-append, length-map, take-append-drop}
-use lib.Seq.{sets, sets-eq, length-sets, take-at, take-suc-set, length-take-le}
-use Rattle.term_parser.specs.Source.{Place, place}
+use mathlib.Core.List.{List, [], _∷_, _++_, append-assoc, append-nil}
+use lib.ListN.{length, take, drop, set, replicate, length-append, take-append-drop}
+use lib.Seq.{sets, sets-eq, take-at, take-suc-set, length-take-le}
+use Rattle.term_parser.specs.Source.{Place}
 use Rattle.names.specs.Symbols.{Rows, Symbol}
 use Rattle.resolution.specs.Rules.{Rule}
 use Rattle.rules.specs.Layout.{ruleWords, rowOf}

@@ -1,11 +1,11 @@
 -- Laws of a rule's layout: `lay` gives exactly these references and words, and they are as many as document 01 counts.
-use Prim.Native.Nat.{ℕ, suc, _+_, _≤_}
+use Prim.Native.Nat.{ℕ, suc, _+_}
 use native.Mathlib.Omega.{arith}
 use mathlib.Core.Path.{_≡_, refl, sym, ap, ap₂, _∙_}
-use mathlib.Core.List.{List, [], _∷_, _++_, append-assoc}
-use lib.ListN.{length, set, take, drop, length-append}
-use lib.Seq.{sets, sets-eq, take-at, length-take-le}
-use Rattle.terms.specs.Term.{Kind, one, many, Syn, var, app, nil, cons, Terms, count}
+use mathlib.Core.List.{List, [], _∷_, _++_}
+use lib.ListN.{length, set, length-append}
+use lib.Seq.{sets}
+use Rattle.terms.specs.Term.{Kind, Syn, var, app, nil, cons, count}
 use Rattle.arena.specs.Copies.{patternRoom}
 use Rattle.resolution.specs.Rules.{Rule}
 use Rattle.resolution.specs.Search.{words}

@@ -8,7 +8,6 @@ use lib.ListN.{length}
 use borrow.Author.Tests.{ne-eqb}
 use Rattle.terms.specs.Numbers.{by-bool}
 use Rattle.terms.specs.Term.{Terms}
-use Rattle.source_text.specs.Parts.{partOf}
 use Rattle.term_parser.specs.Source.{Place, place, Source, one, many, allOf}
 use Rattle.term_parser.specs.Standing.{Written, applied, size, spelled, bytesAt, nil as none}
 use Rattle.parser.specs.Source.{Clause, Declaration, sort, ctor, pred, rule, def, theorem, eval, check}
@@ -21,7 +20,7 @@ use Rattle.resolution.specs.Rules.{Rule}
 use Rattle.rules.specs.Rules.{Ruled, barred, ruled, allKnown, closed, concluded, ruleOf, entering}
 use Rattle.rules.specs.PatternLaws.{Ruling}
 use Rattle.clauses.specs.Clauses.{flatRule, clauseOf}
-use Rattle.loader.specs.Signature.{Signature, empty, Step, no, on, andThen, unless, sortRefusal, enterSort, symbolRefusal, enterSymbol, Numbers, unknown, numbers, numbersOf, withSorts, withSome, lastOf, frontOf, roomIn, withRule, lastJudgment, firstOf, Loaded, refused, loaded, goOn, enterRule, enterClause, enterClauses, enterJudgments, declare, loadFrom, loadOf}
+use Rattle.loader.specs.Signature.{Signature, empty, Step, no, on, andThen, unless, sortRefusal, enterSort, symbolRefusal, enterSymbol, Numbers, unknown, numbers, numbersOf, withSorts, withSome, lastOf, frontOf, roomIn, withRule, lastJudgment, firstOf, Loaded, loaded, goOn, enterRule, enterClause, enterClauses, enterJudgments, declare, loadFrom, loadOf}
 use Rattle.loader.specs.LegalLaws.{Stepping, Loading}
 use Rattle.rules.specs.declared.Title.{Title}
 use Rattle.whole_names.specs.ListLaws.{map-more, both-more}

@@ -5,7 +5,7 @@
 -- a whole word (`WholeWord` in whole_words/specs/Words.antt) is a run of 1 to 64 bytes that make words, which goes on neither before nor
 -- behind, and is in no comment; the titles of declarations (loader/specs/Stored.antt) are the places of the words by which they name sorts, symbols and
 -- rules, in text order.
-use Prim.Native.Nat.{ℕ, _+_, _<_}
+use Prim.Native.Nat.{ℕ, _<_}
 use native.Mathlib.Omega.{arith}
 use mathlib.Core.Path.{_≡_, refl, sym, ap, subst}
 use mathlib.Core.Logic.{_↔_}
@@ -19,7 +19,6 @@ use Rattle.parser.specs.Parser.{textOf}
 use Rattle.names.specs.Symbols.{rowAt, sortOf as nameIn, sortsOf, symbolsOf}
 use Rattle.rules.specs.declared.Title.{Title}
 use Rattle.loader.specs.Signature.{Signature, Loaded, refused, loaded}
-use Rattle.signature.specs.Form.{rulesOf}
 use Rattle.signature.specs.declared.Counts.{Counts}
 use Rattle.load.specs.Load.{declaredIn, loadText}
 use Rattle.load_storage.specs.Storage.{Buffers, tooShort, zeroPair, zeroSymbol, zeroRule}
@@ -70,16 +69,15 @@ pub record NamesStoredWhole (text : List ℕ) (ds : List Declared) (b : Buffers)
 module _ (text : List ℕ) (limits : Limits) (ds : List Declared) (s : Signature) (names : NamesWhole text ds s) (b₀ b : Buffers)
     (e : b ≡ storedOf text limits ds s b₀)
     (x : sortsOf text (b .sorts) (length (s .sorts)) ≡ s .sorts)
-    (y : symbolsOf text (b .symbols) (length (s .symbols)) ≡ s .symbols)
-    (z : rulesOf text (b .words) (b .rules) (length (s .rules)) ≡ s .rules) where
+    (y : symbolsOf text (b .symbols) (length (s .symbols)) ≡ s .symbols) where
   abbrev countsWith : ℕ → Counts
   countsWith used = record { sorts = length (s .sorts); symbols = length (s .symbols); rules = length (s .rules); words = used }
 
   rows-whole : (used : ℕ) → NamesStoredWhole text ds b (countsWith used)
   rows-whole used =
-      let n = sort-count text ds s names b x y z in
-      let m = symbol-count text ds s names b x y z in
-      let k = rule-count text ds s names b x y z in
+      let n = sort-count text ds s names b x y in
+      let m = symbol-count text ds s names b x y in
+      let k = rule-count text ds s names b x y in
       let t : Titles = titlesOf ds in
       record {
         sortCount = n;
@@ -97,9 +95,9 @@ module _ (text : List ℕ) (limits : Limits) (ds : List Declared) (s : Signature
           word = each-at (λ (r : Title). NameAt text (r .start) (r .size)) (t .rules) (titleAt (place 0 0) 0) (names .whole .rules) i (omega arith);
           is = rule-placed zeroRule (length (b₀ .rules)) (t .rules) (s .rules) (b .rules) (sym k) (ap (λ (c : Buffers). c .rules) e) i (omega arith);
         };
-        oneSort = one-sort text ds s names b x y z;
-        oneSymbol = one-symbol text ds s names b x y z;
-        apart = sort-symbol text ds s names b x y z;
+        oneSort = one-sort text ds s names b x y;
+        oneSymbol = one-symbol text ds s names b x y;
+        apart = sort-symbol text ds s names b x y;
       }
 
 -- Where `load` loads a text, the names of its declarations are stored whole.
@@ -119,6 +117,6 @@ names-stored-whole text limits b r b′ h n m counts e =
         let ds : List Declared = declaredIn (textOf text limits) in
         let names : NamesWhole text ds s = names-whole text limits s q in
         let f = l .answer in
-        let c : countsWith text limits ds s names b b′ (l .stored) (l .sortsAre) (l .symbolsAre) (l .rulesAre) (length (wordsFrom (s .rules) 0)) ≡ counts = cc in
+        let c : countsWith text limits ds s names b b′ (l .stored) (l .sortsAre) (l .symbolsAre) (length (wordsFrom (s .rules) 0)) ≡ counts = cc in
         subst (λ (k : Counts). NamesStoredWhole text ds b′ k) c
-        (rows-whole text limits ds s names b b′ (l .stored) (l .sortsAre) (l .symbolsAre) (l .rulesAre) (length (wordsFrom (s .rules) 0)))
+        (rows-whole text limits ds s names b b′ (l .stored) (l .sortsAre) (l .symbolsAre) (length (wordsFrom (s .rules) 0)))

@@ -2,10 +2,9 @@
 use Prim.Native.Nat.{ℕ, zero, suc, _+_, _-_, _<_}
 use native.Mathlib.Omega.{arith}
 use mathlib.Core.Path.{_≡_, refl, sym, ap, ap₂, _∙_}
-use mathlib.Core.List.{List, [], _∷_, _++_}
+use mathlib.Core.List.{List, [], _∷_}
 use lib.ListN.{length, getD, replicate, length-map, length-replicate, List·getD-append}
-use lib.Seq.{sets, length-sets}
-use Rattle.terms.specs.Term.{count}
+use lib.Seq.{sets}
 use Rattle.resolution.specs.Rules.{Rule}
 use Rattle.resolution.specs.Fresh.{place as placeIn, allVars}
 use Rattle.arena.specs.NodeLaws.{sets-below, sets-within}
@@ -16,7 +15,7 @@ use Rattle.rules.specs.Layout.{references, ruleWords, ruleNumbers, rowOf}
 use Rattle.rules.specs.declared.Title.{Title}
 use Rattle.loader.specs.Rows.{symbolRow}
 use Rattle.loader.specs.Legal.{noRule}
-use Rattle.loader.specs.Stored.{titleAt, sortRow, sortRows, symbolRowOf, symbolRows, ruleRows, padded}
+use Rattle.loader.specs.Stored.{sortRow, sortRows, symbolRowOf, symbolRows, ruleRows, padded}
 use Rattle.loader.specs.StoredLaws.{symbol-rows-length, rule-rows-length}
 use Rattle.whole_names.specs.Titles.{rowPlace, rowTitle, placeNumber, titleNumber}
 use Rattle.whole_names.specs.ListLaws.{of-image}

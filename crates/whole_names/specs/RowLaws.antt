@@ -3,50 +3,33 @@ use Prim.Native.Nat.{ℕ, _+_, _-_, _<_}
 use native.Mathlib.Omega.{arith}
 use mathlib.Core.Path.{_≡_, sym, ap, _∙_}
 use mathlib.Core.Logic.{_↔_}
-use mathlib.Core.Bool.{true, false}
 use mathlib.Core.List.{List, [], map}
-use lib.Dec.{leb}
-use lib.ListN.{length, getD, take, drop, length-append, length-map, length-drop, List·getD-append, List·getD-map}
-use lib.Seq.{getD-take, getD-drop, getD-append-add, length-take-le}
-use borrow.Author.Tests.{leb-true}
-use Rattle.terms.specs.Numbers.{by-bool}
-use Rattle.source_text.specs.Parts.{partOf}
-use Rattle.term_parser.specs.Source.{place}
+use lib.ListN.{length, getD, length-append, length-map, List·getD-append, List·getD-map}
+use lib.Seq.{getD-append-add}
 use Rattle.term_parser.specs.Standing.{bytesAt}
 use Rattle.parser.specs.Declarations.{Declared}
 use Rattle.names.specs.Names.{Name}
 use Rattle.names.specs.Symbols.{Symbol, rowAt, sortOf as nameIn, symbolOf, sortsOf, symbolsOf, noSymbol}
-use Rattle.resolution.specs.Rules.{Rule}
-use Rattle.rule_checks.specs.RuleForm.{ruleIn}
 use Rattle.loader.specs.Signature.{Signature}
-use Rattle.loader.specs.Legal.{namesOf, noRule}
-use Rattle.signature.specs.Form.{rulesOf}
+use Rattle.loader.specs.Legal.{namesOf}
 use Rattle.load_storage.specs.Storage.{Buffers}
-use Rattle.whole_words.specs.Words.{WholeWord}
-use Rattle.whole_names.specs.ListLaws.{of-image, of-rows}
-use Rattle.loader.specs.Stored.{titleAt, titlesOf}
-use Rattle.whole_names.specs.Titles.{spelling, rowTitle, placeNumber, titleNumber}
+use Rattle.whole_names.specs.ListLaws.{of-rows}
+use Rattle.loader.specs.Stored.{titlesOf}
+use Rattle.whole_names.specs.Titles.{spelling}
 use Rattle.whole_names.specs.NamesWhole.{NamesWhole}
 
 -- Rows that denote a signature whose names are whole
 module _ (text : List ℕ) (ds : List Declared) (s : Signature) (names : NamesWhole text ds s) (b : Buffers)
     (sortsAre : sortsOf text (b .sorts) (length (s .sorts)) ≡ s .sorts)
-    (symbolsAre : symbolsOf text (b .symbols) (length (s .symbols)) ≡ s .symbols)
-    (rulesAre : rulesOf text (b .words) (b .rules) (length (s .rules)) ≡ s .rules) where
+    (symbolsAre : symbolsOf text (b .symbols) (length (s .symbols)) ≡ s .symbols) where
   abbrev symbolNames : List Name
   symbolNames = map (λ f. f .name) (s .symbols)
-
-  abbrev ruleNames : List Name
-  ruleNames = map (λ r. r .name) (s .rules)
 
   abbrev sortRow : ℕ → List ℕ
   sortRow i = rowAt (b .sorts) i
 
   abbrev symbolRow : ℕ → List ℕ
   symbolRow i = rowAt (b .symbols) i
-
-  abbrev ruleRow : ℕ → List ℕ
-  ruleRow i = rowAt (b .rules) i
 
   -- There are as many rows as names are declared.
   pub sort-count : length (s .sorts) ≡ length (titlesOf ds .sorts)
@@ -58,7 +41,7 @@ module _ (text : List ℕ) (ds : List Declared) (s : Signature) (names : NamesWh
   pub rule-count : length (s .rules) ≡ length (titlesOf ds .rules)
   rule-count = sym (length-map (s .rules) (λ r. r .name)) ∙ ap length (names .rules) ∙ length-map (titlesOf ds .rules) (spelling text)
 
-  -- The rows' names are those of the signature,
+  -- The rows' names are those of the signature.
   sort-name : (i : ℕ) → i < length (s .sorts) → nameIn text (sortRow i) ≡ getD (s .sorts) i []
   unfolding sortsOf
   sort-name i l = of-rows (nameIn text) (b .sorts) (s .sorts) [] sortsAre i l
@@ -68,28 +51,6 @@ module _ (text : List ℕ) (ds : List Declared) (s : Signature) (names : NamesWh
   symbol-name i l =
       ap (λ (f : Symbol). f .name) (of-rows (symbolOf text) (b .symbols) (s .symbols) noSymbol symbolsAre i l)
       ∙ sym (List·getD-map (λ (f : Symbol). f .name) (s .symbols) i noSymbol)
-
-  rule-name : (i : ℕ) → i < length (s .rules) → spelling text (rowTitle (ruleRow i)) ≡ getD ruleNames i []
-  unfolding rulesOf
-  rule-name i l =
-      ap (λ (R : Rule). R .name) (of-rows (ruleIn text (b .words)) (b .rules) (s .rules) noRule rulesAre i l)
-      ∙ sym (List·getD-map (λ (R : Rule). R .name) (s .rules) i noRule)
-
-  -- and so those of the declarations.
-  pub sort-spelled : (i : ℕ) → i < length (s .sorts) → nameIn text (sortRow i) ≡ bytesAt text (placeNumber (titlesOf ds .sorts) i)
-  sort-spelled i l = sort-name i l ∙ sym (of-image (bytesAt text) (titlesOf ds .sorts) (s .sorts) (place 0 0) [] (sym (names .sorts)) i l)
-
-  pub symbol-spelled : (i : ℕ) → i < length (s .symbols) → nameIn text (symbolRow i) ≡ bytesAt text (placeNumber (titlesOf ds .symbols) i)
-  symbol-spelled i l =
-      let n = length-map (s .symbols) (λ f. f .name) in
-      symbol-name i l ∙ sym
-      (of-image (bytesAt text) (titlesOf ds .symbols) symbolNames (place 0 0) [] (sym (names .symbols)) i (omega arith))
-
-  pub rule-spelled : (i : ℕ) → i < length (s .rules) → spelling text (rowTitle (ruleRow i)) ≡ spelling text (titleNumber (titlesOf ds .rules) i)
-  rule-spelled i l =
-      let n = length-map (s .rules) (λ r. r .name) in
-      rule-name i l ∙ sym
-      (of-image (spelling text) (titlesOf ds .rules) ruleNames (titleAt (place 0 0) 0) [] (sym (names .rules)) i (omega arith))
 
   -- Two names of the sorts and symbols together
   abbrev all : List Name

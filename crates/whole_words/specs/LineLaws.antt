@@ -7,7 +7,7 @@ use mathlib.Core.List.{List, [], _∷_, _++_, append-assoc}
 use lib.Dec.{eqb}
 use lib.ListN.{length, getD, drop, length-append, length-drop, List·getD-append}
 use lib.Seq.{getD-append-add, getD-drop}
-use borrow.Author.Tests.{eqb-true, eqb-false}
+use borrow.Author.Tests.{eqb-true}
 use Rattle.terms.specs.Numbers.{by-bool, by-less, true-false}
 use Rattle.source_text.specs.Bytes.{startsWith, upTo}
 use Rattle.source_text.specs.ByteLaws.{and-left, and-right}

@@ -8,7 +8,6 @@ use mathlib.Core.List.{List}
 use lib.ListN.{getD, length, set, take, length-set}
 use lib.Seq.{sets, take-all}
 use Rattle.byte_output.specs.OutputLaws.{sets-more}
-use borrow.Author.Needs.{needs}
 use Rattle.byte_output.proofs.write_bytes.Statement.{statement}
 use Rattle.byte_output.proofs.write_bytes.Tie as tie
 

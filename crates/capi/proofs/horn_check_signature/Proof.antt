@@ -1,6 +1,6 @@
 -- `horn_check_signature` meets its contract: with four counts the answer is that of `check_signature`.
 -- Each way out is one part of the form.
-use mathlib.Core.Path.{_≡_, refl}
+use mathlib.Core.Path.{refl}
 use borrow.Author.Tests.{not-true, not-false}
 use Rattle.terms.specs.Numbers.{true-false}
 use borrow.Author.Needs.{needs}

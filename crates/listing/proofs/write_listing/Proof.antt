@@ -1,6 +1,6 @@
 -- `write_listing` meets its contract: a buffer of the size has room for the listing, and what `lex` answers is listed.
 -- No loop.
-use mathlib.Core.Path.{_≡_, sym, ap, _∙_}
+use mathlib.Core.Path.{sym, ap, _∙_}
 use lib.ListN.{length}
 use Rattle.byte_output.specs.OutputLaws.{written-as}
 use Rattle.listing.specs.Listing.{refusedLine}
