@@ -21,10 +21,11 @@ use Rattle.rule_checks.specs.RuleForm.{ruleIn, RuleNamed, RuleFormed}
 use Rattle.rule_checks.specs.RuleLaws.{kept-is}
 use Rattle.loader.specs.Signature.{Signature}
 use Rattle.loader.specs.Stored.{Titles}
-use Rattle.loader.specs.Legal.{SymbolLegal, RuleLegal, noRule}
+use Rattle.loader.specs.Legal.{SymbolLegal, RuleLegal, ClauseFormed, noRule}
 use Rattle.loader.specs.Holding.{RulesKept, rules-same}
 use Rattle.loader.specs.SymbolRows.{SymbolShaped}
 use Rattle.signature.specs.Form.{rulesOf, SymbolFormed, Listed}
+use Rattle.signature.specs.StoreLaws.{rules-at, kept-at}
 use Rattle.declarations.specs.Held.{NamesHeld, RulesHeld, Held}
 use Rattle.declarations.specs.declared.State.{State}
 
@@ -89,15 +90,15 @@ rule-formed {text} {arities} {words} {row} {symbols} {sorts} {u} {u′} {R} i g 
       small = omega arith;
     }
 
--- The rule at a place is kept.
-kept-at : (text arities words : List ℕ) (rows : Rows) (i : ℕ) (Rs : List Rule) (u u′ j : ℕ) → RulesKept text arities words rows i Rs u u′ → j < length Rs
-    → (a : ℕ) × (b : ℕ) × Kept text arities words (rowAt rows (i + j)) (getD Rs j noRule) a b
-unfolding RulesKept
-kept-at text arities words rows i [] u u′ j h l = absurd (omega arith)
-kept-at text arities words rows i (R ∷ Rs) u u′ zero h l = let z : i + 0 ≡ i = omega arith in rw z (u, h .0, h .1)
-kept-at text arities words rows i (R ∷ Rs) u u′ (suc j) h l =
-    let z : i + suc j ≡ suc i + j = omega arith in
-    rw z (kept-at text arities words rows (suc i) Rs (h .0) u′ j (h .2) (omega arith))
+-- The clauses of a symbol that is held are in form in their rows.
+clauses-held : (text words : List ℕ) (symbols : List Symbol) (Rs : List Rule) (rules : Rows) (row : List ℕ) (k i : ℕ) → k ≤ length rules → rulesOf text words rules k ≡ Rs
+    → column row 4 + column row 5 ≤ k → ((j : ℕ) → j < symbolOf text row .clauses → ClauseFormed symbols i (getD Rs (symbolOf text row .first + j) noRule))
+    → (j : ℕ) → j < column row 5 → ClauseFormed symbols i (ruleIn text words (rowAt rules (column row 4 + j)))
+unfolding symbolOf
+clauses-held text words symbols Rs rules row k i lent e within h j b =
+    let q : getD Rs (column row 4 + j) noRule ≡ ruleIn text words (rowAt rules (column row 4 + j)) =
+    ap (λ (x : List Rule). getD x (column row 4 + j) noRule) (sym e) ∙ rules-at text words rules k lent (column row 4 + j) (omega arith) in
+    subst (ClauseFormed symbols i) q (h j b)
 
 pub held-listed : {text : List ℕ} {limit : ℕ} {ts : Titles} {s : Signature} {sorts symbols rules : Rows} {words : List ℕ} {st : State}
     → Held text limit ts s sorts symbols rules words st → Listed text sorts symbols rules words (st .sorts) (st .symbols) (st .rules) (st .used)
@@ -117,6 +118,10 @@ held-listed {text} {limit} {ts} {s} {sorts} {symbols} {rules} {words} {st} h =
     let nr : length (s .rules) ≡ st .rules = sym (k .number) in
     let at : (i : ℕ) → i < st .symbols → symbolAt (s .symbols) i ≡ symbolOf text (rowAt symbols i) =
     λ i l. ap (λ (x : List Symbol). symbolAt x i) (sym (a .symbolsAre)) ∙ symbol-at text symbols (st .symbols) (omega arith) i l in
+    let formed : (i : ℕ) → i < st .symbols → SymbolFormed text (st .sorts) (st .rules) (rowAt symbols i) =
+    λ i l. symbol-formed (a .symbolsInside i l) (a .shaped i l) (rw (ns, nr, at i l) at (g .symbols i (omega arith))) in
+    let k₄ = k .rulesLent in
+    let k₅ = k .fewRules in
     record {
       sortsLent = a₁;
       symbolsLent = a₃;
@@ -128,11 +133,13 @@ held-listed {text} {limit} {ts} {s} {sorts} {symbols} {rules} {words} {st} h =
       wordsLent = omega arith;
       sortsNamed = a .sortsInside;
       distinct = rw (a .sortsAre, a .symbolsAre) (g .distinct);
-      symbolsFormed = λ i l. symbol-formed (a .symbolsInside i l) (a .shaped i l) (rw (ns, nr, at i l) at (g .symbols i (omega arith)));
+      symbolsFormed = formed;
       rulesKept = rw (a .symbolsAre, held-rules h) (k .rulesAre);
       rulesFormed = λ i l. let c = kept-at text (aritiesOf (s .symbols)) words rules 0 (s .rules) 0 (st .used) i (k .rulesAre) (omega arith) in
           let z : 0 + i ≡ i = omega arith in
           rule-formed (k .rulesInside i l) (rw ns at (g .rules i (omega arith))) (rw z at (c .2));
+      clausesFormed = λ i l. rw (a .symbolsAre) (clauses-held text words (s .symbols) (s .rules) rules (rowAt symbols i) (st .rules) i (omega arith) (held-rules h) (formed i l .clauses)
+          (rw (at i l) at (g .clauses i (omega arith))));
     }
 
 -- A list whose first n entries stay, and whose others are all the same.

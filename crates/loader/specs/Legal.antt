@@ -1,10 +1,10 @@
--- What holds of every signature that was loaded: names serve once, sorts and rules that are named are there, and each rule's variables are numbered in the
--- order in which they appear. The later layers go by these laws.
+-- What holds of every signature that was loaded: names serve once, sorts and rules that are named are there, a function's clauses conclude in it and call
+-- functions, and each rule's variables are numbered in the order in which they appear. The later layers go by these laws.
 use Prim.Native.Nat.{ℕ, _+_, _≤_, _<_}
 use mathlib.Core.Path.{_≡_}
 use mathlib.Core.List.{List, [], _++_, map}
 use lib.ListN.{length, getD}
-use Rattle.terms.specs.Term.{count, var, nil}
+use Rattle.terms.specs.Term.{Kind, Syn, Terms, count, var, app, nil, cons}
 use Rattle.resolution.specs.Rules.{Rule}
 use Rattle.resolution.specs.Fresh.{met}
 use Rattle.resolution.specs.Search.{words}
@@ -48,6 +48,18 @@ pub record RuleLegal (symbols : List Symbol) (sorts : ℕ) (R : Rule) : Type 0 w
   -- at most 2 words for each of 1,024 nodes.
   pub small : words (R .premises) + words (R .conclusion) ≤ 2048
 
+-- Each of these terms is a call: a node of a function.
+abbrev pub Calls : {k : Kind} → List Symbol → Syn k → Type 0
+Calls symbols (var x) = ⊥
+Calls symbols (app f ts) = symbolAt symbols f .function ≡ 1
+Calls symbols nil = Unit {0}
+Calls symbols (cons t ts) = Calls symbols t × Calls symbols ts
+
+-- A clause of the function with number i: its conclusion is a node of that function, and each premise is a call.
+pub record ClauseFormed (symbols : List Symbol) (i : ℕ) (R : Rule) : Type 0 where
+  pub conclusion : (ts : Terms) × (R .conclusion ≡ app i ts)
+  pub premises : Calls symbols (R .premises)
+
 abbrev pub noRule : Rule
 noRule = record { name = []; sorts = []; premises = nil; conclusion = var 0 }
 
@@ -57,4 +69,6 @@ pub record Legal (s : Signature) : Type 0 where
   pub fewRules : length (s .rules) ≤ 1024
   pub distinct : Distinct (namesOf (s .sorts) (s .symbols))
   pub symbols : (i : ℕ) → i < length (s .symbols) → SymbolLegal (length (s .sorts)) (length (s .rules)) (symbolAt (s .symbols) i)
+  pub clauses : (i : ℕ) → i < length (s .symbols) → (j : ℕ) → j < symbolAt (s .symbols) i .clauses
+      → ClauseFormed (s .symbols) i (getD (s .rules) (symbolAt (s .symbols) i .first + j) noRule)
   pub rules : (i : ℕ) → i < length (s .rules) → RuleLegal (s .symbols) (length (s .sorts)) (getD (s .rules) i noRule)

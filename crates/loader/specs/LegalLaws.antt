@@ -1,5 +1,5 @@
 -- Every loaded signature is legal. One induction over the declarations: each keeps what holds of the signature before it. Inside a function the bound on the
--- numbers of rules counts the clauses still to come.
+-- numbers of rules counts the clauses still to come, and the clauses of every other function are there.
 use Prim.Native.Nat.{ℕ, zero, suc, _+_, _-_, _≤_, _<_, min}
 use native.Mathlib.Omega.{arith}
 use mathlib.Core.Path.{_≡_, refl, sym, _∙_}
@@ -9,22 +9,23 @@ use lib.Dec.{ltb}
 use lib.ListN.{length, getD, length-append, length-map, length-take, List·getD-append, List·getD-map}
 use lib.Seq.{getD-append-seam, getD-append-add, getD-take}
 use borrow.Author.Tests.{ltb-true, ltb-false}
-use Rattle.terms.specs.Numbers.{by-bool, by-less}
+use Rattle.terms.specs.Numbers.{by-bool, by-less, by-same}
 use Rattle.term_parser.specs.Source.{Source, one, many, allOf}
 use Rattle.term_parser.specs.Standing.{Written, applied, spelled, bytesAt, nil as none}
 use Rattle.parser.specs.Source.{Clause, Declaration, sort, ctor, pred, rule, def, theorem, eval, check}
 use Rattle.parser.specs.Declarations.{Declared}
 use Rattle.names.specs.Names.{Name, Distinct, clauseName}
-use Rattle.names.specs.Symbols.{Symbol, sortNumber, noSymbol, symbolAt}
+use Rattle.names.specs.Symbols.{Symbol, sortNumber, symbolNumber, noSymbol, symbolAt}
 use Rattle.flattening.specs.Flattening.{Flat, flat, snoc, flattenOf}
 use Rattle.resolution.specs.Rules.{Rule}
 use Rattle.rules.specs.Rules.{Ruled, barred, ruled, ruleOf, entering}
 use Rattle.rules.specs.PatternLaws.{FewInputs, InputsUpto, Ruling, RuleMade, rule-made}
 use Rattle.clauses.specs.Clauses.{flatRule, clauseOf}
 use Rattle.loader.specs.Signature.{Signature, empty, Step, no, on, andThen, isTaken, enterSort, enterSymbol, Numbers, unknown, numbers, prepend, numbersOf, withSorts, withSome, lastOf, frontOf, roomIn, withRule, lastJudgment, firstOf, Loaded, refused, loaded, goOn, enterRule, enterClause, enterClauses, enterJudgments, declare, loadFrom, loadOf}
-use Rattle.loader.specs.Legal.{namesOf, SymbolLegal, RuleLegal, noRule, Legal}
+use Rattle.loader.specs.Legal.{namesOf, SymbolLegal, RuleLegal, ClauseFormed, noRule, Legal}
 use Rattle.loader.specs.LegalGrowth.{symbol-more, rule-more, rule-symbols}
 use Rattle.loader.specs.DistinctLaws.{distinct-sort, distinct-symbol}
+use Rattle.loader.specs.ClauseLaws.{clause-formed, clause-more, own-number}
 
 -- Outcomes
 
@@ -54,7 +55,20 @@ all-more P l a d h p i m =
     (λ k _. rw (List·getD-append l (a ∷ []) d i k) (h i k))
     (λ k _. let e : i ≡ length l = omega arith in rw (e, getD-append-seam l a [] d) p)
 
+-- What holds of every rule holds of the one that was made, if there is one.
+ruling-all : (P : Rule → Type 0) (r : Ruled) → ((R : Rule) → P R) → Ruling (λ R room. P R) r
+ruling-all P (barred e) f = tt
+ruling-all P (ruled R room) f = f R
+
+ruling-map : (P Q : Rule → Type 0) (r : Ruled) → ((R : Rule) → P R → Q R) → Ruling (λ R room. P R) r → Ruling (λ R room. Q R) r
+ruling-map P Q (barred e) f h = tt
+ruling-map P Q (ruled R room) f h = f R h
+
 -- A signature between entries
+
+-- The clauses of the symbol f with number i that are among these rules are in form.
+abbrev ClausesOf : List Symbol → List Rule → ℕ → Symbol → Type 0
+ClausesOf symbols rules i f = (j : ℕ) → j < f .clauses → f .first + j < length rules → ClauseFormed symbols i (getD rules (f .first + j) noRule)
 
 -- Legal, where the rules that symbols name are among the first n, those still to come counted.
 record Upto (n : ℕ) (s : Signature) : Type 0 where
@@ -63,6 +77,7 @@ record Upto (n : ℕ) (s : Signature) : Type 0 where
   pub fewRules : length (s .rules) ≤ 1024
   pub distinct : Distinct (namesOf (s .sorts) (s .symbols))
   pub symbols : (i : ℕ) → i < length (s .symbols) → SymbolLegal (length (s .sorts)) n (symbolAt (s .symbols) i)
+  pub clauses : (i : ℕ) → i < length (s .symbols) → ClausesOf (s .symbols) (s .rules) i (symbolAt (s .symbols) i)
   pub rules : (i : ℕ) → i < length (s .rules) → RuleLegal (s .symbols) (length (s .sorts)) (getD (s .rules) i noRule)
 
 legal-upto : {n : ℕ} {s : Signature} → length (s .rules) ≤ n → Legal s → Upto n s
@@ -73,6 +88,7 @@ legal-upto l h =
       fewRules = h .fewRules;
       distinct = h .distinct;
       symbols = λ i m. symbol-more (omega arith) l (h .symbols i m);
+      clauses = λ i m j b r. h .clauses i m j b;
       rules = h .rules;
     }
 
@@ -84,6 +100,7 @@ upto-legal l h =
       fewRules = h .fewRules;
       distinct = h .distinct;
       symbols = λ i m. symbol-more (omega arith) l (h .symbols i m);
+      clauses = λ i m j b. let c = h .symbols i m .clauses in h .clauses i m j b (omega arith);
       rules = h .rules;
     }
 
@@ -107,20 +124,40 @@ sort-legal s w h = by-bool (isTaken (s .sorts) (s .symbols) w)
           fewRules = h .fewRules;
           distinct = distinct-sort (s .sorts) (s .symbols) w (h .distinct) e;
           symbols = λ i q. symbol-more m (omega arith) (h .symbols i q);
+          clauses = h .clauses;
           rules = λ i q. rule-more m (h .rules i q);
         }
 
 -- Symbols
 
+-- The clauses of a symbol are still to come.
+abbrev Fresh : Signature → Symbol → Type 0
+Fresh s f = (j : ℕ) → j < f .clauses → length (s .rules) ≤ f .first
+
+-- So with it the clauses that are there are in form.
+clauses-symbol : (s : Signature) (f : Symbol) → Legal s → Fresh s f → (i : ℕ) → i < length (s .symbols ++ (f ∷ []))
+    → ClausesOf (s .symbols ++ (f ∷ [])) (s .rules) i (symbolAt (s .symbols ++ (f ∷ [])) i)
+clauses-symbol s f h fresh i m =
+    let n : length (s .symbols ++ (f ∷ [])) ≡ length (s .symbols) + 1 = length-append (s .symbols) (f ∷ []) in
+    by-less i (length (s .symbols))
+    (λ k _. rw (List·getD-append (s .symbols) (f ∷ []) noSymbol i k)
+    (λ j b r. clause-more (s .symbols) (f ∷ []) (h .rules (symbolAt (s .symbols) i .first + j) r .premises-fit) (h .clauses i k j b)))
+    (λ k _. let e : i ≡ length (s .symbols) = omega arith in
+    rw (e, getD-append-seam (s .symbols) f [] noSymbol) (λ j b r. absurd (let q = fresh j b in omega arith)))
+
+-- What a signature is with one symbol more, where rules are among the first n.
+abbrev SymbolMore : ℕ → Signature → Symbol → Signature → Type 0
+SymbolMore n s f t = Upto n t × (length (t .rules) ≡ length (s .rules)) × (t .symbols ≡ s .symbols ++ (f ∷ []))
+
 -- A symbol that is legal once it has at most 16 inputs, where its rules are among the first n.
-symbol-upto : (n : ℕ) (s : Signature) (f : Symbol) → length (s .rules) ≤ n → (length (f .inputs) ≤ 16 → SymbolLegal (length (s .sorts)) n f) → Legal s
-    → Stepping (λ t. Upto n t × (length (t .rules) ≡ length (s .rules))) (enterSymbol s f)
-symbol-upto n s f l p h = by-bool (isTaken (s .sorts) (s .symbols) (f .name))
+symbol-upto : (n : ℕ) (s : Signature) (f : Symbol) → length (s .rules) ≤ n → (length (f .inputs) ≤ 16 → SymbolLegal (length (s .sorts)) n f) → Fresh s f → Legal s
+    → Stepping (SymbolMore n s f) (enterSymbol s f)
+symbol-upto n s f l p fresh h = by-bool (isTaken (s .sorts) (s .symbols) (f .name))
     (λ e. rw e tt)
     (λ e. rw e (by-bool (ltb 16 (length (f .inputs)))
     (λ g. rw g tt)
     (λ g. rw g (by-bool (ltb (length (s .symbols)) 1024)
-    (λ k. rw k (entered e (p (ltb-false _ _ g)) (ltb-true _ _ k), refl))
+    (λ k. rw k (entered e (p (ltb-false _ _ g)) (ltb-true _ _ k), refl, refl))
     (λ k. rw k tt)))))
   where
     entered : isTaken (s .sorts) (s .symbols) (f .name) ≡ false → SymbolLegal (length (s .sorts)) n f → length (s .symbols) < 1024
@@ -134,13 +171,15 @@ symbol-upto n s f l p h = by-bool (isTaken (s .sorts) (s .symbols) (f .name))
           fewRules = h .fewRules;
           distinct = distinct-symbol (s .sorts) (s .symbols) f (h .distinct) e;
           symbols = all-more (SymbolLegal (length (s .sorts)) n) (s .symbols) f noSymbol (u .symbols) p;
+          clauses = clauses-symbol s f h fresh;
           rules = λ i q. rule-symbols (s .symbols) (f ∷ []) (h .rules i q);
         }
 
-symbol-legal : (s : Signature) (f : Symbol) → (length (f .inputs) ≤ 16 → SymbolLegal (length (s .sorts)) (length (s .rules)) f) → Legal s → Stepping Legal (enterSymbol s f)
-symbol-legal s f p h =
-    stepping-map (λ t. Upto (length (s .rules)) t × (length (t .rules) ≡ length (s .rules))) Legal (enterSymbol s f) (λ t u. let e = u .1 in upto-legal (omega arith) (u .0))
-    (symbol-upto (length (s .rules)) s f (omega arith) p h)
+symbol-legal : (s : Signature) (f : Symbol) → (length (f .inputs) ≤ 16 → SymbolLegal (length (s .sorts)) (length (s .rules)) f) → Fresh s f → Legal s
+    → Stepping Legal (enterSymbol s f)
+symbol-legal s f p fresh h =
+    stepping-map (SymbolMore (length (s .rules)) s f) Legal (enterSymbol s f) (λ t u. let e = u .1 in upto-legal (omega arith) (u .0))
+    (symbol-upto (length (s .rules)) s f (omega arith) p fresh h)
 
 -- Rules
 
@@ -161,12 +200,27 @@ made-legal l h =
 
 -- The signature with one rule more, all else as before.
 abbrev OneMore : ℕ → Signature → Signature → Type 0
-OneMore n s t = Upto n t × (length (t .rules) ≡ suc (length (s .rules)))
+OneMore n s t = Upto n t × (length (t .rules) ≡ suc (length (s .rules))) × (t .symbols ≡ s .symbols)
+
+-- The rule R is a clause in form of each symbol that has a clause of the next number.
+abbrev NextClause : Signature → Rule → Type 0
+NextClause s R = (i : ℕ) → i < length (s .symbols) → (j : ℕ) → j < symbolAt (s .symbols) i .clauses → symbolAt (s .symbols) i .first + j ≡ length (s .rules)
+    → ClauseFormed (s .symbols) i R
+
+-- With such a rule the clauses that are there are in form.
+clauses-rule : (symbols : List Symbol) (rules : List Rule) (R : Rule) (i : ℕ) (f : Symbol) → ClausesOf symbols rules i f
+    → ((j : ℕ) → j < f .clauses → f .first + j ≡ length rules → ClauseFormed symbols i R) → ClausesOf symbols (rules ++ (R ∷ [])) i f
+clauses-rule symbols rules R i f h g j b r =
+    let n : length (rules ++ (R ∷ [])) ≡ length rules + 1 = length-append rules (R ∷ []) in
+    by-less (f .first + j) (length rules)
+    (λ k _. rw (List·getD-append rules (R ∷ []) noRule (f .first + j) k) (h j b k))
+    (λ k _. let e : f .first + j ≡ length rules = omega arith in rw (e, getD-append-seam rules R [] noRule) (g j b e))
 
 with-rule : (n room : ℕ) (s : Signature) (name : Name) (r : Ruled) → room ≤ 1024 → Upto n s
-    → Ruling (λ R room′. RuleMade (s .symbols) (length (s .sorts)) name room R room′) r → Stepping (OneMore n s) (withRule s room (entering (length (s .rules)) r))
-with-rule n room s name (barred e) l u h = tt
-with-rule n room s name (ruled R room′) l u h =
+    → Ruling (λ R room′. RuleMade (s .symbols) (length (s .sorts)) name room R room′) r → Ruling (λ R room′. NextClause s R) r
+    → Stepping (OneMore n s) (withRule s room (entering (length (s .rules)) r))
+with-rule n room s name (barred e) l u h new = tt
+with-rule n room s name (ruled R room′) l u h new =
     let k : length (s .rules ++ (R ∷ [])) ≡ length (s .rules) + 1 = length-append (s .rules) (R ∷ []) in
     by-bool (ltb (length (s .rules)) 1024)
     (λ e. let m : length (s .rules) < 1024 = ltb-true _ _ e in
@@ -177,9 +231,11 @@ with-rule n room s name (ruled R room′) l u h =
         fewRules = omega arith;
         distinct = u .distinct;
         symbols = u .symbols;
+        clauses = λ i q. clauses-rule (s .symbols) (s .rules) R i (symbolAt (s .symbols) i) (u .clauses i q) (new i q);
         rules = all-more (RuleLegal (s .symbols) (length (s .sorts))) (s .rules) R noRule (u .rules) (made-legal l h);
       },
       omega arith,
+      refl,
     ))
     (λ e. rw e tt)
 
@@ -189,38 +245,69 @@ few-inputs n s u i m = u .symbols i m .few
 inputs-upto : (n : ℕ) (s : Signature) → Upto n s → InputsUpto (length (s .sorts)) (s .symbols)
 inputs-upto n s u i m j l = u .symbols i m .inputs j l .1
 
+-- The clauses of the symbol with number `own`, which is named f, are entered; those of every other symbol are there.
+record Clausing (s : Signature) (f : Name) (own : ℕ) : Type 0 where
+  pub there : own < length (s .symbols)
+  pub named : symbolAt (s .symbols) own .name ≡ f
+  pub others : (i : ℕ) → i < length (s .symbols) → (i ≡ own → ⊥) → symbolAt (s .symbols) i .first + symbolAt (s .symbols) i .clauses ≤ length (s .rules)
+
+-- One rule more leaves it so.
+clausing-more : (s t : Signature) (f : Name) (own : ℕ) → Clausing s f own → length (t .rules) ≡ suc (length (s .rules)) → t .symbols ≡ s .symbols → Clausing t f own
+clausing-more s t f own q l e =
+    record {
+      there = rw e (q .there);
+      named = rw e (q .named);
+      others = rw e (λ i m d. let o = q .others i m d in omega arith);
+    }
+
+-- A clause of f that was made is a clause in form of every symbol that has a clause of the next number: only f has.
+next-clause : (n : ℕ) (s : Signature) (f : Name) (own : ℕ) (R : Rule) → Upto n s → Clausing s f own → ClauseFormed (s .symbols) (symbolNumber (s .symbols) f) R → NextClause s R
+next-clause n s f own R u q h i m j b e =
+    let o : symbolNumber (s .symbols) f ≡ own = rw (q .named) at (own-number (s .sorts) (s .symbols) (u .distinct) own (q .there)) in
+    by-same i own
+    (λ p _. rw (p, ← o) h)
+    (λ p _. absurd (let l = q .others i m p in omega arith))
+
 module _ (limit : ℕ) (text : List ℕ) where
-  rule-upto : (n : ℕ) (s : Signature) (name : Name) (ps : Written many) (c : Written one) → Upto n s → Stepping (OneMore n s) (enterRule limit text s name ps c)
-  rule-upto n s name ps c u =
+  rule-upto : (n : ℕ) (s : Signature) (name : Name) (ps : Written many) (c : Written one) → Upto n s
+      → Ruling (λ R room. NextClause s R) (ruleOf (s .symbols) name ps c (roomIn limit s)) → Stepping (OneMore n s) (enterRule limit text s name ps c)
+  rule-upto n s name ps c u new =
       with-rule n (roomIn limit s) s name (ruleOf (s .symbols) name ps c (roomIn limit s)) (omega arith) u
-      (rule-made (s .symbols) (length (s .sorts)) (few-inputs n s u) (inputs-upto n s u) name ps c (roomIn limit s))
+      (rule-made (s .symbols) (length (s .sorts)) (few-inputs n s u) (inputs-upto n s u) name ps c (roomIn limit s)) new
 
   rule-legal : (s : Signature) (name : Name) (ps : Written many) (c : Written one) → Legal s → Stepping Legal (enterRule limit text s name ps c)
   rule-legal s name ps c h =
       let n : ℕ = suc (length (s .rules)) in
-      stepping-map (OneMore n s) Legal (enterRule limit text s name ps c) (λ t u. let e = u .1 in upto-legal (omega arith) (u .0)) (rule-upto n s name ps c (legal-upto (omega arith) h))
+      stepping-map (OneMore n s) Legal (enterRule limit text s name ps c) (λ t u. let e = u .1 in upto-legal (omega arith) (u .0)) (rule-upto n s name ps c (legal-upto (omega arith) h)
+      (ruling-all (NextClause s) (ruleOf (s .symbols) name ps c (roomIn limit s)) (λ R i m j b e. absurd (let q = h .symbols i m .clauses in omega arith))))
 
   judgments-legal : (s : Signature) (name : Name) (js : List (Source one)) → Legal s → Stepping Legal (enterJudgments limit text s name js)
   judgments-legal s name [] h = tt
   judgments-legal s name (j ∷ js) h = rule-legal s name (spelled text (allOf (frontOf (j ∷ js)))) (spelled text (lastJudgment j js)) h
 
   -- A clause is a rule of its flattened parts.
-  clause-upto : (n : ℕ) (s : Signature) (f : Name) (k : ℕ) (c : Clause) → Upto n s → Stepping (OneMore n s) (enterClause limit text s f k c)
+  clause-upto : (n : ℕ) (s : Signature) (f : Name) (k : ℕ) (c : Clause) (own : ℕ) → Upto n s → Clausing s f own → Stepping (OneMore n s) (enterClause limit text s f k c)
   unfolding clauseOf
-  clause-upto n s f k c u = go (flattenOf (s .symbols) (spelled text (c .body)) none)
+  clause-upto n s f k c own u q =
+      go (flattenOf (s .symbols) (spelled text (c .body)) none)
+      (ruling-map (ClauseFormed (s .symbols) (symbolNumber (s .symbols) f)) (NextClause s)
+      (clauseOf (s .symbols) f k (spelled text (allOf (c .patterns))) (spelled text (c .body)) (roomIn limit s))
+      (λ R h. next-clause n s f own R u q h)
+      (clause-formed (s .symbols) f k (spelled text (allOf (c .patterns))) (spelled text (c .body)) (roomIn limit s)))
     where
-      go : (o : Flat one)
+      go : (o : Flat one) → Ruling (λ R room. NextClause s R) (flatRule (s .symbols) f k (spelled text (allOf (c .patterns))) o (roomIn limit s))
           → Stepping (OneMore n s) (withRule s (roomIn limit s) (entering (length (s .rules)) (flatRule (s .symbols) f k (spelled text (allOf (c .patterns))) o (roomIn limit s))))
-      go (flat r ps) = rule-upto n s (clauseName f k) ps (applied f (snoc (spelled text (allOf (c .patterns))) r)) u
+      go (flat r ps) new = rule-upto n s (clauseName f k) ps (applied f (snoc (spelled text (allOf (c .patterns))) r)) u new
 
   -- The clauses still to come make up the bound.
-  clauses-legal : (n : ℕ) (cs : List Clause) (s : Signature) (f : Name) (k : ℕ) → length (s .rules) + length cs ≡ n → Upto n s → Stepping Legal (enterClauses limit text s f k cs)
+  clauses-legal : (n : ℕ) (cs : List Clause) (s : Signature) (f : Name) (k own : ℕ) → length (s .rules) + length cs ≡ n → Upto n s → Clausing s f own
+      → Stepping Legal (enterClauses limit text s f k cs)
   unfolding enterClauses
-  clauses-legal n [] s f k e u = upto-legal (omega arith) u
-  clauses-legal n (c ∷ cs) s f k e u =
+  clauses-legal n [] s f k own e u q = upto-legal (omega arith) u
+  clauses-legal n (c ∷ cs) s f k own e u q =
       stepping-then (OneMore n s) Legal (enterClause limit text s f k c) (λ t. enterClauses limit text t f (suc k) cs)
-      (λ t w. let l = w .1 in clauses-legal n cs t f (suc k) (omega arith) (w .0))
-      (clause-upto n s f k c u)
+      (λ t v. let d = v .1 in clauses-legal n cs t f (suc k) own (omega arith) (v .0) (clausing-more s t f own q (v .1) (v .2)))
+      (clause-upto n s f k c own u q)
 
 -- The numbers of an arrow's sorts
 
@@ -282,7 +369,7 @@ ctor-legal s w ns h p =
       clauses = omega arith;
       none = λ e. refl;
       others = λ e. refl;
-    }) h
+    }) (λ j l. absurd (omega arith)) h
 
 pred-legal : (s : Signature) (w : Name) (ns : List ℕ) → Legal s → Sorted (length (s .sorts)) ns
     → Stepping Legal (enterSymbol s (record { name = w; inputs = ns; output = 0; function = 0; first = 0; clauses = 0 }))
@@ -297,7 +384,7 @@ pred-legal s w ns h p =
       clauses = omega arith;
       none = λ e. refl;
       others = λ e. refl;
-    }) h
+    }) (λ j l. absurd (omega arith)) h
 
 -- The clauses of a function are the next rules.
 first-upto : (s : Signature) (cs : List Clause) → firstOf s cs + length cs ≤ length (s .rules) + length cs
@@ -307,6 +394,21 @@ first-upto s (c ∷ cs) = omega arith
 first-none : (s : Signature) (cs : List Clause) → length cs ≡ 0 → firstOf s cs ≡ 0
 first-none s [] e = refl
 first-none s (c ∷ cs) e = absurd (omega arith)
+
+first-fresh : (s : Signature) (cs : List Clause) (j : ℕ) → j < length cs → length (s .rules) ≤ firstOf s cs
+first-fresh s [] j l = absurd (omega arith)
+first-fresh s (c ∷ cs) j l = omega arith
+
+-- The clauses of the symbol that was entered last are to be entered.
+clausing-new : (s t : Signature) (f : Symbol) → Legal s → length (t .rules) ≡ length (s .rules) → t .symbols ≡ s .symbols ++ (f ∷ []) → Clausing t (f .name) (length (s .symbols))
+clausing-new s t f h l e =
+    let n : length (s .symbols ++ (f ∷ [])) ≡ length (s .symbols) + 1 = length-append (s .symbols) (f ∷ []) in
+    record {
+      there = rw e (omega arith);
+      named = rw (e, getD-append-seam (s .symbols) f [] noSymbol) refl;
+      others = rw e (λ i m d. let k : i < length (s .symbols) = by-less i (length (s .symbols)) (λ y _. y) (λ y _. absurd (d (omega arith))) in
+          let o = h .symbols i k .clauses in rw (List·getD-append (s .symbols) (f ∷ []) noSymbol i k, l) o);
+    }
 
 go-on : (o : Step) (line : ℕ) (next : Signature → Loaded) → Stepping Legal o → ((t : Signature) → Legal t → Loading Legal (next t)) → Loading Legal (goOn o line next)
 go-on (no e) line next h f = tt
@@ -320,8 +422,8 @@ module _ (limit : ℕ) (text : List ℕ) where
   def-legal s w ns cs h p some =
       let n : ℕ = length (s .rules) + length cs in
       let f : Symbol = record { name = w; inputs = ns; output = 0; function = 1; first = firstOf s cs; clauses = length cs } in
-      stepping-then (λ t. Upto n t × (length (t .rules) ≡ length (s .rules))) Legal (enterSymbol s f) (λ t. enterClauses limit text t w 0 cs)
-      (λ t u. let e = u .1 in clauses-legal limit text n cs t w 0 (omega arith) (u .0))
+      stepping-then (SymbolMore n s f) Legal (enterSymbol s f) (λ t. enterClauses limit text t w 0 cs)
+      (λ t u. let e = u .1 in clauses-legal limit text n cs t w 0 (length (s .symbols)) (omega arith) (u .0) (clausing-new s t f h (u .1) (u .2)))
       (symbol-upto n s f (omega arith) (λ l. record {
         output = omega arith;
         few = l;
@@ -332,7 +434,7 @@ module _ (limit : ℕ) (text : List ℕ) where
         clauses = first-upto s cs;
         none = first-none s cs;
         others = λ e. absurd (omega arith);
-      }) h)
+      }) (first-fresh s cs) h)
 
   -- Each declaration keeps a signature legal.
   pub declare-legal : (s : Signature) (d : Declaration) → Legal s → Stepping Legal (declare limit text s d)
@@ -366,6 +468,7 @@ empty-legal =
       fewRules = omega arith;
       distinct = λ i j l m e. omega arith;
       symbols = λ i l. absurd (omega arith);
+      clauses = λ i l. absurd (omega arith);
       rules = λ i l. absurd (omega arith);
     }
 

@@ -13,6 +13,7 @@ pub mod NameRows
 pub mod SymbolRows
 pub mod SymbolEntry
 pub mod DistinctLaws
+pub mod ClauseLaws
 pub mod LegalGrowth
 pub mod LegalLaws
 pub mod TokenPlaceLaws

@@ -1,5 +1,5 @@
 -- The name of every declaration that is parsed is one of the tokens; so it lies inside the text and has 1 to 64 bytes.
-use Prim.Native.Nat.{ℕ, zero, suc, _-_, _<_}
+use Prim.Native.Nat.{ℕ, zero, suc, _<_}
 use native.Mathlib.Omega.{arith}
 use mathlib.Core.Path.{_≡_}
 use mathlib.Core.List.{List, [], _∷_}

@@ -11,7 +11,8 @@ use Rattle.unifier.specs.Contracts.{Tells}
 use Rattle.rules.specs.PatternLaws.{aritiesOf}
 use Rattle.loader.specs.Legal.{namesOf}
 use Rattle.signature.specs.Form.{SymbolFormed, Listed, Checked}
-use Rattle.signature.specs.Parts.{Lent, Counted, SortsNamed, NumbersFormed, MarkFormed, ClausesFormed, InputsFormed, SymbolsFormed, RulesListed}
+use Rattle.signature.specs.Parts.{Lent, Counted, SortsNamed, NumbersFormed, MarkFormed, ClausesFormed, InputsFormed, SymbolsFormed, RulesListed, ClausesAsked, ClausesListed}
+use Rattle.signature.specs.StoreLaws.{row-kept}
 
 -- A symbol's row.
 module _ (text : List ℕ) (sorts rules : ℕ) (row : List ℕ) where
@@ -60,8 +61,9 @@ module _ {sorts symbols rules : Rows} {words : List ℕ} {n m k u : ℕ} (lent :
   rules-there = let a = lent .rulesLent in let b = counted .fewRules in omega arith
 
   pub listed : {text : List ℕ} → SortsNamed text sorts n → Distinct (namesOf (sortsOf text sorts n) (symbolsOf text symbols m)) → SymbolsFormed text n k symbols m
-      → RulesListed text (aritiesOf (symbolsOf text symbols m)) words n rules k u → Listed text sorts symbols rules words n m k u
-  listed named distinct formed kept =
+      → RulesListed text (aritiesOf (symbolsOf text symbols m)) words n rules k u → ClausesListed text symbols m rules words
+      → Listed text sorts symbols rules words n m k u
+  listed named distinct formed kept clauses =
       record {
         sortsLent = lent .sortsLent;
         symbolsLent = lent .symbolsLent;
@@ -76,6 +78,17 @@ module _ {sorts symbols rules : Rows} {words : List ℕ} {n m k u : ℕ} (lent :
         symbolsFormed = formed;
         rulesKept = kept .kept;
         rulesFormed = kept .formed;
+        clausesFormed = clauses;
+      }
+
+  -- What the test of the clauses asks.
+  pub clauses-asked : {text arities : List ℕ} → SymbolsFormed text n k symbols m → RulesListed text arities words n rules k u → ClausesAsked symbols rules m k
+  clauses-asked {text} {arities} formed kept =
+      record {
+        symbolsLent = symbols-there;
+        rulesLent = rules-there;
+        within = λ i l. formed i l .clauses;
+        premises = λ r l. row-kept text arities words rules k u r rules-there (kept .kept) l .2 .premises;
       }
 
 module _ {text : List ℕ} {sorts symbols rules : Rows} {words : List ℕ} {n m k u : ℕ} where

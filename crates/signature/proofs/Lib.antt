@@ -3,3 +3,4 @@ pub mod Laws
 pub mod NameLaws
 pub mod FormLaws
 pub mod RuleLaws
+pub mod ClauseLaws

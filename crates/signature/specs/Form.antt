@@ -12,7 +12,7 @@ use Rattle.names.specs.NamePlaces.{NamePlace}
 use Rattle.names.specs.Symbols.{Rows, column, rowAt, sortsOf, symbolsOf}
 use Rattle.rules.specs.PatternLaws.{aritiesOf}
 use Rattle.rule_checks.specs.RuleForm.{ruleIn, RuleFormed}
-use Rattle.loader.specs.Legal.{namesOf}
+use Rattle.loader.specs.Legal.{namesOf, ClauseFormed}
 use Rattle.loader.specs.Holding.{RulesKept}
 
 -- The rules of the first n rows.
@@ -54,9 +54,12 @@ pub record Listed (text : List ℕ) (sorts symbols rules : Rows) (words : List �
   pub distinct : Distinct (namesOf (sortsOf text sorts n) (symbolsOf text symbols m))
   -- the symbols' rows are in form;
   pub symbolsFormed : (i : ℕ) → i < m → SymbolFormed text n k (rowAt symbols i)
-  -- and so are the rules', which keep rules over these symbols, one behind the other in the words.
+  -- so are the rules', which keep rules over these symbols, one behind the other in the words;
   pub rulesKept : RulesKept text (aritiesOf (symbolsOf text symbols m)) words rules 0 (rulesOf text words rules k) 0 u
   pub rulesFormed : (i : ℕ) → i < k → RuleFormed text words n (rowAt rules i)
+  -- and each clause of a function concludes in it and calls only functions.
+  pub clausesFormed : (i : ℕ) → i < m → (j : ℕ) → j < column (rowAt symbols i) 5
+      → ClauseFormed (symbolsOf text symbols m) i (ruleIn text words (rowAt rules (column (rowAt symbols i) 4 + j)))
 
 -- What `check_signature` answers: whether the storage is in the listed form.
 pub record Checked (text : List ℕ) (sorts symbols rules : Rows) (words : List ℕ) (n m k u : ℕ) (r : Bool) : Type 0 where

@@ -4,9 +4,10 @@ use mathlib.Core.Path.{_≡_}
 use mathlib.Core.List.{List, [], _∷_}
 use lib.ListN.{length}
 use Rattle.names.specs.NamePlaces.{NamePlace}
-use Rattle.names.specs.Symbols.{Rows, column, rowAt}
-use Rattle.rule_checks.specs.RuleForm.{RuleFormed}
+use Rattle.names.specs.Symbols.{Rows, column, rowAt, symbolsOf}
+use Rattle.rule_checks.specs.RuleForm.{ruleIn, RuleFormed}
 use Rattle.loader.specs.Holding.{RulesKept}
+use Rattle.loader.specs.Legal.{ClauseFormed}
 use Rattle.signature.specs.Form.{rulesOf, SymbolFormed}
 
 -- As many rows are lent as there may be,
@@ -66,3 +67,19 @@ SymbolsFormed text sorts rules symbols m = (i : ℕ) → i < m → SymbolFormed 
 pub record RulesListed (text arities words : List ℕ) (sorts : ℕ) (rules : Rows) (k u : ℕ) : Type 0 where
   pub kept : RulesKept text arities words rules 0 (rulesOf text words rules k) 0 u
   pub formed : (i : ℕ) → i < k → RuleFormed text words sorts (rowAt rules i)
+
+-- What the test of the clauses asks: rows of m symbols and k rules, clauses that are among the rules, and at most 16 premises in each rule.
+pub record ClausesAsked (symbols rules : Rows) (m k : ℕ) : Type 0 where
+  pub symbolsLent : m ≤ length symbols
+  pub rulesLent : k ≤ length rules
+  pub within : (i : ℕ) → i < m → column (rowAt symbols i) 4 + column (rowAt symbols i) 5 ≤ k
+  pub premises : (r : ℕ) → r < k → column (rowAt rules r) 4 ≤ 16
+
+-- The clauses of the symbol i are in form,
+abbrev pub ClausesOf : List ℕ → Rows → ℕ → Rows → List ℕ → ℕ → Type 0
+ClausesOf text symbols m rules words i =
+    (j : ℕ) → j < column (rowAt symbols i) 5 → ClauseFormed (symbolsOf text symbols m) i (ruleIn text words (rowAt rules (column (rowAt symbols i) 4 + j)))
+
+-- and those of all m symbols.
+abbrev pub ClausesListed : List ℕ → Rows → ℕ → Rows → List ℕ → Type 0
+ClausesListed text symbols m rules words = (i : ℕ) → i < m → ClausesOf text symbols m rules words i

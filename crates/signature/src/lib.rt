@@ -11,6 +11,9 @@ ghost use Rattle.rules.specs.PatternLaws.{aritiesOf};
 ghost use Rattle.loader.specs.Legal.{namesOf};
 ghost use Rattle.signature.specs.Form.{SymbolFormed, Checked};
 ghost use Rattle.signature.specs.Parts.{Lent, Counted, SortsNamed, SymbolsPut, NumbersFormed, MarkFormed, ClausesFormed, InputFormed, InputsFormed, SymbolsFormed, RulesListed};
+
+mod functions;
+
 use names::SortRow;
 use names::SymbolRow;
 use rule_checks::Verdict;
@@ -341,5 +344,8 @@ pub fn check_signature(
     if !are_symbols_formed(text, counts.sorts, counts.rules, symbols, m) {
         return false;
     }
-    are_rules_of(text, symbols, rules, words, counts)
+    if !are_rules_of(text, symbols, rules, words, counts) {
+        return false;
+    }
+    functions::are_listed(words, rules, counts.rules as usize, symbols, counts.symbols)
 }

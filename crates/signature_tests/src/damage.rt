@@ -21,7 +21,7 @@ const NO_WORD: u32 = 0xFFFF_FFFF;
 // Where references to nodes start.
 const FIRST_NODE: u32 = 64;
 
-// The columns that are changed: of a name its place and its length, of a symbol its output, of a rule its clause number, its number of variables and its
+// The columns that are changed: of a name its place and its length, of a symbol its output and its first clause, of a rule its clause number, its number of variables and its
 // first premise.
 const PLACE: usize = 0;
 
@@ -30,6 +30,8 @@ const SIZE: usize = 1;
 const CLAUSE: usize = 2;
 
 const OUTPUT: usize = 2;
+
+const FIRST: usize = 4;
 
 const VARIABLES: usize = 3;
 
@@ -234,6 +236,27 @@ fn test_symbol_name(
         BYTES + 1,
     );
     buffers::expect(!long, b"refused with a symbol's name of 65 bytes");
+}
+
+// Tests the clauses of one symbol: the rule before the first of them was loaded before the function, and so concludes in no node of it.
+fn test_first_clause(
+    text: &[u8],
+    sorts: &[SortRow],
+    symbols: &mut [SymbolRow],
+    rules: &[RuleRow],
+    words: &[u32],
+    counts: Counts,
+    i: usize,
+)
+    requires { ⌜ i < length (now symbols) ⌝ }
+{
+    let first = symbols[i][FIRST];
+    if first == 0 {
+        return;
+    }
+    let before = first - 1;
+    let taken = is_taken_with_symbol(text, sorts, symbols, rules, words, counts, i, FIRST, before);
+    buffers::expect(!taken, b"refused with a clause of another function");
 }
 
 // Is the signature accepted with a name of one rule that has so many bytes?
@@ -452,6 +475,7 @@ fn test_symbols(
         }
         test_symbol(text, sorts, symbols, rules, words, counts, i);
         test_symbol_name(text, sorts, symbols, rules, words, counts, i);
+        test_first_clause(text, sorts, symbols, rules, words, counts, i);
         i += 1;
     }
 }

@@ -31,6 +31,9 @@ test-symbol-requires c κs = search needs
 test-symbol-name-requires : tie.Need-test-symbol-name-requires Inv-loop μ-loop
 test-symbol-name-requires c κs = search needs
 
+test-first-clause-requires : tie.Need-test-first-clause-requires Inv-loop μ-loop
+test-first-clause-requires c κs = search needs
+
 add-i : tie.Need-add-i Inv-loop μ-loop
 add-i c = search needs
 
@@ -58,6 +61,7 @@ test-symbols-spec =
     returns
     test-symbol-requires
     test-symbol-name-requires
+    test-first-clause-requires
     add-i
     loop-less
     loop-again
