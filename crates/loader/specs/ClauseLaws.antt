@@ -11,8 +11,8 @@ use lib.Seq.{getD-append-add}
 use borrow.Author.Tests.{eqb-true}
 use Rattle.terms.specs.Numbers.{by-bool, by-less}
 use Rattle.terms.specs.Term.{Kind, Syn, Term, Terms, var, app, nil, cons}
-use Rattle.words.specs.Bytes.{sameBytes}
-use Rattle.words.specs.ByteLaws.{and-right, same-is, same-itself}
+use Rattle.source_text.specs.Bytes.{sameBytes}
+use Rattle.source_text.specs.ByteLaws.{and-right, same-is, same-itself}
 use Rattle.term_parser.specs.Source.{Arity, one, many}
 use Rattle.term_parser.specs.Standing.{Written, number, meta, called, applied, nil as none, cons as more, size}
 use Rattle.names.specs.Names.{Name, Distinct, resultName, clauseName, find}

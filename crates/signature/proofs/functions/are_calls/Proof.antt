@@ -1,7 +1,6 @@
 -- `are_calls` meets its contract.
 -- The loop's invariant: the first k premises are calls.
 use Prim.Native.Nat.{ℕ, _+_, _-_, _≤_, _<_}
-use mathlib.Core.Path.{_≡_}
 use mathlib.Core.List.{List}
 use borrow.Author.Count.{below-more}
 use borrow.Author.Tests.{not-true}

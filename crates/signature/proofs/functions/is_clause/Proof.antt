@@ -1,6 +1,5 @@
 -- `is_clause` meets its contract: the conclusion and the premises are the two parts of the form.
 -- Each way out is one part.
-use mathlib.Core.Path.{_≡_}
 use borrow.Author.Tests.{not-true}
 use Rattle.unifier.specs.Checking.{tells-no, tells-false}
 use Rattle.signature.proofs.Laws.{holds, same}

@@ -1,9 +1,7 @@
 -- `symbol_at` meets its contract: past the end and below the headers the difference is zero.
 -- Each way out is one of these cases, and the last divides.
-use Prim.Native.Nat.{ℕ, _-_, _/_}
-use mathlib.Core.Path.{_≡_, refl, sym, ap, _∙_}
-use lib.ListN.{length, getD}
-use Rattle.arena.specs.Cells.{headers}
+use Prim.Native.Nat.{_-_}
+use lib.ListN.{getD}
 use Rattle.signature.proofs.ClauseLaws.{past-zero, low-zero}
 use borrow.Author.Needs.{needs}
 use native.Mathlib.Omega.{arith}
