@@ -76,8 +76,9 @@ module _ (t : Title) (u : ℕ) (R : Rule) where
   number-at k h =
       let n = length-replicate {A = ℕ} 154 0 in
       let w : getD first (0 + k) 0 ≡ getD (ruleNumbers t u R) k 0 = sets-within (ruleNumbers t u R) (replicate 154 0) 0 k (omega arith) (omega arith) in
+      let z : 0 + k ≡ k = omega arith in
       sets-below places (sets second 26 (R .sorts)) 90 k (omega arith) ∙ sets-below (R .sorts) second 26 k (omega arith)
-      ∙ sets-below (references (R .premises) u) first 10 k h ∙ w
+      ∙ sets-below (references (R .premises) u) first 10 k h ∙ rw z at w
 
   rule-row-title : rowTitle (rowOf t u R) ≡ t
   rule-row-title = rw (number-at 0 (omega arith), number-at 1 (omega arith), number-at 2 (omega arith)) refl

@@ -1,7 +1,7 @@
 -- `clear_counts` meets its contract: 1 writes nothing.
 use mathlib.Core.Path.{refl, _∙_}
 use borrow.Author.Tests.{eq-eqb, ne-eqb}
-use Rattle.load.proofs.RowsLaws.{wipe}
+use Rattle.load_storage.proofs.WipeLaws.{wipe}
 use borrow.Author.Needs.{needs}
 use Rattle.capi.proofs.clear_counts.Statement.{statement}
 use Rattle.capi.proofs.clear_counts.Tie as tie

@@ -4,7 +4,7 @@ use mathlib.Core.List.{List, [], _∷_}
 use Prim.Native.Nat.{ℕ}
 use lib.ListN.{length-set}
 use lib.Seq.{sets}
-use Rattle.load.proofs.RowsLaws.{wipe}
+use Rattle.load_storage.proofs.WipeLaws.{wipe}
 use borrow.Author.Needs.{needs}
 use native.Mathlib.Omega.{arith}
 use Rattle.capi.proofs.put_counts.Statement.{statement}
