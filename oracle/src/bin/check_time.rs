@@ -20,7 +20,9 @@ fn main() {
     for (name, text) in texts() {
         println!("{}", measured(name, &text));
     }
-    println!("Medians of {RUNS} runs of each, in turn: horn_load, and horn_check_signature on what it left. All storage");
+    println!(
+        "Medians of {RUNS} runs of each, in turn: horn_load, and horn_check_signature on what it left. All storage"
+    );
     println!("is lent for the largest limits.");
 }
 
@@ -33,7 +35,9 @@ fn measured(name: &str, text: &str) -> String {
     let (mut loads, mut checks) = (Vec::new(), Vec::new());
     for _ in 0..RUNS {
         loads.push(timed(|| ours::load(black_box(text.as_bytes()), limits, &lent, &mut buffers)));
-        checks.push(timed(|| assert_eq!(ours::check(black_box(text.as_bytes()), &lent, &buffers), 0, "{name} is refused")));
+        checks.push(timed(|| {
+            assert_eq!(ours::check(black_box(text.as_bytes()), &lent, &buffers), 0, "{name} is refused")
+        }));
     }
     let (symbols, rules) = (buffers.counts[1], buffers.counts[2]);
     let (check, load) = (median(checks), median(loads));
