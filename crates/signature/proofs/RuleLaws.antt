@@ -11,7 +11,7 @@ use Rattle.arena.specs.Cells.{WellFormed, cells}
 use Rattle.arena.specs.Copies.{patternRoom}
 use Rattle.resolution.specs.Rules.{Rule}
 use Rattle.names.specs.Symbols.{Rows, Symbol, column, rowAt, symbolOf, symbolsOf, noSymbol}
-use Rattle.names.specs.SearchLaws.{columns-length, map-length, table-length}
+use Rattle.names.specs.SearchLaws.{columns-length, map-length}
 use Rattle.patterns.proofs.Terms.{symbols-length, symbol-at}
 use Rattle.rules.specs.StoredRows.{Kept}
 use Rattle.rules.specs.PatternLaws.{aritiesOf}
@@ -21,13 +21,10 @@ use Rattle.rule_checks.specs.declared.Verdict.the-variants.{Bad, Good}
 use Rattle.loader.specs.Holding.{RulesKept, rules-up, rules-more}
 use Rattle.signature.specs.Form.{rulesOf}
 use Rattle.signature.specs.Parts.{RulesListed}
+use Rattle.signature.specs.StoreLaws.{rules-length}
 
 -- The rules of the rows.
 module _ (text words : List ℕ) (rows : Rows) where
-  rules-length : (i : ℕ) → i ≤ length rows → length (rulesOf text words rows i) ≡ i
-  unfolding rulesOf
-  rules-length i l = table-length (ruleIn text words) rows i l
-
   rules-next : (i : ℕ) → i < length rows → rulesOf text words rows (i + 1) ≡ rulesOf text words rows i ++ (ruleIn text words (rowAt rows i) ∷ [])
   unfolding rulesOf
   rules-next i l = rw (add-one, take-suc rows i [] l) (map-append (ruleIn text words) (take i rows) (rowAt rows i ∷ []))

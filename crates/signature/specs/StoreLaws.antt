@@ -14,8 +14,9 @@ use Rattle.resolution.specs.Fresh.{elem, met}
 use Rattle.resolution.specs.FreshLaws.{Covers, covers-grows, met-covers, met-grows}
 use Rattle.meeting.specs.Places.{numbersBelow}
 use Rattle.attempts.specs.StoredRules.{StoredRule}
-use Rattle.names.specs.Symbols.{Rows, Symbol, column, rowAt, symbolOf, symbolsOf, symbolAt, noSymbol}
+use Rattle.names.specs.Symbols.{Rows, Symbol, column, rowAt, symbolOf, symbolAt, noSymbol}
 use Rattle.names.specs.SearchLaws.{table-length, table-at, getD-any, columns-length}
+use Rattle.patterns.proofs.Terms.{symbol-at, symbols-length}
 use Rattle.rules.specs.StoredRows.{headsIn, placesIn, storedIn, Kept}
 use Rattle.rules.specs.StoredLaws.{kept-stored}
 use Rattle.rules.specs.PatternLaws.{aritiesOf}
@@ -122,14 +123,10 @@ module _ (text : List ℕ) (sg : SignatureStore) (h : SignatureListed text sg) w
 
   -- It has so many symbols, and the one with number i is that of row i,
   pub symbol-count : length (symbolsIn text sg) ≡ sg .counts .symbols
-  unfolding symbolsOf
-  symbol-count = table-length (symbolOf text) (sg .symbols) (sg .counts .symbols) symbols-lent
+  symbol-count = symbols-length text (sg .symbols) (sg .counts .symbols) symbols-lent
 
   pub symbol-of-row : (i : ℕ) → i < sg .counts .symbols → symbolAt (symbolsIn text sg) i ≡ symbolOf text (rowAt (sg .symbols) i)
-  unfolding symbolsOf
-  symbol-of-row i l =
-      getD-any (map (symbolOf text) (take (sg .counts .symbols) (sg .symbols))) i noSymbol (symbolOf text []) (rw (table-length (symbolOf text) (sg .symbols) (sg .counts .symbols) symbols-lent) l)
-      ∙ table-at (symbolOf text) (sg .symbols) (sg .counts .symbols) symbols-lent i l
+  symbol-of-row i l = symbol-at text (sg .symbols) (sg .counts .symbols) symbols-lent i l
 
   -- with as many inputs as the row says.
   pub arity-of-row : (i : ℕ) → i < sg .counts .symbols → getD (aritiesOf (symbolsIn text sg)) i 0 ≡ column (rowAt (sg .symbols) i) 6
