@@ -1,0 +1,3 @@
+-- Trees in storage, and their laws.
+pub mod Trees
+pub mod TreeLaws
