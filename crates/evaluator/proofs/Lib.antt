@@ -1,0 +1,4 @@
+-- Laws that the proofs cite, in reading order.
+pub mod ProgramLaws
+pub mod TestingLaws
+pub mod LeavingLaws

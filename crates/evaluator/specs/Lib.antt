@@ -1,0 +1,3 @@
+-- What the contracts cite, in reading order.
+pub mod Storage
+pub mod Evaluating
