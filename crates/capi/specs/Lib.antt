@@ -4,3 +4,4 @@ pub mod Unification
 pub mod Declarations
 pub mod Signatures
 pub mod Checks
+pub mod Evaluation

@@ -9,6 +9,7 @@ ghost use lib.ListN.{length, replicate};
 ghost use lib.Seq.{sets};
 ghost use Rattle.capi.specs.Declarations.{ParsedAs};
 ghost use Rattle.capi.specs.Checks.{CheckedAs};
+ghost use Rattle.capi.specs.Evaluation.{EvaluatedAs, ForwardAs};
 ghost use Rattle.capi.specs.Signatures.{LoadedAs};
 ghost use Rattle.capi.specs.Unification.{Answered};
 ghost use Rattle.capi.specs.Words.{packed, textLimit};
@@ -72,7 +73,7 @@ fn put_counts(counts: &mut [u32], stored: signature::Counts, evals: u32)
     counts[4] = evals;
 }
 
-// Zeroes the counts of a text that is refused; 1 writes nothing.
+// Zeroes the numbers of what is refused; 1 writes nothing.
 fn clear_counts(counts: &mut [u32], number: u32)
     ensures { λ _. ⌜ now (counts .exit) ≡ cond (eqb number 1) (now (counts .entry)) (replicate (length (now (counts .entry))) 0) ⌝ }
 {
@@ -165,6 +166,120 @@ pub extern "C" fn horn_check_signature(
         return 0x1_0000_0000;
     }
     0
+}
+
+// Writes three numbers, and zero behind them.
+fn put_results(results: &mut [u32], value: u32, calls: u32, used: u32)
+    requires { ⌜ 3 ≤ length (now results) ⌝ }
+    ensures { λ _. ⌜ now (results .exit) ≡ sets (replicate (length (now (results .entry))) 0) 0 (value ∷ calls ∷ used ∷ []) ⌝ }
+{
+    arena::clear(results, 0);
+    results[0] = value;
+    results[1] = calls;
+    results[2] = used;
+}
+
+// `evaluator::evaluate` under a limit on words, with the first four counts that `horn_load` leaves. The answer is 0 for a value, or 2^32 times the
+// refusal's number. The results are the value's reference, the number of calls and that of words.
+#[no_mangle]
+pub extern "C" fn horn_evaluate(
+    text: &[u8],
+    limit: u32,
+    sorts: &[[u32; 2]],
+    symbols: &[[u32; 24]],
+    rules: &[[u32; 154]],
+    pattern: &[u32],
+    counts: &[u32],
+    rows: &[[u32; 4]],
+    at: usize,
+    words: &mut [u32],
+    links: &mut [u32],
+    trees: &mut [[u32; 8]],
+    results: &mut [u32],
+) -> u64
+    ensures { λ r. ⌜ EvaluatedAs (now (text .entry)) limit (now (sorts .entry)) (now (symbols .entry)) (now (rules .entry)) (now (pattern .entry))
+        (now (counts .entry)) (now (rows .entry)) at
+        (record { words = now (words .entry); links = now (links .entry); trees = now (trees .entry) }) (now (results .entry)) r
+        (record { words = now (words .exit); links = now (links .exit); trees = now (trees .exit) }) (now (results .exit)) ⌝ }
+{
+    if counts.len() < 4 {
+        return 0x1_0000_0000;
+    }
+    if results.len() < 3 {
+        return 0x1_0000_0000;
+    }
+    let limits = words::Limits {
+        text: 0,
+        nodes: 0,
+        steps: 0,
+        variables: 0,
+        words: limit,
+    };
+    let stored = signature::Counts {
+        sorts: counts[0],
+        symbols: counts[1],
+        rules: counts[2],
+        words: counts[3],
+    };
+    match evaluator::evaluate(
+        text,
+        limits,
+        sorts,
+        symbols,
+        rules,
+        pattern,
+        stored,
+        rows,
+        at,
+        words,
+        links,
+        trees,
+    ) {
+        evaluator::Evaluation::Refused { number } => {
+            clear_counts(results, number);
+            (number as u64) * 0x1_0000_0000
+        }
+        evaluator::Evaluation::Value {
+            value,
+            calls,
+            words: used,
+        } => {
+            put_results(results, value, calls, used);
+            0
+        }
+    }
+}
+
+// `evaluator::is_forward_call` with the first four counts that `horn_load` leaves. The answer is 1 for a forward call, 0 for a goal, and 2^32 for
+// refusal 1.
+#[no_mangle]
+pub extern "C" fn horn_is_forward_call(
+    text: &[u8],
+    sorts: &[[u32; 2]],
+    symbols: &[[u32; 24]],
+    rules: &[[u32; 154]],
+    pattern: &[u32],
+    counts: &[u32],
+    rows: &[[u32; 4]],
+    at: usize,
+) -> u64
+    ensures { λ r. ⌜ ForwardAs (now (text .entry)) (now (sorts .entry)) (now (symbols .entry)) (now (rules .entry)) (now (pattern .entry))
+        (now (counts .entry)) (now (rows .entry)) at r ⌝ }
+{
+    if counts.len() < 4 {
+        return 0x1_0000_0000;
+    }
+    let stored = signature::Counts {
+        sorts: counts[0],
+        symbols: counts[1],
+        rules: counts[2],
+        words: counts[3],
+    };
+    match evaluator::is_forward_call(text, sorts, symbols, rules, pattern, stored, rows, at) {
+        evaluator::Forward::Call => 1,
+        evaluator::Forward::Goal => 0,
+        evaluator::Forward::Refused { number } => (number as u64) * 0x1_0000_0000,
+    }
 }
 
 // `unifier::unify` on storage of any contents. Where words, bindings, scratch and references are what it asks, the answer is how it ended, as `packed`
