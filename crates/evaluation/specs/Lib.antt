@@ -10,6 +10,7 @@ pub mod LoadedLaws
 pub mod CallLaws
 pub mod HeightLaws
 pub mod CountLaws
+pub mod NumberLaws
 pub mod DepthLaws
 pub mod AgreementLaws
 -- Checks by computing:
