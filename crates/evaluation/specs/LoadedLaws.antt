@@ -32,12 +32,12 @@ rule-found [] i R e = none-some e
 rule-found (S ∷ rules) zero R e = (omega arith, cc)
 rule-found (S ∷ rules) (suc i) R e = let h = rule-found rules i R e in let l = h .0 in (omega arith, h .1)
 
-some-counted : (ts : Terms) → 0 < count ts → Some ts
+pub some-counted : (ts : Terms) → 0 < count ts → Some ts
 some-counted nil l = absurd (omega arith)
 some-counted (cons t ts) l = tt
 
 -- Only a function has clauses.
-is-function : (mark clauses : ℕ) → mark ≤ 1 → (mark ≡ 0 → clauses ≡ 0) → 0 < clauses → mark ≡ 1
+pub is-function : (mark clauses : ℕ) → mark ≤ 1 → (mark ≡ 0 → clauses ≡ 0) → 0 < clauses → mark ≡ 1
 is-function zero clauses l h k = let z = h refl in absurd (omega arith)
 is-function (suc mark) clauses l h k = omega arith
 

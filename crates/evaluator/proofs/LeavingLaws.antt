@@ -39,7 +39,7 @@ use Rattle.evaluator.specs.Storage.{Results, mostWords, isShort, tooShor
 use Rattle.evaluator.specs.Evaluating.{Readable, writtenIn, Ready, Valued, Denied, Left, EvaluationLeft}
 use Rattle.evaluator.specs.declared.Evaluation.{Evaluation}
 use Rattle.evaluator.specs.declared.Evaluation.the-variants.{Value, Refused}
-use Rattle.evaluator.proofs.ProgramLaws.{pattern, pattern-length, listed-headed, listed-tables}
+use Rattle.evaluator.specs.ProgramLaws.{pattern, pattern-length, listed-headed, listed-tables}
 
 -- Clearing
 

@@ -1,7 +1,7 @@
 -- `evaluate_listed` meets its contract: the expression is asked over the words in use, and what it leaves is cleared behind.
 use mathlib.Core.Path.{refl, sym, ap}
 use Rattle.words.specs.declared.Limits.{Limits}
-use Rattle.evaluator.proofs.ProgramLaws.{pattern-length}
+use Rattle.evaluator.specs.ProgramLaws.{pattern-length}
 use Rattle.evaluator.proofs.LeavingLaws.{expression-asked, rows-enough, left-refused, left-valued}
 use borrow.Author.Needs.{needs}
 use Rattle.evaluator.proofs.evaluate_listed.Statement.{statement}

@@ -1,15 +1,15 @@
 -- A signature in the listed form is a program: its symbols and the clauses of its functions stand in storage as calls ask it (`Program`, `Tables`), read over the
--- words in use alone, and each header among these is one of a known symbol.
+-- words in use alone, and each header among these is one of a known symbol. Its clauses are in form (`ClauseForm`), and among its rules.
 use Prim.Native.Nat.{ℕ, zero, suc, _+_, _-_, _≤_, _<_}
 use native.Mathlib.Omega.{arith}
-use mathlib.Core.Path.{_≡_, refl, sym, ap, ap₂, _∙_, subst}
+use mathlib.Core.Path.{_≡_, refl, sym, ap, _∙_, subst}
 use mathlib.Core.Bool.{true}
 use mathlib.Core.Option.{some}
 use mathlib.Core.List.{List, [], _∷_, map}
-use lib.ListN.{length, getD, take, length-take, List·getD-map}
+use lib.ListN.{length, getD, take, length-take, List·getD-map, List·getD-eq-default}
 use lib.Seq.{getD-take}
 use Rattle.terms.specs.Numbers.{less-yes, less-no, same-refl, by-less}
-use Rattle.terms.specs.Term.{Term, Terms, var, app, nil, cons, Below}
+use Rattle.terms.specs.Term.{Term, Terms, var, app, cons, count}
 use Rattle.arena.specs.Cells.{headers, Cells, cells, symbolOf, arityOf, args, denote, termsOf, Same, Reference, WellFormed, denote-variable, denote-node, reference-up}
 use Rattle.arena.specs.Copies.{patternRoom}
 use Rattle.arena.specs.Form.{isHeader, inForm}
@@ -26,11 +26,15 @@ use Rattle.loader.specs.Legal.{Calls, ClauseFormed, noRule}
 use Rattle.loader.specs.Holding.{RulesKept, rules-same, rules-up}
 use Rattle.signature.specs.Storage.{SignatureStore, symbolsIn, rulesIn, signatureOf, SignatureListed}
 use Rattle.signature.specs.StoreLaws.{rules-length, rules-at, rule-count, rule-of-row, symbol-count, symbol-of-row}
+use Rattle.evaluation.specs.MatchingLaws.{Some}
+use Rattle.evaluation.specs.Derivations.{JudgmentOf, Judgments, ClauseOf, ClauseForm}
+use Rattle.evaluation.specs.LoadedLaws.{some-counted, is-function}
+use Rattle.evaluation.specs.NumberLaws.{ClausesThere}
 use Rattle.function_calls.specs.Stored.{PatternIn, Headed, patternAt}
 use Rattle.function_calls.specs.Building.{ruleWords}
-use Rattle.function_calls.specs.Choice.{ConclusionIn}
 use Rattle.function_calls.specs.Calls.{PremiseIn, ClauseIn, Program}
 use Rattle.expressions.specs.Applying.{Tables}
+use Rattle.expressions.proofs.Building.{count-args}
 
 -- A known symbol's header is accepted.
 header-yes : (arities : List ℕ) (x : ℕ) → Header arities x → isHeader arities x ≡ true
@@ -114,6 +118,23 @@ is-call : (symbols : List Symbol) (t : Term) → Calls symbols t → IsCall symb
 is-call symbols (var x) c = absurd c
 is-call symbols (app f ts) c = record { function = f; arguments = ts; is = refl; marked = c }
 
+-- A judgment is a node with a result.
+record IsJudgment (t : Term) : Type 0 where
+  pub function : ℕ
+  pub arguments : Terms
+  pub is : t ≡ app function arguments
+  pub some-arguments : Some arguments
+
+judgments : (g : ℕ → Term) (w : Cells) (p n : ℕ) → ((i : ℕ) → i < n → IsJudgment (g (w (p + i)))) → Judgments (args g w p n)
+judgments g w p zero h = tt
+judgments g w p (suc n) h =
+    let e : p + 0 ≡ p = omega arith in
+    let k : IsJudgment (g (w p)) = rw e at (h 0 (omega arith)) in
+    rw (k .is) (
+      k .some-arguments,
+      judgments g w (suc p) n (λ i l. let q : p + suc i ≡ suc p + i = omega arith in rw q at (h (suc i) (omega arith))),
+    )
+
 -- The signature
 
 module _ (text : List ℕ) (sg : SignatureStore) (h : SignatureListed text sg) where
@@ -194,11 +215,14 @@ module _ (text : List ℕ) (sg : SignatureStore) (h : SignatureListed text sg) w
     node-is : patternRoom ≤ r
     node-is = node-reference (cells pattern) r f ts is
 
+    abbrev behind : Terms
+    behind = args (denote patternRoom (cells pattern)) (cells pattern) (suc (r - patternRoom)) (arityOf header)
+
+    stored-is : app (symbolOf header) behind ≡ app f ts
+    stored-is = sym (denote-node patternRoom (cells pattern) patternRoom used all-formed r root node-is) ∙ is
+
     symbol-is : symbolOf header ≡ f
-    symbol-is =
-        let d = denote-node patternRoom (cells pattern) patternRoom used all-formed r root node-is in
-        let e : app (symbolOf header) (args (denote patternRoom (cells pattern)) (cells pattern) (suc (r - patternRoom)) (arityOf header)) ≡ app f ts = sym d ∙ is in
-        cc
+    symbol-is = let e = stored-is in cc
 
     header-is : Header arities header
     header-is = header-known (r - patternRoom) (root .header node-is)
@@ -208,6 +232,12 @@ module _ (text : List ℕ) (sg : SignatureStore) (h : SignatureListed text sg) w
 
     arity-is : arityOf header ≡ length (symbolAt (symbolsIn text sg) (symbolOf header) .inputs)
     arity-is = header-is .own ∙ List·getD-map (λ (g : Symbol). length (g .inputs)) (symbolsIn text sg) (symbolOf header) noSymbol
+
+    count-is : count ts ≡ arityOf header
+    count-is =
+        let e = stored-is in
+        let q : behind ≡ ts = cc in
+        sym (ap count q) ∙ count-args (denote patternRoom (cells pattern)) (cells pattern) (suc (r - patternRoom)) (arityOf header)
 
   rules-are : length (rulesIn text sg) ≡ sg .counts .rules
   unfolding signatureOf
@@ -237,6 +267,17 @@ module _ (text : List ℕ) (sg : SignatureStore) (h : SignatureListed text sg) w
       ap (λ (s : Symbol). length (s .inputs)) e ∙ columns-length (rowAt (sg .symbols) f) 8 (column (rowAt (sg .symbols) f) 6) in
       let r = h .symbolsFormed f g .result mark in
       omega arith
+
+  -- A node of a function has a result.
+  has-result : (r f : ℕ) (ts : Terms) → Reference patternRoom (cells pattern) patternRoom used r → patternAt pattern r ≡ app f ts
+      → symbolAt (symbolsIn text sg) f .function ≡ 1 → Some ts
+  has-result r f ts root is mark =
+      let q = symbol-is r f ts root is in
+      let k : f < length (symbolsIn text sg) = rw q at (known-is r f ts root is) in
+      let a : arityOf (header r f ts root is) ≡ length (symbolAt (symbolsIn text sg) f .inputs) = rw q at (arity-is r f ts root is) in
+      let c = count-is r f ts root is in
+      let l = function-result f k mark in
+      some-counted ts (omega arith)
 
   -- The rule i
 
@@ -353,6 +394,26 @@ module _ (text : List ℕ) (sg : SignatureStore) (h : SignatureListed text sg) w
           premised = premises-are;
         }
 
+    -- It is a clause in form, if it is one of the function f.
+    clause-of : (f : ℕ) → symbolAt (symbolsIn text sg) f .function ≡ 1 → ClauseFormed (symbolsIn text sg) f R → ClauseOf f R
+    clause-of f mark c = record {
+      concludes = concludes (c .conclusion .0) (c .conclusion .1);
+      premised = subst Judgments premises-are (judgments (denote patternRoom (cells pattern)) (column row) 10 (column row 4) judged);
+    }
+      where
+        concludes : (ts : Terms) → R .conclusion ≡ app f ts → JudgmentOf f (R .conclusion)
+        concludes ts q = rw q (refl, has-result (column row 5) f ts conclusion-root (conclusion-is ∙ q) mark)
+
+        judged : (j : ℕ) → j < column row 4 → IsJudgment (patternAt pattern (column row (10 + j)))
+        judged j m =
+            let k = premise-call j m (c .premises) in
+            record {
+              function = k .function;
+              arguments = k .arguments;
+              is = k .is;
+              some-arguments = has-result (column row (10 + j)) (k .function) (k .arguments) (premise-root j m) (k .is) (k .marked);
+            }
+
   -- The functions and their clauses are a program.
   pub listed-program : Program (sg .symbols) (sg .rules) pattern used (symbolsIn text sg) (rulesIn text sg)
   listed-program =
@@ -390,3 +451,43 @@ module _ (text : List ℕ) (sg : SignatureStore) (h : SignatureListed text sg) w
       mark-result : (m n : ℕ) → m ≤ 1 → (m ≡ 1 → 0 < n) → m ≤ n
       mark-result zero n a b = omega arith
       mark-result (suc m) n a b = let q : suc m ≡ 1 = omega arith in let c = b q in omega arith
+
+  -- Where there is no symbol, there are no clauses.
+  no-clauses : (f : ℕ) → length (symbolsIn text sg) ≤ f
+      → (symbolAt (symbolsIn text sg) f .first ≡ 0) × (symbolAt (symbolsIn text sg) f .clauses ≡ 0)
+  no-clauses f l =
+      let z : symbolAt (symbolsIn text sg) f ≡ noSymbol = List·getD-eq-default (symbolsIn text sg) noSymbol l in
+      (ap (λ (s : Symbol). s .first) z, ap (λ (s : Symbol). s .clauses) z)
+
+  -- The clauses are among the rules,
+  pub listed-there : ClausesThere (symbolsIn text sg) (rulesIn text sg)
+  listed-there f =
+      let n = symbols-are in
+      let k = rules-are in
+      by-less f (length (symbolsIn text sg))
+      (λ l _. let g : f < sg .counts .symbols = omega arith in
+      let a = first-of f g in
+      let b = clauses-of f g in
+      let c = h .symbolsFormed f g .clauses in
+      omega arith)
+      (λ l _. let (a, b) = no-clauses f l in omega arith)
+
+  -- and in form.
+  pub listed-clauses : ClauseForm (symbolsIn text sg) (rulesIn text sg)
+  unfolding symbolIn
+  listed-clauses f j S m e =
+      let n = symbols-are in
+      by-less f (length (symbolsIn text sg))
+      (λ l _. let g : f < sg .counts .symbols = omega arith in
+      let a = first-of f g in
+      let b = clauses-of f g in
+      let s = h .symbolsFormed f g in
+      let c = s .clauses in
+      let d : column (rowAt (sg .symbols) f) 4 + j < sg .counts .rules = omega arith in
+      let mark = is-function (column (rowAt (sg .symbols) f) 3) (column (rowAt (sg .symbols) f) 5) (s .mark) (s .others) (omega arith) in
+      let function : symbolAt (symbolsIn text sg) f .function ≡ 1 = ap (λ (x : Symbol). x .function) (symbol-of-row text sg h f g) ∙ mark in
+      let e′ : rule-at (rulesIn text sg) (column (rowAt (sg .symbols) f) 4 + j) ≡ some S = rw a at e in
+      let r = rule-is (column (rowAt (sg .symbols) f) 4 + j) d in
+      let q : R (column (rowAt (sg .symbols) f) 4 + j) d ≡ S = cc in
+      subst (ClauseOf f) q (clause-of (column (rowAt (sg .symbols) f) 4 + j) d f function (h .clausesFormed f g j (omega arith))))
+      (λ l _. let (a, b) = no-clauses f l in absurd (let y : ⊥ = omega arith in y))
