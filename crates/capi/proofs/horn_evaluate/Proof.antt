@@ -45,19 +45,19 @@ put-results-requires : tie.Need-put-results-requires
 put-results-requires c κs = search needs
 
 same-length : tie.Need-same-length
-same-length c = search needs
+same-length c = c .before .before .before .before .before .before .before .before .before .before .before .before .evaluate .kept .1 .1 .1 .1 .1 .1 .1 .1 .1 .0
 
 same-length-2 : tie.Need-same-length-2
-same-length-2 c = search needs
+same-length-2 c = c .before .before .before .before .before .before .before .before .before .before .before .before .evaluate .kept .1 .1 .1 .1 .1 .1 .1 .1 .1 .1 .0
 
 same-length-3 : tie.Need-same-length-3
-same-length-3 c = search needs
+same-length-3 c = c .before .before .before .before .before .before .before .before .before .before .before .before .evaluate .kept .1 .1 .1 .1 .1 .1 .1 .1 .1 .1 .1 .0
 
 same-length-4 : tie.Need-same-length-4
-same-length-4 c = search needs
+same-length-4 c = c .before .before .clear-counts .kept .0
 
 returns-3 : tie.Need-returns-3
-returns-3 c = 
+returns-3 c =
     let if1 = c .before .before .before .before .before .before .before .before .before .before .before .before .before .before .before .before .before .before .before .before .before .if1 in
     let if2 = c .before .before .before .before .before .before .before .before .before .before .before .before .before .before .before .before .before .before .before .before .if2 in
     let evaluate = c .before .before .before .before .before .before .before .before .before .before .before .before .evaluate in
@@ -77,19 +77,19 @@ returns-3 c =
     }
 
 same-length-5 : tie.Need-same-length-5
-same-length-5 c = search needs
+same-length-5 c = c .before .before .before .before .before .before .before .before .before .before .before .before .evaluate .kept .1 .1 .1 .1 .1 .1 .1 .1 .1 .0
 
 same-length-6 : tie.Need-same-length-6
-same-length-6 c = search needs
+same-length-6 c = c .before .before .before .before .before .before .before .before .before .before .before .before .evaluate .kept .1 .1 .1 .1 .1 .1 .1 .1 .1 .1 .0
 
 same-length-7 : tie.Need-same-length-7
-same-length-7 c = search needs
+same-length-7 c = c .before .before .before .before .before .before .before .before .before .before .before .before .evaluate .kept .1 .1 .1 .1 .1 .1 .1 .1 .1 .1 .1 .0
 
 same-length-8 : tie.Need-same-length-8
-same-length-8 c = search needs
+same-length-8 c = c .before .before .put-results .kept .0
 
 returns-4 : tie.Need-returns-4
-returns-4 c = 
+returns-4 c =
     let if1 = c .before .before .before .before .before .before .before .before .before .before .before .before .before .before .before .before .before .before .before .before .before .if1 in
     let if2 = c .before .before .before .before .before .before .before .before .before .before .before .before .before .before .before .before .before .before .before .before .if2 in
     let evaluate = c .before .before .before .before .before .before .before .before .before .before .before .before .evaluate in

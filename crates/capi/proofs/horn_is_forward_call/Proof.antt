@@ -39,7 +39,7 @@ mul-result : tie.Need-mul-result
 mul-result c = search needs
 
 returns-2 : tie.Need-returns-2
-returns-2 c = 
+returns-2 c =
     let if1 = c .before .before .before .before .before .before .before .if1 in
     let asked = c .before .before .is-forward-call in
     record {
@@ -49,7 +49,7 @@ returns-2 c =
     }
 
 returns-3 : tie.Need-returns-3
-returns-3 c = 
+returns-3 c =
     let if1 = c .before .before .before .before .before .before .before .if1 in
     let asked = c .before .before .is-forward-call in
     record {
@@ -59,7 +59,7 @@ returns-3 c =
     }
 
 returns-4 : tie.Need-returns-4
-returns-4 c = 
+returns-4 c =
     let if1 = c .before .before .before .before .before .before .before .before .if1 in
     let asked = c .before .before .before .is-forward-call in
     record {

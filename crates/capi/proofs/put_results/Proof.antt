@@ -26,7 +26,7 @@ same-length : tie.Need-same-length
 same-length c = search needs
 
 returns : tie.Need-returns
-returns c = 
+returns c =
     let args = c .before .before .before .before .before .args in
     let clear = c .before .before .clear in
     ap (λ (l : List ℕ). sets l 0 ((args .value) ∷ (args .calls) ∷ (args .used) ∷ [])) ((clear .ensures) ∙ wipe 0 (args .results .now) (args .results .now) refl)
