@@ -1,4 +1,4 @@
-//! Damage to good texts, by tokens and by bytes, and soups that never were good.
+//! Damage to good texts, by tokens and by bytes, and to numbers that are stored; and soups that never were good.
 
 use crate::declarations::Pieces;
 use crate::random::Random;
@@ -104,5 +104,18 @@ fn boundary_word(random: &mut Random) -> String {
         4 => format!("{numeral:0length$}"),
         5 => numeral.to_string(),
         _ => format!("{}'", "1".repeat(length - 1)),
+    }
+}
+
+/// Another number that may stand in a row, given one that stands elsewhere.
+pub fn changed_number(random: &mut Random, number: u32, other: u32) -> u32 {
+    match random.below(8) {
+        0 => other,
+        1 => random.pick(&[0, 1, 2, 16, 63, 64, 65, 1 << 20, u32::MAX]),
+        2 => number.wrapping_add(32),
+        3 => number.wrapping_sub(32),
+        4 => number ^ 1,
+        5 => number.wrapping_sub(1),
+        _ => number.wrapping_add(1),
     }
 }

@@ -1,5 +1,6 @@
 //! A child of `lang.rs`, because only a child sees its private items. Each layer has a file of its own here.
 
+pub mod evaluate;
 pub mod load;
 pub mod parse;
 pub mod theory;

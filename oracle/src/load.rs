@@ -12,7 +12,7 @@ use std::rc::Rc;
 
 /// The original's signature, and what it does not keep: places of names, and the terms that wait.
 pub struct Loaded {
-    sig: Sig,
+    pub(super) sig: Sig,
     count: usize,
     rows: Vec<Row>,
     sort_names: Vec<Pair>,
@@ -20,7 +20,7 @@ pub struct Loaded {
     /// The place of each rule's name, and for a clause its number and 1.
     rule_names: Vec<(Pair, u32)>,
     /// Line, row and term.
-    evals: Vec<(u32, u32, Term)>,
+    pub(super) evals: Vec<(u32, u32, Term)>,
 }
 
 /// The answer for a text with the limits that the caller set and what it lent.

@@ -1,6 +1,7 @@
 //! Holds together what needs no library of ours: the original's signatures, their storage, the storage read back, and
 //! the loader's definitions.
 
+use horn_oracle::damage::changed_number;
 use horn_oracle::load::{load, reference};
 use horn_oracle::load_cases::{Question, exhaustive, generated, large_questions, small_questions, unexpected_example};
 use horn_oracle::load_definitions::defined;
@@ -160,17 +161,5 @@ fn change_words(random: &mut Random, words: &mut Vec<u32>) {
         2 => words.swap(at, other),
         3 => words.push(words[other]),
         _ => words[at] = changed_number(random, words[at], words[other]),
-    }
-}
-
-fn changed_number(random: &mut Random, number: u32, other: u32) -> u32 {
-    match random.below(8) {
-        0 => other,
-        1 => random.pick(&[0, 1, 2, 16, 63, 64, 65, 1 << 20, u32::MAX]),
-        2 => number.wrapping_add(32),
-        3 => number.wrapping_sub(32),
-        4 => number ^ 1,
-        5 => number.wrapping_sub(1),
-        _ => number.wrapping_add(1),
     }
 }
