@@ -11,9 +11,11 @@ use crate::programs::program;
 use crate::random::Random;
 use crate::shrink;
 use crate::signatures::signature;
+use std::ops::Range;
 
 /// A loaded text: the original's signature, and the same as it is stored and as the definitions read it.
 pub struct Program {
+    pub declarations: usize,
     pub loaded: Loaded,
     pub storage: Storage,
     pub signature: Signature,
@@ -22,9 +24,9 @@ pub struct Program {
 impl Program {
     pub fn load(text: &[u8], limits: Limits) -> Result<Program, loaded::Answer> {
         let loaded = load(text, limits, &Lent::least(limits))?;
-        let loaded::Answer::Loaded(_, storage) = loaded.answer() else { panic!("a loaded text is stored") };
+        let loaded::Answer::Loaded(declarations, storage) = loaded.answer() else { panic!("a loaded text is stored") };
         let signature = Signature::stored(text, &storage.symbols, &storage.rules, &storage.words);
-        Ok(Program { loaded, storage, signature })
+        Ok(Program { declarations, loaded, storage, signature })
     }
 
     /// The term of an `#eval` by its rows.
@@ -35,8 +37,7 @@ impl Program {
 
     /// What the evaluator gives for an `#eval` under a limit on words, as it is recorded.
     pub fn recorded(&self, text: &[u8], eval: usize, limit: u32) -> String {
-        let defined = self.signature.evaluate(u64::from(limit.min(WORDS)), &self.term(text, eval), &mut Terms::default());
-        match defined.answer {
+        match self.signature.evaluate_with(limit, &self.term(text, eval), &mut Terms::default()) {
             Answer::Refused(NO_WORDS) => format!("refused {NO_WORDS}\n"),
             _ => self.loaded.evaluated(eval).recorded(),
         }
@@ -64,7 +65,7 @@ impl Program {
 
 /// How many words the original may build and how many nodes it may compare. Over these it is not asked: it compares shared
 /// terms as if they were written out, and needs a stack as deep as they are.
-const BUILT: u64 = 1 << 21;
+pub const BUILT: u64 = 1 << 21;
 const COMPARED: u64 = 1 << 22;
 
 /// The limit on words.
@@ -75,8 +76,9 @@ pub enum Limit {
     Used(i32),
 }
 
-/// The bench program's limit on words.
+/// The bench program's limit on words, and one under which most texts make as many calls as there may be.
 pub const BENCH: u32 = 8_192;
+const ENOUGH: u32 = 65_536;
 
 impl Limit {
     pub fn words(self, answer: &Answer) -> u32 {
@@ -112,6 +114,9 @@ impl Question {
     }
 }
 
+/// What a declaration or a clause starts with.
+const PART_STARTS: [&[u8]; 7] = [b"sort ", b"ctor ", b"pred ", b"rule ", b"def ", b"#eval ", b"|"];
+
 impl shrink::Question for Question {
     fn text(&self) -> &[u8] {
         &self.text
@@ -121,11 +126,31 @@ impl shrink::Question for Question {
         Question { text, ..*self }
     }
 
+    fn parts(&self) -> Vec<Range<usize>> {
+        let starts_one = |at: &usize| PART_STARTS.iter().any(|start| self.text[*at..].starts_with(start));
+        let starts: Vec<usize> = (0..self.text.len()).filter(starts_one).chain([self.text.len()]).collect();
+        let is_clause = |at: usize| self.text.get(at) == Some(&b'|');
+        let declarations: Vec<usize> = starts.iter().copied().filter(|at| !is_clause(*at)).collect();
+        let parts = |starts: &[usize]| starts.windows(2).map(|pair| pair[0]..pair[1]).collect::<Vec<_>>();
+        let clauses = parts(&starts).into_iter().filter(|part| is_clause(part.start));
+        parts(&declarations).into_iter().chain(clauses).collect()
+    }
+
     fn lowered(&self) -> Vec<Question> {
         let limits = [Limit::Words(WORDS), Limit::Words(BENCH), self.limit];
         limits.map(|limit| Question::plain(&self.text, limit)).to_vec()
     }
 }
+
+/// Terms of 2^100 nodes of which few are stored, compared with themselves and with others. The original is not asked.
+const SHARED: [&str; 2] = [
+    "sort A ctor a : A ctor zero : A ctor succ : A → A ctor d : A → A → A def twice : A → A | x => d x x
+     def t : A → A | succ x => twice (t x) | x => x def e : A → A → A | x, x => a | x, y => zero
+     #eval e (t 100) (t 100) #eval e (t 100) (d (t 99) (t 99)) #eval e (t 100) (t 99) #eval e (t 100) (twice (t (succ 99)))",
+    "sort A ctor a : A ctor zero : A ctor succ : A → A ctor d : A → A → A def twice : A → A | x => d x x
+     def t : A → A | succ x => twice (t x) | x => x def q : A → A → A | d x y, d y x => x | x, y => zero
+     #eval q (t 90) (t 90) #eval q (t 90) (t 89) #eval q (t 90) (d (t 89) (t 88)) #eval q (t 2) (t 2)",
+];
 
 /// The fixed questions.
 pub fn fixed_questions() -> Vec<Question> {
@@ -136,6 +161,7 @@ pub fn fixed_questions() -> Vec<Question> {
     }
     let text = "sort A ctor a : A ctor s : A → A def f : A → A | s x => f x | x => s x def g : A\n\
                 #eval f (s a) #eval g #eval f ?x #eval s a #eval f b";
+    questions.extend(SHARED.map(|text| Question::plain(text.as_bytes(), Limit::Words(WORDS))));
     for limit in [0, 1, 11, 12, BENCH, WORDS - 1, WORDS, WORDS + 1, u32::MAX].map(Limit::Words) {
         let exact = Question::plain(text.as_bytes(), limit);
         let sized = |size| Question { size: Some(size), ..exact.clone() };
@@ -187,8 +213,9 @@ pub fn generated(random: &mut Random) -> Question {
     let limit = match random.below(20) {
         0 => Limit::Words(WORDS),
         1 => Limit::Words(random.pick(&[0, 1, 2, WORDS + 1, u32::MAX])),
-        2..6 => Limit::Words(random.below(100) as u32),
-        6..12 => Limit::Words(BENCH),
+        2..5 => Limit::Words(random.below(100) as u32),
+        5..8 => Limit::Words(ENOUGH),
+        8..12 => Limit::Words(BENCH),
         _ => Limit::Used(random.pick(&[-1, -1, 0, 0, 1, -2])),
     };
     let size = random.percent(8).then(|| (random.below(PARTS), random.pick(&[-1, -1, 1, 3])));

@@ -6,7 +6,7 @@
 //! A value is its number in `Terms`: it has no variables, and `alike` compares numbers.
 
 use crate::declared::{APPLICATION, LARGEST_VALUE};
-use crate::evaluated::{Answer, CALLS, Call, DEPTH, Terms, Value};
+use crate::evaluated::{Answer, CALLS, Call, DEPTH, Terms, Value, WORDS};
 use crate::loaded::{ARITIES, FIRST_HEADER, FIRST_INPUT, FIRST_NODE, FIRST_PREMISE, RuleRow, SymbolRow};
 use crate::tokens::{METAVARIABLE, NAME, NUMERAL, Row, WORD_BYTES};
 
@@ -217,6 +217,11 @@ impl Signature {
                 self.is_called_with(name, arguments.len()) && arguments.iter().all(is_ground)
             }
         }
+    }
+
+    /// `evaluateOf` under the limit that a caller sets.
+    pub fn evaluate_with(&self, limit: u32, term: &Written, terms: &mut Terms) -> Answer {
+        self.evaluate(u64::from(limit.min(WORDS)), term, terms).answer
     }
 
     /// `evaluateOf` with so many words.

@@ -40,7 +40,7 @@ pub fn read_back(
 }
 
 fn is_zero(numbers: &[u32]) -> bool {
-    numbers.iter().all(|number| *number == 0)
+    first_not(numbers, 0).is_none()
 }
 
 /// The terms of the nodes that fill the words, by address. Arguments lie below their node, so one pass sees each before

@@ -151,6 +151,12 @@ impl Lent {
         let words = limit.min(WORDS) as usize;
         Lent { words: words + WORDS_BESIDE, links: words, trees: CALLS, results: RESULTS }
     }
+
+    pub fn suffices(&self, limit: u32) -> bool {
+        let least = Lent::least(limit);
+        let written = self.words >= least.words && self.links >= least.links;
+        written && self.trees >= least.trees && self.results >= least.results
+    }
 }
 
 /// All that a caller lends to be written.
@@ -175,7 +181,7 @@ impl Buffers {
     pub fn first_other(&self, lent: &Lent, behind: bool, number: u32) -> Option<String> {
         let other = |name: &str, numbers: &[u32], lent: usize| {
             let (first, numbers) = if behind { (lent, &numbers[lent..]) } else { (0, &numbers[..lent]) };
-            let at = numbers.iter().position(|found| *found != number)?;
+            let at = first_not(numbers, number)?;
             Some(format!("{name} {} holds {} and not {number}", first + at, numbers[at]))
         };
         other("word", &self.words, lent.words)
@@ -183,6 +189,13 @@ impl Buffers {
             .or_else(|| other("number of tree rows", self.trees.as_flattened(), 8 * lent.trees))
             .or_else(|| other("result", &self.results, lent.results))
     }
+}
+
+/// Where the first other number stands. Most numbers are the same, so they are looked at by the thousand.
+pub fn first_not(numbers: &[u32], number: u32) -> Option<usize> {
+    let differs = |chunk: &[u32]| chunk.iter().fold(0, |bits, found| bits | (found ^ number)) != 0;
+    let start = numbers.chunks(1_024).position(differs)? * 1_024;
+    numbers[start..].iter().position(|found| *found != number).map(|at| start + at)
 }
 
 fn reset<T: Clone>(buffer: &mut Vec<T>, length: usize, item: T) {

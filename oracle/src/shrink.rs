@@ -8,6 +8,11 @@ pub trait Question: Clone {
 
     fn about(&self, text: Vec<u8>) -> Self;
 
+    /// Parts of the text that are left out before any others, such as declarations.
+    fn parts(&self) -> Vec<Range<usize>> {
+        Vec::new()
+    }
+
     /// The same text with the lowest limits and storage that it needs, and with a little more storage.
     fn lowered(&self) -> Vec<Self>;
 }
@@ -17,6 +22,9 @@ const FEW: usize = 300;
 
 /// Takes out ever smaller parts of the text while the property holds, then lowers limits and storage.
 pub fn shrunk<Q: Question>(mut question: Q, holds: &impl Fn(&Q) -> bool) -> Q {
+    while let Some(smaller) = question.parts().into_iter().rev().find_map(|part| without(&question, part, holds)) {
+        question = smaller;
+    }
     let mut size = question.text().len();
     while size > 0 {
         let smaller = without_parts(&question, size, holds);
