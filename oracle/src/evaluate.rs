@@ -2,10 +2,11 @@
 //! 21, 26 and 29 to 36 mapped from its error texts. It counts no words, so those of a value are counted from the clauses
 //! that it took.
 
-use super::super::{Evaluator, Just, Pat, Proof, T, Term, is_forward_call, t_pat};
-use super::load::Loaded;
+use super::super::{Evaluator, Just, Pat, Proof, Rule, Sig, T, Term, is_forward_call, t_pat};
+use super::load::{Loaded, no_declarations};
+use crate::evaluate_definitions::Written;
 use crate::evaluated::{Answer, Call, Terms, Value};
-use crate::loaded::Pair;
+use crate::loaded::{ARITIES, FIRST_HEADER, FIRST_INPUT, FIRST_NODE, FIRST_PREMISE, RuleRow, SymbolRow};
 use std::collections::HashMap;
 
 /// A numeral is never given to the original above this, since it writes it out. From 129 on the `succ` on `zero` are more
@@ -51,56 +52,113 @@ fn mapped(message: &str) -> u32 {
 }
 
 /// The original's value and trees, with the term that was evaluated.
-pub struct Evaluated<'l> {
-    loaded: &'l Loaded,
+pub struct Evaluated<'s> {
+    sig: &'s Sig,
     term: Term,
     result: Result<(T, Vec<Proof>), u32>,
 }
 
-impl Loaded {
-    /// Line and row of each `#eval`.
-    pub fn eval_rows(&self) -> Vec<Pair> {
-        self.evals.iter().map(|(line, row, _)| [*line, *row]).collect()
-    }
+fn evaluated<'s>(sig: &'s Sig, term: &Term) -> Evaluated<'s> {
+    let term = capped(term);
+    let result = Evaluator::new(sig).expression(&term, 0).map_err(|message| mapped(&message));
+    Evaluated { sig, term, result }
+}
 
+impl Loaded {
     pub fn is_forward_call(&self, eval: usize) -> bool {
         is_forward_call(&self.sig, &self.evals[eval].2)
     }
 
     /// The original's `expression` on the term of an `#eval`, which need not be a forward call.
     pub fn evaluated(&self, eval: usize) -> Evaluated<'_> {
-        let term = capped(&self.evals[eval].2);
-        let result = Evaluator::new(&self.sig).expression(&term, 0).map_err(|message| mapped(&message));
-        Evaluated { loaded: self, term, result }
+        evaluated(&self.sig, &self.evals[eval].2)
     }
 
     /// The original's `expression` alone, to be timed; tells how many trees it made.
     pub fn original_evaluate(&self, eval: usize) -> Result<usize, String> {
         Evaluator::new(&self.sig).expression(&self.evals[eval].2, 0).map(|(_, trees)| trees.len())
     }
+}
 
-    /// Words of the constructors that a term is written with, numerals written out.
-    fn written_words(&self, term: &Term) -> u64 {
-        let (name, arguments): (&str, &[Term]) = match term {
-            Term::Meta(_) => panic!("a term with a value is ground"),
-            Term::Num(value) => return 1 + 2 * value,
-            Term::Name(name) => (name, &[]),
-            Term::App(name, arguments) => (name, arguments),
-        };
-        let inside: u64 = arguments.iter().map(|argument| self.written_words(argument)).sum();
-        if self.sig.defs.contains(name) { inside } else { inside + 1 + arguments.len() as u64 }
+/// The original's signature of what is stored in the listed form, which no text need have made.
+pub struct Kept {
+    sig: Sig,
+}
+
+impl Kept {
+    pub fn stored(text: &[u8], symbols: &[SymbolRow], rules: &[RuleRow], words: &[u32]) -> Kept {
+        let mut sig = no_declarations();
+        for (number, row) in symbols.iter().enumerate() {
+            let name = name(&text[row[0] as usize..][..row[1] as usize]);
+            sig.sym_ix.insert(name.clone(), number as u32);
+            sig.inputs.push(row[FIRST_INPUT..][..row[6] as usize].iter().map(|sort| sort - 1).collect());
+            sig.output.push(row[2].checked_sub(1));
+            if row[3] == 1 {
+                sig.defs.insert(name.clone());
+                sig.clauses.insert(number as u32, (row[4]..row[4] + row[5]).map(|rule| rule as usize).collect());
+            }
+            sig.names.push(name);
+        }
+        sig.rules = rules.iter().map(|row| rule(row, words)).collect();
+        Kept { sig }
     }
 
-    /// Words of a finished call of a clause, without those of the calls in it: the arguments of its premises, and its
-    /// conclusion.
-    fn clause_words(&self, rule: usize) -> u64 {
-        let rule = &self.sig.rules[rule];
-        let arguments = rule.premises.iter().flat_map(|premise| match premise {
-            Pat::A(_, patterns) => &patterns[..patterns.len() - 1],
-            _ => panic!("a premise of a clause is a call"),
-        });
-        arguments.chain([&rule.conclusion]).map(pattern_words).sum()
+    pub fn is_forward_call(&self, written: &Written) -> bool {
+        is_forward_call(&self.sig, &term(written))
     }
+
+    pub fn evaluated(&self, written: &Written) -> Evaluated<'_> {
+        evaluated(&self.sig, &term(written))
+    }
+}
+
+/// Bytes as a name of the original, each as a character, so that other bytes are another name. A blank, which no word has,
+/// is another character, so that error texts can be told apart.
+fn name(bytes: &[u8]) -> String {
+    bytes.iter().map(|byte| if *byte == b' ' { '␠' } else { char::from(*byte) }).collect()
+}
+
+fn term(written: &Written) -> Term {
+    match written {
+        Written::Number(value) => Term::Num(*value),
+        Written::Meta(word) => Term::Meta(name(&word[1..])),
+        Written::Called(word) => Term::Name(name(word)),
+        Written::Applied(word, arguments) => Term::App(name(word), arguments.iter().map(term).collect()),
+    }
+}
+
+fn rule(row: &RuleRow, words: &[u32]) -> Rule {
+    let premises = row[FIRST_PREMISE..][..row[4] as usize].iter().map(|premise| pattern(words, *premise)).collect();
+    Rule { name: String::new(), sorts: vec![0; row[3] as usize], premises, conclusion: pattern(words, row[5]) }
+}
+
+fn pattern(words: &[u32], reference: u32) -> Pat {
+    let Some(address) = reference.checked_sub(FIRST_NODE) else { return Pat::Var(reference as usize) };
+    let header = words[address as usize] - FIRST_HEADER;
+    let arguments = &words[address as usize + 1..][..(header % ARITIES) as usize];
+    Pat::A(header / ARITIES, arguments.iter().map(|argument| pattern(words, *argument)).collect())
+}
+
+/// Words of the constructors that a term is written with, numerals written out.
+fn written_words(sig: &Sig, term: &Term) -> u64 {
+    let (name, arguments): (&str, &[Term]) = match term {
+        Term::Meta(_) => panic!("a term with a value is ground"),
+        Term::Num(value) => return 1 + 2 * value,
+        Term::Name(name) => (name, &[]),
+        Term::App(name, arguments) => (name, arguments),
+    };
+    let inside: u64 = arguments.iter().map(|argument| written_words(sig, argument)).sum();
+    if sig.defs.contains(name) { inside } else { inside + 1 + arguments.len() as u64 }
+}
+
+/// Words of a finished call of a clause, without those of the calls in it: the arguments of its premises, and its
+/// conclusion.
+fn clause_words(rule: &Rule) -> u64 {
+    let arguments = rule.premises.iter().flat_map(|premise| match premise {
+        Pat::A(_, patterns) => &patterns[..patterns.len() - 1],
+        _ => panic!("a premise of a clause is a call"),
+    });
+    arguments.chain([&rule.conclusion]).map(pattern_words).sum()
 }
 
 fn pattern_words(pattern: &Pat) -> u64 {
@@ -136,10 +194,10 @@ impl Evaluated<'_> {
             Ok(result) => result,
         };
         let mut reader = Reader { terms, seen: HashMap::new() };
-        let (mut calls, mut words) = (Vec::new(), self.loaded.written_words(&self.term));
+        let (mut calls, mut words) = (Vec::new(), written_words(self.sig, &self.term));
         for (height, proof) in preorder(proofs) {
             let rule = rule_of(proof);
-            words += self.loaded.clause_words(rule);
+            words += clause_words(&self.sig.rules[rule]);
             calls.push(Call { height, rule: rule as u32, goal: reader.number(&proof.goal) });
         }
         Answer::Value(Value { term: reader.number(value), calls, words })
@@ -151,10 +209,9 @@ impl Evaluated<'_> {
             Err(number) => return format!("refused {number}\n"),
             Ok(result) => result,
         };
-        let sig = &self.loaded.sig;
-        let text = |term: &T| sig.pat_text(&t_pat(term));
+        let text = |term: &T| self.sig.pat_text(&t_pat(term));
         let call = |(height, proof): (u32, &Proof)| {
-            format!("{height} {} {}\n", sig.rules[rule_of(proof)].name, text(&proof.goal))
+            format!("{height} {} {}\n", self.sig.rules[rule_of(proof)].name, text(&proof.goal))
         };
         format!("value {}\n", text(value)) + &preorder(proofs).into_iter().map(call).collect::<String>()
     }

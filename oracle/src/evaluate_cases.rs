@@ -2,15 +2,20 @@
 
 use crate::damage::{changed_number, damage_bytes, damage_tokens};
 use crate::declarations::{Pieces, plainly_written, written};
+use crate::evaluate::{Evaluated, Kept};
 use crate::evaluate_definitions::{Evaluation, Signature, Written, term_at};
 use crate::evaluate_examples::{Example, examples};
 use crate::evaluated::{Answer, NO_WORDS, Terms, WORDS};
 use crate::load::{Loaded, load};
-use crate::loaded::{self, Buffers, Lent, Limits, NODES, Storage};
+use crate::loaded::{
+    self, ARITIES, Buffers, FIRST_HEADER, FIRST_INPUT, FIRST_NODE, FIRST_PREMISE, Lent, Limits, NODES, Pair, RuleRow,
+    Storage, SymbolRow,
+};
 use crate::programs::program;
 use crate::random::Random;
 use crate::shrink;
 use crate::signatures::signature;
+use std::collections::HashSet;
 use std::ops::Range;
 
 /// A loaded text: the original's signature, and the same as it is stored and as the definitions read it.
@@ -43,29 +48,75 @@ impl Program {
         }
     }
 
+    /// The same for all of them, each behind its line. Of a goal only that it is one; a term that is too large to be
+    /// printed is refused.
+    pub fn listing(&self, text: &[u8], limit: u32) -> String {
+        let listed = |(eval, [line, _]): (usize, &Pair)| {
+            let verdict = match self.loaded.is_forward_call(eval) {
+                false => "goal\n".to_owned(),
+                true if self.largest(text, eval, limit) > PRINTED => "refused 39\n".to_owned(),
+                true => self.recorded(text, eval, limit),
+            };
+            format!("eval {line} {verdict}")
+        };
+        self.storage.evals.iter().enumerate().map(listed).collect()
+    }
+
+    /// The nodes of the largest term that is listed for an `#eval`, 0 where it is refused.
+    pub fn largest(&self, text: &[u8], eval: usize, limit: u32) -> u64 {
+        let mut terms = Terms::default();
+        let Answer::Value(value) = self.signature.evaluate_with(limit, &self.term(text, eval), &mut terms) else {
+            return 0;
+        };
+        let all = value.calls.iter().map(|call| call.goal).chain([value.term]);
+        all.map(|term| terms.size(term)).max().expect("a value")
+    }
+
     /// The answer to an `#eval` without a limit on words, on which the original and the definitions agree; else how they
     /// differ. Tells also whether the original was asked.
     pub fn agreed(&self, text: &[u8], eval: usize, terms: &mut Terms) -> Result<(Answer, bool), String> {
-        let term = self.term(text, eval);
-        let forward = (self.loaded.is_forward_call(eval), self.signature.is_forward_call(&term));
-        if forward.0 != forward.1 {
-            return Err(format!("forward call: the Rust says {}, the definitions {}", forward.0, forward.1));
-        }
-        let Evaluation { answer, compared } = self.signature.evaluate(BUILT, &term, terms);
-        if answer == Answer::Refused(NO_WORDS) || compared > COMPARED {
-            return Ok((answer, false));
-        }
-        let original = self.loaded.evaluated(eval).answer(terms);
-        if original == answer {
-            return Ok((answer, true));
-        }
-        Err(format!("the Rust says {}, the definitions {}", original.shown(terms), answer.shown(terms)))
+        let forward = self.loaded.is_forward_call(eval);
+        agreed(&self.signature, &self.term(text, eval), forward, || self.loaded.evaluated(eval), terms)
     }
 }
 
+/// The same for a term and a signature as it is stored, which no text need have made.
+pub fn agreed_as_kept(
+    kept: &Kept,
+    signature: &Signature,
+    term: &Written,
+    terms: &mut Terms,
+) -> Result<(Answer, bool), String> {
+    agreed(signature, term, kept.is_forward_call(term), || kept.evaluated(term), terms)
+}
+
+fn agreed<'s>(
+    signature: &Signature,
+    term: &Written,
+    forward: bool,
+    evaluated: impl FnOnce() -> Evaluated<'s>,
+    terms: &mut Terms,
+) -> Result<(Answer, bool), String> {
+    if signature.is_forward_call(term) != forward {
+        return Err(format!("forward call: the Rust says {forward}, the definitions {}", !forward));
+    }
+    let Evaluation { answer, compared } = signature.evaluate(BUILT, term, terms);
+    if answer == Answer::Refused(NO_WORDS) || compared > COMPARED {
+        return Ok((answer, false));
+    }
+    let original = evaluated().answer(terms);
+    if original == answer {
+        return Ok((answer, true));
+    }
+    Err(format!("the Rust says {}, the definitions {}", original.shown(terms), answer.shown(terms)))
+}
+
+/// Document 01: a term over so many nodes is not printed.
+const PRINTED: u64 = 4_096;
+
 /// How many words the original may build and how many nodes it may compare. Over these it is not asked: it compares shared
 /// terms as if they were written out, and needs a stack as deep as they are.
-pub const BUILT: u64 = 1 << 21;
+const BUILT: u64 = 1 << 21;
 const COMPARED: u64 = 1 << 22;
 
 /// The limit on words.
@@ -266,6 +317,38 @@ fn change<const N: usize>(random: &mut Random, rows: &mut [[u32; N]], often: usi
     let (at, other) = (random.below(rows.len()), random.below(rows.len()));
     let column = if random.percent(90) { random.below(often) } else { random.below(N) };
     let another = rows[other][column];
-    rows[at][column] =
-        if random.percent(50) { another } else { changed_number(random, rows[at][column], another) };
+    rows[at][column] = if random.percent(50) { another } else { changed_number(random, rows[at][column], another) };
+}
+
+/// Changes what is stored so that it stays in the listed form, and that no text need make it: sorts of inputs and outputs,
+/// and symbols of nodes, where the others have as many inputs. Functions stay what clauses conclude and call.
+pub fn change_in_form(random: &mut Random, storage: &mut Storage) {
+    let (sorts, symbols) = (storage.sorts.len(), storage.symbols.len());
+    if random.percent(30) && sorts > 0 && symbols > 0 {
+        let symbol = &mut storage.symbols[random.below(symbols)];
+        let column = random.below(1 + symbol[6] as usize);
+        let sort = random.between(1, sorts) as u32;
+        match column {
+            0 if symbol[2] == 0 => {}
+            0 => symbol[2] = sort,
+            _ => symbol[FIRST_INPUT + column - 1] = sort,
+        }
+        return;
+    }
+    let roots = |rule: &RuleRow| rule[FIRST_PREMISE..][..rule[4] as usize].to_vec();
+    let premises: HashSet<u32> = storage.rules.iter().flat_map(roots).collect();
+    let conclusions: HashSet<u32> = storage.rules.iter().map(|rule| rule[5]).collect();
+    let is_node = |at: &usize| storage.words[*at] >= FIRST_HEADER;
+    let nodes: Vec<usize> = (0..storage.words.len()).filter(is_node).collect();
+    let nodes: Vec<usize> = nodes.into_iter().filter(|at| !conclusions.contains(&(*at as u32 + FIRST_NODE))).collect();
+    if nodes.is_empty() {
+        return;
+    }
+    let at = random.pick(&nodes);
+    let (inputs, calls) = (storage.words[at] % ARITIES, premises.contains(&(at as u32 + FIRST_NODE)));
+    let fits = |row: &SymbolRow| row[6] == inputs && (!calls || row[3] == 1);
+    let others: Vec<usize> = (0..symbols).filter(|symbol| fits(&storage.symbols[*symbol])).collect();
+    if !others.is_empty() {
+        storage.words[at] = FIRST_HEADER + ARITIES * random.pick(&others) as u32 + inputs;
+    }
 }

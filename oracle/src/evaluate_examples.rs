@@ -198,12 +198,10 @@ fn example(text: String, limit: u32, answer: &str) -> Example {
 /// The fixed texts with their answers.
 pub fn examples() -> Vec<Example> {
     let after = |declarations: &str, term: &str| format!("{BEFORE}\n{declarations}\n#eval {term}");
-    let mut all: Vec<Example> =
-        CALLS.iter().map(|(term, answer)| example(after("", term), WORDS, answer)).collect();
-    all.extend(GOALS.iter().map(|(term, answer)| Example {
-        forward: false,
-        ..example(after("", term), WORDS, answer)
-    }));
+    let mut all: Vec<Example> = CALLS.iter().map(|(term, answer)| example(after("", term), WORDS, answer)).collect();
+    all.extend(
+        GOALS.iter().map(|(term, answer)| Example { forward: false, ..example(after("", term), WORDS, answer) }),
+    );
     let declared = |(declarations, term, limit, answer): &(&str, &str, u32, &str)| {
         example(after(declarations, term), *limit, answer)
     };
@@ -246,9 +244,8 @@ fn sums() -> Vec<Example> {
 
 /// A parenthesis adds one level, or two where a call in it is written `f = ..`.
 fn parentheses() -> Vec<Example> {
-    let double = |count: usize, inside: &str| {
-        format!("{}id = id {inside}{}", "id = id (".repeat(count), ")".repeat(count))
-    };
+    let double =
+        |count: usize, inside: &str| format!("{}id = id {inside}{}", "id = id (".repeat(count), ")".repeat(count));
     let single = |count: usize| format!("{}zero{}", "id (".repeat(count), ")".repeat(count));
     let asked = |term: String, answer: &str| example(format!("{BEFORE}\n#eval {term}"), WORDS, answer);
     vec![

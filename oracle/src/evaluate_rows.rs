@@ -11,14 +11,12 @@ fn expect(holds: bool, otherwise: &str) -> Read<()> {
     if holds { Ok(()) } else { Err(otherwise.to_owned()) }
 }
 
+fn expect_at(holds: bool, place: usize, otherwise: &str) -> Read<()> {
+    if holds { Ok(()) } else { Err(format!("{otherwise} at {place}")) }
+}
+
 /// The value in the lent part of the buffers, for a signature of these symbols and so many rules; else what is wrong.
-pub fn read_back(
-    lent: &Lent,
-    buffers: &Buffers,
-    symbols: &[SymbolRow],
-    rules: u32,
-    terms: &mut Terms,
-) -> Read<Value> {
+pub fn read_back(lent: &Lent, buffers: &Buffers, symbols: &[SymbolRow], rules: u32, terms: &mut Terms) -> Read<Value> {
     let [value, calls, used] = [0, 1, 2].map(|at| buffers.results[at]);
     expect(is_zero(&buffers.results[RESULTS..lent.results]), "a result behind the third")?;
     expect(is_zero(&buffers.links[..lent.links]), "a link that is not zero")?;
@@ -26,14 +24,14 @@ pub fn read_back(
     let (words, behind) = buffers.words[..lent.words].split_at(used as usize);
     expect(is_zero(behind), "a word past those in use")?;
     let nodes = nodes(words, symbols, terms)?;
-    let term = |reference: u32| nodes.get(&reference).copied().ok_or(format!("no node at {reference}"));
+    let term = |reference: u32| nodes.get(&reference).copied().ok_or_else(|| format!("no node at {reference}"));
     expect(calls as usize <= lent.trees, "more calls than rows")?;
     let (rows, behind) = buffers.trees[..lent.trees].split_at(calls as usize);
     expect(is_zero(behind.as_flattened()), "a row past those of the calls")?;
     let mut read = Vec::new();
     for (number, [height, kind, rule, goal, zeros @ ..]) in rows.iter().enumerate() {
-        expect(*kind == 0 && is_zero(zeros), &format!("row {number}: a column that is not zero"))?;
-        expect(*rule < rules, &format!("row {number}: no rule {rule}"))?;
+        expect_at(*kind == 0 && is_zero(zeros), number, "a row with a column that is not zero")?;
+        expect_at(*rule < rules, number, "a row without a rule")?;
         read.push(Call { height: *height, rule: *rule, goal: term(*goal)? });
     }
     Ok(Value { term: term(value)?, calls: read, words: u64::from(used) })
@@ -49,14 +47,13 @@ fn nodes(words: &[u32], symbols: &[SymbolRow], terms: &mut Terms) -> Read<HashMa
     let mut nodes = HashMap::new();
     let mut address = 0;
     while address < words.len() {
-        let header = words[address].checked_sub(FIRST_HEADER).ok_or(format!("no header at {address}"))?;
-        let (symbol, arity) = (header / ARITIES, header % ARITIES);
-        let row = symbols.get(symbol as usize).ok_or(format!("a symbol that is not declared at {address}"))?;
-        expect(arity == row[6], &format!("another number of arguments at {address}"))?;
+        expect_at(words[address] >= FIRST_HEADER, address, "no header")?;
+        let (symbol, arity) = ((words[address] - FIRST_HEADER) / ARITIES, (words[address] - FIRST_HEADER) % ARITIES);
+        let inputs = symbols.get(symbol as usize).map(|row| row[6]);
+        expect_at(inputs == Some(arity), address, "no symbol with so many arguments")?;
         let references = words[address + 1..].get(..arity as usize).ok_or("a node past the words in use")?;
-        let argument = |reference: &u32| nodes.get(reference).copied();
-        let arguments = references.iter().map(argument).collect::<Option<Vec<usize>>>();
-        let arguments = arguments.ok_or(format!("an argument that is no earlier node at {address}"))?;
+        let argument = |reference: &u32| nodes.get(reference).copied().ok_or("an argument that is no earlier node");
+        let arguments = references.iter().map(argument).collect::<Result<Vec<usize>, &str>>()?;
         nodes.insert(address as u32, terms.node(symbol, arguments));
         address += 1 + arity as usize;
     }

@@ -17,6 +17,7 @@ pub mod evaluate_cases;
 pub mod evaluate_definitions;
 pub mod evaluate_examples;
 pub mod evaluate_rows;
+pub mod evaluate_texts;
 pub mod evaluated;
 pub mod load_cases;
 pub mod load_definitions;

@@ -95,7 +95,7 @@ fn refused(number: u32, line: u32) -> Answer {
     Answer::Refused { number, line }
 }
 
-fn no_declarations() -> Sig {
+pub(super) fn no_declarations() -> Sig {
     Sig {
         sorts: Vec::new(),
         sort_ix: HashMap::new(),

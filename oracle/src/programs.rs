@@ -43,8 +43,7 @@ pub fn program(random: &mut Random) -> Vec<Pieces> {
     let fault = random.pick(&[0, 3, 6, 6, 15]);
     let (constructors, predicates, functions) = (Vec::new(), Vec::new(), Vec::new());
     let (done, pieces, variables) = (Vec::new(), Vec::new(), Vec::new());
-    let mut writer =
-        Writer { random, sorts: 0, constructors, predicates, functions, done, pieces, variables, fault };
+    let mut writer = Writer { random, sorts: 0, constructors, predicates, functions, done, pieces, variables, fault };
     writer.start();
     for _ in 0..writer.random.between(2, 6) {
         writer.some_function();
@@ -556,8 +555,7 @@ impl Writer<'_> {
     /// A call in a call, about as often as parentheses may be open, each adding one or two levels.
     fn nested(&mut self) {
         let alone = |symbol: &&Symbol| symbol.inputs == [symbol.output];
-        let functions: Vec<Symbol> =
-            self.functions.iter().chain(&self.constructors).filter(alone).cloned().collect();
+        let functions: Vec<Symbol> = self.functions.iter().chain(&self.constructors).filter(alone).cloned().collect();
         if functions.is_empty() {
             return self.numeral();
         }

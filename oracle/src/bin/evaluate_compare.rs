@@ -5,9 +5,11 @@ mod ours;
 #[path = "../ours_load.rs"]
 mod ours_load;
 
-use horn_oracle::evaluate::with_large_stack;
-use horn_oracle::evaluate_cases::{BUILT, Program, Question, damage, fixed_questions, generated, unexpected_example};
-use horn_oracle::evaluate_definitions::{Signature, term_at};
+use horn_oracle::evaluate::{Kept, with_large_stack};
+use horn_oracle::evaluate_cases::{
+    Program, Question, agreed_as_kept, damage, fixed_questions, generated, unexpected_example,
+};
+use horn_oracle::evaluate_definitions::{Signature, Written, term_at};
 use horn_oracle::evaluate_rows::read_back;
 use horn_oracle::evaluated::{Answer, Buffers, COUNTS_READ, Lent, NUMBERS, Stored, Terms, counted};
 use horn_oracle::loaded::{self, RULES, SORTS, SYMBOLS};
@@ -112,10 +114,14 @@ fn compared_in(question: &Question, Storage { stored, lent }: &mut Storage, tall
     tally.damaged += u64::from(question.damage.is_some());
     tally.damaged_in_form += u64::from(question.damage.is_some() && in_form);
     let [_, symbols, rules, words] = [0, 1, 2, 3].map(|at| stored.counts[at] as usize);
-    let read = || Signature::stored(&text, &stored.symbols[..symbols], &stored.rules[..rules], &stored.words[..words]);
-    let (signature, before) = (in_form.then(read), sum(stored));
+    let read = || {
+        let (symbols, rules) = (&stored.symbols[..symbols], &stored.rules[..rules]);
+        let words = &stored.words[..words];
+        (Kept::stored(&text, symbols, rules, words), Signature::stored(&text, symbols, rules, words))
+    };
+    let (signatures, before) = (in_form.then(read), sum(stored));
     for at in places(question, &program) {
-        let place = Place { question, text: &text, program: &program, signature: signature.as_ref(), stored, at };
+        let place = Place { question, text: &text, program: &program, signatures: signatures.as_ref(), stored, at };
         place.compared(lent, tally).map_err(|cause| format!("row {at}: {cause}"))?;
     }
     if sum(stored) == before { Ok(()) } else { Err("what is lent to be read was written".to_owned()) }
@@ -124,7 +130,8 @@ fn compared_in(question: &Question, Storage { stored, lent }: &mut Storage, tall
 /// The sum of all numbers that are lent to be read, each weighed by its place, so that a written one is seen.
 fn sum(stored: &loaded::Buffers) -> u64 {
     let loaded::Buffers { sorts, symbols, rules, words, counts, rows, .. } = stored;
-    let parts = [sorts.as_flattened(), symbols.as_flattened(), rules.as_flattened(), words, counts, rows.as_flattened()];
+    let parts =
+        [sorts.as_flattened(), symbols.as_flattened(), rules.as_flattened(), words, counts, rows.as_flattened()];
     let weighed = |(at, number): (usize, &u32)| (at as u64 + 1).wrapping_mul(u64::from(*number));
     let sums = parts.map(|part| part.iter().enumerate().map(weighed).fold(0, u64::wrapping_add));
     sums.iter().enumerate().fold(0, |sum, (part, more)| sum.wrapping_mul(31).wrapping_add(part as u64 ^ more))
@@ -147,8 +154,8 @@ struct Place<'a> {
     question: &'a Question,
     text: &'a [u8],
     program: &'a Program,
-    /// None where it is not in the listed form.
-    signature: Option<&'a Signature>,
+    /// What is stored by the original and by the definitions, where it is in the listed form.
+    signatures: Option<&'a (Kept, Signature)>,
     stored: &'a loaded::Buffers,
     at: usize,
 }
@@ -174,8 +181,9 @@ impl Place<'_> {
         };
         let term = term_at(self.text, stored.rows, self.at).map(|(term, _)| term);
         let readable = (0..5).all(|part| sizes[part] >= least[part]);
-        let asked = self.signature.filter(|_| readable).zip(term);
-        let forward = asked.as_ref().map_or(NOT_LISTED, |(signature, term)| signature.is_forward_call(term).into());
+        let asked = self.signatures.filter(|_| readable).zip(term);
+        let is_forward = |(_, signature): &(Kept, Signature), term| u64::from(signature.is_forward_call(term));
+        let forward = asked.as_ref().map_or(NOT_LISTED, |(signatures, term)| is_forward(signatures, term));
         let ours = ours::is_forward_call(&stored, self.at);
         if forward != ours {
             return Err(format!("forward call: Rust {forward:#x}, ours {ours:#x}"));
@@ -183,10 +191,7 @@ impl Place<'_> {
         let terms = &mut Terms::default();
         let whole = match asked.as_ref() {
             None => Answer::Refused(1),
-            Some((signature, term)) => match self.agreed(terms)? {
-                Some(answer) => answer,
-                None => signature.evaluate(BUILT, term, terms).answer,
-            },
+            Some(((kept, signature), term)) => self.agreed(kept, signature, term, terms)?.0,
         };
         let limit = self.question.limit.words(&whole);
         let least = Lent::least(limit);
@@ -197,7 +202,7 @@ impl Place<'_> {
             results: self.sized(9, least.results),
         };
         let expected = match asked {
-            Some((signature, term)) if lent.suffices(limit) => signature.evaluate_with(limit, &term, terms),
+            Some(((_, signature), term)) if lent.suffices(limit) => signature.evaluate_with(limit, &term, terms),
             _ => Answer::Refused(1),
         };
         buffers.reset(&lent, GUARD, JUNK);
@@ -215,12 +220,19 @@ impl Place<'_> {
         }
     }
 
-    /// The answer on which the original and the definitions agree, for an `#eval` of which nothing is damaged.
-    fn agreed(&self, terms: &mut Terms) -> Result<Option<Answer>, String> {
+    /// The answer on which the original and the definitions agree: for an `#eval` of which nothing is damaged the original
+    /// as it loads the text, else as it is stored.
+    fn agreed(
+        &self,
+        kept: &Kept,
+        signature: &Signature,
+        term: &Written,
+        terms: &mut Terms,
+    ) -> Result<(Answer, bool), String> {
         let eval = self.program.storage.evals.iter().position(|[_, row]| *row as usize == self.at);
         match eval.filter(|_| self.question.damage.is_none()) {
-            None => Ok(None),
-            Some(eval) => self.program.agreed(self.text, eval, terms).map(|(answer, _)| Some(answer)),
+            Some(eval) => self.program.agreed(self.text, eval, terms),
+            None => agreed_as_kept(kept, signature, term, terms),
         }
     }
 
