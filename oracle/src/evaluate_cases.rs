@@ -42,8 +42,10 @@ impl Program {
 
     /// What the evaluator gives for an `#eval` under a limit on words, as it is recorded.
     pub fn recorded(&self, text: &[u8], eval: usize, limit: u32) -> String {
-        match self.signature.evaluate_with(limit, &self.term(text, eval), &mut Terms::default()) {
-            Answer::Refused(NO_WORDS) => format!("refused {NO_WORDS}\n"),
+        let limit = u64::from(limit.min(WORDS));
+        match self.signature.evaluate(limit, &self.term(text, eval), &mut Terms::default()) {
+            Evaluation { answer: Answer::Refused(NO_WORDS), .. } => format!("refused {NO_WORDS}\n"),
+            Evaluation { compared, .. } if compared > COMPARED => "not known: too large for the Rust\n".to_owned(),
             _ => self.loaded.evaluated(eval).recorded(),
         }
     }

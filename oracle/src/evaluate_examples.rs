@@ -84,6 +84,7 @@ const GOALS: &[(&str, &str)] = &[
     ("18446744073709551615", "refused 29"), ("x", "refused 20"), ("x a", "refused 20"), ("A", "refused 20"),
     ("p a", "refused 32"), ("q", "refused 32"), ("p", "refused 32"), ("p z", "refused 32"), ("s", "refused 21"),
     ("s b", "refused 33"), ("d a b", "refused 33"), ("d b a", "refused 33"), ("s (u a)", "refused 36"),
+    ("f (s (s a)) = ?z", "refused 21"), ("f (s (s a)) a", "refused 21"),
 ];
 
 /// Further declarations behind `BEFORE`, a forward call, the limit on words, and its answer.
@@ -232,6 +233,7 @@ fn sums() -> Vec<Example> {
     let value = |times: usize| format!("value {}", tower("succ", "zero", times));
     let id = |term: &str, answer: String| example(format!("{BEFORE}\n#eval {term}"), WORDS, &answer);
     vec![
+        example(format!("{ADD}\n#eval add 1 = 2"), WORDS, &value(3)),
         example(add(0, 127), WORDS, &value(127)),
         example(add(127, 0), WORDS, &value(127)),
         example(add(126, 127), WORDS, &value(253)),
