@@ -1,4 +1,5 @@
--- The turns of `find_clause`: no clause before i fits, and matching what is left of the clause i comes to matching all of it.
+-- The turns of `find_clause`: no clause before i fits, and matching what is left of the clause i comes to matching all of it. The loop
+-- over clauses is left at a clause that fits, or behind the last one.
 use Prim.Native.Nat.{ℕ, zero, suc, _+_, _-_, _≤_, _<_}
 use native.Mathlib.Omega.{arith}
 use native.Mathlib.Numerals.{add-one}
@@ -53,6 +54,15 @@ pub record Trying (rules : Rows) (pattern values words : List ℕ) (used : ℕ) 
   pub reached : Reached (args (denote patternRoom (cells pattern)) (cells pattern) (base + k) (length values - k))
       (args (denote 0 (cells words)) (cells values) k (length values - k)) (fitOf rules pattern values words i₀) environment words used
 
+-- The loop over clauses is left: at the clause i, which fits, or behind all clauses.
+pub record Ended (rules : Rows) (pattern : List ℕ) (from end : ℕ) (values words : List ℕ) (used : ℕ) (environment₀ links₀ : List ℕ) (stack₀ : Rows)
+    (environment links : List ℕ) (stack : Rows) (i : ℕ) : Type 0 where
+  pub kept : length environment ≡ length environment₀
+  pub keeps : length stack ≡ length stack₀
+  pub restored : links ≡ links₀
+  pub found : i < end → Chosen rules pattern from end values words used environment₀ links₀ (At i) environment links
+  pub none-fits : end ≤ i → Chosen rules pattern from end values words used environment₀ links₀ Nowhere environment links
+
 pub choosing-start : {rules : Rows} {pattern : List ℕ} {from end : ℕ} {values words : List ℕ} {used : ℕ} {environment links : List ℕ} {stack : Rows}
     → ClauseAsked rules pattern from end values words used environment links stack
     → Choosing rules pattern from end values words used environment links stack environment links stack from
@@ -92,8 +102,17 @@ words-argument g w p (suc n) (suc k) l =
 module _ {rules : Rows} {pattern : List ℕ} {from end : ℕ} {values words : List ℕ} {used : ℕ} {environment₀ links₀ : List ℕ} {stack₀ : Rows}
     {environment links : List ℕ} {stack : Rows} {i : ℕ}
     (h : Choosing rules pattern from end values words used environment₀ links₀ stack₀ environment links stack i) where
-  pub none-fits : end ≤ i → Chosen rules pattern from end values words used environment₀ links₀ Nowhere environment links
-  none-fits l = record { chooses = λ j a b. h .missed j a (omega arith); kept = h .kept; restored = h .restored }
+  -- The loop is left behind all clauses.
+  pub ended-behind : end ≤ i → {environment′ links′ : List ℕ} {stack′ : Rows} {i′ : ℕ}
+      → environment′ ≡ environment → links′ ≡ links → stack′ ≡ stack → i′ ≡ i
+      → Ended rules pattern from end values words used environment₀ links₀ stack₀ environment′ links′ stack′ i′
+  ended-behind l e m s n = rw (e, m, s, n) (record {
+    kept = h .kept;
+    keeps = h .keeps;
+    restored = h .restored;
+    found = λ o. let z : ⊥ = omega arith in absurd z;
+    none-fits = λ o. record { chooses = λ j a b. h .missed j a (omega arith); kept = h .kept; restored = h .restored };
+  })
 
   module _ (l : i < end) where
     abbrev conclusion : ConclusionIn pattern (h .asked .size) (conclusionIn rules i) (length values)
@@ -146,7 +165,7 @@ module _ {rules : Rows} {pattern : List ℕ} {from end : ℕ} {values words : Li
 
     module _ {environment′ : List ℕ} {base : ℕ} (long : length environment′ ≡ length environment) {environment″ links″ : List ℕ} {stack″ : Rows} {i″ k : ℕ}
         (t : Trying rules pattern values words used environment′ links stack i base environment″ links″ stack″ i″ k) where
-      pub clause-fits : length values ≤ k → Chosen rules pattern from end values words used environment₀ links₀ (At i″) environment″ links″
+      clause-fits : length values ≤ k → Chosen rules pattern from end values words used environment₀ links₀ (At i″) environment″ links″
       unfolding bindOf
       clause-fits m =
           let f = t .few in
@@ -161,6 +180,18 @@ module _ {rules : Rows} {pattern : List ℕ} {from end : ℕ} {values words : Li
             kept = t .kept ∙ long ∙ h .kept;
             restored = t .restored ∙ h .restored;
           }
+
+      -- The loop is left at the clause.
+      pub ended-at : length values ≤ k → {environment‴ links‴ : List ℕ} {stack‴ : Rows} {i‴ : ℕ}
+          → environment‴ ≡ environment″ → links‴ ≡ links″ → stack‴ ≡ stack″ → i‴ ≡ i″
+          → Ended rules pattern from end values words used environment₀ links₀ stack₀ environment‴ links‴ stack‴ i‴
+      ended-at m e n s o = rw (e, n, s, o) (record {
+        kept = t .kept ∙ long ∙ h .kept;
+        keeps = t .keeps ∙ h .keeps;
+        restored = t .restored ∙ h .restored;
+        found = λ p. clause-fits m;
+        none-fits = λ p. let q = t .same in let z : ⊥ = omega arith in absurd z;
+      })
 
       module _ (m : k < length values) where
         abbrev head : ℕ

@@ -75,6 +75,10 @@ pub fn find_clause(
             }
             k += 1;
         }
+        break 'clauses;
+    }
+    // The loop is left before the end only at a clause that fits.
+    if i < end {
         return Clause::At { rule: i };
     }
     Clause::Nowhere
