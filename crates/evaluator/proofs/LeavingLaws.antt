@@ -29,8 +29,8 @@ use Rattle.tree_rows.specs.TreeLaws.{lists-grown, lists-same}
 use Rattle.evaluation.specs.Calls.{Spent}
 use Rattle.evaluation.specs.Expressions.{Evaluated, failed, evaluated, evaluateOf}
 use Rattle.evaluation.specs.CountLaws.{evaluation-spends}
-use Rattle.function_calls.specs.Stored.{Values, Links}
-use Rattle.function_calls.specs.Building.{Stands as Built}
+use Rattle.clause_matching.specs.Stored.{Values, Links}
+use Rattle.clause_matching.specs.Building.{Stands as Built}
 use Rattle.function_calls.specs.Calls.{Working, TreesListed}
 use Rattle.expressions.specs.Terms.{ExpressionAsked, Evaluates, ExpressionAnswered}
 use Rattle.expressions.specs.declared.written.Expressed.{Expressed}

@@ -30,8 +30,8 @@ use Rattle.evaluation.specs.MatchingLaws.{Some}
 use Rattle.evaluation.specs.Derivations.{JudgmentOf, Judgments, ClauseOf, ClauseForm}
 use Rattle.evaluation.specs.LoadedLaws.{some-counted, is-function}
 use Rattle.evaluation.specs.NumberLaws.{ClausesThere}
-use Rattle.function_calls.specs.Stored.{PatternIn, Headed, patternAt}
-use Rattle.function_calls.specs.Building.{ruleWords}
+use Rattle.clause_matching.specs.Stored.{PatternIn, Headed, patternAt}
+use Rattle.clause_matching.specs.Building.{ruleWords}
 use Rattle.function_calls.specs.Calls.{PremiseIn, ClauseIn, Program}
 use Rattle.expressions.specs.Applying.{Tables}
 use Rattle.expressions.proofs.Building.{count-args}

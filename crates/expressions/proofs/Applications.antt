@@ -19,10 +19,10 @@ use Rattle.tree_rows.specs.TreeLaws.{lists-one}
 use Rattle.evaluation.specs.Matching.{Built, barred, built, buildNode}
 use Rattle.evaluation.specs.Calls.{Spent, Called, refused, returned, callOf}
 use Rattle.evaluation.specs.Expressions.{Evaluated, failed, evaluated, misuse, behind, around, applyOf}
-use Rattle.function_calls.specs.Choice.{valuesOf}
+use Rattle.clause_matching.specs.Choice.{valuesOf}
 use Rattle.function_calls.specs.Calls.{TreesListed, Answers, CallAsked, CallAnswered}
-use Rattle.function_calls.specs.declared.building.Built.{Built as Made}
-use Rattle.function_calls.specs.declared.building.Built.the-variants.{At, Refused as Barred}
+use Rattle.clause_matching.specs.declared.building.Built.{Built as Made}
+use Rattle.clause_matching.specs.declared.building.Built.the-variants.{At, Refused as Barred}
 use Rattle.function_calls.specs.declared.calls.Outcome.{Outcome}
 use Rattle.function_calls.specs.declared.calls.Outcome.the-variants.{Value as Answer, Refused}
 use Rattle.expressions.specs.Nodes.{BuildAsked, BuildAnswered}

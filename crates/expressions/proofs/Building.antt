@@ -12,11 +12,11 @@ use Rattle.terms.specs.Term.{Term, Terms, app, count}
 use Rattle.arena.specs.Cells.{headers, Cells, cells, args, denote}
 use Rattle.arena.specs.NodeLaws.{HeaderOf, header-of, args-list, push-frame, push-formed, push-reference, push-denotes}
 use Rattle.evaluation.specs.Matching.{Built, barred, built, buildNode}
-use Rattle.function_calls.specs.Stored.{Formed, valueAt}
-use Rattle.function_calls.specs.Building.{Tells, Stands}
-use Rattle.function_calls.specs.Choice.{valuesOf}
-use Rattle.function_calls.specs.declared.building.Built.{Built as Answer}
-use Rattle.function_calls.specs.declared.building.Built.the-variants.{At, Refused}
+use Rattle.clause_matching.specs.Stored.{Formed, valueAt}
+use Rattle.clause_matching.specs.Building.{Tells, Stands}
+use Rattle.clause_matching.specs.Choice.{valuesOf}
+use Rattle.clause_matching.specs.declared.building.Built.{Built as Answer}
+use Rattle.clause_matching.specs.declared.building.Built.the-variants.{At, Refused}
 use Rattle.expressions.specs.Nodes.{BuildAsked, BuildAnswered}
 use Rattle.expressions.proofs.Forming.{node-formed, barred-at, used-at}
 

@@ -14,8 +14,8 @@ use Rattle.arena.specs.FormLaws.{reference-accepted}
 use Rattle.arena.specs.FormKept.{place, push-form}
 use Rattle.names.specs.Symbols.{Rows, Symbol, column, rowAt, symbolsOf, noSymbol}
 use Rattle.rules.specs.PatternLaws.{aritiesOf}
-use Rattle.function_calls.specs.Stored.{Value, Formed}
-use Rattle.function_calls.specs.declared.building.Built.the-variants.{At, Refused as Barred}
+use Rattle.clause_matching.specs.Stored.{Value, Formed}
+use Rattle.clause_matching.specs.declared.building.Built.the-variants.{At, Refused as Barred}
 use Rattle.function_calls.specs.declared.calls.Outcome.the-variants.{Value as Worth, Refused as Denied}
 use Rattle.expressions.specs.declared.written.Expressed.the-variants.{Value as Answer, Refused}
 use Rattle.forward_calls.proofs.Tables.{symbols-length, arity-at}

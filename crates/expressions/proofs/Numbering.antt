@@ -14,9 +14,9 @@ use Rattle.resolution.specs.Rules.{Rule, leaf}
 use Rattle.term_parser.specs.Source.{one}
 use Rattle.evaluation.specs.Matching.{Built, barred, built}
 use Rattle.evaluation.specs.Expressions.{Evaluated, failed, unless, around, numeralMisuse, towerOf, numeralOf}
-use Rattle.function_calls.specs.Building.{Tells}
-use Rattle.function_calls.specs.declared.building.Built.{Built as Answer}
-use Rattle.function_calls.specs.declared.building.Built.the-variants.{Refused}
+use Rattle.clause_matching.specs.Building.{Tells}
+use Rattle.clause_matching.specs.declared.building.Built.{Built as Answer}
+use Rattle.clause_matching.specs.declared.building.Built.the-variants.{Refused}
 use Rattle.expressions.specs.Numerals.{NumeralAsked, TowerAsked, TowerAnswered, Gives, NumeralAnswered}
 use Rattle.forward_calls.proofs.Tables.{symbols-length, output-at}
 use Rattle.expressions.proofs.Forming.{barred-at}

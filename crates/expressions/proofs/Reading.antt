@@ -19,8 +19,8 @@ use Rattle.tree_rows.specs.Trees.{Lists}
 use Rattle.evaluation.specs.Matching.{Built, barred, built}
 use Rattle.evaluation.specs.Calls.{Spent}
 use Rattle.evaluation.specs.Expressions.{Evaluated, failed, evaluated, misuse, unless, around, withSymbol, numeralMisuse, towerOf, numeralOf, applyOf, expressionOf}
-use Rattle.function_calls.specs.declared.building.Built.{Built as Made}
-use Rattle.function_calls.specs.declared.building.Built.the-variants.{At, Refused as Barred}
+use Rattle.clause_matching.specs.declared.building.Built.{Built as Made}
+use Rattle.clause_matching.specs.declared.building.Built.the-variants.{At, Refused as Barred}
 use Rattle.expressions.specs.Numerals.{NumeralAsked, Gives, NumeralAnswered}
 use Rattle.expressions.specs.Applying.{Tables}
 use Rattle.expressions.specs.Terms.{ExpressionAsked, Evaluates, ExpressionAnswered, ApplicationAsked, ApplicationAnswered}

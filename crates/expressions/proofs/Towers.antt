@@ -15,10 +15,10 @@ use Rattle.resolution.specs.Rules.{Rule}
 use Rattle.rules.specs.PatternLaws.{aritiesOf}
 use Rattle.evaluation.specs.Matching.{Built, barred, built, buildNode}
 use Rattle.evaluation.specs.Expressions.{sortIn, towerOf}
-use Rattle.function_calls.specs.Stored.{Formed, valueAt}
-use Rattle.function_calls.specs.Building.{Tells, Stands}
-use Rattle.function_calls.specs.declared.building.Built.{Built as Answer}
-use Rattle.function_calls.specs.declared.building.Built.the-variants.{At, Refused}
+use Rattle.clause_matching.specs.Stored.{Formed, valueAt}
+use Rattle.clause_matching.specs.Building.{Tells, Stands}
+use Rattle.clause_matching.specs.declared.building.Built.{Built as Answer}
+use Rattle.clause_matching.specs.declared.building.Built.the-variants.{At, Refused}
 use Rattle.expressions.specs.Nodes.{BuildAsked, BuildAnswered}
 use Rattle.expressions.specs.Numerals.{TowerAsked, TowerAnswered}
 use Rattle.forward_calls.proofs.Tables.{output-at, inputs-at}

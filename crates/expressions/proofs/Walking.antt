@@ -22,9 +22,9 @@ use Rattle.rules.specs.PatternLaws.{aritiesOf}
 use Rattle.tree_rows.specs.TreeLaws.{lists-up, lists-grown, lists-same, lists-joined}
 use Rattle.evaluation.specs.Calls.{Spent}
 use Rattle.evaluation.specs.Expressions.{Evaluated, failed, evaluated, ifEvaluated, sortIn, applyOf, expressionOf}
-use Rattle.function_calls.specs.Stored.{Value, Values, Headed, Formed, valueAt}
-use Rattle.function_calls.specs.Building.{Stands}
-use Rattle.function_calls.specs.Choice.{valuesOf}
+use Rattle.clause_matching.specs.Stored.{Value, Values, Headed, Formed, valueAt}
+use Rattle.clause_matching.specs.Building.{Stands}
+use Rattle.clause_matching.specs.Choice.{valuesOf}
 use Rattle.function_calls.specs.Calls.{Working, TreesListed}
 use Rattle.function_calls.specs.declared.calls.Outcome.{Outcome}
 use Rattle.function_calls.specs.declared.calls.Outcome.the-variants.{Value as Worth, Refused as Denied}

@@ -9,9 +9,9 @@ use Rattle.names.specs.Symbols.{Rows, column, rowAt, symbolsOf}
 use Rattle.resolution.specs.Rules.{Rule, leaf}
 use Rattle.rules.specs.PatternLaws.{aritiesOf}
 use Rattle.evaluation.specs.Expressions.{Evaluated, failed, evaluated, applyOf}
-use Rattle.function_calls.specs.Stored.{Value, Headed, Formed}
-use Rattle.function_calls.specs.Building.{Stands}
-use Rattle.function_calls.specs.Choice.{valuesOf}
+use Rattle.clause_matching.specs.Stored.{Value, Headed, Formed}
+use Rattle.clause_matching.specs.Building.{Stands}
+use Rattle.clause_matching.specs.Choice.{valuesOf}
 use Rattle.function_calls.specs.Calls.{Program, Working, TreesListed}
 use Rattle.function_calls.specs.declared.calls.Outcome.{Outcome}
 use Rattle.function_calls.specs.declared.calls.Outcome.the-variants.{Value as Answer, Refused}

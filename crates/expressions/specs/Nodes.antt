@@ -5,11 +5,11 @@ use mathlib.Core.List.{List}
 use lib.ListN.{length, getD}
 use Rattle.arena.specs.Cells.{headers, cells}
 use Rattle.evaluation.specs.Matching.{buildNode}
-use Rattle.function_calls.specs.Stored.{Value, Values, Formed}
-use Rattle.function_calls.specs.Building.{Tells}
-use Rattle.function_calls.specs.Choice.{valuesOf}
-use Rattle.function_calls.specs.declared.building.Built.{Built as Answer}
-use Rattle.function_calls.specs.declared.building.Built.the-variants.{At}
+use Rattle.clause_matching.specs.Stored.{Value, Values, Formed}
+use Rattle.clause_matching.specs.Building.{Tells}
+use Rattle.clause_matching.specs.Choice.{valuesOf}
+use Rattle.clause_matching.specs.declared.building.Built.{Built as Answer}
+use Rattle.clause_matching.specs.declared.building.Built.the-variants.{At}
 
 pub record BuildAsked (words : List ℕ) (used limit symbol : ℕ) (values : List ℕ) : Type 0 where
   pub stored : Values words used

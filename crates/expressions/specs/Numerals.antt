@@ -9,10 +9,10 @@ use Rattle.names.specs.Symbols.{Rows, column, rowAt, symbolsOf}
 use Rattle.resolution.specs.Rules.{Rule}
 use Rattle.rules.specs.PatternLaws.{aritiesOf}
 use Rattle.evaluation.specs.Expressions.{Evaluated, failed, evaluated, towerOf, numeralOf}
-use Rattle.function_calls.specs.Stored.{Values, Formed}
-use Rattle.function_calls.specs.Building.{Tells, Stands}
-use Rattle.function_calls.specs.declared.building.Built.{Built as Answer}
-use Rattle.function_calls.specs.declared.building.Built.the-variants.{At, Refused}
+use Rattle.clause_matching.specs.Stored.{Values, Formed}
+use Rattle.clause_matching.specs.Building.{Tells, Stands}
+use Rattle.clause_matching.specs.declared.building.Built.{Built as Answer}
+use Rattle.clause_matching.specs.declared.building.Built.the-variants.{At, Refused}
 
 -- The symbols and the words that values are built in.
 pub record NumeralAsked (symbols : Rows) (count depth : ℕ) (words : List ℕ) (used limit : ℕ) : Type 0 where

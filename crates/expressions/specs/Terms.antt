@@ -10,8 +10,8 @@ use Rattle.names.specs.Symbols.{Rows, column, rowAt, symbolsOf, symbolAt}
 use Rattle.resolution.specs.Rules.{Rule}
 use Rattle.rules.specs.PatternLaws.{aritiesOf}
 use Rattle.evaluation.specs.Expressions.{Evaluated, failed, evaluated, applyOf, expressionOf}
-use Rattle.function_calls.specs.Building.{Stands}
-use Rattle.function_calls.specs.Stored.{Headed, Formed}
+use Rattle.clause_matching.specs.Building.{Stands}
+use Rattle.clause_matching.specs.Stored.{Headed, Formed}
 use Rattle.function_calls.specs.Calls.{Working, TreesListed}
 use Rattle.expressions.specs.Applying.{Tables}
 use Rattle.expressions.specs.declared.written.Expressed.{Expressed}

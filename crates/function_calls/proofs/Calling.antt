@@ -17,12 +17,12 @@ use Rattle.names.specs.Symbols.{Rows, Symbol, column, rowAt, symbolAt}
 use Rattle.resolution.specs.Rules.{Rule, rule-at}
 use Rattle.evaluation.specs.Matching.{Fitted, misfit, fitted, bindOf}
 use Rattle.evaluation.specs.Calls.{Spent, Called, refused, returned, premisesOf, concluded, patternsOf, takenOr, tried, clausesOf, callOf, maxCalls}
-use Rattle.function_calls.specs.Stored.{Value, Values, PatternIn, Holds, Links, patternAt, valueAt}
-use Rattle.function_calls.specs.Building.{ruleWords}
-use Rattle.function_calls.specs.Choice.{conclusionIn, patternsIn, valuesOf, fitOf, ConclusionIn, ClauseAsked, Fits, Chosen, Chooses}
+use Rattle.clause_matching.specs.Stored.{Value, Values, PatternIn, Holds, Links, patternAt, valueAt}
+use Rattle.clause_matching.specs.Building.{ruleWords}
+use Rattle.clause_matching.specs.Choice.{conclusionIn, patternsIn, valuesOf, fitOf, ConclusionIn, ClauseAsked, Fits, Chosen, Chooses}
 use Rattle.function_calls.specs.Calls.{PremiseIn, ClauseIn, Program, Working, Answers, CallAsked, CallAnswered, FollowAsked, Followed}
-use Rattle.function_calls.specs.declared.choice.Clause.{Clause}
-use Rattle.function_calls.specs.declared.choice.Clause.the-variants.{At, Nowhere}
+use Rattle.clause_matching.specs.declared.choice.Clause.{Clause}
+use Rattle.clause_matching.specs.declared.choice.Clause.the-variants.{At, Nowhere}
 use Rattle.function_calls.specs.declared.calls.Outcome.{Outcome}
 use Rattle.function_calls.specs.declared.calls.Outcome.the-variants.{Value as Answer, Refused}
 use Rattle.function_calls.proofs.Forming.{refused-forms}

@@ -20,19 +20,20 @@ use Rattle.resolution.specs.Rules.{Rule, Tree, node, leaf, _◂_, joined}
 use Rattle.tree_rows.specs.Trees.{treeRow}
 use Rattle.evaluation.specs.Matching.{Fitted, misfit, fitted, bindOf, Built, barred, built, ifBuilt, buildNode, valueOf, instantiateOf, front, last}
 use Rattle.evaluation.specs.Calls.{Spent, Called, refused, returned, Walked, stopped, walked, ifArguments, ifCalled, ifResult, underFirst, premisesOf, concludedBy, concluded, callOf}
-use Rattle.function_calls.specs.Stored.{Value, Values, PatternIn, Holds, Links, patternAt, valueAt}
-use Rattle.function_calls.specs.Building.{ruleWords, InstantiateAsked, Stands, Tells, Instantiated}
-use Rattle.function_calls.specs.Choice.{Referable, patternFrom, ConclusionIn}
+use Rattle.clause_matching.specs.Stored.{Value, Values, PatternIn, Holds, Links, patternAt, valueAt}
+use Rattle.clause_matching.specs.Building.{ruleWords, InstantiateAsked, Stands, Tells, Instantiated}
+use Rattle.clause_matching.specs.Choice.{Referable, patternFrom, ConclusionIn}
 use Rattle.function_calls.specs.Calls.{PremiseIn, ClauseIn, Program, Working, TreesListed, Answers, FollowAsked, Followed, Stepped, Steps, PremiseAsked, PremiseAnswered}
-use Rattle.function_calls.specs.declared.building.Built.{Built as Reply}
-use Rattle.function_calls.specs.declared.building.Built.the-variants.{At, Refused as Unbuilt}
-use Rattle.function_calls.specs.declared.choice.Pattern.{Pattern}
-use Rattle.function_calls.specs.declared.choice.Pattern.the-variants.{Variable, Node}
+use Rattle.clause_matching.specs.declared.building.Built.{Built as Reply}
+use Rattle.clause_matching.specs.declared.building.Built.the-variants.{At, Refused as Unbuilt}
+use Rattle.clause_matching.specs.declared.choice.Pattern.{Pattern}
+use Rattle.clause_matching.specs.declared.choice.Pattern.the-variants.{Variable, Node}
 use Rattle.function_calls.specs.declared.calls.Outcome.{Outcome}
 use Rattle.function_calls.specs.declared.calls.Outcome.the-variants.{Value as Answer, Refused}
-use Rattle.function_calls.proofs.Open.{args-count}
-use Rattle.function_calls.proofs.Forming.{FormsKept, refused-forms, answer-forms}
-use Rattle.function_calls.proofs.Arguments.{refused-is, Found, found}
+use Rattle.clause_matching.proofs.Open.{args-count}
+use Rattle.clause_matching.proofs.Forming.{FormsKept}
+use Rattle.function_calls.proofs.Forming.{refused-forms, answer-forms}
+use Rattle.clause_matching.proofs.Arguments.{refused-is, Found, found}
 use Rattle.function_calls.proofs.Listing.{listed-none, listed-more, listed-node}
 use Rattle.function_calls.proofs.Premising.{front-args, last-args, spentOf}
 

@@ -13,7 +13,7 @@ use Rattle.resolution.specs.Rules.{Tree, node, leaf, _◂_, joined}
 use Rattle.tree_rows.specs.Trees.{Rows, treeRow, Lists}
 use Rattle.tree_rows.specs.TreeLaws.{lists-up, lists-grown, lists-same, lists-node, lists-joined, lists-one}
 use Rattle.evaluation.specs.Calls.{Spent}
-use Rattle.function_calls.specs.Stored.{Value, Values, valueAt}
+use Rattle.clause_matching.specs.Stored.{Value, Values, valueAt}
 use Rattle.function_calls.specs.Calls.{TreesListed}
 
 -- No premise is done.

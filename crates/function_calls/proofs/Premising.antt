@@ -18,19 +18,19 @@ use Rattle.resolution.specs.Rules.{Rule, Tree, leaf, _◂_}
 use Rattle.resolution.specs.Search.{words as wordsIn}
 use Rattle.evaluation.specs.Matching.{Fitted, misfit, fitted, bindOf, Built, barred, built, instantiateOf, front, last}
 use Rattle.evaluation.specs.Calls.{Spent, Called, refused, returned, Walked, stopped, walked, ifArguments, ifCalled, ifResult, underFirst, premisesOf, callOf}
-use Rattle.function_calls.specs.Stored.{Value, Values, PatternIn, Holds, Links, patternAt, valueAt}
-use Rattle.function_calls.specs.Matching.{Says, Lent, Matched, BindAsked}
-use Rattle.function_calls.specs.Building.{ruleWords, Stands, ArgumentsAsked, StandAll, TellsAll, ArgumentsBuilt}
-use Rattle.function_calls.specs.Choice.{valuesOf}
+use Rattle.clause_matching.specs.Stored.{Value, Values, PatternIn, Holds, Links, patternAt, valueAt}
+use Rattle.clause_matching.specs.Matching.{Says, Lent, Matched, BindAsked}
+use Rattle.clause_matching.specs.Building.{ruleWords, Stands, ArgumentsAsked, StandAll, TellsAll, ArgumentsBuilt}
+use Rattle.clause_matching.specs.Choice.{valuesOf}
 use Rattle.function_calls.specs.Calls.{PremiseIn, Program, Working, TreesListed, Answers, CallAsked, CallAnswered, Stepped, Steps, PremiseAsked, PremiseAnswered}
-use Rattle.function_calls.specs.declared.building.Built.{Built as Reply}
-use Rattle.function_calls.specs.declared.building.Built.the-variants.{At, Refused as Unbuilt}
+use Rattle.clause_matching.specs.declared.building.Built.{Built as Reply}
+use Rattle.clause_matching.specs.declared.building.Built.the-variants.{At, Refused as Unbuilt}
 use Rattle.function_calls.specs.declared.calls.Outcome.{Outcome}
 use Rattle.function_calls.specs.declared.calls.Outcome.the-variants.{Value as Answer, Refused}
 use Rattle.function_calls.proofs.Forming.{refused-forms, answer-forms}
-use Rattle.function_calls.proofs.BuildTurns.{holds-grown}
-use Rattle.function_calls.proofs.BindTurns.{says-false, says-true}
-use Rattle.function_calls.proofs.Choosing.{words-argument}
+use Rattle.clause_matching.proofs.BuildTurns.{holds-grown}
+use Rattle.clause_matching.proofs.BindTurns.{says-false, says-true}
+use Rattle.clause_matching.proofs.Choosing.{words-argument}
 use Rattle.function_calls.proofs.Listing.{listed-one}
 
 -- All arguments but the last, and the last.

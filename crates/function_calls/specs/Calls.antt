@@ -13,9 +13,9 @@ use Rattle.names.specs.Symbols.{Rows, Symbol, column, rowAt, symbolAt}
 use Rattle.resolution.specs.Rules.{Rule, rule-at, Tree}
 use Rattle.tree_rows.specs.Trees.{Lists}
 use Rattle.evaluation.specs.Calls.{Spent, Called, refused, returned, Walked, stopped, walked, premisesOf, concluded, callOf}
-use Rattle.function_calls.specs.Stored.{Value, Values, PatternIn, Holds, Links, Headed, Formed, patternAt}
-use Rattle.function_calls.specs.Building.{ruleWords, Stands}
-use Rattle.function_calls.specs.Choice.{ConclusionIn, valuesOf}
+use Rattle.clause_matching.specs.Stored.{Value, Values, PatternIn, Holds, Links, Headed, Formed, patternAt}
+use Rattle.clause_matching.specs.Building.{ruleWords, Stands}
+use Rattle.clause_matching.specs.Choice.{ConclusionIn, valuesOf}
 use Rattle.function_calls.specs.declared.calls.Outcome.{Outcome}
 use Rattle.function_calls.specs.declared.calls.Outcome.the-variants.{Value as Answer, Refused}
 

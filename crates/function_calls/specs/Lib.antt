@@ -1,6 +1,2 @@
--- What the evaluator's contracts cite, in reading order.
-pub mod Stored
-pub mod Matching
-pub mod Building
-pub mod Choice
+-- What the contracts of calls cite.
 pub mod Calls

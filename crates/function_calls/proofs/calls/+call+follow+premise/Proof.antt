@@ -20,11 +20,11 @@ use Rattle.function_calls.proofs.calls.+call+follow+premise.Lts-follow 
 use Rattle.function_calls.proofs.calls.premise.Reads as premise
 use Rattle.function_calls.proofs.calls.premise.Kinds as premise-kinds
 use Rattle.function_calls.proofs.calls.+call+follow+premise.Lts-premise as premise-lts
-use Rattle.function_calls.proofs.building.instantiate.Reads as instantiate-reads
-use Rattle.function_calls.proofs.building.instantiate_arguments.Reads as instantiate-arguments-reads
-use Rattle.function_calls.proofs.choice.find_clause.Reads as find-clause-reads
-use Rattle.function_calls.proofs.choice.pattern_at.Reads as pattern-at-reads
-use Rattle.function_calls.proofs.matching.bind.Reads as bind-reads
+use Rattle.clause_matching.proofs.instantiate.Reads as instantiate-reads
+use Rattle.clause_matching.proofs.instantiate_arguments.Reads as instantiate-arguments-reads
+use Rattle.clause_matching.proofs.find_clause.Reads as find-clause-reads
+use Rattle.clause_matching.proofs.pattern_at.Reads as pattern-at-reads
+use Rattle.clause_matching.proofs.bind.Reads as bind-reads
 use Rattle.function_calls.proofs.calls.+call+follow+premise.{statement}
 use Rattle.function_calls.proofs.calls.+call+follow+premise.Tie.{close}
 
