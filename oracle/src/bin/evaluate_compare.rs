@@ -110,9 +110,12 @@ fn compared_in(question: &Question, Storage { stored, lent }: &mut Storage, tall
     if let Some(seed) = question.damage {
         damage(seed, &mut text, stored);
     }
-    let in_form = ours_load::check(&text, &least, stored) == 0;
-    tally.damaged += u64::from(question.damage.is_some());
-    tally.damaged_in_form += u64::from(question.damage.is_some() && in_form);
+    let (damaged, in_form) = (question.damage.is_some(), ours_load::check(&text, &least, stored) == 0);
+    if !damaged && !in_form {
+        return Err("what our loader leaves is not in form".to_owned());
+    }
+    tally.damaged += u64::from(damaged);
+    tally.damaged_in_form += u64::from(damaged && in_form);
     let [_, symbols, rules, words] = [0, 1, 2, 3].map(|at| stored.counts[at] as usize);
     let read = || {
         let (symbols, rules) = (&stored.symbols[..symbols], &stored.rules[..rules]);
@@ -162,26 +165,9 @@ struct Place<'a> {
 
 impl Place<'_> {
     fn compared(&self, buffers: &mut Buffers, tally: &mut Tally) -> Result<(), String> {
-        let all_rows = &self.stored.rows[..self.stored.rows.len() - GUARD];
-        let end = term_at(self.text, all_rows, self.at).map_or(self.program.storage.rows.len(), |(_, end)| end);
-        let used = self.stored.counts[COUNTS_READ - 1] as usize;
-        let loaded::Buffers { sorts, symbols, rules, words, counts, rows, .. } = self.stored;
-        let lengths = [sorts.len(), symbols.len(), rules.len(), words.len(), counts.len(), rows.len()];
-        let least = [SORTS, SYMBOLS, RULES, used, COUNTS_READ, end];
-        let sizes: [usize; 6] = std::array::from_fn(|part| self.sized(part, least[part]).min(lengths[part]));
-        let [sorts, symbols, rules, words, counts, rows] = sizes;
-        let stored = Stored {
-            text: self.text,
-            sorts: &self.stored.sorts[..sorts],
-            symbols: &self.stored.symbols[..symbols],
-            rules: &self.stored.rules[..rules],
-            pattern: &self.stored.words[..words],
-            counts: &self.stored.counts[..counts],
-            rows: &self.stored.rows[..rows],
-        };
+        let (stored, suffices) = self.stored();
         let term = term_at(self.text, stored.rows, self.at).map(|(term, _)| term);
-        let readable = (0..5).all(|part| sizes[part] >= least[part]);
-        let asked = self.signatures.filter(|_| readable).zip(term);
+        let asked = self.signatures.filter(|_| suffices).zip(term);
         let is_forward = |(_, signature): &(Kept, Signature), term| u64::from(signature.is_forward_call(term));
         let forward = asked.as_ref().map_or(NOT_LISTED, |(signatures, term)| is_forward(signatures, term));
         let ours = ours::is_forward_call(&stored, self.at);
@@ -194,13 +180,7 @@ impl Place<'_> {
             Some(((kept, signature), term)) => self.agreed(kept, signature, term, terms)?.0,
         };
         let limit = self.question.limit.words(&whole);
-        let least = Lent::least(limit);
-        let lent = Lent {
-            words: self.sized(6, least.words),
-            links: self.sized(7, least.links),
-            trees: self.sized(8, least.trees),
-            results: self.sized(9, least.results),
-        };
+        let lent = self.lent(limit);
         let expected = match asked {
             Some(((_, signature), term)) if lent.suffices(limit) => signature.evaluate_with(limit, &term, terms),
             _ => Answer::Refused(1),
@@ -210,6 +190,37 @@ impl Place<'_> {
         tally.goals += u64::from(forward != 1 && expected != Answer::Refused(1));
         tally.counts[expected.number() as usize] += 1;
         self.left(&expected, code, &lent, buffers, terms).map_err(|cause| format!("with {limit} words: {cause}"))
+    }
+
+    /// What is lent to be read, up to the end of the term, and whether it is enough for a signature.
+    fn stored(&self) -> (Stored<'_>, bool) {
+        let loaded::Buffers { sorts, symbols, rules, words, counts, rows, .. } = self.stored;
+        let lengths = [sorts.len(), symbols.len(), rules.len(), words.len(), counts.len(), rows.len()];
+        let term = term_at(self.text, &rows[..rows.len() - GUARD], self.at);
+        let end = term.map_or(self.program.storage.rows.len(), |(_, end)| end);
+        let least = [SORTS, SYMBOLS, RULES, counts[COUNTS_READ - 1] as usize, COUNTS_READ, end];
+        let sizes: [usize; 6] = std::array::from_fn(|part| self.sized(part, least[part]).min(lengths[part]));
+        let stored = Stored {
+            text: self.text,
+            sorts: &sorts[..sizes[0]],
+            symbols: &symbols[..sizes[1]],
+            rules: &rules[..sizes[2]],
+            pattern: &words[..sizes[3]],
+            counts: &counts[..sizes[4]],
+            rows: &rows[..sizes[5]],
+        };
+        (stored, (0..5).all(|part| sizes[part] >= least[part]))
+    }
+
+    /// What is lent to be written.
+    fn lent(&self, limit: u32) -> Lent {
+        let Lent { words, links, trees, results } = Lent::least(limit);
+        Lent {
+            words: self.sized(6, words),
+            links: self.sized(7, links),
+            trees: self.sized(8, trees),
+            results: self.sized(9, results),
+        }
     }
 
     /// A size that the question may change.
