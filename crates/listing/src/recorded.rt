@@ -1,6 +1,6 @@
 // Recorded lists of texts, which the replaying programs read.
 //
-// A list has for each text a line `LENGTH LIMIT ROWS`, then LENGTH bytes, then a line end.
+// A list has for each text a line `LENGTH LIMIT ROWS`, then LENGTH bytes, then a line end. A line may have more numbers; they are read one by one.
 use libc::STDOUT_FILENO;
 use words::Limits;
 ghost use mathlib.Core.Path.{_≡_};
@@ -17,9 +17,9 @@ pub struct Recorded {
 }
 
 // A decimal number of a list and the place past it and the byte that ends it.
-struct Decimal {
-    value: u32,
-    next: usize,
+pub struct Decimal {
+    pub value: u32,
+    pub next: usize,
 }
 
 // Larger numbers count as this one, and so do places past it, so that sums of places fit.
@@ -36,7 +36,7 @@ pub fn end(list: &[u8]) -> usize
 }
 
 // The decimal number at a place: at most 20 digits are read.
-fn read_decimal(list: &[u8], at: usize) -> Decimal
+pub fn read_decimal(list: &[u8], at: usize) -> Decimal
     requires { ⌜ at < 2 ^ 62 ⌝ }
     ensures is { λ r. ⌜ r ≡ decimalAt (now (list .entry)) at ⌝ }
     ensures near { λ r. ⌜ (at < r .next) × (r .next ≤ at + 21) × (r .value ≤ 1048576) ⌝ }

@@ -59,7 +59,7 @@ fn fill_rules(rows: &mut [RuleRow], value: u32)
     }
 }
 
-fn fill_words(words: &mut [u32], value: u32)
+pub fn fill_words(words: &mut [u32], value: u32)
     ensures { λ _. ⌜ now (words .exit) ≡ replicate (length (now (words .entry))) value ⌝ }
 {
     let mut i = 0;
@@ -98,7 +98,7 @@ pub fn fill_signature(
 }
 
 // Is a place within the numbers or their end, and each number from there on the value?
-fn is_all(numbers: &[u32], from: usize, value: u32) -> bool
+pub fn is_all(numbers: &[u32], from: usize, value: u32) -> bool
     ensures { λ r. ⌜ r ≡ leb from (length (now (numbers .entry))) && isAll value (drop from (now (numbers .entry))) ⌝ }
 {
     if numbers.len() < from {
