@@ -11,10 +11,10 @@ use names::SymbolRow;
 use output::put;
 use output::put_byte;
 use output::put_decimal;
-use rules::RuleRow;
 pub use prefix::OpenRow;
 use prefix::put_name;
 use prefix::put_term;
+use rules::RuleRow;
 ghost use Prim.Native.Nat.{_≤_};
 ghost use lib.ListN.{length};
 

@@ -103,10 +103,7 @@ pub fn test(
         buffers::is_all(words, used, value),
         b"words of values as lent or zero",
     );
-    buffers::expect(
-        buffers::is_all(links, 0, value),
-        b"links as lent or zero",
-    );
+    buffers::expect(buffers::is_all(links, 0, value), b"links as lent or zero");
     buffers::expect(
         are_trees(trees, calls, value),
         b"rows of trees as lent or zero",

@@ -433,7 +433,15 @@ fn list_text(text: &[u8], limits: Limits) {
         &mut evals,
     );
     list_answer(
-        text, limits, answer, &rows, &sorts, &symbols, &rules, &pattern, &evals,
+        text,
+        limits,
+        answer,
+        &rows,
+        &sorts,
+        &symbols,
+        &rules,
+        &pattern,
+        &evals,
     );
 }
 
