@@ -434,3 +434,33 @@ module _ {pattern : List ℕ} {reference : ℕ} {values : List ℕ} {used value 
                   let c : bindOf (patternsLeft pattern stack depth) (valuesLeft values stack depth) (a .γ) ≡ whole β = a .comes in
                   record { γ = a .γ; holds = a .holds; comes = ap₂ (λ (ps ts : Terms). bindOf ps ts (a .γ)) (sym first) (sym first-value) ∙ c };
             }
+
+-- The next argument is taken, and it is a variable: both steps at once.
+module _ {pattern : List ℕ} {reference : ℕ} {values : List ℕ} {used value : ℕ} {environment₀ links₀ : List ℕ} {stack₀ : Rows}
+    {environment links : List ℕ} {stack : Rows} {depth next other : ℕ} {waiting : Bool}
+    (h : Turn pattern reference values used value environment₀ links₀ stack₀ environment links stack depth next other waiting)
+    (q : waiting ≡ false) (n : depth ≢ 0) (o : column 2 stack (depth - 1) ≢ 0) (v : cells pattern (column 0 stack (depth - 1)) < patternRoom) where
+  abbrev row-after : List ℕ
+  row-after = (column 0 stack (depth - 1) + 1) ∷ (column 1 stack (depth - 1) + 1) ∷ (column 2 stack (depth - 1) - 1) ∷ []
+
+  abbrev stack-after : Rows
+  stack-after = set stack (depth - 1) row-after
+
+  abbrev next-after : ℕ
+  next-after = cells pattern (column 0 stack (depth - 1))
+
+  abbrev other-after : ℕ
+  other-after = cells values (column 1 stack (depth - 1))
+
+  pub less-taken : left pattern stack-after depth next-after waiting < left pattern stack depth next waiting
+  less-taken =
+      let x : left pattern stack-after depth next-after true < left pattern stack depth next false = rw q at (less-next h q n o) in
+      let y = less-variable (turn-next h q n o) refl v in
+      rw q (omega arith)
+
+  module _ (r : Bool) (environment′ links′ : List ℕ) (m : Matched (var next-after) values used other-after environment links r environment′ links′) where
+    pub turn-taken : r ≡ true
+        → Turn pattern reference values used value environment₀ links₀ stack₀ environment′ links′ stack-after depth next-after other-after waiting
+    turn-taken e =
+        subst (λ (b : Bool). Turn pattern reference values used value environment₀ links₀ stack₀ environment′ links′ stack-after depth next-after other-after b) (sym q)
+        (turn-variable (turn-next h q n o) refl v r environment′ links′ m e)

@@ -227,6 +227,35 @@ turn-start {limit = limit} h = record {
   };
 }
 
+-- The stack that was lent may be another of the same length.
+pub turn-lent : {pattern : List ℕ} {reference : ℕ} {environment values₀ : List ℕ} {used₀ limit : ℕ} {stack₀ : Rows}
+    {values : List ℕ} {stack : Rows} {depth top spent next : ℕ} {waiting : Bool} (stack₁ : Rows) → length stack₁ ≡ length stack₀
+    → Turn pattern reference environment values₀ used₀ limit stack₀ values stack depth top spent next waiting
+    → Turn pattern reference environment values₀ used₀ limit stack₁ values stack depth top spent next waiting
+turn-lent stack₁ e h = record {
+  asked = record {
+    size = h .asked .size;
+    patterned = h .asked .patterned;
+    stored = h .asked .stored;
+    long = h .asked .long;
+    known = h .asked .known;
+    fits = h .asked .fits;
+    low = h .asked .low;
+    scratch = h .asked .scratch;
+    rows = let r = h .asked .rows in omega arith;
+  };
+  kept = h .kept;
+  keeps = h .keeps ∙ sym e;
+  stored = h .stored;
+  same = h .same;
+  grows = h .grows;
+  within = h .within;
+  forms = h .forms;
+  slots = h .slots;
+  rows = h .rows;
+  moment = h .moment;
+}
+
 module _ {pattern : List ℕ} {reference : ℕ} {environment values₀ : List ℕ} {used₀ limit : ℕ} {stack₀ : Rows}
     {values : List ℕ} {stack : Rows} {depth top spent next : ℕ} {waiting : Bool}
     (h : Turn pattern reference environment values₀ used₀ limit stack₀ values stack depth top spent next waiting) where

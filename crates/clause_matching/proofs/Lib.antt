@@ -6,5 +6,6 @@ pub mod Pushing
 pub mod Frames
 pub mod Forming
 pub mod BuildTurns
+pub mod Variables
 pub mod Arguments
 pub mod Choosing

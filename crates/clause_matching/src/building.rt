@@ -5,6 +5,7 @@ use arena::PATTERN_ROOM;
 use arena::SYMBOL_STEP;
 ghost use Prim.Native.Nat.{suc, _+_, _≤_, _<_};
 ghost use lib.ListN.{length};
+ghost use Rattle.arena.specs.Copies.{patternRoom};
 ghost use Rattle.clause_matching.specs.Building.{Pushed, InstantiateAsked, Instantiated, ArgumentsAsked, ArgumentsBuilt};
 
 // What came of building: the value and the words then used.
@@ -31,8 +32,8 @@ fn push_values(words: &mut [u32], used: u32, header: u32, from: u32, count: u32)
     words[source] = used;
 }
 
-// The pattern with the values of its variables put in. The words from `limit` on are scratch: references of arguments whose node is still open.
-pub fn instantiate(
+// A pattern that is a node, with the values of its variables put in. The words from `limit` on are scratch: references of arguments whose node is open.
+fn instantiate_node(
     pattern: &[u32],
     reference: u32,
     environment: &[u32],
@@ -41,19 +42,24 @@ pub fn instantiate(
     limit: u32,
     stack: &mut [[u32; 3]],
 ) -> Built
-    requires { ⌜ InstantiateAsked (now pattern) reference (now environment) (now words) used limit (now stack) ⌝ }
+    requires { ⌜ (patternRoom ≤ reference) × InstantiateAsked (now pattern) reference (now environment) (now words) used limit (now stack) ⌝ }
     ensures { λ r. ⌜ Instantiated (now (pattern .entry)) reference (now (environment .entry)) (now (words .entry)) used limit r (now (words .exit)) ⌝ }
 {
-    // A row of the stack is an open node: its address in the pattern, how many arguments were taken, and where the first one's reference stands. `next` is to
-    // be built if `waiting`.
-    let mut depth: usize = 0;
+    // A row of the stack is an open node: its address in the pattern, how many arguments were taken, and where the first one's reference stands.
+    stack[0] = [reference - PATTERN_ROOM, 0, limit];
+    let mut depth: usize = 1;
     let mut top = limit;
     let mut spent = used;
-    let mut next = reference;
-    let mut waiting = true;
-    loop {
-        if waiting {
-            waiting = false;
+    while depth != 0 {
+        let row = depth - 1;
+        let address = stack[row][0];
+        let taken = stack[row][1];
+        let base = stack[row][2];
+        let header = pattern[address as usize];
+        let arity = header % SYMBOL_STEP;
+        if taken < arity {
+            stack[row] = [address, taken + 1, base];
+            let next = pattern[(address + 1 + taken) as usize];
             if next < PATTERN_ROOM {
                 let entry = environment[next as usize];
                 if entry == 0 {
@@ -66,33 +72,45 @@ pub fn instantiate(
                 depth += 1;
             }
         } else {
-            if depth == 0 {
-                return Built::At {
-                    value: words[limit as usize],
-                    used: spent,
-                };
+            if limit - spent <= arity {
+                return Built::Refused { number: NO_WORDS };
             }
-            let row = depth - 1;
-            let address = stack[row][0];
-            let taken = stack[row][1];
-            let base = stack[row][2];
-            let header = pattern[address as usize];
-            let arity = header % SYMBOL_STEP;
-            if taken < arity {
-                stack[row] = [address, taken + 1, base];
-                next = pattern[(address + 1 + taken) as usize];
-                waiting = true;
-            } else {
-                if limit - spent <= arity {
-                    return Built::Refused { number: NO_WORDS };
-                }
-                push_values(words, spent, header, base, arity);
-                top = base + 1;
-                spent += arity + 1;
-                depth = row;
-            }
+            push_values(words, spent, header, base, arity);
+            top = base + 1;
+            spent += arity + 1;
+            depth = row;
         }
     }
+    Built::At {
+        value: words[limit as usize],
+        used: spent,
+    }
+}
+
+// The pattern with the values of its variables put in: a variable's value stands already, a node is built.
+pub fn instantiate(
+    pattern: &[u32],
+    reference: u32,
+    environment: &[u32],
+    words: &mut [u32],
+    used: u32,
+    limit: u32,
+    stack: &mut [[u32; 3]],
+) -> Built
+    requires { ⌜ InstantiateAsked (now pattern) reference (now environment) (now words) used limit (now stack) ⌝ }
+    ensures { λ r. ⌜ Instantiated (now (pattern .entry)) reference (now (environment .entry)) (now (words .entry)) used limit r (now (words .exit)) ⌝ }
+{
+    if reference < PATTERN_ROOM {
+        let entry = environment[reference as usize];
+        if entry == 0 {
+            return Built::Refused { number: UNBOUND };
+        }
+        return Built::At {
+            value: entry - 1,
+            used: used,
+        };
+    }
+    instantiate_node(pattern, reference, environment, words, used, limit, stack)
 }
 
 // The arguments of a pattern's node, `count` of them from the address `first` on, built from left to right. Their references go to `values`.
