@@ -1,6 +1,5 @@
 -- What an answer of the code says of the definitions' verdict, and what is left of a call for the later ones: the rows of a proof, read
--- over
--- words to which others were added, and the names that were entered.
+-- over words to which others were added, and the names that were entered.
 use Prim.Native.Nat.{ℕ, _-_, _<_}
 use native.Mathlib.Omega.{arith}
 use mathlib.Core.Path.{_≡_, refl, sym, ap, _∙_, subst}

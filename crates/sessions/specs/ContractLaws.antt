@@ -1,6 +1,5 @@
 -- What the contract of `prove` fixes: of two programs that meet it, answers, scratch and the session denoted are the same; without a proof
--- all that is written
--- is the same but for the places of new names; refused, everything is; and of a proof the listing is the same.
+-- all that is written is the same but for the places of new names; refused, everything is; and of a proof the listing is the same.
 use Prim.Native.Nat.{ℕ}
 use native.Mathlib.Omega.{arith}
 use mathlib.Core.Path.{_≡_, refl, sym, ap, ap₂, _∙_, subst}

@@ -57,8 +57,7 @@ pub record Call : Type 0 where
   pub given : Given
 
 -- The calls in turn, from a text, a session's part and its counts: each text has the last one's bytes in front, and each call meets the
--- contract of `prove`
--- from what the last one left. The signature's storage is the same for all.
+-- contract of `prove` from what the last one left. The signature's storage is the same for all.
 abbrev pub Calls : SignatureStore → List ℕ → SessionStore → SessionCounts → List Call → Type 0
 Calls sg text b n [] = Unit {0}
 Calls sg text b n (c ∷ cs) =
@@ -79,15 +78,25 @@ abbrev pub endCounts : SessionCounts → List Call → SessionCounts
 endCounts n [] = n
 endCounts n (c ∷ cs) = endCounts (countsAfter n (c .given .answer)) cs
 
--- The session at the end.
+-- The session that a call leaves, from counts n, and the one at the end.
+abbrev pub leftBy : SessionCounts → Call → Session
+leftBy n c = sessionOf (c .asked .text) (c .given .store) (countsAfter n (c .given .answer))
+
 abbrev pub endSession : List ℕ → SessionStore → SessionCounts → List Call → Session
 endSession text b n cs = sessionOf (endText text cs) (endStore b cs) (endCounts n cs)
 
 -- What is claimed of one call
 
+-- The goal t, compiled in the session that the call gets; and its term over that session's variables.
+abbrev pub GoalAsked : SignatureStore → Asked → SessionStore → SessionCounts → WrittenTerm → Type 0
+GoalAsked sg k b n t = Goal (goalCompiled (symbolsIn (k .text) sg) t (sessionOf (k .text) b n .names))
+
+abbrev pub termAsked : (sg : SignatureStore) (k : Asked) (b : SessionStore) (n : SessionCounts) (t : WrittenTerm)
+    → GoalAsked sg k b n t → Term
+termAsked sg k b n t G = goalOf (sessionOf (k .text) b n) (G .term)
+
 -- The rows of a proof, read over some words, are the preorder of one tree and of no other. Its root is the goal's term; with the final
--- bindings put in it is a
--- derivation of the goal with them put in, and so it is with the bindings at the end; and the bindings only add.
+-- bindings put in it is a derivation of the goal with them put in, and so it is with the bindings at the end; and the bindings only add.
 pub record ProofStands (rules : List Rule) (S S′ E : Session) (g : Term) (nodes : ℕ) (proof : Rows) (words : List ℕ) : Type 0 where
   pub tree : Tree one
   pub read : entriesFrom termRoom words proof 0 nodes ≡ preorder 1 tree
@@ -111,8 +120,8 @@ pub record Repeated (a a′ : Answer) : Type 0 where
   pub excludes : IsNothing a → IsNothing a′ ⊎ ((a′ ≡ Refused 37) ⊎ (a′ ≡ Refused 1))
 
 -- A call that asks the same again: signature and session denote the same, the rows, where they are in form, stand for the same term, and
--- steps and depth are
--- no smaller and within the limits. Its storage limits, its buffers and how the session is laid out in them are its own.
+-- steps and depth are no smaller and within the limits. Its storage limits, its buffers and how the session is laid out in them are its
+-- own.
 pub record SameGoal (sg : SignatureStore) (k : Asked) (b : SessionStore) (n : SessionCounts) (t : WrittenTerm) (sg′ : SignatureStore)
     (k′ : Asked) (b′ : SessionStore) (n′ : SessionCounts) : Type 0 where
   pub symbols : symbolsIn (k′ .text) sg′ ≡ symbolsIn (k .text) sg
@@ -123,26 +132,23 @@ pub record SameGoal (sg : SignatureStore) (k : Asked) (b : SessionStore) (n : Se
   pub depth : k .depth ≤ k′ .depth
   pub within : tooMuch (k′ .steps) (k′ .depth) (allowanceOf (k′ .limits)) ≡ false
 
--- Of a call that is ready, with the goal t: S is the session that it gets, S′ the one that it leaves, and E the one at the end, whose words
--- are `words`.
-pub record Answers (sg : SignatureStore) (k : Asked) (b : SessionStore) (n : SessionCounts) (t : WrittenTerm) (g : Given) (S′ E : Session)
-    (words : List ℕ) : Type 0 where
+-- Of a call that is ready, with the goal t: S′ is the session that it leaves, and E the one at the end, whose words are `words`.
+pub record GoalClaim (sg : SignatureStore) (k : Asked) (b : SessionStore) (n : SessionCounts) (t : WrittenTerm) (g : Given)
+    (S′ E : Session) (words : List ℕ) : Type 0 where
   -- Verdict or refusal, and session, are those of the definitions.
   pub answer : g .answer ≡ answerOf n (length (answerTo sg k b n t .session .names)) (answerTo sg k b n t .verdict)
   pub session : S′ ≡ answerTo sg k b n t .session
   -- Without a refusal the goal compiled, and its term has for each of its names the variable that the name then has.
-  pub compiled : (IsRefused (g .answer) → ⊥) → Goal (goalCompiled (symbolsIn (k .text) sg) t (sessionOf (k .text) b n .names))
-  pub variables : (IsRefused (g .answer) → ⊥) → (G : Goal (goalCompiled (symbolsIn (k .text) sg) t (sessionOf (k .text) b n .names)))
-      → goalOf (sessionOf (k .text) b n) (G .term) ≡ sub (λ i. var (nameAt (S′ .names) i .variable)) (G .term)
+  pub compiled : (IsRefused (g .answer) → ⊥) → GoalAsked sg k b n t
+  pub variables : (IsRefused (g .answer) → ⊥) → (G : GoalAsked sg k b n t)
+      → termAsked sg k b n t G ≡ sub (λ i. var (nameAt (S′ .names) i .variable)) (G .term)
   -- Proved: the rows that it returned, read over the words at the end, are one tree, a derivation.
   pub proved : (u nodes : ℕ) (m : SessionCounts) → g .answer ≡ Proved u nodes m
-      → (G : Goal (goalCompiled (symbolsIn (k .text) sg) t (sessionOf (k .text) b n .names)))
-      × ProofStands (rulesIn (k .text) sg) (sessionOf (k .text) b n) S′ E (goalOf (sessionOf (k .text) b n) (G .term)) nodes
-      (g .proof) words
+      → (G : GoalAsked sg k b n t)
+      × ProofStands (rulesIn (k .text) sg) (sessionOf (k .text) b n) S′ E (termAsked sg k b n t G) nodes (g .proof) words
   -- None: no derivation has as root the goal with its starting bindings put in and any terms for the variables left.
   pub none : (u : ℕ) (m : SessionCounts) → g .answer ≡ Nothing u m
-      → (G : Goal (goalCompiled (symbolsIn (k .text) sg) t (sessionOf (k .text) b n .names)))
-      × Excluded (rulesIn (k .text) sg) (sessionOf (k .text) b n .bindings) (goalOf (sessionOf (k .text) b n) (G .term))
+      → (G : GoalAsked sg k b n t) × Excluded (rulesIn (k .text) sg) (sessionOf (k .text) b n .bindings) (termAsked sg k b n t G)
   -- Without a proof the bindings' rows are those at entry; refused, the whole session part is.
   pub unproved : (IsProved (g .answer) → ⊥) → g .store .bindings ≡ b .bindings
   pub refused : (e : ℕ) → g .answer ≡ Refused e → SamePart b n (g .store)
@@ -156,23 +162,22 @@ pub record CallClaim (sg : SignatureStore) (b : SessionStore) (n : SessionCounts
   pub unready : (ProveReady sg (c .asked) b n → ⊥) → c .given .answer ≡ Refused 1
   pub only : c .given .answer ≡ Refused 1 → ProveReady sg (c .asked) b n → ⊥
   pub unwritten : c .given .answer ≡ Refused 1 → Unwritten (c .asked) b (c .given)
-  pub ready : (r : ProveReady sg (c .asked) b n)
-      → Answers sg (c .asked) b n (goalIn (r .goal)) (c .given)
-      (sessionOf (c .asked .text) (c .given .store) (countsAfter n (c .given .answer))) E words
+  pub ready : (r : ProveReady sg (c .asked) b n) → GoalClaim sg (c .asked) b n (goalIn (r .goal)) (c .given) (leftBy n c) E words
   -- The names that stand after it still stand at the end, with their variables.
-  pub names : Grown (sessionOf (c .asked .text) (c .given .store) (countsAfter n (c .given .answer)) .names) (E .names)
+  pub names : Grown (leftBy n c .names) (E .names)
 
--- Of the whole list.
+-- Of all calls.
 abbrev pub CallClaims : SignatureStore → SessionStore → SessionCounts → Session → List ℕ → List Call → Type 0
 CallClaims sg b n E words [] = Unit {0}
-CallClaims sg b n E words (c ∷ cs) = CallClaim sg b n E words c
-    × CallClaims sg (c .given .store) (countsAfter n (c .given .answer)) E words cs
+CallClaims sg b n E words (c ∷ cs) =
+    CallClaim sg b n E words c × CallClaims sg (c .given .store) (countsAfter n (c .given .answer)) E words cs
+
+-- What is claimed of the whole list
 
 -- The names that stand after each call; and of any two of these lists, the same name is one variable and different names are two.
 abbrev pub namesLeft : SessionCounts → List Call → List (List Named)
 namesLeft n [] = []
-namesLeft n (c ∷ cs) = sessionOf (c .asked .text) (c .given .store) (countsAfter n (c .given .answer)) .names ∷ namesLeft
-    (countsAfter n (c .given .answer)) cs
+namesLeft n (c ∷ cs) = leftBy n c .names ∷ namesLeft (countsAfter n (c .given .answer)) cs
 
 abbrev pub SharedWith : List Named → List (List Named) → Type 0
 SharedWith ns [] = Unit {0}
@@ -188,6 +193,12 @@ pub record StoredClaims (sg : SignatureStore) (text : List ℕ) (b : SessionStor
   pub names : Shared (namesLeft n cs)
   -- The session at the end is in form again.
   pub listed : SessionListed (endText text cs) (aritiesOf (symbolsIn text sg)) (sg .counts .sorts) (endStore b cs) (endCounts n cs)
+
+-- The theorem: all this holds of any list of calls that meet their contract in turn, over a signature in form and from a session in form.
+abbrev pub StoredDemand3 : Type 0
+StoredDemand3 =
+    (sg : SignatureStore) (text : List ℕ) (b : SessionStore) (n : SessionCounts) (cs : List Call)
+    → SignatureListed text sg → SessionIn text sg b n → Calls sg text b n cs → StoredClaims sg text b n cs
 
 -- The proof
 
@@ -246,19 +257,13 @@ module _ (sg : SignatureStore) (k : Asked) (b : SessionStore) (n : SessionCounts
       → rulesIn (k′ .text) sg′ ≡ rulesIn (k .text) sg → sessionOf (k′ .text) b′ n′ ≡ S → t′ ≡ t
       → answerTo sg′ k′ b′ n′ t′ ≡ ask (rulesIn (k .text) sg) S (reask (queryOf sg k t) (k′ .steps) (k′ .depth) (allowanceOf (k′ .limits)))
   asked-again sg′ k′ b′ n′ t′ p q r e =
-      let Q : List Symbol → WrittenTerm
-      → Query = λ symbols t. record {
-        compile = goalCompiled symbols t;
-        steps = k′ .steps;
-        depth = k′ .depth;
-        limits = allowanceOf (k′ .limits);
-      } in
+      let Q : List Symbol → WrittenTerm → Query =
+      λ symbols t. record { compile = goalCompiled symbols t; steps = k′ .steps; depth = k′ .depth; limits = allowanceOf (k′ .limits) } in
       ap₂ (λ (Rs : List Rule) (X : Session). ask Rs X (Q (symbolsIn (k′ .text) sg′) t′)) q r
       ∙ ap₂ (λ (symbols : List Symbol) (t : WrittenTerm). ask (rulesIn (k .text) sg) S (Q symbols t)) p e
 
-  module _ (l : ProveLeaves sg k b n A g) (E : Session) (words : List ℕ) (same : (i : ℕ) → i < after .words
-      → cells (g .store .words) i ≡ cells words i)
-      (claim : Claim (rulesIn (k .text) sg) S E event) where
+  module _ (l : ProveLeaves sg k b n A g) (E : Session) (words : List ℕ)
+      (same : (i : ℕ) → i < after .words → cells (g .store .words) i ≡ cells words i) (claim : Claim (rulesIn (k .text) sg) S E event) where
     repeated : (sg′ : SignatureStore) (k′ : Asked) (b′ : SessionStore) (n′ : SessionCounts) (g′ : Given) → Proving sg′ k′ b′ n′ g′
         → SameGoal sg k b n t sg′ k′ b′ n′ → Repeated (g .answer) (g′ .answer)
     repeated sg′ k′ b′ n′ g′ p s = go (one-or-not (g′ .answer))
@@ -307,7 +312,7 @@ module _ (sg : SignatureStore) (k : Asked) (b : SessionStore) (n : SessionCounts
         go (inr x) = ready (p .tells x)
 
     -- All that is claimed of it.
-    call-answers : Answers sg k b n t g S′ E words
+    call-answers : GoalClaim sg k b n t g S′ E words
     call-answers =
         let names : ℕ = length (A .session .names) in
         let decided : (IsRefused (g .answer) → ⊥) → Decided (A .verdict) = decided-of n names (A .verdict) (g .answer) (l .answer) in
@@ -348,12 +353,12 @@ module _ (sg : SignatureStore) (k : Asked) (b : SessionStore) (n : SessionCounts
 -- The chain of calls
 
 -- What one call leaves to the next, and what the list leaves at its end, from a session part b with counts n, which denotes S.
-pub record Carried (arities : List ℕ) (sorts : ℕ) (b : SessionStore) (n : SessionCounts) (S : Session) (text′ : List ℕ) (b′ : SessionStore)
+record Carried (arities : List ℕ) (sorts : ℕ) (b : SessionStore) (n : SessionCounts) (S : Session) (text′ : List ℕ) (b′ : SessionStore)
     (n′ : SessionCounts) : Type 0 where
-  pub words : (i : ℕ) → i < n .words → cells (b .words) i ≡ cells (b′ .words) i
-  pub longer : n .words ≤ n′ .words
-  pub names : Grown (S .names) (sessionOf text′ b′ n′ .names)
-  pub listed : SessionListed text′ arities sorts b′ n′
+  words : (i : ℕ) → i < n .words → cells (b .words) i ≡ cells (b′ .words) i
+  longer : n .words ≤ n′ .words
+  names : Grown (S .names) (sessionOf text′ b′ n′ .names)
+  listed : SessionListed text′ arities sorts b′ n′
 
 -- Resolution's events for some calls from the session S to the session E; what demand 3 claims of them gives the claim C.
 record Mapped (rules : List Rule) (S E : Session) (C : Type 0) : Type 0 where
@@ -484,7 +489,7 @@ module _ (sg : SignatureStore) (start : List ℕ) (signature : SignatureListed s
       same-rules : rulesIn (k .text) sg ≡ rules
       same-rules = rules-extended start (k .text) (extended-trans start text (k .text) x (q .0)) sg signature
 
-      claimed : ((r : ProveReady sg k b n) → Answers sg k b n (goalIn (r .goal)) g (sessionOf (k .text) (g .store) n′) E words)
+      claimed : ((r : ProveReady sg k b n) → GoalClaim sg k b n (goalIn (r .goal)) g (sessionOf (k .text) (g .store) n′) E words)
           → CallClaim sg b n E words c
       claimed ready = record {
         unready = λ u. p .unready u .answer;
@@ -523,7 +528,7 @@ module _ (sg : SignatureStore) (start : List ℕ) (signature : SignatureListed s
             );
             ends = m .ends;
             back = λ cl. (
-              claimed (λ r′. subst (λ (u : WrittenTerm). Answers sg k b n u g (sessionOf (k .text) (g .store) n′) E words)
+              claimed (λ r′. subst (λ (u : WrittenTerm). GoalClaim sg k b n u g (sessionOf (k .text) (g .store) n′) E words)
                   (ap (spelled (k .text)) (term-one (r .goal) (r′ .goal) .0))
                   (call-answers sg k b n t g l E words (z .words) (subst (λ (Rs : List Rule). Claim Rs S E ev) (sym same-rules) (cl .0)))),
               m .back (cl .1),
@@ -536,7 +541,7 @@ shared-with : (E ns : List Named) → Grown ns E → OneVariable E E
     → CallClaims sg b n T words cs → SharedWith ns (namesLeft n cs)
 shared-with E ns g o sg b n T words [] e h = tt
 shared-with E ns g o sg b n T words (c ∷ cs) e h =
-    let left : List Named = sessionOf (c .asked .text) (c .given .store) (countsAfter n (c .given .answer)) .names in (
+    let left : List Named = leftBy n c .names in (
       one-variable ns left E g (subst (Grown left) e (h .0 .names)) o,
       shared-with E ns g o sg (c .given .store) (countsAfter n (c .given .answer)) T words cs e (h .1),
     )
@@ -545,15 +550,13 @@ shared : (sg : SignatureStore) (b : SessionStore) (n : SessionCounts) (T : Sessi
     → OneVariable (T .names) (T .names) → CallClaims sg b n T words cs → Shared (namesLeft n cs)
 shared sg b n T words [] o h = tt
 shared sg b n T words (c ∷ cs) o h = (
-  shared-with (T .names) (sessionOf (c .asked .text) (c .given .store) (countsAfter n (c .given .answer)) .names) (h .0 .names) o sg
+  shared-with (T .names) (leftBy n c .names) (h .0 .names) o sg
       (c .given .store) (countsAfter n (c .given .answer)) T words cs refl (h .1),
   shared sg (c .given .store) (countsAfter n (c .given .answer)) T words cs o (h .1),
 )
 
--- Demand 3, stored: of any list of calls that meet their contract in turn, over a signature in form and from a session in form.
-pub demand-3-stored : (sg : SignatureStore) (text : List ℕ) (b : SessionStore) (n : SessionCounts) (cs : List Call)
-    → SignatureListed text sg → SessionIn text sg b n → Calls sg text b n cs
-    → StoredClaims sg text b n cs
+-- The theorem.
+pub demand-3-stored : StoredDemand3
 demand-3-stored sg text b n cs signature session calls =
     let m = mapped sg text signature text b n cs (extended-refl text) session calls in
     let end = to-end sg text signature text b n cs (extended-refl text) session calls in

@@ -1,6 +1,5 @@
 -- Laws of goals: a goal's term has no variables but those of the session's names and its own; in a new session it compiles as a rule
--- without premises does;
--- and its refusals are numbers of the signature's place, 19 to 28.
+-- without premises does; and its refusals are numbers of the signature's place, 19 to 28.
 use Prim.Native.Nat.{ℕ, zero, suc, _+_, _-_, _≤_}
 use native.Mathlib.Omega.{arith}
 use mathlib.Core.Path.{_≡_, refl, ap, subst}

@@ -1,6 +1,5 @@
 -- What code needs to leave a session in form: words and rows past the counts are of no concern; new names may be entered behind the others;
--- the definitions'
--- answer stays within the limits; and a refused goal's session, with zero past it, is what the contract asks.
+-- the definitions' answer stays within the limits; and a refused goal's session, with zero past it, is what the contract asks.
 use Prim.Native.Nat.{ℕ, zero, suc, _+_, _-_, _≤_, _<_}
 use native.Mathlib.Omega.{arith}
 use native.Mathlib.Nat.{le-refl}

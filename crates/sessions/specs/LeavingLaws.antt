@@ -1,6 +1,5 @@
 -- How the contract is met, for each outcome: a refused goal's session with zero past it, an unproved goal's session with its new names
--- entered, and a proved
--- goal's session extended are what `prove` has to leave. Code ends by one of these laws.
+-- entered, and a proved goal's session extended are what `prove` has to leave. Code ends by one of these laws.
 use Prim.Native.Nat.{ℕ, _+_, _-_, _≤_}
 use native.Mathlib.Omega.{arith}
 use mathlib.Core.Path.{_≡_, refl, sym, ap, ap₂, _∙_, subst}
