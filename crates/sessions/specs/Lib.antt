@@ -4,6 +4,7 @@ pub mod Goals
 pub mod Contracts
 -- Laws, in the order in which they are needed:
 pub mod GoalLaws
+pub mod GoalRowLaws
 pub mod RefusalLaws
 pub mod StoreLaws
 pub mod OpeningLaws
