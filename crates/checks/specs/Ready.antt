@@ -16,6 +16,12 @@ use Rattle.unifier.specs.Contracts.{Scratch}
 abbrev pub ZeroRow : List ℕ → Type 0
 ZeroRow row = (c : ℕ) → getD row c 0 ≡ 0
 
+-- What was or-ed together is 0 exactly where what was before and the row are 0.
+pub record Joined (seen : ℕ) (row : List ℕ) (r : ℕ) : Type 0 where
+  pub old : r ≡ 0 → seen ≡ 0
+  pub zero-row : r ≡ 0 → ZeroRow row
+  pub back : seen ≡ 0 → ZeroRow row → r ≡ 0
+
 -- There are at least so many rows, and every number is 0.
 pub record Zeros (rows : Rows) (least : ℕ) : Type 0 where
   pub lent : least ≤ length rows

@@ -1,34 +1,19 @@
-// Whether scratch is zero.
+// Whether scratch is zero: its numbers are or-ed together, and looked at once.
 ghost use Rattle.bindings.specs.Contracts.{Tells};
-ghost use Rattle.checks.specs.Ready.{ZeroRow, Zeros};
+ghost use Rattle.checks.specs.Ready.{Joined, Zeros};
 
-// Whether a row of two numbers is zero.
-fn is_zero_pair(row: [u32; 2]) -> bool
-    ensures { λ r. ⌜ Tells r (ZeroRow row) ⌝ }
+// Or-s a row of two numbers to what was seen.
+fn join_pair(seen: u32, row: [u32; 2]) -> u32
+    ensures { λ r. ⌜ Joined seen row r ⌝ }
 {
-    if row[0] != 0 {
-        return false;
-    }
-    if row[1] != 0 {
-        return false;
-    }
-    true
+    seen | row[0] | row[1]
 }
 
-// Whether a row of three numbers is zero.
-fn is_zero_triple(row: [u32; 3]) -> bool
-    ensures { λ r. ⌜ Tells r (ZeroRow row) ⌝ }
+// Or-s a row of three.
+fn join_triple(seen: u32, row: [u32; 3]) -> u32
+    ensures { λ r. ⌜ Joined seen row r ⌝ }
 {
-    if row[0] != 0 {
-        return false;
-    }
-    if row[1] != 0 {
-        return false;
-    }
-    if row[2] != 0 {
-        return false;
-    }
-    true
+    seen | row[0] | row[1] | row[2]
 }
 
 // Whether there are at least so many rows of two numbers, and all are zero.
@@ -38,14 +23,13 @@ pub fn are_zero_pairs(rows: &[[u32; 2]], least: usize) -> bool
     if rows.len() < least {
         return false;
     }
+    let mut seen = 0;
     let mut i = 0;
     while i < rows.len() {
-        if !is_zero_pair(rows[i]) {
-            return false;
-        }
+        seen = join_pair(seen, rows[i]);
         i += 1;
     }
-    true
+    seen == 0
 }
 
 // Whether there are at least so many rows of three numbers, and all are zero.
@@ -55,12 +39,11 @@ pub fn are_zero_triples(rows: &[[u32; 3]], least: usize) -> bool
     if rows.len() < least {
         return false;
     }
+    let mut seen = 0;
     let mut i = 0;
     while i < rows.len() {
-        if !is_zero_triple(rows[i]) {
-            return false;
-        }
+        seen = join_triple(seen, rows[i]);
         i += 1;
     }
-    true
+    seen == 0
 }

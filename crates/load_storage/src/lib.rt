@@ -1,6 +1,6 @@
 // Storage of `load`: whether lent buffers are as long as docs/STORAGE.md lists, and what is cleared of them.
 //
-// All functions here serve `load`.
+// All functions here serve `load`; `clear_pairs` serves sessions too.
 ghost use mathlib.Core.Path.{_≡_};
 ghost use Prim.Native.Nat.{_≤_};
 ghost use lib.ListN.{length};
@@ -14,7 +14,7 @@ use rules::RuleRow;
 pub type EvalRow = [u32; 2];
 
 // Zeroes rows of two numbers from a place on.
-fn clear_pairs(rows: &mut [[u32; 2]], from: usize)
+pub fn clear_pairs(rows: &mut [[u32; 2]], from: usize)
     requires { ⌜ from ≤ length (now rows) ⌝ }
     ensures { λ _. ⌜ now (rows .exit) ≡ clearedFrom zeroPair from (now (rows .entry)) ⌝ }
 {

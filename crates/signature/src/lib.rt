@@ -240,7 +240,7 @@ fn are_symbols_formed(text: &[u8], sorts: u32, rules: u32, symbols: &[SymbolRow]
 }
 
 // Writes the number of inputs of each of m symbols.
-fn put_arities(symbols: &[SymbolRow], m: usize, arities: &mut [u32])
+pub fn put_arities(symbols: &[SymbolRow], m: usize, arities: &mut [u32])
     requires { ⌜ (m ≤ length (now symbols)) × (m ≤ length (now arities)) ⌝ }
     ensures { λ _. ⌜ ((i : ℕ) → i < m → getD (now (arities .exit)) i 0 ≡ column (rowAt (now (symbols .entry)) i) 6) ⌝ }
 {

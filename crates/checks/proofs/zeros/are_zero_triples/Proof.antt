@@ -1,41 +1,33 @@
--- `are_zero_triples` meets its contract. The loop's invariant: the rows passed are zero.
-use Prim.Native.Nat.{ℕ, _-_, _≤_, _<_}
-use mathlib.Core.List.{[]}
-use lib.ListN.{getD, length}
-use borrow.Author.Count.{below-more}
-use borrow.Author.Tests.{not-false, not-true}
-use Rattle.checks.specs.Ready.{ZeroRow}
-use Rattle.checks.proofs.Laws.{empty-rows}
-use Rattle.bindings.specs.Checking.{tells-yes, tells-no, tells-false}
-use native.Mathlib.Omega.{arith}
+-- `are_zero_triples` meets its contract. The loop's invariant: what was or-ed together is that of the first i rows.
+use Prim.Native.Nat.{_≤_, _-_}
+use lib.ListN.{length}
+use Rattle.bindings.specs.Checking.{tells-no}
+use Rattle.checks.proofs.Laws.{Seen, seen-none, seen-more, seen-all}
 use borrow.Author.Needs.{needs}
+use native.Mathlib.Omega.{arith}
 use Rattle.checks.proofs.zeros.are_zero_triples.Statement.{statement}
 use Rattle.checks.proofs.zeros.are_zero_triples.Tie as tie
 
 abbrev Inv-loop : tie.InvT-loop
-Inv-loop rows least i₀ i = (i ≤ length rows) × (least ≤ length rows) × ((k : ℕ) → k < i → ZeroRow (getD rows k []))
+Inv-loop rows least seen₀ i₀ seen i = (i ≤ length rows) × (least ≤ length rows) × Seen rows i seen
 
 abbrev μ-loop : tie.MeasureT-loop
-μ-loop rows least i₀ i = length rows - i
+μ-loop rows least seen₀ i₀ seen i = length rows - i
 
 returns : tie.Need-returns Inv-loop μ-loop
 returns c = tells-no (λ z. let l = z .lent in omega arith)
 
 loop-holds : tie.Need-loop-holds Inv-loop μ-loop
-loop-holds c = (search needs, search needs, λ k l. let z : ⊥ = omega arith in absurd z)
+loop-holds c = (search needs, search needs, seen-none _)
 
-mul-is-zero-triple : tie.Need-mul-is-zero-triple Inv-loop μ-loop
-mul-is-zero-triple c = search needs
+mul-join-triple : tie.Need-mul-join-triple Inv-loop μ-loop
+mul-join-triple c = search needs
 
-shared-slice-copy-out-is-zero-triple :
-    tie.Need-shared-slice-copy-out-is-zero-triple Inv-loop μ-loop
-shared-slice-copy-out-is-zero-triple c = search needs
+shared-slice-copy-out-join-triple : tie.Need-shared-slice-copy-out-join-triple Inv-loop μ-loop
+shared-slice-copy-out-join-triple c = search needs
 
-is-zero-triple-requires : tie.Need-is-zero-triple-requires Inv-loop μ-loop
-is-zero-triple-requires c κs = search needs
-
-returns-2 : tie.Need-returns-2 Inv-loop μ-loop
-returns-2 c = tells-no (λ z. tells-false (c .before .is-zero-triple .ensures) (not-true _ (c .if2 .taken)) (λ j. z .empty j (c .before .before .before .before .loop .i)))
+join-triple-requires : tie.Need-join-triple-requires Inv-loop μ-loop
+join-triple-requires c κs = search needs
 
 add-i : tie.Need-add-i Inv-loop μ-loop
 add-i c = search needs
@@ -44,10 +36,10 @@ loop-less : tie.Need-loop-less Inv-loop μ-loop
 loop-less c = search needs
 
 loop-again : tie.Need-loop-again Inv-loop μ-loop
-loop-again c = (search needs, search needs, below-more (λ k. ZeroRow (getD (c .before .before .before .before .before .before .args .rows .now) k [])) (c .before .before .before .before .loop .i) (c .before .before .before .before .loop .inv .2) ((c .before .is-zero-triple .ensures .yes) (not-false _ (c .if2 .left))))
+loop-again c = (search needs, search needs, seen-more (c .before .before .before .loop .inv .2) (c .join-triple .ensures))
 
-returns-3 : tie.Need-returns-3 Inv-loop μ-loop
-returns-3 c = tells-yes (record { lent = search needs; empty = empty-rows (c .before .before .before .args .rows .now) (c .before .loop .i) (search needs) (c .before .loop .inv .2) })
+returns-2 : tie.Need-returns-2 Inv-loop μ-loop
+returns-2 c = seen-all (omega (arith, (c .loop-test .left))) (c .before .loop .inv .1) (c .before .loop .inv .2)
 
 pub are-zero-triples-spec : {M : Type 1} → statement M
 are-zero-triples-spec =
@@ -57,11 +49,10 @@ are-zero-triples-spec =
     μ-loop
     returns
     loop-holds
-    mul-is-zero-triple
-    shared-slice-copy-out-is-zero-triple
-    is-zero-triple-requires
-    returns-2
+    mul-join-triple
+    shared-slice-copy-out-join-triple
+    join-triple-requires
     add-i
     loop-less
     loop-again
-    returns-3)
+    returns-2)
