@@ -40,8 +40,9 @@ abbrev pub final : Session → List Event → Session
 final S [] = S
 final S (e ∷ es) = final (e .session) es
 
--- (b) and (c). Proved, from the session S to the session S′: one tree, with the goal at its root; with the final bindings put in throughout it is a
--- derivation of the goal with them put in; the bindings only add; and it still is a derivation under the bindings E at the end of the list.
+-- (b) and (c). Proved, from the session S to the session S′: one tree, with the goal at its root; with the final bindings put in throughout
+-- it is a derivation of the goal with them put in; the bindings only add; and under the bindings E at the end of the list it still is a
+-- derivation, of the goal with those put in.
 pub record ProvedGoal (rules : List Rule) (S S′ E : Session) (g : Term) (st : Tree many) : Type 0 where
   pub tree : Tree one
   pub only : st ≡ tree ◂ leaf
@@ -50,6 +51,7 @@ pub record ProvedGoal (rules : List Rule) (S S′ E : Session) (g : Term) (st : 
   pub derivation : Derivation rules (putIn (full (S′ .bindings)) tree)
   pub adds : Extends (S .bindings) (S′ .bindings)
   pub stays : Derivation rules (putIn (full (E .bindings)) tree)
+  pub stays-rooted : root (putIn (full (E .bindings)) tree) ≡ res (E .bindings) g
 
 -- (d) and (e). None: no derivation has as its root the goal with the starting bindings put in and any terms for the variables left. Without a proof
 -- the bindings are the starting ones; a refused goal restores the whole session.
@@ -68,11 +70,25 @@ pub record Again (v v′ : Verdict) : Type 0 where
 abbrev pub reask : Query → ℕ → ℕ → Allowance → Query
 reask q steps depth a = record { compile = q .compile; steps = steps; depth = depth; limits = a }
 
+-- Any verdict but a refusal.
+abbrev pub Decided : Verdict → Type 0
+Decided (refusal n) = ⊥
+Decided (proved β st u c m) = Unit {0}
+Decided (nothing u c) = Unit {0}
+Decided (undecided u c) = Unit {0}
+
+-- The goal compiled: its new names and its term.
+pub record Goal (k : Compiled) : Type 0 where
+  pub new : List Name
+  pub term : Term
+  pub is : k ≡ compiles new term
+
 -- What is claimed of one goal, E being the session at the end of all.
 pub record Claim (rules : List Rule) (S E : Session) (e : Event) : Type 0 where
   pub verdict : e .verdict ≡ ask rules S (e .query) .verdict
   pub session : e .session ≡ ask rules S (e .query) .session
   pub refused : (n : ℕ) → e .verdict ≡ refusal n → e .session ≡ S
+  pub compiled : Decided (e .verdict) → Goal (e .query .compile (S .names))
   pub holds : (new : List Name) (p : Term) → e .query .compile (S .names) ≡ compiles new p → Holds rules S (e .session) E (goalOf S p) (e .verdict)
   pub repeats : (steps depth : ℕ) (a : Allowance) → e .query .steps ≤ steps → e .query .depth ≤ depth → tooMuch steps depth a ≡ false
       → Again (e .verdict) (ask rules S (reask (e .query) steps depth a) .verdict)
@@ -180,6 +196,7 @@ module _ (rules : List Rule) (S : Session) (F : InForm S) (new : List Name) (p :
     derivation = h .derives (full β) (full-solves β (h .acyclic));
     adds = h .extends;
     stays = h .derives (full (E .bindings)) (extends-solves x (full (E .bindings)) (full-solves (E .bindings) (FE .acyclic)));
+    stays-rooted = root-putIn (full (E .bindings)) (h .tree) ∙ ap (res (E .bindings)) (h .goal);
   }
   verdict-holds E FE (nothing u c) h x = (h .1, refl)
   verdict-holds E FE (undecided u c) h x = refl
@@ -211,6 +228,17 @@ module _ (rules : List Rule) (S : Session) (F : InForm S) (q : Query) (scoped : 
       go : (t : Bool) → tested rules S q t .verdict ≡ refusal n → tested rules S q t .session ≡ S
       go true e = refl
       go false e = compiled (q .compile (S .names)) scoped e
+
+  answer-compiled : Decided (ask rules S q .verdict) → Goal (q .compile (S .names))
+  answer-compiled = go (tooMuch (q .steps) (q .depth) (q .limits))
+    where
+      compiled : (k : Compiled) → Decided (answered rules S (q .steps) (q .depth) (q .limits) k .verdict) → Goal k
+      compiled (refuses n) d = absurd d
+      compiled (compiles new p) d = record { new = new; term = p; is = refl }
+
+      go : (t : Bool) → Decided (tested rules S q t .verdict) → Goal (q .compile (S .names))
+      go true d = absurd d
+      go false d = compiled (q .compile (S .names)) d
 
   answer-holds : (E : Session) → InForm E → Extends (ask rules S q .session .bindings) (E .bindings) → (new : List Name) (p : Term) → q .compile (S .names) ≡ compiles new p
       → Holds rules S (ask rules S q .session) E (goalOf S p) (ask rules S q .verdict)
@@ -261,6 +289,7 @@ claims rules S E (e ∷ es) F t FE x =
         verdict = t .1;
         session = t .2;
         refused = λ n q. t .2 ∙ answer-refused rules S F (e .query) (t .0) n (sym (t .1) ∙ q);
+        compiled = λ d. answer-compiled rules S F (e .query) (t .0) (subst Decided (t .1) d);
         holds = λ new p ck. subst (λ v. Holds rules S (e .session) E (goalOf S p) v) (sym (t .1)) (subst (λ S′. Holds rules S S′ E (goalOf S p) (A .verdict)) (sym (t .2))
             (answer-holds rules S F (e .query) (t .0) E FE (subst (λ S′. Extends (S′ .bindings) (E .bindings)) (t .2) y) new p ck));
         repeats = λ s d a hs hd ok. subst (λ v. Again v (ask rules S (reask (e .query) s d a) .verdict)) (sym (t .1)) (answer-again rules S F (e .query) (t .0) s d a hs hd ok);

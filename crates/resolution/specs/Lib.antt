@@ -20,9 +20,13 @@ pub mod Verdicts
 pub mod Repeats
 -- Demand 3:
 pub mod Demand3
+pub mod Naming
+pub mod NamingLaws
 -- What code needs:
 pub mod Machine
 pub mod Preorder
+pub mod Sizes
+pub mod SizeLaws
 -- Checks by computing:
 pub mod Cases
 pub mod Marked

@@ -1,6 +1,6 @@
 -- A proof in preorder: the rule applications in the order in which they were made, each with its height from the top, are the preorder of the trees built
 -- so far together with the applications still open. So a machine that keeps its applications in a list has the proof's listing in it.
-use Prim.Native.Nat.{ℕ, zero, suc, _+_, _-_, _≤_}
+use Prim.Native.Nat.{ℕ, zero, suc, _+_, _-_, _≤_, _<_}
 use mathlib.Core.Path.{_≡_, refl, ap, ap₂, sym, _∙_, subst}
 use mathlib.Core.List.{List, [], _∷_, _++_, append-assoc, append-nil}
 use native.Mathlib.Omega.{arith}
@@ -93,3 +93,42 @@ builds-goals (cons t ts) d w = builds-goals ts d w
 -- At the end one tree is left, and the applications made are its preorder.
 pub made-proof : (p : Tree one) → made 0 [] (p ◂ leaf) ≡ preorder 1 p
 made-proof p = refl
+
+-- The preorder determines the tree.
+
+-- What comes next lies above the height h, if anything does.
+abbrev pub Above : ℕ → List Entry → Type 0
+Above h [] = Unit {0}
+Above h (entry k r g ∷ es) = k < h
+
+above-behind : (h : ℕ) (ps : Tree many) (es : List Entry) → Above h es → Above (suc h) (preorder h ps ++ es)
+above-behind h leaf [] a = tt
+above-behind h leaf (entry k r g ∷ es) a = omega arith
+above-behind h (node r g cs ◂ ps) es a = let l : h < suc h = omega arith in l
+
+-- Two lists of trees at one height, with anything higher up behind them.
+pub preorder-many : (h : ℕ) (ps qs : Tree many) (xs ys : List Entry) → Above h xs → Above h ys
+    → preorder h ps ++ xs ≡ preorder h qs ++ ys → (ps ≡ qs) × (xs ≡ ys)
+preorder-many h leaf leaf xs ys a b e = (refl, e)
+preorder-many h leaf (node r g cs ◂ qs) [] ys a b e = absurd (let z : _≡_ {A = ℕ} 0 1 = cc in omega arith)
+preorder-many h leaf (node r g cs ◂ qs) (entry k r′ g′ ∷ xs) ys a b e = absurd (let z : k ≡ h = cc in omega arith)
+preorder-many h (node r g cs ◂ ps) leaf xs [] a b e = absurd (let z : _≡_ {A = ℕ} 0 1 = cc in omega arith)
+preorder-many h (node r g cs ◂ ps) leaf xs (entry k r′ g′ ∷ ys) a b e = absurd (let z : h ≡ k = cc in omega arith)
+preorder-many h (node r g cs ◂ ps) (node r′ g′ cs′ ◂ qs) xs ys a b e =
+    let er : r ≡ r′ = cc in
+    let eg : g ≡ g′ = cc in
+    let rest : (preorder (suc h) cs ++ preorder h ps) ++ xs ≡ (preorder (suc h) cs′ ++ preorder h qs) ++ ys = cc in
+    let apart : preorder (suc h) cs ++ (preorder h ps ++ xs) ≡ preorder (suc h) cs′ ++ (preorder h qs ++ ys) =
+    sym (append-assoc (preorder (suc h) cs) (preorder h ps) xs) ∙ rest ∙ append-assoc (preorder (suc h) cs′) (preorder h qs) ys in
+    let children = preorder-many (suc h) cs cs′ (preorder h ps ++ xs) (preorder h qs ++ ys)
+    (above-behind h ps xs a) (above-behind h qs ys b) apart in
+    let others = preorder-many h ps qs xs ys a b (children .1) in
+    let ec : cs ≡ cs′ = children .0 in
+    let ep : ps ≡ qs = others .0 in
+    (cc, others .1)
+
+pub preorder-one : (h : ℕ) (p q : Tree one) → preorder h p ≡ preorder h q → p ≡ q
+preorder-one h p q e =
+    let one : p ◂ leaf ≡ q ◂ leaf = preorder-many h (p ◂ leaf) (q ◂ leaf) [] [] tt tt
+    (ap (λ l. (l ++ []) ++ []) e) .0 in
+    cc
