@@ -1,4 +1,5 @@
 pub mod Symbols
 pub mod Variables
+pub mod Places
 pub mod Terms
 pub mod Numerals

@@ -1,5 +1,5 @@
 -- Laws of `patternOf` and `stored`: one for each way out of `pattern` and `node`.
-use mathlib.Core.Path.{_≡_, refl, sym, ap, _∙_}
+use mathlib.Core.Path.{_≡_, refl, sym, ap, _∙_, subst}
 use mathlib.Core.Bool.{true, _||_}
 use mathlib.Core.List.{List, [], _∷_, _++_, append-nil, append-assoc}
 use Prim.Native.Nat.{ℕ, zero, suc, _+_, _*_, _-_, _≤_, _<_, min}
@@ -19,9 +19,10 @@ use Rattle.names.specs.Standing.{Stands}
 use Rattle.names.specs.SearchLaws.{columns-at, table-length, table-at, getD-any}
 use Rattle.patterns.specs.Patterns.{enter, kindOf, Out, bad, good, bind, counted, misfit, spent, unless, zeroName, succName, first, rest, chain, patternOf}
 use Rattle.patterns.specs.Laying.{Laid, laid, header, after, lay}
-use Rattle.patterns.specs.Contracts.{no, yes, stored, nodeOf, Compiled}
+use Rattle.patterns.specs.Contracts.{no, yes, stored, nodeOf, Placed, LiesIn, MadePlaced, Compiled}
 use Rattle.patterns.specs.declared.Made.{Made}
 use Rattle.patterns.specs.declared.Made.the-variants.{Node, Failed}
+use Rattle.patterns.proofs.Places.{placed-kept, placed-more}
 
 -- the symbols of a table
 module _ (text : List ℕ) (rs : Rows) (n : ℕ) (h : n ≤ length rs) where
@@ -165,6 +166,7 @@ pub record Looped (text : List ℕ) (rs : Rows) (p₀ args : ℕ) (ss : List Sym
   pub spent : u + 2 * m + k ≤ u₀ + 2 * m₀
   pub further : u₀ ≤ u
   pub sixteen : length refs ≡ 16
+  pub placed : Placed (LiesIn rs p₀ p) vs₀ nv₀ vs nv
   pub same : (ts : Written many) (q : ℕ) → Stands text rs p₀ ts q → size ts ≡ args
       → (us : Written many) × Stands text rs p us q × (size us ≡ args - k) × (stored [] (patternOf ss ts is (variablesOf text vs₀ nv₀) m₀) w₀ u₀ ≡ stored (take k refs) (patternOf ss us (drop k is) (variablesOf text vs nv) m) w u)
 
@@ -183,6 +185,7 @@ loop-start text rs p args ss is vs nv w u m refs a b = record {
   spent = omega arith;
   further = omega arith;
   sixteen = b;
+  placed = placed-kept _ vs nv;
   same = λ ts q st c. (ts, st, (let e : args - 0 ≡ args = omega arith in rw e c), refl);
 }
 
@@ -211,6 +214,9 @@ module _ (text : List ℕ) (rs : Rows) (p₀ args : ℕ) (ss : List Symbol) (is 
       small : (p + 1 ≤ next) × (nv ≤ nv₁) × (nv₁ ≤ 64) × (u ≤ u₁) × (u₁ + 2 * m₁ + 1 ≤ u + 2 * m)
       small = let y = C .small in rw f at y
 
+      placed-argument : Placed (LiesIn rs p next) vs nv vx nv₁
+      placed-argument = subst (λ (x : Made). MadePlaced (LiesIn rs p) vs nv x vx) f (C .placed)
+
       pub loop-turn : Looped text rs p₀ args ss is vs₀ nv₀ w₀ u₀ m₀ (k + 1) next vx nv₁ wx u₁ m₁ (set refs k o)
       unfolding Stands size
       loop-turn =
@@ -227,6 +233,7 @@ module _ (text : List ℕ) (rs : Rows) (p₀ args : ℕ) (ss : List Symbol) (is 
             spent = omega arith;
             further = omega arith;
             sixteen = length-set refs k o ∙ y4;
+            placed = placed-more rs y1 (omega arith) y2 (L .placed) placed-argument;
             same = λ ts q st c. let x = L .same ts q st c in go inside ts q (x .0) (x .1) (x .2) (x .3);
           }
         where

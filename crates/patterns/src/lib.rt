@@ -10,6 +10,7 @@ ghost use Rattle.names.specs.Symbols.{rowAt, symbolOf, symbolsOf, variablesOf};
 ghost use Rattle.patterns.specs.Patterns.{enter as enterOf, counted, misfit as misfitOf};
 ghost use Rattle.patterns.specs.Laying.{lay, laid};
 ghost use Rattle.patterns.specs.Contracts.{stored, entryOf, Grew, answer, Small, NextIs, Ready, Compiled, NodeMade, tower, refusal, Numbered, Judged};
+ghost use Rattle.patterns.specs.Contracts.{LiesAt, EntryPlaced, MadePlaced};
 use arena::HEADERS;
 use arena::PATTERN_ROOM;
 use arena::SYMBOL_STEP;
@@ -65,6 +66,7 @@ pub fn enter(
     requires { ⌜ (count ≤ 64) × (64 ≤ length (now variables)) ⌝ }
     ensures { λ r. ⌜ Grew count r ⌝ }
     ensures { λ r. ⌜ entryOf (now (text .entry)) r (now (variables .exit)) ≡ enterOf (variablesOf (now (text .entry)) (now (variables .entry)) count) (nameOf (now (text .entry)) kind start size) sort ⌝ }
+    ensures { λ r. ⌜ EntryPlaced (LiesAt kind start size) (now (variables .entry)) count r (now (variables .exit)) ⌝ }
 {
     let i = names::variable_of(text, variables, count, kind, start, size);
     if i < count {
@@ -134,6 +136,7 @@ fn variable(
     ensures { λ r. ⌜ Small next count used room r ⌝ }
     ensures { λ r. ⌜ ((w : List ℕ) → answer (now (text .entry)) r (now (variables .exit)) w ≡ stored [] (counted (enterOf (variablesOf (now (text .entry)) (now (variables .entry)) count) (nameOf (now (text .entry)) kind start size) want) room) w used) ⌝ }
     ensures { λ r. ⌜ NextIs next r ⌝ }
+    ensures { λ r. ⌜ MadePlaced (λ _. LiesAt kind start size) (now (variables .entry)) count r (now (variables .exit)) ⌝ }
 {
     match enter(text, variables, count, kind, start, size, want) {
         Got::Refused { number } => Made::Failed { number: number },

@@ -121,7 +121,7 @@ fn judgments(
 }
 
 // Is the sort of each variable known?
-fn all_known(variables: &[VariableRow], n: usize) -> bool
+pub fn all_known(variables: &[VariableRow], n: usize) -> bool
     requires { ⌜ n ≤ length (now variables) ⌝ }
     ensures { λ r. ⌜ ((text : List ℕ) → r ≡ allKnown (variablesOf text (now (variables .entry)) n)) ⌝ }
 {

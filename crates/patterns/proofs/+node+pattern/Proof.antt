@@ -10,6 +10,7 @@ use Rattle.names.specs.Symbols.{column, rowAt, symbolsOf, variablesOf}
 use Rattle.patterns.specs.Patterns.{patternOf, Out}
 use Rattle.patterns.specs.Contracts.{stored}
 use Rattle.patterns.proofs.Symbols.{misfit-args}
+use Rattle.patterns.proofs.Places.{placed-variable, placed-none, placed-node}
 use Rattle.patterns.proofs.Terms.{input-at, symbols-length, Looped, inputsAt, loop-start, loop-refused, loop-turn, loop-done, node-misfit, node-full, node-open, app-refused, node-done, out-of-rows, is-numeral, is-meta, is-node, is-unknown, is-judgment, is-variable}
 use borrow.Author.Needs.{needs}
 use native.Mathlib.Omega.{arith}
@@ -80,6 +81,7 @@ node-returns t c =
     let if1 = c .if1 in
     record {
       small = tt;
+      placed = tt;
       same = λ ts q st cn. (tt, node-misfit ((args .text .now)) ((args .symbols .now)) ((args .count)) ((pre .1 .0 .lent)) ((args .i)) ((pre .1 .1 .0)) ((args .want)) (variablesOf ((args .text .now)) ((args .variables .now)) ((args .entered))) ((args .room)) ((misfit .ensures) ((args .text .now))) ((if1 .taken)) ts cn ((args .words .now)) ((args .used)));
     }
 
@@ -99,6 +101,7 @@ node-returns-2 t c =
     let if2 = c .if2 in
     record {
       small = tt;
+      placed = tt;
       same = λ ts q st cn. (tt, node-full ((args .text .now)) ((args .symbols .now)) ((args .count)) ((pre .1 .0 .lent)) ((args .i)) ((pre .1 .1 .0)) ((args .want)) (variablesOf ((args .text .now)) ((args .variables .now)) ((args .entered))) ((args .room)) ((misfit .ensures) ((args .text .now))) ((if1 .left)) ts cn ((if2 .taken)) ((args .words .now)) ((args .used)));
     }
 
@@ -255,6 +258,7 @@ node-returns-3 t c =
     let x = (pre .1 .0 .inputs) ((args .i)) ((pre .1 .1 .0)) in
     record {
       small = tt;
+      placed = tt;
       same = λ ts q st cn. (
         tt,
         app-refused (patternOf (symbolsOf ((args .text .now)) ((args .symbols .now)) ((args .count))) ts (inputsAt ((args .text .now)) ((args .symbols .now)) ((args .count)) ((args .i))) (variablesOf ((args .text .now)) ((args .variables .now)) ((args .entered))) ((args .room) - 1)) ((args .i)) ((args .words .now)) ((args .used)) (loop-refused ((args .text .now)) ((args .rows .now)) ((args .at)) ((args .arguments)) (symbolsOf ((args .text .now)) ((args .symbols .now)) ((args .count))) (inputsAt ((args .text .now)) ((args .symbols .now)) ((args .count)) ((args .i))) ((args .variables .now)) ((args .entered)) ((args .words .now)) ((args .used)) ((args .room) - 1) ((loop .k)) ((loop .p)) ((loop .variables)) ((loop .nv)) ((loop .words)) ((loop .u)) ((loop .m)) ((loop .refs)) ((loop .inv)) ((loop-test .taken)) (column (rowAt ((args .symbols .now)) ((args .i))) (8 + (loop .k))) (input-at ((args .text .now)) ((args .symbols .now)) ((args .count)) ((pre .1 .0 .lent)) ((args .i)) ((pre .1 .1 .0)) 0 [] 0 ((loop .k)) (rw b at ((loop-test .taken)))) ((pattern .result)) _ _ ((pattern .ensures)) ((number .given .1)) ts q st cn)
@@ -549,6 +553,7 @@ node-returns-4 t c =
     let L = (loop .inv) in
     record {
       small = (L .from, L .grown, L .bound, omega arith, omega arith);
+      placed = L .placed;
       same = λ ts q st cn. let d = loop-done ((args .text .now)) ((args .rows .now)) ((args .at)) ((args .arguments)) (symbolsOf ((args .text .now)) ((args .symbols .now)) ((args .count))) (inputsAt ((args .text .now)) ((args .symbols .now)) ((args .count)) ((args .i))) ((args .variables .now)) ((args .entered)) ((args .words .now)) ((args .used)) ((args .room) - 1) ((loop .k)) ((loop .p)) ((loop .variables)) ((loop .nv)) ((loop .words)) ((loop .u)) ((loop .m)) ((loop .refs)) ((loop .inv)) ((loop-test .left)) ts q st cn in (
         d .0,
         node-done (patternOf (symbolsOf ((args .text .now)) ((args .symbols .now)) ((args .count))) ts (inputsAt ((args .text .now)) ((args .symbols .now)) ((args .count)) ((args .i))) (variablesOf ((args .text .now)) ((args .variables .now)) ((args .entered))) ((args .room) - 1)) ((args .i)) ((args .words .now)) ((args .used)) ((loop .refs)) ((args .arguments)) ((loop .words)) ((loop .u)) _ ((loop .m)) _ (omega (arith, L .sixteen)) ((push-node .ensures)) (d .1)
@@ -571,6 +576,7 @@ pattern-returns : (t : ℕ) → pattern-lts.Need-returns (
 pattern-returns t c =
     record {
       small = tt;
+      placed = tt;
       same = λ t q st. out-of-rows ((c .before .before .before .args .text .now)) ((c .before .before .before .args .rows .now)) ((c .before .before .before .args .at)) ((c .if1 .taken)) t q st;
     }
 
@@ -819,6 +825,7 @@ pattern-returns-2 t c =
     let low = (pre .1 .low) in
     record {
       small = (numeral .ensures .small);
+      placed = placed-none (args .rows .now) (args .at) (args .variables .now) (args .entered) (numeral .result) (numeral .ensures .noneNew);
       same = λ t q st. let x = is-numeral ((args .text .now)) ((args .rows .now)) ((args .at)) (symbolsOf ((args .text .now)) ((args .symbols .now)) ((args .count))) ((args .want)) (variablesOf ((args .text .now)) ((args .variables .now)) ((args .entered))) ((args .room)) t q st (omega arith) ((if2 .taken)) in (
         rw (x .0) at ((numeral .ensures .going)),
         rw ((wide .ensures)) at ((numeral .ensures .same) ((args .variables .now)))
@@ -886,8 +893,11 @@ pattern-returns-3 t c =
     let if3 = c .before .before .before .if3 in
     record {
       small = (variable .ensures .0);
+      placed = let k = if3 .taken in
+          placed-variable (args .rows .now) (args .at) (args .variables .now) (args .entered) _ (variable .result) (λ e. omega arith) (λ e. omega arith)
+          (variable .ensures .1 .1 .0) (variable .ensures .1 .1 .1);
       same = λ t q st. let x = is-meta ((args .text .now)) ((args .rows .now)) ((args .at)) (symbolsOf ((args .text .now)) ((args .symbols .now)) ((args .count))) ((args .want)) (variablesOf ((args .text .now)) ((args .variables .now)) ((args .entered))) ((args .room)) t q st ((if3 .taken)) in (
-        rw (x .0) at ((variable .ensures .1 .1)),
+        rw (x .0) at ((variable .ensures .1 .1 .0)),
         (variable .ensures .1 .0) ((args .words .now))
             ∙ ap (λ (y : Out one). stored [] y ((args .words .now)) ((args .used))) (x .1),
       );
@@ -1047,6 +1057,7 @@ pattern-returns-4 t c =
     let n = symbols-length ((args .text .now)) ((args .symbols .now)) ((args .count)) ((pre .1 .lent)) in
     record {
       small = (node .ensures .small);
+      placed = placed-node (args .rows .now) (args .at) (args .variables .now) (args .entered) _ (node .result) (node .ensures .placed);
       same = λ t q st. let x = is-node ((args .text .now)) ((args .rows .now)) ((args .at)) (symbolsOf ((args .text .now)) ((args .symbols .now)) ((args .count))) ((args .want)) (variablesOf ((args .text .now)) ((args .variables .now)) ((args .entered))) ((args .room)) t q st ((symbol-of .result)) ((symbol-of .ensures)) ((if2 .left)) ((if3 .left)) (rw n ((if4 .taken))) in
           let y = (node .ensures .same) (x .0) q (x .1) (x .2 ∙ sym ((wide2 .ensures))) in
           (y .0, y .1 ∙ ap (λ (z : Out one). stored [] z ((args .words .now)) ((args .used))) (x .3));
@@ -1075,6 +1086,7 @@ pattern-returns-5 t c =
     let n = symbols-length ((args .text .now)) ((args .symbols .now)) ((args .count)) ((pre .1 .lent)) in
     record {
       small = tt;
+      placed = tt;
       same = λ t q st. (tt, ap (λ (z : Out one). stored [] z ((args .words .now)) ((args .used))) (is-unknown ((args .text .now)) ((args .rows .now)) ((args .at)) (symbolsOf ((args .text .now)) ((args .symbols .now)) ((args .count))) ((args .want)) (variablesOf ((args .text .now)) ((args .variables .now)) ((args .entered))) ((args .room)) t q st ((symbol-of .result)) ((symbol-of .ensures)) ((if2 .left)) ((if3 .left)) (rw n ((if4 .left))) ((if5 .taken))));
     }
 
@@ -1102,6 +1114,7 @@ pattern-returns-6 t c =
     let n = symbols-length ((args .text .now)) ((args .symbols .now)) ((args .count)) ((pre .1 .lent)) in
     record {
       small = tt;
+      placed = tt;
       same = λ t q st. (tt, ap (λ (z : Out one). stored [] z ((args .words .now)) ((args .used))) (is-judgment ((args .text .now)) ((args .rows .now)) ((args .at)) (symbolsOf ((args .text .now)) ((args .symbols .now)) ((args .count))) ((args .want)) (variablesOf ((args .text .now)) ((args .variables .now)) ((args .entered))) ((args .room)) t q st ((symbol-of .result)) ((symbol-of .ensures)) ((if2 .left)) ((if3 .left)) (rw n ((if4 .left))) ((if5 .left)) ((if6 .taken))));
     }
 
@@ -1172,8 +1185,10 @@ pattern-returns-7 t c =
     let n = symbols-length ((args .text .now)) ((args .symbols .now)) ((args .count)) ((pre .1 .lent)) in
     record {
       small = (variable2 .ensures .0);
+      placed = placed-variable (args .rows .now) (args .at) (args .variables .now) (args .entered) _ (variable2 .result) (if2 .left) (if5 .left)
+          (variable2 .ensures .1 .1 .0) (variable2 .ensures .1 .1 .1);
       same = λ t q st. let x = is-variable ((args .text .now)) ((args .rows .now)) ((args .at)) (symbolsOf ((args .text .now)) ((args .symbols .now)) ((args .count))) ((args .want)) (variablesOf ((args .text .now)) ((args .variables .now)) ((args .entered))) ((args .room)) t q st ((symbol-of .result)) ((symbol-of .ensures)) ((if2 .left)) ((if3 .left)) (rw n ((if4 .left))) ((if5 .left)) ((if6 .left)) in (
-        rw (x .0) at ((variable2 .ensures .1 .1)),
+        rw (x .0) at ((variable2 .ensures .1 .1 .0)),
         (variable2 .ensures .1 .0) ((args .words .now))
             ∙ ap (λ (y : Out one). stored [] y ((args .words .now)) ((args .used))) (x .1),
       );

@@ -5,6 +5,7 @@ use lib.ListN.{length}
 use Rattle.names.specs.Names.{nameOf}
 use Rattle.names.specs.Symbols.{variablesOf, variableNumber}
 use Rattle.patterns.proofs.Variables.{sort-set, sort-none, sort-same, sort-other, var-new, var-full}
+use Rattle.patterns.proofs.Places.{placed-kept, placed-sort, placed-new}
 use borrow.Author.Needs.{needs}
 use native.Mathlib.Omega.{arith}
 use Rattle.patterns.proofs.enter.Statement.{statement}
@@ -65,8 +66,13 @@ returns c =
     let if1 = c .before .before .before .before .before .if1 in
     let if2 = c .before .before .before .if2 in
     let e : (variable-of .result) ≡ variableNumber (variablesOf ((args .text .now)) ((args .variables .now)) ((args .count))) (nameOf ((args .text .now)) ((args .kind)) ((args .start)) ((args .size))) = (variable-of .ensures) in
-    let h : (args .count) ≤ length ((args .variables .now)) = omega arith in
-    ((omega arith, omega arith, omega arith), sort-set ((args .text .now)) ((args .variables .now)) ((args .count)) h (nameOf ((args .text .now)) ((args .kind)) ((args .start)) ((args .size))) ((args .sort)) ((variable-of .result)) e (if1 .taken) refl (if2 .taken))
+    let h : (args .count) ≤ length ((args .variables .now)) = omega arith in (
+      (omega arith, omega arith, omega arith),
+      (
+        sort-set ((args .text .now)) ((args .variables .now)) ((args .count)) h (nameOf ((args .text .now)) ((args .kind)) ((args .start)) ((args .size))) ((args .sort)) ((variable-of .result)) e (if1 .taken) refl (if2 .taken),
+        placed-sort _ (args .variables .now) (args .count) (variable-of .result) (args .sort) (let l = if1 .taken in omega arith),
+      ),
+    )
 
 same-length-2 : tie.Need-same-length-2
 same-length-2 c = search needs
@@ -79,8 +85,13 @@ returns-2 c =
     let if2 = c .before .if2 in
     let if3 = c .if3 in
     let e : (variable-of .result) ≡ variableNumber (variablesOf ((args .text .now)) ((args .variables .now)) ((args .count))) (nameOf ((args .text .now)) ((args .kind)) ((args .start)) ((args .size))) = (variable-of .ensures) in
-    let h : (args .count) ≤ length ((args .variables .now)) = omega arith in
-    ((omega arith, omega arith, omega arith), sort-none ((args .text .now)) ((args .variables .now)) ((args .count)) h (nameOf ((args .text .now)) ((args .kind)) ((args .start)) ((args .size))) ((args .sort)) ((variable-of .result)) e (if1 .taken) refl (if2 .left) (if3 .taken))
+    let h : (args .count) ≤ length ((args .variables .now)) = omega arith in (
+      (omega arith, omega arith, omega arith),
+      (
+        sort-none ((args .text .now)) ((args .variables .now)) ((args .count)) h (nameOf ((args .text .now)) ((args .kind)) ((args .start)) ((args .size))) ((args .sort)) ((variable-of .result)) e (if1 .taken) refl (if2 .left) (if3 .taken),
+        placed-kept _ (args .variables .now) (args .count),
+      ),
+    )
 
 same-length-3 : tie.Need-same-length-3
 same-length-3 c = search needs
@@ -94,8 +105,13 @@ returns-3 c =
     let if3 = c .before .if3 in
     let if4 = c .if4 in
     let e : (variable-of .result) ≡ variableNumber (variablesOf ((args .text .now)) ((args .variables .now)) ((args .count))) (nameOf ((args .text .now)) ((args .kind)) ((args .start)) ((args .size))) = (variable-of .ensures) in
-    let h : (args .count) ≤ length ((args .variables .now)) = omega arith in
-    ((omega arith, omega arith, omega arith), sort-same ((args .text .now)) ((args .variables .now)) ((args .count)) h (nameOf ((args .text .now)) ((args .kind)) ((args .start)) ((args .size))) ((args .sort)) ((variable-of .result)) e (if1 .taken) refl (if2 .left) (if3 .left) (if4 .taken))
+    let h : (args .count) ≤ length ((args .variables .now)) = omega arith in (
+      (omega arith, omega arith, omega arith),
+      (
+        sort-same ((args .text .now)) ((args .variables .now)) ((args .count)) h (nameOf ((args .text .now)) ((args .kind)) ((args .start)) ((args .size))) ((args .sort)) ((variable-of .result)) e (if1 .taken) refl (if2 .left) (if3 .left) (if4 .taken),
+        placed-kept _ (args .variables .now) (args .count),
+      ),
+    )
 
 same-length-4 : tie.Need-same-length-4
 same-length-4 c = search needs
@@ -110,7 +126,7 @@ returns-4 c =
     let if4 = c .if4 in
     let e : (variable-of .result) ≡ variableNumber (variablesOf ((args .text .now)) ((args .variables .now)) ((args .count))) (nameOf ((args .text .now)) ((args .kind)) ((args .start)) ((args .size))) = (variable-of .ensures) in
     let h : (args .count) ≤ length ((args .variables .now)) = omega arith in
-    (omega arith, sort-other ((args .text .now)) ((args .variables .now)) ((args .count)) h (nameOf ((args .text .now)) ((args .kind)) ((args .start)) ((args .size))) ((args .sort)) ((variable-of .result)) e (if1 .taken) refl (if2 .left) (if3 .left) (if4 .left))
+    (omega arith, (sort-other ((args .text .now)) ((args .variables .now)) ((args .count)) h (nameOf ((args .text .now)) ((args .kind)) ((args .start)) ((args .size))) ((args .sort)) ((variable-of .result)) e (if1 .taken) refl (if2 .left) (if3 .left) (if4 .left), tt))
 
 mul-t36 : tie.Need-mul-t36
 mul-t36 c = search needs
@@ -131,8 +147,13 @@ returns-5 c =
     let if1 = c .before .if1 in
     let if5 = c .if5 in
     let e : (variable-of .result) ≡ variableNumber (variablesOf ((args .text .now)) ((args .variables .now)) ((args .count))) (nameOf ((args .text .now)) ((args .kind)) ((args .start)) ((args .size))) = (variable-of .ensures) in
-    let h : (args .count) ≤ length ((args .variables .now)) = omega arith in
-    ((omega arith, omega arith, omega arith), var-new ((args .text .now)) ((args .variables .now)) ((args .count)) h (nameOf ((args .text .now)) ((args .kind)) ((args .start)) ((args .size))) ((args .sort)) ((variable-of .result)) e (if1 .left) (if5 .taken) (omega arith) ((args .kind)) ((args .start)) ((args .size)) refl)
+    let h : (args .count) ≤ length ((args .variables .now)) = omega arith in (
+      (omega arith, omega arith, omega arith),
+      (
+        var-new ((args .text .now)) ((args .variables .now)) ((args .count)) h (nameOf ((args .text .now)) ((args .kind)) ((args .start)) ((args .size))) ((args .sort)) ((variable-of .result)) e (if1 .left) (if5 .taken) (omega arith) ((args .kind)) ((args .start)) ((args .size)) refl,
+        placed-new (args .variables .now) (args .count) (args .kind) (args .start) (args .size) (args .sort) (omega arith),
+      ),
+    )
 
 same-length-6 : tie.Need-same-length-6
 same-length-6 c = search needs
@@ -145,7 +166,7 @@ returns-6 c =
     let if5 = c .if5 in
     let e : (variable-of .result) ≡ variableNumber (variablesOf ((args .text .now)) ((args .variables .now)) ((args .count))) (nameOf ((args .text .now)) ((args .kind)) ((args .start)) ((args .size))) = (variable-of .ensures) in
     let h : (args .count) ≤ length ((args .variables .now)) = omega arith in
-    (omega arith, var-full ((args .text .now)) ((args .variables .now)) ((args .count)) h (nameOf ((args .text .now)) ((args .kind)) ((args .start)) ((args .size))) ((args .sort)) ((variable-of .result)) e (if1 .left) (if5 .left))
+    (omega arith, (var-full ((args .text .now)) ((args .variables .now)) ((args .count)) h (nameOf ((args .text .now)) ((args .kind)) ((args .start)) ((args .size))) ((args .sort)) ((variable-of .result)) e (if1 .left) (if5 .left), tt))
 
 pub enter-spec : {M : Type 1} → statement M
 enter-spec =

@@ -23,6 +23,7 @@ returns c =
     record {
       small = tt;
       going = tt;
+      noneNew = tt;
       same = λ vx. no-zero ((args .text .now)) ((args .symbols .now)) ((args .count)) ((pre .0)) ((args .n)) ((args .want)) (variablesOf ((args .text .now)) vx ((args .variables))) ((args .room)) ((args .words .now)) ((args .used)) 0 ((find-symbol .result)) ((find-symbol .ensures)) (if1 .taken);
     }
 
@@ -45,6 +46,7 @@ returns-2 c =
     record {
       small = tt;
       going = tt;
+      noneNew = tt;
       same = λ vx. zero-pred ((args .text .now)) ((args .symbols .now)) ((args .count)) ((pre .0)) ((args .n)) ((args .want)) (variablesOf ((args .text .now)) vx ((args .variables))) ((args .room)) ((args .words .now)) ((args .used)) 0 ((find-symbol .result)) ((find-symbol .ensures)) (if1 .left) (if2 .taken);
     }
 
@@ -66,6 +68,7 @@ returns-3 c =
     record {
       small = tt;
       going = tt;
+      noneNew = tt;
       same = λ vx. no-succ ((args .text .now)) ((args .symbols .now)) ((args .count)) ((pre .0)) ((args .n)) ((args .want)) (variablesOf ((args .text .now)) vx ((args .variables))) ((args .room)) ((args .words .now)) ((args .used)) ((find-symbol2 .result)) ((find-symbol .result)) ((find-symbol .ensures)) (if1 .left) (if2 .left) ((find-symbol2 .ensures)) (if3 .taken);
     }
 
@@ -91,6 +94,7 @@ returns-4 c =
     record {
       small = tt;
       going = tt;
+      noneNew = tt;
       same = λ vx. succ-pred ((args .text .now)) ((args .symbols .now)) ((args .count)) ((pre .0)) ((args .n)) ((args .want)) (variablesOf ((args .text .now)) vx ((args .variables))) ((args .room)) ((args .words .now)) ((args .used)) ((find-symbol2 .result)) ((find-symbol .result)) ((find-symbol .ensures)) (if1 .left) (if2 .left) ((find-symbol2 .ensures)) (if3 .left) (if4 .taken);
     }
 
@@ -112,6 +116,7 @@ returns-5 c =
     record {
       small = tt;
       going = tt;
+      noneNew = tt;
       same = λ vx. number-refused ((args .text .now)) ((args .symbols .now)) ((args .count)) ((pre .0)) ((args .n)) ((args .want)) (variablesOf ((args .text .now)) vx ((args .variables))) ((args .room)) ((args .words .now)) ((args .used)) ((find-symbol2 .result)) ((find-symbol .result)) ((find-symbol .ensures)) (if1 .left) (if2 .left) ((find-symbol2 .ensures)) (if3 .left) (if4 .left) ((numeral-misfit .ensures) ((args .text .now))) (if5 .taken);
     }
 
@@ -219,6 +224,7 @@ returns-6 c =
     record {
       small = (omega arith, omega arith, omega arith, omega arith, omega arith);
       going = refl;
+      noneNew = refl;
       same = λ vx. number-done ((args .text .now)) ((args .symbols .now)) ((args .count)) ((pre .0)) ((args .n)) ((args .want)) (variablesOf ((args .text .now)) vx ((args .variables))) ((args .room)) ((args .words .now)) ((args .used)) ((find-symbol2 .result)) ((find-symbol .result)) ((find-symbol .ensures)) (if1 .left) (if2 .left) ((find-symbol2 .ensures)) (if3 .left) (if4 .left) ((numeral-misfit .ensures) ((args .text .now))) (if5 .left) ((numeral-words .result)) _ ((numeral-words .ensures));
     }
 

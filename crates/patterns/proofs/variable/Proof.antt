@@ -1,6 +1,7 @@
 -- `variable` meets its contract: the entry, and then the count of nodes.
 use mathlib.Core.Path.{refl}
 use Rattle.patterns.proofs.Variables.{grew, variable-refused, variable-full, variable-node}
+use Rattle.patterns.proofs.Places.{placed-entry}
 use borrow.Author.Needs.{needs}
 use native.Mathlib.Omega.{arith}
 use Rattle.patterns.proofs.variable.Statement.{statement}
@@ -24,7 +25,7 @@ returns c =
     let enter = c .before .before .before .before .before .enter in
     let index = c .before .before .index in
     let if1 = c .if1 in
-    (tt, ((λ w. variable-full ((args .text .now)) ((enter .result)) _ _ ((enter .ensures .1)) w ((args .used)) ((args .room)) ((index .given .1)) ((if1 .taken))), tt))
+    (tt, ((λ w. variable-full ((args .text .now)) ((enter .result)) _ _ ((enter .ensures .1 .0)) w ((args .used)) ((args .room)) ((index .given .1)) ((if1 .taken))), (tt, tt)))
 
 cast-t19 : tie.Need-cast-t19
 cast-t19 c =
@@ -42,7 +43,7 @@ returns-2 c =
     let args = c .before .before .before .before .before .before .before .args in
     let enter = c .before .before .before .before .enter in
     let number = c .before .number in
-    (tt, ((λ w. variable-refused ((args .text .now)) ((enter .result)) _ _ ((enter .ensures .1)) w ((args .used)) ((args .room)) ((number .given .1))), tt))
+    (tt, ((λ w. variable-refused ((args .text .now)) ((enter .result)) _ _ ((enter .ensures .1 .0)) w ((args .used)) ((args .room)) ((number .given .1))), (tt, tt)))
 
 same-length-3 : tie.Need-same-length-3
 same-length-3 c = search needs
@@ -52,8 +53,16 @@ returns-3 c =
     let enter = c .before .before .before .before .before .enter in
     let index = c .before .before .index in
     let args = c .before .before .before .before .before .before .before .before .args in
-    let g = grew ((enter .result)) ((index .given .1)) ((enter .ensures .0)) in
-    ((omega arith, g .1, g .2, omega arith, omega arith), ((λ w. variable-node ((args .text .now)) ((enter .result)) _ _ ((enter .ensures .1)) w ((args .used)) ((args .room)) ((index .given .1)) ((args .next)) (omega arith)), refl))
+    let g = grew ((enter .result)) ((index .given .1)) ((enter .ensures .0)) in (
+      (omega arith, g .1, g .2, omega arith, omega arith),
+      (
+        (λ w. variable-node ((args .text .now)) ((enter .result)) _ _ ((enter .ensures .1 .0)) w ((args .used)) ((args .room)) ((index .given .1)) ((args .next)) (omega arith)),
+        (
+          refl,
+          placed-entry (enter .result) (index .given .1) (enter .ensures .1 .1),
+        ),
+      ),
+    )
 
 pub variable-spec : {M : Type 1} → statement M
 variable-spec =
