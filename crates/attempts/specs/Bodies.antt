@@ -14,7 +14,7 @@ use Rattle.bindings.specs.Contracts.{Undoable}
 use Rattle.bindings.specs.Holding.{form-undoable}
 use Rattle.resolution.specs.Search.{within, over}
 use Rattle.attempts.specs.Contracts.{BodyAsked, BodyTried}
-use Rattle.attempts.specs.Parts.{copyable, copied-kept, copied-long, copied-held, copied-form, copied-grown, copied-reference, copied-denotes}
+use Rattle.attempts.specs.Parts.{copyable, copied-kept, copied-past, copied-long, copied-held, copied-form, copied-grown, copied-reference, copied-denotes}
 use Rattle.attempts.specs.Heads.{allowed}
 use Rattle.attempts.specs.declared.Stored.{Stored}
 
@@ -26,7 +26,7 @@ module _ {most limit : ℕ} {pattern places : List ℕ} {stored : Stored} {words
   -- The limits refuse the premises, and the bindings are undone.
   pub body-refused : {rows′ : Rows} → over (within most limit) (counter + stored .variables) (used + stored .head + stored .body) ≡ true
       → rows′ ≡ undone rows mark (bound - mark) → BodyTried most limit pattern places stored words words rows rows′ counter used mark bound false
-  body-refused e u = record { done = (e, u); kept = λ i l. refl; long = refl }
+  body-refused e u = record { done = (e, u); kept = λ i l. refl; past = λ i l. refl; long = refl }
 
   module _ (fits : over (within most limit) (counter + stored .variables) (used + stored .head + stored .body) ≡ false) where
     within-most : counter + stored .variables ≤ most
@@ -66,5 +66,6 @@ module _ {most limit : ℕ} {pattern places : List ℕ} {stored : Stored} {words
         },
       );
       kept = copied-kept (asked .part) counter (asked .form) more few space small words′ w;
+      past = copied-past (asked .part) counter (asked .form) more few space small words′ w;
       long = copied-long (asked .part) counter (asked .form) more few space small words′ w;
     }

@@ -108,8 +108,9 @@ pub record Attempted (most limit : ℕ) (pattern premises places : List ℕ) (st
   pub is : attemptOf words′ rows′ answer
       ≡ attempt (within most limit) (held termRoom words rows bound) (denote termRoom (cells words) goal) used counter
       (ruleOf pattern premises stored)
-  -- the words that were in use stand, and there are as many
+  -- the words that were in use stand, and so do those past the rule's; there are as many
   pub kept : Same termRoom (cells words) (cells words′) used
+  pub past : (i : ℕ) → used + stored .head + stored .body ≤ i → cells words′ i ≡ cells words i
   pub long : length words′ ≡ length words
   -- what the answer leaves
   pub left : Left premises places stored (ruleOf pattern premises stored) words′ rows rows′ counter used bound answer
@@ -167,8 +168,9 @@ Met most limit pattern places stored words words′ rows rows′ counter used bo
 pub record HeadTried (most limit : ℕ) (pattern places : List ℕ) (stored : Stored) (words words′ : List ℕ)
     (rows rows′ links links′ marks marks′ stack stack′ : Rows) (counter used bound goal : ℕ) (answer : Meeting) : Type 0 where
   pub came : Met most limit pattern places stored words words′ rows rows′ counter used bound goal answer
-  -- the words that were in use stand, and there are as many
+  -- the words that were in use stand, and so do those past the conclusion's; there are as many
   pub kept : Same termRoom (cells words) (cells words′) used
+  pub past : (i : ℕ) → used + stored .head ≤ i → cells words′ i ≡ cells words i
   pub long : length words′ ≡ length words
   -- the scratch is as it was
   pub linksKept : links′ ≡ links
@@ -218,6 +220,7 @@ Done most limit pattern places stored words words′ rows rows′ counter used m
 pub record BodyTried (most limit : ℕ) (pattern places : List ℕ) (stored : Stored) (words words′ : List ℕ) (rows rows′ : Rows)
     (counter used mark bound : ℕ) (answer : Bool) : Type 0 where
   pub done : Done most limit pattern places stored words words′ rows rows′ counter used mark bound answer
-  -- the words that were in use stand, and there are as many
+  -- the words that were in use stand, and so do those past the premises'; there are as many
   pub kept : Same termRoom (cells words) (cells words′) (used + stored .head)
+  pub past : (i : ℕ) → used + stored .head + stored .body ≤ i → cells words′ i ≡ cells words i
   pub long : length words′ ≡ length words

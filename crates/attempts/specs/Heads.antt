@@ -22,7 +22,7 @@ use Rattle.resolution.specs.Search.{within, over}
 use Rattle.attempts.specs.Contracts.{HeadAsked, HeadTried, instance, copiedAt}
 use Rattle.attempts.specs.Extending.{scratch-less}
 use Rattle.attempts.specs.Clashes.{Comparable, Clashes, clash-fails}
-use Rattle.attempts.specs.Parts.{copyable, copied-kept, copied-long, copied-held, copied-form, copied-grown, copied-reference, copied-denotes, root-movable}
+use Rattle.attempts.specs.Parts.{copyable, copied-kept, copied-past, copied-long, copied-held, copied-form, copied-grown, copied-reference, copied-denotes, root-movable}
 use Rattle.attempts.specs.declared.Stored.{Stored}
 use Rattle.attempts.specs.declared.Meeting.the-variants.{Refused, Apart, Unifies}
 
@@ -46,7 +46,7 @@ module _ {most limit : ℕ} {pattern places : List ℕ} {stored : Stored} {words
   -- The limits refuse the conclusion, and nothing was done.
   pub head-refused : over (within most limit) (counter + stored .met) (used + stored .head) ≡ true
       → HeadTried most limit pattern places stored words words rows rows links links marks marks stack stack counter used bound goal Refused
-  head-refused e = record { came = (e, refl); kept = λ i l. refl; long = refl; linksKept = refl; marksKept = refl; stackKept = refl }
+  head-refused e = record { came = (e, refl); kept = λ i l. refl; past = λ i l. refl; long = refl; linksKept = refl; marksKept = refl; stackKept = refl }
 
   -- The goal can be compared with the conclusion as it stands in the pattern.
   pub head-comparable : Comparable pattern words rows counter used bound goal (stored .conclusion)
@@ -134,6 +134,7 @@ module _ {most limit : ℕ} {pattern places : List ℕ} {stored : Stored} {words
         head-apart e = record {
           came = (fits, same t found ∙ h .is ∙ ap (λ (a : Bool). outcome a (held termRoom words′ rows′ bound′)) e, h .failed e .0);
           kept = kept;
+          past = copied-past (asked .part) counter (asked .state .form) more few space small words′ written;
           long = copied-long (asked .part) counter (asked .state .form) more few space small words′ written;
           linksKept = h .links;
           marksKept = h .marks;
@@ -154,6 +155,7 @@ module _ {most limit : ℕ} {pattern places : List ℕ} {stored : Stored} {words
             },
           );
           kept = kept;
+          past = copied-past (asked .part) counter (asked .state .form) more few space small words′ written;
           long = copied-long (asked .part) counter (asked .state .form) more few space small words′ written;
           linksKept = h .links;
           marksKept = h .marks;
@@ -174,6 +176,7 @@ module _ {most limit : ℕ} {pattern places : List ℕ} {stored : Stored} {words
         refl,
       );
       kept = λ i l. refl;
+      past = λ i l. refl;
       long = refl;
       linksKept = refl;
       marksKept = refl;

@@ -140,6 +140,7 @@ module _ {most limit : ℕ} {pattern premises places : List ℕ} {stored : Store
     refused-way e = let h = known Refused e in record {
       is = sym (head-exceeds rule most limit (held termRoom words rows bound) (denote termRoom (cells words) goal) used counter (h .came .0));
       kept = h .kept;
+      past = λ i l. h .past i (omega arith);
       long = h .long;
       left = back counter (le-refl counter) (form .few) (form .lentRows) (h .kept) (h .long) (h .came .1);
       staysInForm = λ arities r f. still-in-form counter words′ (le-refl counter) (h .kept) (h .long) arities f;
@@ -153,6 +154,7 @@ module _ {most limit : ℕ} {pattern premises places : List ℕ} {stored : Store
     missed-way e = let h = known Apart e in record {
       is = sym (misses rule most limit (held termRoom words rows bound) (denote termRoom (cells words) goal) used counter (h .came .0) (h .came .1));
       kept = h .kept;
+      past = λ i l. h .past i (omega arith);
       long = h .long;
       left =
           let a = allowed most limit (counter + stored .met) (used + stored .head) (h .came .0) .0 in let b = asked .state .enough in let d = asked .state .lentRows in
@@ -186,6 +188,10 @@ module _ {most limit : ℕ} {pattern premises places : List ℕ} {stored : Store
       kept-both : (words″ : List ℕ) → Same termRoom (cells words′) (cells words″) (used + stored .head) → Same termRoom (cells words) (cells words″) used
       kept-both words″ k i l = h .kept i l ∙ k i (omega arith)
 
+      past-both : (words″ : List ℕ) → ((i : ℕ) → used + stored .head + stored .body ≤ i → cells words″ i ≡ cells words′ i)
+          → (i : ℕ) → used + stored .head + stored .body ≤ i → cells words″ i ≡ cells words i
+      past-both words″ k i l = k i l ∙ h .past i (omega arith)
+
       module _ {words″ : List ℕ} {rows″ : Rows} {copied : Bool} (done : BodyTried most limit pattern places stored words′ words″ rows′ rows″ counter used bound n copied) where
         pub exceeded-way : copied ≡ false
             → Attempted most limit pattern premises places stored words words″ rows rows″ links links′ marks marks′ stack stack′ counter used bound goal Exceeded
@@ -193,6 +199,7 @@ module _ {most limit : ℕ} {pattern premises places : List ℕ} {stored : Store
           is = sym (body-exceeds rule most limit (held termRoom words rows bound) (denote termRoom (cells words) goal) used counter
               (held termRoom words′ rows′ n) (h .came .0) (h .came .1) (k .done .0));
           kept = kept-both words″ (k .kept);
+          past = past-both words″ (k .past);
           long = k .long ∙ h .long;
           left = back counter (le-refl counter) (form .few) (form .lentRows) (kept-both words″ (k .kept)) (k .long ∙ h .long) (k .done .1 ∙ h .came .2 .added .back);
           staysInForm = λ arities r f. still-in-form counter words″ (le-refl counter) (kept-both words″ (k .kept)) (k .long ∙ h .long) arities f;
@@ -209,6 +216,7 @@ module _ {most limit : ℕ} {pattern premises places : List ℕ} {stored : Store
               ∙ sym (enters rule most limit (held termRoom words rows bound) (denote termRoom (cells words) goal) used counter
               (held termRoom words′ rows′ n) (h .came .0) (h .came .1) (k .done .0));
           kept = kept-both words″ (k .kept);
+          past = past-both words″ (k .past);
           long = k .long ∙ h .long;
           left = record {
             form = k .done .1 .form;

@@ -8,8 +8,9 @@ use lib.ListN.{getD, length}
 use lib.Seq.{sets, length-sets}
 use Rattle.terms.specs.Term.{sub}
 use Rattle.arena.specs.Cells.{headers, denote, Reference, WellFormed, Same, cells}
+use Rattle.arena.specs.NodeLaws.{sets-past}
 use Rattle.arena.specs.Copies.{patternRoom, termRoom, moved, copied, numbered, Copyable, Movable, PartReference}
-use Rattle.arena.specs.CopyLaws.{inst-frame, inst-formed, inst-reference, inst-denotes}
+use Rattle.arena.specs.CopyLaws.{copied-length, inst-frame, inst-formed, inst-reference, inst-denotes}
 use Rattle.arena.specs.Form.{inForm}
 use Rattle.arena.specs.FormKept.{inst-form}
 use Rattle.arena.specs.Rows.{Rows}
@@ -55,6 +56,12 @@ module _ {pattern places : List ℕ} {from count n : ℕ} (part : Part pattern p
     copied-kept =
         subst (λ (w : List ℕ). Same termRoom (cells words) (cells w) used) (sym written)
         (inst-frame pattern from count places words termRoom used counter patternRoom variables (counter + n) copyable (part .formed) (form .words) more few number)
+
+    -- So do the words past the copy.
+    pub copied-past : (i : ℕ) → used + count ≤ i → cells words′ i ≡ cells words i
+    copied-past i l =
+        let e = copied-length pattern from count places termRoom used counter (part .there) in
+        ap (λ (w : List ℕ). cells w i) written ∙ sets-past (copied pattern from count places termRoom used counter) words used i (omega arith)
 
     pub copied-long : length words′ ≡ length words
     copied-long = ap length written ∙ length-sets words used (copied pattern from count places termRoom used counter)
