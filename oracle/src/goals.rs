@@ -163,6 +163,10 @@ impl Writer<'_> {
             let inputs: Vec<usize> = (0..16).map(|_| self.some_sort()).collect();
             self.predicate("wide", &inputs);
         }
+        if self.random.percent(50) {
+            let x = || Variable("x".to_owned());
+            self.function("id", &[NAT, NAT], &[("x => x", vec![x(), x()])]);
+        }
         for number in 0..count {
             self.some_rule(number);
         }
@@ -415,7 +419,9 @@ impl Writer<'_> {
         let mut names = std::mem::take(&mut self.names);
         let Node(name, mut arguments) = self.instance_of(&judgment, &mut names) else { panic!("a judgment is a node") };
         let other = 1 - place.map_or(NAT, |place| judgment.inputs[place]);
-        let goal = match self.random.below(24) {
+        let functions: Vec<Symbol> = self.symbols.iter().filter(|symbol| symbol.function).cloned().collect();
+        let goal = match self.random.below(30) {
+            _ if !self.has_numerals() && self.random.percent(40) => Numeral(self.random.below(3) as u64),
             0 => node("u", vec![]),
             1 => node("u", vec![self.term(NAT, 1, &mut names, &NAMES)]),
             2 | 3 => {
@@ -433,15 +439,21 @@ impl Writer<'_> {
             chance => {
                 let part = match chance {
                     10 => node("u", vec![Numeral(1)]),
-                    11 | 12 => Node(self.random.pick(&self.judgments()).name, vec![Numeral(0), Numeral(0)]),
-                    13 | 14 => self.term(other, 1, &mut names, &NAMES),
-                    15..18 => {
+                    11 => Node(self.random.pick(&self.judgments()).name, vec![Numeral(0), Numeral(0)]),
+                    12 => self.term(other, 1, &mut names, &NAMES),
+                    13..17 if !functions.is_empty() => {
+                        let function = self.random.pick(&functions);
+                        let inputs = &function.inputs[1..];
+                        let arguments = inputs.iter().map(|sort| self.term(*sort, 0, &mut names, &NAMES)).collect();
+                        Node(function.name, arguments)
+                    }
+                    17..24 => {
                         let wrong: Vec<String> =
                             names.iter().filter(|(_, sort)| *sort == other).map(|(name, _)| name.clone()).collect();
                         Variable(if wrong.is_empty() { "?x".to_owned() } else { self.random.pick(&wrong) })
                     }
-                    18 => node("a", vec![Numeral(0)]),
-                    19 => Numeral(self.random.pick(&[4_294_967_295, 4_294_967_296, u64::MAX])),
+                    24 => node("a", vec![Numeral(0)]),
+                    25 => Numeral(self.random.pick(&[4_294_967_295, 4_294_967_296, u64::MAX])),
                     _ => Numeral(self.random.between(1_018, 1_026) as u64),
                 };
                 if let Some(place) = place {

@@ -36,6 +36,7 @@ pub mod shrink;
 pub mod search_cases;
 pub mod search_definitions;
 pub mod search_examples;
+pub mod search_texts;
 pub mod searched;
 pub mod signatures;
 pub mod stored_definitions;

@@ -10,7 +10,7 @@ use crate::random::Random;
 use crate::search::{self, Asked as OriginalAsked};
 use crate::search_definitions::{Asked, Limits, Session};
 use crate::search_examples::{examples, large_examples};
-use crate::searched::{Allowance, Answer, Ask, NO_ROOM, STEPS, Standing, VARIABLES, Verdict, WORDS};
+use crate::searched::{Allowance, Answer, Ask, DEPTH, NO_ROOM, STEPS, Standing, VARIABLES, Verdict, WORDS};
 use crate::shrink;
 use crate::tokens::TEXT_BYTES;
 use std::ops::Range;
@@ -124,7 +124,7 @@ impl<'p> Both<'p> {
         let bound = self.definitions.bound();
         let before = self.definitions.standing(bound, &mut self.terms);
         self.last = None;
-        let free = match ask.steps > ask.limits.steps.min(STEPS) || ask.depth > 128 {
+        let free = match ask.steps > ask.limits.steps.min(STEPS) || ask.depth > DEPTH {
             true => None,
             false => Some(self.free(&goal, eval, ask)?),
         };
@@ -309,10 +309,14 @@ pub fn generated(random: &mut Random) -> Question {
 /// What is asked of a goal: steps about those that it takes, or any; limits about what it tests, or any.
 fn numbers(random: &mut Random, session: &mut Session, goal: &Written) -> Ask {
     let terms = &mut Terms::default();
-    let depth = random.pick(&[0, 3, 4, 4, 5, 7, 8, 8, 9, 12, 15, 16, 16, 24, 31, 32, 32, 32, 63, 64, 127, 128, 129]);
+    let depth = match random.below(40) {
+        0 => 129,
+        1 => random.pick(&[0, 1, 2, u32::MAX]),
+        _ => random.pick(&[3, 4, 4, 5, 7, 8, 8, 9, 12, 15, 16, 16, 24, 31, 32, 32, 32, 63, 64, 127, 128]),
+    };
     let mark = session.mark();
     let enough = random.pick(&[20, 60, 60, 200, 200, 600]);
-    let used = session.answered(goal, enough, depth, FREE, terms).answer.steps;
+    let used = session.answered(goal, enough, depth.min(DEPTH), FREE, terms).answer.steps;
     session.restore(mark);
     let steps = match random.below(80) {
         0 => STEPS,
@@ -323,11 +327,16 @@ fn numbers(random: &mut Random, session: &mut Session, goal: &Written) -> Ask {
         50..65 => random.below(12) as u32,
         _ => enough,
     };
-    let most = session.answered(goal, steps.min(STEPS), depth, FREE, terms).most;
+    let most = session.answered(goal, steps.min(STEPS), depth.min(DEPTH), FREE, terms).most;
     session.restore(mark);
     let standing = session.standing(session.bound(), terms);
     let limits = Allowance {
-        steps: random.pick(&[STEPS, STEPS, STEPS, STEPS, STEPS, steps, steps, steps.saturating_sub(1), u32::MAX]),
+        steps: match random.below(30) {
+            0 => steps.saturating_sub(1),
+            1..4 => steps,
+            4 => u32::MAX,
+            _ => STEPS,
+        },
         variables: about(random, most.variables, standing.variables as u64, VARIABLES),
         words: about(random, most.words, standing.words, WORDS),
     };
@@ -339,14 +348,14 @@ fn numbers(random: &mut Random, session: &mut Session, goal: &Written) -> Ask {
 /// A limit: mostly document 01's, else about the most that is tested, or what the session has, or any.
 fn about(random: &mut Random, most: u64, used: u64, limit: u32) -> u32 {
     let most = most.min(u64::from(u32::MAX) - 2);
-    match random.below(30) {
-        0..20 => limit,
-        20 => random.pick(&[0, 1, limit - 1, limit + 1, u32::MAX]),
-        21..24 => most as u32,
-        24 | 25 => most.saturating_sub(1) as u32,
-        26 => most as u32 + 1,
-        27 => used.saturating_sub(1) as u32,
-        28 => used as u32,
+    match random.below(50) {
+        0..36 => limit,
+        36 => random.pick(&[0, 1, limit - 1, limit + 1, u32::MAX]),
+        37..43 => most as u32,
+        43 | 44 => most.saturating_sub(1) as u32,
+        45 | 46 => most as u32 + 1,
+        47 => used.saturating_sub(1) as u32,
+        48 => used as u32,
         _ => random.below(most as usize + 1) as u32,
     }
 }

@@ -170,7 +170,7 @@ fn lay(nodes: &mut Vec<Node>, pattern: &Pattern, map: &impl Fn(usize) -> usize) 
 
 /// `bounds`: 4, 8, 16, .. up to the largest depth.
 fn bounds(largest: u32) -> impl Iterator<Item = u32> {
-    std::iter::successors(Some(4), |bound| Some(bound + bound)).take_while(move |bound| *bound <= largest)
+    std::iter::successors(Some(4_u32), |bound| bound.checked_add(*bound)).take_while(move |bound| *bound <= largest)
 }
 
 impl Session<'_> {
