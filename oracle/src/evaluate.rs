@@ -4,9 +4,9 @@
 
 use super::super::{Evaluator, Just, Pat, Proof, Rule, Sig, T, Term, is_forward_call, t_pat};
 use super::load::{Loaded, no_declarations};
-use crate::evaluate_definitions::Written;
 use crate::evaluated::{Answer, Call, Terms, Value};
 use crate::loaded::{ARITIES, FIRST_HEADER, FIRST_INPUT, FIRST_NODE, FIRST_PREMISE, RuleRow, SymbolRow};
+use crate::pattern_definitions::Written;
 use std::collections::HashMap;
 
 /// A numeral is never given to the original above this, since it writes it out. From 129 on the `succ` on `zero` are more
@@ -82,7 +82,7 @@ impl Loaded {
 
 /// The original's signature of what is stored in the listed form, which no text need have made.
 pub struct Kept {
-    sig: Sig,
+    pub(super) sig: Sig,
 }
 
 impl Kept {
@@ -118,7 +118,7 @@ fn name(bytes: &[u8]) -> String {
     bytes.iter().map(|byte| if *byte == b' ' { '␠' } else { char::from(*byte) }).collect()
 }
 
-fn term(written: &Written) -> Term {
+pub(super) fn term(written: &Written) -> Term {
     match written {
         Written::Number(value) => Term::Num(*value),
         Written::Meta(word) => Term::Meta(name(&word[1..])),
@@ -161,22 +161,22 @@ fn clause_words(rule: &Rule) -> u64 {
     arguments.chain([&rule.conclusion]).map(pattern_words).sum()
 }
 
-fn pattern_words(pattern: &Pat) -> u64 {
+pub(super) fn pattern_words(pattern: &Pat) -> u64 {
     match pattern {
         Pat::A(_, patterns) => 1 + patterns.len() as u64 + patterns.iter().map(pattern_words).sum::<u64>(),
         _ => 0,
     }
 }
 
-fn rule_of(proof: &Proof) -> usize {
+pub(super) fn rule_of(proof: &Proof) -> usize {
     match proof.just {
         Just::Rule(rule) => rule,
-        _ => panic!("a call takes a clause"),
+        _ => panic!("there are no facts and no hypotheses"),
     }
 }
 
 /// The trees in preorder, with heights from 1 on.
-fn preorder(proofs: &[Proof]) -> Vec<(u32, &Proof)> {
+pub(super) fn preorder(proofs: &[Proof]) -> Vec<(u32, &Proof)> {
     let mut waiting: Vec<(u32, &Proof)> = proofs.iter().rev().map(|proof| (1, proof)).collect();
     let mut all = Vec::new();
     while let Some((height, proof)) = waiting.pop() {
@@ -193,7 +193,7 @@ impl Evaluated<'_> {
             Err(number) => return Answer::Refused(*number),
             Ok(result) => result,
         };
-        let mut reader = Reader { terms, seen: HashMap::new() };
+        let mut reader = Reader::new(terms);
         let (mut calls, mut words) = (Vec::new(), written_words(self.sig, &self.term));
         for (height, proof) in preorder(proofs) {
             let rule = rule_of(proof);
@@ -218,14 +218,22 @@ impl Evaluated<'_> {
 }
 
 /// Gives the original's terms their numbers; what it shares is read once.
-struct Reader<'t> {
+pub(super) struct Reader<'t> {
     terms: &'t mut Terms,
     seen: HashMap<(u32, *const T), usize>,
 }
 
 impl Reader<'_> {
-    fn number(&mut self, term: &T) -> usize {
-        let T::A(symbol, arguments) = term else { panic!("a value is ground") };
+    pub fn new(terms: &mut Terms) -> Reader<'_> {
+        Reader { terms, seen: HashMap::new() }
+    }
+
+    pub fn number(&mut self, term: &T) -> usize {
+        let (symbol, arguments) = match term {
+            T::A(symbol, arguments) => (symbol, arguments),
+            T::V(variable) => return self.terms.variable(*variable),
+            T::E(_) => panic!("only a theorem has rigid names"),
+        };
         let place = (*symbol, arguments.as_ptr());
         if let Some(number) = self.seen.get(&place) {
             return *number;

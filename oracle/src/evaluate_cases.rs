@@ -3,7 +3,7 @@
 use crate::damage::{changed_number, damage_bytes, damage_tokens};
 use crate::declarations::{Pieces, plainly_written, written};
 use crate::evaluate::{Evaluated, Kept};
-use crate::evaluate_definitions::{Evaluation, Signature, Written, term_at};
+use crate::evaluate_definitions::Evaluation;
 use crate::evaluate_examples::{Example, examples};
 use crate::evaluated::{Answer, NO_WORDS, Terms, WORDS};
 use crate::load::{Loaded, load};
@@ -11,10 +11,12 @@ use crate::loaded::{
     self, ARITIES, Buffers, FIRST_HEADER, FIRST_INPUT, FIRST_NODE, FIRST_PREMISE, Lent, Limits, NODES, Pair, RuleRow,
     Storage, SymbolRow,
 };
+use crate::pattern_definitions::Written;
 use crate::programs::program;
 use crate::random::Random;
 use crate::shrink;
 use crate::signatures::signature;
+use crate::stored_definitions::{Signature, term_at};
 use std::collections::HashSet;
 use std::ops::Range;
 
@@ -170,6 +172,17 @@ impl Question {
 /// What a declaration or a clause starts with.
 const PART_STARTS: [&[u8]; 7] = [b"sort ", b"ctor ", b"pred ", b"rule ", b"def ", b"#eval ", b"|"];
 
+/// The declarations of a text, and behind them its clauses.
+pub fn parts(text: &[u8]) -> Vec<Range<usize>> {
+    let starts_one = |at: &usize| PART_STARTS.iter().any(|start| text[*at..].starts_with(start));
+    let starts: Vec<usize> = (0..text.len()).filter(starts_one).chain([text.len()]).collect();
+    let is_clause = |at: usize| text.get(at) == Some(&b'|');
+    let declarations: Vec<usize> = starts.iter().copied().filter(|at| !is_clause(*at)).collect();
+    let parts = |starts: &[usize]| starts.windows(2).map(|pair| pair[0]..pair[1]).collect::<Vec<_>>();
+    let clauses = parts(&starts).into_iter().filter(|part| is_clause(part.start));
+    parts(&declarations).into_iter().chain(clauses).collect()
+}
+
 impl shrink::Question for Question {
     fn text(&self) -> &[u8] {
         &self.text
@@ -180,13 +193,7 @@ impl shrink::Question for Question {
     }
 
     fn parts(&self) -> Vec<Range<usize>> {
-        let starts_one = |at: &usize| PART_STARTS.iter().any(|start| self.text[*at..].starts_with(start));
-        let starts: Vec<usize> = (0..self.text.len()).filter(starts_one).chain([self.text.len()]).collect();
-        let is_clause = |at: usize| self.text.get(at) == Some(&b'|');
-        let declarations: Vec<usize> = starts.iter().copied().filter(|at| !is_clause(*at)).collect();
-        let parts = |starts: &[usize]| starts.windows(2).map(|pair| pair[0]..pair[1]).collect::<Vec<_>>();
-        let clauses = parts(&starts).into_iter().filter(|part| is_clause(part.start));
-        parts(&declarations).into_iter().chain(clauses).collect()
+        parts(&self.text)
     }
 
     fn lowered(&self) -> Vec<Question> {

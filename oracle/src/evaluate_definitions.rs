@@ -1,142 +1,20 @@
-//! The definitions of crates/evaluation/specs (Matching, Calls, Expressions) and of a term's rows
-//! (crates/term_check/specs/TermRows), word for word and under their names, over a signature as it is stored. They share
-//! nothing with the original, so that both can be compared, and they count words. Lists are slices and vectors; a refusal is
-//! its number.
+//! The definitions of crates/evaluation/specs (Matching, Calls, Expressions), word for word and under their names, over a
+//! signature as it is stored. They share nothing with the original, so that both can be compared, and they count words. Lists
+//! are slices and vectors; a refusal is its number.
 //!
 //! A value is its number in `Terms`: it has no variables, and `alike` compares numbers.
 
-use crate::declared::{APPLICATION, LARGEST_VALUE};
 use crate::evaluated::{Answer, CALLS, Call, DEPTH, Terms, Value, WORDS};
-use crate::loaded::{ARITIES, FIRST_HEADER, FIRST_INPUT, FIRST_NODE, FIRST_PREMISE, RuleRow, SymbolRow};
-use crate::tokens::{METAVARIABLE, NAME, NUMERAL, Row, WORD_BYTES};
+use crate::pattern_definitions::Pattern::{self, App, Var};
+use crate::pattern_definitions::{Symbol, Written, symbol_named};
+use crate::stored_definitions::Signature;
 
-// Term.antt, Symbols.antt, Rules.antt
-
-/// `Syn one` of a clause.
-enum Pattern {
-    Var(usize),
-    App(usize, Vec<Pattern>),
-}
-
-use Pattern::{App, Var};
-
-struct Symbol {
-    name: Vec<u8>,
-    inputs: Vec<u32>,
-    output: u32,
-    function: u32,
-    first: usize,
-    clauses: usize,
-}
-
-struct Rule {
-    premises: Vec<Pattern>,
-    conclusion: Pattern,
-}
+// Rules.antt
 
 struct Tree {
     rule: usize,
     goal: usize,
     children: Vec<Tree>,
-}
-
-// Standing.antt
-
-/// A term as it is written, its names as bytes.
-#[derive(Clone, Debug, PartialEq)]
-pub enum Written {
-    Number(u64),
-    Meta(Vec<u8>),
-    Called(Vec<u8>),
-    Applied(Vec<u8>, Vec<Written>),
-}
-
-// TermRows.antt
-
-/// A term is at most so deep.
-const TERM_DEPTH: usize = 131;
-
-/// `TermAt`: the term whose rows start at a place, and where they end, if they are exactly those that the parser leaves.
-pub fn term_at(text: &[u8], rows: &[Row], at: usize) -> Option<(Written, usize)> {
-    term_within(text, rows, at, TERM_DEPTH)
-}
-
-fn term_within(text: &[u8], rows: &[Row], at: usize, depth: usize) -> Option<(Written, usize)> {
-    let [kind, start, length, last] = *rows.get(at).filter(|_| depth > 0)?;
-    let word = name_place(text, start, length)?;
-    match kind {
-        NAME if last == 0 => Some((Written::Called(word), at + 1)),
-        METAVARIABLE if last == 0 => Some((Written::Meta(word), at + 1)),
-        NUMERAL => {
-            let value = numeral_value(&word)?;
-            (value.min(LARGEST_VALUE) == u64::from(last)).then_some((Written::Number(value), at + 1))
-        }
-        APPLICATION if last > 0 => {
-            let (mut arguments, mut next) = (Vec::new(), at + 1);
-            for _ in 0..last {
-                let (argument, end) = term_within(text, rows, next, depth - 1)?;
-                arguments.push(argument);
-                next = end;
-            }
-            Some((Written::Applied(word, arguments), next))
-        }
-        _ => None,
-    }
-}
-
-/// `NamePlace`: the bytes at a place inside the text, of 1 to 64 bytes.
-fn name_place(text: &[u8], start: u32, length: u32) -> Option<Vec<u8>> {
-    let (start, length) = (start as usize, length as usize);
-    let word = text.get(start..start.checked_add(length)?)?;
-    (1..=WORD_BYTES).contains(&length).then(|| word.to_vec())
-}
-
-/// `numeralOf`: digits alone, with a value of 64 bits.
-fn numeral_value(word: &[u8]) -> Option<u64> {
-    let all_digits = word.iter().all(u8::is_ascii_digit);
-    std::str::from_utf8(word).ok().filter(|_| all_digits)?.parse().ok()
-}
-
-// The signature as it is stored.
-
-/// Symbols and rules of a stored signature that is in the listed form.
-pub struct Signature {
-    symbols: Vec<Symbol>,
-    rules: Vec<Rule>,
-}
-
-impl Signature {
-    /// Of the rows those that are counted.
-    pub fn stored(text: &[u8], symbols: &[SymbolRow], rules: &[RuleRow], words: &[u32]) -> Signature {
-        Signature {
-            symbols: symbols.iter().map(|row| symbol_of(text, row)).collect(),
-            rules: rules.iter().map(|row| rule_of(row, words)).collect(),
-        }
-    }
-}
-
-fn symbol_of(text: &[u8], row: &SymbolRow) -> Symbol {
-    Symbol {
-        name: text[row[0] as usize..][..row[1] as usize].to_vec(),
-        inputs: row[FIRST_INPUT..][..row[6] as usize].to_vec(),
-        output: row[2],
-        function: row[3],
-        first: row[4] as usize,
-        clauses: row[5] as usize,
-    }
-}
-
-fn rule_of(row: &RuleRow, words: &[u32]) -> Rule {
-    let premises = row[FIRST_PREMISE..][..row[4] as usize].iter().map(|premise| denote(words, *premise)).collect();
-    Rule { premises, conclusion: denote(words, row[5]) }
-}
-
-/// The pattern of a reference. In the listed form a rule's terms have no more nodes than are stored of them.
-fn denote(words: &[u32], reference: u32) -> Pattern {
-    let Some(address) = reference.checked_sub(FIRST_NODE) else { return Var(reference as usize) };
-    let header = words[address as usize] - FIRST_HEADER;
-    let arguments = &words[address as usize + 1..][..(header % ARITIES) as usize];
-    App((header / ARITIES) as usize, arguments.iter().map(|argument| denote(words, *argument)).collect())
 }
 
 // Matching.antt
@@ -193,7 +71,7 @@ pub struct Evaluation {
 
 impl Signature {
     fn symbol_number(&self, name: &[u8]) -> usize {
-        self.symbols.iter().position(|symbol| symbol.name == name).unwrap_or(self.symbols.len())
+        symbol_named(&self.symbols, name).unwrap_or(self.symbols.len())
     }
 
     fn symbol_named(&self, name: &[u8]) -> Option<&Symbol> {
@@ -205,7 +83,7 @@ impl Signature {
     }
 
     fn is_called_with(&self, name: &[u8], arguments: usize) -> bool {
-        let is_called = |symbol: &Symbol| symbol.function == 1 && arguments + 1 == symbol.inputs.len();
+        let is_called = |symbol: &Symbol| symbol.function && arguments + 1 == symbol.inputs.len();
         self.symbol_named(name).is_some_and(is_called)
     }
 
@@ -262,10 +140,10 @@ fn list(tree: &Tree, height: u32, calls: &mut Vec<Call>) {
 
 /// What a symbol on so many arguments is refused for.
 fn misuse(symbol: &Symbol, arguments: usize) -> Result<(), u32> {
-    if symbol.function == 0 && symbol.output == 0 {
+    if !symbol.function && symbol.output == 0 {
         return Err(32);
     }
-    if arguments == symbol.inputs.len() - symbol.function as usize { Ok(()) } else { Err(21) }
+    if arguments == symbol.inputs.len() - usize::from(symbol.function) { Ok(()) } else { Err(21) }
 }
 
 /// The parameters of the modules in Calls.antt and Expressions.antt, and the table of values.
@@ -423,7 +301,7 @@ impl Evaluator<'_> {
 
     fn apply_of(&mut self, symbol: usize, depth: usize, evaluated: Evaluated<Vec<usize>>) -> Evaluated<usize> {
         let (values, mut trees, spent) = evaluated?;
-        if self.signature.symbols[symbol].function == 1 {
+        if self.signature.symbols[symbol].function {
             let (value, tree, spent) = self.call_of(DEPTH - depth, symbol, &values, spent)?;
             trees.push(tree);
             return Ok((value, trees, spent));

@@ -31,13 +31,15 @@ pub const NO_WORDS: u32 = 37;
 /// Height, 0, rule, reference of the goal, and zeros.
 pub type TreeRow = [u32; 8];
 
-/// Terms without variables by number, each once, however it is shared where it comes from. So two terms are the same if
-/// their numbers are, and a term of 2^100 nodes costs what its stored ones do.
+/// Terms by number, each once, however it is shared where it comes from. So two terms are the same if their numbers are, and
+/// a term of 2^100 nodes costs what its stored ones do.
 #[derive(Default)]
 pub struct Terms {
     nodes: Vec<Node>,
     numbers: HashMap<(u32, Vec<usize>), usize>,
 }
+
+const FIRST_VARIABLE: u32 = 1 << 31;
 
 struct Node {
     symbol: u32,
@@ -59,6 +61,11 @@ impl Terms {
         }
     }
 
+    /// A variable, which no value has: a node of a symbol that there cannot be.
+    pub fn variable(&mut self, number: usize) -> usize {
+        self.node(FIRST_VARIABLE + number as u32, Vec::new())
+    }
+
     pub fn symbol(&self, term: usize) -> u32 {
         self.nodes[term].symbol
     }
@@ -74,6 +81,9 @@ impl Terms {
     /// A term for people, who know the symbols by number; a large one is cut short.
     pub fn shown(&self, term: usize) -> String {
         let Node { symbol, arguments, size } = &self.nodes[term];
+        if *symbol >= FIRST_VARIABLE {
+            return format!("?v{}", symbol - FIRST_VARIABLE);
+        }
         if *size > 200 {
             return format!("#{symbol} of {size} nodes");
         }

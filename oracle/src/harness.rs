@@ -3,6 +3,7 @@
 pub mod evaluate;
 pub mod load;
 pub mod parse;
+pub mod search;
 pub mod theory;
 pub mod unify;
 pub mod words;

@@ -1,11 +1,13 @@
 //! Document 01's loader: the original's own `Sig::rule` and `Sig::clause` in the loader's order, with 1 to 16 as
 //! `parse` gives them, 17 to 26 mapped from the original's error texts, and 27 and 28, which it lacks, in their places.
 
-use super::super::{Decl, Pat, Prover, Rule, Sig, T, Term, Vars, parse as original_declarations};
+use super::super::{Decl, Pat, Rule, Sig, T, Term, Vars, parse as original_declarations};
 use super::parse::{self, spelling, with_last};
+use super::search::new_prover;
 use crate::declared;
-use crate::load_definitions::{Full, Point, defined};
+use crate::load_definitions::{Full, defined};
 use crate::loaded::*;
+use crate::pattern_definitions::Point;
 use crate::tokens::Row;
 use std::collections::{HashMap, HashSet};
 use std::rc::Rc;
@@ -123,7 +125,7 @@ fn sorts_of(sig: &Sig, names: &[String]) -> Result<Vec<u32>, String> {
 }
 
 /// The number that an error text of the original stands for. Names have no blanks, so words tell the texts apart.
-fn mapped(message: String) -> u32 {
+pub(super) fn mapped(message: String) -> u32 {
     let words: Vec<&str> = message.split(' ').collect();
     match words[..] {
         [_, "is", "already", "declared"] => 17,
@@ -145,7 +147,7 @@ fn mapped(message: String) -> u32 {
 /// for its sort, its arguments or because it is too many, and so is this one, in the same place.
 const LARGEST_NUMERAL: u64 = 1_024;
 
-fn capped(term: &Term) -> Term {
+pub(super) fn capped(term: &Term) -> Term {
     match term {
         Term::Num(value) => Term::Num((*value).min(LARGEST_NUMERAL)),
         Term::App(name, arguments) => Term::App(name.clone(), all_capped(arguments)),
@@ -240,7 +242,7 @@ impl Loaded {
             Point::Flattened => {}
             Point::Compiled { judgment, node, inside } => {
                 let (last, before) = judgments[..=judgment].split_last().expect("the judgment with the node");
-                self.compile_up_to(before, last, node, inside)?;
+                Judgments { sig: &self.sig, known: &[], before }.up_to(last, node, inside)?;
             }
             Point::Whole => {
                 let (conclusion, premises) = judgments.split_last().expect("a conclusion");
@@ -249,28 +251,40 @@ impl Loaded {
         }
         Err(28)
     }
+}
 
-    /// Has the original compile judgments, and the last one up to a node with that node's own tests. It cannot stop on
-    /// its way, so what stands behind the node is left out: each part there becomes a metavariable of its own, which
-    /// cannot be refused. Of a numeral, `inside` nodes come before the one that is too many.
-    fn compile_up_to(&self, before: &[Term], last: &Term, node: usize, inside: usize) -> Result<(), u32> {
-        let cut = |instead: Option<&Term>| Cut { node, begun: 0, instead }.term(last);
+/// Judgments that the original compiles, over variables that are known with their sorts.
+pub(super) struct Judgments<'a> {
+    pub sig: &'a Sig,
+    pub known: &'a [(String, u32)],
+    pub before: &'a [Term],
+}
+
+impl Judgments<'_> {
+    /// Has the original compile the judgments, and one more up to a node with that node's own tests. It cannot stop on its
+    /// way, so what stands behind the node is left out: each part there becomes a metavariable of its own, which cannot be
+    /// refused. Of a numeral, `inside` nodes come before the one that is too many.
+    pub fn up_to(&self, last: &Term, node: usize, inside: usize) -> Result<(), u32> {
+        let compile = |instead: Option<&Term>| self.compiled(&Cut { node, begun: 0, instead }.term(last)).map(drop);
         let Some(Term::Num(value)) = node_at(last, node) else {
-            return self.compile(before, &cut(None));
+            return compile(None);
         };
-        self.compile(before, &cut(Some(&metavariable(node))))?;
+        compile(Some(&metavariable(node)))?;
         self.sig.numeral(0).map_err(mapped)?;
         let succ = |term, _| Term::App("succ".to_owned(), vec![term]);
         let whole = Term::Num(*value);
         let part = (0..=inside).fold(metavariable(node), succ);
-        self.compile(before, &cut(Some(if inside as u64 == *value { &whole } else { &part })))
+        compile(Some(if inside as u64 == *value { &whole } else { &part }))
     }
 
-    fn compile(&self, before: &[Term], last: &Term) -> Result<(), u32> {
-        let mut vars = Vars { names: Vec::new(), sorts: Vec::new() };
-        let none = HashMap::new();
-        let mut pattern = |judgment| self.sig.pattern(judgment, None, &mut vars, &none, true);
-        before.iter().chain([last]).try_for_each(|judgment| pattern(judgment).map(drop)).map_err(mapped)
+    /// The last judgment, and all variables.
+    pub fn compiled(&self, last: &Term) -> Result<(Pat, Vars), u32> {
+        let (names, sorts) = self.known.iter().map(|(name, sort)| (name.clone(), Some(*sort))).unzip();
+        let (mut vars, none) = (Vars { names, sorts }, HashMap::new());
+        let mut pattern = |judgment| self.sig.pattern(judgment, None, &mut vars, &none, true).map_err(mapped);
+        self.before.iter().try_for_each(|judgment| pattern(judgment).map(drop))?;
+        let last = pattern(last)?;
+        Ok((last, vars))
     }
 }
 
@@ -426,18 +440,7 @@ fn put(pattern: &Pat, words: &mut Vec<u32>) -> u32 {
 /// How many variables are met in the conclusion, and the place of each variable: as the original's `inst` numbers them
 /// when its `solve` takes the conclusion and then the premises from the last to the first.
 fn met(rule: &Rule) -> (u32, Vec<u32>) {
-    let mut prover = Prover {
-        sig: Rc::new(no_declarations()),
-        binding: Vec::new(),
-        var_sort: Vec::new(),
-        trail: Vec::new(),
-        facts: Vec::new(),
-        hyps: Vec::new(),
-        budget: 0,
-        round: 0,
-        max_depth: 0,
-        cut: false,
-    };
+    let mut prover = new_prover(Rc::new(no_declarations()));
     let mut places = vec![None; rule.sorts.len()];
     prover.inst(&rule.conclusion, &mut places, &rule.sorts, &[]);
     let met = prover.binding.len();

@@ -3,6 +3,7 @@
 //! Arguments: seed, number of cases, cases in a file, output folder, the head of each file. Each file `BatchN.antt` holds one list of cases and one lemma that all of
 //! them pass; the last line printed counts the verdicts.
 use super::super::*;
+use super::search::{Count, copied, counted_proof, is_none, new_prover, same_proof, words};
 use crate::random::Random;
 use std::fs;
 
@@ -105,92 +106,8 @@ fn signature(rules: Vec<Rule>) -> Sig {
     sig
 }
 
-/// Document 01's count: any node but a variable takes one word and one for each argument.
-fn words(t: &T) -> usize {
-    match t {
-        T::V(_) | T::E(_) => 0,
-        T::A(_, args) => 1 + args.len() + args.iter().map(words).sum::<usize>(),
-    }
-}
-
-/// What is counted while the search runs: the most words of a branch, and whether a goal grew out of the checker's reach.
-struct Count {
-    most: usize,
-    large: bool,
-}
-
 /// Goals with more nodes than this, once the bindings are put in, are left out: terms that double at each step soon have too many for any checker.
 const LARGEST: usize = 2000;
-
-/// The nodes of a term with the bindings put in, as far as they are within `left`.
-fn within(p: &Prover, t: &T, left: usize) -> Option<usize> {
-    let mut left = left.checked_sub(1)?;
-    if let T::A(_, args) = p.walk(t) {
-        for a in args.iter() {
-            left = within(p, a, left)?;
-        }
-    }
-    Some(left)
-}
-
-/// The Rust's `solve` once more, over the Prover's own `inst`, `unify` and `undo`, with the words of the current branch. Its answers are compared
-/// with those of `solve`.
-fn counting(p: &mut Prover, work: &WList, proofs: &PList, m: usize, count: &mut Count) -> Option<(PList, usize)> {
-    if p.budget == 0 {
-        return None;
-    }
-    p.budget -= 1;
-    let Some(node) = work else {
-        return Some((proofs.clone(), m));
-    };
-    match &node.item {
-        Work::Build(just, goal, n) => {
-            let mut children = Vec::new();
-            let mut ps = proofs.clone();
-            for _ in 0..*n {
-                let q = ps.expect("enough proofs");
-                children.push(q.proof.clone());
-                ps = q.next.clone();
-            }
-            children.reverse();
-            let proof = Proof { just: just.clone(), goal: goal.clone(), children };
-            counting(p, &node.next, &Some(Rc::new(PNode { proof, next: ps })), m, count)
-        }
-        Work::Goal(goal, depth) => {
-            if *depth == 0 {
-                p.cut = true;
-                return None;
-            }
-            count.large |= within(p, goal, LARGEST).is_none();
-            for r in 0..p.sig.rules.len() {
-                if count.large {
-                    return None;
-                }
-                let mark = p.trail.len();
-                let rule = p.sig.rules[r].clone();
-                let mut env = vec![None; rule.sorts.len()];
-                let concl = p.inst(&rule.conclusion, &mut env, &rule.sorts, &[]);
-                let m1 = m + words(&concl);
-                count.most = count.most.max(m1);
-                if p.unify(goal, &concl) {
-                    let mut next = cons(Work::Build(Just::Rule(r), goal.clone(), rule.premises.len()), &node.next);
-                    let mut m2 = m1;
-                    for q in rule.premises.iter().rev() {
-                        let t = p.inst(q, &mut env, &rule.sorts, &[]);
-                        m2 += words(&t);
-                        next = cons(Work::Goal(t, depth - 1), &next);
-                    }
-                    count.most = count.most.max(m2);
-                    if let Some(found) = counting(p, &next, proofs, m2, count) {
-                        return Some(found);
-                    }
-                }
-                p.undo(mark);
-            }
-            None
-        }
-    }
-}
 
 #[derive(Clone, Copy, PartialEq, Debug)]
 enum Kind {
@@ -203,64 +120,28 @@ struct Outcome {
     kind: Kind,
     proof: Option<Proof>,
     steps: u64,
-    words: usize,
-    most: usize,
+    words: u64,
+    most: u64,
     cut: bool,
 }
 
-fn same_proof(a: &Proof, b: &Proof) -> bool {
-    let (Just::Rule(r), Just::Rule(s)) = (&a.just, &b.just) else { return false };
-    r == s && a.goal == b.goal && a.children.len() == b.children.len() && a.children.iter().zip(&b.children).all(|(x, y)| same_proof(x, y))
-}
-
 /// The Rust's `prove`, counted by a second run beside it; nothing if a goal grew too large.
-fn ask(p: &mut Prover, goal: &T, m: usize) -> Option<Outcome> {
-    let mut q = Prover {
-        sig: p.sig.clone(),
-        binding: p.binding.clone(),
-        var_sort: p.var_sort.clone(),
-        trail: p.trail.clone(),
-        facts: Vec::new(),
-        hyps: Vec::new(),
-        budget: 0,
-        round: p.round,
-        max_depth: p.max_depth,
-        cut: false,
-    };
-    let mut count = Count { most: m, large: false };
-    let mut found = None;
-    let mut cut = false;
-    let mut depth = 4;
-    while depth <= q.max_depth {
-        q.budget = q.round;
-        q.cut = false;
-        let mark = q.trail.len();
-        let work = cons(Work::Goal(goal.clone(), depth), &None);
-        if let Some((Some(node), end)) = counting(&mut q, &work, &None, m, &mut count) {
-            found = Some((node.proof.clone(), end));
-            break;
-        }
-        if count.large {
-            return None;
-        }
-        q.undo(mark);
-        cut |= q.cut;
-        if q.budget > 0 && !q.cut {
-            break;
-        }
-        depth *= 2;
+fn ask(p: &mut Prover, goal: &T, m: u64) -> Option<Outcome> {
+    let mut q = copied(p);
+    let mut count = Count::new(m, LARGEST);
+    let found = counted_proof(&mut q, goal, m, &mut count);
+    if count.large {
+        return None;
     }
-
     p.budget = 0;
     p.cut = false;
     let proof = p.prove(goal);
-    let tried = p.max_depth >= 4;
     let kind = match &proof {
         Some(_) => Kind::Proved,
-        None if tried && p.budget > 0 && !p.cut => Kind::Nothing,
+        None if is_none(p) => Kind::Nothing,
         None => Kind::Undecided,
     };
-    let steps = if tried { p.round - p.budget } else { 0 };
+    let steps = if p.max_depth >= 4 { p.round - p.budget } else { 0 };
     assert!(q.binding == p.binding && q.trail == p.trail && q.budget == p.budget && q.cut == p.cut, "the counting run differs");
     match (&proof, &found) {
         (None, None) => {}
@@ -268,7 +149,7 @@ fn ask(p: &mut Prover, goal: &T, m: usize) -> Option<Outcome> {
         _ => panic!("the counting run's verdict differs"),
     }
     let end = found.map_or(m, |f| f.1);
-    Some(Outcome { kind, proof, steps, words: end, most: count.most, cut })
+    Some(Outcome { kind, proof, steps, words: end, most: count.most, cut: count.cut })
 }
 
 // Writing
@@ -327,8 +208,8 @@ fn code_proof(p: &Proof, out: &mut Vec<u64>) {
     out.push(3);
 }
 
-fn code_session(names: usize, p: &Prover, words: usize, out: &mut Vec<u64>) {
-    out.extend([names as u64, p.binding.len() as u64, words as u64]);
+fn code_session(names: usize, p: &Prover, words: u64, out: &mut Vec<u64>) {
+    out.extend([names as u64, p.binding.len() as u64, words]);
     for &x in p.trail.iter().rev() {
         out.extend([5, x as u64]);
         code_term(p.binding[x].as_ref().expect("bound"), out);
@@ -375,7 +256,7 @@ struct Posed {
     depth: u32,
     limit_steps: u64,
     limit_vars: usize,
-    limit_words: usize,
+    limit_words: u64,
 }
 
 /// Rules, a starting session and goals. Names are given with their variables, bindings in the order in which they were made.
@@ -385,23 +266,12 @@ struct Plan {
     variables: usize,
     names: Vec<(usize, usize)>,
     bindings: Vec<(usize, T)>,
-    words: usize,
+    words: u64,
     goals: Vec<Posed>,
 }
 
 pub(super) fn prover(rules: &[Rule], variables: usize, bindings: &[(usize, T)]) -> Prover {
-    let mut p = Prover {
-        sig: Rc::new(signature(rules.to_vec())),
-        binding: Vec::new(),
-        var_sort: Vec::new(),
-        trail: Vec::new(),
-        facts: Vec::new(),
-        hyps: Vec::new(),
-        budget: 0,
-        round: 0,
-        max_depth: 0,
-        cut: false,
-    };
+    let mut p = new_prover(Rc::new(signature(rules.to_vec())));
     for _ in 0..variables {
         p.fresh(0);
     }
@@ -440,10 +310,10 @@ fn random(rng: &mut Random) -> Plan {
             depth: if rng.percent(2) { 129 } else { rng.pick(&[0, 3, 4, 4, 5, 7, 8, 8, 12, 16, 32]) },
             limit_steps: if rng.percent(95) { 65535 } else { rng.below(30) as u64 },
             limit_vars: if rng.percent(75) { 65536 } else { rng.below(60) },
-            limit_words: if rng.percent(75) { 262_144 } else { rng.below(250) },
+            limit_words: if rng.percent(75) { 262_144 } else { rng.below(250) as u64 },
         })
         .collect();
-    Plan { note: "", rules, variables, names, bindings, words: rng.below(20), goals }
+    Plan { note: "", rules, variables, names, bindings, words: rng.below(20) as u64, goals }
 }
 
 /// One case: a plan and what the Rust answers; nothing if a goal grew too large.

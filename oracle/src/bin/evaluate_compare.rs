@@ -9,12 +9,13 @@ use horn_oracle::evaluate::{Kept, with_large_stack};
 use horn_oracle::evaluate_cases::{
     Program, Question, agreed_as_kept, damage, fixed_questions, generated, unexpected_example,
 };
-use horn_oracle::evaluate_definitions::{Signature, Written, term_at};
 use horn_oracle::evaluate_rows::read_back;
 use horn_oracle::evaluated::{Answer, Buffers, COUNTS_READ, Lent, NUMBERS, Stored, Terms, counted};
 use horn_oracle::loaded::{self, RULES, SORTS, SYMBOLS};
+use horn_oracle::pattern_definitions::Written;
 use horn_oracle::random::Random;
 use horn_oracle::shrink::shrunk;
+use horn_oracle::stored_definitions::{Signature, term_at};
 use std::cell::RefCell;
 
 /// What a number holds before the call; no answer can leave it there.

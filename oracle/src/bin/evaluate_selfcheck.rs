@@ -5,11 +5,11 @@ use horn_oracle::evaluate::{Kept, with_large_stack};
 use horn_oracle::evaluate_cases::{
     Limit, Program, Question, agreed_as_kept, change_in_form, fixed_questions, generated_text, unexpected_example,
 };
-use horn_oracle::evaluate_definitions::Signature;
 use horn_oracle::evaluated::{Answer, NO_WORDS, NUMBERS, REFUSALS, Terms, WORDS, counted};
 use horn_oracle::loaded::Storage;
 use horn_oracle::random::Random;
 use horn_oracle::shrink::shrunk;
+use horn_oracle::stored_definitions::Signature;
 use std::panic::{AssertUnwindSafe, catch_unwind};
 
 /// From so many evaluations of generated texts on, each number must occur among them at least once in `RARELY`.

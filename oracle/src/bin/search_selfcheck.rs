@@ -1,0 +1,103 @@
+//! Holds together what needs no library of ours: the original's answers to lists of goals and the search's definitions, without
+//! limits and under them.
+
+use horn_oracle::evaluate::with_large_stack;
+use horn_oracle::random::Random;
+use horn_oracle::search_cases::{Both, Question, fixed_questions, generated, unexpected_answers};
+use horn_oracle::searched::{Counted, REFUSALS};
+use horn_oracle::shrink::shrunk;
+use std::panic::{AssertUnwindSafe, catch_unwind};
+
+/// From so many goals of generated lists on, each number must occur among them at least once in `RARELY`.
+const MANY: u64 = 20_000;
+const RARELY: u64 = 200;
+
+/// How the lists were answered.
+#[derive(Clone)]
+struct Tally {
+    lists: u64,
+    unloaded: u64,
+    /// Goals about which the original was not asked.
+    unasked: u64,
+    goals: Counted,
+}
+
+impl Tally {
+    fn new() -> Tally {
+        Tally { lists: 0, unloaded: 0, unasked: 0, goals: Counted::new() }
+    }
+
+    fn tell(&self, name: &str) {
+        let Tally { lists, unloaded, unasked, goals } = self;
+        println!("{name}: {lists} lists and {unloaded} that are not loaded, no difference");
+        println!("  {}; {unasked} too large for the Rust", goals.shown());
+    }
+}
+
+fn main() {
+    let arguments: Vec<u64> = std::env::args().skip(1).map_while(|word| word.parse().ok()).collect();
+    let [count, seed] = arguments[..] else {
+        eprintln!("usage: search_selfcheck N SEED");
+        std::process::exit(2);
+    };
+    with_large_stack(|| check(count, seed));
+}
+
+fn check(count: u64, seed: u64) {
+    let unexpected = unexpected_answers();
+    if !unexpected.is_empty() {
+        fail(&unexpected.join("\n"));
+    }
+    checked(fixed_questions().into_iter()).tell("fixed");
+    let mut random = Random::new(seed);
+    let tally = checked((0..count).map(|_| generated(&mut random)));
+    tally.tell("generated");
+    let goals = tally.goals.goals();
+    let is_rare = |number: &&u32| tally.goals.refused[**number as usize] * RARELY < goals;
+    if let Some(number) = REFUSALS.iter().find(is_rare).filter(|_| goals >= MANY) {
+        fail(&format!("fewer than 1 in {RARELY} are refused by {number}"));
+    }
+}
+
+fn fail(message: &str) -> ! {
+    println!("{message}");
+    std::process::exit(1);
+}
+
+fn checked(questions: impl Iterator<Item = Question>) -> Tally {
+    let mut tally = Tally::new();
+    for question in questions {
+        if fault(&question, &mut tally).is_some() {
+            report(&shrunk(question, &|smaller| fault(smaller, &mut Tally::new()).is_some()));
+        }
+    }
+    tally
+}
+
+fn report(question: &Question) -> ! {
+    let fault = fault(question, &mut Tally::new()).expect("the fault that was shrunk");
+    println!("a text of {} bytes: {fault}", question.text.len());
+    fail(&format!("  text   \"{}\"", question.text.escape_ascii()));
+}
+
+/// What does not hold of a list, where the original's assertions count too.
+fn fault(question: &Question, tally: &mut Tally) -> Option<String> {
+    let tried = catch_unwind(AssertUnwindSafe(|| compared(question, tally).err()));
+    tried.unwrap_or_else(|_| Some("an assertion failed".to_owned()))
+}
+
+/// Each goal of a list by the original and by the definitions.
+fn compared(question: &Question, tally: &mut Tally) -> Result<(), String> {
+    let Some(program) = question.load() else {
+        tally.unloaded += 1;
+        return Ok(());
+    };
+    tally.lists += 1;
+    let mut both = Both::new(&program, &question.text);
+    for (eval, [line, _]) in program.storage.evals.iter().enumerate() {
+        let (answer, _) = both.answer(eval).map_err(|cause| format!("line {line}: {cause}"))?;
+        tally.goals.add(&answer.verdict);
+        tally.unasked += u64::from(!both.is_asked());
+    }
+    both.standing(0).map(drop)
+}

@@ -1,0 +1,172 @@
+//! The answer of a search and the session that it leaves, what is asked of a goal, and document 01's limits.
+
+use crate::evaluated::{self, Call, Terms};
+use crate::loaded::{self, RULE_NODES};
+
+/// Document 01's limits, and of a session's names and a goal's nodes those of a rule.
+pub const STEPS: u32 = 65_535;
+pub const DEPTH: u32 = 128;
+pub const VARIABLES: u32 = 65_536;
+pub const WORDS: u32 = evaluated::WORDS;
+pub const NAMES: usize = loaded::VARIABLES;
+pub const GOAL_NODES: usize = RULE_NODES;
+
+/// The numbers that a goal is refused by, but for 1.
+pub const REFUSALS: [u32; 11] = [19, 20, 21, 22, 23, 24, 25, 26, 28, 37, 38];
+pub const NO_ROOM: u32 = 37;
+
+/// How many numbers refuse, 0 counted for none.
+pub const NUMBERS: usize = 39;
+
+/// `Allowance`: the limits that a caller sets. A higher one counts as document 01's.
+#[derive(Clone, Copy, Debug, PartialEq, Eq, Hash)]
+pub struct Allowance {
+    pub steps: u32,
+    pub variables: u32,
+    pub words: u32,
+}
+
+/// What is asked beside the goal: steps for each bound, the largest depth, and the limits.
+#[derive(Clone, Copy, Debug, PartialEq, Eq, Hash)]
+pub struct Ask {
+    pub steps: u32,
+    pub depth: u32,
+    pub limits: Allowance,
+}
+
+impl Ask {
+    /// Under document 01's limits.
+    pub const fn unlimited(steps: u32, depth: u32) -> Ask {
+        Ask { steps, depth, limits: Allowance { steps: STEPS, variables: VARIABLES, words: WORDS } }
+    }
+
+    /// What the bench program sets.
+    pub const BENCH: Ask = Ask { steps: 2_000, depth: 32, limits: Allowance { steps: 2_000, variables: 4_096, words: 8_192 } };
+
+    pub fn numbers(&self) -> [u32; 5] {
+        let Allowance { steps, variables, words } = self.limits;
+        [self.steps, self.depth, steps, variables, words]
+    }
+
+    pub fn of_numbers([steps, depth, step_limit, variables, words]: [u32; 5]) -> Ask {
+        Ask { steps, depth, limits: Allowance { steps: step_limit, variables, words } }
+    }
+}
+
+#[derive(Clone, Debug, PartialEq)]
+pub enum Verdict {
+    Refused(u32),
+    /// The proof in preorder, its goals as they are stored.
+    Proved(Vec<Call>),
+    Nothing,
+    Undecided,
+}
+
+impl Verdict {
+    /// Document 01's number, 0 for none.
+    pub fn number(&self) -> u32 {
+        match self {
+            Verdict::Refused(number) => *number,
+            _ => 0,
+        }
+    }
+
+    pub fn word(&self) -> &'static str {
+        match self {
+            Verdict::Refused(_) => "refused",
+            Verdict::Proved(_) => "proved",
+            Verdict::Nothing => "none",
+            Verdict::Undecided => "undecided",
+        }
+    }
+}
+
+/// A verdict, and the steps of the last bound that was tried, 0 where there is none.
+#[derive(Clone, Debug, PartialEq)]
+pub struct Answer {
+    pub verdict: Verdict,
+    pub steps: u32,
+}
+
+impl Answer {
+    pub fn refused(number: u32) -> Answer {
+        Answer { verdict: Verdict::Refused(number), steps: 0 }
+    }
+
+    /// For people, with the first nodes of a proof.
+    pub fn shown(&self, terms: &Terms) -> String {
+        let node = |Call { height, rule, goal }: &Call| format!("; {height} rule {rule} {}", terms.shown(*goal));
+        match &self.verdict {
+            Verdict::Refused(number) => format!("refused {number}"),
+            Verdict::Proved(nodes) => {
+                let first: String = nodes.iter().take(20).map(node).collect();
+                format!("proved with {} steps, {} nodes{first}", self.steps, nodes.len())
+            }
+            verdict => format!("{} with {} steps", verdict.word(), self.steps),
+        }
+    }
+}
+
+/// A name of a session, the sort that it keeps and the variable that it stands for.
+#[derive(Clone, Debug, PartialEq)]
+pub struct Named {
+    pub name: Vec<u8>,
+    pub sort: u32,
+    pub variable: usize,
+}
+
+/// How a session stands: its names in order, how many variables were made and how many of them are bound, the bindings as they
+/// are stored, the oldest first, from some place on, and the words that proved goals keep.
+#[derive(Clone, Debug, Default, PartialEq)]
+pub struct Standing {
+    pub names: Vec<Named>,
+    pub variables: usize,
+    pub bound: usize,
+    pub bindings: Vec<(usize, usize)>,
+    pub words: u64,
+}
+
+impl Standing {
+    pub fn shown(&self, terms: &Terms) -> String {
+        let name = |Named { name, sort, variable }: &Named| format!(" {}:{sort}=?v{variable}", name.escape_ascii());
+        let names: String = self.names.iter().map(name).collect();
+        let binding = |(variable, term): &(usize, usize)| format!("; ?v{variable} = {}", terms.shown(*term));
+        let bindings: String = self.bindings.iter().take(40).map(binding).collect();
+        format!("{} variables, {} bound, {} words, names{names}{bindings}", self.variables, self.bound, self.words)
+    }
+}
+
+/// How many goals had each verdict, and how many were refused by each number.
+#[derive(Clone)]
+pub struct Counted {
+    pub proved: u64,
+    pub none: u64,
+    pub undecided: u64,
+    pub refused: [u64; NUMBERS],
+}
+
+impl Counted {
+    pub fn new() -> Counted {
+        Counted { proved: 0, none: 0, undecided: 0, refused: [0; NUMBERS] }
+    }
+
+    pub fn add(&mut self, verdict: &Verdict) {
+        match verdict {
+            Verdict::Refused(number) => self.refused[*number as usize] += 1,
+            Verdict::Proved(_) => self.proved += 1,
+            Verdict::Nothing => self.none += 1,
+            Verdict::Undecided => self.undecided += 1,
+        }
+    }
+
+    pub fn goals(&self) -> u64 {
+        self.proved + self.none + self.undecided + self.refused.iter().sum::<u64>()
+    }
+
+    pub fn shown(&self) -> String {
+        let refusals = [1].into_iter().chain(REFUSALS).map(|number| format!("{number}: {}", self.refused[number as usize]));
+        let Counted { proved, none, undecided, .. } = self;
+        let refusals: Vec<String> = refusals.collect();
+        format!("{} goals: {proved} proved, {none} none, {undecided} undecided, refused by {}", self.goals(), refusals.join(", "))
+    }
+}
