@@ -19,7 +19,7 @@ use Rattle.evaluation.specs.Matching.{Fitted, misfit, fitted, ifFitted, bindOf}
 use Rattle.clause_matching.specs.Stored.{Value, Values, PatternIn, Holds, Links, patternAt, valueAt}
 use Rattle.clause_matching.specs.Matching.{Says, Lent, Matched, BindAsked}
 use Rattle.clause_matching.specs.Building.{ruleWords}
-use Rattle.clause_matching.specs.Choice.{Referable, patternFrom, conclusionIn, patternsIn, valuesOf, fitOf, ConclusionIn, ClauseAsked, Fits, Chosen}
+use Rattle.clause_matching.specs.Choice.{Referable, patternFrom, patternsFrom, ApartAsked, conclusionIn, patternsIn, valuesOf, fitOf, ConclusionIn, ClauseAsked, Fits, Chosen}
 use Rattle.clause_matching.specs.declared.choice.Pattern.{Pattern}
 use Rattle.clause_matching.specs.declared.choice.Pattern.the-variants.{Variable, Node}
 use Rattle.clause_matching.specs.declared.choice.Clause.{Clause}
@@ -144,6 +144,48 @@ module _ {rules : Rows} {pattern : List ℕ} {from end : ℕ} {values words : Li
 
     pub first-is : (r : Pattern) (header first : ℕ) → r ≡ patternFrom pattern (conclusionIn rules i) → r ≡ Node header first → first ≡ suc address
     first-is r header first e q = let e′ = e ∙ is-node in let z : first ≡ address + 1 = cc in omega arith
+
+    -- The first pattern and the first value are of different symbols.
+    pub apart-asked : (base : ℕ) → base ≡ suc address → ApartAsked pattern base words values
+    apart-asked base b =
+        let p = conclusion .patterned in
+        let n = inside in
+        record {
+          size = h .asked .size;
+          used = used;
+          inside = (let w = p .within in omega arith);
+          patterned = λ m.
+              let e : suc address + 0 ≡ base = omega arith in
+              let a = conclusion .inputs in
+              let d = denote-node patternRoom (cells pattern) patternRoom (h .asked .size) (p .formed) (conclusionIn rules i) (p .root) (conclusion .node) in
+              let small : wordsIn (patternAt pattern (cells pattern (suc address + 0))) ≤ wordsIn (patternAt pattern (conclusionIn rules i)) =
+              (let w = words-argument (denote patternRoom (cells pattern)) (cells pattern) (suc address) (arityOf (cells pattern address)) 0 (omega arith) in
+              rw d (omega arith)) in
+              let small′ : wordsIn (patternAt pattern (cells pattern base)) ≤ wordsIn (patternAt pattern (conclusionIn rules i)) = rw e at small in
+              record {
+                within = p .within;
+                low = p .low;
+                formed = p .formed;
+                root = rw e at (reference-argument patternRoom (cells pattern) patternRoom (h .asked .size) (p .formed) (conclusionIn rules i) 0 (p .root) (conclusion .node) (omega arith));
+                small = let x = p .small in omega arith;
+              };
+          stored = h .asked .stored;
+          root = λ m. h .asked .roots 0 m;
+        }
+
+    pub choosing-apart : (base : ℕ) → base ≡ suc address → bindOf (patternsFrom pattern base (length values)) (valuesOf words values) start ≡ misfit
+        → Choosing rules pattern from end values words used environment₀ links₀ stack₀ environment links stack (i + 1)
+    choosing-apart base b m =
+        let f : fitOf rules pattern values words i ≡ misfit =
+        ap (λ (p : ℕ). bindOf (patternsFrom pattern p (length values)) (valuesOf words values) start) (sym b) ∙ m in
+        record {
+          asked = h .asked;
+          kept = h .kept;
+          keeps = h .keeps;
+          restored = h .restored;
+          past = let p = h .past in omega arith;
+          missed = λ j x y. by-same j i (λ p w. rw p f) (λ p w. h .missed j x (by-less j i (λ u v. u) (λ u v. absurd (p (omega arith)))));
+        }
 
     -- The clause is tried with a cleared environment.
     pub trying-start : (environment′ : List ℕ) (base : ℕ) → environment′ ≡ take 0 environment ++ replicate (length environment - 0) 0 → base ≡ suc address

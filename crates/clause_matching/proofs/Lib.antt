@@ -7,5 +7,6 @@ pub mod Frames
 pub mod Forming
 pub mod BuildTurns
 pub mod Variables
+pub mod Apart
 pub mod Arguments
 pub mod Choosing

@@ -29,8 +29,11 @@ patternFrom pattern reference = cond (less reference patternRoom) (Variable refe
 abbrev pub conclusionIn : Rows → ℕ → ℕ
 conclusionIn rules i = column (rowAt rules i) 5
 
+abbrev pub patternsFrom : List ℕ → ℕ → ℕ → Terms
+patternsFrom pattern base n = args (denote patternRoom (cells pattern)) (cells pattern) base n
+
 abbrev pub patternsIn : Rows → List ℕ → ℕ → ℕ → Terms
-patternsIn rules pattern i n = args (denote patternRoom (cells pattern)) (cells pattern) (suc (conclusionIn rules i - patternRoom)) n
+patternsIn rules pattern i n = patternsFrom pattern (suc (conclusionIn rules i - patternRoom)) n
 
 -- The values of a list of references.
 abbrev pub valuesOf : List ℕ → List ℕ → Terms
@@ -39,6 +42,15 @@ valuesOf words values = args (denote 0 (cells words)) (cells values) 0 (length v
 -- Does the clause i fit?
 abbrev pub fitOf : Rows → List ℕ → List ℕ → List ℕ → ℕ → Fitted
 fitOf rules pattern values words i = bindOf (patternsIn rules pattern i (length values)) (valuesOf words values) start
+
+-- What is asked of the first pattern and the first value, if there are any.
+pub record ApartAsked (pattern : List ℕ) (base : ℕ) (words values : List ℕ) : Type 0 where
+  pub size : ℕ
+  pub used : ℕ
+  pub inside : base + length values ≤ length pattern
+  pub patterned : 0 < length values → PatternIn pattern size (cells pattern base) ruleWords
+  pub stored : Values words used
+  pub root : 0 < length values → Value words used (cells values 0)
 
 -- The conclusion of a clause of n patterns: a node of n + 1 arguments.
 pub record ConclusionIn (pattern : List ℕ) (size reference n : ℕ) : Type 0 where

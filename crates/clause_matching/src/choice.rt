@@ -3,10 +3,13 @@ use super::matching::bind;
 use arena::PATTERN_ROOM;
 use rules::RuleRow;
 ghost use mathlib.Core.Path.{_≡_};
+ghost use mathlib.Core.Bool.{true};
 ghost use Prim.Native.Nat.{_<_};
 ghost use lib.ListN.{length};
 ghost use Rattle.arena.specs.Copies.{patternRoom};
-ghost use Rattle.clause_matching.specs.Choice.{patternFrom, Referable, ClauseAsked, Chosen};
+ghost use Rattle.terms.specs.Bindings.{start};
+ghost use Rattle.evaluation.specs.Matching.{misfit, bindOf};
+ghost use Rattle.clause_matching.specs.Choice.{patternFrom, patternsFrom, valuesOf, Referable, ApartAsked, ClauseAsked, Chosen};
 
 // A stored pattern: a variable, or a node by its header and the address of its first argument.
 pub enum Pattern {
@@ -35,6 +38,25 @@ pub enum Clause {
     Nowhere,
 }
 
+// Is the first pattern, whose reference stands at an address, a node of another symbol than the first value? Then the patterns do not fit.
+fn is_apart(pattern: &[u32], base: usize, words: &[u32], values: &[u32]) -> bool
+    requires { ⌜ ApartAsked (now pattern) base (now words) (now values) ⌝ }
+    ensures { λ r. ⌜ (r ≡ true → bindOf (patternsFrom (now (pattern .entry)) base (length (now (values .entry))))
+        (valuesOf (now (words .entry)) (now (values .entry))) start ≡ misfit) ⌝ }
+{
+    if values.len() == 0 {
+        return false;
+    }
+    let reference = pattern[base];
+    if reference < PATTERN_ROOM {
+        return false;
+    }
+    if pattern[(reference - PATTERN_ROOM) as usize] != words[values[0] as usize] {
+        return true;
+    }
+    false
+}
+
 // The first of the rules from `from` up to `end` whose conclusion fits the values; the environment then holds those of its variables.
 pub fn find_clause(
     rules: &[RuleRow],
@@ -53,11 +75,15 @@ pub fn find_clause(
 {
     let mut i = from;
     'clauses: while i < end {
-        arena::clear(environment, 0);
         let Pattern::Node { header: _, first } = pattern_at(pattern, rules[i][5]) else {
             return Clause::Nowhere;
         };
         let base = first as usize;
+        if is_apart(pattern, base, words, values) {
+            i += 1;
+            continue 'clauses;
+        }
+        arena::clear(environment, 0);
         let mut k = 0;
         while k < values.len() {
             if !bind(
