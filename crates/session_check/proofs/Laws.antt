@@ -27,7 +27,8 @@ use Rattle.signature.proofs.Laws.{same}
 use Rattle.sessions.specs.Storage.{SessionStore, Workspace, NameFormed, isShort, tooShort}
 use Rattle.sessions.specs.OpeningLaws.{enough-lent}
 use Rattle.sessions.specs.declared.SessionCounts.{SessionCounts}
-use Rattle.session_check.specs.Parts.{Counted, NameKind, NumbersFormed, NamesFormed, Rising, placeOf, wordIn, PlacesDistinct}
+use Rattle.session_check.specs.Parts.{SessionCounted, NameKind, NameNumbersFormed, NamesFormed, Rising, placeOf, wordIn}
+use Rattle.session_check.specs.Parts.{PlacesDistinct}
 use Rattle.session_check.specs.Parts.{NamesListed, SessionReady, SessionChecked}
 
 -- Lengths: a buffer that is too short, one law for each.
@@ -82,10 +83,10 @@ names-there limits b s n e f = let l = enough-lent limits b s e .names in omega 
 -- A row is in form, part by part.
 module _ (text : List ℕ) (sorts variables : ℕ) (row : List ℕ) where
   pub row-formed : NameKind (column row 0) → NamePlace text (column row 1) (column row 2)
-      → NumbersFormed (column row 3) (column row 4) sorts variables → NameFormed text sorts variables row
+      → NameNumbersFormed (column row 3) (column row 4) sorts variables → NameFormed text sorts variables row
   row-formed k p n = record { kind = k; place = p; sorted = n .sorted; sort = n .known; variable = n .made }
 
-  pub row-numbers : NameFormed text sorts variables row → NumbersFormed (column row 3) (column row 4) sorts variables
+  pub row-numbers : NameFormed text sorts variables row → NameNumbersFormed (column row 3) (column row 4) sorts variables
   row-numbers h = record { sorted = h .sorted; known = h .sort; made = h .variable }
 
 -- The variables of one row more rise.
@@ -138,7 +139,7 @@ module _ {text : List ℕ} {sorts variables : ℕ} {rows : Rows} {n : ℕ} where
 -- Words
 
 -- Words in form are what the test of the bindings asks.
-pub words-formed : (arities words : List ℕ) (n : SessionCounts) (r : Bool) → Counted n (length words)
+pub words-formed : (arities words : List ℕ) (n : SessionCounts) (r : Bool) → SessionCounted n (length words)
     → r ≡ inForm words 0 (n .words) termRoom (n .variables) arities → not r ≡ false
     → WellFormed termRoom (cells words) (n .variables) (n .words)
 words-formed arities words n r c is e =
@@ -155,7 +156,7 @@ module _ {text : List ℕ} {limits : Limits} {sorts : ℕ} {symbols : Rows} {m :
   pub ready-lent : tooShort limits b s ≡ true → SessionReady text limits sorts symbols m b s n → ⊥
   ready-lent e h = true-false {P = ⊥} e (h .lent)
 
-  pub ready-counted : SessionReady text limits sorts symbols m b s n → Counted n (length (b .words))
+  pub ready-counted : SessionReady text limits sorts symbols m b s n → SessionCounted n (length (b .words))
   ready-counted h = record {
     fewNames = h .session .fewNames;
     fewVariables = h .session .fewVariables;
@@ -168,7 +169,7 @@ module _ {text : List ℕ} {limits : Limits} {sorts : ℕ} {symbols : Rows} {m :
   ready-names h = record { named = h .session .named; distinct = h .session .distinct; rising = h .session .rising }
 
   -- The last test tells all.
-  pub told : {marks′ : Rows} {r : Bool} (formed : Bool) → tooShort limits b s ≡ false → Counted n (length (b .words))
+  pub told : {marks′ : Rows} {r : Bool} (formed : Bool) → tooShort limits b s ≡ false → SessionCounted n (length (b .words))
       → NamesListed text sorts (n .variables) (b .names) (n .names)
       → formed ≡ inForm (b .words) 0 (n .words) termRoom (n .variables) (aritiesOf (symbolsOf text symbols m)) → not formed ≡ false
       → Scratch termRoom (n .words) (s .links) (s .marks) (s .stack)

@@ -18,7 +18,7 @@ use Rattle.sessions.specs.Storage.{SessionStore, Workspace, NameFormed, Session
 use Rattle.sessions.specs.declared.SessionCounts.{SessionCounts}
 
 -- The counts are within document 01's limits, and so many words are lent.
-pub record Counted (n : SessionCounts) (lent : ℕ) : Type 0 where
+pub record SessionCounted (n : SessionCounts) (lent : ℕ) : Type 0 where
   pub fewNames : n .names ≤ 64
   pub fewVariables : n .variables ≤ variableLimit
   pub fewBound : n .bound ≤ n .variables
@@ -30,7 +30,7 @@ abbrev pub NameKind : ℕ → Type 0
 NameKind kind = (kind ≡ nameKind) ⊎ (kind ≡ metavariableKind)
 
 -- and its sort and variable.
-pub record NumbersFormed (sort variable sorts variables : ℕ) : Type 0 where
+pub record NameNumbersFormed (sort variable sorts variables : ℕ) : Type 0 where
   pub sorted : 0 < sort
   pub known : sort ≤ sorts
   pub made : variable < variables

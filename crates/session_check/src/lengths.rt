@@ -4,7 +4,7 @@ ghost use Prim.Native.Nat.{_≤_};
 ghost use Rattle.bindings.specs.Contracts.{Tells};
 ghost use Rattle.words.specs.Lexer.{cappedOf};
 ghost use Rattle.sessions.specs.Storage.{isShort};
-ghost use Rattle.session_check.specs.Parts.{Counted};
+ghost use Rattle.session_check.specs.Parts.{SessionCounted};
 use arena::TERM_ROOM;
 
 // Document 01's limits: names in a session, its variables and its words.
@@ -73,7 +73,7 @@ pub fn is_short(
 
 // Are the counts within the limits, and are so many words lent?
 pub fn is_counted(counts: sessions::SessionCounts, lent: usize) -> bool
-    ensures { λ r. ⌜ Tells r (Counted counts lent) ⌝ }
+    ensures { λ r. ⌜ Tells r (SessionCounted counts lent) ⌝ }
 {
     if NAMES < counts.names {
         return false;

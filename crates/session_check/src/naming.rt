@@ -5,7 +5,7 @@ ghost use lib.ListN.{length};
 ghost use Rattle.bindings.specs.Contracts.{Tells};
 ghost use Rattle.names.specs.Symbols.{rowAt};
 ghost use Rattle.sessions.specs.Storage.{NameFormed};
-ghost use Rattle.session_check.specs.Parts.{NameKind, NumbersFormed, NamesFormed, Rising, placeOf, PlacesDistinct, NamesListed};
+ghost use Rattle.session_check.specs.Parts.{NameKind, NameNumbersFormed, NamesFormed, Rising, placeOf, PlacesDistinct, NamesListed};
 use names::SortRow;
 use sessions::NameRow;
 
@@ -24,7 +24,7 @@ fn is_name_kind(kind: u32) -> bool
 
 // Are a name's sort and variable in form?
 fn are_numbers_formed(sort: u32, variable: u32, sorts: u32, variables: u32) -> bool
-    ensures { λ r. ⌜ Tells r (NumbersFormed sort variable sorts variables) ⌝ }
+    ensures { λ r. ⌜ Tells r (NameNumbersFormed sort variable sorts variables) ⌝ }
 {
     if sort == 0 {
         return false;

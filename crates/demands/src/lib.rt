@@ -1,0 +1,1 @@
+// Demands: what the entry points promise together, as theorems over their contracts. No code.
