@@ -25,7 +25,8 @@ elem-end x y (z ∷ e) n h = by-same x z (λ p q. rw q refl) (λ p q. rw q (elem
 
 numbers-low : (n x : ℕ) → elem x (numbersBelow n) ≡ true → x < n
 numbers-low zero x h = true-false h refl
-numbers-low (suc n) x h = by-same x n (λ p q. omega arith) (λ p q. let l = numbers-low n x (elem-end x n (numbersBelow n) p h) in omega arith)
+numbers-low (suc n) x h = by-same x n (λ p q. omega arith) (λ p q. let l = numbers-low n x
+    (elem-end x n (numbersBelow n) p h) in omega arith)
 
 covers-below : {s : Kind} (n : ℕ) (e : List ℕ) → ((x : ℕ) → elem x e ≡ true → x < n) → (t : Syn s) → Covers e t → Below n t
 covers-below n e h (var x) k = h x k
@@ -40,14 +41,18 @@ module _ {text words : List ℕ} {sorts : ℕ} {row : List ℕ} (f : RuleFormed 
 
   conclusion-below : Below (column row 3) (ruleIn text words row .conclusion)
   conclusion-below =
-      covers-below (column row 3) (met (ruleIn text words row .conclusion) (met (ruleIn text words row .premises) [])) low (ruleIn text words row .conclusion)
+      covers-below (column row 3) (met (ruleIn text words row .conclusion) (met (ruleIn text words row .premises) [])) low
+      (ruleIn text words row .conclusion)
       (met-covers (ruleIn text words row .conclusion) (met (ruleIn text words row .premises) []))
 
   premises-below : Below (column row 3) (ruleIn text words row .premises)
   premises-below =
-      covers-below (column row 3) (met (ruleIn text words row .conclusion) (met (ruleIn text words row .premises) [])) low (ruleIn text words row .premises)
-      (covers-grows (ruleIn text words row .premises) (met (ruleIn text words row .premises) []) (met (ruleIn text words row .conclusion) (met (ruleIn text words row .premises) []))
-      (met-grows (ruleIn text words row .conclusion) (met (ruleIn text words row .premises) [])) (met-covers (ruleIn text words row .premises) []))
+      covers-below (column row 3) (met (ruleIn text words row .conclusion) (met (ruleIn text words row .premises) [])) low
+      (ruleIn text words row .premises)
+      (covers-grows (ruleIn text words row .premises) (met (ruleIn text words row .premises) [])
+      (met (ruleIn text words row .conclusion) (met (ruleIn text words row .premises) []))
+      (met-grows (ruleIn text words row .conclusion) (met (ruleIn text words row .premises) []))
+      (met-covers (ruleIn text words row .premises) []))
 
 -- Rows that each keep a rule in form.
 pub rows-stored : {text arities words : List ℕ} {rules : Rows} {sorts n : ℕ} → n ≤ length rules → n ≤ 1024
@@ -62,12 +67,14 @@ rows-stored lent few kept formed = record {
 }
 
 -- The list of the rules is that of the signature.
-rules-taken : (text P : List ℕ) (R : Rows) (k : ℕ) (rows : Rows) → k ≤ length rows → (r : ℕ) → ((i : ℕ) → i < k → getD rows i [] ≡ rowAt R (r + i)) → map (ruleIn text P) (take k rows) ≡ rulesFrom text P R r k
+rules-taken : (text P : List ℕ) (R : Rows) (k : ℕ) (rows : Rows) → k ≤ length rows → (r : ℕ)
+    → ((i : ℕ) → i < k → getD rows i [] ≡ rowAt R (r + i)) → map (ruleIn text P) (take k rows) ≡ rulesFrom text P R r k
 rules-taken text P R zero rows l r h = refl
 rules-taken text P R (suc k) [] l r h = absurd (omega arith)
 rules-taken text P R (suc k) (x ∷ rows) l r h =
     ap₂ (λ (x : List ℕ) (Rs : List Rule). ruleIn text P x ∷ Rs) (h 0 (omega arith) ∙ ap (rowAt R) (let e : r + 0 ≡ r = omega arith in e))
-    (rules-taken text P R k rows (omega arith) (suc r) (λ i m. h (suc i) (omega arith) ∙ ap (rowAt R) (let e : r + suc i ≡ suc r + i = omega arith in e)))
+    (rules-taken text P R k rows (omega arith) (suc r) (λ i m. h (suc i) (omega arith)
+    ∙ ap (rowAt R) (let e : r + suc i ≡ suc r + i = omega arith in e)))
 
 pub rules-listed : (text P : List ℕ) (R : Rows) (n : ℕ) → n ≤ length R → map (ruleIn text P) (take n R) ≡ rulesFrom text P R 0 n
 rules-listed text P R n l = rules-taken text P R n R l 0 (λ i m. ap (rowAt R) (let e : i ≡ 0 + i = omega arith in e))
