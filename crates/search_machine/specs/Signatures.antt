@@ -8,16 +8,19 @@ use mathlib.Core.List.{List, [], _∷_, _++_, map}
 use lib.ListN.{length, getD, take}
 use Rattle.terms.specs.Numbers.{same, by-same, true-false}
 use Rattle.terms.specs.Term.{Kind, Syn, var, app, nil, cons, Below}
+use Rattle.arena.specs.Copies.{patternRoom}
+use Rattle.arena.specs.Form.{inForm}
 use Rattle.arena.specs.Rows.{Rows}
 use Rattle.names.specs.Symbols.{column, rowAt}
 use Rattle.meeting.specs.Places.{numbersBelow}
 use Rattle.resolution.specs.Rules.{Rule}
 use Rattle.resolution.specs.Fresh.{elem, met}
 use Rattle.resolution.specs.FreshLaws.{Covers, Grows, covers-grows, met-covers, met-grows}
+use Rattle.rules.specs.LayingLaws.{lying-form}
 use Rattle.rules.specs.StoredRows.{Kept}
 use Rattle.rules.specs.StoredLaws.{kept-stored}
 use Rattle.rule_checks.specs.RuleForm.{ruleIn, RuleFormed}
-use Rattle.search_machine.specs.State.{ruleAt, rulesFrom, RulesStored}
+use Rattle.search_machine.specs.State.{ruleAt, rulesFrom, RulesStored, RulesInForm}
 
 elem-end : (x y : ℕ) (e : List ℕ) → x ≢ y → elem x (e ++ (y ∷ [])) ≡ true → elem x e ≡ true
 elem-end x y [] n h = by-same x y (λ p q. absurd (n p)) (λ p q. rw q at h)
@@ -65,6 +68,23 @@ rows-stored lent few kept formed = record {
   premises = λ r l. kept r l .2 .premises;
   variables = λ r l. kept r l .2 .few;
 }
+
+-- Their words are in form over the arities.
+pub rows-in-form : (text arities words : List ℕ) (rules : Rows) (n : ℕ)
+    → ((r : ℕ) → r < n → (u : ℕ) × (u′ : ℕ) × Kept text arities words (rowAt rules r) (ruleIn text words (rowAt rules r)) u u′)
+    → RulesInForm words rules n arities
+rows-in-form text arities words rules n kept r l =
+    let row : List ℕ = rowAt rules r in
+    let u = kept r l .0 in
+    let k = kept r l .2 in
+    record {
+      premises = subst (λ (x : ℕ). inForm words x (x + column row 7) patternRoom patternRoom arities ≡ true) (sym (k .from))
+          (lying-form (k .lying .premises) patternRoom (k .lying .premises .below));
+      conclusion = subst (λ (x : ℕ). inForm words (x + column row 7) (x + column row 7 + column row 8) patternRoom patternRoom arities ≡ true)
+          (sym (k .from))
+          (subst (λ (y : ℕ). inForm words (u + column row 7) y patternRoom patternRoom arities ≡ true) (sym (k .to))
+          (lying-form (k .lying .conclusion) patternRoom (k .lying .conclusion .below)));
+    }
 
 -- The list of the rules is that of the signature.
 rules-taken : (text P : List ℕ) (R : Rows) (k : ℕ) (rows : Rows) → k ≤ length rows → (r : ℕ)
