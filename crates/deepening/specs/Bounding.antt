@@ -44,7 +44,8 @@ module _ {F F′ : Rows} {W W′ : List ℕ} {T T′ : Rows} {m : Machine} {d t 
   left-at r k e l = record { is = subst (λ (k : Mode). Leaves F F′ W W′ T T′ m d t u r k) (sym e) l }
 
   pub left-proved : {F₁ : Rows} → m .mode ≡ Proved → F₁ ≡ treeRows d F (m .frames) → T′ ≡ T → Cleared 0 0 W W′ (m .used) (m .top)
-      → Cleared [] zeroRow F₁ F′ (m .frames) (m .high) → Left F F′ W W′ T T′ m d t u (Found (m .frames) (m .steps) (m .counter) (m .bound) (m .used))
+      → Cleared [] zeroRow F₁ F′ (m .frames) (m .high) → Left F F′ W W′ T T′ m d t u
+      (Found (m .frames) (m .steps) (m .counter) (m .bound) (m .used))
   left-proved e f b w r =
       left-at (Found (m .frames) (m .steps) (m .counter) (m .bound) (m .used)) Proved e
       (refl, b, record { words = w; frames = subst (λ (B : Rows). Cleared [] zeroRow B F′ (m .frames) (m .high)) f r })
@@ -58,7 +59,8 @@ module _ {F F′ : Rows} {W W′ : List ℕ} {T T′ : Rows} {m : Machine} {d t 
   left-refused e b w r = left-at Exceeded Refused e (refl, b, record { words = w; frames = r })
 
 -- Other words that agree below those in use, and as many.
-well-kept : {a : Allowed} {W W′ : List ℕ} {T : Rows} {c t u : ℕ} → Well a W T c t u → Same termRoom (cells W) (cells W′) u → length W′ ≡ length W → Well a W′ T c t u
+well-kept : {a : Allowed} {W W′ : List ℕ} {T : Rows} {c t u : ℕ} → Well a W T c t u → Same termRoom (cells W) (cells W′) u
+    → length W′ ≡ length W → Well a W′ T c t u
 well-kept {W′ = W′} {c = c} w same long =
     let l = w .lentWords in
     record {
@@ -77,7 +79,8 @@ entries-words D F W W′ (suc n) h =
     ap₂ (λ (es : List Entry) (e : Entry). es ++ (e ∷ [])) (entries-words D F W W′ n (λ k l. h k (omega arith)))
     (ap (entry (D - frameAt F n .depth) (frameAt F n .rule)) (h n (omega arith)))
 
-module _ {a : Allowed} {P : List ℕ} {R F : Rows} {W : List ℕ} {T L M S : Rows} {g s c t u : ℕ} (asking : Asking a P R F W T L M S g s c t u) (d : ℕ) where
+module _ {a : Allowed} {P : List ℕ} {R F : Rows} {W : List ℕ} {T L M S : Rows} {g s c t u : ℕ}
+    (asking : Asking a P R F W T L M S g s c t u) (d : ℕ) where
   -- With no step at all, and with a goal that is cut off.
   pub bound-out : s ≡ 0 → Bounded a P R F F W W T T L L M M S S g d s c t u (Failed 0 false c)
   bound-out e = record {
@@ -97,7 +100,8 @@ module _ {a : Allowed} {P : List ℕ} {R F : Rows} {W : List ℕ} {T L M S : Row
   bound-cut ls e = record {
     says = λ text. (
       sym (search-cut (limits a P R F) (rulesFrom text P R 0 (a .rules)) (s - 1) c u (held termRoom W T t) (term W g) [] leaf)
-          ∙ ap₂ (λ (s d : ℕ). search (limits a P R F) (rulesFrom text P R 0 (a .rules)) s c u (held termRoom W T t) (goal (term W g) d ∷ []) leaf)
+          ∙ ap₂ (λ (s d : ℕ). search (limits a P R F) (rulesFrom text P R 0 (a .rules)) s c u (held termRoom W T t)
+          (goal (term W g) d ∷ []) leaf)
           (let q : suc (s - 1) ≡ s = omega arith in q) (sym e),
       omega arith,
       record { later = le-refl c; well = asking .well },
@@ -113,7 +117,8 @@ module _ {a : Allowed} {P : List ℕ} {R F : Rows} {W : List ℕ} {T L M S : Row
     start text arities =
         record { text = text; arities = arities; words = W; rows = T; frames = F; counter = c; used = u; bound = t; steps = s; depth = d }
 
-    begins : (text arities : List ℕ) → Holds a P R F W T (start text arities) (boundedOf a text P R W T g d s c t u) (toStart g (d - 1) (s - 1) c t u)
+    begins : (text arities : List ℕ) → Holds a P R F W T (start text arities) (boundedOf a text P R W T g d s c t u)
+        (toStart g (d - 1) (s - 1) c t u)
     unfolding start search
     begins text arities =
         let st = asking .steps in
@@ -133,10 +138,13 @@ module _ {a : Allowed} {P : List ℕ} {R F : Rows} {W : List ℕ} {T L M S : Row
             refers = asking .refers;
             known = omega arith;
             level = omega arith;
-            value = ap (λ (k : ℕ). tries (limits a P R F) (search (limits a P R F) (rulesFrom text P R 0 (a .rules))) (held termRoom W T t) (term W g) (d - 1) [] leaf u 0
+            value = ap (λ (k : ℕ). tries (limits a P R F) (search (limits a P R F) (rulesFrom text P R 0 (a .rules)))
+                (held termRoom W T t) (term W g) (d - 1) [] leaf u 0
                 (rulesFrom text P R 0 k) (s - 1) false c) (let e : a .rules - 0 ≡ a .rules = omega arith in e)
-                ∙ sym (search-goal (limits a P R F) (rulesFrom text P R 0 (a .rules)) (s - 1) c u (held termRoom W T t) (term W g) (d - 1) [] leaf)
-                ∙ ap₂ (λ (s d : ℕ). search (limits a P R F) (rulesFrom text P R 0 (a .rules)) s c u (held termRoom W T t) (goal (term W g) d ∷ []) leaf)
+                ∙ sym (search-goal (limits a P R F) (rulesFrom text P R 0 (a .rules)) (s - 1) c u (held termRoom W T t) (term W g) (d - 1)
+                [] leaf)
+                ∙ ap₂ (λ (s d : ℕ). search (limits a P R F) (rulesFrom text P R 0 (a .rules)) s c u (held termRoom W T t)
+                (goal (term W g) d ∷ []) leaf)
                 (let e : suc (s - 1) ≡ s = omega arith in e) (let e : suc (d - 1) ≡ d = omega arith in e);
           };
           rules = asking .rules;
@@ -152,7 +160,8 @@ module _ {a : Allowed} {P : List ℕ} {R F : Rows} {W : List ℕ} {T L M S : Row
     module _ {m₀ : Machine} (e₀ : m₀ ≡ toStart g (d - 1) (s - 1) c t u) where
       begun : (text arities : List ℕ) → Holds a P R F W T (start text arities) (boundedOf a text P R W T g d s c t u) m₀
       begun text arities =
-          subst (λ (m : Machine). Holds a P R F W T (start text arities) (boundedOf a text P R W T g d s c t u) m) (sym e₀) (begins text arities)
+          subst (λ (m : Machine). Holds a P R F W T (start text arities) (boundedOf a text P R W T g d s c t u) m) (sym e₀)
+          (begins text arities)
 
       -- What the loop asks.
       pub bound-ready : Ready a P R F W T L M S m₀
@@ -191,13 +200,18 @@ module _ {a : Allowed} {P : List ℕ} {R F : Rows} {W : List ℕ} {T L M S : Row
         -- What the end of a bound asks.
         pub bound-leaving : Leaving T′ m t
         unfolding start
-        bound-leaving = record { stopped = done .stopped; undoable = λ e. form-undoable (refusing e [] .well .form) (refusing e [] .above .added .more) }
+        bound-leaving = record {
+          stopped = done .stopped;
+          undoable = λ e. form-undoable (refusing e [] .well .form)
+              (refusing e [] .above .added .more);
+        }
 
         module _ {F″ : Rows} {W″ : List ℕ} where
           -- All that was written is cleared.
           words-back : Same termRoom (cells W) (cells W′) u → Wiped F′ F″ W′ W″ m u 0 → W″ ≡ W
           words-back same w =
-              cleared-back {d = 0} {z = 0} {l = W} {l′ = W′} {l″ = W″} {from = u} {to = m .top} (asking .wordsClear) words-long (λ i l. sym (same i l)) words-past (w .words)
+              cleared-back {d = 0} {z = 0} {l = W} {l′ = W′} {l″ = W″} {from = u} {to = m .top} (asking .wordsClear) words-long
+              (λ i l. sym (same i l)) words-past (w .words)
 
           frames-back : Wiped F′ F″ W′ W″ m u 0 → F″ ≡ F
           frames-back w =
@@ -205,27 +219,34 @@ module _ {a : Allowed} {P : List ℕ} {R F : Rows} {W : List ℕ} {T L M S : Row
               (λ i l. let x : ⊥ = omega arith in absurd x) frames-past (w .frames)
 
         module _ {F″ : Rows} {W″ : List ℕ} {T″ : Rows} where
-          bound-refused : m .mode ≡ Refused → T″ ≡ undone T′ t (m .bound - t) → Wiped F′ F″ W′ W″ m u 0 → Bounded a P R F F″ W W″ T T″ L L′ M M′ S S′ g d s c t u Exceeded
+          bound-refused : m .mode ≡ Refused → T″ ≡ undone T′ t (m .bound - t) → Wiped F′ F″ W′ W″ m u 0
+              → Bounded a P R F F″ W W″ T T″ L L′ M M′ S S′ g d s c t u Exceeded
           unfolding start
           bound-refused e un w = record {
             says = λ text. (
               refusing e text .value,
-              record { frames = frames-back w; words = words-back (refusing e [] .above .same) w; rows = un ∙ refusing e [] .above .added .back },
+              record {
+                frames = frames-back w;
+                words = words-back (refusing e [] .above .same) w;
+                rows = un ∙ refusing e [] .above .added .back;
+              },
             );
             links = done .links;
             marks = done .marks;
             stack = done .stack;
           }
 
-          bound-failed : m .mode ≡ Over → T″ ≡ T′ → Wiped F′ F″ W′ W″ m u 0 → Bounded a P R F F″ W W″ T T″ L L′ M M′ S S′ g d s c t u (Failed (m .steps) (m .cut) (m .counter))
+          bound-failed : m .mode ≡ Over → T″ ≡ T′ → Wiped F′ F″ W′ W″ m u 0
+              → Bounded a P R F F″ W W″ T T″ L L′ M M′ S S′ g d s c t u (Failed (m .steps) (m .cut) (m .counter))
           unfolding start
           bound-failed e same w =
-              let at : (text : List ℕ) → Ending a P R F′ W′ T′ (start text []) (boundedOf a text P R W T g d s c t u) m = λ text. case-at (ended text []) e in
+              let at : (text : List ℕ) → Ending a P R F′ W′ T′ (start text []) (boundedOf a text P R W T g d s c t u) m = λ text. case-at
+              (ended text []) e in
               let n = words-long in
               let ready : Well a W′ T (m .counter) t u =
-                  subst (λ (B : Rows). Well a W′ B (m .counter) t u) (at [] .bottom .rows)
-                  (subst (λ (k : ℕ). Well a W′ T′ (m .counter) k u) (at [] .bottom .bound)
-                  (subst (λ (k : ℕ). Well a W′ T′ (m .counter) (m .bound) k) (at [] .bottom .used) (at [] .well))) in
+              subst (λ (B : Rows). Well a W′ B (m .counter) t u) (at [] .bottom .rows)
+              (subst (λ (k : ℕ). Well a W′ T′ (m .counter) k u) (at [] .bottom .bound)
+              (subst (λ (k : ℕ). Well a W′ T′ (m .counter) (m .bound) k) (at [] .bottom .used) (at [] .well))) in
               record {
                 says = λ text. (
                   at text .value,
@@ -259,12 +280,14 @@ module _ {a : Allowed} {P : List ℕ} {R F : Rows} {W : List ℕ} {T L M S : Row
 
             goals-same : (k : ℕ) → k < m .frames → term W″ (frameAt F′ k .goal) ≡ term W′ (frameAt F′ k .goal)
             goals-same k l =
-                term-kept W′ W″ (m .counter) (m .used) (proving [] [] .well .form .words) agree (frameAt F′ k .goal) (proving [] [] .references k l)
+                term-kept W′ W″ (m .counter) (m .used) (proving [] [] .well .form .words) agree (frameAt F′ k .goal)
+                (proving [] [] .references k l)
 
             nodes : Nodes W″ (m .counter) (m .used) F″ (m .frames)
             nodes =
                 rows-nodes d F′ F″ W″ (m .frames) rows-are (m .counter) (m .used)
-                (λ k l. refers-kept W′ W″ (m .counter) (m .used) (proving [] [] .well .form .words) agree (m .counter) (m .used) (frameAt F′ k .goal)
+                (λ k l. refers-kept W′ W″ (m .counter) (m .used) (proving [] [] .well .form .words) agree (m .counter) (m .used)
+                (frameAt F′ k .goal)
                 (le-refl (m .counter)) (le-refl (m .used)) (proving [] [] .references k l))
 
             extended : Extended a P R W W″ T T″ c t u (m .counter) (m .bound) (m .used)
@@ -279,30 +302,37 @@ module _ {a : Allowed} {P : List ℕ} {R F : Rows} {W : List ℕ} {T L M S : Row
                   later = ended [] [] .later;
                   longer = l;
                   added = subst (λ (B : Rows). Added T B t (m .bound)) (sym same) (proving [] [] .above .added);
-                  well = subst (λ (B : Rows). Well a W″ B (m .counter) (m .bound) (m .used)) (sym same) (well-kept (proving [] [] .well) agree long);
+                  well = subst (λ (B : Rows). Well a W″ B (m .counter) (m .bound) (m .used)) (sym same)
+                      (well-kept (proving [] [] .well) agree long);
                   wordsLong = long ∙ words-long;
                   wordsKept = kept-part 0 W W″ u la (long ∙ words-long)
                       (λ i p. w .words .before i (omega arith) ∙ sym (proving [] [] .above .same i p));
-                  wordsClear = cleared-from {d = 0} {z = 0} W {l′ = W′} {l″ = W″} u {from′ = m .used} {to = m .top} (asking .wordsClear) l words-long
+                  wordsClear = cleared-from {d = 0} {z = 0} W {l′ = W′} {l″ = W″} u {from′ = m .used} {to = m .top}
+                      (asking .wordsClear) l words-long
                       (λ i p q. words-past i q) (w .words);
                   staysInForm = λ arities rs f.
-                      form-same W′ W″ 0 (m .used) termRoom (m .counter) (m .counter) arities (omega arith) lw (omega arith) (le-refl (m .counter)) agree
+                      form-same W′ W″ 0 (m .used) termRoom (m .counter) (m .counter) arities (omega arith) lw (omega arith)
+                      (le-refl (m .counter)) agree
                       (proving [] arities .formed rs f);
                 }
 
-            bound-found : Bounded a P R F F″ W W″ T T″ L L′ M M′ S S′ g d s c t u (Found (m .frames) (m .steps) (m .counter) (m .bound) (m .used))
+            bound-found : Bounded a P R F F″ W W″ T T″ L L′ M M′ S S′ g d s c t u
+                (Found (m .frames) (m .steps) (m .counter) (m .bound) (m .used))
             unfolding start
             bound-found = record {
               says = λ text. record {
                 trees = proving text [] .trees;
                 left = ended text [] .left;
-                value = ap (λ (β : Bindings). found β (proving text [] .trees) (m .steps) (m .counter) (m .used)) held-same ∙ proving text [] .value;
+                value = ap (λ (β : Bindings). found β (proving text [] .trees) (m .steps) (m .counter) (m .used)) held-same
+                    ∙ proving text [] .value;
                 extended = extended;
                 room = proving text [] .room;
-                order = rows-listed d F′ F″ W″ (m .frames) rows-are ∙ entries-words d F′ W′ W″ (m .frames) goals-same ∙ proving text [] .order;
+                order = rows-listed d F′ F″ W″ (m .frames) rows-are ∙ entries-words d F′ W′ W″ (m .frames) goals-same
+                    ∙ proving text [] .order;
                 nodes = nodes;
                 framesLong = w .frames .long ∙ tree-length d F′ (m .frames) ∙ frames-long;
-                framesClear = cleared-from {d = []} {z = zeroRow} F {l′ = treeRows d F′ (m .frames)} {l″ = F″} 0 {from′ = m .frames} {to = m .high}
+                framesClear = cleared-from {d = []} {z = zeroRow} F {l′ = treeRows d F′ (m .frames)} {l″ = F″} 0 {from′ = m .frames}
+                    {to = m .high}
                     (asking .framesClear) (omega arith) (tree-length d F′ (m .frames) ∙ frames-long)
                     (λ i p q. tree-behind d F′ (m .frames) i p ∙ frames-past i q) (w .frames);
               };
@@ -312,10 +342,14 @@ module _ {a : Allowed} {P : List ℕ} {R F : Rows} {W : List ℕ} {T L M S : Row
             }
 
           -- What `leave` leaves is what the bound comes to.
-          left-by : (r : Came) (k : Mode) → m .mode ≡ k → Leaves F′ F″ W′ W″ T′ T″ m d t u r k → Bounded a P R F F″ W W″ T T″ L L′ M M′ S S′ g d s c t u r
-          left-by r Proved e l = subst (λ (r : Came). Bounded a P R F F″ W W″ T T″ L L′ M M′ S S′ g d s c t u r) (sym (l .0)) (bound-found e (l .1) (l .2))
-          left-by r Over e l = subst (λ (r : Came). Bounded a P R F F″ W W″ T T″ L L′ M M′ S S′ g d s c t u r) (sym (l .0)) (bound-failed e (l .1) (l .2))
-          left-by r Refused e l = subst (λ (r : Came). Bounded a P R F F″ W W″ T T″ L L′ M M′ S S′ g d s c t u r) (sym (l .0)) (bound-refused e (l .1) (l .2))
+          left-by : (r : Came) (k : Mode) → m .mode ≡ k → Leaves F′ F″ W′ W″ T′ T″ m d t u r k
+              → Bounded a P R F F″ W W″ T T″ L L′ M M′ S S′ g d s c t u r
+          left-by r Proved e l = subst (λ (r : Came). Bounded a P R F F″ W W″ T T″ L L′ M M′ S S′ g d s c t u r) (sym (l .0))
+              (bound-found e (l .1) (l .2))
+          left-by r Over e l = subst (λ (r : Came). Bounded a P R F F″ W W″ T T″ L L′ M M′ S S′ g d s c t u r) (sym (l .0))
+              (bound-failed e (l .1) (l .2))
+          left-by r Refused e l = subst (λ (r : Came). Bounded a P R F F″ W W″ T T″ L L′ M M′ S S′ g d s c t u r) (sym (l .0))
+              (bound-refused e (l .1) (l .2))
           left-by r Enter e l = absurd l
           left-by r Try e l = absurd l
           left-by r Fail e l = absurd l

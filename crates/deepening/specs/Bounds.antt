@@ -1,4 +1,5 @@
--- What one depth bound, and the bounds in turn, ask and leave: the answers are the theory's `bounded` and `prove`, for the rules by any names. What is lent
+-- What one depth bound, and the bounds in turn, ask and leave: the answers are the theory's `bounded` and `prove`, for the rules by any
+-- names. What is lent
 -- comes with zero past what is in use, and goes back so.
 use Prim.Native.Nat.{ℕ, zero, suc, _-_, _≤_, _<_}
 use mathlib.Core.Path.{_≡_}
@@ -15,7 +16,7 @@ use Rattle.bindings.specs.Contracts.{Undoable}
 use Rattle.unifier.specs.Contracts.{Scratch}
 use Rattle.resolution.specs.Rules.{Tree, leaf, _◂_}
 use Rattle.resolution.specs.Search.{within, Result, refused, found, failed, bounded, Verdict, refusal, proved, nothing, undecided, prove}
-use Rattle.resolution.specs.Preorder.{flat}
+use Rattle.resolution.specs.Preorder.{preorder, flat}
 use Rattle.attempts.specs.Contracts.{Added}
 use Rattle.tree_rows.specs.Trees.{Lists, entriesFrom}
 use Rattle.search_machine.specs.State.{term, Refers, rulesFrom, RulesStored, RulesInForm, Well}
@@ -31,7 +32,8 @@ use Rattle.deepening.specs.declared.bound.Came.the-variants.{Exceeded, F
 use Rattle.deepening.specs.declared.Answer.{Answer}
 use Rattle.deepening.specs.declared.Answer.the-variants.{Refused, Proved, Nothing, Undecided}
 
--- The goal g with s steps, in a session with c variables, t bindings and u words: signature and session are in form, there is a frame for each step, and
+-- The goal g with s steps, in a session with c variables, t bindings and u words: signature and session are in form, there is a frame for
+-- each step, and
 -- words past those in use, frames and scratch are zero.
 pub record Asking (a : Allowed) (P : List ℕ) (R F : Rows) (W : List ℕ) (T L M S : Rows) (g s c t u : ℕ) : Type 0 where
   pub rules : RulesStored P R (a .rules)
@@ -57,7 +59,8 @@ pub record Unchanged (F F′ : Rows) (W W′ : List ℕ) (T T′ : Rows) : Type 
   pub words : W′ ≡ W
   pub rows : T′ ≡ T
 
--- A proof was found: the session extended with c′ variables, t′ bindings and u′ words. Words and bindings are only added, zero follows them, and words that
+-- A proof was found: the session extended with c′ variables, t′ bindings and u′ words. Words and bindings are only added, zero follows
+-- them, and words that
 -- are in form over the signature's arities stay so.
 pub record Extended (a : Allowed) (P : List ℕ) (R : Rows) (W W′ : List ℕ) (T T′ : Rows) (c t u c′ t′ u′ : ℕ) : Type 0 where
   pub later : c ≤ c′
@@ -71,7 +74,8 @@ pub record Extended (a : Allowed) (P : List ℕ) (R : Rows) (W W′ : List ℕ) 
       → inForm W′ 0 u′ termRoom c′ arities ≡ true
 
 -- Its n applications stand in the rows, and zero follows.
-pub record Shown (a : Allowed) (P : List ℕ) (R F F′ : Rows) (W W′ : List ℕ) (T T′ : Rows) (s c t u : ℕ) (o : Result) (n b c′ t′ u′ : ℕ) : Type 0 where
+pub record Shown (a : Allowed) (P : List ℕ) (R F F′ : Rows) (W W′ : List ℕ) (T T′ : Rows) (s c t u : ℕ) (o : Result)
+    (n b c′ t′ u′ : ℕ) : Type 0 where
   pub trees : Tree many
   pub left : b ≤ s
   pub value : found (held termRoom W′ T′ t′) trees b c′ u′ ≡ o
@@ -94,7 +98,8 @@ Says a P R F F′ W W′ T T′ s c t u o (Found n b c′ t′ u′) = Shown a P
 Says a P R F F′ W W′ T T′ s c t u o (Failed b cut c′) = (failed b cut c′ ≡ o) × (b ≤ s) × Counted a W T c t u c′ × Unchanged F F′ W W′ T T′
 
 -- `at_bound` searched at the depth bound d; the scratch is as it was.
-pub record Bounded (a : Allowed) (P : List ℕ) (R F F′ : Rows) (W W′ : List ℕ) (T T′ L L′ M M′ S S′ : Rows) (g d s c t u : ℕ) (r : Came) : Type 0 where
+pub record Bounded (a : Allowed) (P : List ℕ) (R F F′ : Rows) (W W′ : List ℕ) (T T′ L L′ M M′ S S′ : Rows) (g d s c t u : ℕ)
+    (r : Came) : Type 0 where
   pub says : (text : List ℕ) → Says a P R F F′ W W′ T T′ s c t u (boundedOf a text P R W T g d s c t u) r
   pub links : L′ ≡ L
   pub marks : M′ ≡ M
@@ -108,7 +113,8 @@ pub record Wiped (F F′ : Rows) (W W′ : List ℕ) (m : Machine) (u n : ℕ) :
 -- What `leave` leaves, by the mode in which the machine has stopped; t and u are the bindings and words at the start.
 abbrev pub Leaves : Rows → Rows → List ℕ → List ℕ → Rows → Rows → Machine → ℕ → ℕ → ℕ → Came → Mode → Type 0
 Leaves F F′ W W′ T T′ m d t u r Done =
-    (r ≡ Found (m .frames) (m .steps) (m .counter) (m .bound) (m .used)) × (T′ ≡ T) × Wiped (treeRows d F (m .frames)) F′ W W′ m (m .used) (m .frames)
+    (r ≡ Found (m .frames) (m .steps) (m .counter) (m .bound) (m .used)) × (T′ ≡ T) × Wiped (treeRows d F (m .frames)) F′ W W′ m (m .used)
+    (m .frames)
 Leaves F F′ W W′ T T′ m d t u r Over = (r ≡ Failed (m .steps) (m .cut) (m .counter)) × (T′ ≡ T) × Wiped F F′ W W′ m u 0
 Leaves F F′ W W′ T T′ m d t u r Exceeding = (r ≡ Exceeded) × (T′ ≡ undone T t (m .bound - t)) × Wiped F F′ W W′ m u 0
 Leaves F F′ W W′ T T′ m d t u r Enter = ⊥
@@ -137,11 +143,13 @@ proveOf a text P R W T g largest s c t u =
     prove (within (a .variables) (a .words)) (rulesFrom text P R 0 (a .rules)) s largest u (held termRoom W T t) (term W g) c
 
 -- Proved: the proof is one tree, whose nodes are the first n rows, and zero follows.
-pub record Proven (a : Allowed) (P : List ℕ) (R F F′ : Rows) (W W′ : List ℕ) (T T′ : Rows) (c t u : ℕ) (v : Verdict) (n k c′ t′ u′ : ℕ) : Type 0 where
+pub record Proven (a : Allowed) (P : List ℕ) (R F F′ : Rows) (W W′ : List ℕ) (T T′ : Rows) (c t u : ℕ) (v : Verdict)
+    (n k c′ t′ u′ : ℕ) : Type 0 where
   pub tree : Tree one
   pub value : proved (held termRoom W′ T′ t′) (tree ◂ leaf) k c′ u′ ≡ v
   pub extended : Extended a P R W W′ T T′ c t u c′ t′ u′
   pub room : n ≤ a .frames
+  pub count : n ≡ length (preorder 1 tree)
   pub lists : Lists termRoom c′ W′ u′ F′ 0 1 tree n
   pub framesLong : length F′ ≡ length F
   pub framesClear : ClearFrom zeroRow F′ n
@@ -154,7 +162,8 @@ Answers a P R F F′ W W′ T T′ c t u v (Nothing k c′) = (nothing k c′ �
 Answers a P R F F′ W W′ T T′ c t u v (Undecided k c′) = (undecided k c′ ≡ v) × Counted a W T c t u c′ × Unchanged F F′ W W′ T T′
 
 -- `prove` answered the goal; the scratch is as it was.
-pub record Deepened (a : Allowed) (P : List ℕ) (R F F′ : Rows) (W W′ : List ℕ) (T T′ L L′ M M′ S S′ : Rows) (g largest s c t u : ℕ) (r : Answer) : Type 0 where
+pub record Deepened (a : Allowed) (P : List ℕ) (R F F′ : Rows) (W W′ : List ℕ) (T T′ L L′ M M′ S S′ : Rows) (g largest s c t u : ℕ)
+    (r : Answer) : Type 0 where
   pub answers : (text : List ℕ) → Answers a P R F F′ W W′ T T′ c t u (proveOf a text P R W T g largest s c t u) r
   pub links : L′ ≡ L
   pub marks : M′ ≡ M

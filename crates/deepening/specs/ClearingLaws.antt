@@ -11,10 +11,16 @@ use Rattle.deepening.specs.Clearing.{Cleared, ClearFrom}
 
 -- Nothing is cleared yet.
 pub cleared-none : {A : Type 0} {d z : A} (l : List A) (from : ℕ) → Cleared d z l l from from
-cleared-none l from = record { long = refl; before = λ i p. refl; between = λ i p q r. let x : ⊥ = omega arith in absurd x; behind = λ i p. refl }
+cleared-none l from = record {
+  long = refl;
+  before = λ i p. refl;
+  between = λ i p q r. let x : ⊥ = omega arith in absurd x;
+  behind = λ i p. refl;
+}
 
 -- One more.
-pub cleared-next : {A : Type 0} {d z : A} {l l′ : List A} {from to : ℕ} → Cleared d z l l′ from to → from ≤ to → Cleared d z l (set l′ to z) from (to + 1)
+pub cleared-next : {A : Type 0} {d z : A} {l l′ : List A} {from to : ℕ} → Cleared d z l l′ from to → from ≤ to
+    → Cleared d z l (set l′ to z) from (to + 1)
 cleared-next {A} {d} {z} {l} {l′} {from} {to} h le = record {
   long = length-set l′ to z ∙ h .long;
   before = λ i p. getD-set-other l′ to i z d (λ e. omega arith) ∙ h .before i p;
@@ -26,7 +32,8 @@ cleared-next {A} {d} {z} {l} {l′} {from} {to} h le = record {
 }
 
 -- Up to the number, or to the end of the list.
-pub cleared-stop : {A : Type 0} {d z : A} {l l′ : List A} {from at : ℕ} (to : ℕ) → Cleared d z l l′ from at → at ≤ from + (to - from) → to ≤ at
+pub cleared-stop : {A : Type 0} {d z : A} {l l′ : List A} {from at : ℕ} (to : ℕ) → Cleared d z l l′ from at → at ≤ from + (to - from)
+    → to ≤ at
     → Cleared d z l l′ from to
 cleared-stop {from = from} to h le lt = record {
   long = h .long;
@@ -35,7 +42,8 @@ cleared-stop {from = from} to h le lt = record {
   behind = λ i p. by-less i from (λ x e. h .before i x) (λ x e. h .behind i (omega arith));
 }
 
-pub cleared-end : {A : Type 0} {d z : A} {l l′ : List A} {from at : ℕ} (to : ℕ) → Cleared d z l l′ from at → length l′ ≤ at → at ≤ to → Cleared d z l l′ from to
+pub cleared-end : {A : Type 0} {d z : A} {l l′ : List A} {from at : ℕ} (to : ℕ) → Cleared d z l l′ from at → length l′ ≤ at → at ≤ to
+    → Cleared d z l l′ from to
 cleared-end to h le lt =
     let n = h .long in
     record {
@@ -65,7 +73,8 @@ clear-from d z l from h =
     (λ i p. getD-drop from l i d ∙ h (from + i) (omega arith) (omega arith) ∙ sym (replicate-at d z (length l - from) i (omega arith)))
 
 -- Zero at entry from a place on, written below `to` and cleared again: the very list.
-pub cleared-back : {A : Type 0} {d z : A} {l l′ l″ : List A} {from to : ℕ} → ClearFrom z l from → length l′ ≡ length l → ((i : ℕ) → i < from → getD l′ i d ≡ getD l i d)
+pub cleared-back : {A : Type 0} {d z : A} {l l′ l″ : List A} {from to : ℕ} → ClearFrom z l from → length l′ ≡ length l
+    → ((i : ℕ) → i < from → getD l′ i d ≡ getD l i d)
     → ((i : ℕ) → to ≤ i → getD l′ i d ≡ getD l i d) → Cleared d z l′ l″ from to → l″ ≡ l
 cleared-back {A} {d} {z} {l} {l′} {l″} {from} {to} zs n b p h =
     let m = h .long in
@@ -74,11 +83,12 @@ cleared-back {A} {d} {z} {l} {l′} {l″} {from} {to} zs n b p h =
     by-less i from
     (λ x e. h .before i x ∙ b i x)
     (λ x e. by-less i to
-      (λ y f. h .between i x y (omega arith) ∙ sym (clear-at d z l from zs i x (omega arith)))
-      (λ y f. h .behind i y ∙ p i y)))
+    (λ y f. h .between i x y (omega arith) ∙ sym (clear-at d z l from zs i x (omega arith)))
+    (λ y f. h .behind i y ∙ p i y)))
 
 -- Zero at entry, written below `to` and cleared from another place on: zero from there on.
-pub cleared-from : {A : Type 0} {d z : A} (l : List A) {l′ l″ : List A} (from : ℕ) {from′ to : ℕ} → ClearFrom z l from → from ≤ from′ → length l′ ≡ length l
+pub cleared-from : {A : Type 0} {d z : A} (l : List A) {l′ l″ : List A} (from : ℕ) {from′ to : ℕ} → ClearFrom z l from → from ≤ from′
+    → length l′ ≡ length l
     → ((i : ℕ) → from′ ≤ i → to ≤ i → getD l′ i d ≡ getD l i d) → Cleared d z l′ l″ from′ to → ClearFrom z l″ from′
 cleared-from {A} {d} {z} l {l′} {l″} from {from′} {to} zs le n p h =
     let m = h .long in
@@ -89,7 +99,8 @@ cleared-from {A} {d} {z} l {l′} {l″} from {from′} {to} zs le n p h =
     (λ y f. h .behind i y ∙ p i q y ∙ clear-at d z l from zs i (omega arith) (omega arith)))
 
 -- The part in use stands.
-pub kept-part : {A : Type 0} (d : A) (l l′ : List A) (n : ℕ) → n ≤ length l → length l′ ≡ length l → ((i : ℕ) → i < n → getD l′ i d ≡ getD l i d) → take n l′ ≡ take n l
+pub kept-part : {A : Type 0} (d : A) (l l′ : List A) (n : ℕ) → n ≤ length l → length l′ ≡ length l
+    → ((i : ℕ) → i < n → getD l′ i d ≡ getD l i d) → take n l′ ≡ take n l
 kept-part d l l′ n le e h =
     let a = length-take-le n l le in
     let b = length-take-le n l′ (omega arith) in

@@ -6,6 +6,7 @@ use mathlib.Core.Path.{_≡_, refl, ap, ap₂, sym, _∙_, subst}
 use mathlib.Core.Bool.{Bool, true, false, not, cond}
 use mathlib.Core.Logic.{_≢_}
 use mathlib.Core.List.{List, [], _∷_}
+use lib.ListN.{length}
 use Rattle.terms.specs.Numbers.{less, less-yes, less-no, true-false}
 use Rattle.terms.specs.Term.{many}
 use Rattle.arena.specs.Cells.{reference-up, below-denote, cells}
@@ -15,25 +16,29 @@ use Rattle.arena.specs.FormKept.{form-same}
 use Rattle.arena.specs.Rows.{Rows}
 use Rattle.bindings.specs.Stored.{held}
 use Rattle.resolution.specs.Rules.{Tree, leaf, _◂_}
-use Rattle.resolution.specs.Search.{within, Result, refused, found, failed, Verdict, settle, boundsFrom, bounds, deepen, nothing, undecided, proved, refusal}
+use Rattle.resolution.specs.Search.{within, Result, refused, found, failed, Verdict, settle, boundsFrom, bounds, deepen, nothing}
+use Rattle.resolution.specs.Search.{undecided, proved, refusal}
 use Rattle.resolution.specs.Preorder.{flat}
 use Rattle.resolution.specs.Verdicts as verdicts
 use Rattle.search_machine.specs.State.{term, rulesFrom, Well}
 use Rattle.search_machine.specs.declared.Allowed.{Allowed}
-use Rattle.deepening.specs.Bounds.{Asking, boundedOf, Unchanged, Extended, Shown, Counted, Says, Bounded, settled, proveOf, Proven, Answers, Deepened}
-use Rattle.deepening.specs.TreeLaws.{lists-all}
+use Rattle.deepening.specs.Bounds.{Asking, boundedOf, Unchanged, Extended, Shown, Counted, Says, Bounded, settled, proveOf}
+use Rattle.deepening.specs.Bounds.{Proven, Answers, Deepened}
+use Rattle.deepening.specs.TreeLaws.{entries-count, lists-all}
 use Rattle.deepening.specs.declared.bound.Came.{Came}
 use Rattle.deepening.specs.declared.bound.Came.the-variants.{Exceeded, Found, Failed}
 use Rattle.deepening.specs.declared.Answer.{Answer}
 use Rattle.deepening.specs.declared.Answer.the-variants.{Refused, Proved, Nothing, Undecided}
 
 -- A failure that does not settle the goal, and one that does.
-settle-open : (s b : ℕ) (cut : Bool) (c : ℕ) (next : ℕ → ℕ → Verdict) → settled b cut ≡ false → settle s (failed b cut c) next ≡ next (s - b) c
+settle-open : (s b : ℕ) (cut : Bool) (c : ℕ) (next : ℕ → ℕ → Verdict) → settled b cut ≡ false
+    → settle s (failed b cut c) next ≡ next (s - b) c
 settle-open s zero cut c next e = ap (λ (k : ℕ). next k c) (let q : s ≡ s - 0 = omega arith in q)
 settle-open s (suc b) true c next e = refl
 settle-open s (suc b) false c next e = true-false refl e
 
-settle-done : (s b : ℕ) (cut : Bool) (c : ℕ) (next : ℕ → ℕ → Verdict) → settled b cut ≡ true → settle s (failed b cut c) next ≡ nothing (s - b) c
+settle-done : (s b : ℕ) (cut : Bool) (c : ℕ) (next : ℕ → ℕ → Verdict) → settled b cut ≡ true
+    → settle s (failed b cut c) next ≡ nothing (s - b) c
 settle-done s zero cut c next e = true-false e refl
 settle-done s (suc b) true c next e = true-false e refl
 settle-done s (suc b) false c next e = refl
@@ -74,7 +79,8 @@ asking-later h k = record {
   framesClear = h .framesClear;
 }
 
-asking-same : {a : Allowed} {P : List ℕ} {R F F′ : Rows} {W W′ : List ℕ} {T T′ L L′ M M′ S S′ : Rows} {g s c t u : ℕ} → Unchanged F F′ W W′ T T′
+asking-same : {a : Allowed} {P : List ℕ} {R F F′ : Rows} {W W′ : List ℕ} {T T′ L L′ M M′ S S′ : Rows} {g s c t u : ℕ}
+    → Unchanged F F′ W W′ T T′
     → L′ ≡ L → M′ ≡ M → S′ ≡ S → Asking a P R F W T L M S g s c t u → Asking a P R F′ W′ T′ L′ M′ S′ g s c t u
 asking-same {a} {P} {R} {F} {F′} {W} {W′} {T} {T′} {L} {L′} {M} {M′} {S} {S′} {g} {s} {c} {t} {u} k l m n h =
     subst (λ (B : Rows). Asking a P R B W′ T′ L′ M′ S′ g s c t u) (sym (k .frames))
@@ -84,9 +90,11 @@ asking-same {a} {P} {R} {F} {F′} {W} {W′} {T} {T′} {L} {L′} {M} {M′} {
     (subst (λ (B : Rows). Asking a P R F W T L B S′ g s c t u) (sym m)
     (subst (λ (B : Rows). Asking a P R F W T L M B g s c t u) (sym n) h)))))
 
--- What the loop keeps, before the depth bound d: every buffer is as at entry; and the bounds from d on, with the steps that the last one took and the
+-- What the loop keeps, before the depth bound d: every buffer is as at entry; and the bounds from d on, with the steps that the last one
+-- took and the
 -- counter, come to the theory's answer.
-pub record Deepening (a : Allowed) (P : List ℕ) (R F₀ F : Rows) (W₀ W : List ℕ) (T₀ T L₀ L M₀ M S₀ S : Rows) (g largest s c t u d k c′ : ℕ) : Type 0 where
+pub record Deepening (a : Allowed) (P : List ℕ) (R F₀ F : Rows) (W₀ W : List ℕ) (T₀ T L₀ L M₀ M S₀ S : Rows)
+    (g largest s c t u d k c′ : ℕ) : Type 0 where
   pub start : Asking a P R F₀ W₀ T₀ L₀ M₀ S₀ g s c t u
   pub unchanged : Unchanged F₀ F W₀ W T₀ T
   pub links : L ≡ L₀
@@ -96,10 +104,12 @@ pub record Deepening (a : Allowed) (P : List ℕ) (R F₀ F : Rows) (W₀ W : Li
   pub positive : 0 < d
   pub fuel : ℕ
   pub enough : largest < d + fuel
-  pub is : (text : List ℕ) → deepen (within (a .variables) (a .words)) (rulesFrom text P R 0 (a .rules)) s u (held termRoom W₀ T₀ t) (term W₀ g)
+  pub is : (text : List ℕ) → deepen (within (a .variables) (a .words)) (rulesFrom text P R 0 (a .rules)) s u (held termRoom W₀ T₀ t)
+      (term W₀ g)
       (boundsFrom fuel d largest) k c′ ≡ proveOf a text P R W₀ T₀ g largest s c t u
 
-pub deepening-start : {a : Allowed} {P : List ℕ} {R F : Rows} {W : List ℕ} {T L M S : Rows} {g s c t u : ℕ} (largest : ℕ) → Asking a P R F W T L M S g s c t u
+pub deepening-start : {a : Allowed} {P : List ℕ} {R F : Rows} {W : List ℕ} {T L M S : Rows} {g s c t u : ℕ} (largest : ℕ)
+    → Asking a P R F W T L M S g s c t u
     → Deepening a P R F F W W T T L L M M S S g largest s c t u 4 0 c
 deepening-start largest h = record {
   start = h;
@@ -124,7 +134,8 @@ module _ {a : Allowed} {P : List ℕ} {R F₀ F : Rows} {W₀ W : List ℕ} {T�
   pub deepening-over : largest < d → Deepened a P R F₀ F W₀ W T₀ T L₀ L M₀ M S₀ S g largest s c t u (Undecided k c′)
   deepening-over l = record {
     answers = λ text. (
-      ap (λ (ds : List ℕ). deepen (within (a .variables) (a .words)) (rulesFrom text P R 0 (a .rules)) s u (held termRoom W₀ T₀ t) (term W₀ g) ds k c′)
+      ap (λ (ds : List ℕ). deepen (within (a .variables) (a .words)) (rulesFrom text P R 0 (a .rules)) s u (held termRoom W₀ T₀ t)
+          (term W₀ g) ds k c′)
           (sym (bounds-past (h .fuel) d largest l)) ∙ h .is text,
       h .counted,
       h .unchanged,
@@ -134,7 +145,8 @@ module _ {a : Allowed} {P : List ℕ} {R F₀ F : Rows} {W₀ W : List ℕ} {T�
     stack = h .stack;
   }
 
-  module _ (ld : d ≤ largest) {F′ : Rows} {W′ : List ℕ} {T′ L′ M′ S′ : Rows} {r : Came} (came : Bounded a P R F F′ W W′ T T′ L L′ M M′ S S′ g d s c′ t u r) where
+  module _ (ld : d ≤ largest) {F′ : Rows} {W′ : List ℕ} {T′ L′ M′ S′ : Rows} {r : Came}
+      (came : Bounded a P R F F′ W W′ T T′ L L′ M M′ S S′ g d s c′ t u r) where
     -- The bound started from the buffers at entry.
     from-entry : Bounded a P R F₀ F′ W₀ W′ T₀ T′ L₀ L′ M₀ M′ S₀ S′ g d s c′ t u r
     from-entry =
@@ -147,12 +159,15 @@ module _ {a : Allowed} {P : List ℕ} {R F₀ F : Rows} {W₀ W : List ℕ} {T�
 
     -- What it settles is the answer.
     value : (text : List ℕ) (o : Result) → o ≡ boundedOf a text P R W₀ T₀ g d s c′ t u
-        → settle s o (λ (u′ c″ : ℕ). deepen (within (a .variables) (a .words)) (rulesFrom text P R 0 (a .rules)) s u (held termRoom W₀ T₀ t) (term W₀ g)
+        → settle s o (λ (u′ c″ : ℕ). deepen (within (a .variables) (a .words)) (rulesFrom text P R 0 (a .rules)) s u
+        (held termRoom W₀ T₀ t) (term W₀ g)
         (boundsFrom (h .fuel - 1) (d + d) largest) u′ c″) ≡ proveOf a text P R W₀ T₀ g largest s c t u
     value text o e =
-        ap (λ (o : Result). settle s o (λ (u′ c″ : ℕ). deepen (within (a .variables) (a .words)) (rulesFrom text P R 0 (a .rules)) s u (held termRoom W₀ T₀ t) (term W₀ g)
+        ap (λ (o : Result). settle s o (λ (u′ c″ : ℕ). deepen (within (a .variables) (a .words)) (rulesFrom text P R 0 (a .rules)) s u
+        (held termRoom W₀ T₀ t) (term W₀ g)
         (boundsFrom (h .fuel - 1) (d + d) largest) u′ c″)) e
-        ∙ ap (λ (ds : List ℕ). deepen (within (a .variables) (a .words)) (rulesFrom text P R 0 (a .rules)) s u (held termRoom W₀ T₀ t) (term W₀ g) ds k c′)
+        ∙ ap (λ (ds : List ℕ). deepen (within (a .variables) (a .words)) (rulesFrom text P R 0 (a .rules)) s u (held termRoom W₀ T₀ t)
+        (term W₀ g) ds k c′)
         (sym (bounds-next (h .fuel) d largest ld (h .enough)))
         ∙ h .is text
 
@@ -176,11 +191,13 @@ module _ {a : Allowed} {P : List ℕ} {R F₀ F : Rows} {W₀ W : List ℕ} {T�
       found-left = shown [] .left
 
       -- The proof is one tree.
-      told : (text : List ℕ) → verdicts.Proved (rulesFrom text P R 0 (a .rules)) c (held termRoom W₀ T₀ t) (term W₀ g) (held termRoom W′ T′ t₁) (shown text .trees) c₁
+      told : (text : List ℕ) → verdicts.Proved (rulesFrom text P R 0 (a .rules)) c (held termRoom W₀ T₀ t) (term W₀ g)
+          (held termRoom W′ T′ t₁) (shown text .trees) c₁
       told text =
           subst (λ (v : Verdict). verdicts.Says (rulesFrom text P R 0 (a .rules)) c (held termRoom W₀ T₀ t) (term W₀ g) v)
           (sym (value text (found (held termRoom W′ T′ t₁) (shown text .trees) b c₁ u₁) (shown text .value)))
-          (verdicts.deepen-says (within (a .variables) (a .words)) (rulesFrom text P R 0 (a .rules)) s u c (held termRoom W₀ T₀ t) (term W₀ g)
+          (verdicts.deepen-says (within (a .variables) (a .words)) (rulesFrom text P R 0 (a .rules)) s u c (held termRoom W₀ T₀ t)
+          (term W₀ g)
           (h .start .well .form .acyclic) (h .start .well .form .below)
           (below-denote termRoom (cells W₀) c u (h .start .well .form .words) g (h .start .refers)) (bounds largest) 0 c (le-refl c))
 
@@ -215,6 +232,7 @@ module _ {a : Allowed} {P : List ℕ} {R F₀ F : Rows} {W₀ W : List ℕ} {T�
                   ∙ value text (found (held termRoom W′ T′ t₁) (x .trees) b c₁ u₁) (x .value);
               extended = extended;
               room = x .room;
+              count = entries-count W′ F′ 0 n ∙ ap length (x .order ∙ ap flat (told text .only));
               lists = lists-all W′ c₁ u₁ F′ (told text .tree) n (x .nodes) (x .order ∙ ap flat (told text .only));
               framesLong = x .framesLong;
               framesClear = x .framesClear;
@@ -234,7 +252,8 @@ module _ {a : Allowed} {P : List ℕ} {R F₀ F : Rows} {W₀ W : List ℕ} {T�
       counted-on : Counted a W₀ T₀ c t u c₁
       counted-on = let l = fails [] .2 .later in let m = h .counted .later in record { later = omega arith; well = fails [] .2 .well }
 
-      pub deepening-nothing : settled b cut ≡ true → Deepened a P R F₀ F′ W₀ W′ T₀ T′ L₀ L′ M₀ M′ S₀ S′ g largest s c t u (Nothing (s - b) c₁)
+      pub deepening-nothing : settled b cut ≡ true → Deepened a P R F₀ F′ W₀ W′ T₀ T′ L₀ L′ M₀ M′ S₀ S′ g largest s c t u
+          (Nothing (s - b) c₁)
       deepening-nothing q = record {
         answers = λ text. (sym (settle-done s b cut c₁ _ q) ∙ value text (failed b cut c₁) (fails text .0), counted-on, fails text .3);
         links = from-entry .links;

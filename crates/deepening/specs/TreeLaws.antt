@@ -1,4 +1,5 @@
--- The frames turned into a proof's rows, one after another, list the applications in the same order; and rows that list a tree's preorder are the tree's.
+-- The frames turned into a proof's rows, one after another, list the applications in the same order; and rows that list a tree's preorder
+-- are the tree's.
 use Prim.Native.Nat.{ℕ, zero, suc, _+_, _-_, _≤_, _<_}
 use native.Mathlib.Omega.{arith}
 use native.Mathlib.Nat.{le-refl}
@@ -51,25 +52,35 @@ module _ (D : ℕ) (F : Rows) where
       ∙ ap (λ (x : Frame). set (treeRows D F n) n (treeRow (D - x .depth) (x .rule) (x .goal))) y
       ∙ ap (treeRows D F) one
 
-  pub tree-row : (n k : ℕ) → k < n → n ≤ length F → getD (treeRows D F n) k [] ≡ treeRow (D - frameAt F k .depth) (frameAt F k .rule) (frameAt F k .goal)
+  pub tree-row : (n k : ℕ) → k < n → n ≤ length F → getD (treeRows D F n) k []
+      ≡ treeRow (D - frameAt F k .depth) (frameAt F k .rule) (frameAt F k .goal)
   unfolding treeRows
   tree-row zero k l h = absurd (omega arith)
   tree-row (suc n) k l h =
       by-same k n
       (λ p e. ap (λ (j : ℕ). getD (treeRows D F (suc n)) j []) p
-      ∙ getD-set-same (treeRows D F n) n (treeRow (D - frameAt F n .depth) (frameAt F n .rule) (frameAt F n .goal)) [] (let q = tree-length n in omega arith)
+      ∙ getD-set-same (treeRows D F n) n (treeRow (D - frameAt F n .depth) (frameAt F n .rule) (frameAt F n .goal)) []
+      (let q = tree-length n in omega arith)
       ∙ ap (λ (j : ℕ). treeRow (D - frameAt F j .depth) (frameAt F j .rule) (frameAt F j .goal)) (sym p))
       (λ p e. getD-set-other (treeRows D F n) n k (treeRow (D - frameAt F n .depth) (frameAt F n .rule) (frameAt F n .goal)) [] p
       ∙ tree-row n k (omega arith) (omega arith))
 
+-- As many entries as rows.
+pub entries-count : (W : List ℕ) (F : Rows) (p n : ℕ) → n ≡ length (entriesFrom termRoom W F p n)
+unfolding entriesFrom
+entries-count W F p zero = refl
+entries-count W F p (suc n) = ap suc (entries-count W F (suc p) n)
+
 -- Entries at the end of others.
-entries-end : (W : List ℕ) (F : Rows) (p n : ℕ) → entriesFrom termRoom W F p (suc n) ≡ entriesFrom termRoom W F p n ++ (entryOf termRoom W (rowAt F (p + n)) ∷ [])
+entries-end : (W : List ℕ) (F : Rows) (p n : ℕ) → entriesFrom termRoom W F p (suc n)
+    ≡ entriesFrom termRoom W F p n ++ (entryOf termRoom W (rowAt F (p + n)) ∷ [])
 unfolding entriesFrom
 entries-end W F p zero = ap (λ (j : ℕ). entryOf termRoom W (rowAt F j) ∷ []) (let e : p ≡ p + 0 = omega arith in e)
 entries-end W F p (suc n) =
     ap (λ (es : List Entry). entryOf termRoom W (rowAt F p) ∷ es)
     (entries-end W F (suc p) n
-    ∙ ap (λ (j : ℕ). entriesFrom termRoom W F (suc p) n ++ (entryOf termRoom W (rowAt F j) ∷ [])) (let e : suc p + n ≡ p + suc n = omega arith in e))
+    ∙ ap (λ (j : ℕ). entriesFrom termRoom W F (suc p) n ++ (entryOf termRoom W (rowAt F j) ∷ []))
+    (let e : suc p + n ≡ p + suc n = omega arith in e))
 
 module _ (D : ℕ) (F F′ : Rows) (W : List ℕ) (n : ℕ)
     (rows : (k : ℕ) → k < n → getD F′ k [] ≡ treeRow (D - frameAt F k .depth) (frameAt F k .rule) (frameAt F k .goal)) where
@@ -143,7 +154,14 @@ module _ (W : List ℕ) (c u : ℕ) (F : Rows) where
   split (node i g ps) p (suc n) height rest ns e =
       let k = split ps (suc p) n (suc height) rest (λ j a b. ns j (omega arith) (omega arith)) (ap others e) in
       let w = k .whole in
-      record { end = k .end; left = k .left; whole = omega arith; lists = (row-of (ns p (omega arith) (omega arith)) (ap first e), k .lists); behind = k .behind }
+      record {
+        end = k .end;
+        left = k .left;
+        whole = omega arith;
+        lists =
+            (row-of (ns p (omega arith) (omega arith)) (ap first e), k .lists);
+        behind = k .behind;
+      }
   split leaf p n height rest ns e = record { end = p; left = n; whole = refl; lists = refl; behind = e }
   split (t ◂ ts) p n height rest ns e =
       let k = split t p n height (preorder height ts ++ rest) ns (e ∙ append-assoc (preorder height t) (preorder height ts) rest) in

@@ -22,7 +22,8 @@ pub enum Came {
     Failed(u32, bool, u32),
 }
 
-// The end of a bound: a proof's frames become its rows, and what else was written is cleared; without a proof that is all. `bound` and `used` are the
+// The end of a bound: a proof's frames become its rows, and what else was written is cleared; without a proof that is all. `bound` and
+// `used` are the
 // bindings and words at the start.
 fn leave(
     words: &mut [u32],

@@ -26,16 +26,19 @@ use Rattle.search_machine.specs.declared.Allowed.{Allowed}
 use Rattle.search_machine.specs.declared.frames.Frame.{Frame}
 
 -- A rule and those behind it.
-pub rules-cons : (text P : List ℕ) (R : Rows) (n r : ℕ) → r < n → rulesFrom text P R r (n - r) ≡ ruleAt text P R r ∷ rulesFrom text P R (suc r) (n - suc r)
+pub rules-cons : (text P : List ℕ) (R : Rows) (n r : ℕ) → r < n → rulesFrom text P R r (n - r)
+    ≡ ruleAt text P R r ∷ rulesFrom text P R (suc r) (n - suc r)
 rules-cons text P R n r h = ap (rulesFrom text P R r) (let e : n - r ≡ suc (n - suc r) = omega arith in e)
 
 -- A rule's name and sorts are of no concern to an attempt.
 pub attempt-at : (text P : List ℕ) (R : Rows) (r : ℕ) (l : Limits) (β : Bindings) (g : Term) (m c : ℕ)
     → attempt l β g m c (ruleOf P (headsIn (rowAt R r)) (storedIn (rowAt R r))) ≡ attempt l β g m c (ruleAt text P R r)
 unfolding ruleOf
-attempt-at text P R r l β g m c = attempt-looks l β g m c (ruleOf P (headsIn (rowAt R r)) (storedIn (rowAt R r))) (ruleAt text P R r) refl refl
+attempt-at text P R r l β g m c = attempt-looks l β g m c (ruleOf P (headsIn (rowAt R r)) (storedIn (rowAt R r)))
+    (ruleAt text P R r) refl refl
 
-pub body-at : (text P : List ℕ) (R : Rows) (r c : ℕ) → body c (ruleOf P (headsIn (rowAt R r)) (storedIn (rowAt R r))) ≡ body c (ruleAt text P R r)
+pub body-at : (text P : List ℕ) (R : Rows) (r c : ℕ) → body c (ruleOf P (headsIn (rowAt R r)) (storedIn (rowAt R r)))
+    ≡ body c (ruleAt text P R r)
 unfolding ruleOf
 body-at text P R r c = body-looks c (ruleOf P (headsIn (rowAt R r)) (storedIn (rowAt R r))) (ruleAt text P R r) refl refl
 
@@ -53,7 +56,8 @@ pub body-count : (text P : List ℕ) (R : Rows) (r c : ℕ) → count (body c (r
 body-count text P R r c = count-sub (fresh c (allVars (ruleAt text P R r))) (ruleAt text P R r .premises)
 
 -- Terms of a list in order.
-terms-span : (h : ℕ → Term) (f g : ℕ → ℕ) (i : ℕ) (rs : List ℕ) → ((k : ℕ) → k < length rs → f (getD rs k 0) ≡ g (i + k)) → termsOf h (map f rs) ≡ span (λ (k : ℕ). h (g k)) i (length rs)
+terms-span : (h : ℕ → Term) (f g : ℕ → ℕ) (i : ℕ) (rs : List ℕ) → ((k : ℕ) → k < length rs → f (getD rs k 0) ≡ g (i + k))
+    → termsOf h (map f rs) ≡ span (λ (k : ℕ). h (g k)) i (length rs)
 terms-span h f g i [] e = refl
 terms-span h f g i (r ∷ rs) e =
     ap₂ cons (ap h (e 0 (omega arith) ∙ ap g (let q : i + 0 ≡ i = omega arith in q)))
@@ -61,21 +65,29 @@ terms-span h f g i (r ∷ rs) e =
 
 -- The premises of an application that was just entered.
 pub body-span : (text P : List ℕ) (R : Rows) (W : List ℕ) (x : Frame)
-    → termsOf (denote termRoom (cells W)) (map (premiseAt (placesIn (rowAt R (x .rule))) (x .counter) (storedIn (rowAt R (x .rule))) (x .used)) (headsIn (rowAt R (x .rule)))) ≡ body (x .counter) (ruleOf P (headsIn (rowAt R (x .rule))) (storedIn (rowAt R (x .rule))))
+    → termsOf (denote termRoom (cells W)) (map (premiseAt (placesIn (rowAt R (x .rule))) (x .counter) (storedIn (rowAt R (x .rule)))
+    (x .used)) (headsIn (rowAt R (x .rule)))) ≡ body (x .counter)
+    (ruleOf P (headsIn (rowAt R (x .rule))) (storedIn (rowAt R (x .rule))))
     → body (x .counter) (ruleAt text P R (x .rule)) ≡ span (λ (k : ℕ). term W (premiseRef R x k)) 0 (arity R (x .rule))
 unfolding arity premiseRef
 body-span text P R W x e =
     sym (body-at text P R (x .rule) (x .counter)) ∙ sym e
-    ∙ terms-span (denote termRoom (cells W)) (premiseAt (placesIn (rowAt R (x .rule))) (x .counter) (storedIn (rowAt R (x .rule))) (x .used))
-    (λ (k : ℕ). premiseAt (placesIn (rowAt R (x .rule))) (x .counter) (storedIn (rowAt R (x .rule))) (x .used) (getD (headsIn (rowAt R (x .rule))) k 0)) 0 (headsIn (rowAt R (x .rule)))
-    (λ k l. ap (λ (j : ℕ). premiseAt (placesIn (rowAt R (x .rule))) (x .counter) (storedIn (rowAt R (x .rule))) (x .used) (getD (headsIn (rowAt R (x .rule))) j 0)) (let q : k ≡ 0 + k = omega arith in q))
-    ∙ ap (span (λ (k : ℕ). term W (premiseAt (placesIn (rowAt R (x .rule))) (x .counter) (storedIn (rowAt R (x .rule))) (x .used) (getD (headsIn (rowAt R (x .rule))) k 0))) 0) (columns-length (rowAt R (x .rule)) 10 (column (rowAt R (x .rule)) 4))
+    ∙ terms-span (denote termRoom (cells W)) (premiseAt (placesIn (rowAt R (x .rule))) (x .counter) (storedIn (rowAt R (x .rule)))
+    (x .used))
+    (λ (k : ℕ). premiseAt (placesIn (rowAt R (x .rule))) (x .counter) (storedIn (rowAt R (x .rule))) (x .used)
+    (getD (headsIn (rowAt R (x .rule))) k 0)) 0 (headsIn (rowAt R (x .rule)))
+    (λ k l. ap (λ (j : ℕ). premiseAt (placesIn (rowAt R (x .rule))) (x .counter) (storedIn (rowAt R (x .rule))) (x .used)
+    (getD (headsIn (rowAt R (x .rule))) j 0)) (let q : k ≡ 0 + k = omega arith in q))
+    ∙ ap (span (λ (k : ℕ). term W (premiseAt (placesIn (rowAt R (x .rule))) (x .counter) (storedIn (rowAt R (x .rule))) (x .used)
+    (getD (headsIn (rowAt R (x .rule))) k 0))) 0) (columns-length (rowAt R (x .rule)) 10 (column (rowAt R (x .rule)) 4))
 
 -- The state of an attempt.
-pub well-state : {a : Allowed} {W : List ℕ} {T L M S : Rows} {c t u : ℕ} → Well a W T c t u → Scratch termRoom (a .words) L M S → State (a .variables) (a .words) W T L M S c u t
+pub well-state : {a : Allowed} {W : List ℕ} {T L M S : Rows} {c t u : ℕ} → Well a W T c t u → Scratch termRoom (a .words) L M S
+    → State (a .variables) (a .words) W T L M S c u t
 well-state w s = record { form = w .form; scratch = s; lentWords = w .lentWords; lentRows = w .lentRows; enough = w .enough; low = w .low }
 
-pub row-asked : {a : Allowed} {P : List ℕ} {R : Rows} {W : List ℕ} {T L M S : Rows} {c t u g r : ℕ} → RulesStored P R (a .rules) → Well a W T c t u → Scratch termRoom (a .words) L M S
+pub row-asked : {a : Allowed} {P : List ℕ} {R : Rows} {W : List ℕ} {T L M S : Rows} {c t u g r : ℕ} → RulesStored P R (a .rules)
+    → Well a W T c t u → Scratch termRoom (a .words) L M S
     → Refers W c u g → r < a .rules → RowAsked (a .variables) (a .words) P R W T L M S c u t g r
 row-asked {r = r} rs w s h l =
     let e = rs .lent in

@@ -1,4 +1,5 @@
--- What the storage denotes stays, where words are written behind those in use, variables are added, and frames are put behind those that stand.
+-- What the storage denotes stays, where words are written behind those in use, variables are added, and frames are put behind those that
+-- stand.
 use Prim.Native.Nat.{ℕ, zero, suc, _+_, _-_, _≤_, _<_}
 use native.Mathlib.Omega.{arith}
 use mathlib.Core.Path.{_≡_, refl, ap, ap₂, sym, _∙_, subst}
@@ -19,7 +20,8 @@ use Rattle.resolution.specs.Preorder.{Entry, entry}
 use Rattle.attempts.specs.Contracts.{Added}
 use Rattle.attempts.specs.Extending.{held-older, form-back}
 use Rattle.attempts.specs.Keeping.{added-none, added-both}
-use Rattle.search_machine.specs.State.{term, Refers, span, arity, frameAt, premiseRef, pending, Place, top, inside, entries, Start, Above, FrameOk, Stack}
+use Rattle.search_machine.specs.State.{term, Refers, span, arity, frameAt, premiseRef, pending, Place, top, inside, entries}
+use Rattle.search_machine.specs.State.{Start, Above, FrameOk, Stack}
 use Rattle.search_machine.specs.declared.Allowed.{Allowed}
 use Rattle.search_machine.specs.declared.frames.Frame.{Frame}
 
@@ -61,7 +63,8 @@ module _ (W W′ : List ℕ) (v u : ℕ) (wf : WellFormed termRoom (cells W) v u
       → ((k : ℕ) → k < arity R (x .rule) → Refers W v u (premiseRef R x k)) → pending R W′ x i w ≡ pending R W x i w
   pending-kept R x i w li g ps =
       ap₂ (λ (ts : Terms) (t : Term). goals ts (x .depth) (build (x .rule) t (arity R (x .rule)) ∷ w))
-      (span-same (λ (k : ℕ). term W′ (premiseRef R x k)) (λ (k : ℕ). term W (premiseRef R x k)) i (arity R (x .rule) - i) (λ j a b. term-kept (premiseRef R x j) (ps j (omega arith))))
+      (span-same (λ (k : ℕ). term W′ (premiseRef R x k)) (λ (k : ℕ). term W (premiseRef R x k)) i (arity R (x .rule) - i)
+      (λ j a b. term-kept (premiseRef R x j) (ps j (omega arith))))
       (term-kept (x .goal) g)
 
   pub place-kept : (D n : ℕ) (R F F′ : Rows) (k v′ u′ : ℕ) → SameFrames k F F′ → v ≤ v′ → u ≤ u′ → {p i : ℕ} {ws : List Work} → p ≤ k
@@ -73,7 +76,8 @@ module _ (W W′ : List ℕ) (v u : ℕ) (wf : WellFormed termRoom (cells W) v u
       (place-kept D n R F F′ k v′ u′ sf lv lu (omega arith) outer) level (q ∙ sym (pending-kept R x i w li g ps))
 
 module _ (a : Allowed) (P : List ℕ) (R F F′ : Rows) (z : Start) (W W′ : List ℕ) where
-  pub entries-kept : (T : Rows) (n c t u : ℕ) (fs : List Branch) → SameFrames n F F′ → Same termRoom (cells W) (cells W′) u → Stack a P R F z W T n c t u fs
+  pub entries-kept : (T : Rows) (n c t u : ℕ) (fs : List Branch) → SameFrames n F F′ → Same termRoom (cells W) (cells W′) u
+      → Stack a P R F z W T n c t u fs
       → entries (z .depth) F′ W′ n ≡ entries (z .depth) F W n
   entries-kept T zero c t u fs sf same k = refl
   entries-kept T (suc n) c t u [] sf same k = absurd k
@@ -82,10 +86,12 @@ module _ (a : Allowed) (P : List ℕ) (R F F′ : Rows) (z : Start) (W W′ : Li
       ap₂ (λ (es : List Entry) (e : Entry). es ++ (e ∷ []))
       (entries-kept T₁ n c (x .bound) (x .used) fs (λ j l. sf j (omega arith)) (λ i l. same i (omega arith)) k)
       (ap (λ (y : Frame). entry (z .depth - y .depth) (y .rule) (term W′ (y .goal))) (sf n (omega arith) ∙ ok .reads)
-      ∙ ap (entry (z .depth - x .depth) (x .rule)) (term-kept W W′ c (x .used) (ok .form .words) (λ i l. same i (omega arith)) (x .goal) (ok .refers))
+      ∙ ap (entry (z .depth - x .depth) (x .rule)) (term-kept W W′ c (x .used) (ok .form .words) (λ i l. same i (omega arith)) (x .goal)
+      (ok .refers))
       ∙ ap (λ (y : Frame). entry (z .depth - y .depth) (y .rule) (term W (y .goal))) (sym (ok .reads)))
 
-  pub stack-kept : (T : Rows) (n c c′ t u : ℕ) (fs : List Branch) → SameFrames n F F′ → Same termRoom (cells W) (cells W′) u → length W′ ≡ length W
+  pub stack-kept : (T : Rows) (n c c′ t u : ℕ) (fs : List Branch) → SameFrames n F F′ → Same termRoom (cells W) (cells W′) u
+      → length W′ ≡ length W
       → c ≤ c′ → c′ ≤ termRoom → c′ ≤ length T → Stack a P R F z W T n c t u fs → Stack a P R F′ z W′ T n c′ t u fs
   stack-kept T zero c c′ t u [] sf same long more few lent k =
       let e = k .used in record { bound = k .bound; used = e; rows = k .rows; same = λ i l. k .same i l ∙ same i (omega arith) }
@@ -109,13 +115,15 @@ module _ (a : Allowed) (P : List ℕ) (R F F′ : Rows) (z : Start) (W W′ : Li
           rule = ok .rule;
           others = ok .others;
           known = ok .known;
-          rest = place-kept W W′ c (x .used) (ok .form .words) same₁ (z .depth) (a .rules) R F F′ n c′ (x .used) sf₁ more (omega arith) (ok .parent) (ok .rest);
+          rest = place-kept W W′ c (x .used) (ok .form .words) same₁ (z .depth) (a .rules) R F F′ n c′ (x .used) sf₁ more (omega arith)
+              (ok .parent) (ok .rest);
           parent = ok .parent;
           refers = refers-kept W W′ c (x .used) (ok .form .words) same₁ c′ (x .used) (x .goal) more (omega arith) (ok .refers);
           below = ok .below;
           added = ok .added;
           form = form-back (ok .form) W′ same₁ c′ more few lent₁ long;
-          formed = λ rs s. form-same W W′ 0 (x .used) termRoom c c′ (z .arities) (omega arith) lw (omega arith) more same₁ (ok .formed rs s);
+          formed = λ rs s. form-same W W′ 0 (x .used) termRoom c c′ (z .arities) (omega arith) lw (omega arith) more same₁
+              (ok .formed rs s);
           level = ok .level;
           order = entries-kept T₁ n c (x .bound) (x .used) fs sf₁ same₁ k ∙ ok .order;
           fits = ok .fits;
@@ -124,13 +132,15 @@ module _ (a : Allowed) (P : List ℕ) (R F F′ : Rows) (z : Start) (W W′ : Li
       )
 
 -- The session stands below the frames.
-pub stack-above : (a : Allowed) (P : List ℕ) (R F : Rows) (z : Start) (W : List ℕ) (T : Rows) (n c t u : ℕ) (fs : List Branch) → Stack a P R F z W T n c t u fs → Above W T z t u
+pub stack-above : (a : Allowed) (P : List ℕ) (R F : Rows) (z : Start) (W : List ℕ) (T : Rows) (n c t u : ℕ) (fs : List Branch)
+    → Stack a P R F z W T n c t u fs → Above W T z t u
 stack-above a P R F z W T zero c t u [] k =
     let e = k .used in
     record {
       words = omega arith;
       same = k .same;
-      added = subst (λ (b : Rows). Added (z .rows) b (z .bound) t) (sym (k .rows)) (subst (λ (j : ℕ). Added (z .rows) (z .rows) (z .bound) j) (sym (k .bound)) (added-none (z .rows) (z .bound)));
+      added = subst (λ (b : Rows). Added (z .rows) b (z .bound) t) (sym (k .rows))
+          (subst (λ (j : ℕ). Added (z .rows) (z .rows) (z .bound) j) (sym (k .bound)) (added-none (z .rows) (z .bound)));
     }
 stack-above a P R F z W T zero c t u (f ∷ fs) k = absurd k
 stack-above a P R F z W T (suc n) c t u [] k = absurd k
@@ -146,5 +156,7 @@ stack-refers a P R F z W T zero c t u fs k i l = absurd (omega arith)
 stack-refers a P R F z W T (suc n) c t u [] k i l = absurd k
 stack-refers a P R F z W T (suc n) c t u (f ∷ fs) (x, T₁, ok, k) i l =
     by-same i n
-    (λ p e. subst (λ (y : Frame). Refers W c u (y .goal)) (sym (ok .reads) ∙ ap (frameAt F) (sym p)) (reference-up termRoom (omega arith) (ok .below) (ok .refers)))
-    (λ p e. reference-up termRoom (omega arith) (ok .below) (stack-refers a P R F z W T₁ n c (x .bound) (x .used) fs k i (let q : i < n = omega (arith, p) in q)))
+    (λ p e. subst (λ (y : Frame). Refers W c u (y .goal)) (sym (ok .reads) ∙ ap (frameAt F) (sym p))
+    (reference-up termRoom (omega arith) (ok .below) (ok .refers)))
+    (λ p e. reference-up termRoom (omega arith) (ok .below) (stack-refers a P R F z W T₁ n c (x .bound) (x .used) fs k i
+    (let q : i < n = omega (arith, p) in q)))

@@ -1,4 +1,5 @@
--- Passing over rules by arithmetic: what the functions ask and leave. The header that a goal leads to is read once; a rule whose conclusion has another one
+-- Passing over rules by arithmetic: what the functions ask and leave. The header that a goal leads to is read once; a rule whose
+-- conclusion has another one
 -- is passed over as the attempt would, and nothing is written.
 use Prim.Native.Nat.{ℕ, _+_, _-_, _≤_, _<_}
 use mathlib.Core.Path.{_≡_}
@@ -28,7 +29,8 @@ pub record Goal (W : List ℕ) (T : Rows) (v u t g : ℕ) : Type 0 where
 
 -- The goal leads to a node with the header h, so that a pattern's node with another header clashes with it; or h is 0, which tells nothing.
 pub record Heads (W : List ℕ) (T : Rows) (v u t g h : ℕ) : Type 0 where
-  pub clash : (P : List ℕ) (s : ℕ) → Comparable P W T v u t g s → patternRoom ≤ s → h ≢ 0 → cells P (s - patternRoom) ≢ h → Clashes P W T t g s
+  pub clash : (P : List ℕ) (s : ℕ) → Comparable P W T v u t g s → patternRoom ≤ s → h ≢ 0 → cells P (s - patternRoom) ≢ h
+      → Clashes P W T t g s
 
 -- A rule's row is there, and so is the header of its conclusion.
 pub record Readable (R : Rows) (P : List ℕ) (r : ℕ) : Type 0 where

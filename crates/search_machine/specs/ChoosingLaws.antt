@@ -50,7 +50,8 @@ module _ {W : List ℕ} {T : Rows} {v u t g q : ℕ} (walked : Walked termRoom W
 
 -- One rule
 
-module _ {most limit : ℕ} {P : List ℕ} {R : Rows} {W : List ℕ} {T L M S : Rows} {c u t g r : ℕ} (asked : RowAsked most limit P R W T L M S c u t g r) where
+module _ {most limit : ℕ} {P : List ℕ} {R : Rows} {W : List ℕ} {T L M S : Rows} {c u t g r : ℕ}
+    (asked : RowAsked most limit P R W T L M S c u t g r) where
   row-comparable : Comparable P W T c u t g (column (rowAt R r) 5)
   row-comparable = head-comparable (head-asked (asked .asked))
 
@@ -62,7 +63,8 @@ module _ {most limit : ℕ} {P : List ℕ} {R : Rows} {W : List ℕ} {T L M S : 
   }
 
   -- No sum is too large.
-  row-small : (u + column (rowAt R r) 8 ≤ headers + headers) × (u + column (rowAt R r) 8 + column (rowAt R r) 7 ≤ headers + headers + headers)
+  row-small : (u + column (rowAt R r) 8 ≤ headers + headers) × (u + column (rowAt R r) 8 + column
+      (rowAt R r) 7 ≤ headers + headers + headers)
       × (c + column (rowAt R r) 9 ≤ headers)
   row-small =
       let s = asked .asked .rule in
@@ -79,7 +81,8 @@ module _ {most limit : ℕ} {P : List ℕ} {R : Rows} {W : List ℕ} {T L M S : 
   row-over e = refused-way (asked .asked) (head-refused (head-asked (asked .asked)) e) refl
 
   -- Its conclusion clashes with the goal.
-  row-passed : over (within most limit) (c + column (rowAt R r) 9) (u + column (rowAt R r) 8) ≡ false → Clashes P W T t g (column (rowAt R r) 5)
+  row-passed : over (within most limit) (c + column (rowAt R r) 9) (u + column (rowAt R r) 8) ≡ false
+      → Clashes P W T t g (column (rowAt R r) 5)
       → RowTried most limit P R W W T T L L M M S S c u t g r (Missed (c + column (rowAt R r) 9))
   row-passed e k = missed-way (asked .asked) (head-clashes (head-asked (asked .asked)) e k) refl
 
@@ -90,7 +93,8 @@ module _ {a : Allowed} {P : List ℕ} {R : Rows} {W : List ℕ} {T : Rows} {m : 
   at-start F z o h = case-at h (choosing .mode)
 
   asked-at : (r : ℕ) → r < a .rules
-      → RowAsked (a .variables) (a .words) P R W T (choosing .links) (choosing .marks) (choosing .stack) (m .counter) (m .used) (m .bound) (m .goal) r
+      → RowAsked (a .variables) (a .words) P R W T (choosing .links) (choosing .marks) (choosing .stack) (m .counter) (m .used) (m .bound)
+      (m .goal) r
   asked-at r l =
       let h = at-start (choosing .frames) (choosing .start) (choosing .result) (choosing .holds) in
       row-asked (choosing .holds .rules) (h .well) (choosing .scratch) (h .refers) l
@@ -103,7 +107,8 @@ module _ {a : Allowed} {P : List ℕ} {R : Rows} {W : List ℕ} {T : Rows} {m : 
   pub choosing-readable : (r : ℕ) → r < a .rules → Readable R P r
   choosing-readable r l = row-readable (asked-at r l)
 
-  trying-same : (F : Rows) (z : Start) (o : Result) → Trying a P R F W T z o m → Trying a P R F W T z o (toRule m (m .rule) (m .counter) (m .top))
+  trying-same : (F : Rows) (z : Start) (o : Result) → Trying a P R F W T z o m
+      → Trying a P R F W T z o (toRule m (m .rule) (m .counter) (m .top))
   trying-same F z o h = record {
     work = h .work;
     trees = h .trees;
@@ -135,7 +140,8 @@ module _ {a : Allowed} {P : List ℕ} {R : Rows} {W : List ℕ} {T : Rows} {m : 
     trying F z o h = case-at (passing .keeps F z o h) refl
 
     asked-now : r < a .rules
-        → RowAsked (a .variables) (a .words) P R W T (choosing .links) (choosing .marks) (choosing .stack) c (m .used) (m .bound) (m .goal) r
+        → RowAsked (a .variables) (a .words) P R W T (choosing .links) (choosing .marks) (choosing .stack) c (m .used) (m .bound)
+        (m .goal) r
     asked-now l =
         let h = trying (choosing .frames) (choosing .start) (choosing .result) (choosing .holds) in
         row-asked (choosing .holds .rules) (h .well) (choosing .scratch) (h .refers) l
@@ -167,7 +173,8 @@ module _ {a : Allowed} {P : List ℕ} {R : Rows} {W : List ℕ} {T : Rows} {m : 
         }
 
     -- The limits refuse it.
-    pub passing-over : r < a .rules → over (within (a .variables) (a .words)) (c + column (rowAt R r) 9) (m .used + column (rowAt R r) 8) ≡ true
+    pub passing-over : r < a .rules → over (within (a .variables) (a .words)) (c + column (rowAt R r) 9) (m .used + column (rowAt R r) 8)
+        ≡ true
         → Chosen a P R W T m (toStop (toRule m r c (m .top)) Refused (m .steps))
     passing-over l e = record {
       keeps = λ F z o h. holds-on (passing .keeps F z o h) (omega arith) (omega arith) (omega arith) refl refl (λ i q. refl)
@@ -176,7 +183,8 @@ module _ {a : Allowed} {P : List ℕ} {R : Rows} {W : List ℕ} {T : Rows} {m : 
     }
 
     -- It has to be tried.
-    pub passing-found : (top : ℕ) → r < a .rules → m .top ≤ top → m .used + column (rowAt R r) 8 + column (rowAt R r) 7 ≤ top → Chosen a P R W T m (toRule m r c top)
+    pub passing-found : (top : ℕ) → r < a .rules → m .top ≤ top → m .used + column (rowAt R r) 8 + column (rowAt R r) 7 ≤ top
+        → Chosen a P R W T m (toRule m r c top)
     passing-found top l above reach = record {
       keeps = λ F z o h.
           let n = trying F z o h in
@@ -212,12 +220,14 @@ module _ {a : Allowed} {P : List ℕ} {R : Rows} {W : List ℕ} {T : Rows} {m : 
       goes = λ F. let q = at-try in falls-mode (a .rules) F m (toFail (toRule m r c (m .top)) (m .steps) (m .cut)) refl refl (omega arith);
     }
 
-pub chosen-as : {a : Allowed} {P : List ℕ} {R : Rows} {W : List ℕ} {T : Rows} {m r m′ : Machine} → r ≡ m′ → Chosen a P R W T m m′ → Chosen a P R W T m r
+pub chosen-as : {a : Allowed} {P : List ℕ} {R : Rows} {W : List ℕ} {T : Rows} {m r m′ : Machine} → r ≡ m′ → Chosen a P R W T m m′
+    → Chosen a P R W T m r
 chosen-as {a} {P} {R} {W} {T} {m} e h = subst (λ (r : Machine). Chosen a P R W T m r) (sym e) h
 
 -- A step after it
 
-module _ {a : Allowed} {P : List ℕ} {R F : Rows} {W : List ℕ} {T L M S : Rows} {m : Machine} (ready : Ready a P R F W T L M S m) (e : m .mode ≡ Try) where
+module _ {a : Allowed} {P : List ℕ} {R F : Rows} {W : List ℕ} {T L M S : Rows} {m : Machine} (ready : Ready a P R F W T L M S m)
+    (e : m .mode ≡ Try) where
   pub ready-choosing : Choosing a P R W T m
   ready-choosing = record {
     mode = e;
@@ -248,7 +258,8 @@ module _ {a : Allowed} {P : List ℕ} {R F : Rows} {W : List ℕ} {T L M S : Row
     chosen-choice q = goes-at Try q .0
 
     -- The rule was tried.
-    pub chosen-tried : n .mode ≡ Try → {F′ : Rows} {W′ : List ℕ} {T′ L′ M′ S′ : Rows} {r : Machine} → Stepped a P R F F′ W W′ T T′ L L′ M M′ S S′ n r
+    pub chosen-tried : n .mode ≡ Try → {F′ : Rows} {W′ : List ℕ} {T′ L′ M′ S′ : Rows} {r : Machine}
+        → Stepped a P R F F′ W W′ T T′ L L′ M M′ S S′ n r
         → Stepped a P R F F′ W W′ T T′ L L′ M M′ S S′ m r
     chosen-tried q s = record {
       keeps = λ z o h. s .keeps z o (chosen .keeps F z o h);
@@ -259,7 +270,8 @@ module _ {a : Allowed} {P : List ℕ} {R F : Rows} {W : List ℕ} {T L M S : Row
     }
 
     -- There is none.
-    pub chosen-stops : (k : Mode) → n .mode ≡ k → (Onward a R m n k → measure (a .rules) F n < measure (a .rules) F m) → Stepped a P R F F W W T T L L M M S S m n
+    pub chosen-stops : (k : Mode) → n .mode ≡ k → (Onward a R m n k → measure (a .rules) F n < measure (a .rules) F m)
+        → Stepped a P R F F W W T T L L M M S S m n
     chosen-stops k q f = record {
       keeps = λ z o h. chosen .keeps F z o h;
       falls = f (goes-at k q);

@@ -14,21 +14,27 @@ use Rattle.resolution.specs.Search.{Work, goal, build, goals, built, Result, tr
 use Rattle.resolution.specs.Machine.{search, orCut, resume, enter-out, enter-done, enter-build, enter-cut, enter-goal}
 use Rattle.resolution.specs.Preorder.{builds, builds-goals, made, made-build, Fits, fits-less}
 use Rattle.search_machine.specs.Storage.{PremiseAsked}
-use Rattle.search_machine.specs.State.{term, Refers, span, rulesFrom, arity, RulesStored, frameAt, premiseRef, pending, Place, Start, limits, allRules, Entering, Trying, Failing, Proving}
+use Rattle.search_machine.specs.State.{term, Refers, span, rulesFrom, arity, RulesStored, frameAt, premiseRef, pending}
+use Rattle.search_machine.specs.State.{Place, Start, limits, allRules, Entering, Trying, Failing, Proving}
 use Rattle.search_machine.specs.Moves.{toPlace, toFail, toStop, toGoal}
 use Rattle.search_machine.specs.Carry.{stack-above, stack-refers}
-use Rattle.search_machine.specs.Places.{Within, place-within, place-small, place-top, place-next, pending-goal, pending-build, premise-asked}
+use Rattle.search_machine.specs.Places.{Within, place-within, place-small, place-top, place-next, pending-goal}
+use Rattle.search_machine.specs.Places.{pending-build, premise-asked}
 use Rattle.search_machine.specs.declared.Allowed.{Allowed}
 use Rattle.search_machine.specs.declared.Machine.{Machine}
 use Rattle.search_machine.specs.declared.Mode.the-variants.{Proved}
 use Rattle.search_machine.specs.declared.frames.Frame.{Frame}
 
-module _ (a : Allowed) (P : List ℕ) (R F : Rows) (W : List ℕ) (T : Rows) (z : Start) (o : Result) (m : Machine) (h : Entering a P R F W T z o m) where
+module _ (a : Allowed) (P : List ℕ) (R F : Rows) (W : List ℕ) (T : Rows) (z : Start) (o : Result) (m : Machine)
+    (h : Entering a P R F W T z o m) where
   -- The state's meaning, with the steps and the work as they are found.
   value-at : (b : ℕ) (w : List Work) → m .steps ≡ b → h .work ≡ w
-      → resume (limits a P R F) (allRules a P R F z) (h .branches) (orCut (m .cut) (search (limits a P R F) (allRules a P R F z) b (m .counter) (m .used) (held termRoom W T (m .bound)) w (h .trees))) ≡ o
+      → resume (limits a P R F) (allRules a P R F z) (h .branches) (orCut (m .cut)
+      (search (limits a P R F) (allRules a P R F z) b (m .counter) (m .used) (held termRoom W T (m .bound)) w (h .trees))) ≡ o
   value-at b w eb ew =
-      ap₂ (λ (b : ℕ) (w : List Work). resume (limits a P R F) (allRules a P R F z) (h .branches) (orCut (m .cut) (search (limits a P R F) (allRules a P R F z) b (m .counter) (m .used) (held termRoom W T (m .bound)) w (h .trees)))) (sym eb) (sym ew)
+      ap₂ (λ (b : ℕ) (w : List Work). resume (limits a P R F) (allRules a P R F z) (h .branches)
+      (orCut (m .cut) (search (limits a P R F) (allRules a P R F z) b (m .counter) (m .used) (held termRoom W T (m .bound)) w
+      (h .trees)))) (sym eb) (sym ew)
       ∙ h .value
 
   pub entry-out : m .steps ≡ 0 → Failing a P R F W T z o (toFail m 0 (m .cut))
@@ -39,7 +45,8 @@ module _ (a : Allowed) (P : List ℕ) (R F : Rows) (W : List ℕ) (T : Rows) (z 
         stack = h .stack;
         well = h .well;
         room = omega arith;
-        value = sym (enter-out (limits a P R F) (allRules a P R F z) (h .branches) (m .cut) (m .counter) (m .used) (held termRoom W T (m .bound)) (h .work) (h .trees)) ∙ value-at 0 (h .work) e refl;
+        value = sym (enter-out (limits a P R F) (allRules a P R F z) (h .branches) (m .cut) (m .counter) (m .used)
+            (held termRoom W T (m .bound)) (h .work) (h .trees)) ∙ value-at 0 (h .work) e refl;
       }
 
   pub entry-proof : 0 < m .steps → m .parent ≡ 0 → Proving a P R F W T z o (toStop m Proved (m .steps - 1))
@@ -53,7 +60,8 @@ module _ (a : Allowed) (P : List ℕ) (R F : Rows) (W : List ℕ) (T : Rows) (z 
         well = h .well;
         formed = h .formed;
         above = stack-above a P R F z W T (m .frames) (m .counter) (m .bound) (m .used) (h .branches) (h .stack);
-        value = sym (enter-done (limits a P R F) (allRules a P R F z) (h .branches) (m .cut) (m .steps - 1) (m .counter) (m .used) (held termRoom W T (m .bound)) (h .trees)) ∙ value-at (suc (m .steps - 1)) [] (omega arith) w;
+        value = sym (enter-done (limits a P R F) (allRules a P R F z) (h .branches) (m .cut) (m .steps - 1) (m .counter) (m .used)
+            (held termRoom W T (m .bound)) (h .trees)) ∙ value-at (suc (m .steps - 1)) [] (omega arith) w;
       }
 
   module _ (x : Frame) (rd : x ≡ frameAt F (m .parent - 1)) (ls : 0 < m .steps) (lp : 0 < m .parent) where
@@ -65,7 +73,8 @@ module _ (a : Allowed) (P : List ℕ) (R F : Rows) (W : List ℕ) (T : Rows) (z 
 
     pub entry-built : m .place ≡ arity R (x .rule) → Entering a P R F W T z o (toPlace m (x .parent) (x .place + 1) (m .steps - 1))
     entry-built e =
-        let w : h .work ≡ build (x .rule) (term W (x .goal)) (arity R (x .rule)) ∷ at .rest = at .works ∙ pending-build R W x (m .place) (at .rest) e in
+        let w : h .work ≡ build (x .rule) (term W (x .goal)) (arity R (x .rule)) ∷ at .rest = at .works
+        ∙ pending-build R W x (m .place) (at .rest) e in
         let f : Fits 0 (build (x .rule) (term W (x .goal)) (arity R (x .rule)) ∷ at .rest) = subst (Fits 0) w (h .fits) in
         let one : suc (x .place) ≡ x .place + 1 = omega arith in
         let r = h .room in
@@ -78,12 +87,14 @@ module _ (a : Allowed) (P : List ℕ) (R F : Rows) (W : List ℕ) (T : Rows) (z 
           place = subst (λ (i : ℕ). Place (z .depth) (a .rules) R F W (m .counter) (m .used) (x .parent) i (at .rest)) one (at .outer);
           within = omega arith;
           stack = h .stack;
-          order = h .order ∙ ap (λ (w : List Work). made 0 w (h .trees)) w ∙ made-build (x .rule) (term W (x .goal)) (arity R (x .rule)) (at .rest) (h .trees) f;
+          order = h .order ∙ ap (λ (w : List Work). made 0 w (h .trees)) w
+              ∙ made-build (x .rule) (term W (x .goal)) (arity R (x .rule)) (at .rest) (h .trees) f;
           fits = fits-less 1 0 (at .rest) (omega arith) (f .1);
           well = h .well;
           formed = h .formed;
           room = omega arith;
-          value = sym (enter-build (limits a P R F) (allRules a P R F z) (h .branches) (m .cut) (m .steps - 1) (m .counter) (m .used) (held termRoom W T (m .bound)) (x .rule) (term W (x .goal)) (arity R (x .rule)) (at .rest) (h .trees))
+          value = sym (enter-build (limits a P R F) (allRules a P R F z) (h .branches) (m .cut) (m .steps - 1) (m .counter) (m .used)
+              (held termRoom W T (m .bound)) (x .rule) (term W (x .goal)) (arity R (x .rule)) (at .rest) (h .trees))
               ∙ value-at (suc (m .steps - 1)) (build (x .rule) (term W (x .goal)) (arity R (x .rule)) ∷ at .rest) (omega arith) w;
         }
 
@@ -103,8 +114,10 @@ module _ (a : Allowed) (P : List ℕ) (R F : Rows) (W : List ℕ) (T : Rows) (z 
             stack = h .stack;
             well = h .well;
             room = omega arith;
-            value = sym (enter-cut (limits a P R F) (allRules a P R F z) (h .branches) (m .cut) (m .steps - 1) (m .counter) (m .used) (held termRoom W T (m .bound)) (term W (premiseRef R x (m .place))) (pending R W x (suc (m .place)) (at .rest)) (h .trees))
-                ∙ value-at (suc (m .steps - 1)) (goal (term W (premiseRef R x (m .place))) 0 ∷ pending R W x (suc (m .place)) (at .rest)) (omega arith) w;
+            value = sym (enter-cut (limits a P R F) (allRules a P R F z) (h .branches) (m .cut) (m .steps - 1) (m .counter) (m .used)
+                (held termRoom W T (m .bound)) (term W (premiseRef R x (m .place))) (pending R W x (suc (m .place)) (at .rest)) (h .trees))
+                ∙ value-at (suc (m .steps - 1)) (goal (term W (premiseRef R x (m .place))) 0 ∷ pending R W x (suc (m .place)) (at .rest))
+                (omega arith) w;
           }
 
       pub entry-asked : RulesStored P R (a .rules) → PremiseAsked R x (m .place)
@@ -114,10 +127,12 @@ module _ (a : Allowed) (P : List ℕ) (R F : Rows) (W : List ℕ) (T : Rows) (z 
       entry-goal ld =
           let g : Term = term W (premiseRef R x (m .place)) in
           let w₁ : List Work = pending R W x (suc (m .place)) (at .rest) in
-          let w : h .work ≡ goal g (suc (x .depth - 1)) ∷ w₁ = first-goal ∙ ap (λ (d : ℕ). goal g d ∷ w₁) (let e : x .depth ≡ suc (x .depth - 1) = omega arith in e) in
+          let w : h .work ≡ goal g (suc (x .depth - 1)) ∷ w₁ = first-goal
+          ∙ ap (λ (d : ℕ). goal g d ∷ w₁) (let e : x .depth ≡ suc (x .depth - 1) = omega arith in e) in
           let r = h .room in
           let lv = at .level in
-          let bg = builds-goals (span (λ (k : ℕ). term W (premiseRef R x k)) (suc (m .place)) (arity R (x .rule) - suc (m .place))) (x .depth) (build (x .rule) (term W (x .goal)) (arity R (x .rule)) ∷ at .rest) in
+          let bg = builds-goals (span (λ (k : ℕ). term W (premiseRef R x k)) (suc (m .place)) (arity R (x .rule) - suc (m .place)))
+          (x .depth) (build (x .rule) (term W (x .goal)) (arity R (x .rule)) ∷ at .rest) in
           record {
             work = w₁;
             trees = h .trees;
@@ -133,7 +148,11 @@ module _ (a : Allowed) (P : List ℕ) (R F : Rows) (W : List ℕ) (T : Rows) (z 
             refers = at .premises (m .place) more;
             known = omega arith;
             level = omega arith;
-            value = ap (λ (k : ℕ). resume (limits a P R F) (allRules a P R F z) (h .branches) (tries (limits a P R F) (search (limits a P R F) (allRules a P R F z)) (held termRoom W T (m .bound)) g (x .depth - 1) w₁ (h .trees) (m .used) 0 (rulesFrom (z .text) P R 0 k) (m .steps - 1) (m .cut) (m .counter))) (let e : a .rules - 0 ≡ a .rules = omega arith in e)
-                ∙ sym (enter-goal (limits a P R F) (allRules a P R F z) (h .branches) (m .cut) (m .steps - 1) (m .counter) (m .used) (held termRoom W T (m .bound)) g (x .depth - 1) w₁ (h .trees))
+            value = ap (λ (k : ℕ). resume (limits a P R F) (allRules a P R F z) (h .branches)
+                (tries (limits a P R F) (search (limits a P R F) (allRules a P R F z)) (held termRoom W T (m .bound)) g (x .depth - 1) w₁
+                (h .trees) (m .used) 0 (rulesFrom (z .text) P R 0 k) (m .steps - 1) (m .cut) (m .counter)))
+                (let e : a .rules - 0 ≡ a .rules = omega arith in e)
+                ∙ sym (enter-goal (limits a P R F) (allRules a P R F z) (h .branches) (m .cut) (m .steps - 1) (m .counter) (m .used)
+                (held termRoom W T (m .bound)) g (x .depth - 1) w₁ (h .trees))
                 ∙ value-at (suc (m .steps - 1)) (goal g (suc (x .depth - 1)) ∷ w₁) (omega arith) w;
           }

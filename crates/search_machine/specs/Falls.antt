@@ -17,13 +17,16 @@ spend k b h = ap (load k) (let e : b ≡ suc (b - 1) = omega arith in e)
 pub weights-same : (rules : ℕ) (F F′ : Rows) (n : ℕ) → SameFrames n F F′ → weights rules F′ n ≡ weights rules F n
 weights-same rules F F′ zero s = refl
 weights-same rules F F′ (suc n) s =
-    ap₂ (λ (w : ℕ) (x : Frame). w + (3 * (rules - suc (x .rule)) + 2)) (weights-same rules F F′ n (λ j h. s j (omega arith))) (s n (omega arith))
+    ap₂ (λ (w : ℕ) (x : Frame). w + (3 * (rules - suc (x .rule)) + 2)) (weights-same rules F F′ n (λ j h. s j (omega arith)))
+    (s n (omega arith))
 
-pub weights-top : (rules : ℕ) (F : Rows) (n : ℕ) (x : Frame) → frameAt F n ≡ x → weights rules F (suc n) ≡ weights rules F n + (3 * (rules - suc (x .rule)) + 2)
+pub weights-top : (rules : ℕ) (F : Rows) (n : ℕ) (x : Frame) → frameAt F n ≡ x
+    → weights rules F (suc n) ≡ weights rules F n + (3 * (rules - suc (x .rule)) + 2)
 weights-top rules F n x e = ap (λ (x : Frame). weights rules F n + (3 * (rules - suc (x .rule)) + 2)) e
 
 -- A step is used.
-pub falls-step : (rules : ℕ) (F : Rows) (m m′ : Machine) → m .mode ≡ Enter → 0 < m .steps → m′ .steps ≡ m .steps - 1 → m′ .frames ≡ m .frames
+pub falls-step : (rules : ℕ) (F : Rows) (m m′ : Machine) → m .mode ≡ Enter → 0 < m .steps → m′ .steps ≡ m .steps - 1
+    → m′ .frames ≡ m .frames
     → current rules (m′ .mode) (m′ .rule) ≤ 3 * rules + 2 → measure rules F m′ < measure rules F m
 unfolding measure
 falls-step rules F m m′ e h es en l =

@@ -171,7 +171,16 @@ toStart goal depth steps counter bound used =
 -- The frame of an application that is entered.
 abbrev pub frameFor : Machine → Frame
 frameFor m =
-    record { rule = m .rule; goal = m .goal; depth = m .depth; parent = m .parent; place = m .place; counter = m .counter; bound = m .bound; used = m .used }
+    record {
+      rule = m .rule;
+      goal = m .goal;
+      depth = m .depth;
+      parent = m .parent;
+      place = m .place;
+      counter = m .counter;
+      bound = m .bound;
+      used = m .used;
+    }
 
 -- What falls: the steps, and the rules left to the open applications and to the goal.
 abbrev pub weights : ℕ → Rows → ℕ → ℕ

@@ -27,7 +27,8 @@ pub part-columns : (row : List ℕ) (j n : ℕ) → j + n ≤ length row → tak
 part-columns row j n l = let e : j + n - j ≡ n = omega arith in ap (λ (k : ℕ). take k (drop j row)) e ∙ from-columns row j n l
 
 module _ {most limit : ℕ} {pattern : List ℕ} {rules : Rows} {words : List ℕ} {rows links marks stack : Rows} {counter used bound goal r : ℕ}
-    (asked : RowAsked most limit pattern rules words rows links marks stack counter used bound goal r) (long : length (rowAt rules r) ≡ 154) where
+    (asked : RowAsked most limit pattern rules words rows links marks stack counter used bound goal r)
+    (long : length (rowAt rules r) ≡ 154) where
   heads-lent : take (10 + column (rowAt rules r) 4 - 10) (drop 10 (rowAt rules r)) ≡ headsIn (rowAt rules r)
   heads-lent = let a = asked .premises in part-columns (rowAt rules r) 10 (column (rowAt rules r) 4) (omega arith)
 
@@ -39,35 +40,46 @@ module _ {most limit : ℕ} {pattern : List ℕ} {rules : Rows} {words : List �
         (take (90 + column (rowAt rules r) 3 - 90) (drop 90 (rowAt rules r))) stored words rows links marks stack counter used bound goal
     parts-asked =
         subst (λ (s : Stored). Asked most limit pattern (take (10 + column (rowAt rules r) 4 - 10) (drop 10 (rowAt rules r)))
-        (take (90 + column (rowAt rules r) 3 - 90) (drop 90 (rowAt rules r))) s words rows links marks stack counter used bound goal) (sym is)
-        (subst (λ (p : List ℕ). Asked most limit pattern (take (10 + column (rowAt rules r) 4 - 10) (drop 10 (rowAt rules r))) p (storedIn (rowAt rules r)) words rows links marks stack counter used bound goal) (sym places-lent)
-        (subst (λ (p : List ℕ). Asked most limit pattern p (placesIn (rowAt rules r)) (storedIn (rowAt rules r)) words rows links marks stack counter used bound goal) (sym heads-lent) (asked .asked)))
+        (take (90 + column (rowAt rules r) 3 - 90) (drop 90 (rowAt rules r))) s words rows links marks stack counter used bound goal)
+        (sym is)
+        (subst (λ (p : List ℕ). Asked most limit pattern (take (10 + column (rowAt rules r) 4 - 10) (drop 10 (rowAt rules r))) p
+        (storedIn (rowAt rules r)) words rows links marks stack counter used bound goal) (sym places-lent)
+        (subst (λ (p : List ℕ). Asked most limit pattern p (placesIn (rowAt rules r))
+        (storedIn (rowAt rules r)) words rows links marks stack counter used bound goal) (sym heads-lent) (asked .asked)))
 
     pub parts-tried : {words′ : List ℕ} {rows′ links′ marks′ stack′ : Rows} {answer : Tried}
         → Attempted most limit pattern (take (10 + column (rowAt rules r) 4 - 10) (drop 10 (rowAt rules r)))
-        (take (90 + column (rowAt rules r) 3 - 90) (drop 90 (rowAt rules r))) stored words words′ rows rows′ links links′ marks marks′ stack stack′ counter used bound goal answer
+        (take (90 + column (rowAt rules r) 3 - 90) (drop 90
+        (rowAt rules r))) stored words words′ rows rows′ links links′ marks marks′ stack stack′ counter used bound goal answer
         → RowTried most limit pattern rules words words′ rows rows′ links links′ marks marks′ stack stack′ counter used bound goal r answer
     parts-tried {words′} {rows′} {links′} {marks′} {stack′} {answer} h =
-        subst (λ (p : List ℕ). Attempted most limit pattern p (placesIn (rowAt rules r)) (storedIn (rowAt rules r)) words words′ rows rows′ links links′ marks marks′ stack stack′ counter used bound goal answer) heads-lent
-        (subst (λ (p : List ℕ). Attempted most limit pattern (take (10 + column (rowAt rules r) 4 - 10) (drop 10 (rowAt rules r))) p (storedIn (rowAt rules r)) words words′ rows rows′ links links′ marks marks′ stack stack′ counter used bound goal answer) places-lent
+        subst (λ (p : List ℕ). Attempted most limit pattern p (placesIn (rowAt rules r))
+        (storedIn (rowAt rules r)) words words′ rows rows′ links links′ marks marks′ stack stack′ counter used bound goal answer) heads-lent
+        (subst (λ (p : List ℕ). Attempted most limit pattern (take (10 + column (rowAt rules r) 4 - 10) (drop 10 (rowAt rules r))) p
+        (storedIn (rowAt rules r)) words words′ rows rows′ links links′ marks marks′ stack stack′ counter used bound goal answer) places-lent
         (subst (λ (s : Stored). Attempted most limit pattern (take (10 + column (rowAt rules r) 4 - 10) (drop 10 (rowAt rules r)))
-        (take (90 + column (rowAt rules r) 3 - 90) (drop 90 (rowAt rules r))) s words words′ rows rows′ links links′ marks marks′ stack stack′ counter used bound goal answer) is h))
+        (take (90 + column (rowAt rules r) 3 - 90) (drop 90
+        (rowAt rules r))) s words words′ rows rows′ links links′ marks marks′ stack stack′ counter used bound goal answer) is h))
 
 -- The word of a premise, moved by the part of the row that has the places.
 module _ {rules : Rows} {x : Frame} {k : ℕ} (asked : PremiseAsked rules x k) (long : length (rowAt rules (x .rule)) ≡ 154) where
   moving-places : take (90 + column (rowAt rules (x .rule)) 3 - 90) (drop 90 (rowAt rules (x .rule))) ≡ placesIn (rowAt rules (x .rule))
   moving-places = let a = asked .variables in part-columns (rowAt rules (x .rule)) 90 (column (rowAt rules (x .rule)) 3) (omega arith)
 
-  pub premise-lent : Movable (take (90 + column (rowAt rules (x .rule)) 3 - 90) (drop 90 (rowAt rules (x .rule)))) (x .counter) (patternRoom + column (rowAt rules (x .rule)) 6)
+  pub premise-lent : Movable (take (90 + column (rowAt rules (x .rule)) 3 - 90) (drop 90 (rowAt rules (x .rule)))) (x .counter)
+      (patternRoom + column (rowAt rules (x .rule)) 6)
       (termRoom + (x .used + column (rowAt rules (x .rule)) 8)) (column (rowAt rules (x .rule)) (10 + k))
   premise-lent =
-      subst (λ (p : List ℕ). Movable p (x .counter) (patternRoom + column (rowAt rules (x .rule)) 6) (termRoom + (x .used + column (rowAt rules (x .rule)) 8)) (column (rowAt rules (x .rule)) (10 + k)))
+      subst (λ (p : List ℕ). Movable p (x .counter) (patternRoom + column (rowAt rules (x .rule)) 6)
+      (termRoom + (x .used + column (rowAt rules (x .rule)) 8)) (column (rowAt rules (x .rule)) (10 + k)))
       (sym moving-places) (asked .movable)
 
-  pub premise-is : {r : ℕ} → r ≡ moved (take (90 + column (rowAt rules (x .rule)) 3 - 90) (drop 90 (rowAt rules (x .rule)))) (x .counter) (patternRoom + column (rowAt rules (x .rule)) 6)
+  pub premise-is : {r : ℕ} → r ≡ moved (take (90 + column (rowAt rules (x .rule)) 3 - 90) (drop 90 (rowAt rules (x .rule)))) (x .counter)
+      (patternRoom + column (rowAt rules (x .rule)) 6)
       (termRoom + (x .used + column (rowAt rules (x .rule)) 8)) (column (rowAt rules (x .rule)) (10 + k))
       → r ≡ premiseRef rules x k
   unfolding premiseRef
   premise-is e =
-      e ∙ ap₂ (λ (p : List ℕ) (w : ℕ). moved p (x .counter) (patternRoom + column (rowAt rules (x .rule)) 6) (termRoom + (x .used + column (rowAt rules (x .rule)) 8)) w)
+      e ∙ ap₂ (λ (p : List ℕ) (w : ℕ). moved p (x .counter) (patternRoom + column (rowAt rules (x .rule)) 6)
+      (termRoom + (x .used + column (rowAt rules (x .rule)) 8)) w)
       moving-places (sym (asked .premise))

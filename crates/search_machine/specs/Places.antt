@@ -33,15 +33,29 @@ pub record Within (D n : ℕ) (R F : Rows) (W : List ℕ) (v u p i : ℕ) (x : F
   pub level : x .depth + suc (builds rest) ≡ D
   pub works : ws ≡ pending R W x i rest
 
-pub place-within : {D n : ℕ} {R F : Rows} {W : List ℕ} {v u p i : ℕ} {ws : List Work} (y : Frame) → y ≡ frameAt F (p - 1) → 0 < p → Place D n R F W v u p i ws → Within D n R F W v u p i y ws
+pub place-within : {D n : ℕ} {R F : Rows} {W : List ℕ} {v u p i : ℕ} {ws : List Work} (y : Frame) → y ≡ frameAt F (p - 1) → 0 < p
+    → Place D n R F W v u p i ws → Within D n R F W v u p i y ws
 place-within y ry h (top l) = absurd (omega arith)
 place-within {D} {n} {R} {F} {W} {v} {u} y ry h (inside {j} {i} {w} {ws} {x} e known parent li used g ps outer level q) =
     let rd : frameAt F (suc j - 1) ≡ x = ap (frameAt F) (let z : suc j - 1 ≡ j = omega arith in z) ∙ e in
     subst (λ (x : Frame). Within D n R F W v u (suc j) i x ws) (sym rd ∙ sym ry)
-    (record { reads = rd; known = known; parent = omega arith; here = li; used = used; goal = g; premises = ps; rest = w; outer = outer; level = level; works = q })
+    (record {
+      reads = rd;
+      known = known;
+      parent = omega arith;
+      here = li;
+      used = used;
+      goal = g;
+      premises = ps;
+      rest = w;
+      outer = outer;
+      level = level;
+      works = q;
+    })
 
 -- A place has at most 16 premises before it.
-pub place-small : {D n : ℕ} {P : List ℕ} {R F : Rows} {W : List ℕ} {v u p i : ℕ} {ws : List Work} → RulesStored P R n → Place D n R F W v u p i ws → i ≤ 16
+pub place-small : {D n : ℕ} {P : List ℕ} {R F : Rows} {W : List ℕ} {v u p i : ℕ} {ws : List Work} → RulesStored P R n
+    → Place D n R F W v u p i ws → i ≤ 16
 unfolding arity
 place-small rs (top l) = omega arith
 place-small {R = R} rs (inside {x = x} e known parent li used g ps outer level q) = let b = rs .premises (x .rule) known in omega arith
@@ -51,7 +65,8 @@ place-top h (top l) = refl
 place-top h (inside e known parent li used g ps outer level q) = absurd (omega arith)
 
 -- The same place, one premise on.
-pub place-next : {D n : ℕ} {R F : Rows} {W : List ℕ} {v u p i : ℕ} {x : Frame} {ws : List Work} (d : Within D n R F W v u p i x ws) → 0 < p → i < arity R (x .rule)
+pub place-next : {D n : ℕ} {R F : Rows} {W : List ℕ} {v u p i : ℕ} {x : Frame} {ws : List Work} (d : Within D n R F W v u p i x ws) → 0 < p
+    → i < arity R (x .rule)
     → Place D n R F W v u p (suc i) (pending R W x (suc i) (d .rest))
 place-next {D} {n} {R} {F} {W} {v} {u} {p} {i} {x} d h l =
     let b = d .parent in
@@ -61,13 +76,15 @@ place-next {D} {n} {R} {F} {W} {v} {u} {p} {i} {x} d h l =
 pub pending-goal : (R : Rows) (W : List ℕ) (x : Frame) (i : ℕ) (w : List Work) → i < arity R (x .rule)
     → pending R W x i w ≡ goal (term W (premiseRef R x i)) (x .depth) ∷ pending R W x (suc i) w
 pending-goal R W x i w l =
-    ap (λ (n : ℕ). goals (span (λ (k : ℕ). term W (premiseRef R x k)) i n) (x .depth) (build (x .rule) (term W (x .goal)) (arity R (x .rule)) ∷ w))
+    ap (λ (n : ℕ). goals (span (λ (k : ℕ). term W (premiseRef R x k)) i n) (x .depth)
+    (build (x .rule) (term W (x .goal)) (arity R (x .rule)) ∷ w))
     (let e : arity R (x .rule) - i ≡ suc (arity R (x .rule) - suc i) = omega arith in e)
 
 pub pending-build : (R : Rows) (W : List ℕ) (x : Frame) (i : ℕ) (w : List Work) → i ≡ arity R (x .rule)
     → pending R W x i w ≡ build (x .rule) (term W (x .goal)) (arity R (x .rule)) ∷ w
 pending-build R W x i w l =
-    ap (λ (n : ℕ). goals (span (λ (k : ℕ). term W (premiseRef R x k)) i n) (x .depth) (build (x .rule) (term W (x .goal)) (arity R (x .rule)) ∷ w))
+    ap (λ (n : ℕ). goals (span (λ (k : ℕ). term W (premiseRef R x k)) i n) (x .depth)
+    (build (x .rule) (term W (x .goal)) (arity R (x .rule)) ∷ w))
     (let e : arity R (x .rule) - i ≡ 0 = omega arith in e)
 
 -- References are below the headers.
@@ -84,7 +101,8 @@ premise-movable {places = places} {from = from} {r = r} part root counter base l
   address = λ l h. let e = moved-node places counter (patternRoom + from) base r l h in omega arith;
 }
 
-pub premise-asked : {D n : ℕ} {P : List ℕ} {R F : Rows} {W : List ℕ} {v u p i : ℕ} {x : Frame} {ws : List Work} → RulesStored P R n → Within D n R F W v u p i x ws
+pub premise-asked : {D n : ℕ} {P : List ℕ} {R F : Rows} {W : List ℕ} {v u p i : ℕ} {x : Frame} {ws : List Work} → RulesStored P R n
+    → Within D n R F W v u p i x ws
     → termRoom + u ≤ headers → i < arity R (x .rule) → PremiseAsked R x i
 unfolding arity premiseRef
 premise-asked {R = R} {W = W} {v = v} {u = u} {i = i} {x = x} rs d low l =
@@ -96,8 +114,10 @@ premise-asked {R = R} {W = W} {v = v} {u = u} {i = i} {x = x} rs d low l =
     let used = d .used in
     let bl = row .bodyPart .low in
     let hl = row .headPart .low in
-    let at : getD (headsIn (rowAt R (x .rule))) i 0 ≡ column (rowAt R (x .rule)) (10 + i) = columns-at (rowAt R (x .rule)) 10 (column (rowAt R (x .rule)) 4) i l in
-    let long : length (headsIn (rowAt R (x .rule))) ≡ column (rowAt R (x .rule)) 4 = columns-length (rowAt R (x .rule)) 10 (column (rowAt R (x .rule)) 4) in
+    let at : getD (headsIn (rowAt R (x .rule))) i 0 ≡ column (rowAt R (x .rule)) (10 + i) = columns-at (rowAt R (x .rule)) 10
+    (column (rowAt R (x .rule)) 4) i l in
+    let long : length (headsIn (rowAt R (x .rule))) ≡ column (rowAt R (x .rule)) 4 = columns-length (rowAt R (x .rule)) 10
+    (column (rowAt R (x .rule)) 4) in
     let root = row .premise i (omega arith) in
     record {
       known = omega arith;
@@ -109,5 +129,6 @@ premise-asked {R = R} {W = W} {v = v} {u = u} {i = i} {x = x} rs d low l =
       head = omega arith;
       movable = subst (λ (r : ℕ). Movable (placesIn (rowAt R (x .rule))) (x .counter) (patternRoom + column (rowAt R (x .rule)) 6)
           (termRoom + (x .used + column (rowAt R (x .rule)) 8)) r) at
-          (premise-movable (row .bodyPart) root (x .counter) (termRoom + (x .used + column (rowAt R (x .rule)) 8)) (reference-low (cells W) v u _ low (d .premises i l)));
+          (premise-movable (row .bodyPart) root (x .counter) (termRoom + (x .used + column (rowAt R (x .rule)) 8))
+          (reference-low (cells W) v u _ low (d .premises i l)));
     }

@@ -12,7 +12,8 @@ use Rattle.bindings.specs.Holding.{form-undoable}
 use Rattle.bindings.specs.Stored.{held}
 use Rattle.resolution.specs.Search.{Result, failed, tries}
 use Rattle.resolution.specs.Machine.{search, Branch, resume}
-use Rattle.search_machine.specs.State.{term, frameAt, Start, Well, limits, allRules, rulesOn, FrameOk, Bottom, Stack, Trying, Failing, Ending}
+use Rattle.search_machine.specs.State.{term, frameAt, Start, Well, limits, allRules, rulesOn, FrameOk, Bottom, Stack}
+use Rattle.search_machine.specs.State.{Trying, Failing, Ending}
 use Rattle.search_machine.specs.Moves.{toStop, toRetry}
 use Rattle.search_machine.specs.Carry.{added-length}
 use Rattle.search_machine.specs.declared.Allowed.{Allowed}
@@ -30,7 +31,8 @@ module _ (a : Allowed) (P : List ℕ) (R F : Rows) (z : Start) (W : List ℕ) wh
     pub ok : FrameOk a P R F z W T rows (n - 1) c t u x branch
     pub below : Stack a P R F z W rows (n - 1) c (x .bound) (x .used) others
 
-  stack-pop : (T : Rows) (n c t u : ℕ) (fs : List Branch) (y : Frame) → y ≡ frameAt F (n - 1) → 0 < n → Stack a P R F z W T n c t u fs → Popped T n c t u y fs
+  stack-pop : (T : Rows) (n c t u : ℕ) (fs : List Branch) (y : Frame) → y ≡ frameAt F (n - 1) → 0 < n → Stack a P R F z W T n c t u fs
+      → Popped T n c t u y fs
   stack-pop T zero c t u fs y e h k = absurd (omega arith)
   stack-pop T (suc n) c t u [] y e h k = absurd k
   stack-pop T (suc n) c t u (f ∷ fs) y e h (x, T₁, ok, k) =
@@ -63,7 +65,8 @@ module _ (a : Allowed) (P : List ℕ) (R F : Rows) (z : Start) (W : List ℕ) wh
         record {
           bottom = k .bottom;
           well = h .well;
-          value = ap (λ (fs : List Branch). resume (limits a P R F) (allRules a P R F z) fs (failed (m .steps) (m .cut) (m .counter))) (sym (k .none)) ∙ h .value;
+          value = ap (λ (fs : List Branch). resume (limits a P R F) (allRules a P R F z) fs (failed (m .steps) (m .cut) (m .counter)))
+              (sym (k .none)) ∙ h .value;
         }
 
     module _ (x : Frame) (rd : x ≡ frameAt F (m .frames - 1)) (ln : 0 < m .frames) where
@@ -94,14 +97,24 @@ module _ (a : Allowed) (P : List ℕ) (R F : Rows) (z : Start) (W : List ℕ) wh
             stack = popped .below;
             order = popped .ok .order;
             fits = popped .ok .fits;
-            well = record { form = popped .ok .form; lentWords = h .well .lentWords; lentRows = omega arith; enough = h .well .enough; low = h .well .low };
+            well = record {
+              form = popped .ok .form;
+              lentWords = h .well .lentWords;
+              lentRows = omega arith;
+              enough = h .well .enough;
+              low = h .well .low;
+            };
             formed = popped .ok .formed;
             room = omega arith;
             refers = popped .ok .refers;
             known = omega arith;
             level = popped .ok .level;
-            value = ap (resume (limits a P R F) (allRules a P R F z) (popped .others)) (λ i. tries (limits a P R F) (search (limits a P R F) (allRules a P R F z)) (popped .ok .saved i) (popped .ok .goal i) (popped .ok .depth i) (popped .branch .rest) (popped .branch .stack) (popped .ok .words i) (rule i) (others i) (m .steps) (m .cut) (m .counter))
-                ∙ ap (λ (fs : List Branch). resume (limits a P R F) (allRules a P R F z) fs (failed (m .steps) (m .cut) (m .counter))) (sym (popped .both)) ∙ h .value;
+            value = ap (resume (limits a P R F) (allRules a P R F z) (popped .others))
+                (λ i. tries (limits a P R F) (search (limits a P R F) (allRules a P R F z)) (popped .ok .saved i) (popped .ok .goal i)
+                (popped .ok .depth i) (popped .branch .rest) (popped .branch .stack) (popped .ok .words i) (rule i) (others i) (m .steps)
+                (m .cut) (m .counter))
+                ∙ ap (λ (fs : List Branch). resume (limits a P R F) (allRules a P R F z) fs (failed (m .steps) (m .cut) (m .counter)))
+                (sym (popped .both)) ∙ h .value;
           }
 
       -- The bindings taken back to the frame's mark are the very rows before it.

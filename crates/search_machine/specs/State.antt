@@ -1,4 +1,5 @@
--- What the machine's storage denotes: places as work lists, frames as branch records (crates/resolution, Machine), and the state as what the whole search
+-- What the machine's storage denotes: places as work lists, frames as branch records (crates/resolution, Machine), and the state as what
+-- the whole search
 -- comes to.
 use Prim.Native.Nat.{ℕ, zero, suc, _+_, _-_, _≤_, _<_}
 use mathlib.Core.Path.{_≡_}
@@ -64,7 +65,16 @@ RulesInForm P R n arities = (r : ℕ) → r < n → RuleInForm P (storedIn (rowA
 
 -- A frame's row.
 abbrev pub frameOf : List ℕ → Frame
-frameOf x = record { rule = getD x 0 0; goal = getD x 1 0; depth = getD x 2 0; parent = getD x 3 0; place = getD x 4 0; counter = getD x 5 0; bound = getD x 6 0; used = getD x 7 0 }
+frameOf x = record {
+  rule = getD x 0 0;
+  goal = getD x 1 0;
+  depth = getD x 2 0;
+  parent = getD x 3 0;
+  place = getD x 4 0;
+  counter = getD x 5 0;
+  bound = getD x 6 0;
+  used = getD x 7 0;
+}
 
 abbrev pub rowOf : Frame → List ℕ
 rowOf x = x .rule ∷ x .goal ∷ x .depth ∷ x .parent ∷ x .place ∷ x .counter ∷ x .bound ∷ x .used ∷ []
@@ -80,9 +90,11 @@ premiseRef R x k =
 -- The goals of an application from premise i on, its build, and then other work.
 abbrev pub pending : Rows → List ℕ → Frame → ℕ → List Work → List Work
 pending R W x i w =
-    goals (span (λ (k : ℕ). term W (premiseRef R x k)) i (arity R (x .rule) - i)) (x .depth) (build (x .rule) (term W (x .goal)) (arity R (x .rule)) ∷ w)
+    goals (span (λ (k : ℕ). term W (premiseRef R x k)) i (arity R (x .rule) - i)) (x .depth)
+    (build (x .rule) (term W (x .goal)) (arity R (x .rule)) ∷ w)
 
--- A place, premise i of application p (counted from 1; 0 is the top), is a work list. Its references are in form among v variables and u words; D is the
+-- A place, premise i of application p (counted from 1; 0 is the top), is a work list. Its references are in form among v variables and u
+-- words; D is the
 -- depth bound, and there are n rules.
 pub data Place (D : ℕ) (n : ℕ) (R F : Rows) (W : List ℕ) (v u : ℕ) : ℕ → ℕ → List Work → Type 0 where
   top : {i : ℕ} → i ≤ 1 → Place D n R F W v u 0 i []
@@ -99,7 +111,8 @@ abbrev pub entries : ℕ → Rows → List ℕ → ℕ → List Entry
 entries D F W zero = []
 entries D F W (suc n) = entries D F W n ++ (entry (D - frameAt F n .depth) (frameAt F n .rule) (term W (frameAt F n .goal)) ∷ [])
 
--- Where the search starts: the text of the rules' names, the symbols' arities, the session's words and bindings with their counts, the rows of frames, the
+-- Where the search starts: the text of the rules' names, the symbols' arities, the session's words and bindings with their counts, the
+-- rows of frames, the
 -- steps and the depth bound.
 pub record Start : Type 0 where
   pub text : List ℕ
@@ -143,7 +156,8 @@ module _ (a : Allowed) (P : List ℕ) (R F : Rows) where
       RulesInForm P R (a .rules) (z .arities) → inForm (z .words) 0 (z .used) termRoom (z .counter) (z .arities) ≡ true
       → inForm W 0 u termRoom c (z .arities) ≡ true
 
-  -- Frame n, which reads x, is the branch record f. T, t and u are the bindings and words after it, T₁ the bindings before it, and c is the counter.
+  -- Frame n, which reads x, is the branch record f. T, t and u are the bindings and words after it, T₁ the bindings before it, and c is
+  -- the counter.
   pub record FrameOk (z : Start) (W : List ℕ) (T T₁ : Rows) (n c t u : ℕ) (x : Frame) (f : Branch) : Type 0 where
     pub reads : frameAt F n ≡ x
     pub saved : held termRoom W T₁ (x .bound) ≡ f .saved
@@ -192,7 +206,8 @@ module _ (a : Allowed) (P : List ℕ) (R F : Rows) where
       pub well : Well a W T (m .counter) (m .bound) (m .used)
       pub formed : StaysInForm z W (m .counter) (m .used)
       pub room : m .frames + m .steps ≤ a .frames
-      pub value : resume limits (allRules z) branches (orCut (m .cut) (search limits (allRules z) (m .steps) (m .counter) (m .used) (held termRoom W T (m .bound)) work trees)) ≡ o
+      pub value : resume limits (allRules z) branches (orCut (m .cut)
+          (search limits (allRules z) (m .steps) (m .counter) (m .used) (held termRoom W T (m .bound)) work trees)) ≡ o
 
     -- To try a goal with the rules from a number on.
     pub record Trying : Type 0 where
@@ -210,7 +225,8 @@ module _ (a : Allowed) (P : List ℕ) (R F : Rows) where
       pub refers : Refers W (m .counter) (m .used) (m .goal)
       pub known : m .rule ≤ a .rules
       pub level : m .depth + suc (builds work) ≡ z .depth
-      pub value : resume limits (allRules z) branches (tries limits (search limits (allRules z)) (held termRoom W T (m .bound)) (term W (m .goal)) (m .depth) work trees (m .used) (m .rule) (rulesOn z (m .rule)) (m .steps) (m .cut) (m .counter)) ≡ o
+      pub value : resume limits (allRules z) branches (tries limits (search limits (allRules z)) (held termRoom W T (m .bound))
+          (term W (m .goal)) (m .depth) work trees (m .used) (m .rule) (rulesOn z (m .rule)) (m .steps) (m .cut) (m .counter)) ≡ o
 
     -- To go back.
     pub record Failing : Type 0 where

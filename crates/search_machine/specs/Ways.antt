@@ -33,13 +33,16 @@ use Rattle.search_machine.specs.declared.Mode.the-variants.{Enter, Try, 
 use Rattle.search_machine.specs.declared.frames.Frame.{Frame}
 
 -- A state by its mode.
-pub case-at : {a : Allowed} {P : List ℕ} {R F : Rows} {W : List ℕ} {T : Rows} {z : Start} {o : Result} {m : Machine} {k : Mode} → Holds a P R F W T z o m → m .mode ≡ k → Case a P R F W T z o m k
+pub case-at : {a : Allowed} {P : List ℕ} {R F : Rows} {W : List ℕ} {T : Rows} {z : Start} {o : Result} {m : Machine} {k : Mode}
+    → Holds a P R F W T z o m → m .mode ≡ k → Case a P R F W T z o m k
 case-at {a} {P} {R} {F} {W} {T} {z} {o} {m} h e = subst (Case a P R F W T z o m) e (h .case)
 
 -- The same frames, and words written below the top.
-pub holds-on : {a : Allowed} {P : List ℕ} {R F : Rows} {W : List ℕ} {T : Rows} {W′ : List ℕ} {T′ : Rows} {z : Start} {o : Result} {m m′ : Machine}
+pub holds-on : {a : Allowed} {P : List ℕ} {R F : Rows} {W : List ℕ} {T : Rows} {W′ : List ℕ} {T′ : Rows} {z : Start} {o : Result}
+    {m m′ : Machine}
     → Holds a P R F W T z o m → m′ .steps ≤ m .steps → m .counter ≤ m′ .counter → m .top ≤ m′ .top → m′ .high ≡ m .high
-    → length W′ ≡ length W → ((i : ℕ) → m′ .top ≤ i → cells W′ i ≡ cells W i) → Case a P R F W′ T′ z o m′ (m′ .mode) → Holds a P R F W′ T′ z o m′
+    → length W′ ≡ length W → ((i : ℕ) → m′ .top ≤ i → cells W′ i ≡ cells W i) → Case a P R F W′ T′ z o m′ (m′ .mode)
+    → Holds a P R F W′ T′ z o m′
 holds-on h i j v e n w k =
     let l = h .left in let c = h .later in
     record {
@@ -91,7 +94,8 @@ module _ {a : Allowed} {R F : Rows} {m : Machine} (s : Seen a R F m) where
     falls = falls-step (a .rules) F m (toStop m Proved (m .steps - 1)) e ls refl refl (omega arith);
   }
 
-  module _ (x : Frame) (rd : x ≡ frameAt F (m .parent - 1)) (k : ℕ) (ek : k ≡ arity R (x .rule)) (ls : 0 < m .steps) (lp : 0 < m .parent) where
+  module _ (x : Frame) (rd : x ≡ frameAt F (m .parent - 1)) (k : ℕ) (ek : k ≡ arity R (x .rule)) (ls : 0 < m .steps)
+      (lp : 0 < m .parent) where
     pub moved-built : m .place ≡ k → Moved a R F m (toPlace m (x .parent) (x .place + 1) (m .steps - 1))
     moved-built ei = record {
       keeps = λ P W T z o h. still h (omega arith) refl refl refl (entry-built a P R F W T z o m (case-at h e) x rd ls lp (ei ∙ ek));
@@ -100,16 +104,20 @@ module _ {a : Allowed} {R F : Rows} {m : Machine} (s : Seen a R F m) where
 
     pub moved-cut : m .place ≢ k → x .depth ≡ 0 → Moved a R F m (toFail m (m .steps - 1) true)
     moved-cut ne ed = record {
-      keeps = λ P W T z o h. still h (omega arith) refl refl refl (entry-cut a P R F W T z o m (case-at h e) x rd ls lp (λ q. ne (q ∙ sym ek)) ed);
+      keeps = λ P W T z o h. still h (omega arith) refl refl refl (entry-cut a P R F W T z o m (case-at h e) x rd ls lp
+          (λ q. ne (q ∙ sym ek)) ed);
       falls = falls-step (a .rules) F m (toFail m (m .steps - 1) true) e ls refl refl (omega arith);
     }
 
-    pub moved-goal : (g : ℕ) → g ≡ premiseRef R x (m .place) → m .place ≢ k → 0 < x .depth → Moved a R F m (toGoal m g (x .depth - 1) (m .steps - 1))
+    pub moved-goal : (g : ℕ) → g ≡ premiseRef R x (m .place) → m .place ≢ k → 0 < x .depth
+        → Moved a R F m (toGoal m g (x .depth - 1) (m .steps - 1))
     moved-goal g eg ne ld =
         subst (λ (g : ℕ). Moved a R F m (toGoal m g (x .depth - 1) (m .steps - 1))) (sym eg)
         (record {
-          keeps = λ P W T z o h. still h (omega arith) refl refl refl (entry-goal a P R F W T z o m (case-at h e) x rd ls lp (λ q. ne (q ∙ sym ek)) ld);
-          falls = falls-step (a .rules) F m (toGoal m (premiseRef R x (m .place)) (x .depth - 1) (m .steps - 1)) e ls refl refl (omega arith);
+          keeps = λ P W T z o h. still h (omega arith) refl refl refl
+              (entry-goal a P R F W T z o m (case-at h e) x rd ls lp (λ q. ne (q ∙ sym ek)) ld);
+          falls = falls-step (a .rules) F m (toGoal m (premiseRef R x (m .place)) (x .depth - 1) (m .steps - 1)) e ls refl refl
+              (omega arith);
         })
 
   -- What the sums ask.
@@ -121,9 +129,11 @@ module _ {a : Allowed} {R F : Rows} {m : Machine} (s : Seen a R F m) where
     seen-place = entry-small a (s .pattern) R F (s .words) (s .rows) (s .start) (s .result) m seen-case x rd ls lp (s .holds .rules)
 
     pub seen-premise : (k : ℕ) → k ≡ arity R (x .rule) → m .place ≢ k → PremiseAsked R x (m .place)
-    seen-premise k ek ne = entry-asked a (s .pattern) R F (s .words) (s .rows) (s .start) (s .result) m seen-case x rd ls lp (λ q. ne (q ∙ sym ek)) (s .holds .rules)
+    seen-premise k ek ne = entry-asked a (s .pattern) R F (s .words) (s .rows) (s .start) (s .result) m seen-case x rd ls lp
+        (λ q. ne (q ∙ sym ek)) (s .holds .rules)
 
-module _ {a : Allowed} {P : List ℕ} {R F : Rows} {W : List ℕ} {T L M S : Rows} {m : Machine} (ready : Ready a P R F W T L M S m) (choice : Choice a R m) where
+module _ {a : Allowed} {P : List ℕ} {R F : Rows} {W : List ℕ} {T L M S : Rows} {m : Machine} (ready : Ready a P R F W T L M S m)
+    (choice : Choice a R m) where
   trying : m .mode ≡ Try
   trying = choice .mode
 
@@ -149,11 +159,13 @@ module _ {a : Allowed} {P : List ℕ} {R F : Rows} {W : List ℕ} {T L M S : Row
   ready-asked = row-asked (ready .holds .rules) (ready-case .well) (ready .scratch) (ready-case .refers) ready-rule
 
   module _ {W′ : List ℕ} {T′ L′ M′ S′ : Rows} {answer : Tried}
-      (t : RowTried (a .variables) (a .words) P R W W′ T T′ L L′ M M′ S S′ (m .counter) (m .used) (m .bound) (m .goal) (m .rule) answer) where
+      (t : RowTried (a .variables) (a .words) P R W W′ T T′ L L′ M M′ S S′ (m .counter) (m .used) (m .bound) (m .goal)
+      (m .rule) answer) where
     known : (k : Tried) → answer ≡ k
         → RowTried (a .variables) (a .words) P R W W′ T T′ L L′ M M′ S S′ (m .counter) (m .used) (m .bound) (m .goal) (m .rule) k
     known k q =
-        subst (λ (k : Tried). RowTried (a .variables) (a .words) P R W W′ T T′ L L′ M M′ S S′ (m .counter) (m .used) (m .bound) (m .goal) (m .rule) k) q t
+        subst (λ (k : Tried). RowTried (a .variables) (a .words) P R W W′ T T′ L L′ M M′ S S′ (m .counter) (m .used) (m .bound) (m .goal)
+        (m .rule) k) q t
 
     -- The words from the top on stand.
     past : (i : ℕ) → m .top ≤ i → cells W′ i ≡ cells W i
@@ -173,7 +185,8 @@ module _ {a : Allowed} {P : List ℕ} {R F : Rows} {W : List ℕ} {T L M S : Row
     step-missed c′ q = record {
       keeps = λ z o h. holds-on h (omega arith) (known (Missed c′) q .left .0) (omega arith) refl (t .long) past
           (tried-missed a P R F W T z o m (case-at h trying) ready-rule ready-asked c′ (known (Missed c′) q));
-      falls = let c = at-try in let l = ready-rule in falls-mode (a .rules) F m (toRule m (m .rule + 1) c′ (m .top)) refl refl (omega arith);
+      falls = let c = at-try in let l = ready-rule in falls-mode (a .rules) F m (toRule m (m .rule + 1) c′ (m .top)) refl refl
+          (omega arith);
       links = t .linksKept;
       marks = t .marksKept;
       stack = t .stackKept;
@@ -201,7 +214,8 @@ module _ {a : Allowed} {P : List ℕ} {R F : Rows} {W : List ℕ} {T L M S : Row
       step-entered : Stepped a P R F F′ W W′ T T′ L L′ M M′ S S′ m (toBody m c′ t′ u′ high)
       step-entered = record {
         keeps = λ z o h. record {
-          case = tried-entered a P R F W T z o m (case-at h trying) ready-rule ready-asked c′ t′ u′ high lent-frames (known (Entered c′ t′ u′) q);
+          case = tried-entered a P R F W T z o m (case-at h trying) ready-rule ready-asked c′ t′ u′ high lent-frames
+              (known (Entered c′ t′ u′) q);
           rules = h .rules;
           frames = let l = h .frames in let s = length-set F (m .frames) (rowOf (frameFor m)) in omega arith;
           left = h .left;
@@ -296,7 +310,16 @@ pub record Going (a : Allowed) (P : List ℕ) (R F₀ F : Rows) (W₀ W : List �
 
 module _ {a : Allowed} {P : List ℕ} {R F₀ : Rows} {W₀ : List ℕ} {T₀ L₀ M₀ S₀ : Rows} {m₀ : Machine} where
   pub going-start : Ready a P R F₀ W₀ T₀ L₀ M₀ S₀ m₀ → Going a P R F₀ F₀ W₀ W₀ T₀ T₀ L₀ L₀ M₀ M₀ S₀ S₀ m₀ m₀
-  going-start r = record { ready = r; keeps = λ z o h. h; links = refl; marks = refl; stack = refl; wordsLong = refl; rowsLong = refl; framesLong = refl }
+  going-start r = record {
+    ready = r;
+    keeps = λ z o h. h;
+    links = refl;
+    marks = refl;
+    stack = refl;
+    wordsLong = refl;
+    rowsLong = refl;
+    framesLong = refl;
+  }
 
   module _ {F : Rows} {W : List ℕ} {T L M S : Rows} {m : Machine} (g : Going a P R F₀ F W₀ W T₀ T L₀ L M₀ M S₀ S m₀ m) where
     pub going-on : {F′ : Rows} {W′ : List ℕ} {T′ L′ M′ S′ : Rows} {m′ : Machine} → Stepped a P R F F′ W W′ T T′ L L′ M M′ S S′ m m′

@@ -1,4 +1,5 @@
-// The rules that a goal passes over by arithmetic: those whose conclusion has another head. They number their variables and count their words as if they
+// The rules that a goal passes over by arithmetic: those whose conclusion has another head. They number their variables and count their
+// words as if they
 // were tried, and nothing is copied.
 use super::Allowed;
 use super::Machine;

@@ -1,7 +1,10 @@
-// The search at one depth bound (document 01, "Search"), as a machine over lent storage: leftmost goal first, rules in source order. Its recursion is a
-// stack of frames, one for each rule that is entered; specs/State says what they denote, and specs/Contracts that a step keeps what the whole search comes to.
+// The search at one depth bound (document 01, "Search"), as a machine over lent storage: leftmost goal first, rules in source order. Its
+// recursion is a
+// stack of frames, one for each rule that is entered; specs/State says what they denote, and specs/Contracts that a step keeps what the
+// whole search comes to.
 //
-// All functions here serve the crates above: they ask for a signature and a session in form. What is ever written is counted, so that it can be cleared.
+// All functions here serve the crates above: they ask for a signature and a session in form. What is ever written is counted, so that it
+// can be cleared.
 mod candidates; // the rules that a goal passes over
 mod frames; // one row for each rule that is entered
 mod moves; // the machine's next states
@@ -218,8 +221,10 @@ fn step(
     frames: &mut [[u32; 8]],
     m: Machine,
 ) -> Machine
-    requires { ⌜ Ready allowed (now pattern) (now rules) (now frames) (now words) (now bindings) (now links) (now marks) (now stack) m ⌝ ∗ ⌜ Live (m .mode) ⌝ }
-    ensures { λ r. ⌜ Stepped allowed (now (pattern .entry)) (now (rules .entry)) (now (frames .entry)) (now (frames .exit)) (now (words .entry)) (now (words .exit))
+    requires { ⌜ Ready allowed (now pattern) (now rules) (now frames) (now words) (now bindings) (now links) (now marks)
+        (now stack) m ⌝ ∗ ⌜ Live (m .mode) ⌝ }
+    ensures { λ r. ⌜ Stepped allowed (now (pattern .entry)) (now (rules .entry)) (now (frames .entry)) (now (frames .exit))
+        (now (words .entry)) (now (words .exit))
         (now (bindings .entry)) (now (bindings .exit)) (now (links .entry)) (now (links .exit)) (now (marks .entry)) (now (marks .exit))
         (now (stack .entry)) (now (stack .exit)) m r ⌝ }
 {
@@ -273,8 +278,10 @@ pub fn run(
     frames: &mut [[u32; 8]],
     first: Machine,
 ) -> Machine
-    requires { ⌜ Ready allowed (now pattern) (now rules) (now frames) (now words) (now bindings) (now links) (now marks) (now stack) first ⌝ }
-    ensures { λ r. ⌜ Searched allowed (now (pattern .entry)) (now (rules .entry)) (now (frames .entry)) (now (frames .exit)) (now (words .entry)) (now (words .exit))
+    requires { ⌜ Ready allowed (now pattern) (now rules) (now frames) (now words) (now bindings) (now links) (now marks)
+        (now stack) first ⌝ }
+    ensures { λ r. ⌜ Searched allowed (now (pattern .entry)) (now (rules .entry)) (now (frames .entry)) (now (frames .exit))
+        (now (words .entry)) (now (words .exit))
         (now (bindings .entry)) (now (bindings .exit)) (now (links .entry)) (now (links .exit)) (now (marks .entry)) (now (marks .exit))
         (now (stack .entry)) (now (stack .exit)) first r ⌝ }
 {

@@ -70,7 +70,8 @@ pub fn try_stored(
     goal: u32,
     rule: u32,
 ) -> Tried
-    requires { ⌜ RowAsked most limit (now pattern) (now rules) (now words) (now bindings) (now links) (now marks) (now stack) counter used bound goal rule ⌝ }
+    requires { ⌜ RowAsked most limit (now pattern) (now rules) (now words) (now bindings) (now links) (now marks)
+        (now stack) counter used bound goal rule ⌝ }
     ensures { λ r. ⌜ RowTried most limit (now (pattern .entry)) (now (rules .entry)) (now (words .entry)) (now (words .exit))
         (now (bindings .entry)) (now (bindings .exit)) (now (links .entry)) (now (links .exit)) (now (marks .entry)) (now (marks .exit))
         (now (stack .entry)) (now (stack .exit)) counter used bound goal rule r ⌝ }

@@ -33,43 +33,51 @@ enum-told c = search needs
 same-length : tie.Need-same-length Inv-loop μ-loop
 same-length c =
     let the-at-bound = c .before .before .before .before .before .before .before .before .before .at-bound in
-    let the-loop = c .before .before .before .before .before .before .before .before .before .before .before .before .before .before .before .before .before .loop in
+    let the-loop = c .before .before .before .before .before .before .before .before .before .before .before .before .before .before
+    .before .before .before .loop in
     the-at-bound .kept .1 .1 .1 .0 ∙ ap length (the-loop .inv .unchanged .words)
 
 same-length-2 : tie.Need-same-length-2 Inv-loop μ-loop
 same-length-2 c =
     let the-at-bound = c .before .before .before .before .before .before .before .before .before .at-bound in
-    let the-loop = c .before .before .before .before .before .before .before .before .before .before .before .before .before .before .before .before .before .loop in
+    let the-loop = c .before .before .before .before .before .before .before .before .before .before .before .before .before .before
+    .before .before .before .loop in
     the-at-bound .kept .1 .1 .1 .1 .0 ∙ ap length (the-loop .inv .unchanged .rows)
 
 same-length-3 : tie.Need-same-length-3 Inv-loop μ-loop
 same-length-3 c =
     let the-at-bound = c .before .before .before .before .before .before .before .before .before .at-bound in
-    let the-loop = c .before .before .before .before .before .before .before .before .before .before .before .before .before .before .before .before .before .loop in
+    let the-loop = c .before .before .before .before .before .before .before .before .before .before .before .before .before .before
+    .before .before .before .loop in
     the-at-bound .kept .1 .1 .1 .1 .1 .0 ∙ ap length (the-loop .inv .links)
 
 same-length-4 : tie.Need-same-length-4 Inv-loop μ-loop
 same-length-4 c =
     let the-at-bound = c .before .before .before .before .before .before .before .before .before .at-bound in
-    let the-loop = c .before .before .before .before .before .before .before .before .before .before .before .before .before .before .before .before .before .loop in
+    let the-loop = c .before .before .before .before .before .before .before .before .before .before .before .before .before .before
+    .before .before .before .loop in
     the-at-bound .kept .1 .1 .1 .1 .1 .1 .0 ∙ ap length (the-loop .inv .marks)
 
 same-length-5 : tie.Need-same-length-5 Inv-loop μ-loop
 same-length-5 c =
     let the-at-bound = c .before .before .before .before .before .before .before .before .before .at-bound in
-    let the-loop = c .before .before .before .before .before .before .before .before .before .before .before .before .before .before .before .before .before .loop in
+    let the-loop = c .before .before .before .before .before .before .before .before .before .before .before .before .before .before
+    .before .before .before .loop in
     the-at-bound .kept .1 .1 .1 .1 .1 .1 .1 .0 ∙ ap length (the-loop .inv .stack)
 
 same-length-6 : tie.Need-same-length-6 Inv-loop μ-loop
 same-length-6 c =
     let the-at-bound = c .before .before .before .before .before .before .before .before .before .at-bound in
-    let the-loop = c .before .before .before .before .before .before .before .before .before .before .before .before .before .before .before .before .before .loop in
+    let the-loop = c .before .before .before .before .before .before .before .before .before .before .before .before .before .before
+    .before .before .before .loop in
     the-at-bound .kept .1 .1 .1 .1 .1 .1 .1 .1 .0 ∙ ap length (the-loop .inv .unchanged .frames)
 
 returns : tie.Need-returns Inv-loop μ-loop
 returns c =
-    let the-loop = c .before .before .before .before .before .before .before .before .before .before .before .before .before .before .before .before .before .loop in
-    let the-loop-test = c .before .before .before .before .before .before .before .before .before .before .before .before .before .before .before .before .loop-test in
+    let the-loop = c .before .before .before .before .before .before .before .before .before .before .before .before .before .before
+    .before .before .before .loop in
+    let the-loop-test = c .before .before .before .before .before .before .before .before .before .before .before .before .before
+    .before .before .before .loop-test in
     let the-at-bound = c .before .before .before .before .before .before .before .before .before .at-bound in
     let the-enum-told = c .enum-told in
     deepening-refused (the-loop .inv) (the-loop-test .taken) (the-at-bound .ensures) (the-enum-told .given .1)
@@ -79,8 +87,10 @@ enum-known-count c = search needs
 
 sub-t41 : tie.Need-sub-t41 Inv-loop μ-loop
 sub-t41 c =
-    let the-loop = c .before .before .before .before .before .before .before .before .before .before .before .before .before .before .before .before .before .before .loop in
-    let the-loop-test = c .before .before .before .before .before .before .before .before .before .before .before .before .before .before .before .before .before .loop-test in
+    let the-loop = c .before .before .before .before .before .before .before .before .before .before .before .before .before .before
+    .before .before .before .before .loop in
+    let the-loop-test = c .before .before .before .before .before .before .before .before .before .before .before .before .before
+    .before .before .before .before .loop-test in
     let the-at-bound = c .before .before .before .before .before .before .before .before .before .before .at-bound in
     let the-count = c .before .count in
     let l = found-left (the-loop .inv) (the-loop-test .taken) (the-at-bound .ensures) _ _ _ _ _ (the-count .given .1) in omega arith
@@ -88,43 +98,51 @@ sub-t41 c =
 same-length-7 : tie.Need-same-length-7 Inv-loop μ-loop
 same-length-7 c =
     let the-at-bound = c .before .before .before .before .before .before .before .before .before .before .at-bound in
-    let the-loop = c .before .before .before .before .before .before .before .before .before .before .before .before .before .before .before .before .before .before .loop in
+    let the-loop = c .before .before .before .before .before .before .before .before .before .before .before .before .before .before
+    .before .before .before .before .loop in
     the-at-bound .kept .1 .1 .1 .0 ∙ ap length (the-loop .inv .unchanged .words)
 
 same-length-8 : tie.Need-same-length-8 Inv-loop μ-loop
 same-length-8 c =
     let the-at-bound = c .before .before .before .before .before .before .before .before .before .before .at-bound in
-    let the-loop = c .before .before .before .before .before .before .before .before .before .before .before .before .before .before .before .before .before .before .loop in
+    let the-loop = c .before .before .before .before .before .before .before .before .before .before .before .before .before .before
+    .before .before .before .before .loop in
     the-at-bound .kept .1 .1 .1 .1 .0 ∙ ap length (the-loop .inv .unchanged .rows)
 
 same-length-9 : tie.Need-same-length-9 Inv-loop μ-loop
 same-length-9 c =
     let the-at-bound = c .before .before .before .before .before .before .before .before .before .before .at-bound in
-    let the-loop = c .before .before .before .before .before .before .before .before .before .before .before .before .before .before .before .before .before .before .loop in
+    let the-loop = c .before .before .before .before .before .before .before .before .before .before .before .before .before .before
+    .before .before .before .before .loop in
     the-at-bound .kept .1 .1 .1 .1 .1 .0 ∙ ap length (the-loop .inv .links)
 
 same-length-10 : tie.Need-same-length-10 Inv-loop μ-loop
 same-length-10 c =
     let the-at-bound = c .before .before .before .before .before .before .before .before .before .before .at-bound in
-    let the-loop = c .before .before .before .before .before .before .before .before .before .before .before .before .before .before .before .before .before .before .loop in
+    let the-loop = c .before .before .before .before .before .before .before .before .before .before .before .before .before .before
+    .before .before .before .before .loop in
     the-at-bound .kept .1 .1 .1 .1 .1 .1 .0 ∙ ap length (the-loop .inv .marks)
 
 same-length-11 : tie.Need-same-length-11 Inv-loop μ-loop
 same-length-11 c =
     let the-at-bound = c .before .before .before .before .before .before .before .before .before .before .at-bound in
-    let the-loop = c .before .before .before .before .before .before .before .before .before .before .before .before .before .before .before .before .before .before .loop in
+    let the-loop = c .before .before .before .before .before .before .before .before .before .before .before .before .before .before
+    .before .before .before .before .loop in
     the-at-bound .kept .1 .1 .1 .1 .1 .1 .1 .0 ∙ ap length (the-loop .inv .stack)
 
 same-length-12 : tie.Need-same-length-12 Inv-loop μ-loop
 same-length-12 c =
     let the-at-bound = c .before .before .before .before .before .before .before .before .before .before .at-bound in
-    let the-loop = c .before .before .before .before .before .before .before .before .before .before .before .before .before .before .before .before .before .before .loop in
+    let the-loop = c .before .before .before .before .before .before .before .before .before .before .before .before .before .before
+    .before .before .before .before .loop in
     the-at-bound .kept .1 .1 .1 .1 .1 .1 .1 .1 .0 ∙ ap length (the-loop .inv .unchanged .frames)
 
 returns-2 : tie.Need-returns-2 Inv-loop μ-loop
 returns-2 c =
-    let the-loop = c .before .before .before .before .before .before .before .before .before .before .before .before .before .before .before .before .before .before .loop in
-    let the-loop-test = c .before .before .before .before .before .before .before .before .before .before .before .before .before .before .before .before .before .loop-test in
+    let the-loop = c .before .before .before .before .before .before .before .before .before .before .before .before .before .before
+    .before .before .before .before .loop in
+    let the-loop-test = c .before .before .before .before .before .before .before .before .before .before .before .before .before
+    .before .before .before .before .loop-test in
     let the-at-bound = c .before .before .before .before .before .before .before .before .before .before .at-bound in
     let the-count = c .before .count in
     deepening-proved (the-loop .inv) (the-loop-test .taken) (the-at-bound .ensures) _ _ _ _ _ (the-count .given .1)
@@ -137,8 +155,10 @@ is-settled-requires c κs = tt
 
 sub-t43 : tie.Need-sub-t43 Inv-loop μ-loop
 sub-t43 c =
-    let the-loop = c .before .before .before .before .before .before .before .before .before .before .before .before .before .before .before .before .before .before .before .before .loop in
-    let the-loop-test = c .before .before .before .before .before .before .before .before .before .before .before .before .before .before .before .before .before .before .before .loop-test in
+    let the-loop = c .before .before .before .before .before .before .before .before .before .before .before .before .before .before
+    .before .before .before .before .before .before .loop in
+    let the-loop-test = c .before .before .before .before .before .before .before .before .before .before .before .before .before
+    .before .before .before .before .before .before .loop-test in
     let the-at-bound = c .before .before .before .before .before .before .before .before .before .before .before .before .at-bound in
     let the-left = c .before .before .before .left in
     let l = failed-left (the-loop .inv) (the-loop-test .taken) (the-at-bound .ensures) _ _ _ (the-left .given .1) in omega arith
@@ -146,76 +166,92 @@ sub-t43 c =
 same-length-13 : tie.Need-same-length-13 Inv-loop μ-loop
 same-length-13 c =
     let the-at-bound = c .before .before .before .before .before .before .before .before .before .before .before .before .at-bound in
-    let the-loop = c .before .before .before .before .before .before .before .before .before .before .before .before .before .before .before .before .before .before .before .before .loop in
+    let the-loop = c .before .before .before .before .before .before .before .before .before .before .before .before .before .before
+    .before .before .before .before .before .before .loop in
     the-at-bound .kept .1 .1 .1 .0 ∙ ap length (the-loop .inv .unchanged .words)
 
 same-length-14 : tie.Need-same-length-14 Inv-loop μ-loop
 same-length-14 c =
     let the-at-bound = c .before .before .before .before .before .before .before .before .before .before .before .before .at-bound in
-    let the-loop = c .before .before .before .before .before .before .before .before .before .before .before .before .before .before .before .before .before .before .before .before .loop in
+    let the-loop = c .before .before .before .before .before .before .before .before .before .before .before .before .before .before
+    .before .before .before .before .before .before .loop in
     the-at-bound .kept .1 .1 .1 .1 .0 ∙ ap length (the-loop .inv .unchanged .rows)
 
 same-length-15 : tie.Need-same-length-15 Inv-loop μ-loop
 same-length-15 c =
     let the-at-bound = c .before .before .before .before .before .before .before .before .before .before .before .before .at-bound in
-    let the-loop = c .before .before .before .before .before .before .before .before .before .before .before .before .before .before .before .before .before .before .before .before .loop in
+    let the-loop = c .before .before .before .before .before .before .before .before .before .before .before .before .before .before
+    .before .before .before .before .before .before .loop in
     the-at-bound .kept .1 .1 .1 .1 .1 .0 ∙ ap length (the-loop .inv .links)
 
 same-length-16 : tie.Need-same-length-16 Inv-loop μ-loop
 same-length-16 c =
     let the-at-bound = c .before .before .before .before .before .before .before .before .before .before .before .before .at-bound in
-    let the-loop = c .before .before .before .before .before .before .before .before .before .before .before .before .before .before .before .before .before .before .before .before .loop in
+    let the-loop = c .before .before .before .before .before .before .before .before .before .before .before .before .before .before
+    .before .before .before .before .before .before .loop in
     the-at-bound .kept .1 .1 .1 .1 .1 .1 .0 ∙ ap length (the-loop .inv .marks)
 
 same-length-17 : tie.Need-same-length-17 Inv-loop μ-loop
 same-length-17 c =
     let the-at-bound = c .before .before .before .before .before .before .before .before .before .before .before .before .at-bound in
-    let the-loop = c .before .before .before .before .before .before .before .before .before .before .before .before .before .before .before .before .before .before .before .before .loop in
+    let the-loop = c .before .before .before .before .before .before .before .before .before .before .before .before .before .before
+    .before .before .before .before .before .before .loop in
     the-at-bound .kept .1 .1 .1 .1 .1 .1 .1 .0 ∙ ap length (the-loop .inv .stack)
 
 same-length-18 : tie.Need-same-length-18 Inv-loop μ-loop
 same-length-18 c =
     let the-at-bound = c .before .before .before .before .before .before .before .before .before .before .before .before .at-bound in
-    let the-loop = c .before .before .before .before .before .before .before .before .before .before .before .before .before .before .before .before .before .before .before .before .loop in
+    let the-loop = c .before .before .before .before .before .before .before .before .before .before .before .before .before .before
+    .before .before .before .before .before .before .loop in
     the-at-bound .kept .1 .1 .1 .1 .1 .1 .1 .1 .0 ∙ ap length (the-loop .inv .unchanged .frames)
 
 returns-3 : tie.Need-returns-3 Inv-loop μ-loop
 returns-3 c =
-    let the-loop = c .before .before .before .before .before .before .before .before .before .before .before .before .before .before .before .before .before .before .before .before .loop in
-    let the-loop-test = c .before .before .before .before .before .before .before .before .before .before .before .before .before .before .before .before .before .before .before .loop-test in
+    let the-loop = c .before .before .before .before .before .before .before .before .before .before .before .before .before .before
+    .before .before .before .before .before .before .loop in
+    let the-loop-test = c .before .before .before .before .before .before .before .before .before .before .before .before .before
+    .before .before .before .before .before .before .loop-test in
     let the-at-bound = c .before .before .before .before .before .before .before .before .before .before .before .before .at-bound in
     let the-left = c .before .before .before .left in
     let the-is-settled = c .before .is-settled in
     let the-if1 = c .if1 in
-    deepening-nothing (the-loop .inv) (the-loop-test .taken) (the-at-bound .ensures) _ _ _ (the-left .given .1) (sym (the-is-settled .ensures) ∙ the-if1 .taken)
+    deepening-nothing (the-loop .inv) (the-loop-test .taken) (the-at-bound .ensures) _ _ _ (the-left .given .1)
+    (sym (the-is-settled .ensures) ∙ the-if1 .taken)
 
 sub-taken : tie.Need-sub-taken Inv-loop μ-loop
 sub-taken c =
-    let the-loop = c .before .before .before .before .before .before .before .before .before .before .before .before .before .before .before .before .before .before .before .before .loop in
-    let the-loop-test = c .before .before .before .before .before .before .before .before .before .before .before .before .before .before .before .before .before .before .before .loop-test in
+    let the-loop = c .before .before .before .before .before .before .before .before .before .before .before .before .before .before
+    .before .before .before .before .before .before .loop in
+    let the-loop-test = c .before .before .before .before .before .before .before .before .before .before .before .before .before
+    .before .before .before .before .before .before .loop-test in
     let the-at-bound = c .before .before .before .before .before .before .before .before .before .before .before .before .at-bound in
     let the-left = c .before .before .before .left in
     let l = failed-left (the-loop .inv) (the-loop-test .taken) (the-at-bound .ensures) _ _ _ (the-left .given .1) in omega arith
 
 add-depth : tie.Need-add-depth Inv-loop μ-loop
 add-depth c =
-    let the-pre = c .before .before .before .before .before .before .before .before .before .before .before .before .before .before .before .before .before .before .before .before .before .before .before .pre in
+    let the-pre = c .before .before .before .before .before .before .before .before .before .before .before .before .before .before
+    .before .before .before .before .before .before .before .before .before .pre in
     omega (arith, the-pre .1)
 
 loop-less : tie.Need-loop-less Inv-loop μ-loop
 loop-less c =
-    let the-loop = c .before .before .before .before .before .before .before .before .before .before .before .before .before .before .before .before .before .before .before .before .loop in
+    let the-loop = c .before .before .before .before .before .before .before .before .before .before .before .before .before .before
+    .before .before .before .before .before .before .loop in
     let p = the-loop .inv .positive in omega arith
 
 loop-again : tie.Need-loop-again Inv-loop μ-loop
 loop-again c =
-    let the-loop = c .before .before .before .before .before .before .before .before .before .before .before .before .before .before .before .before .before .before .before .before .loop in
-    let the-loop-test = c .before .before .before .before .before .before .before .before .before .before .before .before .before .before .before .before .before .before .before .loop-test in
+    let the-loop = c .before .before .before .before .before .before .before .before .before .before .before .before .before .before
+    .before .before .before .before .before .before .loop in
+    let the-loop-test = c .before .before .before .before .before .before .before .before .before .before .before .before .before
+    .before .before .before .before .before .before .loop-test in
     let the-at-bound = c .before .before .before .before .before .before .before .before .before .before .before .before .at-bound in
     let the-left = c .before .before .before .left in
     let the-is-settled = c .before .is-settled in
     let the-if1 = c .if1 in
-    deepening-on (the-loop .inv) (the-loop-test .taken) (the-at-bound .ensures) _ _ _ (the-left .given .1) (sym (the-is-settled .ensures) ∙ the-if1 .left)
+    deepening-on (the-loop .inv) (the-loop-test .taken) (the-at-bound .ensures) _ _ _ (the-left .given .1)
+    (sym (the-is-settled .ensures) ∙ the-if1 .left)
 
 same-length-19 : tie.Need-same-length-19 Inv-loop μ-loop
 same-length-19 c = ap length (c .before .loop .inv .unchanged .words)

@@ -18,17 +18,24 @@ frame-at-requires : tie.Need-frame-at-requires
 frame-at-requires c κs = search needs
 
 undo-requires : tie.Need-undo-requires
-undo-requires c κs = known-undoable (c .before .before .before .pre) (c .before .frame-at .result) (c .before .frame-at .ensures) (omega arith)
+undo-requires c κs = known-undoable (c .before .before .before .pre) (c .before .frame-at .result) (c .before .frame-at .ensures)
+    (omega arith)
 
 at-retry-requires : tie.Need-at-retry-requires
-at-retry-requires c κs = (known-few (c .before .before .before .before .before .pre) (c .before .before .before .frame-at .result) (c .before .before .before .frame-at .ensures) (omega arith), omega arith)
+at-retry-requires c κs = (
+  known-few (c .before .before .before .before .before .pre) (c .before .before .before .frame-at .result)
+      (c .before .before .before .frame-at .ensures) (omega arith),
+  omega arith,
+)
 
 same-length : tie.Need-same-length
 same-length c = search needs
 
 returns-2 : tie.Need-returns-2
 returns-2 c =
-    returned-as (c .at-retry .ensures) (returned-goal (c .before .before .before .before .before .before .pre) (c .before .before .before .before .frame-at .result) (c .before .before .before .before .frame-at .ensures) (omega arith) (c .before .before .undo .last .0) (c .before .before .undo .ensures))
+    returned-as (c .at-retry .ensures) (returned-goal (c .before .before .before .before .before .before .pre)
+    (c .before .before .before .before .frame-at .result) (c .before .before .before .before .frame-at .ensures) (omega arith)
+    (c .before .before .undo .last .0) (c .before .before .undo .ensures))
 
 pub back-spec : {M : Type 1} → statement M
 back-spec =

@@ -32,7 +32,8 @@ arity-of-requires c κs = search needs
 
 add-at-place : tie.Need-add-at-place
 add-at-place c =
-    let l = seen-place (c .before .before .before .before .before .before .pre) (c .before .before .before .frame-at .result) (c .before .before .before .frame-at .ensures) (omega arith) (omega arith) in omega arith
+    let l = seen-place (c .before .before .before .before .before .before .pre) (c .before .before .before .frame-at .result)
+    (c .before .before .before .frame-at .ensures) (omega arith) (omega arith) in omega arith
 
 sub-at-place : tie.Need-sub-at-place
 sub-at-place c = search needs
@@ -42,7 +43,10 @@ at-place-requires c κs = search needs
 
 returns-3 : tie.Need-returns-3
 returns-3 c =
-    moved-as (c .at-place .ensures) (moved-built (c .before .before .before .before .before .before .before .pre) (c .before .before .before .before .frame-at .result) (c .before .before .before .before .frame-at .ensures) (c .before .before .before .arity-of .result) (c .before .before .before .arity-of .ensures) (omega arith) (omega arith) (c .before .before .if3 .taken))
+    moved-as (c .at-place .ensures) (moved-built (c .before .before .before .before .before .before .before .pre)
+    (c .before .before .before .before .frame-at .result) (c .before .before .before .before .frame-at .ensures)
+    (c .before .before .before .arity-of .result) (c .before .before .before .arity-of .ensures) (omega arith) (omega arith)
+    (c .before .before .if3 .taken))
 
 sub-at-fail : tie.Need-sub-at-fail
 sub-at-fail c = search needs
@@ -52,11 +56,16 @@ at-fail-requires-2 c κs = search needs
 
 returns-4 : tie.Need-returns-4
 returns-4 c =
-    moved-as (c .at-fail2 .ensures) (moved-cut (c .before .before .before .before .before .before .before .before .pre) (c .before .before .before .before .before .frame-at .result) (c .before .before .before .before .before .frame-at .ensures) (c .before .before .before .before .arity-of .result) (c .before .before .before .before .arity-of .ensures) (omega arith) (omega arith) (c .before .before .before .if3 .left) (c .before .if4 .taken))
+    moved-as (c .at-fail2 .ensures) (moved-cut (c .before .before .before .before .before .before .before .before .pre)
+    (c .before .before .before .before .before .frame-at .result) (c .before .before .before .before .before .frame-at .ensures)
+    (c .before .before .before .before .arity-of .result) (c .before .before .before .before .arity-of .ensures) (omega arith)
+    (omega arith) (c .before .before .before .if3 .left) (c .before .if4 .taken))
 
 premise-requires : tie.Need-premise-requires
 premise-requires c κs =
-    seen-premise (c .before .before .before .before .before .before .before .pre) (c .before .before .before .before .frame-at .result) (c .before .before .before .before .frame-at .ensures) (omega arith) (omega arith) (c .before .before .before .arity-of .result) (c .before .before .before .arity-of .ensures) (c .before .before .if3 .left)
+    seen-premise (c .before .before .before .before .before .before .before .pre) (c .before .before .before .before .frame-at .result)
+    (c .before .before .before .before .frame-at .ensures) (omega arith) (omega arith) (c .before .before .before .arity-of .result)
+    (c .before .before .before .arity-of .ensures) (c .before .before .if3 .left)
 
 sub-at-goal : tie.Need-sub-at-goal
 sub-at-goal c = search needs
@@ -69,7 +78,13 @@ at-goal-requires c κs = search needs
 
 returns-5 : tie.Need-returns-5
 returns-5 c =
-    moved-as (c .at-goal .ensures) (moved-goal (c .before .before .before .before .before .before .before .before .before .before .pre) (c .before .before .before .before .before .before .before .frame-at .result) (c .before .before .before .before .before .before .before .frame-at .ensures) (c .before .before .before .before .before .before .arity-of .result) (c .before .before .before .before .before .before .arity-of .ensures) (omega arith) (omega arith) (c .before .before .premise .result) (c .before .before .premise .ensures) (c .before .before .before .before .before .if3 .left) (omega arith))
+    moved-as (c .at-goal .ensures) (moved-goal (c .before .before .before .before .before .before .before .before .before .before .pre)
+    (c .before .before .before .before .before .before .before .frame-at .result)
+    (c .before .before .before .before .before .before .before .frame-at .ensures)
+    (c .before .before .before .before .before .before .arity-of .result)
+    (c .before .before .before .before .before .before .arity-of .ensures) (omega arith) (omega arith)
+    (c .before .before .premise .result) (c .before .before .premise .ensures) (c .before .before .before .before .before .if3 .left)
+    (omega arith))
 
 pub enter-spec : {M : Type 1} → statement M
 enter-spec =

@@ -12,7 +12,14 @@ enum-told : tie.Need-enum-told
 enum-told c = search needs
 
 attempt-requires : tie.Need-attempt-requires
-attempt-requires c κs = (chosen-ready (c .before .before .before .before .before .before .before .before .before .before .before .before .before .pre .0) (c .before .before .before .before .before .before .before .before .before .before .before .before .before .pre .1) (c .before .before .before .before .before .before .before .before .next-candidate .ensures), chosen-choice (c .before .before .before .before .before .before .before .before .before .before .before .before .before .pre .0) (c .before .before .before .before .before .before .before .before .before .before .before .before .before .pre .1) (c .before .before .before .before .before .before .before .before .next-candidate .ensures) (c .before .before .before .before .before .before .enum-told .given .1))
+attempt-requires c κs =
+    let the-pre = c .before .before .before .before .before .before .before .before .before .before .before .before .before .pre in
+    let the-next-candidate = c .before .before .before .before .before .before .before .before .next-candidate in
+    let the-enum-told = c .before .before .before .before .before .before .enum-told in (
+      chosen-ready (the-pre .0) (the-pre .1) (the-next-candidate .ensures),
+      chosen-choice (the-pre .0) (the-pre .1)
+          (the-next-candidate .ensures) (the-enum-told .given .1),
+    )
 
 enum-told-2 : tie.Need-enum-told-2
 enum-told-2 c = search needs
@@ -48,7 +55,15 @@ same-length-6 : tie.Need-same-length-6
 same-length-6 c = c .before .before .before .before .before .before .before .attempt .kept .1 .1 .1 .1 .1 .1 .1 .1 .0
 
 returns : tie.Need-returns
-returns c = chosen-tried (c .before .before .before .before .before .before .before .before .before .before .before .before .before .before .before .before .before .before .before .before .before .pre .0) (c .before .before .before .before .before .before .before .before .before .before .before .before .before .before .before .before .before .before .before .before .before .pre .1) (c .before .before .before .before .before .before .before .before .before .before .before .before .before .before .before .before .next-candidate .ensures) (c .before .before .before .before .before .before .before .before .before .before .before .before .before .before .enum-told .given .1) (c .before .before .before .before .before .before .before .attempt .ensures)
+returns c =
+    let the-pre = c .before .before .before .before .before .before .before .before .before .before .before .before .before .before
+    .before .before .before .before .before .before .before .pre in
+    let the-next-candidate = c .before .before .before .before .before .before .before .before .before .before .before .before
+    .before .before .before .before .next-candidate in
+    let the-enum-told = c .before .before .before .before .before .before .before .before .before .before .before .before .before
+    .before .enum-told in
+    let the-attempt = c .before .before .before .before .before .before .before .attempt in
+    chosen-tried (the-pre .0) (the-pre .1) (the-next-candidate .ensures) (the-enum-told .given .1) (the-attempt .ensures)
 
 same-length-7 : tie.Need-same-length-7
 same-length-7 c = search needs
@@ -57,7 +72,11 @@ same-length-8 : tie.Need-same-length-8
 same-length-8 c = search needs
 
 returns-2 : tie.Need-returns-2
-returns-2 c = chosen-stops (c .before .before .before .before .before .before .before .pre .0) (c .before .before .before .before .before .before .before .pre .1) (c .before .before .next-candidate .ensures) Enter (c .enum-told2 .given .1) (λ h. h _)
+returns-2 c =
+    let the-pre = c .before .before .before .before .before .before .before .pre in
+    let the-next-candidate = c .before .before .next-candidate in
+    let the-enum-told2 = c .enum-told2 in
+    chosen-stops (the-pre .0) (the-pre .1) (the-next-candidate .ensures) Enter (the-enum-told2 .given .1) (λ h. h _)
 
 same-length-9 : tie.Need-same-length-9
 same-length-9 c = search needs
@@ -66,7 +85,11 @@ same-length-10 : tie.Need-same-length-10
 same-length-10 c = search needs
 
 returns-3 : tie.Need-returns-3
-returns-3 c = chosen-stops (c .before .before .before .before .before .before .before .pre .0) (c .before .before .before .before .before .before .before .pre .1) (c .before .before .next-candidate .ensures) Fail (c .enum-told3 .given .1) (λ h. h _)
+returns-3 c =
+    let the-pre = c .before .before .before .before .before .before .before .pre in
+    let the-next-candidate = c .before .before .next-candidate in
+    let the-enum-told3 = c .enum-told3 in
+    chosen-stops (the-pre .0) (the-pre .1) (the-next-candidate .ensures) Fail (the-enum-told3 .given .1) (λ h. h _)
 
 same-length-11 : tie.Need-same-length-11
 same-length-11 c = search needs
@@ -75,7 +98,11 @@ same-length-12 : tie.Need-same-length-12
 same-length-12 c = search needs
 
 returns-4 : tie.Need-returns-4
-returns-4 c = chosen-stops (c .before .before .before .before .before .before .before .pre .0) (c .before .before .before .before .before .before .before .pre .1) (c .before .before .next-candidate .ensures) Proved (c .enum-told4 .given .1) (λ h. h _)
+returns-4 c =
+    let the-pre = c .before .before .before .before .before .before .before .pre in
+    let the-next-candidate = c .before .before .next-candidate in
+    let the-enum-told4 = c .enum-told4 in
+    chosen-stops (the-pre .0) (the-pre .1) (the-next-candidate .ensures) Proved (the-enum-told4 .given .1) (λ h. h _)
 
 same-length-13 : tie.Need-same-length-13
 same-length-13 c = search needs
@@ -84,7 +111,11 @@ same-length-14 : tie.Need-same-length-14
 same-length-14 c = search needs
 
 returns-5 : tie.Need-returns-5
-returns-5 c = chosen-stops (c .before .before .before .before .before .before .before .pre .0) (c .before .before .before .before .before .before .before .pre .1) (c .before .before .next-candidate .ensures) Over (c .enum-told5 .given .1) (λ h. h _)
+returns-5 c =
+    let the-pre = c .before .before .before .before .before .before .before .pre in
+    let the-next-candidate = c .before .before .next-candidate in
+    let the-enum-told5 = c .enum-told5 in
+    chosen-stops (the-pre .0) (the-pre .1) (the-next-candidate .ensures) Over (the-enum-told5 .given .1) (λ h. h _)
 
 same-length-15 : tie.Need-same-length-15
 same-length-15 c = search needs
@@ -93,7 +124,11 @@ same-length-16 : tie.Need-same-length-16
 same-length-16 c = search needs
 
 returns-6 : tie.Need-returns-6
-returns-6 c = chosen-stops (c .before .before .before .before .before .before .before .pre .0) (c .before .before .before .before .before .before .before .pre .1) (c .before .before .next-candidate .ensures) Refused (c .enum-told6 .given .1) (λ h. h _)
+returns-6 c =
+    let the-pre = c .before .before .before .before .before .before .before .pre in
+    let the-next-candidate = c .before .before .next-candidate in
+    let the-enum-told6 = c .enum-told6 in
+    chosen-stops (the-pre .0) (the-pre .1) (the-next-candidate .ensures) Refused (the-enum-told6 .given .1) (λ h. h _)
 
 pub next-rule-spec : {M : Type 1} → statement M
 next-rule-spec =

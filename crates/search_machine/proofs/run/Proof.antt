@@ -21,13 +21,22 @@ is-live-requires : tie.Need-is-live-requires Inv-loop μ-loop
 is-live-requires c κs = tt
 
 step-requires : tie.Need-step-requires Inv-loop μ-loop
-step-requires c κs = (c .before .before .before .before .before .before .before .before .loop .inv .ready, c .before .before .before .before .before .before .before .is-live .ensures .0 (c .before .before .before .before .before .before .if1 .taken))
+step-requires c κs = (
+  c .before .before .before .before .before .before .before .before .loop .inv .ready,
+  c .before .before .before .before .before
+      .before .before .is-live .ensures .0 (c .before .before .before .before .before .before .if1 .taken),
+)
 
 loop-less : tie.Need-loop-less Inv-loop μ-loop
 loop-less c = c .before .before .before .before .before .before .before .step .ensures .falls
 
 loop-again : tie.Need-loop-again Inv-loop μ-loop
-loop-again c = going-on (c .before .before .before .before .before .before .before .before .before .before .before .before .before .before .before .before .loop .inv) (c .before .before .before .before .before .before .before .step .ensures) (c .before .before .before .before .before .before .before .step .kept .1 .1 .1 .0) (c .before .before .before .before .before .before .before .step .kept .1 .1 .1 .1 .0) (c .before .before .before .before .before .before .before .step .kept .1 .1 .1 .1 .1 .1 .1 .1 .0)
+loop-again c = going-on
+    (c .before .before .before .before .before .before .before .before .before .before .before .before .before .before .before
+    .before .loop .inv) (c .before .before .before .before .before .before .before .step .ensures)
+    (c .before .before .before .before .before .before .before .step .kept .1 .1 .1 .0)
+    (c .before .before .before .before .before .before .before .step .kept .1 .1 .1 .1 .0)
+    (c .before .before .before .before .before .before .before .step .kept .1 .1 .1 .1 .1 .1 .1 .1 .0)
 
 same-length : tie.Need-same-length Inv-loop μ-loop
 same-length c = c .before .before .loop .inv .wordsLong

@@ -16,7 +16,11 @@ enum-told-2 : tie.Need-enum-told-2
 enum-told-2 c = search needs
 
 next-rule-requires : tie.Need-next-rule-requires
-next-rule-requires c κs = (c .before .before .before .before .before .before .before .before .before .before .pre .0, c .before .before .before .before .before .before .enum-told2 .given .1)
+next-rule-requires c κs = (
+  c .before .before .before .before .before .before .before .before .before .before .pre .0,
+  c .before .before .before .before
+      .before .before .enum-told2 .given .1,
+)
 
 enum-told-3 : tie.Need-enum-told-3
 enum-told-3 c = search needs

@@ -40,57 +40,76 @@ run-requires c κs =
 
 leave-requires : tie.Need-leave-requires
 leave-requires c κs =
-    let the-pre = c .before .before .before .before .before .before .before .before .before .before .before .before .before .before .before .before .before .before .before .before .before .before .pre in
-    let the-args = c .before .before .before .before .before .before .before .before .before .before .before .before .before .before .before .before .before .before .before .before .before .before .args in
-    let the-if1 = c .before .before .before .before .before .before .before .before .before .before .before .before .before .before .before .before .before .before .before .if1 in
-    let the-if2 = c .before .before .before .before .before .before .before .before .before .before .before .before .before .before .before .before .before .before .if2 in
-    let the-at-start = c .before .before .before .before .before .before .before .before .before .before .before .before .before .before .before .before .before .at-start in
+    let the-pre = c .before .before .before .before .before .before .before .before .before .before .before .before .before .before
+    .before .before .before .before .before .before .before .before .pre in
+    let the-args = c .before .before .before .before .before .before .before .before .before .before .before .before .before .before
+    .before .before .before .before .before .before .before .before .args in
+    let the-if1 = c .before .before .before .before .before .before .before .before .before .before .before .before .before .before
+    .before .before .before .before .before .if1 in
+    let the-if2 = c .before .before .before .before .before .before .before .before .before .before .before .before .before .before
+    .before .before .before .before .if2 in
+    let the-at-start = c .before .before .before .before .before .before .before .before .before .before .before .before .before
+    .before .before .before .before .at-start in
     let the-run = c .before .before .before .before .before .before .before .before .before .before .run in
-    bound-leaving (the-pre) (the-args .depth) (omega (arith, the-if1 .left)) (omega (arith, the-if2 .left)) (the-at-start .ensures) (the-run .ensures)
+    bound-leaving (the-pre) (the-args .depth) (omega (arith, the-if1 .left)) (omega (arith, the-if2 .left)) (the-at-start .ensures)
+    (the-run .ensures)
 
 same-length : tie.Need-same-length
 same-length c =
     let the-leave = c .before .before .before .before .leave in
-    let the-run = c .before .before .before .before .before .before .before .before .before .before .before .before .before .before .before .run in
+    let the-run = c .before .before .before .before .before .before .before .before .before .before .before .before .before .before
+    .before .run in
     the-leave .kept .0 ∙ the-run .kept .1 .1 .1 .0
 
 same-length-2 : tie.Need-same-length-2
 same-length-2 c =
     let the-leave = c .before .before .before .before .leave in
-    let the-run = c .before .before .before .before .before .before .before .before .before .before .before .before .before .before .before .run in
+    let the-run = c .before .before .before .before .before .before .before .before .before .before .before .before .before .before
+    .before .run in
     the-leave .kept .1 .0 ∙ the-run .kept .1 .1 .1 .1 .0
 
 same-length-3 : tie.Need-same-length-3
 same-length-3 c =
-    let the-run = c .before .before .before .before .before .before .before .before .before .before .before .before .before .before .before .run in
+    let the-run = c .before .before .before .before .before .before .before .before .before .before .before .before .before .before
+    .before .run in
     the-run .kept .1 .1 .1 .1 .1 .0
 
 same-length-4 : tie.Need-same-length-4
 same-length-4 c =
-    let the-run = c .before .before .before .before .before .before .before .before .before .before .before .before .before .before .before .run in
+    let the-run = c .before .before .before .before .before .before .before .before .before .before .before .before .before .before
+    .before .run in
     the-run .kept .1 .1 .1 .1 .1 .1 .0
 
 same-length-5 : tie.Need-same-length-5
 same-length-5 c =
-    let the-run = c .before .before .before .before .before .before .before .before .before .before .before .before .before .before .before .run in
+    let the-run = c .before .before .before .before .before .before .before .before .before .before .before .before .before .before
+    .before .run in
     the-run .kept .1 .1 .1 .1 .1 .1 .1 .0
 
 same-length-6 : tie.Need-same-length-6
 same-length-6 c =
     let the-leave = c .before .before .before .before .leave in
-    let the-run = c .before .before .before .before .before .before .before .before .before .before .before .before .before .before .before .run in
+    let the-run = c .before .before .before .before .before .before .before .before .before .before .before .before .before .before
+    .before .run in
     the-leave .kept .1 .1 .0 ∙ the-run .kept .1 .1 .1 .1 .1 .1 .1 .1 .0
 
 returns-3 : tie.Need-returns-3
 returns-3 c =
-    let the-pre = c .before .before .before .before .before .before .before .before .before .before .before .before .before .before .before .before .before .before .before .before .before .before .before .before .before .before .before .pre in
-    let the-args = c .before .before .before .before .before .before .before .before .before .before .before .before .before .before .before .before .before .before .before .before .before .before .before .before .before .before .before .args in
-    let the-if1 = c .before .before .before .before .before .before .before .before .before .before .before .before .before .before .before .before .before .before .before .before .before .before .before .before .if1 in
-    let the-if2 = c .before .before .before .before .before .before .before .before .before .before .before .before .before .before .before .before .before .before .before .before .before .before .before .if2 in
-    let the-at-start = c .before .before .before .before .before .before .before .before .before .before .before .before .before .before .before .before .before .before .before .before .before .before .at-start in
-    let the-run = c .before .before .before .before .before .before .before .before .before .before .before .before .before .before .before .run in
+    let the-pre = c .before .before .before .before .before .before .before .before .before .before .before .before .before .before
+    .before .before .before .before .before .before .before .before .before .before .before .before .before .pre in
+    let the-args = c .before .before .before .before .before .before .before .before .before .before .before .before .before .before
+    .before .before .before .before .before .before .before .before .before .before .before .before .before .args in
+    let the-if1 = c .before .before .before .before .before .before .before .before .before .before .before .before .before .before
+    .before .before .before .before .before .before .before .before .before .before .if1 in
+    let the-if2 = c .before .before .before .before .before .before .before .before .before .before .before .before .before .before
+    .before .before .before .before .before .before .before .before .before .if2 in
+    let the-at-start = c .before .before .before .before .before .before .before .before .before .before .before .before .before
+    .before .before .before .before .before .before .before .before .before .at-start in
+    let the-run = c .before .before .before .before .before .before .before .before .before .before .before .before .before .before
+    .before .run in
     let the-leave = c .before .before .before .before .leave in
-    bound-left (the-pre) (the-args .depth) (omega (arith, the-if1 .left)) (omega (arith, the-if2 .left)) (the-at-start .ensures) (the-run .ensures) (the-leave .ensures)
+    bound-left (the-pre) (the-args .depth) (omega (arith, the-if1 .left)) (omega (arith, the-if2 .left)) (the-at-start .ensures)
+    (the-run .ensures) (the-leave .ensures)
 
 pub at-bound-spec : {M : Type 1} → statement M
 at-bound-spec =

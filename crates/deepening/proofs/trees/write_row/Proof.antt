@@ -19,7 +19,8 @@ returns : tie.Need-returns
 returns c = search needs
 
 returns-2 : tie.Need-returns-2
-returns-2 c = sym (set-out (c .before .args .frames .now) (c .before .args .at) (treeRow (c .before .args .height) (c .before .args .rule) (c .before .args .goal)) (c .if1 .left))
+returns-2 c = sym (set-out (c .before .args .frames .now) (c .before .args .at)
+    (treeRow (c .before .args .height) (c .before .args .rule) (c .before .args .goal)) (c .if1 .left))
 
 pub write-row-spec : {M : Type 1} → statement M
 write-row-spec = tie.close (tie.spec mul-t10 slice-set-from-frames same-length returns returns-2)

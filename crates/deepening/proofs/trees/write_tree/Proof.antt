@@ -33,14 +33,23 @@ loop-less : tie.Need-loop-less Inv-loop μ-loop
 loop-less c = omega arith
 
 loop-again : tie.Need-loop-again Inv-loop μ-loop
-loop-again c = (tree-next (c .before .before .before .before .before .before .before .before .args .depth) (c .before .before .before .before .before .before .before .before .args .frames .now) (c .before .before .before .before .before .before .before .loop .i) (c .before .before .before .before .before .before .before .loop .inv .0) (c .before .before .before .before .frame-at .ensures) (c .before .before .before .above .ensures) (c .before .write-row .ensures), omega arith)
+loop-again c = (
+  tree-next (c .before .before .before .before .before .before .before .before .args .depth)
+      (c .before .before .before .before .before .before .before .before .args .frames .now)
+      (c .before .before .before .before .before .before .before .loop .i)
+      (c .before .before .before .before .before .before .before .loop .inv .0) (c .before .before .before .before .frame-at .ensures)
+      (c .before .before .before .above .ensures) (c .before .write-row .ensures),
+  omega arith,
+)
 
 same-length : tie.Need-same-length Inv-loop μ-loop
-same-length c = ap length (c .before .loop .inv .0) ∙ tree-length (c .before .before .args .depth) (c .before .before .args .frames .now) (c .before .loop .i)
+same-length c = ap length (c .before .loop .inv .0) ∙ tree-length (c .before .before .args .depth) (c .before .before .args .frames .now)
+    (c .before .loop .i)
 
 returns : tie.Need-returns Inv-loop μ-loop
 returns c =
-    let e : c .before .loop .i ≡ c .before .before .args .count = omega arith in c .before .loop .inv .0 ∙ ap (treeRows (c .before .before .args .depth) (c .before .before .args .frames .now)) e
+    let e : c .before .loop .i ≡ c .before .before .args .count = omega arith in c .before .loop .inv .0
+    ∙ ap (treeRows (c .before .before .args .depth) (c .before .before .args .frames .now)) e
 
 pub write-tree-spec : {M : Type 1} → statement M
 write-tree-spec =

@@ -6,7 +6,8 @@ use Rattle.search_machine.proofs.candidates.exceeds.Tie as tie
 
 returns : tie.Need-returns
 returns c =
-    let args = c .before .before .args in over-variables (args .allowed .variables) (args .allowed .words) (args .variables) (args .words) (c .if1 .taken)
+    let args = c .before .before .args in over-variables (args .allowed .variables) (args .allowed .words) (args .variables) (args .words)
+    (c .if1 .taken)
 
 returns-2 : tie.Need-returns-2
 unfolding less

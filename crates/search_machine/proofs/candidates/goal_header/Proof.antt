@@ -18,7 +18,8 @@ mul-result : tie.Need-mul-result
 mul-result c = search needs
 
 shared-slice-read-result : tie.Need-shared-slice-read-result
-shared-slice-read-result c = let l = node-in (c .before .before .walk .ensures) (c .before .if1 .left) (c .before .before .before .before .pre) in omega arith
+shared-slice-read-result c = let l = node-in (c .before .before .walk .ensures) (c .before .if1 .left)
+    (c .before .before .before .before .pre) in omega arith
 
 returns-2 : tie.Need-returns-2
 returns-2 c = heads-node (c .before .before .walk .ensures) (c .before .if1 .left)

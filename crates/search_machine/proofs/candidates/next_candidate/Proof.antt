@@ -3,20 +3,23 @@
 use Prim.Native.Nat.{_-_}
 use native.Mathlib.Omega.{arith}
 use mathlib.Core.Path.{sym, ap, _∙_}
-use borrow.Author.Needs.{needs}
 use Rattle.search_machine.specs.Moves.{toFail, toStop}
 use Rattle.search_machine.specs.Choosing.{Passing}
-use Rattle.search_machine.specs.ChoosingLaws.{choosing-goal, choosing-readable, passing-start, passing-small, passing-few, passing-next, passing-over, passing-found, passing-end, chosen-as}
+use Rattle.search_machine.specs.ChoosingLaws.{choosing-goal, choosing-readable, passing-start, passing-small, passing-few}
+use Rattle.search_machine.specs.ChoosingLaws.{passing-next, passing-over, passing-found, passing-end, chosen-as}
 use Rattle.search_machine.specs.declared.Machine.{Machine}
 use Rattle.search_machine.specs.declared.Mode.the-variants.{Refused}
+use borrow.Author.Needs.{needs}
 use Rattle.search_machine.proofs.candidates.next_candidate.Statement.{statement}
 use Rattle.search_machine.proofs.candidates.next_candidate.Tie as tie
 
 abbrev Inv-loop : tie.InvT-loop
-Inv-loop rules pattern allowed words bindings m header rule₀ counter₀ rule counter = Passing allowed pattern rules words bindings m rule counter
+Inv-loop rules pattern allowed words bindings m header rule₀ counter₀ rule counter =
+    Passing allowed pattern rules words bindings m rule counter
 
 abbrev μ-loop : tie.MeasureT-loop
-μ-loop rules pattern allowed words bindings m header rule₀ counter₀ rule counter = allowed .rules - rule
+μ-loop rules pattern allowed words bindings m header rule₀ counter₀ rule counter =
+    allowed .rules - rule
 
 goal-header-requires : tie.Need-goal-header-requires Inv-loop μ-loop
 goal-header-requires c κs = choosing-goal (c .before .before .pre)
@@ -28,7 +31,11 @@ cast-row : tie.Need-cast-row Inv-loop μ-loop
 cast-row c = search needs
 
 mul-head : tie.Need-mul-head Inv-loop μ-loop
-mul-head c = let l = passing-few (c .before .before .before .before .before .before .pre) (c .before .before .loop .inv) (c .if1 .taken) in omega arith
+mul-head c =
+    let the-pre = c .before .before .before .before .before .before .pre in
+    let the-loop = c .before .before .loop in
+    let the-if1 = c .if1 in
+    let l = passing-few (the-pre) (the-loop .inv) (the-if1 .taken) in omega arith
 
 index-1-head : tie.Need-index-1-head Inv-loop μ-loop
 index-1-head c = let l = c .before .before .before .before .before .before .pre .holds .rules .lent in omega arith
@@ -37,22 +44,40 @@ index-2-head : tie.Need-index-2-head Inv-loop μ-loop
 index-2-head c = search needs
 
 add-head : tie.Need-add-head Inv-loop μ-loop
-add-head c = let l = passing-small (c .before .before .before .before .before .before .before .before .pre) (c .before .before .before .before .loop .inv) (c .before .before .if1 .taken) .0 in omega arith
+add-head c =
+    let the-pre = c .before .before .before .before .before .before .before .before .pre in
+    let the-loop = c .before .before .before .before .loop in
+    let the-if1 = c .before .before .if1 in
+    let l = passing-small (the-pre) (the-loop .inv) (the-if1 .taken) .0 in omega arith
 
 may-unify-requires : tie.Need-may-unify-requires Inv-loop μ-loop
-may-unify-requires c κs = choosing-readable (c .before .before .before .before .before .before .before .before .pre) (c .before .before .before .before .loop .rule) (c .before .before .if1 .taken)
+may-unify-requires c κs =
+    let the-pre = c .before .before .before .before .before .before .before .before .pre in
+    let the-loop = c .before .before .before .before .loop in
+    let the-if1 = c .before .before .if1 in
+    choosing-readable (the-pre) (the-loop .rule) (the-if1 .taken)
 
 mul-larger : tie.Need-mul-larger Inv-loop μ-loop
-mul-larger c = let l = passing-few (c .before .before .before .before .before .before .before .before .before .before .pre) (c .before .before .before .before .before .before .loop .inv) (c .before .before .before .before .if1 .taken) in omega arith
+mul-larger c =
+    let the-pre = c .before .before .before .before .before .before .before .before .before .before .pre in
+    let the-loop = c .before .before .before .before .before .before .loop in
+    let the-if1 = c .before .before .before .before .if1 in
+    let l = passing-few (the-pre) (the-loop .inv) (the-if1 .taken) in omega arith
 
 index-1-larger : tie.Need-index-1-larger Inv-loop μ-loop
-index-1-larger c = let l = c .before .before .before .before .before .before .before .before .before .before .pre .holds .rules .lent in omega arith
+index-1-larger c =
+    let the-pre = c .before .before .before .before .before .before .before .before .before .before .pre in
+    let l = the-pre .holds .rules .lent in omega arith
 
 index-2-larger : tie.Need-index-2-larger Inv-loop μ-loop
 index-2-larger c = search needs
 
 add-larger : tie.Need-add-larger Inv-loop μ-loop
-add-larger c = let l = passing-small (c .before .before .before .before .before .before .before .before .before .before .before .pre) (c .before .before .before .before .before .before .before .loop .inv) (c .before .before .before .before .before .if1 .taken) .1 in omega arith
+add-larger c =
+    let the-pre = c .before .before .before .before .before .before .before .before .before .before .before .pre in
+    let the-loop = c .before .before .before .before .before .before .before .loop in
+    let the-if1 = c .before .before .before .before .before .if1 in
+    let l = passing-small (the-pre) (the-loop .inv) (the-if1 .taken) .1 in omega arith
 
 larger-requires : tie.Need-larger-requires Inv-loop μ-loop
 larger-requires c κs = tt
@@ -61,19 +86,36 @@ at-rule-requires : tie.Need-at-rule-requires Inv-loop μ-loop
 at-rule-requires c κs = tt
 
 returns : tie.Need-returns Inv-loop μ-loop
-returns c = chosen-as (c .at-rule .ensures) (passing-found (c .before .before .before .before .before .before .before .before .before .before .before .before .before .pre) (c .before .before .before .before .before .before .before .before .before .loop .inv) (c .before .larger .result) (c .before .before .before .before .before .before .before .if1 .taken) (c .before .larger .ensures .0) (c .before .larger .ensures .1))
+returns c =
+    let the-at-rule = c .at-rule in
+    let the-pre = c .before .before .before .before .before .before .before .before .before .before .before .before .before .pre in
+    let the-loop = c .before .before .before .before .before .before .before .before .before .loop in
+    let the-larger = c .before .larger in
+    let the-if1 = c .before .before .before .before .before .before .before .if1 in
+    chosen-as (the-at-rule .ensures) (passing-found (the-pre) (the-loop .inv) (the-larger .result) (the-if1 .taken)
+    (the-larger .ensures .0) (the-larger .ensures .1))
 
 mul-met : tie.Need-mul-met Inv-loop μ-loop
-mul-met c = let l = passing-few (c .before .before .before .before .before .before .before .before .before .before .pre) (c .before .before .before .before .before .before .loop .inv) (c .before .before .before .before .if1 .taken) in omega arith
+mul-met c =
+    let the-pre = c .before .before .before .before .before .before .before .before .before .before .pre in
+    let the-loop = c .before .before .before .before .before .before .loop in
+    let the-if1 = c .before .before .before .before .if1 in
+    let l = passing-few (the-pre) (the-loop .inv) (the-if1 .taken) in omega arith
 
 index-1-met : tie.Need-index-1-met Inv-loop μ-loop
-index-1-met c = let l = c .before .before .before .before .before .before .before .before .before .before .pre .holds .rules .lent in omega arith
+index-1-met c =
+    let the-pre = c .before .before .before .before .before .before .before .before .before .before .pre in
+    let l = the-pre .holds .rules .lent in omega arith
 
 index-2-met : tie.Need-index-2-met Inv-loop μ-loop
 index-2-met c = search needs
 
 add-met : tie.Need-add-met Inv-loop μ-loop
-add-met c = let l = passing-small (c .before .before .before .before .before .before .before .before .before .before .before .pre) (c .before .before .before .before .before .before .before .loop .inv) (c .before .before .before .before .before .if1 .taken) .2 in omega arith
+add-met c =
+    let the-pre = c .before .before .before .before .before .before .before .before .before .before .before .pre in
+    let the-loop = c .before .before .before .before .before .before .before .loop in
+    let the-if1 = c .before .before .before .before .before .if1 in
+    let l = passing-small (the-pre) (the-loop .inv) (the-if1 .taken) .2 in omega arith
 
 exceeds-requires : tie.Need-exceeds-requires Inv-loop μ-loop
 exceeds-requires c κs = tt
@@ -85,16 +127,42 @@ at-stop-requires : tie.Need-at-stop-requires Inv-loop μ-loop
 at-stop-requires c κs = tt
 
 returns-2 : tie.Need-returns-2 Inv-loop μ-loop
-returns-2 c = chosen-as (c .at-stop .ensures ∙ ap (λ (n : Machine). toStop n Refused (c .before .before .before .before .before .before .before .before .before .before .before .before .before .before .before .args .m .steps)) (c .before .at-rule2 .ensures)) (passing-over (c .before .before .before .before .before .before .before .before .before .before .before .before .before .before .before .pre) (c .before .before .before .before .before .before .before .before .before .before .before .loop .inv) (c .before .before .before .before .before .before .before .before .before .if1 .taken) (sym (c .before .before .before .exceeds .ensures) ∙ c .before .before .if3 .taken))
+returns-2 c =
+    let the-at-stop = c .at-stop in
+    let the-args = c .before .before .before .before .before .before .before .before .before .before .before .before .before .before
+    .before .args in
+    let the-at-rule2 = c .before .at-rule2 in
+    let the-pre = c .before .before .before .before .before .before .before .before .before .before .before .before .before .before
+    .before .pre in
+    let the-loop = c .before .before .before .before .before .before .before .before .before .before .before .loop in
+    let the-if1 = c .before .before .before .before .before .before .before .before .before .if1 in
+    let the-exceeds = c .before .before .before .exceeds in
+    let the-if3 = c .before .before .if3 in
+    chosen-as (the-at-stop .ensures ∙ ap (λ (n : Machine). toStop n Refused (the-args .m .steps)) (the-at-rule2 .ensures))
+    (passing-over (the-pre) (the-loop .inv) (the-if1 .taken) (sym (the-exceeds .ensures) ∙ the-if3 .taken))
 
 add-rule : tie.Need-add-rule Inv-loop μ-loop
-add-rule c = let l = passing-few (c .before .before .before .before .before .before .before .before .before .before .before .before .before .pre) (c .before .before .before .before .before .before .before .before .before .loop .inv) (c .before .before .before .before .before .before .before .if1 .taken) in omega arith
+add-rule c =
+    let the-pre = c .before .before .before .before .before .before .before .before .before .before .before .before .before .pre in
+    let the-loop = c .before .before .before .before .before .before .before .before .before .loop in
+    let the-if1 = c .before .before .before .before .before .before .before .if1 in
+    let l = passing-few (the-pre) (the-loop .inv) (the-if1 .taken) in omega arith
 
 loop-less : tie.Need-loop-less Inv-loop μ-loop
 loop-less c = omega arith
 
 loop-again : tie.Need-loop-again Inv-loop μ-loop
-loop-again c = passing-next (c .before .before .before .before .before .before .before .before .before .before .before .before .before .pre) (c .before .before .before .before .before .before .before .before .before .loop .inv) (c .before .before .before .before .before .before .before .before .before .before .goal-header .ensures) (c .before .before .before .before .before .before .before .if1 .taken) (c .before .before .before .before .may-unify .ensures (c .before .before .before .if2 .left)) (sym (c .before .exceeds .ensures) ∙ c .if3 .left)
+loop-again c =
+    let the-pre = c .before .before .before .before .before .before .before .before .before .before .before .before .before .pre in
+    let the-loop = c .before .before .before .before .before .before .before .before .before .loop in
+    let the-goal-header = c .before .before .before .before .before .before .before .before .before .before .goal-header in
+    let the-if1 = c .before .before .before .before .before .before .before .if1 in
+    let the-may-unify = c .before .before .before .before .may-unify in
+    let the-if2 = c .before .before .before .if2 in
+    let the-exceeds = c .before .exceeds in
+    let the-if3 = c .if3 in
+    passing-next (the-pre) (the-loop .inv) (the-goal-header .ensures) (the-if1 .taken) (the-may-unify .ensures (the-if2 .left))
+    (sym (the-exceeds .ensures) ∙ the-if3 .left)
 
 at-rule-requires-3 : tie.Need-at-rule-requires-3 Inv-loop μ-loop
 at-rule-requires-3 c κs = tt
@@ -103,7 +171,15 @@ at-fail-requires : tie.Need-at-fail-requires Inv-loop μ-loop
 at-fail-requires c κs = tt
 
 returns-3 : tie.Need-returns-3 Inv-loop μ-loop
-returns-3 c = chosen-as (c .at-fail .ensures ∙ ap (λ (n : Machine). toFail n (c .before .before .before .before .before .before .before .before .args .m .steps) (c .before .before .before .before .before .before .before .before .args .m .cut)) (c .before .at-rule3 .ensures)) (passing-end (c .before .before .before .before .before .before .before .before .pre) (c .before .before .before .before .loop .inv) (c .before .before .if1 .left))
+returns-3 c =
+    let the-at-fail = c .at-fail in
+    let the-args = c .before .before .before .before .before .before .before .before .args in
+    let the-at-rule3 = c .before .at-rule3 in
+    let the-pre = c .before .before .before .before .before .before .before .before .pre in
+    let the-loop = c .before .before .before .before .loop in
+    let the-if1 = c .before .before .if1 in
+    chosen-as (the-at-fail .ensures ∙ ap (λ (n : Machine). toFail n (the-args .m .steps) (the-args .m .cut)) (the-at-rule3 .ensures))
+    (passing-end (the-pre) (the-loop .inv) (the-if1 .left))
 
 pub next-candidate-spec : {M : Type 1} → statement M
 next-candidate-spec =

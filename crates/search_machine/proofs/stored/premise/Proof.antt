@@ -59,7 +59,8 @@ moved-word-requires : tie.Need-moved-word-requires
 moved-word-requires c κs = premise-lent (c .before .before .before .before .before .before .before .before .before .pre) (search needs)
 
 returns : tie.Need-returns
-returns c = premise-is (c .before .before .before .before .before .before .before .before .before .before .pre) (search needs) (c .moved-word .ensures)
+returns c = premise-is (c .before .before .before .before .before .before .before .before .before .before .pre) (search needs)
+    (c .moved-word .ensures)
 
 pub premise-spec : {M : Type 1} → statement M
 premise-spec =

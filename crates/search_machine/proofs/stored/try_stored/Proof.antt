@@ -50,7 +50,9 @@ part-try-rule-end-2 : tie.Need-part-try-rule-end-2
 part-try-rule-end-2 c = search needs
 
 try-rule-requires : tie.Need-try-rule-requires
-try-rule-requires c κs = parts-asked (c .before .before .before .before .before .before .before .before .before .before .before .before .before .before .pre) (search needs) (c .before .before .before .before .before .before .before .before .before .stored-in .ensures)
+try-rule-requires c κs = parts-asked
+    (c .before .before .before .before .before .before .before .before .before .before .before .before .before .before .pre)
+    (search needs) (c .before .before .before .before .before .before .before .before .before .stored-in .ensures)
 
 same-length : tie.Need-same-length
 same-length c = c .before .before .before .before .before .before .try-rule .kept .1 .1 .1 .1 .0
@@ -68,7 +70,11 @@ same-length-5 : tie.Need-same-length-5
 same-length-5 c = c .before .before .before .before .before .before .try-rule .kept .1 .1 .1 .1 .1 .1 .1 .1 .0
 
 returns : tie.Need-returns
-returns c = parts-tried (c .before .before .before .before .before .before .before .before .before .before .before .before .before .before .before .before .before .before .before .before .before .pre) (search needs) (c .before .before .before .before .before .before .before .before .before .before .before .before .before .before .before .before .stored-in .ensures) (c .before .before .before .before .before .before .try-rule .ensures)
+returns c = parts-tried
+    (c .before .before .before .before .before .before .before .before .before .before .before .before .before .before .before
+    .before .before .before .before .before .before .pre) (search needs)
+    (c .before .before .before .before .before .before .before .before .before .before .before .before .before .before .before
+    .before .stored-in .ensures) (c .before .before .before .before .before .before .try-rule .ensures)
 
 pub try-stored-spec : {M : Type 1} → statement M
 try-stored-spec =
