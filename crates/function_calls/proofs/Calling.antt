@@ -25,7 +25,7 @@ use Rattle.clause_matching.specs.declared.choice.Clause.{Clause}
 use Rattle.clause_matching.specs.declared.choice.Clause.the-variants.{At, Nowhere}
 use Rattle.function_calls.specs.declared.calls.Outcome.{Outcome}
 use Rattle.function_calls.specs.declared.calls.Outcome.the-variants.{Value as Answer, Refused}
-use Rattle.function_calls.proofs.Forming.{refused-forms}
+use Rattle.function_calls.proofs.Forming.{refused-forms, refused-spent}
 use Rattle.function_calls.proofs.Premising.{front-args}
 
 -- The patterns of a stored conclusion.
@@ -93,6 +93,7 @@ module _ {symbolRows ruleRows : Rows} {pattern : List ℕ} {symbol : ℕ} {value
         (Refused 29) words trees words trees used limit calls height)
         (sym z) refl;
     forms = refused-forms pattern 29 words words used;
+    spends = refused-spent 29 calls used;
     kept = refl;
     restored = refl;
   }
@@ -111,6 +112,7 @@ module _ {symbolRows ruleRows : Rows} {pattern : List ℕ} {symbol : ℕ} {value
           (Refused 30) words trees words trees used limit calls height)
           (sym is-suc) (rw (le-ltb calls 10000 m) refl);
       forms = refused-forms pattern 30 words words used;
+      spends = refused-spent 30 calls used;
       kept = refl;
       restored = refl;
     }
@@ -166,6 +168,7 @@ module _ {symbolRows ruleRows : Rows} {pattern : List ℕ} {symbol : ℕ} {value
                   (sym (tries size symbols rules P k
                   ∙ none-left limit symbols rules (calling symbols rules) (valuesOf words values) counted (column row 5) from (λ j a b. missing size symbols rules P k i j a b (ch j a b)))) refl;
               forms = refused-forms pattern 34 words words used;
+              spends = refused-spent 34 calls used;
               kept = refl;
               restored = c .restored;
             }
@@ -202,6 +205,7 @@ module _ {symbolRows ruleRows : Rows} {pattern : List ℕ} {symbol : ℕ} {value
                 deep = l;
                 high = h .high;
                 many = m;
+                spent = h .spent;
               }
 
           pub followed : {r : Outcome} {words″ links″ : List ℕ} {trees″ : Rows}
@@ -220,6 +224,7 @@ module _ {symbolRows ruleRows : Rows} {pattern : List ℕ} {symbol : ℕ} {value
                 (ap (λ (ps : Terms). bindOf ps (valuesOf words values) start) (patterns-are cl) ∙ f .fits)))
                 (g .says size symbols rules P (length values) R cl (f .β) (f .holds)));
             forms = g .forms;
+            spends = g .spends;
             kept = g .kept;
             restored = g .restored ∙ c .restored;
           }

@@ -1,5 +1,5 @@
 -- A clause that was taken: its premises one after another come to `premisesOf`, and its conclusion to `concluded`.
-use Prim.Native.Nat.{ℕ, zero, suc, _+_, _-_, _%_, _≤_, _<_}
+use Prim.Native.Nat.{ℕ, zero, suc, _+_, _-_, _*_, _%_, _≤_, _<_}
 use native.Mathlib.Omega.{arith}
 use native.Mathlib.Numerals.{add-one}
 use mathlib.Core.Path.{_≡_, refl, sym, ap, ap₂, _∙_, subst}
@@ -20,6 +20,7 @@ use Rattle.resolution.specs.Rules.{Rule, Tree, node, leaf, _◂_, joined}
 use Rattle.tree_rows.specs.Trees.{treeRow}
 use Rattle.evaluation.specs.Matching.{Fitted, misfit, fitted, bindOf, Built, barred, built, ifBuilt, buildNode, valueOf, instantiateOf, front, last}
 use Rattle.evaluation.specs.Calls.{Spent, Called, refused, returned, Walked, stopped, walked, ifArguments, ifCalled, ifResult, underFirst, premisesOf, concludedBy, concluded, callOf}
+use Rattle.evaluation.specs.CallLaws.{Growing, instantiate-grows}
 use Rattle.clause_matching.specs.Stored.{Value, Values, PatternIn, Holds, Links, patternAt, valueAt}
 use Rattle.clause_matching.specs.Building.{ruleWords, InstantiateAsked, Stands, Tells, Instantiated}
 use Rattle.clause_matching.specs.Choice.{Referable, patternFrom, ConclusionIn}
@@ -32,7 +33,7 @@ use Rattle.function_calls.specs.declared.calls.Outcome.{Outcome}
 use Rattle.function_calls.specs.declared.calls.Outcome.the-variants.{Value as Answer, Refused}
 use Rattle.clause_matching.proofs.Open.{args-count}
 use Rattle.clause_matching.proofs.Forming.{FormsKept}
-use Rattle.function_calls.proofs.Forming.{refused-forms, answer-forms}
+use Rattle.function_calls.proofs.Forming.{refused-forms, answer-forms, refused-spent, answer-spent}
 use Rattle.clause_matching.proofs.Arguments.{refused-is, Found, found}
 use Rattle.function_calls.proofs.Listing.{listed-none, listed-more, listed-node}
 use Rattle.function_calls.proofs.Premising.{front-args, last-args, spentOf}
@@ -105,18 +106,20 @@ unfolding instantiateOf
 counts limit β nil used = refl
 counts limit β (cons p ps) used = counts-more p ps (instantiateOf limit β p used) (λ u. instantiateOf limit β ps u) (λ u. counts limit β ps u)
 
--- A built node has the symbol and as many arguments.
-abbrev IsNode : ℕ → ℕ → Built single → Type 0
-IsNode f n (barred e) = Unit {0}
-IsNode f n (built t u) = (ts : Terms) × (t ≡ app f ts) × (count ts ≡ n)
+-- A built node has the symbol and as many arguments, and a word for itself and for each of them.
+abbrev IsNode : ℕ → ℕ → ℕ → Built single → Type 0
+IsNode used f n (barred e) = Unit {0}
+IsNode used f n (built t u) = (ts : Terms) × (t ≡ app f ts) × (count ts ≡ n) × (used + suc n ≤ u)
 
-is-node : (limit : ℕ) (β : Bindings) (f : ℕ) (ps : Terms) (used : ℕ) → IsNode f (count ps) (instantiateOf limit β (app f ps) used)
+is-node : (limit : ℕ) (β : Bindings) (f : ℕ) (ps : Terms) (used : ℕ) → IsNode used f (count ps) (instantiateOf limit β (app f ps) used)
 unfolding instantiateOf
-is-node limit β f ps used = go (instantiateOf limit β ps used) (counts limit β ps used)
+is-node limit β f ps used = go (instantiateOf limit β ps used) (counts limit β ps used) (instantiate-grows limit β ps used)
   where
-    go : (o : Built several) → Counts ps o → IsNode f (count ps) (ifBuilt o (λ ts u. buildNode limit f ts u))
-    go (barred e) k = tt
-    go (built ts u) k = by-bool (ltb limit (u + suc (count ts))) (λ q. rw q tt) (λ q. rw q (ts, refl, k))
+    go : (o : Built several) → Counts ps o → Growing limit used o → IsNode used f (count ps) (ifBuilt o (λ ts u. buildNode limit f ts u))
+    go (barred e) k g = tt
+    go (built ts u) k g =
+        let l = g .grows in
+        by-bool (ltb limit (u + suc (count ts))) (λ q. rw q tt) (λ q. rw q (ts, refl, k, omega arith))
 
 -- What the premises come to for one reading of the storage; their calls follow those before, at the height below.
 pub record Reached (limit : ℕ) (call : ℕ → Terms → Spent → Called) (left : Terms) (trees₀ : Rows) (before height made spent : ℕ)
@@ -146,6 +149,7 @@ pub record Turn (symbolRows ruleRows : Rows) (pattern : List ℕ) (rule depth he
   pub grows : used ≤ spent
   pub within : spent ≤ limit
   pub forms : FormsKept pattern words₀ used words spent
+  pub spends : 2 * made + used ≤ 2 * suc calls + spent
   pub reached : (size : ℕ) (symbols : List Symbol) (rules : List Rule) → Program symbolRows ruleRows pattern size symbols rules
       → (n : ℕ) (R : Rule) → ClauseIn symbols pattern size (rowAt ruleRows rule) n R → (β : Bindings) → Holds environment₀ words₀ used β
       → Reached limit (callOf limit symbols rules (128 - depth)) (leftOf pattern (rowAt ruleRows rule) j) trees₀ calls height made spent
@@ -171,6 +175,7 @@ turn-start {ruleRows = ruleRows} {pattern = pattern} {rule = rule} {depth = dept
       grows = omega arith;
       within = h .working .fits;
       forms = λ arities d f. f;
+      spends = omega arith;
       reached = λ size symbols rules P n R cl β b. (
           let call : ℕ → Terms → Spent → Called = callOf limit symbols rules (128 - depth) in
           let row : List ℕ = rowAt ruleRows rule in
@@ -206,6 +211,12 @@ module _ {symbolRows ruleRows : Rows} {pattern : List ℕ} {rule depth height ca
     rows = let s = h .asked .working .rows in let k = h .keeps in omega arith;
     listed = let s = h .asked .working .listed in let k = h .lists in omega arith;
   }
+
+  -- The call's row is lent: of the calls before it fewer than its depth are open, and each other one has two words at least.
+  row-lent : calls < length trees
+  row-lent =
+      let a = h .asked .spent in let b = h .asked .deep in let c = h .asked .working .fits in let d = h .asked .many in
+      let e = working .listed in omega arith
 
   -- A reading of the storage by the caller.
   abbrev mine : Reached limit (callOf limit (h .asked .symbols) (h .asked .rules) (128 - depth)) (leftOf pattern row j)
@@ -255,6 +266,7 @@ module _ {symbolRows ruleRows : Rows} {pattern : List ℕ} {rule depth height ca
         working = working;
         deep = h .asked .deep;
         high = h .asked .high;
+        spent = let a = h .asked .spent in let b = h .spends in omega arith;
       }
 
       -- The premise is done.
@@ -305,6 +317,7 @@ module _ {symbolRows ruleRows : Rows} {pattern : List ℕ} {rule depth height ca
               subst (λ (y : Walked). Answers (concluded limit rule (R .conclusion) y) (Refused number) words₀ trees₀ words′ trees′
               used limit calls height) w refl);
           forms = refused-forms pattern number words₀ words′ used;
+          spends = refused-spent number calls used;
           kept = p .kept ∙ h .kept;
           restored = p .restored ∙ h .restored;
         }
@@ -366,6 +379,7 @@ module _ {symbolRows ruleRows : Rows} {pattern : List ℕ} {rule depth height ca
                 grows = omega arith;
                 within = s .within;
                 forms = λ arities d f. p .forms arities d (h .forms arities d f) value after then a;
+                spends = let d = h .spends in let e = p .spends value after then a in omega arith;
                 reached = λ size symbols rules P n R cl β b. (
                     let call : ℕ → Terms → Spent → Called = callOf limit symbols rules (128 - depth) in
                     let x = h .reached size symbols rules P n R cl β b in
@@ -430,6 +444,7 @@ module _ {symbolRows ruleRows : Rows} {pattern : List ℕ} {rule depth height ca
             ∙ ap (concluded limit rule (R .conclusion)) (walked-all limit call _ x) in
             subst (λ (y : Called). Answers y (Refused number) words₀ trees₀ words′ trees used limit calls height) w refl);
         forms = refused-forms pattern number words₀ words′ used;
+        spends = refused-spent number calls used;
         kept = i .kept ∙ h .kept;
         restored = h .restored;
       }
@@ -453,6 +468,7 @@ module _ {symbolRows ruleRows : Rows} {pattern : List ℕ} {rule depth height ca
           pub last-is : last arguments ≡ valueAt words′ result
           pub good : Value words′ then result
           pub inside : value + header % 32 < then
+          pub taken : spent + 2 ≤ then
 
         node-built : (γ : Bindings) → Holds environment words spent γ → (f : Found (instantiateOf limit γ (patternAt pattern (column row 5)) spent) words words′ spent limit value then)
             → Node-built (f .term)
@@ -462,10 +478,10 @@ module _ {symbolRows ruleRows : Rows} {pattern : List ℕ} {rule depth height ca
             let ps : Terms = args (denote patternRoom (cells pattern)) (cells pattern) (suc address) (arityOf (cells pattern address)) in
             let d : patternAt pattern (column row 5) ≡ app (symbolOf (cells pattern address)) ps =
             denote-node patternRoom (cells pattern) patternRoom (h .asked .size) (q .formed) (column row 5) (q .root) (conclusion .node) in
-            let m : IsNode (symbolOf (cells pattern address)) (count ps) (built (f .term) then) =
-            subst (λ (o : Built single). IsNode (symbolOf (cells pattern address)) (count ps) o) (ap (λ (t : Term). instantiateOf limit γ t spent) (sym d) ∙ f .comes)
+            let m : IsNode spent (symbolOf (cells pattern address)) (count ps) (built (f .term) then) =
+            subst (λ (o : Built single). IsNode spent (symbolOf (cells pattern address)) (count ps) o) (ap (λ (t : Term). instantiateOf limit γ t spent) (sym d) ∙ f .comes)
             (is-node limit γ (symbolOf (cells pattern address)) ps spent) in
-            let (ts, e, k) = m in
+            let (ts, e, k, long) = m in
             let s = f .stands in
             let z : value - 0 ≡ value = omega arith in
             let v : valueAt words′ value ≡ app (symbolOf header) (args (denote 0 (cells words′)) (cells words′) (suc value) (arityOf header)) =
@@ -488,6 +504,7 @@ module _ {symbolRows ruleRows : Rows} {pattern : List ℕ} {rule depth height ca
               good = (let r = reference-argument 0 (cells words′) 0 then (s .stored .formed) value (h .asked .patterns) (s .root) (omega arith) (rw z (let b : h .asked .patterns < arityOf header = omega arith in b)) in
                   let at′ : suc (value - 0) + h .asked .patterns ≡ value + header % 32 = omega arith in rw at′ at r);
               inside = omega arith;
+              taken = let ci = conclusion .inputs in omega arith;
             }
 
         pub result-inside : (value + header % 32 < length words′) × (value + header % 32 < headers) × (calls < length trees)
@@ -495,8 +512,7 @@ module _ {symbolRows ruleRows : Rows} {pattern : List ℕ} {rule depth height ca
             let f = told (mine .γ) (mine .holds) in
             let n = node-built (mine .γ) (mine .holds) f .inside in
             let a = f .stands .stored .within in let b = f .stands .stored .low in
-            let c = h .asked .many in let d = working .listed in
-            (omega arith, omega arith, omega arith)
+            (omega arith, omega arith, row-lent)
 
         abbrev written : Rows
         written = set trees calls (treeRow height rule value)
@@ -533,6 +549,8 @@ module _ {symbolRows ruleRows : Rows} {pattern : List ℕ} {rule depth height ca
               ));
           forms = answer-forms pattern result made then words₀ words′ used
               (λ arities d e. i .forms arities d (h .forms arities d e) value then a);
+          spends = answer-spent result made then calls used
+              (let n = node-built (mine .γ) (mine .holds) (told (mine .γ) (mine .holds)) .taken in let s = h .spends in omega arith);
           kept = i .kept ∙ h .kept;
           restored = h .restored;
         }

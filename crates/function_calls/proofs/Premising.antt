@@ -1,5 +1,5 @@
 -- A premise in storage: its arguments, its call and its result come to one step of `premisesOf`.
-use Prim.Native.Nat.{ℕ, zero, suc, _+_, _-_, _%_, _≤_, _<_}
+use Prim.Native.Nat.{ℕ, zero, suc, _+_, _-_, _*_, _%_, _≤_, _<_}
 use native.Mathlib.Omega.{arith}
 use native.Mathlib.Numerals.{add-one}
 use mathlib.Core.Path.{_≡_, refl, sym, ap, ap₂, _∙_, subst}
@@ -27,7 +27,7 @@ use Rattle.clause_matching.specs.declared.building.Built.{Built as Reply}
 use Rattle.clause_matching.specs.declared.building.Built.the-variants.{At, Refused as Unbuilt}
 use Rattle.function_calls.specs.declared.calls.Outcome.{Outcome}
 use Rattle.function_calls.specs.declared.calls.Outcome.the-variants.{Value as Answer, Refused}
-use Rattle.function_calls.proofs.Forming.{refused-forms, answer-forms}
+use Rattle.function_calls.proofs.Forming.{refused-forms, answer-forms, refused-spent, answer-spent}
 use Rattle.clause_matching.proofs.BuildTurns.{holds-grown}
 use Rattle.clause_matching.proofs.BindTurns.{says-false, says-true}
 use Rattle.clause_matching.proofs.Choosing.{words-argument}
@@ -308,6 +308,7 @@ module _ {symbolRows ruleRows : Rows} {pattern : List ℕ} {header first depth h
           trees height number words₁ environment slots trees
           (subst (λ (x : Reply). TellsAll (instantiateOf limit β (args (denote patternRoom (cells pattern)) (cells pattern) first count) used) x words words₁ slots count used limit) q (a .tells β b)));
       forms = refused-forms pattern number words words₁ used;
+      spends = refused-spent number calls used;
       kept = a .kept;
       keeps = refl;
       restored = refl;
@@ -357,6 +358,7 @@ module _ {symbolRows ruleRows : Rows} {pattern : List ℕ} {header first depth h
             roots = taken-roots;
             deep = let d = h .deep in omega arith;
             high = let d = h .high in omega arith;
+            spent = let d = h .spent in let g = stand .stand .grows in omega arith;
           }
 
       -- The call was made.
@@ -391,6 +393,7 @@ module _ {symbolRows ruleRows : Rows} {pattern : List ℕ} {header first depth h
               (subst (λ (x : Outcome). Answers (call-of symbols rules) x words₁ trees words₂ trees₂ before limit calls (suc height)) q₂
               (said size symbols rules P reference p hd)));
           forms = refused-forms pattern number words words₂ used;
+          spends = refused-spent number calls used;
           kept = c .kept ∙ a .kept;
           keeps = refl;
           restored = c .restored;
@@ -456,6 +459,7 @@ module _ {symbolRows ruleRows : Rows} {pattern : List ℕ} {header first depth h
                   trees height words₁ slots before room (found-arguments β k) words₂ trees₂ value made after
                   (found-call size symbols rules P reference p hd) environment′ (rw e at (b .says β (grown β k))));
               forms = refused-forms pattern 35 words words₂ used;
+              spends = refused-spent 35 calls used;
               kept = c .kept ∙ a .kept;
               keeps = b .kept;
               restored = b .restored ∙ c .restored;
@@ -473,6 +477,8 @@ module _ {symbolRows ruleRows : Rows} {pattern : List ℕ} {header first depth h
                   (found-call size symbols rules P reference p hd) environment′ (rw e at (b .says β (grown β k))));
               forms = answer-forms pattern value made after words words₂ used
                   (λ arities d f. c .forms arities d (a .forms arities d f none before q) value made after q₂);
+              spends = answer-spent value made after calls used
+                  (let d = c .spends value made after q₂ in let g = stand .stand .grows in omega arith);
               kept = c .kept ∙ a .kept;
               keeps = b .kept;
               restored = b .restored ∙ c .restored;

@@ -1,5 +1,5 @@
 -- What calls in storage ask and answer (document 01, "Evaluated terms"; `callOf` of `evaluation`).
-use Prim.Native.Nat.{ℕ, suc, _+_, _-_, _*_, _≤_, _<_}
+use Prim.Native.Nat.{ℕ, suc, _+_, _-_, _*_, _/_, _≤_, _<_, min}
 use mathlib.Core.Path.{_≡_}
 use mathlib.Core.Option.{some}
 use mathlib.Core.List.{List}
@@ -12,7 +12,8 @@ use Rattle.arena.specs.Copies.{patternRoom}
 use Rattle.names.specs.Symbols.{Rows, Symbol, column, rowAt, symbolAt}
 use Rattle.resolution.specs.Rules.{Rule, rule-at, Tree}
 use Rattle.tree_rows.specs.Trees.{Lists}
-use Rattle.evaluation.specs.Calls.{Spent, Called, refused, returned, Walked, stopped, walked, premisesOf, concluded, callOf}
+use Rattle.evaluation.specs.Calls.{Spent, Called, refused, returned, Walked, stopped, walked, maxCalls, premisesOf, concluded, callOf}
+use Rattle.evaluation.specs.Expressions.{maxDepth}
 use Rattle.clause_matching.specs.Stored.{Value, Values, PatternIn, Holds, Links, Headed, Formed, patternAt}
 use Rattle.clause_matching.specs.Building.{ruleWords, Stands}
 use Rattle.clause_matching.specs.Choice.{ConclusionIn, valuesOf}
@@ -49,6 +50,11 @@ pub record Program (symbolRows ruleRows : Rows) (pattern : List ℕ) (size : ℕ
       → column (rowAt symbolRows f) 4 ≤ i → i < column (rowAt symbolRows f) 4 + column (rowAt symbolRows f) 5
       → (R : Rule) × (rule-at rules i ≡ some R) × ClauseIn symbols pattern size (rowAt ruleRows i) n R
 
+-- One row of trees for each call. Few words allow few calls: at most 128 are open, and each other one has taken two words at least, for
+-- its conclusion, a node with an argument.
+abbrev pub treeRows : ℕ → ℕ
+treeRows limit = min maxCalls (limit / 2 + maxDepth)
+
 -- The storage that calls work in.
 pub record Working (words : List ℕ) (used limit : ℕ) (links : List ℕ) (trees stack : Rows) : Type 0 where
   pub stored : Values words used
@@ -57,7 +63,7 @@ pub record Working (words : List ℕ) (used limit : ℕ) (links : List ℕ) (tre
   pub scratch : limit + ruleWords < length words
   pub linked : Links links limit
   pub rows : ruleWords < length stack
-  pub listed : 10000 ≤ length trees
+  pub listed : treeRows limit ≤ length trees
 
 -- The rows of trees, from the row `calls` on and before the one that is free then; the rows before are as they were.
 pub record TreesListed {s : Kind} (trees : Rows) (calls height : ℕ) (words′ : List ℕ) (trees′ : Rows) (ps : Tree s) (c : Spent) : Type 0 where
@@ -75,6 +81,10 @@ abbrev pub CallFormed : List ℕ → Outcome → List ℕ → List ℕ → ℕ �
 CallFormed pattern r words words′ used =
     (arities : List ℕ) → Headed arities pattern → Formed arities words used → (value calls u : ℕ) → r ≡ Answer value calls u → Formed arities words′ u
 
+-- Where a call returns, each call that was made in it has taken two words at least.
+abbrev pub CallSpent : Outcome → ℕ → ℕ → Type 0
+CallSpent r calls used = (value calls′ used′ : ℕ) → r ≡ Answer value calls′ used′ → 2 * calls′ + used ≤ 2 * calls + used′
+
 pub record CallAsked (symbolRows ruleRows : Rows) (pattern : List ℕ) (symbol : ℕ) (values : List ℕ) (depth height calls used limit : ℕ)
     (words links : List ℕ) (trees stack : Rows) : Type 0 where
   pub size : ℕ
@@ -87,6 +97,8 @@ pub record CallAsked (symbolRows ruleRows : Rows) (pattern : List ℕ) (symbol :
   pub roots : (k : ℕ) → k < length values → Value words used (cells values k)
   pub deep : depth ≤ 129
   pub high : height ≤ depth
+  -- of the calls before it and itself at most `depth` are open, and each other one has taken two words at least:
+  pub spent : 2 * suc calls ≤ used + 2 * depth
 
 pub record CallAnswered (symbolRows ruleRows : Rows) (pattern : List ℕ) (symbol : ℕ) (values : List ℕ) (depth height calls used limit : ℕ)
     (words links : List ℕ) (trees : Rows) (r : Outcome) (words′ links′ : List ℕ) (trees′ : Rows) : Type 0 where
@@ -95,6 +107,7 @@ pub record CallAnswered (symbolRows ruleRows : Rows) (pattern : List ℕ) (symbo
       → Answers (callOf limit symbols rules (129 - depth) symbol (valuesOf words values) (record { calls = calls; words = used }))
       r words trees words′ trees′ used limit calls height
   pub forms : CallFormed pattern r words words′ used
+  pub spends : CallSpent r calls used
   pub kept : length words′ ≡ length words
   pub restored : links′ ≡ links
 
@@ -115,6 +128,7 @@ pub record FollowAsked (symbolRows ruleRows : Rows) (pattern : List ℕ) (rule d
   pub deep : depth ≤ 128
   pub high : height ≤ depth
   pub many : calls < 10000
+  pub spent : 2 * suc calls ≤ used + 2 * depth
 
 pub record Followed (symbolRows ruleRows : Rows) (pattern : List ℕ) (rule depth height calls used limit : ℕ) (environment words links : List ℕ) (trees : Rows)
     (r : Outcome) (words′ links′ : List ℕ) (trees′ : Rows) : Type 0 where
@@ -124,6 +138,7 @@ pub record Followed (symbolRows ruleRows : Rows) (pattern : List ℕ) (rule dept
       (premisesOf limit (callOf limit symbols rules (128 - depth)) (R .premises) β (record { calls = suc calls; words = used })))
       r words trees words′ trees′ used limit calls height
   pub forms : CallFormed pattern r words words′ used
+  pub spends : CallSpent r calls used
   pub kept : length words′ ≡ length words
   pub restored : links′ ≡ links
 
@@ -159,6 +174,8 @@ pub record PremiseAsked (symbolRows ruleRows : Rows) (pattern : List ℕ) (heade
   pub working : Working words used limit links trees stack
   pub deep : depth ≤ 128
   pub high : height ≤ depth
+  -- the call whose premise this is has been counted:
+  pub spent : 2 * calls ≤ used + 2 * depth
 
 pub record PremiseAnswered (symbolRows ruleRows : Rows) (pattern : List ℕ) (header first depth height calls used limit : ℕ) (environment words links : List ℕ)
     (trees : Rows) (r : Outcome) (environment′ words′ links′ : List ℕ) (trees′ : Rows) : Type 0 where
@@ -168,6 +185,7 @@ pub record PremiseAnswered (symbolRows ruleRows : Rows) (pattern : List ℕ) (he
       → Steps (premisesOf limit (callOf limit symbols rules (128 - depth)) (cons (patternAt pattern reference) nil) β (record { calls = calls; words = used }))
       r words trees words′ environment′ trees′ used limit calls height
   pub forms : CallFormed pattern r words words′ used
+  pub spends : CallSpent r calls used
   pub kept : length words′ ≡ length words
   pub keeps : length environment′ ≡ length environment
   pub restored : links′ ≡ links
