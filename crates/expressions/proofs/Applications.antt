@@ -1,5 +1,5 @@
 -- A symbol on values: one law for each way out.
-use Prim.Native.Nat.{ℕ, suc, _+_, _-_, _≤_, _<_}
+use Prim.Native.Nat.{ℕ, suc, _+_, _-_, _*_, _≤_, _<_}
 use native.Mathlib.Omega.{arith}
 use mathlib.Core.Path.{_≡_, refl, sym, ap, _∙_, subst}
 use mathlib.Core.Bool.{Bool, true, false, cond, _&&_}
@@ -28,7 +28,7 @@ use Rattle.function_calls.specs.declared.calls.Outcome.the-variants.{Value as A
 use Rattle.expressions.specs.Nodes.{BuildAsked, BuildAnswered}
 use Rattle.expressions.specs.Applying.{Tables, ApplyAsked, Concludes, ApplyAnswered}
 use Rattle.forward_calls.proofs.Tables.{symbols-length, output-at, function-at, arity-at}
-use Rattle.expressions.proofs.Forming.{arity-within, arity-known, denied-worth, used-worth}
+use Rattle.expressions.proofs.Forming.{arity-within, arity-known, denied-worth, made-worth, used-worth}
 use Rattle.expressions.proofs.Building.{built-at, built-barred}
 
 and-no : (a : Bool) → (a && false) ≡ false
@@ -107,9 +107,9 @@ pub none-listed : (trees : Rows) (words : List ℕ) (c : Spent) → TreesListed 
 unfolding Lists
 none-listed trees words c = record { lists = refl; before = λ j l. refl }
 
-module _ {symbolRows ruleRows : Rows} {pattern : List ℕ} {i : ℕ} {values : List ℕ} {depth used limit : ℕ} {words links : List ℕ}
+module _ {symbolRows ruleRows : Rows} {pattern : List ℕ} {i : ℕ} {values : List ℕ} {depth calls used limit : ℕ} {words links : List ℕ}
     {trees stack : Rows}
-    (h : ApplyAsked symbolRows ruleRows pattern i values depth used limit words links trees stack) where
+    (h : ApplyAsked symbolRows ruleRows pattern i values depth calls used limit words links trees stack) where
   pub symbol-inside : i < length symbolRows
   symbol-inside = let a = h .known in let b = h .tables .lent in omega arith
 
@@ -119,9 +119,10 @@ module _ {symbolRows ruleRows : Rows} {pattern : List ℕ} {i : ℕ} {values : L
         → suc (length values) ≡ length (symbolAt (symbolsOf text symbolRows count) i .inputs)
     inputs text count size rules T l = let a = arity-at text symbolRows count (T .lent) i l in let b = h .arguments in omega arith
 
-    pub call-asked : (calls : ℕ) → CallAsked symbolRows ruleRows pattern i values (depth + 1) 1 calls used limit words links trees stack
-    call-asked calls =
-        let d = h .deep in let k = h .known in let n = symbols-length (h .text) symbolRows (h .count) (h .tables .lent) in
+    pub call-asked : CallAsked symbolRows ruleRows pattern i values (depth + 1) 1 calls used limit words links trees stack
+    call-asked =
+        let d = h .deep in let k = h .known in let s = h .spent in
+        let n = symbols-length (h .text) symbolRows (h .count) (h .tables .lent) in
         record {
           size = h .size;
           symbols = symbolsOf (h .text) symbolRows (h .count);
@@ -133,12 +134,13 @@ module _ {symbolRows ruleRows : Rows} {pattern : List ℕ} {i : ℕ} {values : L
           roots = h .roots;
           deep = omega arith;
           high = omega arith;
+          spent = omega arith;
         }
 
-    pub called : {calls : ℕ} {r : Outcome} {words′ links′ : List ℕ} {trees′ : Rows}
+    pub called : {r : Outcome} {words′ links′ : List ℕ} {trees′ : Rows}
         → CallAnswered symbolRows ruleRows pattern i values (depth + 1) 1 calls used limit words links trees r words′ links′ trees′
         → ApplyAnswered symbolRows ruleRows pattern i values depth calls used limit words links trees r words′ links′ trees′
-    called {calls} {r} {words′} {links′} {trees′} g = record {
+    called {r} {words′} {links′} {trees′} g = record {
       says = λ text count size rules T l.
           let n = symbols-length text symbolRows count (T .lent) in
           let k : i < length (symbolsOf text symbolRows count) = omega arith in
@@ -152,6 +154,7 @@ module _ {symbolRows ruleRows : Rows} {pattern : List ℕ} {i : ℕ} {values : L
           subst (λ (x : Evaluated one). Concludes x r words trees words′ trees′ used limit calls) (sym z)
           (call-concludes r words trees words′ trees′ used limit calls o (rw e at a));
       forms = λ text count size rules T l. g .forms (aritiesOf (symbolsOf text symbolRows count));
+      spends = g .spends;
       kept = g .kept;
       restored = g .restored;
     }
@@ -171,7 +174,7 @@ module _ {symbolRows ruleRows : Rows} {pattern : List ℕ} {i : ℕ} {values : L
           room = omega arith;
         }
 
-    module _ (calls : ℕ) {made : Made} {words′ : List ℕ} (g : BuildAnswered words used limit i values made words′) where
+    module _ {made : Made} {words′ : List ℕ} (g : BuildAnswered words used limit i values made words′) where
       abbrev Says : Outcome → Type 0
       Says r = ApplyAnswered symbolRows ruleRows pattern i values depth calls used limit words links trees r words′ links trees
 
@@ -194,6 +197,7 @@ module _ {symbolRows ruleRows : Rows} {pattern : List ℕ} {i : ℕ} {values : L
             subst (λ (x : Evaluated one). Concludes x (Refused m) words trees words′ trees used limit calls)
             (sym (node-is text count size rules T l ∙ ap (around leaf calls) b)) refl;
         forms = λ text count size rules T l d e v c u w. denied-worth w;
+        spends = λ v c u w. denied-worth w;
         kept = g .kept;
         restored = refl;
       }
@@ -208,6 +212,9 @@ module _ {symbolRows ruleRows : Rows} {pattern : List ℕ} {i : ℕ} {values : L
         forms = λ text count size rules T l d e v c u w.
             rw (used-worth w) (g .forms (aritiesOf (symbolsOf text symbolRows count)) (arity-within text symbolRows count (T .lent) i l)
             (own text count size rules T l) e value after q);
+        spends = λ v c u w.
+            let (t, b, s) = built-at (buildNode limit i (valuesOf words values) used) (g .tells) q in
+            let g = s .grows in let m = made-worth w in let n = used-worth w in omega arith;
         kept = g .kept;
         restored = refl;
       }

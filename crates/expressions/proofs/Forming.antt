@@ -61,7 +61,13 @@ denied-worth e = absurd (let x : _≡_ {A = ℕ} 0 1 = cc in let z : ⊥ = omega
 pub refused-answer : {P : Type 0} {m value next calls u : ℕ} → Refused m ≡ Answer value next calls u → P
 refused-answer e = absurd (let x : _≡_ {A = ℕ} 0 1 = cc in let z : ⊥ = omega arith in z)
 
--- The words used by an answer.
+-- The calls made and the words used by an answer.
+pub made-worth : {v c u value calls used : ℕ} → Worth value calls used ≡ Worth v c u → c ≡ calls
+made-worth e = cc
+
+pub made-answer : {v n c u value next calls used : ℕ} → Answer value next calls used ≡ Answer v n c u → c ≡ calls
+made-answer e = cc
+
 pub used-at : {v u value used : ℕ} → At value used ≡ At v u → u ≡ used
 used-at e = cc
 

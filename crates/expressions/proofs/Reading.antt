@@ -28,7 +28,7 @@ use Rattle.expressions.specs.declared.written.Expressed.{Expressed}
 use Rattle.expressions.specs.declared.written.Expressed.the-variants.{Value as Answer, Refused}
 use Rattle.forward_calls.proofs.Tables.{symbols-length, function-at, arity-at}
 use Rattle.forward_calls.proofs.Heads.{Head, head-of, row-within, number-row, meta-row}
-use Rattle.expressions.proofs.Forming.{refused-answer, used-answer}
+use Rattle.expressions.proofs.Forming.{refused-answer, made-answer, used-answer}
 
 -- A numeral makes no calls.
 abbrev Treeless : Evaluated one → Type 0
@@ -64,6 +64,10 @@ module _ (q : ℕ) (words : List ℕ) (trees : Rows) (words′ : List ℕ) (used
   gives-refused (failed e) {m} h p = let a : m ≡ e = cc in ap Refused a
   gives-refused (evaluated v ps c) (value, e, s, k) p = absurd (let x : _≡_ {A = ℕ} 0 1 = cc in let z : ⊥ = omega arith in z)
 
+  gives-more : (o : Evaluated one) {value after : ℕ} → Gives o calls r words words′ used limit → r ≡ At value after → used ≤ after
+  gives-more (failed e) h p = absurd (let x : _≡_ {A = ℕ} 0 1 = cc in let z : ⊥ = omega arith in z)
+  gives-more (evaluated v ps c) {value} {after} (x, e, s, k) p = let a : after ≡ c .words = cc in let g = s .grows in omega arith
+
   gives-at : (o : Evaluated one) {value after : ℕ} → Treeless o → Gives o calls r words words′ used limit → r ≡ At value after
       → Evaluates o q (Answer value q calls after) words trees words′ trees used limit calls
   unfolding Lists
@@ -92,8 +96,8 @@ no-misuse false true x e = refl
 no-misuse false false x e = absurd (let z : ⊥ = omega arith in z)
 
 module _ {text : List ℕ} {rows : Rows} {at : ℕ} {symbolRows : Rows} {count : ℕ} {ruleRows : Rows} {pattern : List ℕ}
-    {depth used limit : ℕ} {words links : List ℕ} {trees stack : Rows}
-    (h : ExpressionAsked text rows at symbolRows count ruleRows pattern depth used limit words links trees stack) (calls : ℕ) where
+    {depth calls used limit : ℕ} {words links : List ℕ} {trees stack : Rows}
+    (h : ExpressionAsked text rows at symbolRows count ruleRows pattern depth calls used limit words links trees stack) where
   abbrev S : List Symbol
   S = symbolsOf text symbolRows count
 
@@ -116,6 +120,7 @@ module _ {text : List ℕ} {rows : Rows} {at : ℕ} {symbolRows : Rows} {count :
     says = λ wide rules T t q s sorts. subst (λ (x : Evaluated one). Evaluates x q (Refused m) words trees words trees used limit calls)
         (sym (k wide rules T t q s sorts)) refl;
     forms = λ d f v n c u w. refused-answer w;
+    spends = λ v n c u w. refused-answer w;
     kept = refl;
     restored = refl;
   }
@@ -143,6 +148,12 @@ module _ {text : List ℕ} {rows : Rows} {at : ℕ} {symbolRows : Rows} {count :
       unfolding expressionOf
       numeral-is limit rules v sorts = rw shallow
 
+      number-grows : {value after : ℕ} → r ≡ At value after → used ≤ after
+      number-grows p =
+          let (v, e, c, n) = number-row text rows at (h .next) (h .term) (h .stands) k in
+          gives-more (h .next) words trees words′ used limit calls (numeralOf limit S (h .rules) v depth counts)
+          (g .says v c (h .rules) calls) p
+
       pub number-refused : {m : ℕ} → r ≡ Barred m → Says (Refused m) words′ links trees
       number-refused {m} p = record {
         says = λ wide rules T t q s sorts.
@@ -151,6 +162,7 @@ module _ {text : List ℕ} {rows : Rows} {at : ℕ} {symbolRows : Rows} {count :
             (sym (ap (λ (u : Written one). expressionOf limit S rules u sorts depth counts) e ∙ numeral-is limit rules v sorts))
             (gives-refused q words trees words′ used limit calls (numeralOf limit S rules v depth counts) (g .says v c rules calls) p);
         forms = λ d f v n c u w. refused-answer w;
+        spends = λ v n c u w. refused-answer w;
         kept = g .kept;
         restored = refl;
       }
@@ -166,6 +178,7 @@ module _ {text : List ℕ} {rows : Rows} {at : ℕ} {symbolRows : Rows} {count :
             (gives-at q words trees words′ used limit calls (numeralOf limit S rules v depth counts)
             (numeral-treeless limit S rules v depth counts) (g .says v c rules calls) p));
         forms = λ d f v n c u w. rw (used-answer w) (g .forms f value after p);
+        spends = λ v n c u w. let m = made-answer w in let s = used-answer w in let b = number-grows p in omega arith;
         kept = g .kept;
         restored = refl;
       }
@@ -219,7 +232,7 @@ module _ {text : List ℕ} {rows : Rows} {at : ℕ} {symbolRows : Rows} {count :
                 omega arith
 
             pub application-asked : ApplicationAsked text rows
-                (at + 1) k symbolRows count i ruleRows pattern depth used limit words links trees stack
+                (at + 1) k symbolRows count i ruleRows pattern depth calls used limit words links trees stack
             application-asked =
                 let d = head-of text rows at (h .next) (h .term) (h .stands) n m in
                 record {
@@ -234,6 +247,7 @@ module _ {text : List ℕ} {rows : Rows} {at : ℕ} {symbolRows : Rows} {count :
                   many = sym (c ∙ d .counts);
                   working = h .working;
                   deep = l;
+                  spent = h .spent;
                 }
 
             pub applied-to : {r : Expressed} {words′ links′ : List ℕ} {trees′ : Rows}
@@ -247,6 +261,7 @@ module _ {text : List ℕ} {rows : Rows} {at : ℕ} {symbolRows : Rows} {count :
                   subst (λ (x : Evaluated one). Evaluates x q r words trees words′ trees′ used limit calls) (sym f)
                   (g .says wide rules T (d .parts) q (d .stands) (sym (c ∙ d .counts)));
               forms = g .forms;
+              spends = g .spends;
               kept = g .kept;
               restored = g .restored;
             }

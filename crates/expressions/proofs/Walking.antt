@@ -1,5 +1,5 @@
 -- `application`: its arguments from left to right, and one law for each way out.
-use Prim.Native.Nat.{ℕ, zero, suc, _+_, _-_, _≤_, _<_}
+use Prim.Native.Nat.{ℕ, zero, suc, _+_, _-_, _*_, _≤_, _<_}
 use native.Mathlib.Omega.{arith}
 use mathlib.Core.Path.{_≡_, refl, sym, ap, ap₂, _∙_, subst}
 use mathlib.Core.List.{List, [], _∷_}
@@ -33,7 +33,7 @@ use Rattle.expressions.specs.Terms.{ExpressionAsked, Evaluates, Expressi
 use Rattle.expressions.specs.declared.written.Expressed.{Expressed}
 use Rattle.expressions.specs.declared.written.Expressed.the-variants.{Value as Answer, Refused}
 use Rattle.forward_calls.proofs.Tables.{inputs-at}
-use Rattle.expressions.proofs.Forming.{refused-answer, used-answer}
+use Rattle.expressions.proofs.Forming.{refused-answer, made-answer, used-answer}
 use Rattle.expressions.proofs.Applications.{prefixed, joined-nothing, apply-prefixed, none-listed}
 
 -- Values and trees in front of others.
@@ -154,12 +154,14 @@ pub record Left (text : List ℕ) (rows : Rows) (S : List Symbol) (rules : List 
 pub record Turn (text : List ℕ) (rows : Rows) (at arguments : ℕ) (symbolRows : Rows) (count i : ℕ) (ruleRows : Rows) (pattern : List ℕ) (depth calls₀ used₀ limit : ℕ)
     (words₀ links₀ : List ℕ) (trees₀ stack₀ : Rows) (words links : List ℕ) (trees stack : Rows) (values : List ℕ)
     (k p made spent : ℕ) : Type 0 where
-  pub asked : ApplicationAsked text rows at arguments symbolRows count i ruleRows pattern depth used₀ limit words₀ links₀ trees₀ stack₀
+  pub asked : ApplicationAsked text rows at arguments symbolRows count i ruleRows pattern depth calls₀ used₀ limit
+      words₀ links₀ trees₀ stack₀
   pub all : (wide : ℕ) (rules : List Rule) → Tables text symbolRows count ruleRows pattern wide rules → (ts : Written many) (q : ℕ) → standing.Stands text rows at ts q → size ts ≡ arguments
       → Left text rows (symbolsOf text symbolRows count) rules i depth calls₀ used₀ limit trees₀ ts q words trees values k p made spent
   pub forms : Headed (aritiesOf (symbolsOf text symbolRows count)) pattern
       → Formed (aritiesOf (symbolsOf text symbolRows count)) words₀ used₀
       → Formed (aritiesOf (symbolsOf text symbolRows count)) words spent
+  pub spends : 2 * made + used₀ ≤ 2 * calls₀ + spent
   pub stored : Values words spent
   pub same : Same 0 (cells words₀) (cells words) used₀
   pub grows : used₀ ≤ spent
@@ -172,10 +174,9 @@ pub record Turn (text : List ℕ) (rows : Rows) (at arguments : ℕ) (symbolRows
   pub lists : length trees ≡ length trees₀
   pub keeps : length stack ≡ length stack₀
 
-module _ {text : List ℕ} {rows : Rows} {at arguments : ℕ} {symbolRows : Rows} {count i : ℕ} {ruleRows : Rows} {pattern : List ℕ} {depth used limit : ℕ}
-    {words links : List ℕ} {trees stack : Rows}
-    (h : ApplicationAsked text rows at arguments symbolRows count i ruleRows pattern depth used limit words links trees stack)
-    (calls : ℕ) where
+module _ {text : List ℕ} {rows : Rows} {at arguments : ℕ} {symbolRows : Rows} {count i : ℕ} {ruleRows : Rows} {pattern : List ℕ}
+    {depth calls used limit : ℕ} {words links : List ℕ} {trees stack : Rows}
+    (h : ApplicationAsked text rows at arguments symbolRows count i ruleRows pattern depth calls used limit words links trees stack) where
   pub turn-start : {values : List ℕ} → length values ≡ 16
       → Turn text rows at arguments symbolRows count i ruleRows pattern depth calls used limit words links trees stack words links trees stack values 0 at calls used
   turn-start {values} n = record {
@@ -189,6 +190,7 @@ module _ {text : List ℕ} {rows : Rows} {at arguments : ℕ} {symbolRows : Rows
       comes = sym (extend-none _);
     };
     forms = λ d f. f;
+    spends = omega arith;
     stored = h .working .stored;
     same = λ j l. refl;
     grows = omega arith;
@@ -232,9 +234,11 @@ module _ {text : List ℕ} {rows : Rows} {at arguments : ℕ} {symbolRows : Rows
         → Split text rows p q (h .all wide rules T ts q s z .terms)
     next wide rules T ts q s z = let L = h .all wide rules T ts q s z in let c = L .counted in split text rows p q (L .terms) (omega arith) (L .stands)
 
-    pub expression-asked : ExpressionAsked text rows p symbolRows count ruleRows pattern (depth + 1) spent limit words links trees stack
+    pub expression-asked : ExpressionAsked text rows p symbolRows count ruleRows pattern (depth + 1) made spent limit
+        words links trees stack
     expression-asked =
-        let a = h .asked in let d = a .deep in let n = next (a .wide) (a .rules) (a .tables) (a .terms) (a .next) (a .stands) (a .many) in
+        let a = h .asked in let d = a .deep in let b = a .spent in let c = h .spends in
+        let n = next (a .wide) (a .rules) (a .tables) (a .terms) (a .next) (a .stands) (a .many) in
         record {
           wide = a .wide;
           rules = a .rules;
@@ -244,6 +248,7 @@ module _ {text : List ℕ} {rows : Rows} {at arguments : ℕ} {symbolRows : Rows
           stands = n .front;
           working = working;
           deep = omega arith;
+          spent = omega arith;
         }
 
 -- Several terms by their first.
@@ -371,6 +376,7 @@ module _ {text : List ℕ} {rows : Rows} {at arguments : ℕ} {symbolRows : Rows
         (Refused m) words₀ trees₀ words′ trees′ used₀ limit calls₀)
         (sym (f wide rules T ts q s z)) refl;
     forms = λ d f v n c u w. refused-answer w;
+    spends = λ v n c u w. refused-answer w;
     kept = g .kept ∙ h .kept;
     restored = g .restored ∙ h .restored;
   }
@@ -404,6 +410,7 @@ module _ {text : List ℕ} {rows : Rows} {at arguments : ℕ} {symbolRows : Rows
             asked = h .asked;
             all = λ wide rules T ts q s z. left-next wide rules T ts q s z e (sym (o text) ∙ x);
             forms = λ d f. g .forms d (h .forms d f) value after calls used e;
+            spends = (let u = h .spends in let v = g .spends value after calls used e in omega arith);
             stored = m .stored;
             same = λ j y. let u = h .grows in h .same j y ∙ m .same j (omega arith);
             grows = (let u = h .grows in let v = m .grows in omega arith);
@@ -461,7 +468,7 @@ module _ {text : List ℕ} {rows : Rows} {at arguments : ℕ} {symbolRows : Rows
   pub given-size : length given ≡ arguments
   given-size = let f = few h in let n = h .slots in length-take-le arguments values (omega arith)
 
-  pub apply-asked : ApplyAsked symbolRows ruleRows pattern i given depth spent limit words links trees stack
+  pub apply-asked : ApplyAsked symbolRows ruleRows pattern i given depth made spent limit words links trees stack
   apply-asked =
       let a = h .asked in let n = given-size in let m = a .counted in
       record {
@@ -475,6 +482,7 @@ module _ {text : List ℕ} {rows : Rows} {at arguments : ℕ} {symbolRows : Rows
         working = working h;
         roots = λ j y. let z : j < arguments = omega arith in rw (getD-take arguments values j 0 z) (h .roots j (omega arith));
         deep = a .deep;
+        spent = (let b = a .spent in let c = h .spends in omega arith);
       }
 
   values-are : valuesOf words given ≡ args (denote 0 (cells words)) (cells values) 0 k
@@ -538,6 +546,7 @@ module _ {text : List ℕ} {rows : Rows} {at arguments : ℕ} {symbolRows : Rows
           subst (λ (x : Evaluated one). Evaluates x q (Refused m) words₀ trees₀ words′ trees′ used₀ limit calls₀)
           (sym (applied-is rules ts q D ∙ ap (prefixed (D .earlier)) f)) refl;
       forms = λ d f v n c u w. refused-answer w;
+      spends = λ v n c u w. refused-answer w;
       kept = g .kept ∙ h .kept;
       restored = g .restored ∙ h .restored;
     }
@@ -557,6 +566,8 @@ module _ {text : List ℕ} {rows : Rows} {at arguments : ℕ} {symbolRows : Rows
       forms = λ d f v n c u w.
           let a = h .asked in
           rw (used-answer w) (g .forms text count (a .wide) (a .rules) (a .tables) (a .known) d (h .forms d f) value calls used e);
+      spends = λ v n c u w.
+          let a = h .spends in let b = g .spends value calls used e in let m = made-answer w in let s = used-answer w in omega arith;
       kept = g .kept ∙ h .kept;
       restored = g .restored ∙ h .restored;
     }

@@ -1,5 +1,5 @@
 -- A symbol on values in storage (`applyOf` of `evaluation`).
-use Prim.Native.Nat.{ℕ, _+_, _≤_, _<_}
+use Prim.Native.Nat.{ℕ, _+_, _*_, _≤_, _<_}
 use mathlib.Core.Path.{_≡_}
 use mathlib.Core.List.{List}
 use lib.ListN.{length}
@@ -12,7 +12,7 @@ use Rattle.evaluation.specs.Expressions.{Evaluated, failed, evaluated, applyOf}
 use Rattle.clause_matching.specs.Stored.{Value, Headed, Formed}
 use Rattle.clause_matching.specs.Building.{Stands}
 use Rattle.clause_matching.specs.Choice.{valuesOf}
-use Rattle.function_calls.specs.Calls.{Program, Working, TreesListed}
+use Rattle.function_calls.specs.Calls.{Program, Working, TreesListed, CallSpent}
 use Rattle.function_calls.specs.declared.calls.Outcome.{Outcome}
 use Rattle.function_calls.specs.declared.calls.Outcome.the-variants.{Value as Answer, Refused}
 
@@ -25,7 +25,7 @@ pub record Tables (text : List ℕ) (symbolRows : Rows) (count : ℕ) (ruleRows 
   pub marks : (i : ℕ) → i < count → column (rowAt symbolRows i) 3 ≤ 1
   pub results : (i : ℕ) → i < count → column (rowAt symbolRows i) 3 ≤ column (rowAt symbolRows i) 6
 
-pub record ApplyAsked (symbolRows ruleRows : Rows) (pattern : List ℕ) (i : ℕ) (values : List ℕ) (depth used limit : ℕ)
+pub record ApplyAsked (symbolRows ruleRows : Rows) (pattern : List ℕ) (i : ℕ) (values : List ℕ) (depth calls used limit : ℕ)
     (words links : List ℕ) (trees stack : Rows) : Type 0 where
   pub text : List ℕ
   pub count : ℕ
@@ -37,6 +37,8 @@ pub record ApplyAsked (symbolRows ruleRows : Rows) (pattern : List ℕ) (i : ℕ
   pub working : Working words used limit links trees stack
   pub roots : (k : ℕ) → k < length values → Value words used (cells values k)
   pub deep : depth ≤ 128
+  -- no call is open, and each that was made has taken two words at least:
+  pub spent : 2 * calls ≤ used
 
 -- An answer says what an expression comes to: the value among the words, and at height 1 the trees of its calls, from the row `calls` on.
 abbrev pub Concludes : Evaluated one → Outcome → List ℕ → Rows → List ℕ → Rows → ℕ → ℕ → ℕ → Type 0
@@ -58,5 +60,6 @@ pub record ApplyAnswered (symbolRows ruleRows : Rows) (pattern : List ℕ) (i : 
       r words trees words′ trees′ used limit calls
   pub forms : (text : List ℕ) (count size : ℕ) (rules : List Rule) → Tables text symbolRows count ruleRows pattern size rules → i < count
       → OutcomeFormed text symbolRows count pattern r words words′ used
+  pub spends : CallSpent r calls used
   pub kept : length words′ ≡ length words
   pub restored : links′ ≡ links

@@ -1,5 +1,5 @@
 -- Written terms as values in storage (`expressionOf` of `evaluation`).
-use Prim.Native.Nat.{ℕ, suc, _+_, _≤_, _<_}
+use Prim.Native.Nat.{ℕ, suc, _+_, _*_, _≤_, _<_}
 use mathlib.Core.Path.{_≡_}
 use mathlib.Core.List.{List}
 use lib.ListN.{length}
@@ -18,8 +18,8 @@ use Rattle.expressions.specs.declared.written.Expressed.{Expressed}
 use Rattle.expressions.specs.declared.written.Expressed.the-variants.{Value as Answer, Refused}
 
 -- The rows from a place on stand for a term.
-pub record ExpressionAsked (text : List ℕ) (rows : Rows) (at : ℕ) (symbolRows : Rows) (count : ℕ) (ruleRows : Rows) (pattern : List ℕ) (depth used limit : ℕ)
-    (words links : List ℕ) (trees stack : Rows) : Type 0 where
+pub record ExpressionAsked (text : List ℕ) (rows : Rows) (at : ℕ) (symbolRows : Rows) (count : ℕ) (ruleRows : Rows) (pattern : List ℕ)
+    (depth calls used limit : ℕ) (words links : List ℕ) (trees stack : Rows) : Type 0 where
   pub wide : ℕ
   pub rules : List Rule
   pub tables : Tables text symbolRows count ruleRows pattern wide rules
@@ -28,6 +28,8 @@ pub record ExpressionAsked (text : List ℕ) (rows : Rows) (at : ℕ) (symbolRow
   pub stands : standing.Stands text rows at term next
   pub working : Working words used limit links trees stack
   pub deep : depth ≤ 129
+  -- no call is open, and each that was made has taken two words at least:
+  pub spent : 2 * calls ≤ used
 
 -- An answer says what an expression comes to, and where the next one stands: the value among the words, and at height 1 the trees of its calls, from the
 -- row `calls` on.
@@ -42,6 +44,10 @@ ExpressionFormed text symbolRows count pattern r words words′ used =
     Headed (aritiesOf (symbolsOf text symbolRows count)) pattern → Formed (aritiesOf (symbolsOf text symbolRows count)) words used
     → (value next calls u : ℕ) → r ≡ Answer value next calls u → Formed (aritiesOf (symbolsOf text symbolRows count)) words′ u
 
+-- Where an expression has a value, each call that was made in it has taken two words at least.
+abbrev pub ExpressionSpent : Expressed → ℕ → ℕ → Type 0
+ExpressionSpent r calls used = (value next calls′ used′ : ℕ) → r ≡ Answer value next calls′ used′ → 2 * calls′ + used ≤ 2 * calls + used′
+
 pub record ExpressionAnswered (text : List ℕ) (rows : Rows) (at : ℕ) (symbolRows : Rows) (count : ℕ) (ruleRows : Rows) (pattern : List ℕ)
     (depth calls used limit : ℕ) (words links : List ℕ) (trees : Rows) (r : Expressed) (words′ links′ : List ℕ) (trees′ : Rows) : Type 0 where
   pub says : (wide : ℕ) (rules : List Rule) → Tables text symbolRows count ruleRows pattern wide rules → (t : Written one) (q : ℕ) → standing.Stands text rows at t q
@@ -49,12 +55,13 @@ pub record ExpressionAnswered (text : List ℕ) (rows : Rows) (at : ℕ) (symbol
       → Evaluates (expressionOf limit (symbolsOf text symbolRows count) rules t sorts depth (record { calls = calls; words = used }))
       q r words trees words′ trees′ used limit calls
   pub forms : ExpressionFormed text symbolRows count pattern r words words′ used
+  pub spends : ExpressionSpent r calls used
   pub kept : length words′ ≡ length words
   pub restored : links′ ≡ links
 
 -- The rows from a place on stand for the arguments of the symbol i.
 pub record ApplicationAsked (text : List ℕ) (rows : Rows) (at arguments : ℕ) (symbolRows : Rows) (count i : ℕ) (ruleRows : Rows) (pattern : List ℕ)
-    (depth used limit : ℕ) (words links : List ℕ) (trees stack : Rows) : Type 0 where
+    (depth calls used limit : ℕ) (words links : List ℕ) (trees stack : Rows) : Type 0 where
   pub wide : ℕ
   pub rules : List Rule
   pub tables : Tables text symbolRows count ruleRows pattern wide rules
@@ -66,6 +73,7 @@ pub record ApplicationAsked (text : List ℕ) (rows : Rows) (at arguments : ℕ)
   pub many : size terms ≡ arguments
   pub working : Working words used limit links trees stack
   pub deep : depth ≤ 128
+  pub spent : 2 * calls ≤ used
 
 pub record ApplicationAnswered (text : List ℕ) (rows : Rows) (at arguments : ℕ) (symbolRows : Rows) (count i : ℕ) (ruleRows : Rows) (pattern : List ℕ)
     (depth calls used limit : ℕ) (words links : List ℕ) (trees : Rows) (r : Expressed) (words′ links′ : List ℕ) (trees′ : Rows) : Type 0 where
@@ -76,5 +84,6 @@ pub record ApplicationAnswered (text : List ℕ) (rows : Rows) (at arguments : �
       (record { calls = calls; words = used })))
       q r words trees words′ trees′ used limit calls
   pub forms : ExpressionFormed text symbolRows count pattern r words words′ used
+  pub spends : ExpressionSpent r calls used
   pub kept : length words′ ≡ length words
   pub restored : links′ ≡ links

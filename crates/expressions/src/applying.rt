@@ -49,7 +49,7 @@ pub fn apply(
     trees: &mut [TreeRow],
     stack: &mut [[u32; 3]],
 ) -> Outcome
-    requires { ⌜ ApplyAsked (now symbols) (now rules) (now pattern) i (now values) depth used limit
+    requires { ⌜ ApplyAsked (now symbols) (now rules) (now pattern) i (now values) depth calls used limit
         (now words) (now links) (now trees) (now stack) ⌝ }
     ensures { λ r. ⌜ ApplyAnswered (now (symbols .entry)) (now (rules .entry)) (now (pattern .entry)) i (now (values .entry)) depth calls used limit
         (now (words .entry)) (now (links .entry)) (now (trees .entry)) r (now (words .exit)) (now (links .exit)) (now (trees .exit)) ⌝ }

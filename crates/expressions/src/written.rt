@@ -57,7 +57,7 @@ fn application(
     trees: &mut [TreeRow],
     stack: &mut [[u32; 3]],
 ) -> Expressed
-    requires { ⌜ ApplicationAsked (now text) (now rows) at arguments (now symbols) count i (now rules) (now pattern) depth used limit
+    requires { ⌜ ApplicationAsked (now text) (now rows) at arguments (now symbols) count i (now rules) (now pattern) depth calls used limit
         (now words) (now links) (now trees) (now stack) ⌝ }
     ensures { λ r. ⌜ ApplicationAnswered (now (text .entry)) (now (rows .entry)) at arguments (now (symbols .entry)) count i
         (now (rules .entry)) (now (pattern .entry)) depth calls used limit
@@ -151,7 +151,7 @@ pub fn expression(
     trees: &mut [TreeRow],
     stack: &mut [[u32; 3]],
 ) -> Expressed
-    requires { ⌜ ExpressionAsked (now text) (now rows) at (now symbols) count (now rules) (now pattern) depth used limit
+    requires { ⌜ ExpressionAsked (now text) (now rows) at (now symbols) count (now rules) (now pattern) depth calls used limit
         (now words) (now links) (now trees) (now stack) ⌝ }
     ensures { λ r. ⌜ ExpressionAnswered (now (text .entry)) (now (rows .entry)) at (now (symbols .entry)) count
         (now (rules .entry)) (now (pattern .entry)) depth calls used limit

@@ -18,7 +18,7 @@ add-call : tie.Need-add-call
 add-call c = let d = (c .before .before .before .before .before .before .pre) .deep in omega arith
 
 call-requires : tie.Need-call-requires
-call-requires c κs = call-asked (c .before .before .before .before .before .before .before .before .before .before .pre) ((c .before .before .before .before .if1) .taken) _
+call-requires c κs = call-asked (c .before .before .before .before .before .before .before .before .before .before .pre) ((c .before .before .before .before .if1) .taken)
 
 same-length : tie.Need-same-length
 same-length c = search needs
@@ -48,13 +48,13 @@ same-length-5 : tie.Need-same-length-5
 same-length-5 c = search needs
 
 returns-2 : tie.Need-returns-2
-returns-2 c = not-built (c .before .before .before .before .before .before .before .before .before .before .before .before .before .pre) ((c .before .before .before .before .before .before .before .if1) .left) _ ((c .before .before .before .before .before .build) .ensures) ((c .before .number) .given .1)
+returns-2 c = not-built (c .before .before .before .before .before .before .before .before .before .before .before .before .before .pre) ((c .before .before .before .before .before .before .before .if1) .left) ((c .before .before .before .before .before .build) .ensures) ((c .before .number) .given .1)
 
 same-length-6 : tie.Need-same-length-6
 same-length-6 c = search needs
 
 returns-3 : tie.Need-returns-3
-returns-3 c = is-built (c .before .before .before .before .before .before .before .before .before .before .before .before .before .pre) ((c .before .before .before .before .before .before .before .if1) .left) _ ((c .before .before .before .before .before .build) .ensures) ((c .before .value) .given .1)
+returns-3 c = is-built (c .before .before .before .before .before .before .before .before .before .before .before .before .before .pre) ((c .before .before .before .before .before .before .before .if1) .left) ((c .before .before .before .before .before .build) .ensures) ((c .before .value) .given .1)
 
 pub apply-spec : {M : Type 1} → statement M
 apply-spec =

@@ -60,7 +60,7 @@ application-loop-holds : (t : ℕ) → application-lts.Need-loop-holds (
   apply-reads.Asked,
   apply-reads.Learnt,
 ) (application-at t) application.Post application-Inv-loop application-μ-loop
-application-loop-holds t c = turn-start ((c .before .before .before .before .pre) .1) _ refl
+application-loop-holds t c = turn-start ((c .before .before .before .before .pre) .1) refl
 
 application-add-expression : (t : ℕ) → application-lts.Need-add-expression (
   expression-below t,
@@ -504,7 +504,7 @@ expression-returns : (t : ℕ) → expression-lts.Need-returns (
   application-below t,
   application.Post,
 ) (expression-at t) expression.Post
-expression-returns t c = too-deep ((c .before .before .before .before .before .pre) .1) _ ((c .if1) .taken)
+expression-returns t c = too-deep ((c .before .before .before .before .before .pre) .1) ((c .if1) .taken)
 
 expression-mul-kind : (t : ℕ) → expression-lts.Need-mul-kind (
   numeral-reads.Asked,
@@ -518,7 +518,7 @@ expression-mul-kind : (t : ℕ) → expression-lts.Need-mul-kind (
   application-below t,
   application.Post,
 ) (expression-at t) expression.Post
-expression-mul-kind t c = let i = inside ((c .before .before .before .before .before .pre) .1) 0 in omega arith
+expression-mul-kind t c = let i = inside ((c .before .before .before .before .before .pre) .1) in omega arith
 
 expression-index-1-kind : (t : ℕ) → expression-lts.Need-index-1-kind (
   numeral-reads.Asked,
@@ -532,7 +532,7 @@ expression-index-1-kind : (t : ℕ) → expression-lts.Need-index-1-kind (
   application-below t,
   application.Post,
 ) (expression-at t) expression.Post
-expression-index-1-kind t c = let i = inside ((c .before .before .before .before .before .pre) .1) 0 in omega arith
+expression-index-1-kind t c = let i = inside ((c .before .before .before .before .before .pre) .1) in omega arith
 
 expression-index-2-kind : (t : ℕ) → expression-lts.Need-index-2-kind (
   numeral-reads.Asked,
@@ -560,7 +560,7 @@ expression-mul-numeral : (t : ℕ) → expression-lts.Need-mul-numeral (
   application-below t,
   application.Post,
 ) (expression-at t) expression.Post
-expression-mul-numeral t c = let i = inside ((c .before .before .before .before .before .before .before .pre) .1) 0 in omega arith
+expression-mul-numeral t c = let i = inside ((c .before .before .before .before .before .before .before .pre) .1) in omega arith
 
 expression-index-1-numeral : (t : ℕ) → expression-lts.Need-index-1-numeral (
   numeral-reads.Asked,
@@ -574,7 +574,7 @@ expression-index-1-numeral : (t : ℕ) → expression-lts.Need-index-1-numeral (
   application-below t,
   application.Post,
 ) (expression-at t) expression.Post
-expression-index-1-numeral t c = let i = inside ((c .before .before .before .before .before .before .before .pre) .1) 0 in omega arith
+expression-index-1-numeral t c = let i = inside ((c .before .before .before .before .before .before .before .pre) .1) in omega arith
 
 expression-index-2-numeral : (t : ℕ) → expression-lts.Need-index-2-numeral (
   numeral-reads.Asked,
@@ -602,7 +602,7 @@ expression-numeral-requires : (t : ℕ) → expression-lts.Need-numeral-requires
   application-below t,
   application.Post,
 ) (expression-at t) expression.Post
-expression-numeral-requires t c κs = numeral-asked ((c .before .before .before .before .before .before .before .before .before .pre) .1) 0 ((c .before .before .before .before .if1) .left)
+expression-numeral-requires t c κs = numeral-asked ((c .before .before .before .before .before .before .before .before .before .pre) .1) ((c .before .before .before .before .if1) .left)
 
 expression-enum-known-number : (t : ℕ) → expression-lts.Need-enum-known-number (
   numeral-reads.Asked,
@@ -644,7 +644,7 @@ expression-returns-2 : (t : ℕ) → expression-lts.Need-returns-2 (
   application-below t,
   application.Post,
 ) (expression-at t) expression.Post
-expression-returns-2 t c = number-refused ((c .before .before .before .before .before .before .before .before .before .before .before .before .before .before .before .pre) .1) _ ((c .before .before .before .before .before .before .before .before .before .before .if1) .left) ((c .before .before .before .before .before .before .before .before .if2) .taken) ((c .before .before .before .before .before .numeral) .ensures) ((c .before .number) .given .1)
+expression-returns-2 t c = number-refused ((c .before .before .before .before .before .before .before .before .before .before .before .before .before .before .before .pre) .1) ((c .before .before .before .before .before .before .before .before .before .before .if1) .left) ((c .before .before .before .before .before .before .before .before .if2) .taken) ((c .before .before .before .before .before .numeral) .ensures) ((c .before .number) .given .1)
 
 expression-enum-known-value : (t : ℕ) → expression-lts.Need-enum-known-value (
   numeral-reads.Asked,
@@ -672,7 +672,7 @@ expression-add-t37 : (t : ℕ) → expression-lts.Need-add-t37 (
   application-below t,
   application.Post,
 ) (expression-at t) expression.Post
-expression-add-t37 t c = let i = inside ((c .before .before .before .before .before .before .before .before .before .before .before .before .before .before .before .pre) .1) 0 in omega arith
+expression-add-t37 t c = let i = inside ((c .before .before .before .before .before .before .before .before .before .before .before .before .before .before .before .pre) .1) in omega arith
 
 expression-same-length-2 : (t : ℕ) → expression-lts.Need-same-length-2 (
   numeral-reads.Asked,
@@ -700,7 +700,7 @@ expression-returns-3 : (t : ℕ) → expression-lts.Need-returns-3 (
   application-below t,
   application.Post,
 ) (expression-at t) expression.Post
-expression-returns-3 t c = number-built ((c .before .before .before .before .before .before .before .before .before .before .before .before .before .before .before .pre) .1) _ ((c .before .before .before .before .before .before .before .before .before .before .if1) .left) ((c .before .before .before .before .before .before .before .before .if2) .taken) ((c .before .before .before .before .before .numeral) .ensures) ((c .before .value) .given .1)
+expression-returns-3 t c = number-built ((c .before .before .before .before .before .before .before .before .before .before .before .before .before .before .before .pre) .1) ((c .before .before .before .before .before .before .before .before .before .before .if1) .left) ((c .before .before .before .before .before .before .before .before .if2) .taken) ((c .before .before .before .before .before .numeral) .ensures) ((c .before .value) .given .1)
 
 expression-returns-4 : (t : ℕ) → expression-lts.Need-returns-4 (
   numeral-reads.Asked,
@@ -714,7 +714,7 @@ expression-returns-4 : (t : ℕ) → expression-lts.Need-returns-4 (
   application-below t,
   application.Post,
 ) (expression-at t) expression.Post
-expression-returns-4 t c = of-meta ((c .before .before .before .before .before .before .before .before .pre) .1) _ ((c .before .before .before .if1) .left) ((c .if3) .taken)
+expression-returns-4 t c = of-meta ((c .before .before .before .before .before .before .before .before .pre) .1) ((c .before .before .before .if1) .left) ((c .if3) .taken)
 
 expression-mul-symbol-of : (t : ℕ) → expression-lts.Need-mul-symbol-of (
   numeral-reads.Asked,
@@ -728,7 +728,7 @@ expression-mul-symbol-of : (t : ℕ) → expression-lts.Need-mul-symbol-of (
   application-below t,
   application.Post,
 ) (expression-at t) expression.Post
-expression-mul-symbol-of t c = let i = inside ((c .before .before .before .before .before .before .before .before .pre) .1) 0 in omega arith
+expression-mul-symbol-of t c = let i = inside ((c .before .before .before .before .before .before .before .before .pre) .1) in omega arith
 
 expression-index-1-symbol-of : (t : ℕ) → expression-lts.Need-index-1-symbol-of (
   numeral-reads.Asked,
@@ -742,7 +742,7 @@ expression-index-1-symbol-of : (t : ℕ) → expression-lts.Need-index-1-symbol-
   application-below t,
   application.Post,
 ) (expression-at t) expression.Post
-expression-index-1-symbol-of t c = let i = inside ((c .before .before .before .before .before .before .before .before .pre) .1) 0 in omega arith
+expression-index-1-symbol-of t c = let i = inside ((c .before .before .before .before .before .before .before .before .pre) .1) in omega arith
 
 expression-index-2-symbol-of : (t : ℕ) → expression-lts.Need-index-2-symbol-of (
   numeral-reads.Asked,
@@ -770,7 +770,7 @@ expression-mul-symbol-of-2 : (t : ℕ) → expression-lts.Need-mul-symbol-of-2 (
   application-below t,
   application.Post,
 ) (expression-at t) expression.Post
-expression-mul-symbol-of-2 t c = let i = inside ((c .before .before .before .before .before .before .before .before .before .pre) .1) 0 in omega arith
+expression-mul-symbol-of-2 t c = let i = inside ((c .before .before .before .before .before .before .before .before .before .pre) .1) in omega arith
 
 expression-index-1-symbol-of-2 : (t : ℕ) → expression-lts.Need-index-1-symbol-of-2 (
   numeral-reads.Asked,
@@ -784,7 +784,7 @@ expression-index-1-symbol-of-2 : (t : ℕ) → expression-lts.Need-index-1-symbo
   application-below t,
   application.Post,
 ) (expression-at t) expression.Post
-expression-index-1-symbol-of-2 t c = let i = inside ((c .before .before .before .before .before .before .before .before .before .pre) .1) 0 in omega arith
+expression-index-1-symbol-of-2 t c = let i = inside ((c .before .before .before .before .before .before .before .before .before .pre) .1) in omega arith
 
 expression-index-2-symbol-of-2 : (t : ℕ) → expression-lts.Need-index-2-symbol-of-2 (
   numeral-reads.Asked,
@@ -826,7 +826,7 @@ expression-returns-5 : (t : ℕ) → expression-lts.Need-returns-5 (
   application-below t,
   application.Post,
 ) (expression-at t) expression.Post
-expression-returns-5 t c = of-unknown ((c .before .before .before .before .before .before .before .before .before .before .before .before .pre) .1) _ ((c .before .before .before .before .before .before .before .if1) .left) ((c .before .before .before .before .before .if2) .left) ((c .before .before .before .before .if3) .left) ((c .before .symbol-of) .ensures) ((c .if4) .taken)
+expression-returns-5 t c = of-unknown ((c .before .before .before .before .before .before .before .before .before .before .before .before .pre) .1) ((c .before .before .before .before .before .before .before .if1) .left) ((c .before .before .before .before .before .if2) .left) ((c .before .before .before .before .if3) .left) ((c .before .symbol-of) .ensures) ((c .if4) .taken)
 
 expression-mul-wide : (t : ℕ) → expression-lts.Need-mul-wide (
   numeral-reads.Asked,
@@ -840,7 +840,7 @@ expression-mul-wide : (t : ℕ) → expression-lts.Need-mul-wide (
   application-below t,
   application.Post,
 ) (expression-at t) expression.Post
-expression-mul-wide t c = let i = inside ((c .before .before .before .before .before .before .before .before .before .before .before .before .pre) .1) 0 in omega arith
+expression-mul-wide t c = let i = inside ((c .before .before .before .before .before .before .before .before .before .before .before .before .pre) .1) in omega arith
 
 expression-index-1-wide : (t : ℕ) → expression-lts.Need-index-1-wide (
   numeral-reads.Asked,
@@ -854,7 +854,7 @@ expression-index-1-wide : (t : ℕ) → expression-lts.Need-index-1-wide (
   application-below t,
   application.Post,
 ) (expression-at t) expression.Post
-expression-index-1-wide t c = let i = inside ((c .before .before .before .before .before .before .before .before .before .before .before .before .pre) .1) 0 in omega arith
+expression-index-1-wide t c = let i = inside ((c .before .before .before .before .before .before .before .before .before .before .before .before .pre) .1) in omega arith
 
 expression-index-2-wide : (t : ℕ) → expression-lts.Need-index-2-wide (
   numeral-reads.Asked,
@@ -896,7 +896,7 @@ expression-misuse-requires : (t : ℕ) → expression-lts.Need-misuse-requires (
   application-below t,
   application.Post,
 ) (expression-at t) expression.Post
-expression-misuse-requires t c κs = misuse-asked ((c .before .before .before .before .before .before .before .before .before .before .before .before .before .before .pre) .1) 0 ((c .before .before .before .before .before .before .before .before .before .if1) .left) ((c .before .before .before .before .before .before .before .if2) .left) ((c .before .before .before .before .before .before .if3) .left) ((c .before .before .before .symbol-of) .ensures) ((c .before .before .if4) .left) ((c .wide) .ensures)
+expression-misuse-requires t c κs = misuse-asked ((c .before .before .before .before .before .before .before .before .before .before .before .before .before .before .pre) .1) ((c .before .before .before .before .before .before .before .before .before .if1) .left) ((c .before .before .before .before .before .before .before .if2) .left) ((c .before .before .before .before .before .before .if3) .left) ((c .before .before .before .symbol-of) .ensures) ((c .before .before .if4) .left) ((c .wide) .ensures)
 
 expression-returns-6 : (t : ℕ) → expression-lts.Need-returns-6 (
   numeral-reads.Asked,
@@ -910,7 +910,7 @@ expression-returns-6 : (t : ℕ) → expression-lts.Need-returns-6 (
   application-below t,
   application.Post,
 ) (expression-at t) expression.Post
-expression-returns-6 t c = of-misuse ((c .before .before .before .before .before .before .before .before .before .before .before .before .before .before .before .before .pre) .1) _ ((c .before .before .before .before .before .before .before .before .before .before .before .if1) .left) ((c .before .before .before .before .before .before .before .before .before .if2) .left) ((c .before .before .before .before .before .before .before .before .if3) .left) ((c .before .before .before .before .before .symbol-of) .ensures) ((c .before .before .before .before .if4) .left) ((c .before .before .wide) .ensures) ((c .before .misuse) .ensures) ((c .if5) .taken)
+expression-returns-6 t c = of-misuse ((c .before .before .before .before .before .before .before .before .before .before .before .before .before .before .before .before .pre) .1) ((c .before .before .before .before .before .before .before .before .before .before .before .if1) .left) ((c .before .before .before .before .before .before .before .before .before .if2) .left) ((c .before .before .before .before .before .before .before .before .if3) .left) ((c .before .before .before .before .before .symbol-of) .ensures) ((c .before .before .before .before .if4) .left) ((c .before .before .wide) .ensures) ((c .before .misuse) .ensures) ((c .if5) .taken)
 
 expression-add-application : (t : ℕ) → expression-lts.Need-add-application (
   numeral-reads.Asked,
@@ -924,7 +924,7 @@ expression-add-application : (t : ℕ) → expression-lts.Need-add-application (
   application-below t,
   application.Post,
 ) (expression-at t) expression.Post
-expression-add-application t c = let i = inside ((c .before .before .before .before .before .before .before .before .before .before .before .before .before .before .before .before .pre) .1) 0 in omega arith
+expression-add-application t c = let i = inside ((c .before .before .before .before .before .before .before .before .before .before .before .before .before .before .before .before .pre) .1) in omega arith
 
 expression-application-requires : (t : ℕ) → expression-lts.Need-application-requires (
   numeral-reads.Asked,
@@ -938,7 +938,7 @@ expression-application-requires : (t : ℕ) → expression-lts.Need-application-
   application-below t,
   application.Post,
 ) (expression-at t) expression.Post
-expression-application-requires t c κs = (let y = (c .before .before .before .before .before .before .before .before .before .before .before .before .before .before .before .before .before .before .before .before .pre) .0 in let d = ((c .before .before .before .before .before .before .before .before .before .before .before .before .before .before .before .if1) .left) in omega arith, application-asked ((c .before .before .before .before .before .before .before .before .before .before .before .before .before .before .before .before .before .before .before .before .pre) .1) 0 ((c .before .before .before .before .before .before .before .before .before .before .before .before .before .before .before .if1) .left) ((c .before .before .before .before .before .before .before .before .before .before .before .before .before .if2) .left) ((c .before .before .before .before .before .before .before .before .before .before .before .before .if3) .left) ((c .before .before .before .before .before .before .before .before .before .symbol-of) .ensures) ((c .before .before .before .before .before .before .before .before .if4) .left) ((c .before .before .before .before .before .before .wide) .ensures) ((c .before .before .before .before .before .misuse) .ensures) ((c .before .before .before .before .if5) .left))
+expression-application-requires t c κs = (let y = (c .before .before .before .before .before .before .before .before .before .before .before .before .before .before .before .before .before .before .before .before .pre) .0 in let d = ((c .before .before .before .before .before .before .before .before .before .before .before .before .before .before .before .if1) .left) in omega arith, application-asked ((c .before .before .before .before .before .before .before .before .before .before .before .before .before .before .before .before .before .before .before .before .pre) .1) ((c .before .before .before .before .before .before .before .before .before .before .before .before .before .before .before .if1) .left) ((c .before .before .before .before .before .before .before .before .before .before .before .before .before .if2) .left) ((c .before .before .before .before .before .before .before .before .before .before .before .before .if3) .left) ((c .before .before .before .before .before .before .before .before .before .symbol-of) .ensures) ((c .before .before .before .before .before .before .before .before .if4) .left) ((c .before .before .before .before .before .before .wide) .ensures) ((c .before .before .before .before .before .misuse) .ensures) ((c .before .before .before .before .if5) .left))
 
 expression-same-length-3 : (t : ℕ) → expression-lts.Need-same-length-3 (
   numeral-reads.Asked,
@@ -1008,7 +1008,7 @@ expression-returns-7 : (t : ℕ) → expression-lts.Need-returns-7 (
   application-below t,
   application.Post,
 ) (expression-at t) expression.Post
-expression-returns-7 t c = applied-to ((c .before .before .before .before .before .before .before .before .before .before .before .before .before .before .before .before .before .before .before .before .before .before .before .before .before .before .before .pre) .1) _ ((c .before .before .before .before .before .before .before .before .before .before .before .before .before .before .before .before .before .before .before .before .before .before .if1) .left) ((c .before .before .before .before .before .before .before .before .before .before .before .before .before .before .before .before .before .before .before .before .if2) .left) ((c .before .before .before .before .before .before .before .before .before .before .before .before .before .before .before .before .before .before .before .if3) .left) ((c .before .before .before .before .before .before .before .before .before .before .before .before .before .before .before .before .symbol-of) .ensures) ((c .before .before .before .before .before .before .before .before .before .before .before .before .before .before .before .if4) .left) ((c .before .before .before .before .before .before .before .before .before .before .before .before .before .wide) .ensures) ((c .before .before .before .before .before .before .before .before .before .before .before .before .misuse) .ensures) ((c .before .before .before .before .before .before .before .before .before .before .before .if5) .left) ((c .before .before .before .before .before .before .application) .ensures)
+expression-returns-7 t c = applied-to ((c .before .before .before .before .before .before .before .before .before .before .before .before .before .before .before .before .before .before .before .before .before .before .before .before .before .before .before .pre) .1) ((c .before .before .before .before .before .before .before .before .before .before .before .before .before .before .before .before .before .before .before .before .before .before .if1) .left) ((c .before .before .before .before .before .before .before .before .before .before .before .before .before .before .before .before .before .before .before .before .if2) .left) ((c .before .before .before .before .before .before .before .before .before .before .before .before .before .before .before .before .before .before .before .if3) .left) ((c .before .before .before .before .before .before .before .before .before .before .before .before .before .before .before .before .symbol-of) .ensures) ((c .before .before .before .before .before .before .before .before .before .before .before .before .before .before .before .if4) .left) ((c .before .before .before .before .before .before .before .before .before .before .before .before .before .wide) .ensures) ((c .before .before .before .before .before .before .before .before .before .before .before .before .misuse) .ensures) ((c .before .before .before .before .before .before .before .before .before .before .before .if5) .left) ((c .before .before .before .before .before .before .application) .ensures)
 
 pub +application+expression-spec : {M : Type 1} → statement M
 +application+expression-spec = close μ-application μ-expression (λ t. application-lts.spec (
