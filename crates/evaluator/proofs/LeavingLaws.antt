@@ -31,7 +31,7 @@ use Rattle.evaluation.specs.Expressions.{Evaluated, failed, evaluated, evaluate
 use Rattle.evaluation.specs.CountLaws.{evaluation-spends}
 use Rattle.clause_matching.specs.Stored.{Values, Links}
 use Rattle.clause_matching.specs.Building.{Stands as Built}
-use Rattle.function_calls.specs.Calls.{Working, TreesListed}
+use Rattle.function_calls.specs.Calls.{treeRows, Working, TreesListed}
 use Rattle.expressions.specs.Terms.{ExpressionAsked, Evaluates, ExpressionAnswered}
 use Rattle.expressions.specs.declared.written.Expressed.{Expressed}
 use Rattle.expressions.specs.declared.written.Expressed.the-variants.{Value as Found, Refused as Missed}
@@ -87,13 +87,14 @@ all-wiped words links trees e f g = together (e ∙ cleared-all 0 words) (f ∙ 
 pub record Enough (most words links trees : ℕ) : Type 0 where
   pub words-enough : most + 2049 ≤ words
   pub links-enough : most ≤ links
-  pub trees-enough : 10000 ≤ trees
+  pub trees-enough : treeRows most ≤ trees
 
 pub enough : (most words links trees : ℕ) → isShort most words links trees ≡ false → Enough most words links trees
 enough most words links trees e =
     by-less words (most + 2049) (λ l q. true-false (rw (lt-ltb words (most + 2049) l)) e) (λ l q.
     by-less links most (λ m p. true-false (rw (le-ltb words (most + 2049) l, lt-ltb links most m)) e) (λ m p.
-    by-less trees 10000 (λ n o. true-false (rw (le-ltb words (most + 2049) l, le-ltb links most m, lt-ltb trees 10000 n)) e) (λ n o.
+    by-less trees (treeRows most)
+    (λ n o. true-false (rw (le-ltb words (most + 2049) l, le-ltb links most m, lt-ltb trees (treeRows most) n)) e) (λ n o.
     record { words-enough = l; links-enough = m; trees-enough = n })))
 
 -- What the expression is asked
@@ -128,9 +129,10 @@ module _ {text : List ℕ} {limits : Limits} {sg : SignatureStore} {rows : Rows}
       }
 
   pub expression-asked : (m : ℕ) → m ≡ most → (links : List ℕ) (stack : Rows) → links ≡ clearedFrom 0 0 (b .links) → length stack ≡ 2049
-      → ExpressionAsked text rows at (sg .symbols) (sg .counts .symbols) (sg .rules) (pattern text sg (h .readable .signature)) 0 0 m (b .words) links (b .trees) stack
+      → ExpressionAsked text rows at (sg .symbols) (sg .counts .symbols) (sg .rules) (pattern text sg (h .readable .signature)) 0 0 0 m
+      (b .words) links (b .trees) stack
   expression-asked m q links stack e n =
-      subst (λ (k : ℕ). ExpressionAsked text rows at (sg .symbols) (sg .counts .symbols) (sg .rules) (pattern text sg (h .readable .signature)) 0 0 k
+      subst (λ (k : ℕ). ExpressionAsked text rows at (sg .symbols) (sg .counts .symbols) (sg .rules) (pattern text sg (h .readable .signature)) 0 0 0 k
       (b .words) links (b .trees) stack) (sym q) (record {
         wide = sg .counts .words;
         rules = rulesIn text sg;
@@ -140,6 +142,7 @@ module _ {text : List ℕ} {limits : Limits} {sg : SignatureStore} {rows : Rows}
         stands = term-stands (h .readable .term);
         working = working links stack e n;
         deep = omega arith;
+        spent = omega arith;
       })
 
 -- What is left
@@ -230,6 +233,7 @@ module _ {text : List ℕ} {limits : Limits} {sg : SignatureStore} {rows : Rows}
     rows-enough =
         let f = ways h₀ in
         let (a, few, c) = evaluation-spends (mostWords limits) (signatureOf text sg) (writtenIn (h₀ .readable)) (f .result) (f .made) (record { calls = calls; words = used }) (f .comes) in
+        let s = x .spends value next calls used q in
         let z = enough (mostWords limits) (length (b .words)) (length (b .links)) (length (b .trees)) (h₀ .lent) .trees-enough in
         omega arith
 

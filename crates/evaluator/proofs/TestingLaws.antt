@@ -19,6 +19,7 @@ use Rattle.signature.specs.Form.{Checked}
 use Rattle.signature.specs.Storage.{SignatureStore, symbolsIn, SignatureListed}
 use Rattle.evaluation.specs.Expressions.{isForwardCall}
 use Rattle.forward_calls.specs.Forward.{ForwardAsked, ForwardAnswered}
+use Rattle.function_calls.specs.Calls.{treeRows}
 use Rattle.evaluator.specs.Storage.{Results, isShort, tooShort}
 use Rattle.evaluator.specs.Evaluating.{Readable, writtenIn, Ready, EvaluationLeft, Evaluating, Forwarding}
 use Rattle.evaluator.specs.declared.Evaluation.{Evaluation}
@@ -35,8 +36,8 @@ module _ (most words links trees : ℕ) where
   pub short-links : most + 2049 ≤ words → links < most → true ≡ isShort most words links trees
   short-links l m = rw (le-ltb words (most + 2049) l, lt-ltb links most m)
 
-  pub short-trees : most + 2049 ≤ words → most ≤ links → ltb trees 10000 ≡ isShort most words links trees
-  short-trees l m = rw (le-ltb words (most + 2049) l, le-ltb links most m)
+  pub short-trees : {rows : ℕ} → most + 2049 ≤ words → most ≤ links → rows ≡ treeRows most → ltb trees rows ≡ isShort most words links trees
+  short-trees l m e = rw (e, le-ltb words (most + 2049) l, le-ltb links most m)
 
 -- The limits that count.
 pub capped-few : (limits l : Limits) → l ≡ cappedOf limits → l .words ≤ 262144

@@ -7,6 +7,7 @@ use lib.ListN.{length, replicate}
 use Rattle.words.specs.Lexer.{cappedOf}
 use Rattle.words.specs.declared.Limits.{Limits}
 use Rattle.names.specs.Symbols.{Rows}
+use Rattle.function_calls.specs.Calls.{treeRows}
 
 -- The words of values, links for comparing them, and the rows of trees.
 pub record Results : Type 0 where
@@ -22,13 +23,9 @@ mostWords limits = cappedOf limits .words
 abbrev pub scratchWords : ℕ
 scratchWords = 2049
 
--- One row of trees for each call.
-abbrev pub treeRows : ℕ
-treeRows = 10000
-
--- Is a buffer shorter than the limits ask?
+-- Is a buffer shorter than the limits ask? There is a link for each word, and a row of trees for each call that so many words allow.
 abbrev pub isShort : ℕ → ℕ → ℕ → ℕ → Bool
-isShort most words links trees = ltb words (most + scratchWords) || (ltb links most || ltb trees treeRows)
+isShort most words links trees = ltb words (most + scratchWords) || (ltb links most || ltb trees (treeRows most))
 
 abbrev pub tooShort : Limits → Results → Bool
 tooShort limits b = isShort (mostWords limits) (length (b .words)) (length (b .links)) (length (b .trees))

@@ -4,6 +4,8 @@
 // The entry points are `evaluate` and `is_forward_call`. They ask nothing of their caller, and each contract fixes the answer and every lent buffer on all
 // inputs. `evaluate_listed` serves programs that know their signature and their rows to be in form.
 use expressions::Expressed;
+use function_calls::MAX_CALLS;
+use function_calls::MAX_DEPTH;
 use function_calls::NOT_LISTED;
 use function_calls::TreeRow;
 use names::SortRow;
@@ -17,6 +19,7 @@ ghost use mathlib.Core.Path.{_≡_};
 ghost use Prim.Native.Nat.{_≤_};
 ghost use lib.ListN.{length, replicate};
 ghost use Rattle.load_storage.specs.Storage.{clearedFrom};
+ghost use Rattle.function_calls.specs.Calls.{treeRows};
 ghost use Rattle.evaluator.specs.Storage.{isShort, zeroTree, wiped};
 ghost use Rattle.evaluator.specs.Evaluating.{Ready, EvaluationLeft, Evaluating, Forwarding};
 
@@ -36,6 +39,17 @@ pub enum Forward {
     Refused { number: u32 },
 }
 
+// How many rows of trees so many words ask: at most 128 calls are open, and each other one has taken two words at least.
+fn tree_rows(most: u32) -> usize
+    ensures { λ r. ⌜ r ≡ treeRows most ⌝ }
+{
+    let rows = most / 2 + MAX_DEPTH;
+    if MAX_CALLS < rows {
+        return MAX_CALLS as usize;
+    }
+    rows as usize
+}
+
 // Is a buffer shorter than so many words ask?
 fn is_short(most: u32, words: &[u32], links: &[u32], trees: &[TreeRow]) -> bool
     requires { ⌜ most ≤ 262144 ⌝ }
@@ -47,7 +61,8 @@ fn is_short(most: u32, words: &[u32], links: &[u32], trees: &[TreeRow]) -> bool
     if links.len() < most as usize {
         return true;
     }
-    trees.len() < function_calls::MAX_CALLS as usize
+    let rows = tree_rows(most);
+    trees.len() < rows
 }
 
 // Zeroes the rows of trees from a place on.

@@ -9,16 +9,24 @@ add-if1 : tie.Need-add-if1
 add-if1 c = search needs
 
 returns : tie.Need-returns
-returns c = short-words (c .before .args .most) (length (c .before .args .words .now)) (length (c .before .args .links .now)) (length (c .before .args .trees .now)) (c .if1 .taken)
+returns c =
+    let entry = c .before .before .before .args in
+    short-words (entry .most) (length (entry .words .now)) (length (entry .links .now)) (length (entry .trees .now)) (c .if1 .taken)
 
 returns-2 : tie.Need-returns-2
-returns-2 c = short-links (c .before .before .args .most) (length (c .before .before .args .words .now)) (length (c .before .before .args .links .now)) (length (c .before .before .args .trees .now)) (c .before .if1 .left) (c .if2 .taken)
+returns-2 c =
+    let entry = c .before .before .before .before .args in
+    short-links (entry .most) (length (entry .words .now)) (length (entry .links .now)) (length (entry .trees .now))
+    (c .before .if1 .left) (c .if2 .taken)
 
-cast-result : tie.Need-cast-result
-cast-result c = search needs
+tree-rows-requires : tie.Need-tree-rows-requires
+tree-rows-requires c κs = search needs
 
 returns-3 : tie.Need-returns-3
-returns-3 c = short-trees (c .before .before .args .most) (length (c .before .before .args .words .now)) (length (c .before .before .args .links .now)) (length (c .before .before .args .trees .now)) (c .before .if1 .left) (c .if2 .left)
+returns-3 c =
+    let entry = c .before .before .before .before .before .args in
+    short-trees (entry .most) (length (entry .words .now)) (length (entry .links .now)) (length (entry .trees .now))
+    (c .before .before .if1 .left) (c .before .if2 .left) (c .tree-rows .ensures)
 
 pub is-short-spec : {M : Type 1} → statement M
-is-short-spec = tie.close (tie.spec add-if1 returns returns-2 cast-result returns-3)
+is-short-spec = tie.close (tie.spec add-if1 returns returns-2 tree-rows-requires returns-3)
