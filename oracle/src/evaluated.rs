@@ -149,7 +149,9 @@ impl Lent {
     /// What a limit on words asks for.
     pub fn least(limit: u32) -> Lent {
         let words = limit.min(WORDS) as usize;
-        Lent { words: words + WORDS_BESIDE, links: words, trees: CALLS, results: RESULTS }
+        // At most 128 calls are open, and each other one has taken two words at least.
+        let trees = CALLS.min(words / 2 + DEPTH);
+        Lent { words: words + WORDS_BESIDE, links: words, trees, results: RESULTS }
     }
 
     pub fn suffices(&self, limit: u32) -> bool {
