@@ -342,6 +342,17 @@ fn most_words(limits: Limits) -> usize
     WORDS as usize
 }
 
+// For how many rows of trees there is room under so many words: one for two words, and 128 more, but no more than there are calls.
+fn most_rows(words: usize) -> usize
+    ensures { λ r. ⌜ r ≤ 10000 ⌝ }
+{
+    let rows = words / 2 + 128;
+    if rows < 10000 {
+        return rows;
+    }
+    10000
+}
+
 // Lends the buffers for the results.
 fn list_loaded(
     text: &[u8],
@@ -360,6 +371,7 @@ fn list_loaded(
     let mut trees = [[0u32; 8]; 10000];
     let most = most_words(limits);
     let end = most + SCRATCH;
+    let calls = most_rows(most);
     list_lent(
         text,
         limits,
@@ -373,7 +385,7 @@ fn list_loaded(
         n,
         &mut words[..end],
         &mut links[..most],
-        &mut trees,
+        &mut trees[..calls],
     );
 }
 
