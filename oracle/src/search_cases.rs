@@ -74,6 +74,46 @@ pub fn ask_of(text: &[u8], line: u32) -> Ask {
     Ask::of_numbers(numbers)
 }
 
+/// A text without its comments.
+pub fn without_asks(text: &[u8]) -> Vec<u8> {
+    let text = String::from_utf8_lossy(text);
+    let lines = text.lines().map(|line| line.split_once("--").map_or(line, |(start, _)| start.trim_end()));
+    lines.map(|line| format!("{line}\n")).collect::<String>().into_bytes()
+}
+
+/// A text with other numbers behind the goals that start on these lines.
+pub fn with_asks(text: &[u8], lines: &[u32], asks: &[Ask]) -> Vec<u8> {
+    let text = String::from_utf8(without_asks(text)).expect("a loaded text is UTF-8");
+    let asked = |(at, line): (usize, &str)| match lines.iter().position(|other| *other as usize == at + 1) {
+        None => format!("{line}\n"),
+        Some(goal) => {
+            let [steps, depth, step_limit, variables, words] = asks[goal].numbers();
+            format!("{line} -- {steps} {depth} {step_limit} {variables} {words}\n")
+        }
+    };
+    text.lines().enumerate().map(asked).collect::<String>().into_bytes()
+}
+
+/// A limit that is document 01's, as another.
+pub fn lowered(ask: Ask, most: &Allowance) -> Ask {
+    let lower = |limit: u32, usual: u32, most: u32| if limit == usual { most } else { limit };
+    let limits = Allowance {
+        steps: lower(ask.limits.steps, STEPS, most.steps),
+        variables: lower(ask.limits.variables, VARIABLES, most.variables),
+        words: lower(ask.limits.words, WORDS, most.words),
+    };
+    Ask { limits, ..ask }
+}
+
+/// The same goals with limits that are document 01's lowered to the bench program's, so that less has to be lent.
+pub fn with_lower_limits(question: &Question) -> Question {
+    let Some(program) = question.load() else { return question.clone() };
+    let lines: Vec<u32> = program.storage.evals.iter().map(|[line, _]| *line).collect();
+    let ask = |line: &u32| lowered(ask_of(&question.text, *line), &Ask::BENCH.limits);
+    let asks: Vec<Ask> = lines.iter().map(ask).collect();
+    Question { text: with_asks(&question.text, &lines, &asks) }
+}
+
 /// What the comment says that the answer must be, behind `=>`.
 fn expected_of(text: &[u8], line: u32) -> Option<String> {
     comment(text, line).split_once("=>").map(|(_, expected)| expected.trim().to_owned())
@@ -255,11 +295,12 @@ fn unexpected(text: &[u8]) -> Vec<String> {
 /// The fixed lists.
 pub fn fixed_questions() -> Vec<Question> {
     let texts = examples().into_iter().chain(large_examples());
-    texts.map(|text| Question::new(&text)).chain(every_step()).collect()
+    let depths = [0, 3, 4, 5, 7, 8, 16, 32];
+    texts.map(|text| Question::new(&text)).chain(every_step(&depths)).collect()
 }
 
-/// Small searches, each with every number of steps up to two more than it needs and with several depths. `@` stands for the
-/// number of the goal, so that each has names of its own.
+/// Small searches, to be asked with every number of steps up to 30. `@` stands for the number of the goal, so that each has names
+/// of its own.
 const SMALL: &[(&str, &str)] = &[
     (ADD, "add ?x@ 1 = 2"),
     (ADD, "add ?x@ 2 = 1"),
@@ -278,14 +319,12 @@ const SMALL: &[(&str, &str)] = &[
 
 const ADD: &str = "sort Nat ctor zero : Nat ctor succ : Nat → Nat def add : Nat → Nat → Nat | zero, n => n | succ m, n => succ (add m n)";
 
-fn every_step() -> impl Iterator<Item = Question> {
-    SMALL.iter().flat_map(|(declarations, goal)| {
-        [0, 3, 4, 5, 7, 8, 16, 32].map(|depth| {
-            let lines = |steps: Range<u32>| {
-                let line = |steps: u32| format!("#eval {} -- {steps} {depth}\n", goal.replace('@', &steps.to_string()));
-                steps.map(line).collect::<String>()
-            };
-            Question::new(&format!("{declarations}\n{}", lines(0..31)))
+/// The small searches with these depths.
+pub fn every_step(depths: &[u32]) -> impl Iterator<Item = Question> {
+    SMALL.iter().flat_map(move |(declarations, goal)| {
+        depths.iter().map(move |depth| {
+            let line = |steps: u32| format!("#eval {} -- {steps} {depth}\n", goal.replace('@', &steps.to_string()));
+            Question::new(&format!("{declarations}\n{}", (0..31).map(line).collect::<String>()))
         })
     })
 }

@@ -168,6 +168,19 @@ fn lay(nodes: &mut Vec<Node>, pattern: &Pattern, map: &impl Fn(usize) -> usize) 
     nodes.len() - 1
 }
 
+/// Lays the nodes of a term that is known by its number.
+fn lay_term(nodes: &mut Vec<Node>, term: usize, terms: &Terms) -> usize {
+    let node = match terms.as_variable(term) {
+        Some(variable) => Node::Var(variable),
+        None => {
+            let arguments = terms.arguments(term).iter().map(|argument| lay_term(nodes, *argument, terms)).collect();
+            Node::App(terms.symbol(term) as usize, arguments)
+        }
+    };
+    nodes.push(node);
+    nodes.len() - 1
+}
+
 /// `bounds`: 4, 8, 16, .. up to the largest depth.
 fn bounds(largest: u32) -> impl Iterator<Item = u32> {
     std::iter::successors(Some(4_u32), |bound| bound.checked_add(*bound)).take_while(move |bound| *bound <= largest)
@@ -204,6 +217,19 @@ impl Session<'_> {
             most: Limits { variables: 0, words: 0 },
             cost: 0,
         }
+    }
+
+    /// A session that stands so, whose bindings are all there.
+    pub fn standing_so<'s>(signature: &'s Signature, standing: &Standing, terms: &Terms) -> Session<'s> {
+        let mut session = Session::new(signature);
+        session.names = standing.names.clone();
+        session.words = standing.words;
+        session.bindings.resize(standing.variables, None);
+        for (variable, term) in &standing.bindings {
+            let node = lay_term(&mut session.nodes, *term, terms);
+            session.bind(*variable, Term { node, first: 0 });
+        }
+        session
     }
 
     pub fn mark(&self) -> Mark {

@@ -1,9 +1,11 @@
 //! Holds together what needs no library of ours: the original's answers to lists of goals and the search's definitions, without
-//! limits and under them.
+//! limits and under them; and the comparison over lent storage with a search by the definitions, without and with a planted fault.
 
 use horn_oracle::evaluate::with_large_stack;
 use horn_oracle::random::Random;
 use horn_oracle::search_cases::{Both, Question, fixed_questions, generated, unexpected_answers};
+use horn_oracle::search_compared::{self, compare, questions};
+use horn_oracle::search_laid::{FAULTS, Fault, Laid};
 use horn_oracle::searched::{Counted, REFUSALS};
 use horn_oracle::shrink::shrunk;
 use std::panic::{AssertUnwindSafe, catch_unwind};
@@ -11,6 +13,10 @@ use std::panic::{AssertUnwindSafe, catch_unwind};
 /// From so many goals of generated lists on, each number must occur among them at least once in `RARELY`.
 const MANY: u64 = 20_000;
 const RARELY: u64 = 200;
+
+/// Of the lists one in so many is put to the comparison over lent storage, and a planted fault is found among so many.
+const STORED: u64 = 20;
+const FAULTY: u64 = 2_000;
 
 /// How the lists were answered.
 #[derive(Clone)]
@@ -57,6 +63,20 @@ fn check(count: u64, seed: u64) {
     if let Some(number) = REFUSALS.iter().find(is_rare).filter(|_| goals >= MANY) {
         fail(&format!("fewer than 1 in {RARELY} are refused by {number}"));
     }
+    match compare(questions(count / STORED, seed), &mut Laid { fault: Fault::None }) {
+        Ok(tally) => println!("stored: {}", tally.shown()),
+        Err(difference) => fail(&difference),
+    }
+    if let Some(fault) = FAULTS.iter().find(|fault| !is_found(**fault, seed)) {
+        fail(&format!("{fault:?} is not found"));
+    }
+}
+
+/// Whether the comparison finds a planted fault.
+fn is_found(fault: Fault, seed: u64) -> bool {
+    let (mut laid, mut tally) = (Laid { fault }, search_compared::Tally::new());
+    let mut lists = questions(FAULTY, seed);
+    lists.any(|(question, beside)| search_compared::compared(&question, beside, &mut laid, &mut tally).is_err())
 }
 
 fn fail(message: &str) -> ! {
