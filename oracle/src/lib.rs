@@ -9,6 +9,7 @@ mod schematic;
 
 pub mod boundary;
 pub mod cases;
+pub mod command;
 pub mod damage;
 pub mod declarations;
 pub mod declared;
@@ -40,6 +41,7 @@ pub mod search_examples;
 pub mod search_laid;
 pub mod search_rows;
 pub mod search_texts;
+pub mod search_timing;
 pub mod searched;
 pub mod signatures;
 pub mod stored_definitions;

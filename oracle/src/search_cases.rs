@@ -10,6 +10,7 @@ use crate::random::Random;
 use crate::search::{self, Asked as OriginalAsked};
 use crate::search_definitions::{Asked, Limits, Session};
 use crate::search_examples::{examples, large_examples};
+use crate::search_texts::texts as timed_texts;
 use crate::searched::{Allowance, Answer, Ask, DEPTH, NO_ROOM, STEPS, Standing, VARIABLES, Verdict, WORDS};
 use crate::shrink;
 use crate::tokens::TEXT_BYTES;
@@ -171,7 +172,9 @@ impl<'p> Both<'p> {
         let asked = self.definitions.ask(&goal, &ask, &mut self.terms);
         let after = self.definitions.standing(bound, &mut self.terms);
         self.compare_limited(&ask, free.as_ref(), &asked, &before, &after)?;
-        if let (Verdict::Refused(_), Some(original), Some((_, mark))) = (&asked.answer.verdict, &mut self.original, &free) {
+        if let (Verdict::Refused(_), Some(original), Some((_, mark))) =
+            (&asked.answer.verdict, &mut self.original, &free)
+        {
             original.restore(*mark);
         }
         self.last = self.last.take().filter(|_| asked.answer.verdict.number() != NO_ROOM);
@@ -296,7 +299,8 @@ fn unexpected(text: &[u8]) -> Vec<String> {
 pub fn fixed_questions() -> Vec<Question> {
     let texts = examples().into_iter().chain(large_examples());
     let depths = [0, 3, 4, 5, 7, 8, 16, 32];
-    texts.map(|text| Question::new(&text)).chain(every_step(&depths)).collect()
+    let timed = timed_texts().into_iter().map(|(_, text)| text);
+    texts.chain(timed).map(|text| Question::new(&text)).chain(every_step(&depths)).collect()
 }
 
 /// Small searches, to be asked with every number of steps up to 30. `@` stands for the number of the goal, so that each has names
@@ -311,8 +315,14 @@ const SMALL: &[(&str, &str)] = &[
     ("sort A ctor a : A ctor s : A → A pred p : A → Prop rule r : p (s x) → p x", "p ?x@"),
     ("sort A ctor a : A ctor s : A → A pred p : A → A → Prop rule r : p x (s x)", "p ?x@ ?x@"),
     ("sort A ctor a : A pred p : A → Prop pred q : A → Prop rule r : p x → p y → q x rule t : p a", "q ?x@"),
-    ("sort A ctor a : A ctor b : A pred e : A → A → Prop pred t : A → A → Prop rule f : e a b rule g : e b a rule o : e x y → t x y rule m : t x y → t y z → t x z", "t a ?x@"),
-    ("sort A ctor a : A ctor b : A pred e : A → A → Prop rule f : e a b rule g : e b a pred l : A → Prop rule h : e x y → l y → l x", "l ?x@"),
+    (
+        "sort A ctor a : A ctor b : A pred e : A → A → Prop pred t : A → A → Prop rule f : e a b rule g : e b a rule o : e x y → t x y rule m : t x y → t y z → t x z",
+        "t a ?x@",
+    ),
+    (
+        "sort A ctor a : A ctor b : A pred e : A → A → Prop rule f : e a b rule g : e b a pred l : A → Prop rule h : e x y → l y → l x",
+        "l ?x@",
+    ),
     ("sort A pred q : Prop pred r : Prop rule f : r → q rule g : q", "q"),
     ("sort A pred q : Prop", "q"),
 ];

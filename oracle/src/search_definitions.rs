@@ -9,7 +9,7 @@
 
 use crate::evaluated::{Call, Terms};
 use crate::pattern_definitions::{Compiler, Pattern, Point, Stop, Symbol, Tried, Written, met};
-use crate::searched::{Allowance, Answer, Ask, DEPTH, GOAL_NODES, Named, Standing, STEPS, VARIABLES, Verdict, WORDS};
+use crate::searched::{Allowance, Answer, Ask, DEPTH, GOAL_NODES, Named, STEPS, Standing, VARIABLES, Verdict, WORDS};
 use crate::stored_definitions::Signature;
 use std::collections::HashSet;
 
@@ -349,8 +349,10 @@ impl Session<'_> {
                 Found::Refused => return Answer::refused(37),
                 Found::Tree(tree, left, words) => {
                     self.words = words;
-                    let call = |&(height, rule, goal): &(u32, usize, Term)| {
-                        Call { height, rule: rule as u32, goal: self.number(goal, terms) }
+                    let call = |&(height, rule, goal): &(u32, usize, Term)| Call {
+                        height,
+                        rule: rule as u32,
+                        goal: self.number(goal, terms),
                     };
                     let verdict = Verdict::Proved(tree.iter().map(call).collect());
                     return Answer { verdict, steps: steps - left };
@@ -404,7 +406,8 @@ impl Session<'_> {
                         let premises = &self.rules[rule].premises;
                         work = push(&mut machine.work, Work::Build(rule, branch.goal, premises.len()), branch.rest);
                         for premise in premises.iter().rev() {
-                            work = push(&mut machine.work, Work::Goal(Term { node: *premise, first }, branch.depth), work);
+                            work =
+                                push(&mut machine.work, Work::Goal(Term { node: *premise, first }, branch.depth), work);
                         }
                         (proofs, words) = (branch.proofs, more);
                         break;

@@ -84,8 +84,7 @@ impl Searching for Laid {
                 return Given::Refused(1);
             }
         };
-        let signature =
-            Signature::stored(text, symbols, &posed.stored.rules[..rules], &posed.stored.words[..words]);
+        let signature = Signature::stored(text, symbols, &posed.stored.rules[..rules], &posed.stored.words[..words]);
         let (goal, _) = term_at(text, &posed.stored.rows, posed.at).expect("the rows of a goal");
         let mut other = Session::standing_so(&signature, &session.standing, &terms);
         let answer = other.ask(&goal, &posed.ask, &mut terms).answer;
@@ -136,7 +135,8 @@ impl Layer<'_> {
             let word = self.posed.text.get(start as usize..(start + length) as usize);
             [NAME, METAVARIABLE].contains(&kind) && word == Some(&named.name)
         };
-        let [kind, start, length, _] = *self.posed.stored.rows[self.posed.at..].iter().find(is_it).expect("a name's row");
+        let [kind, start, length, _] =
+            *self.posed.stored.rows[self.posed.at..].iter().find(is_it).expect("a name's row");
         let sort = if self.fault == Fault::Sort { 1 } else { named.sort };
         [kind, start, length, sort, named.variable as u32]
     }

@@ -80,7 +80,8 @@ impl Stored<'_> {
         let (mut nodes, mut address) = (HashMap::new(), 0);
         while address < words.len() {
             expect(words[address] >= FIRST_HEADER, "no header")?;
-            let (symbol, arity) = ((words[address] - FIRST_HEADER) / ARITIES, (words[address] - FIRST_HEADER) % ARITIES);
+            let (symbol, arity) =
+                ((words[address] - FIRST_HEADER) / ARITIES, (words[address] - FIRST_HEADER) % ARITIES);
             let inputs = self.symbols.get(symbol as usize).map(|row| row[6]);
             expect(inputs == Some(arity) && arity as usize <= INPUTS, "no symbol with so many arguments")?;
             let references = words[address + 1..].get(..arity as usize).ok_or("a node past the words in use")?;
@@ -114,7 +115,10 @@ impl Stored<'_> {
             expect(value > 0 && seen.insert(*variable), "an unbound variable on the trail, or one twice")?;
             bindings.push((*variable as usize, self.term(value - 1, nodes, terms)?));
         }
-        expect(is_acyclic(&bindings, self.counts.variables as usize, terms), "a binding that leads back to its variable")?;
+        expect(
+            is_acyclic(&bindings, self.counts.variables as usize, terms),
+            "a binding that leads back to its variable",
+        )?;
         Ok(bindings)
     }
 

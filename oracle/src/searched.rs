@@ -41,7 +41,8 @@ impl Ask {
     }
 
     /// What the bench program sets.
-    pub const BENCH: Ask = Ask { steps: 2_000, depth: 32, limits: Allowance { steps: 2_000, variables: 4_096, words: 8_192 } };
+    pub const BENCH: Ask =
+        Ask { steps: 2_000, depth: 32, limits: Allowance { steps: 2_000, variables: 4_096, words: 8_192 } };
 
     pub fn numbers(&self) -> [u32; 5] {
         let Allowance { steps, variables, words } = self.limits;
@@ -261,6 +262,16 @@ pub enum Given {
 }
 
 impl Given {
+    /// The counts of a session after a call, if they are told: a refused goal leaves them as they were.
+    pub fn counts(&self) -> Option<Counts> {
+        match self {
+            Given::Refused(_) => None,
+            Given::Proved { counts, .. } | Given::Nothing { counts, .. } | Given::Undecided { counts, .. } => {
+                Some(*counts)
+            }
+        }
+    }
+
     /// What is expected for an answer, and for how the session then stands.
     pub fn expected(answer: &Answer, standing: &Standing) -> Given {
         let (steps, counts) = (answer.steps, standing.counts());
@@ -308,9 +319,14 @@ impl Counted {
     }
 
     pub fn shown(&self) -> String {
-        let refusals = [1].into_iter().chain(REFUSALS).map(|number| format!("{number}: {}", self.refused[number as usize]));
+        let refusals =
+            [1].into_iter().chain(REFUSALS).map(|number| format!("{number}: {}", self.refused[number as usize]));
         let Counted { proved, none, undecided, .. } = self;
         let refusals: Vec<String> = refusals.collect();
-        format!("{} goals: {proved} proved, {none} none, {undecided} undecided, refused by {}", self.goals(), refusals.join(", "))
+        format!(
+            "{} goals: {proved} proved, {none} none, {undecided} undecided, refused by {}",
+            self.goals(),
+            refusals.join(", ")
+        )
     }
 }

@@ -1,5 +1,6 @@
 //! Writes the fixed lists of goals and the original's answers, to be replayed where no Rust is at hand.
 
+use horn_oracle::command::{folder, write_recorded};
 use horn_oracle::evaluate::with_large_stack;
 use horn_oracle::evaluate_cases::Program;
 use horn_oracle::loaded::Limits;
@@ -8,7 +9,6 @@ use horn_oracle::search_cases::{Both, Question, ask_of, every_step, generated, l
 use horn_oracle::search_examples::examples;
 use horn_oracle::searched::{Allowance, Ask};
 use std::collections::HashSet;
-use std::path::Path;
 
 /// Any seed serves, but the recorded list is that of this one.
 const SEED: u64 = 2;
@@ -32,7 +32,7 @@ struct List {
 }
 
 fn main() -> std::io::Result<()> {
-    let folder = std::env::args().nth(1).expect("usage: search_record FOLDER");
+    let folder = folder("search_record");
     let (mut list, mut answers, mut goals) = (Vec::new(), String::new(), 0);
     let recorded = with_large_stack(recorded);
     for (index, List { text, asks, answers: given }) in recorded.iter().enumerate() {
@@ -44,9 +44,7 @@ fn main() -> std::io::Result<()> {
         answers += &format!("text {}\n{given}", index + 1);
         goals += asks.len();
     }
-    std::fs::create_dir_all(&folder)?;
-    std::fs::write(Path::new(&folder).join("stdin"), &list)?;
-    std::fs::write(Path::new(&folder).join("stdout"), &answers)?;
+    write_recorded(&folder, &list, answers.as_bytes())?;
     let (count, bytes) = (recorded.len(), list.len());
     println!("{count} texts with {goals} goals, {bytes} bytes of texts, {} bytes of answers", answers.len());
     Ok(())

@@ -1,6 +1,7 @@
 //! Holds together what needs no library of ours: the original's answers to lists of goals and the search's definitions, without
 //! limits and under them; and the comparison over lent storage with a search by the definitions, without and with a planted fault.
 
+use horn_oracle::command::{count_and_seed, fail};
 use horn_oracle::evaluate::with_large_stack;
 use horn_oracle::random::Random;
 use horn_oracle::search_cases::{Both, Question, fixed_questions, generated, unexpected_answers};
@@ -41,11 +42,7 @@ impl Tally {
 }
 
 fn main() {
-    let arguments: Vec<u64> = std::env::args().skip(1).map_while(|word| word.parse().ok()).collect();
-    let [count, seed] = arguments[..] else {
-        eprintln!("usage: search_selfcheck N SEED");
-        std::process::exit(2);
-    };
+    let (count, seed) = count_and_seed("search_selfcheck");
     with_large_stack(|| check(count, seed));
 }
 
@@ -77,11 +74,6 @@ fn is_found(fault: Fault, seed: u64) -> bool {
     let (mut laid, mut tally) = (Laid { fault }, search_compared::Tally::new());
     let mut lists = questions(FAULTY, seed);
     lists.any(|(question, beside)| search_compared::compared(&question, beside, &mut laid, &mut tally).is_err())
-}
-
-fn fail(message: &str) -> ! {
-    println!("{message}");
-    std::process::exit(1);
 }
 
 fn checked(questions: impl Iterator<Item = Question>) -> Tally {
