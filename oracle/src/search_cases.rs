@@ -1,6 +1,7 @@
 //! A list of goals for both searches: a text whose `#eval` are goals in one session, and behind each of them, in a comment on its
 //! line, what is asked. The answers on which the original and the definitions agree, the fixed lists, and the seeded mix.
 
+use crate::evaluate::Kept;
 use crate::evaluate_cases::{Program, parts};
 use crate::evaluated::Terms;
 use crate::goals::{Goals, goals};
@@ -13,6 +14,7 @@ use crate::search_examples::{examples, large_examples};
 use crate::search_texts::texts as timed_texts;
 use crate::searched::{Allowance, Answer, Ask, DEPTH, NO_ROOM, STEPS, Standing, VARIABLES, Verdict, WORDS};
 use crate::shrink;
+use crate::stored_definitions::Signature;
 use crate::tokens::TEXT_BYTES;
 use std::ops::Range;
 
@@ -127,6 +129,8 @@ pub struct Both<'p> {
     definitions: Session<'p>,
     /// None from the first goal on that is too large for it.
     original: Option<search::Session>,
+    /// Whether the signature is not the one that the original loaded.
+    changed: bool,
     /// What the original answered last.
     last: Option<OriginalAsked>,
     pub terms: Terms,
@@ -136,7 +140,14 @@ impl<'p> Both<'p> {
     pub fn new(program: &'p Program, text: &'p [u8]) -> Both<'p> {
         let original = Some(search::Session::loaded(&program.loaded));
         let definitions = Session::new(&program.signature);
-        Both { program, text, definitions, original, last: None, terms: Terms::default() }
+        Both { program, text, definitions, original, changed: false, last: None, terms: Terms::default() }
+    }
+
+    /// The same goals over another signature as it is stored, which no text need make.
+    pub fn changed(program: &'p Program, text: &'p [u8], kept: &Kept, signature: &'p Signature) -> Both<'p> {
+        let original = Some(search::Session::kept(kept));
+        let definitions = Session::new(signature);
+        Both { program, text, definitions, original, changed: true, last: None, terms: Terms::default() }
     }
 
     /// Whether the original is still asked.
@@ -195,7 +206,10 @@ impl<'p> Both<'p> {
         let mark = original.mark();
         let counted = asked.cost <= COUNTED_COST && standing.variables <= COUNTED_VARIABLES;
         let numbers = [ask.steps, ask.depth];
-        let answered = original.ask_eval(&self.program.loaded, eval, numbers, asked.full, counted);
+        let answered = match self.changed {
+            true => original.ask_written(goal, numbers, asked.full, counted),
+            false => original.ask_eval(&self.program.loaded, eval, numbers, asked.full, counted),
+        };
         let (answer, left) = (answered.answer(&mut self.terms), original.standing(bound, &mut self.terms));
         same("answer", answer, asked.answer.clone(), |answer| answer.shown(&self.terms))?;
         same("session without limits", left, standing, |standing| standing.shown(&self.terms))?;
@@ -305,6 +319,7 @@ pub fn fixed_questions() -> Vec<Question> {
 
 /// Small searches, to be asked with every number of steps up to 30. `@` stands for the number of the goal, so that each has names
 /// of its own.
+#[rustfmt::skip]
 const SMALL: &[(&str, &str)] = &[
     (ADD, "add ?x@ 1 = 2"),
     (ADD, "add ?x@ 2 = 1"),
@@ -315,19 +330,16 @@ const SMALL: &[(&str, &str)] = &[
     ("sort A ctor a : A ctor s : A → A pred p : A → Prop rule r : p (s x) → p x", "p ?x@"),
     ("sort A ctor a : A ctor s : A → A pred p : A → A → Prop rule r : p x (s x)", "p ?x@ ?x@"),
     ("sort A ctor a : A pred p : A → Prop pred q : A → Prop rule r : p x → p y → q x rule t : p a", "q ?x@"),
-    (
-        "sort A ctor a : A ctor b : A pred e : A → A → Prop pred t : A → A → Prop rule f : e a b rule g : e b a rule o : e x y → t x y rule m : t x y → t y z → t x z",
-        "t a ?x@",
-    ),
-    (
-        "sort A ctor a : A ctor b : A pred e : A → A → Prop rule f : e a b rule g : e b a pred l : A → Prop rule h : e x y → l y → l x",
-        "l ?x@",
-    ),
+    ("sort A ctor a : A ctor b : A pred e : A → A → Prop pred t : A → A → Prop rule f : e a b rule g : e b a
+rule o : e x y → t x y rule m : t x y → t y z → t x z", "t a ?x@"),
+    ("sort A ctor a : A ctor b : A pred e : A → A → Prop pred l : A → Prop rule f : e a b rule g : e b a
+rule h : e x y → l y → l x", "l ?x@"),
     ("sort A pred q : Prop pred r : Prop rule f : r → q rule g : q", "q"),
     ("sort A pred q : Prop", "q"),
 ];
 
-const ADD: &str = "sort Nat ctor zero : Nat ctor succ : Nat → Nat def add : Nat → Nat → Nat | zero, n => n | succ m, n => succ (add m n)";
+const ADD: &str = "sort Nat ctor zero : Nat ctor succ : Nat → Nat
+def add : Nat → Nat → Nat | zero, n => n | succ m, n => succ (add m n)";
 
 /// The small searches with these depths.
 pub fn every_step(depths: &[u32]) -> impl Iterator<Item = Question> {
