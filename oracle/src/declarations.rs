@@ -5,6 +5,28 @@ use crate::random::Random;
 /// A text before it is written out: its tokens, comments and line ends in order.
 pub type Pieces = Vec<String>;
 
+/// Writes declarations one after another, each as its tokens.
+pub trait Writing {
+    /// The tokens of the declaration that is being written.
+    fn pieces(&mut self) -> &mut Pieces;
+
+    /// The declarations before it.
+    fn done(&mut self) -> &mut Vec<Pieces>;
+
+    fn put(&mut self, piece: &str) {
+        self.pieces().push(piece.to_owned());
+    }
+
+    fn put_all(&mut self, pieces: &[&str]) {
+        pieces.iter().for_each(|piece| self.put(piece));
+    }
+
+    fn end(&mut self) {
+        let pieces = std::mem::take(self.pieces());
+        self.done().push(pieces);
+    }
+}
+
 const SORTS: [&str; 6] = ["Nat", "List", "Tree", "Bool", "Colour", "Sort_1"];
 const STEMS: [&str; 12] =
     ["add", "append", "cons", "node", "even", "length", "reverse", "le", "mirror", "f'", "map.at", "is_ok?"];

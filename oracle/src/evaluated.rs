@@ -66,6 +66,11 @@ impl Terms {
         self.node(FIRST_VARIABLE + number as u32, Vec::new())
     }
 
+    /// Its number, if the term is a variable.
+    pub fn as_variable(&self, term: usize) -> Option<usize> {
+        self.nodes[term].symbol.checked_sub(FIRST_VARIABLE).map(|number| number as usize)
+    }
+
     pub fn symbol(&self, term: usize) -> u32 {
         self.nodes[term].symbol
     }

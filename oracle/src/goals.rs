@@ -249,10 +249,8 @@ impl Writer<'_> {
         ];
         self.function("app", &[1, 1, 1], &clauses);
         if self.random.percent(50) {
-            let clauses = [
-                ("b => b", vec![nil(), nil()]),
-                ("c x xs => app (rev xs) (c x b)", vec![cons("x", "xs"), v("ys")]),
-            ];
+            let clauses =
+                [("b => b", vec![nil(), nil()]), ("c x xs => app (rev xs) (c x b)", vec![cons("x", "xs"), v("ys")])];
             self.function("rev", &[1, 1], &clauses);
         }
     }
@@ -332,7 +330,9 @@ impl Writer<'_> {
     fn term(&mut self, sort: usize, depth: usize, variables: &mut Vec<(String, usize)>, names: &[&str]) -> Term {
         match self.random.below(100) {
             0..45 => return self.variable(sort, variables, names),
-            45..60 if sort == NAT && self.has_numerals() => return Numeral(self.random.pick(&[0, 0, 1, 1, 2, 3, 5, 9])),
+            45..60 if sort == NAT && self.has_numerals() => {
+                return Numeral(self.random.pick(&[0, 0, 1, 1, 2, 3, 5, 9]));
+            }
             _ => {}
         }
         let fits = |symbol: &&Symbol| symbol.output == Some(sort) && (depth > 0 || symbol.inputs.is_empty());

@@ -2,6 +2,7 @@
 
 #![allow(dead_code)] // each program calls some of it
 
+use horn_oracle::call;
 use horn_oracle::tokens::Row;
 use horn_oracle::unify::{Problem, ROOM};
 
@@ -54,14 +55,12 @@ unsafe extern "C" {
 
 pub fn lex(text: &[u8], limit: u32, rows: &mut [Row]) -> u64 {
     // Both slices are lent whole for the length of the call, which is all that the contract asks.
-    unsafe { horn_lex(text.as_ptr(), text.len(), limit, rows.as_mut_ptr(), rows.len()) }
+    unsafe { call!(horn_lex: lent text, plain limit, written rows) }
 }
 
 pub fn parse(text: &[u8], limit: u32, tokens: &mut [Row], rows: &mut [Row]) -> u64 {
     // All three slices are lent whole for the length of the call, which is all that the contract asks.
-    unsafe {
-        horn_parse(text.as_ptr(), text.len(), limit, tokens.as_mut_ptr(), tokens.len(), rows.as_mut_ptr(), rows.len())
-    }
+    unsafe { call!(horn_parse: lent text, plain limit, written tokens, written rows) }
 }
 
 /// The storage of one unification: bindings with their trail, and scratch that is zero before and after.
@@ -104,54 +103,34 @@ pub struct Counts {
 impl Counts {
     pub fn new(problem: &Problem) -> Counts {
         let (used, bound) = (problem.words.len() as u32, problem.bindings.len() as u32);
-        Counts {
-            variables: problem.variables,
-            used,
-            bound,
-            left: problem.left,
-            right: problem.right,
-        }
+        Counts { variables: problem.variables, used, bound, left: problem.left, right: problem.right }
     }
 }
 
 /// The answer of `horn_unify` where the storage is not in form: refusal 1, line 0.
 pub const REFUSED: u64 = 1 << 32;
 
-/// The arguments of a unification, as C passes them.
-macro_rules! call {
+/// A unification by one of the functions.
+macro_rules! unify {
     ($function:ident, $words:expr, $storage:expr, $counts:expr) => {{
         let (words, counts): (&[u32], &Counts) = ($words, $counts);
         let Storage { bindings, links, marks, stack } = $storage;
-        $function(
-            words.as_ptr(),
-            words.len(),
-            bindings.as_mut_ptr(),
-            bindings.len(),
-            links.as_mut_ptr(),
-            links.len(),
-            marks.as_mut_ptr(),
-            marks.len(),
-            stack.as_mut_ptr(),
-            stack.len(),
-            counts.variables,
-            counts.used,
-            counts.bound,
-            counts.left,
-            counts.right,
-        )
+        let Counts { variables, used, bound, left, right } = *counts;
+        call!($function: lent words, written bindings, written links, written marks, written stack, plain variables,
+              plain used, plain bound, plain left, plain right)
     }};
 }
 
 /// The number that `horn_unify` answers, on storage of any contents.
 pub fn unify(words: &[u32], storage: &mut Storage, counts: &Counts) -> u64 {
     // All slices are lent whole for the length of the call, which is all that the contract asks.
-    unsafe { call!(horn_unify, words, storage, counts) }
+    unsafe { unify!(horn_unify, words, storage, counts) }
 }
 
 /// The same without the test of the storage.
 pub fn unify_unchecked(problem: &Problem, storage: &mut Storage) -> Option<usize> {
     // The problem's words are in form, its bindings came from unifications, and the scratch is zero and as long as the words ask.
-    bound(unsafe { call!(horn_unify_unchecked, &problem.words, storage, &Counts::new(problem)) })
+    bound(unsafe { unify!(horn_unify_unchecked, &problem.words, storage, &Counts::new(problem)) })
 }
 
 /// How many variables are bound then, if the terms unify.

@@ -1,5 +1,6 @@
 //! Our evaluator, in the static library that `rt staticlib capi` makes, called as any foreign program would.
 
+use horn_oracle::call;
 use horn_oracle::evaluated::{Buffers, Lent, Stored, TreeRow};
 use horn_oracle::loaded::{Pair, RuleRow, SymbolRow};
 use horn_oracle::tokens::Row;
@@ -59,32 +60,8 @@ pub fn evaluate(stored: &Stored, limit: u32, at: usize, lent: &Lent, buffers: &m
     let (trees, results) = (&mut trees[..lent.trees], &mut results[..lent.results]);
     // All slices are lent whole for the length of the call, which is all that the contract asks.
     unsafe {
-        horn_evaluate(
-            text.as_ptr(),
-            text.len(),
-            limit,
-            sorts.as_ptr(),
-            sorts.len(),
-            symbols.as_ptr(),
-            symbols.len(),
-            rules.as_ptr(),
-            rules.len(),
-            pattern.as_ptr(),
-            pattern.len(),
-            counts.as_ptr(),
-            counts.len(),
-            rows.as_ptr(),
-            rows.len(),
-            at,
-            words.as_mut_ptr(),
-            words.len(),
-            links.as_mut_ptr(),
-            links.len(),
-            trees.as_mut_ptr(),
-            trees.len(),
-            results.as_mut_ptr(),
-            results.len(),
-        )
+        call!(horn_evaluate: lent text, plain limit, lent sorts, lent symbols, lent rules, lent pattern, lent counts,
+              lent rows, plain at, written words, written links, written trees, written results)
     }
 }
 
@@ -94,22 +71,7 @@ pub fn is_forward_call(stored: &Stored, at: usize) -> u64 {
     let Stored { text, sorts, symbols, rules, pattern, counts, rows } = *stored;
     // All slices are lent whole for the length of the call, which only reads them.
     unsafe {
-        horn_is_forward_call(
-            text.as_ptr(),
-            text.len(),
-            sorts.as_ptr(),
-            sorts.len(),
-            symbols.as_ptr(),
-            symbols.len(),
-            rules.as_ptr(),
-            rules.len(),
-            pattern.as_ptr(),
-            pattern.len(),
-            counts.as_ptr(),
-            counts.len(),
-            rows.as_ptr(),
-            rows.len(),
-            at,
-        )
+        call!(horn_is_forward_call: lent text, lent sorts, lent symbols, lent rules, lent pattern, lent counts,
+              lent rows, plain at)
     }
 }

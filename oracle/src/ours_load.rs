@@ -1,5 +1,6 @@
 //! Our loader and the test of what it leaves, in the static library that `rt staticlib capi` makes, called as any foreign program would.
 
+use horn_oracle::call;
 use horn_oracle::loaded::{Buffers, Lent, Limits, Pair, RuleRow, SymbolRow};
 use horn_oracle::tokens::Row;
 
@@ -54,30 +55,8 @@ pub fn load(text: &[u8], limits: Limits, lent: &Lent, buffers: &mut Buffers) -> 
     let (evals, counts) = (&mut evals[..lent.evals], &mut counts[..lent.counts]);
     // All slices are lent whole for the length of the call, which is all that the contract asks.
     unsafe {
-        horn_load(
-            text.as_ptr(),
-            text.len(),
-            limits.text,
-            limits.nodes,
-            tokens.as_mut_ptr(),
-            tokens.len(),
-            rows.as_mut_ptr(),
-            rows.len(),
-            calls.as_mut_ptr(),
-            calls.len(),
-            sorts.as_mut_ptr(),
-            sorts.len(),
-            symbols.as_mut_ptr(),
-            symbols.len(),
-            rules.as_mut_ptr(),
-            rules.len(),
-            words.as_mut_ptr(),
-            words.len(),
-            evals.as_mut_ptr(),
-            evals.len(),
-            counts.as_mut_ptr(),
-            counts.len(),
-        )
+        call!(horn_load: lent text, plain limits.text, plain limits.nodes, written tokens, written rows, written calls,
+              written sorts, written symbols, written rules, written words, written evals, written counts)
     }
 }
 
@@ -88,20 +67,5 @@ pub fn check(text: &[u8], lent: &Lent, buffers: &Buffers) -> u64 {
     let (sorts, symbols) = (&sorts[..lent.sorts], &symbols[..lent.symbols]);
     let (rules, words, counts) = (&rules[..lent.rules], &words[..lent.words], &counts[..lent.counts]);
     // All slices are lent whole for the length of the call, which only reads them.
-    unsafe {
-        horn_check_signature(
-            text.as_ptr(),
-            text.len(),
-            sorts.as_ptr(),
-            sorts.len(),
-            symbols.as_ptr(),
-            symbols.len(),
-            rules.as_ptr(),
-            rules.len(),
-            words.as_ptr(),
-            words.len(),
-            counts.as_ptr(),
-            counts.len(),
-        )
-    }
+    unsafe { call!(horn_check_signature: lent text, lent sorts, lent symbols, lent rules, lent words, lent counts) }
 }

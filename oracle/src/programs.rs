@@ -1,7 +1,7 @@
 //! Texts for the evaluator: functions by clauses over a few constructors, and many `#eval`, most of them calls of these
 //! functions. Faults that an evaluation can meet are put in with a chance; most texts are loaded.
 
-use crate::declarations::Pieces;
+use crate::declarations::{Pieces, Writing};
 use crate::random::Random;
 
 /// The sort with numerals, and two others that a text may have.
@@ -55,20 +55,17 @@ pub fn program(random: &mut Random) -> Vec<Pieces> {
     writer.done
 }
 
+impl Writing for Writer<'_> {
+    fn pieces(&mut self) -> &mut Pieces {
+        &mut self.pieces
+    }
+
+    fn done(&mut self) -> &mut Vec<Pieces> {
+        &mut self.done
+    }
+}
+
 impl Writer<'_> {
-    fn put(&mut self, piece: &str) {
-        self.pieces.push(piece.to_owned());
-    }
-
-    fn put_all(&mut self, pieces: &[&str]) {
-        pieces.iter().for_each(|piece| self.put(piece));
-    }
-
-    fn end(&mut self) {
-        let pieces = std::mem::take(&mut self.pieces);
-        self.done.push(pieces);
-    }
-
     /// An `#eval` may stand anywhere, since it waits until everything is loaded.
     fn end_query(&mut self) {
         let pieces = std::mem::take(&mut self.pieces);

@@ -233,8 +233,10 @@ impl Session {
 
     /// How the session stands, with the bindings from a place on.
     pub fn standing(&self, from: usize, terms: &mut Terms) -> Standing {
-        let named = |((name, sort), variable): (&(String, u32), &usize)| {
-            Named { name: bytes(name), sort: sort + 1, variable: *variable }
+        let named = |((name, sort), variable): (&(String, u32), &usize)| Named {
+            name: bytes(name),
+            sort: sort + 1,
+            variable: *variable,
         };
         let names = self.names.iter().zip(&self.variables).map(named).collect();
         let mut reader = Reader::new(terms);
@@ -340,14 +342,6 @@ impl Session {
         };
         preorder(std::slice::from_ref(proof)).into_iter().map(rule_words).sum()
     }
-
-    /// The original's `prove` alone, to be timed: the term of an `#eval` as a goal in this session, which is left as it was.
-    pub fn original_search(&mut self, loaded: &Loaded, eval: usize, [steps, depth]: [u32; 2]) -> (bool, u32) {
-        let mark = self.mark();
-        let Asked { result, steps, .. } = self.ask_eval(loaded, eval, [steps, depth], None, false);
-        self.restore(mark);
-        (matches!(result, Ok((Some(_), _))), steps)
-    }
 }
 
 /// In sessions over so few rules the original's own `rule` is asked too.
@@ -385,8 +379,10 @@ impl Asked {
             Err(number) => return Answer::refused(*number),
             Ok((Some(proof), _)) => {
                 let mut reader = Reader::new(terms);
-                let mut node = |(height, proof): (u32, &Proof)| {
-                    Call { height, rule: rule_of(proof) as u32, goal: reader.number(&proof.goal) }
+                let mut node = |(height, proof): (u32, &Proof)| Call {
+                    height,
+                    rule: rule_of(proof) as u32,
+                    goal: reader.number(&proof.goal),
                 };
                 Verdict::Proved(preorder(std::slice::from_ref(proof)).into_iter().map(&mut node).collect())
             }
@@ -415,12 +411,15 @@ impl Asked {
     }
 
     fn listed(&self, session: &Session, pattern: impl Fn(&T) -> Pat) -> String {
-        let (prover, verdict) = (&session.prover, match &self.result {
-            Err(number) => return format!("refused {number}\n"),
-            Ok((Some(_), _)) => "proved",
-            Ok((None, true)) => "none",
-            Ok((None, false)) => "undecided",
-        });
+        let (prover, verdict) = (
+            &session.prover,
+            match &self.result {
+                Err(number) => return format!("refused {number}\n"),
+                Ok((Some(_), _)) => "proved",
+                Ok((None, true)) => "none",
+                Ok((None, false)) => "undecided",
+            },
+        );
         let (names, variables, bound) = (session.names.len(), prover.binding.len(), prover.trail.len());
         let counts = format!("names {names} variables {variables} bound {bound} words {}", session.words);
         let text = |term: &T| prover.sig.pat_text(&pattern(term));

@@ -1,6 +1,7 @@
 //! A list of goals for both searches: a text whose `#eval` are goals in one session, and behind each of them, in a comment on its
 //! line, what is asked. The answers on which the original and the definitions agree, the fixed lists, and the seeded mix.
 
+use crate::evaluate::Kept;
 use crate::evaluate_cases::{Program, parts};
 use crate::evaluated::Terms;
 use crate::goals::{Goals, goals};
@@ -10,8 +11,10 @@ use crate::random::Random;
 use crate::search::{self, Asked as OriginalAsked};
 use crate::search_definitions::{Asked, Limits, Session};
 use crate::search_examples::{examples, large_examples};
+use crate::search_texts::texts as timed_texts;
 use crate::searched::{Allowance, Answer, Ask, DEPTH, NO_ROOM, STEPS, Standing, VARIABLES, Verdict, WORDS};
 use crate::shrink;
+use crate::stored_definitions::Signature;
 use crate::tokens::TEXT_BYTES;
 use std::ops::Range;
 
@@ -74,6 +77,46 @@ pub fn ask_of(text: &[u8], line: u32) -> Ask {
     Ask::of_numbers(numbers)
 }
 
+/// A text without its comments.
+pub fn without_asks(text: &[u8]) -> Vec<u8> {
+    let text = String::from_utf8_lossy(text);
+    let lines = text.lines().map(|line| line.split_once("--").map_or(line, |(start, _)| start.trim_end()));
+    lines.map(|line| format!("{line}\n")).collect::<String>().into_bytes()
+}
+
+/// A text with other numbers behind the goals that start on these lines.
+pub fn with_asks(text: &[u8], lines: &[u32], asks: &[Ask]) -> Vec<u8> {
+    let text = String::from_utf8(without_asks(text)).expect("a loaded text is UTF-8");
+    let asked = |(at, line): (usize, &str)| match lines.iter().position(|other| *other as usize == at + 1) {
+        None => format!("{line}\n"),
+        Some(goal) => {
+            let [steps, depth, step_limit, variables, words] = asks[goal].numbers();
+            format!("{line} -- {steps} {depth} {step_limit} {variables} {words}\n")
+        }
+    };
+    text.lines().enumerate().map(asked).collect::<String>().into_bytes()
+}
+
+/// A limit that is document 01's, as another.
+pub fn lowered(ask: Ask, most: &Allowance) -> Ask {
+    let lower = |limit: u32, usual: u32, most: u32| if limit == usual { most } else { limit };
+    let limits = Allowance {
+        steps: lower(ask.limits.steps, STEPS, most.steps),
+        variables: lower(ask.limits.variables, VARIABLES, most.variables),
+        words: lower(ask.limits.words, WORDS, most.words),
+    };
+    Ask { limits, ..ask }
+}
+
+/// The same goals with limits that are document 01's lowered to the bench program's, so that less has to be lent.
+pub fn with_lower_limits(question: &Question) -> Question {
+    let Some(program) = question.load() else { return question.clone() };
+    let lines: Vec<u32> = program.storage.evals.iter().map(|[line, _]| *line).collect();
+    let ask = |line: &u32| lowered(ask_of(&question.text, *line), &Ask::BENCH.limits);
+    let asks: Vec<Ask> = lines.iter().map(ask).collect();
+    Question { text: with_asks(&question.text, &lines, &asks) }
+}
+
 /// What the comment says that the answer must be, behind `=>`.
 fn expected_of(text: &[u8], line: u32) -> Option<String> {
     comment(text, line).split_once("=>").map(|(_, expected)| expected.trim().to_owned())
@@ -86,6 +129,8 @@ pub struct Both<'p> {
     definitions: Session<'p>,
     /// None from the first goal on that is too large for it.
     original: Option<search::Session>,
+    /// Whether the signature is not the one that the original loaded.
+    changed: bool,
     /// What the original answered last.
     last: Option<OriginalAsked>,
     pub terms: Terms,
@@ -95,7 +140,14 @@ impl<'p> Both<'p> {
     pub fn new(program: &'p Program, text: &'p [u8]) -> Both<'p> {
         let original = Some(search::Session::loaded(&program.loaded));
         let definitions = Session::new(&program.signature);
-        Both { program, text, definitions, original, last: None, terms: Terms::default() }
+        Both { program, text, definitions, original, changed: false, last: None, terms: Terms::default() }
+    }
+
+    /// The same goals over another signature as it is stored, which no text need make.
+    pub fn changed(program: &'p Program, text: &'p [u8], kept: &Kept, signature: &'p Signature) -> Both<'p> {
+        let original = Some(search::Session::kept(kept));
+        let definitions = Session::new(signature);
+        Both { program, text, definitions, original, changed: true, last: None, terms: Terms::default() }
     }
 
     /// Whether the original is still asked.
@@ -131,7 +183,9 @@ impl<'p> Both<'p> {
         let asked = self.definitions.ask(&goal, &ask, &mut self.terms);
         let after = self.definitions.standing(bound, &mut self.terms);
         self.compare_limited(&ask, free.as_ref(), &asked, &before, &after)?;
-        if let (Verdict::Refused(_), Some(original), Some((_, mark))) = (&asked.answer.verdict, &mut self.original, &free) {
+        if let (Verdict::Refused(_), Some(original), Some((_, mark))) =
+            (&asked.answer.verdict, &mut self.original, &free)
+        {
             original.restore(*mark);
         }
         self.last = self.last.take().filter(|_| asked.answer.verdict.number() != NO_ROOM);
@@ -152,7 +206,10 @@ impl<'p> Both<'p> {
         let mark = original.mark();
         let counted = asked.cost <= COUNTED_COST && standing.variables <= COUNTED_VARIABLES;
         let numbers = [ask.steps, ask.depth];
-        let answered = original.ask_eval(&self.program.loaded, eval, numbers, asked.full, counted);
+        let answered = match self.changed {
+            true => original.ask_written(goal, numbers, asked.full, counted),
+            false => original.ask_eval(&self.program.loaded, eval, numbers, asked.full, counted),
+        };
         let (answer, left) = (answered.answer(&mut self.terms), original.standing(bound, &mut self.terms));
         same("answer", answer, asked.answer.clone(), |answer| answer.shown(&self.terms))?;
         same("session without limits", left, standing, |standing| standing.shown(&self.terms))?;
@@ -255,11 +312,14 @@ fn unexpected(text: &[u8]) -> Vec<String> {
 /// The fixed lists.
 pub fn fixed_questions() -> Vec<Question> {
     let texts = examples().into_iter().chain(large_examples());
-    texts.map(|text| Question::new(&text)).chain(every_step()).collect()
+    let depths = [0, 3, 4, 5, 7, 8, 16, 32];
+    let timed = timed_texts().into_iter().map(|(_, text)| text);
+    texts.chain(timed).map(|text| Question::new(&text)).chain(every_step(&depths)).collect()
 }
 
-/// Small searches, each with every number of steps up to two more than it needs and with several depths. `@` stands for the
-/// number of the goal, so that each has names of its own.
+/// Small searches, to be asked with every number of steps up to 30. `@` stands for the number of the goal, so that each has names
+/// of its own.
+#[rustfmt::skip]
 const SMALL: &[(&str, &str)] = &[
     (ADD, "add ?x@ 1 = 2"),
     (ADD, "add ?x@ 2 = 1"),
@@ -270,22 +330,23 @@ const SMALL: &[(&str, &str)] = &[
     ("sort A ctor a : A ctor s : A → A pred p : A → Prop rule r : p (s x) → p x", "p ?x@"),
     ("sort A ctor a : A ctor s : A → A pred p : A → A → Prop rule r : p x (s x)", "p ?x@ ?x@"),
     ("sort A ctor a : A pred p : A → Prop pred q : A → Prop rule r : p x → p y → q x rule t : p a", "q ?x@"),
-    ("sort A ctor a : A ctor b : A pred e : A → A → Prop pred t : A → A → Prop rule f : e a b rule g : e b a rule o : e x y → t x y rule m : t x y → t y z → t x z", "t a ?x@"),
-    ("sort A ctor a : A ctor b : A pred e : A → A → Prop rule f : e a b rule g : e b a pred l : A → Prop rule h : e x y → l y → l x", "l ?x@"),
+    ("sort A ctor a : A ctor b : A pred e : A → A → Prop pred t : A → A → Prop rule f : e a b rule g : e b a
+rule o : e x y → t x y rule m : t x y → t y z → t x z", "t a ?x@"),
+    ("sort A ctor a : A ctor b : A pred e : A → A → Prop pred l : A → Prop rule f : e a b rule g : e b a
+rule h : e x y → l y → l x", "l ?x@"),
     ("sort A pred q : Prop pred r : Prop rule f : r → q rule g : q", "q"),
     ("sort A pred q : Prop", "q"),
 ];
 
-const ADD: &str = "sort Nat ctor zero : Nat ctor succ : Nat → Nat def add : Nat → Nat → Nat | zero, n => n | succ m, n => succ (add m n)";
+const ADD: &str = "sort Nat ctor zero : Nat ctor succ : Nat → Nat
+def add : Nat → Nat → Nat | zero, n => n | succ m, n => succ (add m n)";
 
-fn every_step() -> impl Iterator<Item = Question> {
-    SMALL.iter().flat_map(|(declarations, goal)| {
-        [0, 3, 4, 5, 7, 8, 16, 32].map(|depth| {
-            let lines = |steps: Range<u32>| {
-                let line = |steps: u32| format!("#eval {} -- {steps} {depth}\n", goal.replace('@', &steps.to_string()));
-                steps.map(line).collect::<String>()
-            };
-            Question::new(&format!("{declarations}\n{}", lines(0..31)))
+/// The small searches with these depths.
+pub fn every_step(depths: &[u32]) -> impl Iterator<Item = Question> {
+    SMALL.iter().flat_map(move |(declarations, goal)| {
+        depths.iter().map(move |depth| {
+            let line = |steps: u32| format!("#eval {} -- {steps} {depth}\n", goal.replace('@', &steps.to_string()));
+            Question::new(&format!("{declarations}\n{}", (0..31).map(line).collect::<String>()))
         })
     })
 }

@@ -9,7 +9,7 @@
 
 use crate::evaluated::{Call, Terms};
 use crate::pattern_definitions::{Compiler, Pattern, Point, Stop, Symbol, Tried, Written, met};
-use crate::searched::{Allowance, Answer, Ask, DEPTH, GOAL_NODES, Named, Standing, STEPS, VARIABLES, Verdict, WORDS};
+use crate::searched::{Allowance, Answer, Ask, DEPTH, GOAL_NODES, Named, STEPS, Standing, VARIABLES, Verdict, WORDS};
 use crate::stored_definitions::Signature;
 use std::collections::HashSet;
 
@@ -168,6 +168,19 @@ fn lay(nodes: &mut Vec<Node>, pattern: &Pattern, map: &impl Fn(usize) -> usize) 
     nodes.len() - 1
 }
 
+/// Lays the nodes of a term that is known by its number.
+fn lay_term(nodes: &mut Vec<Node>, term: usize, terms: &Terms) -> usize {
+    let node = match terms.as_variable(term) {
+        Some(variable) => Node::Var(variable),
+        None => {
+            let arguments = terms.arguments(term).iter().map(|argument| lay_term(nodes, *argument, terms)).collect();
+            Node::App(terms.symbol(term) as usize, arguments)
+        }
+    };
+    nodes.push(node);
+    nodes.len() - 1
+}
+
 /// `bounds`: 4, 8, 16, .. up to the largest depth.
 fn bounds(largest: u32) -> impl Iterator<Item = u32> {
     std::iter::successors(Some(4_u32), |bound| bound.checked_add(*bound)).take_while(move |bound| *bound <= largest)
@@ -204,6 +217,19 @@ impl Session<'_> {
             most: Limits { variables: 0, words: 0 },
             cost: 0,
         }
+    }
+
+    /// A session that stands so, whose bindings are all there.
+    pub fn standing_so<'s>(signature: &'s Signature, standing: &Standing, terms: &Terms) -> Session<'s> {
+        let mut session = Session::new(signature);
+        session.names = standing.names.clone();
+        session.words = standing.words;
+        session.bindings.resize(standing.variables, None);
+        for (variable, term) in &standing.bindings {
+            let node = lay_term(&mut session.nodes, *term, terms);
+            session.bind(*variable, Term { node, first: 0 });
+        }
+        session
     }
 
     pub fn mark(&self) -> Mark {
@@ -323,8 +349,10 @@ impl Session<'_> {
                 Found::Refused => return Answer::refused(37),
                 Found::Tree(tree, left, words) => {
                     self.words = words;
-                    let call = |&(height, rule, goal): &(u32, usize, Term)| {
-                        Call { height, rule: rule as u32, goal: self.number(goal, terms) }
+                    let call = |&(height, rule, goal): &(u32, usize, Term)| Call {
+                        height,
+                        rule: rule as u32,
+                        goal: self.number(goal, terms),
                     };
                     let verdict = Verdict::Proved(tree.iter().map(call).collect());
                     return Answer { verdict, steps: steps - left };
@@ -378,7 +406,8 @@ impl Session<'_> {
                         let premises = &self.rules[rule].premises;
                         work = push(&mut machine.work, Work::Build(rule, branch.goal, premises.len()), branch.rest);
                         for premise in premises.iter().rev() {
-                            work = push(&mut machine.work, Work::Goal(Term { node: *premise, first }, branch.depth), work);
+                            work =
+                                push(&mut machine.work, Work::Goal(Term { node: *premise, first }, branch.depth), work);
                         }
                         (proofs, words) = (branch.proofs, more);
                         break;

@@ -82,7 +82,9 @@ fn names() -> String {
         format!("#eval w{}", names.map(|name| format!(" ?n{name}")).collect::<String>())
     };
     let inputs = "A → ".repeat(16);
-    let mut text = format!("sort A sort B ctor a : A ctor b : B pred w : {inputs}Prop pred k : A → Prop pred l : B → Prop pred z : A → B → Prop\n");
+    let mut text = format!(
+        "sort A sort B ctor a : A ctor b : B pred w : {inputs}Prop pred k : A → Prop pred l : B → Prop pred z : A → B → Prop\n"
+    );
     text += &format!("{} -- 9 4 => none 1 names 16\n", goal(0..16));
     text += &format!("{} -- 9 4 => none 1 names 32\n", goal(16..32));
     text += &format!("{} -- 9 4 => none 1 names 48\n", goal(32..48));
@@ -95,7 +97,8 @@ fn names() -> String {
 
 /// A proof of height 128 needs depth 128, and one step for each goal and node and the last.
 fn depths() -> String {
-    let rules = "sort A ctor zero : A ctor succ : A → A pred p : A → Prop rule p0 : p zero rule p1 : p x → p (succ x)\n";
+    let rules =
+        "sort A ctor zero : A ctor succ : A → A pred p : A → Prop rule p0 : p zero rule p1 : p x → p (succ x)\n";
     let goals = [
         "#eval p 127 -- 257 128 => proved 257",
         "#eval p 127 -- 256 128 => undecided 256",
@@ -119,27 +122,40 @@ fn full_words() -> String {
     let rules = "sort A ctor zero : A ctor succ : A → A pred q : Prop pred k : A → Prop rule k0 : k x\n";
     let limits = "65535 128 65535 65536 262144";
     let mut text = rules.to_owned() + &format!("#eval k 1022 -- {limits} => proved 3\n").repeat(127);
-    text += &format!("#eval k 959 -- {limits} => refused 37\n#eval k 958 -- 65535 128 65535 65536 262143 => refused 37\n");
-    text + &format!("#eval k 958 -- {limits} => proved 3 names 0 variables 128 bound 128 words 262144\n#eval q -- {limits} => refused 37\n")
+    text +=
+        &format!("#eval k 959 -- {limits} => refused 37\n#eval k 958 -- 65535 128 65535 65536 262143 => refused 37\n");
+    text + &format!(
+        "#eval k 958 -- {limits} => proved 3 names 0 variables 128 bound 128 words 262144\n#eval q -- {limits} => refused 37\n"
+    )
 }
 
 /// Goals that make all the variables there may be: each attempt makes those of the conclusion, also where it fails.
 fn full_variables() -> String {
     let inputs = "A → ".repeat(16);
     let names: String = (0..16).map(|name| format!(" x{name}")).collect();
-    let mut text = format!("sort A ctor a : A pred z : Prop pred q : Prop pred k : A → Prop pred w : {inputs}Prop rule z0 : z\n");
+    let mut text =
+        format!("sort A ctor a : A pred z : Prop pred q : Prop pred k : A → Prop pred w : {inputs}Prop rule z0 : z\n");
     text += &format!("rule r : w{names}\n").repeat(512);
     let limits = "1 128 65535 65536 262144";
-    text += &format!("#eval q -- {limits} => undecided 1 names 0 variables 49152\n#eval q -- 1 7 65535 57344 262144 => undecided 1 names 0 variables 57344\n");
-    text += &format!("#eval k ?x -- 1 7 65535 65536 262144 => refused 37 names 0 variables 57344\n#eval q -- 1 7 65535 65535 262144 => refused 37\n");
-    text += &format!("#eval q -- 1 7 65535 65536 262144 => undecided 1 names 0 variables 65536\n#eval z -- 9 4 65535 65536 262144 => proved 3 names 0 variables 65536\n");
-    text + &format!("#eval q -- {limits} => refused 37\n#eval k ?x -- 9 4 65535 65536 262144 => refused 37 names 0\n#eval z -- 9 4 65535 65535 262144 => refused 37\n")
+    text += &format!(
+        "#eval q -- {limits} => undecided 1 names 0 variables 49152\n#eval q -- 1 7 65535 57344 262144 => undecided 1 names 0 variables 57344\n"
+    );
+    text += &format!(
+        "#eval k ?x -- 1 7 65535 65536 262144 => refused 37 names 0 variables 57344\n#eval q -- 1 7 65535 65535 262144 => refused 37\n"
+    );
+    text += &format!(
+        "#eval q -- 1 7 65535 65536 262144 => undecided 1 names 0 variables 65536\n#eval z -- 9 4 65535 65536 262144 => proved 3 names 0 variables 65536\n"
+    );
+    text + &format!(
+        "#eval q -- {limits} => refused 37\n#eval k ?x -- 9 4 65535 65536 262144 => refused 37 names 0\n#eval z -- 9 4 65535 65535 262144 => refused 37\n"
+    )
 }
 
 /// All steps that there may be: a search that goes on, and a proof of 32,767 nodes, each with two steps, and the last step. A
 /// tree of `d` has 17 nodes, of `c` 273, of `b` 4,369, of `z` 16 and of `y` 272; that of `p` has 7 of `b`, 7 of `c` and one of `y`.
 fn many_steps() -> String {
-    let predicates: String = ["l", "e", "d", "c", "b", "y", "z", "p"].map(|name| format!("pred {name} : Prop ")).concat();
+    let predicates: String =
+        ["l", "e", "d", "c", "b", "y", "z", "p"].map(|name| format!("pred {name} : Prop ")).concat();
     let rule = |name: &str, premises: &[(&str, usize)]| {
         let premises: String = premises.iter().map(|(premise, count)| format!("{premise} → ").repeat(*count)).collect();
         format!("rule r : {premises}{name}\n")
@@ -167,7 +183,8 @@ fn many_steps() -> String {
 
 /// Terms as deep as the words allow, each name bound to a tower on the next, and one unified with another.
 fn deep() -> String {
-    let mut text = "sort A ctor a : A ctor s : A → A pred e : A → A → Prop rule e0 : e x x pred g : A → A → Prop\n".to_owned();
+    let mut text =
+        "sort A ctor a : A ctor s : A → A pred e : A → A → Prop rule e0 : e x x pred g : A → A → Prop\n".to_owned();
     let tower = |times: usize, last: &str| format!("{}{last}{}", "(s ".repeat(times), ")".repeat(times));
     text += &format!("rule g0 : g x {} rule g1 : g x y → g y z → g x z\n", tower(60, "x"));
     let limits = "65535 128 65535 65536 262144";
@@ -177,7 +194,9 @@ fn deep() -> String {
     for name in 0..30 {
         text += &format!("#eval e ?m{name} {} -- {limits}\n", tower(60, &format!("?m{}", name + 1)));
     }
-    text + &format!("#eval e ?n0 ?m0 -- {limits}\n#eval e ?n30 a -- {limits}\n#eval e ?m0 ?n1 -- {limits}\n#eval e ?m30 (s ?n30) -- {limits}\n#eval g a ?n0 -- 300 8 300 65536 262144\n")
+    text + &format!(
+        "#eval e ?n0 ?m0 -- {limits}\n#eval e ?n30 a -- {limits}\n#eval e ?m0 ?n1 -- {limits}\n#eval e ?m30 (s ?n30) -- {limits}\n#eval g a ?n0 -- 300 8 300 65536 262144\n"
+    )
 }
 
 /// Terms of 2^40 nodes of which few are stored, compared with themselves, with others and with a variable in them. The original

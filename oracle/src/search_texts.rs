@@ -70,7 +70,7 @@ fn many_rules(heads: usize) -> String {
             false => format!("rule r{rule} : p{head} {}\n", tower("t", "x", 1 + rule % 3)),
         };
     }
-    text + &asked(&format!("p0 {}", tower("s", "n", 60)), 65_535, 128)
+    text + &asked(&format!("p0 {}", tower("s", "n", 30)), 65_535, 128)
 }
 
 /// So many times a constructor on a term.

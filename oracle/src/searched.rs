@@ -1,7 +1,7 @@
 //! The answer of a search and the session that it leaves, what is asked of a goal, and document 01's limits.
 
-use crate::evaluated::{self, Call, Terms};
-use crate::loaded::{self, RULE_NODES};
+use crate::evaluated::{self, Call, Terms, TreeRow};
+use crate::loaded::{self, Pair, RULE_NODES};
 
 /// Document 01's limits, and of a session's names and a goal's nodes those of a rule.
 pub const STEPS: u32 = 65_535;
@@ -41,7 +41,8 @@ impl Ask {
     }
 
     /// What the bench program sets.
-    pub const BENCH: Ask = Ask { steps: 2_000, depth: 32, limits: Allowance { steps: 2_000, variables: 4_096, words: 8_192 } };
+    pub const BENCH: Ask =
+        Ask { steps: 2_000, depth: 32, limits: Allowance { steps: 2_000, variables: 4_096, words: 8_192 } };
 
     pub fn numbers(&self) -> [u32; 5] {
         let Allowance { steps, variables, words } = self.limits;
@@ -136,6 +137,160 @@ impl Standing {
     }
 }
 
+/// References below this are variables, everywhere in a session.
+pub const ROOM: u32 = VARIABLES;
+
+/// Kind, start, length, sort, variable.
+pub type NameRow = [u32; 5];
+pub type StackRow = [u32; 3];
+
+/// How many names, variables, bound variables and words a session has.
+#[derive(Clone, Copy, Debug, Default, PartialEq, Eq)]
+pub struct Counts {
+    pub names: u32,
+    pub variables: u32,
+    pub bound: u32,
+    pub words: u32,
+}
+
+/// How many rows, or words, a caller lends of each kind: a session's, the proof's, and scratch.
+#[derive(Clone, Copy, Debug, PartialEq, Eq, Hash)]
+pub struct Lent {
+    pub names: usize,
+    pub words: usize,
+    pub bindings: usize,
+    pub proof: usize,
+    pub links: usize,
+    pub marks: usize,
+    pub stack: usize,
+}
+
+/// How many kinds there are.
+pub const PARTS: usize = 7;
+
+impl Lent {
+    /// What the limits ask for.
+    pub fn least(limits: &Allowance) -> Lent {
+        let words = limits.words.min(WORDS) as usize;
+        let references = ROOM as usize + words;
+        Lent {
+            names: NAMES,
+            words,
+            bindings: limits.variables.min(VARIABLES) as usize,
+            proof: limits.steps.min(STEPS) as usize,
+            links: references,
+            marks: references,
+            stack: words,
+        }
+    }
+
+    pub fn parts(&self) -> [usize; PARTS] {
+        let Lent { names, words, bindings, proof, links, marks, stack } = *self;
+        [names, words, bindings, proof, links, marks, stack]
+    }
+
+    pub fn of_parts([names, words, bindings, proof, links, marks, stack]: [usize; PARTS]) -> Lent {
+        Lent { names, words, bindings, proof, links, marks, stack }
+    }
+
+    /// The larger of each.
+    pub fn joined(&self, other: &Lent) -> Lent {
+        let (one, other) = (self.parts(), other.parts());
+        Lent::of_parts(std::array::from_fn(|part| one[part].max(other[part])))
+    }
+
+    /// What a session in use asks for.
+    pub fn used(counts: &Counts) -> Lent {
+        let Counts { variables, words, .. } = *counts;
+        Lent { proof: 0, ..Lent::least(&Allowance { steps: 0, variables, words }) }
+    }
+
+    /// Whether as much is lent as a call under these limits asks for in a session with these counts.
+    pub fn suffices(&self, limits: &Allowance, counts: &Counts) -> bool {
+        let least = Lent::least(limits).joined(&Lent::used(counts));
+        self.parts().into_iter().zip(least.parts()).all(|(lent, least)| lent >= least)
+    }
+}
+
+/// All that a caller lends.
+#[derive(Clone, Default, PartialEq)]
+pub struct Buffers {
+    pub names: Vec<NameRow>,
+    pub words: Vec<u32>,
+    pub bindings: Vec<Pair>,
+    pub proof: Vec<TreeRow>,
+    pub links: Vec<Pair>,
+    pub marks: Vec<Pair>,
+    pub stack: Vec<StackRow>,
+}
+
+impl Buffers {
+    /// Makes each buffer `guard` longer than what is lent of it, and every number the same.
+    pub fn new(lent: &Lent, guard: usize, number: u32) -> Buffers {
+        Buffers {
+            names: vec![[number; 5]; lent.names + guard],
+            words: vec![number; lent.words + guard],
+            bindings: vec![[number; 2]; lent.bindings + guard],
+            proof: vec![[number; 8]; lent.proof + guard],
+            links: vec![[number; 2]; lent.links + guard],
+            marks: vec![[number; 2]; lent.marks + guard],
+            stack: vec![[number; 3]; lent.stack + guard],
+        }
+    }
+
+    /// The numbers of each kind, with how many a row has.
+    pub fn parts(&self) -> [(&'static str, &[u32], usize); PARTS] {
+        [
+            ("names", self.names.as_flattened(), 5),
+            ("words", &self.words, 1),
+            ("bindings", self.bindings.as_flattened(), 2),
+            ("proof", self.proof.as_flattened(), 8),
+            ("links", self.links.as_flattened(), 2),
+            ("marks", self.marks.as_flattened(), 2),
+            ("stack", self.stack.as_flattened(), 3),
+        ]
+    }
+}
+
+/// What a call answers: 1 or another refusal, or a verdict with its steps, the nodes of the proof and the counts then.
+#[derive(Clone, Copy, Debug, PartialEq)]
+pub enum Given {
+    Refused(u32),
+    Proved { steps: u32, nodes: u32, counts: Counts },
+    Nothing { steps: u32, counts: Counts },
+    Undecided { steps: u32, counts: Counts },
+}
+
+impl Given {
+    /// The counts of a session after a call, if they are told: a refused goal leaves them as they were.
+    pub fn counts(&self) -> Option<Counts> {
+        match self {
+            Given::Refused(_) => None,
+            Given::Proved { counts, .. } | Given::Nothing { counts, .. } | Given::Undecided { counts, .. } => {
+                Some(*counts)
+            }
+        }
+    }
+
+    /// What is expected for an answer, and for how the session then stands.
+    pub fn expected(answer: &Answer, standing: &Standing) -> Given {
+        let (steps, counts) = (answer.steps, standing.counts());
+        match &answer.verdict {
+            Verdict::Refused(number) => Given::Refused(*number),
+            Verdict::Proved(nodes) => Given::Proved { steps, nodes: nodes.len() as u32, counts },
+            Verdict::Nothing => Given::Nothing { steps, counts },
+            Verdict::Undecided => Given::Undecided { steps, counts },
+        }
+    }
+}
+
+impl Standing {
+    pub fn counts(&self) -> Counts {
+        let [names, variables, bound] = [self.names.len(), self.variables, self.bound].map(|count| count as u32);
+        Counts { names, variables, bound, words: self.words as u32 }
+    }
+}
+
 /// How many goals had each verdict, and how many were refused by each number.
 #[derive(Clone)]
 pub struct Counted {
@@ -164,9 +319,14 @@ impl Counted {
     }
 
     pub fn shown(&self) -> String {
-        let refusals = [1].into_iter().chain(REFUSALS).map(|number| format!("{number}: {}", self.refused[number as usize]));
+        let refusals =
+            [1].into_iter().chain(REFUSALS).map(|number| format!("{number}: {}", self.refused[number as usize]));
         let Counted { proved, none, undecided, .. } = self;
         let refusals: Vec<String> = refusals.collect();
-        format!("{} goals: {proved} proved, {none} none, {undecided} undecided, refused by {}", self.goals(), refusals.join(", "))
+        format!(
+            "{} goals: {proved} proved, {none} none, {undecided} undecided, refused by {}",
+            self.goals(),
+            refusals.join(", ")
+        )
     }
 }

@@ -1,7 +1,7 @@
 //! Texts for the loader: every name is declared before its use and terms have the sorts that are wanted, but for faults
 //! that are put in with a chance.
 
-use crate::declarations::Pieces;
+use crate::declarations::{Pieces, Writing};
 use crate::random::Random;
 
 const SORTS: [&str; 5] = ["Nat", "List", "Tree", "Prop", "B"];
@@ -80,20 +80,17 @@ pub fn signature(random: &mut Random, count: usize, fault: usize) -> Vec<Pieces>
     writer.done
 }
 
+impl Writing for Writer<'_> {
+    fn pieces(&mut self) -> &mut Pieces {
+        &mut self.pieces
+    }
+
+    fn done(&mut self) -> &mut Vec<Pieces> {
+        &mut self.done
+    }
+}
+
 impl Writer<'_> {
-    fn put(&mut self, piece: &str) {
-        self.pieces.push(piece.to_owned());
-    }
-
-    fn put_all(&mut self, pieces: &[&str]) {
-        pieces.iter().for_each(|piece| self.put(piece));
-    }
-
-    fn end(&mut self) {
-        let pieces = std::mem::take(&mut self.pieces);
-        self.done.push(pieces);
-    }
-
     fn goes_wrong(&mut self) -> bool {
         self.random.percent(self.fault)
     }

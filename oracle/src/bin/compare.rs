@@ -5,6 +5,7 @@ mod ours;
 
 use horn_oracle::boundary::{boundaries, short_texts};
 use horn_oracle::cases::{Case, generated};
+use horn_oracle::command::count_and_seed;
 use horn_oracle::random::Random;
 use horn_oracle::shrink::shrunk;
 use horn_oracle::tokens::{Answer, Row};
@@ -23,11 +24,7 @@ struct Outcome {
 }
 
 fn main() {
-    let arguments: Vec<u64> = std::env::args().skip(1).map_while(|word| word.parse().ok()).collect();
-    let [count, seed] = arguments[..] else {
-        eprintln!("usage: compare N SEED");
-        std::process::exit(2);
-    };
+    let (count, seed) = count_and_seed("compare");
     let mut random = Random::new(seed);
     let seeded = (0..count).map(|_| generated(&mut random));
     let mut counts = [0_u64; 7];

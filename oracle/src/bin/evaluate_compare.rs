@@ -5,6 +5,7 @@ mod ours;
 #[path = "../ours_load.rs"]
 mod ours_load;
 
+use horn_oracle::command::{count_and_seed, fail};
 use horn_oracle::evaluate::{Kept, with_large_stack};
 use horn_oracle::evaluate_cases::{
     Program, Question, agreed_as_kept, damage, fixed_questions, generated, unexpected_example,
@@ -48,18 +49,13 @@ thread_local! {
 }
 
 fn main() {
-    let arguments: Vec<u64> = std::env::args().skip(1).map_while(|word| word.parse().ok()).collect();
-    let [count, seed] = arguments[..] else {
-        eprintln!("usage: evaluate_compare N SEED");
-        std::process::exit(2);
-    };
+    let (count, seed) = count_and_seed("evaluate_compare");
     with_large_stack(|| compare(count, seed));
 }
 
 fn compare(count: u64, seed: u64) {
     if let Some(example) = unexpected_example() {
-        println!("{example}");
-        std::process::exit(1);
+        fail(&example);
     }
     let mut random = Random::new(seed);
     let seeded = (0..count).map(|_| generated(&mut random));

@@ -1,5 +1,6 @@
 //! Writes the fixed list of texts and the original's evaluations, to be replayed where no Rust is at hand.
 
+use horn_oracle::command::{folder, write_recorded};
 use horn_oracle::evaluate::with_large_stack;
 use horn_oracle::evaluate_cases::{BENCH, Limit, Program, generated};
 use horn_oracle::evaluate_examples::examples;
@@ -7,7 +8,6 @@ use horn_oracle::evaluated::{Terms, WORDS};
 use horn_oracle::loaded::Limits;
 use horn_oracle::random::Random;
 use std::collections::HashSet;
-use std::path::Path;
 
 /// Any seed serves, but the recorded list is that of this one.
 const SEED: u64 = 2;
@@ -33,7 +33,7 @@ struct Text {
 }
 
 fn main() -> std::io::Result<()> {
-    let folder = std::env::args().nth(1).expect("usage: evaluate_record FOLDER");
+    let folder = folder("evaluate_record");
     let (mut list, mut answers, mut evals) = (String::new(), String::new(), 0);
     let recorded = with_large_stack(recorded);
     for (index, (Text { text, limits, words }, answer)) in recorded.iter().enumerate() {
@@ -41,9 +41,7 @@ fn main() -> std::io::Result<()> {
         answers += &format!("text {}\n{answer}", index + 1);
         evals += answer.lines().filter(|line| line.starts_with("eval ")).count();
     }
-    std::fs::create_dir_all(&folder)?;
-    std::fs::write(Path::new(&folder).join("stdin"), &list)?;
-    std::fs::write(Path::new(&folder).join("stdout"), &answers)?;
+    write_recorded(&folder, list.as_bytes(), answers.as_bytes())?;
     let (count, bytes) = (recorded.len(), list.len());
     println!("{count} texts with {evals} evaluations, {bytes} bytes of texts, {} bytes of answers", answers.len());
     Ok(())

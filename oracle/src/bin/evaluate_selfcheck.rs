@@ -1,6 +1,7 @@
 //! Holds together what needs no library of ours: the original's evaluations and the evaluator's definitions, without a
 //! limit on words, under several, and with signatures that no text makes.
 
+use horn_oracle::command::{count_and_seed, fail};
 use horn_oracle::evaluate::{Kept, with_large_stack};
 use horn_oracle::evaluate_cases::{
     Limit, Program, Question, agreed_as_kept, change_in_form, fixed_questions, generated_text, unexpected_example,
@@ -47,11 +48,7 @@ impl Tally {
 }
 
 fn main() {
-    let arguments: Vec<u64> = std::env::args().skip(1).map_while(|word| word.parse().ok()).collect();
-    let [count, seed] = arguments[..] else {
-        eprintln!("usage: evaluate_selfcheck N SEED");
-        std::process::exit(2);
-    };
+    let (count, seed) = count_and_seed("evaluate_selfcheck");
     with_large_stack(|| check(count, seed));
 }
 
@@ -70,11 +67,6 @@ fn check(count: u64, seed: u64) {
     if let Some(number) = REFUSALS.iter().find(is_rare).filter(|_| evaluations >= MANY) {
         fail(&format!("fewer than 1 in {RARELY} are refused by {number}"));
     }
-}
-
-fn fail(message: &str) -> ! {
-    println!("{message}");
-    std::process::exit(1);
 }
 
 fn checked(texts: impl Iterator<Item = Vec<u8>>, seed: u64) -> Tally {

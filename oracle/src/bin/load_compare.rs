@@ -3,6 +3,7 @@
 #[path = "../ours_load.rs"]
 mod ours;
 
+use horn_oracle::command::{count_and_seed, fail};
 use horn_oracle::load::load;
 use horn_oracle::load_cases::{Question, exhaustive, generated, large_questions, small_questions, unexpected_example};
 use horn_oracle::load_rows::read_back;
@@ -32,14 +33,9 @@ thread_local! {
 }
 
 fn main() {
-    let arguments: Vec<u64> = std::env::args().skip(1).map_while(|word| word.parse().ok()).collect();
-    let [count, seed] = arguments[..] else {
-        eprintln!("usage: load_compare N SEED");
-        std::process::exit(2);
-    };
+    let (count, seed) = count_and_seed("load_compare");
     if let Some(example) = unexpected_example() {
-        println!("{example}");
-        std::process::exit(1);
+        fail(&example);
     }
     let mut random = Random::new(seed);
     let seeded = (0..count).map(|_| generated(&mut random));

@@ -1,13 +1,13 @@
 //! Writes the fixed list of texts and the original's signatures as they are stored, to be replayed where no Rust is at
 //! hand.
 
+use horn_oracle::command::{folder, write_recorded};
 use horn_oracle::load::reference;
 use horn_oracle::load_cases::{Question, asked, generated};
 use horn_oracle::load_examples::{Example, examples, large_examples};
 use horn_oracle::loaded::{Lent, Limits};
 use horn_oracle::random::Random;
 use std::collections::HashSet;
-use std::path::Path;
 
 /// Any seed serves, but the recorded list is that of this one.
 const SEED: u64 = 2;
@@ -24,7 +24,7 @@ const LONG_ANSWER: usize = 2_500;
 const LONG_ANSWERS: usize = 1;
 
 fn main() -> std::io::Result<()> {
-    let folder = std::env::args().nth(1).expect("usage: load_record FOLDER");
+    let folder = folder("load_record");
     let (mut list, mut answers) = (Vec::new(), String::new());
     let recorded = recorded();
     for (index, (Question { text, limits, .. }, answer)) in recorded.iter().enumerate() {
@@ -32,9 +32,7 @@ fn main() -> std::io::Result<()> {
         list.extend_from_slice(&[heading.as_bytes(), text, b"\n"].concat());
         answers += &format!("text {}\n{answer}", index + 1);
     }
-    std::fs::create_dir_all(&folder)?;
-    std::fs::write(Path::new(&folder).join("stdin"), &list)?;
-    std::fs::write(Path::new(&folder).join("stdout"), &answers)?;
+    write_recorded(&folder, &list, answers.as_bytes())?;
     let (count, bytes) = (recorded.len(), list.len());
     println!("{count} texts, {bytes} bytes of texts, {} bytes of answers", answers.len());
     Ok(())

@@ -1,6 +1,7 @@
 //! Holds together what needs no library of ours: the original's signatures, their storage, the storage read back, and
 //! the loader's definitions.
 
+use horn_oracle::command::{count_and_seed, fail};
 use horn_oracle::damage::changed_number;
 use horn_oracle::load::{load, reference};
 use horn_oracle::load_cases::{Question, exhaustive, generated, large_questions, small_questions, unexpected_example};
@@ -19,11 +20,7 @@ const MANY: u64 = 10_000;
 const CHANGES: usize = 6;
 
 fn main() {
-    let arguments: Vec<u64> = std::env::args().skip(1).map_while(|word| word.parse().ok()).collect();
-    let [count, seed] = arguments[..] else {
-        eprintln!("usage: load_selfcheck N SEED");
-        std::process::exit(2);
-    };
+    let (count, seed) = count_and_seed("load_selfcheck");
     if let Some(example) = unexpected_example() {
         fail(&example);
     }
@@ -35,11 +32,6 @@ fn main() {
     if let Some(number) = (17..NUMBERS).find(|&number| count >= MANY && counts[number] == 0) {
         fail(&format!("no generated text is refused by {number}"));
     }
-}
-
-fn fail(message: &str) -> ! {
-    println!("{message}");
-    std::process::exit(1);
 }
 
 /// Checks each question and tampers with the storage of accepted texts; tells how many were refused by each number.

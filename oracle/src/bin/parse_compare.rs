@@ -3,6 +3,7 @@
 #[path = "../ours.rs"]
 mod ours;
 
+use horn_oracle::command::{count_and_seed, fail};
 use horn_oracle::declared::{NUMBERS, counted, listing};
 use horn_oracle::parse::{declarations, reference};
 use horn_oracle::parse_cases::{Question, exhaustive, generated, large_questions, small_questions, unexpected_example};
@@ -26,14 +27,9 @@ struct Outcome {
 }
 
 fn main() {
-    let arguments: Vec<u64> = std::env::args().skip(1).map_while(|word| word.parse().ok()).collect();
-    let [count, seed] = arguments[..] else {
-        eprintln!("usage: parse_compare N SEED");
-        std::process::exit(2);
-    };
+    let (count, seed) = count_and_seed("parse_compare");
     if let Some(example) = unexpected_example() {
-        println!("{example}");
-        std::process::exit(1);
+        fail(&example);
     }
     let mut random = Random::new(seed);
     let seeded = (0..count).map(|_| generated(&mut random));

@@ -1,10 +1,10 @@
 //! Writes the fixed list of texts and the original's declarations as rows, to be replayed where no Rust is at hand.
 
+use horn_oracle::command::{folder, write_recorded};
 use horn_oracle::parse::reference;
 use horn_oracle::parse_cases::{Question, generated, small_questions};
 use horn_oracle::random::Random;
 use std::collections::HashSet;
-use std::path::Path;
 
 /// Any seed serves, but the recorded list is that of this one.
 const SEED: u64 = 2;
@@ -14,7 +14,7 @@ const GENERATED: usize = 150;
 const GENERATED_BYTES: usize = 160;
 
 fn main() -> std::io::Result<()> {
-    let folder = std::env::args().nth(1).expect("usage: parse_record FOLDER");
+    let folder = folder("parse_record");
     let (mut list, mut answers) = (Vec::new(), String::new());
     let questions = recorded();
     for (index, question) in questions.iter().enumerate() {
@@ -22,9 +22,7 @@ fn main() -> std::io::Result<()> {
         list.extend_from_slice(&[format!("{} {limit} {rows}\n", text.len()).as_bytes(), text, b"\n"].concat());
         answers += &format!("text {}\n{}", index + 1, reference(text, *limit, *tokens, *rows).recorded());
     }
-    std::fs::create_dir_all(&folder)?;
-    std::fs::write(Path::new(&folder).join("stdin"), &list)?;
-    std::fs::write(Path::new(&folder).join("stdout"), &answers)?;
+    write_recorded(&folder, &list, answers.as_bytes())?;
     let most = questions.iter().map(|question| question.rows).max().expect("there are questions");
     let (count, bytes) = (questions.len(), list.len());
     println!("{count} texts, {bytes} bytes of texts, {} bytes of answers, at most {most} rows lent", answers.len());

@@ -1,6 +1,7 @@
 //! Holds together what needs no library of ours: the original's answers, their rows, the rows read back, and the
 //! parser's definitions.
 
+use horn_oracle::command::{count_and_seed, fail};
 use horn_oracle::declared::{Answer, Listed, NUMBERS, counted, listing};
 use horn_oracle::definitions::defined;
 use horn_oracle::parse::{declarations, reference};
@@ -15,11 +16,7 @@ use horn_oracle::words;
 const MANY: u64 = 10_000;
 
 fn main() {
-    let arguments: Vec<u64> = std::env::args().skip(1).map_while(|word| word.parse().ok()).collect();
-    let [count, seed] = arguments[..] else {
-        eprintln!("usage: parse_selfcheck N SEED");
-        std::process::exit(2);
-    };
+    let (count, seed) = count_and_seed("parse_selfcheck");
     if let Some(example) = unexpected_example() {
         fail(&example);
     }
@@ -31,11 +28,6 @@ fn main() {
     if let Some(number) = (7..NUMBERS).find(|&number| count >= MANY && counts[number] == 0) {
         fail(&format!("no generated text is refused by {number}"));
     }
-}
-
-fn fail(message: &str) -> ! {
-    println!("{message}");
-    std::process::exit(1);
 }
 
 /// Checks each question and tampers with the rows of accepted texts; tells how many were refused by each number.

@@ -2,11 +2,11 @@
 
 use horn_oracle::boundary::{commented, small_boundaries};
 use horn_oracle::cases::{Case, generated};
+use horn_oracle::command::{folder, write_recorded};
 use horn_oracle::random::Random;
 use horn_oracle::tokens::TEXT_BYTES;
 use horn_oracle::words::reference;
 use std::collections::HashSet;
-use std::path::Path;
 
 /// Any seed serves, but the recorded list is that of this one.
 const SEED: u64 = 2;
@@ -16,7 +16,7 @@ const GENERATED: usize = 150;
 const GENERATED_BYTES: usize = 160;
 
 fn main() -> std::io::Result<()> {
-    let folder = std::env::args().nth(1).expect("usage: record FOLDER");
+    let folder = folder("record");
     let (mut questions, mut answers) = (Vec::new(), Vec::new());
     let cases = recorded();
     for (index, case) in cases.iter().enumerate() {
@@ -24,9 +24,7 @@ fn main() -> std::io::Result<()> {
         answers.extend_from_slice(format!("text {}\n", index + 1).as_bytes());
         answers.extend_from_slice(&reference(&case.text, case.limit, case.rows).listing(&case.text));
     }
-    std::fs::create_dir_all(&folder)?;
-    std::fs::write(Path::new(&folder).join("stdin"), &questions)?;
-    std::fs::write(Path::new(&folder).join("stdout"), &answers)?;
+    write_recorded(&folder, &questions, &answers)?;
     println!("{} texts, {} bytes of texts, {} bytes of answers", cases.len(), questions.len(), answers.len());
     Ok(())
 }

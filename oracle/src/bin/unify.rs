@@ -3,6 +3,7 @@
 #[path = "../ours.rs"]
 mod ours;
 
+use horn_oracle::command::count_and_seed;
 use horn_oracle::random::Random;
 use horn_oracle::unify::{Problem, ROOM, Unified};
 use ours::{Counts, Storage};
@@ -14,11 +15,7 @@ const UNARY: u32 = (1 << 20) + 1;
 const DAMAGES: usize = 12;
 
 fn main() {
-    let arguments: Vec<u64> = std::env::args().skip(1).map_while(|word| word.parse().ok()).collect();
-    let [count, seed] = arguments[..] else {
-        eprintln!("usage: unify N SEED");
-        std::process::exit(2);
-    };
+    let (count, seed) = count_and_seed("unify");
     let mut random = Random::new(seed);
     let (mut unified, mut bound) = (0, 0);
     for number in 0..count {
