@@ -1,0 +1,2 @@
+-- What the contracts of `session_open` cite.
+pub mod Cleared
