@@ -14,7 +14,8 @@ def id : Nat → Nat
 | n => n
 ";
 
-const LISTS: &str = "sort Nat
+/// Lists put together and turned round.
+pub const LISTS: &str = "sort Nat
 sort List
 ctor zero : Nat
 ctor succ : Nat → Nat

@@ -10,7 +10,7 @@ use crate::pattern_definitions::Written;
 use crate::random::Random;
 use crate::search::{self, Asked as OriginalAsked};
 use crate::search_definitions::{Asked, Limits, Session};
-use crate::search_examples::{examples, large_examples};
+use crate::search_examples::{ADD, examples, large_examples};
 use crate::search_texts::texts as timed_texts;
 use crate::searched::{Allowance, Answer, Ask, DEPTH, NO_ROOM, STEPS, Standing, VARIABLES, Verdict, WORDS};
 use crate::shrink;
@@ -337,9 +337,6 @@ rule h : e x y → l y → l x", "l ?x@"),
     ("sort A pred q : Prop pred r : Prop rule f : r → q rule g : q", "q"),
     ("sort A pred q : Prop", "q"),
 ];
-
-const ADD: &str = "sort Nat ctor zero : Nat ctor succ : Nat → Nat
-def add : Nat → Nat → Nat | zero, n => n | succ m, n => succ (add m n)";
 
 /// The small searches with these depths.
 pub fn every_step(depths: &[u32]) -> impl Iterator<Item = Question> {

@@ -3,7 +3,7 @@
 //! that is told. Document 01's cases, every rule of a session with its smallest text, and both sides of every limit.
 
 /// Document 01's text.
-const ADD: &str = "sort Nat ctor zero : Nat ctor succ : Nat → Nat
+pub const ADD: &str = "sort Nat ctor zero : Nat ctor succ : Nat → Nat
 def add : Nat → Nat → Nat
 | zero, n => n
 | succ m, n => succ (add m n)

@@ -1,28 +1,8 @@
 //! Goals to be searched and timed: the programs that people write first, many rules, searches that go deep and fail, small goals,
 //! and a long session. Each goal has enough steps, depth and storage, or as many steps as there may be.
 
-/// Document 01's `add`.
-const NUMBERS: &str = "sort Nat
-ctor zero : Nat
-ctor succ : Nat → Nat
-def add : Nat → Nat → Nat
-| zero, n => n
-| succ m, n => succ (add m n)
-";
-
-const LISTS: &str = "sort Nat
-sort List
-ctor zero : Nat
-ctor succ : Nat → Nat
-ctor nil : List
-ctor cons : Nat → List → List
-def append : List → List → List
-| nil, ys => ys
-| cons x xs, ys => cons x (append xs ys)
-def reverse : List → List
-| nil => nil
-| cons x xs => append (reverse xs) (cons x nil)
-";
+use crate::evaluate_texts::LISTS;
+use crate::search_examples::ADD;
 
 /// What is asked: steps, depth, and document 01's limits.
 fn asked(goal: &str, steps: u32, depth: u32) -> String {
@@ -34,8 +14,8 @@ pub fn texts() -> Vec<(&'static str, String)> {
     let list = |count: usize| tower("cons 0", "nil", count);
     let timed = |rules: &str, goal: &str| format!("{rules}{}", asked(goal, 65_535, 128));
     vec![
-        ("add backwards 60", timed(NUMBERS, "add ?x 60 = 120")),
-        ("add backwards all", timed(NUMBERS, "add ?x (succ ?x) = 120")),
+        ("add backwards 60", timed(ADD, "add ?x 60 = 120")),
+        ("add backwards all", timed(ADD, "add ?x (succ ?x) = 120")),
         ("reverse 14", timed(LISTS, &format!("reverse {} = ?x", list(14)))),
         ("reverse 25", timed(LISTS, &format!("reverse {} = ?x", list(25)))),
         ("append backwards", timed(LISTS, &format!("append ?x (cons ?y ?x) = {}", list(60)))),
@@ -44,9 +24,9 @@ pub fn texts() -> Vec<(&'static str, String)> {
         ("900 rules, 300 heads", many_rules(300)),
         ("900 rules, one head", many_rules(1)),
         ("deep failure", deep_failure()),
-        ("small, proved", timed(NUMBERS, "add ?x 1 = 2")),
-        ("small, none", timed(NUMBERS, "add ?x 2 = 1")),
-        ("small, refused", timed(NUMBERS, "add ?x 2 ?y ?z")),
+        ("small, proved", timed(ADD, "add ?x 1 = 2")),
+        ("small, none", timed(ADD, "add ?x 2 = 1")),
+        ("small, refused", timed(ADD, "add ?x 2 ?y ?z")),
         ("100 goals", long_session()),
     ]
 }
@@ -91,5 +71,5 @@ fn long_session() -> String {
         let sum = asked(&format!("add ?n{} {} = {}", goal % 60, goal % 9, goal % 9 + 5), 2_000, 32);
         sum + &asked(&format!("add ?n{} 1 = ?m", goal % 60), 2_000, 32)
     });
-    format!("{NUMBERS}{}", goals.collect::<String>())
+    format!("{ADD}{}", goals.collect::<String>())
 }

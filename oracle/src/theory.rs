@@ -3,6 +3,7 @@
 //! Arguments: seed, number of cases, cases in a file, output folder, the head of each file. Each file `BatchN.antt` holds one list of cases and one lemma that all of
 //! them pass; the last line printed counts the verdicts.
 use super::super::*;
+use super::load::no_declarations;
 use super::search::{Count, copied, counted_proof, is_none, new_prover, same_proof, words};
 use crate::random::Random;
 use std::fs;
@@ -88,18 +89,7 @@ fn family(rng: &mut Random) -> Vec<Rule> {
 }
 
 fn signature(rules: Vec<Rule>) -> Sig {
-    let mut sig = Sig {
-        sorts: vec!["S".into()],
-        sort_ix: HashMap::new(),
-        names: Vec::new(),
-        sym_ix: HashMap::new(),
-        inputs: Vec::new(),
-        output: Vec::new(),
-        defs: HashSet::new(),
-        clauses: HashMap::new(),
-        rules,
-        rigid: Vec::new(),
-    };
+    let mut sig = Sig { sorts: vec!["S".into()], rules, ..no_declarations() };
     for i in 0..8 {
         sig.add_sym(&format!("s{i}"), Vec::new(), None).expect("new");
     }
