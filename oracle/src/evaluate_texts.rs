@@ -51,11 +51,14 @@ pub fn texts() -> Vec<(&'static str, String)> {
     vec![
         ("add 1 1", asked(NUMBERS, "add 1 1".to_owned())),
         ("add 60 60", asked(NUMBERS, "add 60 60".to_owned())),
+        ("add 120 7", asked(NUMBERS, "add 120 7".to_owned())),
         ("mul 60 60", asked(NUMBERS, "mul 60 60".to_owned())),
         ("id 127", asked(NUMBERS, "id 127".to_owned())),
         ("append 30", asked(LISTS, format!("append {} {}", list(30), list(30)))),
         ("reverse 25", asked(LISTS, format!("reverse {}", list(25)))),
+        ("reverse 35", asked(LISTS, format!("reverse {}", list(35)))),
         ("tower 100", asked(PAIRS, "tower 100".to_owned())),
+        ("tower 126", asked(PAIRS, "tower 126".to_owned())),
         ("same 12", asked(PAIRS, "same (tower 12) (tower 12)".to_owned())),
     ]
 }

@@ -19,18 +19,19 @@ const RUNS: usize = 301;
 
 fn main() {
     println!(
-        "{:<11} {:>5} {:>6} {:>8} {:>13} {:>8} {:>13} {:>8}",
-        "term", "calls", "words", "Rust µs", "8,192 words", "ours", "most words", "ours"
+        "{:<11} {:>5} {:>6} {:>8} {:>13} {:>8} {:>13} {:>8} {:>13} {:>8}",
+        "term", "calls", "words", "Rust µs", "fitting", "ours", "8,192 words", "ours", "most words", "ours"
     );
     for (name, text) in texts() {
         println!("{}", with_large_stack(|| measured(name, text.as_bytes())));
     }
     println!(
-        "Medians of {RUNS} runs of each side, in turn: microseconds of the Rust's `expression`, of horn_evaluate under the"
+        "Medians of {RUNS} runs of each side, in turn: microseconds of the Rust's `expression`, of horn_evaluate under a limit"
     );
     println!(
-        "bench program's limit on words and under the largest, and how many times as fast as the Rust ours is. The Rust's"
+        "on words that fits the term (the power of two above what it uses), under the bench program's and under the largest,"
     );
+    println!("and how many times as fast as the Rust in the same runs ours is. The Rust's");
     println!(
         "signature is loaded, and its time includes making and freeing its terms and trees. horn_evaluate tests the signature"
     );
@@ -52,20 +53,21 @@ fn measured(name: &str, text: &[u8]) -> String {
     let loaded::Buffers { sorts, symbols, rules, rows, .. } = &loaded;
     let stored = Stored { text, sorts, symbols, rules, pattern, counts, rows };
     let rust = || program.loaded.original_evaluate(black_box(0)).expect("a timed term has a value");
-    let sides = [BENCH, WORDS].map(|limit| {
+    let fitting = (value.words as u32).next_power_of_two();
+    let sides = [fitting, BENCH, WORDS].map(|limit| {
         let enough = value.words <= u64::from(limit);
         enough.then(|| {
             beside(|buffers, lent| ours::evaluate(black_box(&stored), limit, at, lent, buffers), limit, &value, rust)
         })
     });
-    let [_, most] = sides;
+    let [_, _, most] = sides;
     let (_, rust) = most.expect("the largest limit is enough");
     let shown = |side: Option<(f64, f64)>| match side {
         Some((ours, rust)) => format!("{ours:>13.1} {:>8.2}", rust / ours),
         None => format!("{:>13} {:>8}", "-", "-"),
     };
-    let [bench, most] = sides.map(shown);
-    format!("{name:<11} {:>5} {:>6} {rust:>8.1} {bench} {most}", value.calls.len(), value.words)
+    let [fitting, bench, most] = sides.map(shown);
+    format!("{name:<11} {:>5} {:>6} {rust:>8.1} {fitting} {bench} {most}", value.calls.len(), value.words)
 }
 
 /// The median times of ours under a limit and of the Rust, in turn.
