@@ -94,7 +94,7 @@ fn heads_differ(
 
 // Whether the goal and a conclusion clash by their heads or by those of their arguments. A rule that cannot serve is mostly found out here, before
 // anything is copied.
-fn clashes(
+pub fn clashes(
     pattern: &[u32],
     words: &[u32],
     bindings: &[[u32; 2]],

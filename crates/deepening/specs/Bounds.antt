@@ -1,6 +1,5 @@
 -- What one depth bound, and the bounds in turn, ask and leave: the answers are the theory's `bounded` and `prove`, for the rules by any
--- names. What is lent
--- comes with zero past what is in use, and goes back so.
+-- names. What is lent comes with zero past what is in use, and goes back so.
 use Prim.Native.Nat.{ℕ, zero, suc, _-_, _≤_, _<_}
 use mathlib.Core.Path.{_≡_}
 use mathlib.Core.Bool.{Bool, true, false}
@@ -33,8 +32,7 @@ use Rattle.deepening.specs.declared.Answer.{Answer}
 use Rattle.deepening.specs.declared.Answer.the-variants.{Refused, Proved, Nothing, Undecided}
 
 -- The goal g with s steps, in a session with c variables, t bindings and u words: signature and session are in form, there is a frame for
--- each step, and
--- words past those in use, frames and scratch are zero.
+-- each step, and words past those in use, frames and scratch are zero.
 pub record Asking (a : Allowed) (P : List ℕ) (R F : Rows) (W : List ℕ) (T L M S : Rows) (g s c t u : ℕ) : Type 0 where
   pub rules : RulesStored P R (a .rules)
   pub well : Well a W T c t u
@@ -60,8 +58,7 @@ pub record Unchanged (F F′ : Rows) (W W′ : List ℕ) (T T′ : Rows) : Type 
   pub rows : T′ ≡ T
 
 -- A proof was found: the session extended with c′ variables, t′ bindings and u′ words. Words and bindings are only added, zero follows
--- them, and words that
--- are in form over the signature's arities stay so.
+-- them, and words that are in form over the signature's arities stay so.
 pub record Extended (a : Allowed) (P : List ℕ) (R : Rows) (W W′ : List ℕ) (T T′ : Rows) (c t u c′ t′ u′ : ℕ) : Type 0 where
   pub later : c ≤ c′
   pub longer : u ≤ u′

@@ -91,8 +91,7 @@ asking-same {a} {P} {R} {F} {F′} {W} {W′} {T} {T′} {L} {L′} {M} {M′} {
     (subst (λ (B : Rows). Asking a P R F W T L M B g s c t u) (sym n) h)))))
 
 -- What the loop keeps, before the depth bound d: every buffer is as at entry; and the bounds from d on, with the steps that the last one
--- took and the
--- counter, come to the theory's answer.
+-- took and the counter, come to the theory's answer.
 pub record Deepening (a : Allowed) (P : List ℕ) (R F₀ F : Rows) (W₀ W : List ℕ) (T₀ T L₀ L M₀ M S₀ S : Rows)
     (g largest s c t u d k c′ : ℕ) : Type 0 where
   pub start : Asking a P R F₀ W₀ T₀ L₀ M₀ S₀ g s c t u

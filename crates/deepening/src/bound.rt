@@ -23,8 +23,7 @@ pub enum Came {
 }
 
 // The end of a bound: a proof's frames become its rows, and what else was written is cleared; without a proof that is all. `bound` and
-// `used` are the
-// bindings and words at the start.
+// `used` are the bindings and words at the start.
 fn leave(
     words: &mut [u32],
     bindings: &mut [[u32; 2]],

@@ -1,10 +1,8 @@
 // The search at the depth bounds 4, 8, 16, … up to the largest depth (document 01, "Search"). Each bound starts from the session at entry
-// with all the
-// steps; the counter of variables alone goes on. A proof's frames become the rows of its tree.
+// with all the steps; the counter of variables alone goes on. A proof's frames become the rows of its tree.
 //
 // What is lent comes with zero past what is in use, and goes back so: only what was written is cleared. The functions serve the crates
-// above, which ask
-// for a signature and a session in form.
+// above, which ask for a signature and a session in form.
 mod bound; // one depth bound
 mod clearing; // what was written is cleared
 mod trees; // the proof that the frames are

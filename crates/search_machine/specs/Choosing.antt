@@ -1,6 +1,5 @@
--- Passing over rules by arithmetic: what the functions ask and leave. The header that a goal leads to is read once; a rule whose
--- conclusion has another one
--- is passed over as the attempt would, and nothing is written.
+-- Passing over rules by arithmetic: what the functions ask and leave. The header that a goal leads to is read once; a rule whose conclusion
+-- has another one, or clashes with the goal by the heads of arguments, is passed over as its attempt would, and nothing is written.
 use Prim.Native.Nat.{ℕ, _+_, _-_, _≤_, _<_}
 use mathlib.Core.Path.{_≡_}
 use mathlib.Core.Logic.{_≢_}
@@ -43,6 +42,12 @@ pub record Differs (R : Rows) (P : List ℕ) (h r : ℕ) : Type 0 where
   pub some : h ≢ 0
   pub node : patternRoom ≤ column (rowAt R r) 5
   pub other : cells P (column (rowAt R r) 5 - patternRoom) ≢ h
+
+-- What is known of a goal with the header h where a rule is judged.
+pub record Judged (R : Rows) (P : List ℕ) (W : List ℕ) (T : Rows) (m : Machine) (h r : ℕ) : Type 0 where
+  pub readable : Readable R P r
+  pub heads : Heads W T (m .counter) (m .used) (m .bound) (m .goal) h
+  pub comparable : Comparable P W T (m .counter) (m .used) (m .bound) (m .goal) (column (rowAt R r) 5)
 
 -- The machine is about to try a rule; frames and scratch are not looked at.
 pub record Choosing (a : Allowed) (P : List ℕ) (R : Rows) (W : List ℕ) (T : Rows) (m : Machine) : Type 0 where

@@ -23,7 +23,7 @@ use Rattle.search_machine.specs.Storage.{RowAsked, RowTried}
 use Rattle.search_machine.specs.State.{Start, Holds, Trying}
 use Rattle.search_machine.specs.Moves.{toFail, toStop, toRule, current, measure}
 use Rattle.search_machine.specs.Contracts.{Ready, Stepped, Choice}
-use Rattle.search_machine.specs.Choosing.{Goal, Heads, Readable, Differs, Choosing, Passing, Onward, Chosen}
+use Rattle.search_machine.specs.Choosing.{Goal, Heads, Readable, Judged, Choosing, Passing, Onward, Chosen}
 use Rattle.search_machine.specs.Falls.{falls-mode, falls-not}
 use Rattle.search_machine.specs.Attempts.{row-asked}
 use Rattle.search_machine.specs.Tries.{tried-none, tried-refused, tried-missed}
@@ -104,8 +104,8 @@ module _ {a : Allowed} {P : List ℕ} {R : Rows} {W : List ℕ} {T : Rows} {m : 
       let h = at-start (choosing .frames) (choosing .start) (choosing .result) (choosing .holds) in
       record { form = h .well .form; refers = h .refers }
 
-  pub choosing-readable : (r : ℕ) → r < a .rules → Readable R P r
-  choosing-readable r l = row-readable (asked-at r l)
+  pub choosing-judged : {h : ℕ} → Heads W T (m .counter) (m .used) (m .bound) (m .goal) h → (r : ℕ) → r < a .rules → Judged R P W T m h r
+  choosing-judged heads r l = record { readable = row-readable (asked-at r l); heads = heads; comparable = row-comparable (asked-at r l) }
 
   trying-same : (F : Rows) (z : Start) (o : Result) → Trying a P R F W T z o m
       → Trying a P R F W T z o (toRule m (m .rule) (m .counter) (m .top))
@@ -156,13 +156,11 @@ module _ {a : Allowed} {P : List ℕ} {R : Rows} {W : List ℕ} {T : Rows} {m : 
     at-try : current (a .rules) (m .mode) (m .rule) ≡ 3 * (a .rules - m .rule) + 2
     at-try = ap (λ (k : Mode). current (a .rules) k (m .rule)) (choosing .mode)
 
-    -- A rule that differs is passed over.
-    pub passing-next : {h : ℕ} → Heads W T (m .counter) (m .used) (m .bound) (m .goal) h → r < a .rules → Differs R P h r
+    -- A rule that clashes is passed over.
+    pub passing-next : r < a .rules → Clashes P W T (m .bound) (m .goal) (column (rowAt R r) 5)
         → over (within (a .variables) (a .words)) (c + column (rowAt R r) 9) (m .used + column (rowAt R r) 8) ≡ false
         → Passing a P R W T m (r + 1) (c + column (rowAt R r) 9)
-    passing-next heads l d e =
-        let k : Clashes P W T (m .bound) (m .goal) (column (rowAt R r) 5) =
-        heads .clash P (column (rowAt R r) 5) (row-comparable (asked-at r l)) (d .node) (d .some) (d .other) in
+    passing-next l k e =
         let t = row-passed (asked-now l) e k in
         let f = passing .further in
         record {

@@ -56,7 +56,8 @@ module _ {most limit : ℕ} {pattern : List ℕ} {rules : Rows} {words : List �
         subst (λ (p : List ℕ). Attempted most limit pattern p (placesIn (rowAt rules r))
         (storedIn (rowAt rules r)) words words′ rows rows′ links links′ marks marks′ stack stack′ counter used bound goal answer) heads-lent
         (subst (λ (p : List ℕ). Attempted most limit pattern (take (10 + column (rowAt rules r) 4 - 10) (drop 10 (rowAt rules r))) p
-        (storedIn (rowAt rules r)) words words′ rows rows′ links links′ marks marks′ stack stack′ counter used bound goal answer) places-lent
+        (storedIn (rowAt rules r)) words words′ rows rows′ links links′ marks marks′ stack stack′ counter used bound goal answer)
+        places-lent
         (subst (λ (s : Stored). Attempted most limit pattern (take (10 + column (rowAt rules r) 4 - 10) (drop 10 (rowAt rules r)))
         (take (90 + column (rowAt rules r) 3 - 90) (drop 90
         (rowAt rules r))) s words words′ rows rows′ links links′ marks marks′ stack stack′ counter used bound goal answer) is h))

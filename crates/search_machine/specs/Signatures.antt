@@ -80,7 +80,8 @@ rows-in-form text arities words rules n kept r l =
     record {
       premises = subst (λ (x : ℕ). inForm words x (x + column row 7) patternRoom patternRoom arities ≡ true) (sym (k .from))
           (lying-form (k .lying .premises) patternRoom (k .lying .premises .below));
-      conclusion = subst (λ (x : ℕ). inForm words (x + column row 7) (x + column row 7 + column row 8) patternRoom patternRoom arities ≡ true)
+      conclusion = subst
+          (λ (x : ℕ). inForm words (x + column row 7) (x + column row 7 + column row 8) patternRoom patternRoom arities ≡ true)
           (sym (k .from))
           (subst (λ (y : ℕ). inForm words (u + column row 7) y patternRoom patternRoom arities ≡ true) (sym (k .to))
           (lying-form (k .lying .conclusion) patternRoom (k .lying .conclusion .below)));

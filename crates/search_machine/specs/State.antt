@@ -1,6 +1,5 @@
 -- What the machine's storage denotes: places as work lists, frames as branch records (crates/resolution, Machine), and the state as what
--- the whole search
--- comes to.
+-- the whole search comes to.
 use Prim.Native.Nat.{ℕ, zero, suc, _+_, _-_, _≤_, _<_}
 use mathlib.Core.Path.{_≡_}
 use mathlib.Core.Bool.{true}
@@ -94,8 +93,7 @@ pending R W x i w =
     (build (x .rule) (term W (x .goal)) (arity R (x .rule)) ∷ w)
 
 -- A place, premise i of application p (counted from 1; 0 is the top), is a work list. Its references are in form among v variables and u
--- words; D is the
--- depth bound, and there are n rules.
+-- words; D is the depth bound, and there are n rules.
 pub data Place (D : ℕ) (n : ℕ) (R F : Rows) (W : List ℕ) (v u : ℕ) : ℕ → ℕ → List Work → Type 0 where
   top : {i : ℕ} → i ≤ 1 → Place D n R F W v u 0 i []
   inside : {j i : ℕ} {w ws : List Work} {x : Frame} → frameAt F j ≡ x
@@ -111,9 +109,8 @@ abbrev pub entries : ℕ → Rows → List ℕ → ℕ → List Entry
 entries D F W zero = []
 entries D F W (suc n) = entries D F W n ++ (entry (D - frameAt F n .depth) (frameAt F n .rule) (term W (frameAt F n .goal)) ∷ [])
 
--- Where the search starts: the text of the rules' names, the symbols' arities, the session's words and bindings with their counts, the
--- rows of frames, the
--- steps and the depth bound.
+-- Where the search starts: the text of the rules' names, the symbols' arities, the session's words and bindings with their counts, the rows
+-- of frames, the steps and the depth bound.
 pub record Start : Type 0 where
   pub text : List ℕ
   pub arities : List ℕ
@@ -156,8 +153,8 @@ module _ (a : Allowed) (P : List ℕ) (R F : Rows) where
       RulesInForm P R (a .rules) (z .arities) → inForm (z .words) 0 (z .used) termRoom (z .counter) (z .arities) ≡ true
       → inForm W 0 u termRoom c (z .arities) ≡ true
 
-  -- Frame n, which reads x, is the branch record f. T, t and u are the bindings and words after it, T₁ the bindings before it, and c is
-  -- the counter.
+  -- Frame n, which reads x, is the branch record f. T, t and u are the bindings and words after it, T₁ the bindings before it, and c is the
+  -- counter.
   pub record FrameOk (z : Start) (W : List ℕ) (T T₁ : Rows) (n c t u : ℕ) (x : Frame) (f : Branch) : Type 0 where
     pub reads : frameAt F n ≡ x
     pub saved : held termRoom W T₁ (x .bound) ≡ f .saved

@@ -12,8 +12,8 @@ use Rattle.attempts.specs.Contracts.{Asked, Attempted}
 use Rattle.attempts.specs.declared.Tried.{Tried}
 use Rattle.search_machine.specs.declared.frames.Frame.{Frame}
 
--- What an attempt with rule r asks: the rule's row is there, with at most 16 premises and 64 variables, and what it says is what
--- `try_rule` asks.
+-- What an attempt with rule r asks: the rule's row is there, with at most 16 premises and 64 variables, and what it says is what `try_rule`
+-- asks.
 pub record RowAsked (most limit : ℕ) (pattern : List ℕ) (rules : Rows) (words : List ℕ) (rows links marks stack : Rows)
     (counter used bound goal r : ℕ) : Type 0 where
   pub known : r < length rules
@@ -30,8 +30,7 @@ RowTried most limit pattern rules words words′ rows rows′ links links′ mar
     (storedIn (rowAt rules r)) words words′ rows rows′ links links′ marks marks′ stack stack′ counter used bound goal answer
 
 -- What the reference of a premise asks, so that no sum is too large: the row is there with so few variables, and the reference that comes
--- of it is below
--- the headers.
+-- of it is below the headers.
 pub record PremiseAsked (rules : Rows) (x : Frame) (k : ℕ) : Type 0 where
   pub known : x .rule < length rules
   pub place : k < 16

@@ -1,6 +1,5 @@
-// The rules that a goal passes over by arithmetic: those whose conclusion has another head. They number their variables and count their
-// words as if they
-// were tried, and nothing is copied.
+// The rules that a goal passes over by arithmetic: those whose conclusion clashes with it by heads. They number their variables and count
+// their words as if they were tried, and nothing is copied.
 use super::Allowed;
 use super::Machine;
 use super::Mode;
@@ -9,13 +8,16 @@ use super::moves::at_rule;
 use super::moves::at_stop;
 use arena::PATTERN_ROOM;
 use arena::TERM_ROOM;
+use attempts::clashes;
 use bindings::walk;
 use rules::RuleRow;
 ghost use mathlib.Core.Path.{_≡_};
 ghost use mathlib.Core.Bool.{false};
 ghost use Prim.Native.Nat.{_≤_};
 ghost use Rattle.resolution.specs.Search.{within, over};
-ghost use Rattle.search_machine.specs.Choosing.{Goal, Heads, Readable, Differs, Choosing, Chosen};
+ghost use Rattle.names.specs.Symbols.{column, rowAt};
+ghost use Rattle.attempts.specs.Clashes.{Clashes};
+ghost use Rattle.search_machine.specs.Choosing.{Goal, Heads, Readable, Differs, Judged, Choosing, Chosen};
 
 // The larger of two numbers.
 pub fn larger(a: u32, b: u32) -> u32
@@ -65,6 +67,39 @@ fn may_unify(rules: &[RuleRow], pattern: &[u32], header: u32, rule: u32) -> bool
     false
 }
 
+// Whether a rule has to be tried: its conclusion does not clash with the goal, by its head or by those of its arguments.
+fn is_candidate(
+    rules: &[RuleRow],
+    pattern: &[u32],
+    words: &[u32],
+    bindings: &[[u32; 2]],
+    m: Machine,
+    header: u32,
+    rule: u32,
+) -> bool
+    requires { ⌜ Judged (now rules) (now pattern) (now words) (now bindings) m header rule ⌝ }
+    ensures { λ r. ⌜ (r ≡ false → Clashes (now (pattern .entry)) (now (words .entry)) (now (bindings .entry)) (m .bound) (m .goal)
+        (column (rowAt (now (rules .entry)) rule) 5)) ⌝ }
+{
+    if may_unify(rules, pattern, header, rule) {
+        let conclusion = rules[rule as usize][5];
+        if clashes(
+            pattern,
+            words,
+            bindings,
+            m.counter,
+            m.used,
+            m.bound,
+            m.goal,
+            conclusion,
+        ) {
+            return false;
+        }
+        return true;
+    }
+    false
+}
+
 // Whether so many variables and words are too many (document 01, refusal 37).
 fn exceeds(allowed: Allowed, variables: u32, words: u32) -> bool
     ensures { λ r. ⌜ r ≡ over (within (allowed .variables) (allowed .words)) variables words ⌝ }
@@ -93,7 +128,7 @@ pub fn next_candidate(
     while rule < allowed.rules {
         let row = rule as usize;
         let head = m.used + rules[row][8];
-        if may_unify(rules, pattern, header, rule) {
+        if is_candidate(rules, pattern, words, bindings, m, header, rule) {
             let top = larger(m.top, head + rules[row][7]);
             return at_rule(m, rule, counter, top);
         }

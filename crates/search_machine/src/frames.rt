@@ -3,9 +3,8 @@ ghost use mathlib.Core.Path.{_≡_};
 ghost use lib.ListN.{set};
 ghost use Rattle.search_machine.specs.State.{frameAt, rowOf};
 
-// One application of a rule: the rule, its goal, the depth that its premises get; the place that it takes, a premise of its parent; and
-// the variables,
-// bindings and words in use before it.
+// One application of a rule: the rule, its goal, the depth that its premises get; the place that it takes, a premise of its parent; and the
+// variables, bindings and words in use before it.
 pub struct Frame {
     pub rule: u32,
     pub goal: u32,

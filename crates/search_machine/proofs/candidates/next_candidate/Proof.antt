@@ -5,7 +5,7 @@ use native.Mathlib.Omega.{arith}
 use mathlib.Core.Path.{sym, ap, _∙_}
 use Rattle.search_machine.specs.Moves.{toFail, toStop}
 use Rattle.search_machine.specs.Choosing.{Passing}
-use Rattle.search_machine.specs.ChoosingLaws.{choosing-goal, choosing-readable, passing-start, passing-small, passing-few}
+use Rattle.search_machine.specs.ChoosingLaws.{choosing-goal, choosing-judged, passing-start, passing-small, passing-few}
 use Rattle.search_machine.specs.ChoosingLaws.{passing-next, passing-over, passing-found, passing-end, chosen-as}
 use Rattle.search_machine.specs.declared.Machine.{Machine}
 use Rattle.search_machine.specs.declared.Mode.the-variants.{Refused}
@@ -50,12 +50,13 @@ add-head c =
     let the-if1 = c .before .before .if1 in
     let l = passing-small (the-pre) (the-loop .inv) (the-if1 .taken) .0 in omega arith
 
-may-unify-requires : tie.Need-may-unify-requires Inv-loop μ-loop
-may-unify-requires c κs =
+is-candidate-requires : tie.Need-is-candidate-requires Inv-loop μ-loop
+is-candidate-requires c κs =
     let the-pre = c .before .before .before .before .before .before .before .before .pre in
+    let the-goal-header = c .before .before .before .before .before .goal-header in
     let the-loop = c .before .before .before .before .loop in
     let the-if1 = c .before .before .if1 in
-    choosing-readable (the-pre) (the-loop .rule) (the-if1 .taken)
+    choosing-judged (the-pre) (the-goal-header .ensures) (the-loop .rule) (the-if1 .taken)
 
 mul-larger : tie.Need-mul-larger Inv-loop μ-loop
 mul-larger c =
@@ -155,13 +156,12 @@ loop-again : tie.Need-loop-again Inv-loop μ-loop
 loop-again c =
     let the-pre = c .before .before .before .before .before .before .before .before .before .before .before .before .before .pre in
     let the-loop = c .before .before .before .before .before .before .before .before .before .loop in
-    let the-goal-header = c .before .before .before .before .before .before .before .before .before .before .goal-header in
     let the-if1 = c .before .before .before .before .before .before .before .if1 in
-    let the-may-unify = c .before .before .before .before .may-unify in
+    let the-is-candidate = c .before .before .before .before .is-candidate in
     let the-if2 = c .before .before .before .if2 in
     let the-exceeds = c .before .exceeds in
     let the-if3 = c .if3 in
-    passing-next (the-pre) (the-loop .inv) (the-goal-header .ensures) (the-if1 .taken) (the-may-unify .ensures (the-if2 .left))
+    passing-next (the-pre) (the-loop .inv) (the-if1 .taken) (the-is-candidate .ensures (the-if2 .left))
     (sym (the-exceeds .ensures) ∙ the-if3 .left)
 
 at-rule-requires-3 : tie.Need-at-rule-requires-3 Inv-loop μ-loop
@@ -194,7 +194,7 @@ next-candidate-spec =
     index-1-head
     index-2-head
     add-head
-    may-unify-requires
+    is-candidate-requires
     mul-larger
     index-1-larger
     index-2-larger
