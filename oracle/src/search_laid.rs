@@ -80,7 +80,9 @@ impl Searching for Laid {
             Ok(session) if lent.suffices(&posed.ask.limits, &counts) => session,
             _ if self.fault == Fault::Untested => return Given::Undecided { steps: 0, counts },
             _ => {
-                buffers.stack[0][0] = u32::from(self.fault == Fault::Written);
+                if self.fault == Fault::Written {
+                    buffers.stack[0][0] = 1;
+                }
                 return Given::Refused(1);
             }
         };
