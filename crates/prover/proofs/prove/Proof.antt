@@ -1,5 +1,6 @@
 -- `prove` meets its contract: what is not ready gets 1 and nothing is written; else the listed entry point answers.
 use Rattle.prover.specs.TestingLaws.{prove-unready, listed-ready, prove-ready}
+use mathlib.Core.Path.{_∙_}
 use borrow.Author.Needs.{needs}
 use Rattle.prover.proofs.prove.Statement.{statement}
 use Rattle.prover.proofs.prove.Tie as tie
@@ -20,7 +21,7 @@ same-length-4 : tie.Need-same-length-4
 same-length-4 c = search needs
 
 same-length-5 : tie.Need-same-length-5
-same-length-5 c = search needs
+same-length-5 c = c .before .before .is-ready .kept .1 .1 .1 .1 .1 .1 .1 .1 .1 .1 .1 .1 .1 .1 .0
 
 same-length-6 : tie.Need-same-length-6
 same-length-6 c = search needs
@@ -42,25 +43,36 @@ prove-listed-requires c κs =
     listed-ready (entry .args .steps) (entry .args .depth) (at-is-ready .is-ready .ensures) (at-if1 .if1 .left)
 
 same-length-8 : tie.Need-same-length-8
-same-length-8 c = search needs
+same-length-8 c =
+    c .before .before .before .before .before .before .before .before .prove-listed .kept .1 .1 .1 .1 .1 .1 .1 .1 .1 .1 .1 .0
 
 same-length-9 : tie.Need-same-length-9
-same-length-9 c = search needs
+same-length-9 c =
+    c .before .before .before .before .before .before .before .before .prove-listed .kept .1 .1 .1 .1 .1 .1 .1 .1 .1 .1 .1 .1 .0
 
 same-length-10 : tie.Need-same-length-10
-same-length-10 c = search needs
+same-length-10 c =
+    c .before .before .before .before .before .before .before .before .prove-listed .kept .1 .1 .1 .1 .1 .1 .1 .1 .1 .1 .1 .1 .1 .0
 
 same-length-11 : tie.Need-same-length-11
-same-length-11 c = search needs
+same-length-11 c =
+    c .before .before .before .before .before .before .before .before .prove-listed .kept .1 .1 .1 .1 .1 .1 .1 .1 .1 .1 .1 .1 .1 .1 .1 .0
 
 same-length-12 : tie.Need-same-length-12
-same-length-12 c = search needs
+same-length-12 c =
+    let at-prove-listed = c .before .before .before .before .before .before .before .before in
+    let at-is-ready = at-prove-listed .before .before .before .before .before .before .before .before .before .before in
+    at-prove-listed .prove-listed .kept .1 .1 .1 .1 .1 .1 .1 .1 .1 .1 .1 .1 .1 .1 .1 .1 .0 ∙ at-is-ready .is-ready .kept .1 .1 .1 .1 .1 .1 .1 .1 .1 .1 .1 .1 .1 .1 .0
 
 same-length-13 : tie.Need-same-length-13
-same-length-13 c = search needs
+same-length-13 c =
+    let at-prove-listed = c .before .before .before .before .before .before .before .before in
+    at-prove-listed .prove-listed .kept .1 .1 .1 .1 .1 .1 .1 .1 .1 .1 .1 .1 .1 .1 .1 .1 .1 .0
 
 same-length-14 : tie.Need-same-length-14
-same-length-14 c = search needs
+same-length-14 c =
+    let at-prove-listed = c .before .before .before .before .before .before .before .before in
+    at-prove-listed .prove-listed .kept .1 .1 .1 .1 .1 .1 .1 .1 .1 .1 .1 .1 .1 .1 .1 .1 .1 .1 .0
 
 returns-2 : tie.Need-returns-2
 returns-2 c =

@@ -43,10 +43,10 @@ search-goal-requires c κs =
     (at-answer (at-prepare .prepare .ensures) (at-goal .goal .given .1)) (allowed-is _ _ (at-capped .capped .ensures))
 
 same-length : tie.Need-same-length
-same-length c = search needs
+same-length c = c .before .before .before .before .before .before .prepare .kept .1 .1 .1 .1 .1 .1 .0
 
 same-length-2 : tie.Need-same-length-2
-same-length-2 c = search needs
+same-length-2 c = c .before .before .before .before .before .before .prepare .kept .1 .1 .1 .1 .1 .1 .1 .0
 
 returns-2 : tie.Need-returns-2
 returns-2 c =
@@ -59,25 +59,33 @@ returns-2 c =
     (at-answer (at-prepare .prepare .ensures) (at-number .number .given .1))
 
 same-length-3 : tie.Need-same-length-3
-same-length-3 c = search needs
+same-length-3 c =
+    let at-search-goal = c .before .before .before .before .before .before .before .before in
+    let at-prepare = at-search-goal .before .before .before .before .before .before .before .before .before .before .before .before .before .before in
+    at-search-goal .search-goal .kept .1 .1 .1 .0 ∙ at-prepare .prepare .kept .1 .1 .1 .1 .1 .1 .0
 
 same-length-4 : tie.Need-same-length-4
-same-length-4 c = search needs
+same-length-4 c =
+    let at-search-goal = c .before .before .before .before .before .before .before .before in
+    let at-prepare = at-search-goal .before .before .before .before .before .before .before .before .before .before .before .before .before .before in
+    at-search-goal .search-goal .kept .1 .1 .1 .1 .0 ∙ at-prepare .prepare .kept .1 .1 .1 .1 .1 .1 .1 .0
 
 same-length-5 : tie.Need-same-length-5
-same-length-5 c = search needs
+same-length-5 c = c .before .before .before .before .before .before .before .before .search-goal .kept .1 .1 .1 .1 .1 .0
 
 same-length-6 : tie.Need-same-length-6
-same-length-6 c = search needs
+same-length-6 c = c .before .before .before .before .before .before .before .before .search-goal .kept .1 .1 .1 .1 .1 .1 .0
 
 same-length-7 : tie.Need-same-length-7
-same-length-7 c = search needs
+same-length-7 c = c .before .before .before .before .before .before .before .before .search-goal .kept .1 .1 .1 .1 .1 .1 .1 .0
 
 same-length-8 : tie.Need-same-length-8
-same-length-8 c = search needs
+same-length-8 c =
+    c .before .before .before .before .before .before .before .before .search-goal .kept .1 .1 .1 .1 .1 .1 .1 .1 .0
 
 same-length-9 : tie.Need-same-length-9
-same-length-9 c = search needs
+same-length-9 c =
+    c .before .before .before .before .before .before .before .before .search-goal .kept .1 .1 .1 .1 .1 .1 .1 .1 .1 .0
 
 returns-3 : tie.Need-returns-3
 returns-3 c =

@@ -1,5 +1,6 @@
 -- `search_goal` meets its contract: one law for each answer of the depth bounds.
 use Rattle.prover.specs.SearchingLaws.{left-refused, left-proved, left-nothing, left-undecided}
+use mathlib.Core.Path.{_∙_}
 use borrow.Author.Needs.{needs}
 use Rattle.prover.proofs.searching.search_goal.Statement.{statement}
 use Rattle.prover.proofs.searching.search_goal.Tie as tie
@@ -35,25 +36,38 @@ clear-requires-3 : tie.Need-clear-requires-3
 clear-requires-3 c κs = search needs
 
 same-length : tie.Need-same-length
-same-length c = search needs
+same-length c = c .before .before .before .before .before .clear-names .kept .0
 
 same-length-2 : tie.Need-same-length-2
-same-length-2 c = search needs
+same-length-2 c =
+    let at-clear = c .before .before in
+    let at-prove = at-clear .before .before .before .before .before .before .before .before .before .before .before .before .before .before .before in
+    at-clear .clear .kept .0 ∙ at-prove .prove .kept .1 .1 .1 .0
 
 same-length-3 : tie.Need-same-length-3
-same-length-3 c = search needs
+same-length-3 c =
+    let at-prove = c .before .before .before .before .before .before .before .before .before .before .before .before .before .before .before .before .before in
+    at-prove .prove .kept .1 .1 .1 .1 .0
 
 same-length-4 : tie.Need-same-length-4
-same-length-4 c = search needs
+same-length-4 c =
+    let at-prove = c .before .before .before .before .before .before .before .before .before .before .before .before .before .before .before .before .before in
+    at-prove .prove .kept .1 .1 .1 .1 .1 .0
 
 same-length-5 : tie.Need-same-length-5
-same-length-5 c = search needs
+same-length-5 c =
+    let at-prove = c .before .before .before .before .before .before .before .before .before .before .before .before .before .before .before .before .before in
+    at-prove .prove .kept .1 .1 .1 .1 .1 .1 .0
 
 same-length-6 : tie.Need-same-length-6
-same-length-6 c = search needs
+same-length-6 c =
+    let at-prove = c .before .before .before .before .before .before .before .before .before .before .before .before .before .before .before .before .before in
+    at-prove .prove .kept .1 .1 .1 .1 .1 .1 .1 .0
 
 same-length-7 : tie.Need-same-length-7
-same-length-7 c = search needs
+same-length-7 c =
+    let at-prove = c .before .before .before .before .before .before .before .before .before .before .before .before .before .before .before .before .before in
+    at-prove .prove .kept .1 .1 .1 .1 .1 .1 .1 .1 .0
 
 returns : tie.Need-returns
 returns c =
@@ -66,22 +80,26 @@ returns c =
     (at-enum-told .enum-told .given .1) (at-clear-names .clear-names .ensures) (at-clear .clear .ensures)
 
 same-length-8 : tie.Need-same-length-8
-same-length-8 c = search needs
+same-length-8 c = c .before .before .before .before .before .before .before .before .before .before .prove .kept .1 .1 .1 .0
 
 same-length-9 : tie.Need-same-length-9
-same-length-9 c = search needs
+same-length-9 c = c .before .before .before .before .before .before .before .before .before .before .prove .kept .1 .1 .1 .1 .0
 
 same-length-10 : tie.Need-same-length-10
-same-length-10 c = search needs
+same-length-10 c =
+    c .before .before .before .before .before .before .before .before .before .before .prove .kept .1 .1 .1 .1 .1 .0
 
 same-length-11 : tie.Need-same-length-11
-same-length-11 c = search needs
+same-length-11 c =
+    c .before .before .before .before .before .before .before .before .before .before .prove .kept .1 .1 .1 .1 .1 .1 .0
 
 same-length-12 : tie.Need-same-length-12
-same-length-12 c = search needs
+same-length-12 c =
+    c .before .before .before .before .before .before .before .before .before .before .prove .kept .1 .1 .1 .1 .1 .1 .1 .0
 
 same-length-13 : tie.Need-same-length-13
-same-length-13 c = search needs
+same-length-13 c =
+    c .before .before .before .before .before .before .before .before .before .before .prove .kept .1 .1 .1 .1 .1 .1 .1 .1 .0
 
 returns-2 : tie.Need-returns-2
 returns-2 c =
@@ -92,22 +110,35 @@ returns-2 c =
     _ _ _ _ _ (at-nodes .nodes .given .1)
 
 same-length-14 : tie.Need-same-length-14
-same-length-14 c = search needs
+same-length-14 c =
+    let at-clear2 = c .before .before in
+    let at-prove = at-clear2 .before .before .before .before .before .before .before .before .before .before .before .before in
+    at-clear2 .clear2 .kept .0 ∙ at-prove .prove .kept .1 .1 .1 .0
 
 same-length-15 : tie.Need-same-length-15
-same-length-15 c = search needs
+same-length-15 c =
+    let at-prove = c .before .before .before .before .before .before .before .before .before .before .before .before .before .before in
+    at-prove .prove .kept .1 .1 .1 .1 .0
 
 same-length-16 : tie.Need-same-length-16
-same-length-16 c = search needs
+same-length-16 c =
+    let at-prove = c .before .before .before .before .before .before .before .before .before .before .before .before .before .before in
+    at-prove .prove .kept .1 .1 .1 .1 .1 .0
 
 same-length-17 : tie.Need-same-length-17
-same-length-17 c = search needs
+same-length-17 c =
+    let at-prove = c .before .before .before .before .before .before .before .before .before .before .before .before .before .before in
+    at-prove .prove .kept .1 .1 .1 .1 .1 .1 .0
 
 same-length-18 : tie.Need-same-length-18
-same-length-18 c = search needs
+same-length-18 c =
+    let at-prove = c .before .before .before .before .before .before .before .before .before .before .before .before .before .before in
+    at-prove .prove .kept .1 .1 .1 .1 .1 .1 .1 .0
 
 same-length-19 : tie.Need-same-length-19
-same-length-19 c = search needs
+same-length-19 c =
+    let at-prove = c .before .before .before .before .before .before .before .before .before .before .before .before .before .before in
+    at-prove .prove .kept .1 .1 .1 .1 .1 .1 .1 .1 .0
 
 returns-3 : tie.Need-returns-3
 returns-3 c =
@@ -119,22 +150,35 @@ returns-3 c =
     _ _ (at-used .used .given .1) (at-clear2 .clear2 .ensures)
 
 same-length-20 : tie.Need-same-length-20
-same-length-20 c = search needs
+same-length-20 c =
+    let at-clear3 = c .before .before in
+    let at-prove = at-clear3 .before .before .before .before .before .before .before .before .before .before .before .before in
+    at-clear3 .clear3 .kept .0 ∙ at-prove .prove .kept .1 .1 .1 .0
 
 same-length-21 : tie.Need-same-length-21
-same-length-21 c = search needs
+same-length-21 c =
+    let at-prove = c .before .before .before .before .before .before .before .before .before .before .before .before .before .before in
+    at-prove .prove .kept .1 .1 .1 .1 .0
 
 same-length-22 : tie.Need-same-length-22
-same-length-22 c = search needs
+same-length-22 c =
+    let at-prove = c .before .before .before .before .before .before .before .before .before .before .before .before .before .before in
+    at-prove .prove .kept .1 .1 .1 .1 .1 .0
 
 same-length-23 : tie.Need-same-length-23
-same-length-23 c = search needs
+same-length-23 c =
+    let at-prove = c .before .before .before .before .before .before .before .before .before .before .before .before .before .before in
+    at-prove .prove .kept .1 .1 .1 .1 .1 .1 .0
 
 same-length-24 : tie.Need-same-length-24
-same-length-24 c = search needs
+same-length-24 c =
+    let at-prove = c .before .before .before .before .before .before .before .before .before .before .before .before .before .before in
+    at-prove .prove .kept .1 .1 .1 .1 .1 .1 .1 .0
 
 same-length-25 : tie.Need-same-length-25
-same-length-25 c = search needs
+same-length-25 c =
+    let at-prove = c .before .before .before .before .before .before .before .before .before .before .before .before .before .before in
+    at-prove .prove .kept .1 .1 .1 .1 .1 .1 .1 .1 .0
 
 returns-4 : tie.Need-returns-4
 returns-4 c =
