@@ -1,0 +1,17 @@
+-- `inst` meets its contract. The loop's invariant: writing the copied words from i on completes the copy.
+use mathlib.Core.Path.{◌≡◌, refl, sym, ◌∙◌}
+use Prim.Native.Nat.{◌≤◌, ◌-◌, ◌+◌}
+use lib.ListN.{length, length-set, drop}
+use lib.Seq.{sets}
+use Rattle.arena.specs.Copies.{copied}
+use Rattle.arena.specs.CopyLaws.{copied_length, copied_at, movable}
+use Rattle.arena.proofs.Writing.{write_step, write_end}
+use borrow.Author.Rules.{rules}
+use native.Mathlib.Omega.{arith}
+use Rattle.arena.proofs.inst.Given as goal
+
+abbrev pub invariant-loop-i : goal.invariant-loop-i
+invariant-loop-i l = (l.start ≡ l.from) × (l.end ≡ l.count) × (l.at ≡ l.used) × (l.first ≡ 64 + l.from) × (l.base ≡ l.room + l.used) × (length l.words ≡ length l.initial.words) × (l.i ≤ l.count) × (sets l.words (l.used + l.i) (drop l.i (copied l.pattern l.from l.count l.places l.room l.used l.counter)) ≡ sets l.initial.words l.used (copied l.pattern l.from l.count l.places l.room l.used l.counter))
+
+abbrev pub decreases-loop-i : goal.decreases-loop-i
+decreases-loop-i l = l.count - l.i

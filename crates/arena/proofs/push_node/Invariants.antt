@@ -1,0 +1,15 @@
+-- `push_node` meets its contract. The loop's invariant: writing the arguments from i on completes the node.
+use mathlib.Core.Path.{◌≡◌, refl, sym, ◌∙◌}
+use Prim.Native.Nat.{suc, ◌≤◌, ◌-◌, ◌+◌}
+use lib.ListN.{length, length-set, drop}
+use lib.Seq.{sets}
+use Rattle.arena.proofs.Writing.{write_step, write_end}
+use borrow.Author.Rules.{rules}
+use native.Mathlib.Omega.{arith}
+use Rattle.arena.proofs.push_node.Given as goal
+
+abbrev pub invariant-loop-i : goal.invariant-loop-i
+invariant-loop-i l = (l.at ≡ l.used) × (l.first ≡ l.used + 1) × (l.i ≤ length l.arguments) × (length l.words ≡ length l.initial.words) × (sets l.words (l.first + l.i) (drop l.i l.arguments) ≡ sets l.initial.words l.first l.arguments)
+
+abbrev pub decreases-loop-i : goal.decreases-loop-i
+decreases-loop-i l = length l.arguments - l.i

@@ -1,0 +1,16 @@
+-- `starts_with` meets its contract. The loop's invariant: w stands at the place exactly when the rest of w from i on stands i bytes further.
+use mathlib.Core.Path.{◌≡◌, sym, ◌∙◌}
+use Prim.Native.Nat.{◌+◌, ◌≤◌, ◌-◌}
+use native.Mathlib.Nat.{add-zero, add_assoc}
+use lib.ListN.{length, drop, length-drop}
+use Rattle.source_text.specs.Bytes.{starts_with}
+use Rattle.source_text.proofs.Scans.{prefix_short, prefix_next, prefix_not, prefix_end}
+use borrow.Author.Rules.{rules}
+use native.Mathlib.Omega.{arith}
+use Rattle.source_text.proofs.bytes.starts_with.Given as goal
+
+abbrev pub invariant-loop-i : goal.invariant-loop-i
+invariant-loop-i l = (l.i ≤ length l.w) × (l.at + length l.w ≤ length l.text) × (starts_with l.w (drop l.at l.text) ≡ starts_with (drop l.i l.w) (drop (l.at + l.i) l.text))
+
+abbrev pub decreases-loop-i : goal.decreases-loop-i
+decreases-loop-i l = length l.w - l.i

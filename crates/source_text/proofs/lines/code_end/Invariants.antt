@@ -1,0 +1,15 @@
+-- `code_end` meets its contract. The loop's invariant: the code's end is as far from i as the end of the code that starts at i.
+use mathlib.Core.Path.{◌≡◌, refl, sym, ◌∙◌}
+use Prim.Native.Nat.{◌≤◌, ◌-◌, ◌+◌}
+use lib.ListN.{length, drop}
+use Rattle.source_text.specs.Lines.{line_of, code_of}
+use Rattle.source_text.proofs.Scans.{code_next, code_stop, code_past}
+use borrow.Author.Rules.{rules}
+use native.Mathlib.Omega.{arith}
+use Rattle.source_text.proofs.lines.code_end.Given as goal
+
+abbrev pub invariant-loop-i : goal.invariant-loop-i
+invariant-loop-i l = (l.at ≤ l.i) × (l.i ≤ length l.text) × (l.at + length (code_of (line_of (drop l.at l.text))) ≡ l.i + length (code_of (line_of (drop l.i l.text))))
+
+abbrev pub decreases-loop-i : goal.decreases-loop-i
+decreases-loop-i l = length l.text - l.i
