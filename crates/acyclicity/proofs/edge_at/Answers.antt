@@ -1,0 +1,60 @@
+-- `edge_at` meets its contract: each way out is one case of the definition, and a reference's words are within the slices.
+use Prim.Native.Nat.{◌+◌, ◌-◌, suc}
+use native.Mathlib.Numerals.{add-one}
+use mathlib.Core.Path.{◌≡◌, sym}
+use Rattle.arena.specs.Cells.{cells}
+use Rattle.arena.specs.Rows.{column}
+use Rattle.acyclicity.proofs.EdgeLaws.{edge_variable, edge_second, edge_argument, edge_past, variable_row, node_words, argument_small}
+use native.Mathlib.Omega.{arith}
+use borrow.Author.Rules.{rules}
+use Rattle.acyclicity.proofs.edge_at.Goals as goal
+
+pub bounds-bindings-reference : goal.bounds-bindings-reference
+bounds-bindings-reference c = variable_row c.requires.stored c.requires.reference c.if-reference-limit.true
+
+pub returns-then-i-eq0 : goal.returns-then-i-eq0
+returns-then-i-eq0 c =
+    let args = c.args in
+    let if1 = c.if-reference-limit in
+    let if2 = c.if-i-eq0 in
+    sym (edge_variable args.limit (cells args.words.now) (column 0 args.bindings.now) args.reference args.i if1.true if2.true)
+
+pub returns-then-reference-limit : goal.returns-then-reference-limit
+returns-then-reference-limit c =
+    let args = c.args in
+    let if1 = c.if-reference-limit in
+    let if2 = c.if-i-eq0 in
+    sym (edge_second args.limit (cells args.words.now) (column 0 args.bindings.now) args.reference args.i if1.true if2.false)
+
+pub bounds-words-address : goal.bounds-words-address
+bounds-words-address c = let n = node_words c.requires.stored c.requires.reference c.if-reference-limit.false in omega arith
+
+pub bounds-words-address-then-i-arity : goal.bounds-words-address-then-i-arity
+bounds-words-address-then-i-arity c =
+    let n = node_words c.requires.stored c.requires.reference c.if-reference-limit.false in
+    omega arith
+
+pub overflow_add-result-then-i-arity-2 : goal.overflow_add-result-then-i-arity-2
+overflow_add-result-then-i-arity-2 c =
+    let pre = c.requires in
+    let args = c.args in
+    let if1 = c.if-reference-limit in
+    let if3 = c.if-i-arity in
+    let n = argument_small pre.stored args.i pre.reference if1.false if3.true in
+    let e : args.reference - args.limit + 1 + args.i ≡ args.reference - args.limit + suc args.i = omega arith in
+    rw e (omega arith)
+
+pub returns-then-i-arity : goal.returns-then-i-arity
+returns-then-i-arity c =
+    let args = c.args in
+    let if1 = c.if-reference-limit in
+    let if3 = c.if-i-arity in
+    let e : args.reference - args.limit + 1 + args.i ≡ args.reference - args.limit + suc args.i = omega arith in
+    rw (add-one, e) (sym (edge_argument args.limit (cells args.words.now) (column 0 args.bindings.now) args.reference args.i if1.false if3.true))
+
+pub returns : goal.returns
+returns c =
+    let args = c.args in
+    let if1 = c.if-reference-limit in
+    let if3 = c.if-i-arity in
+    sym (edge_past args.limit (cells args.words.now) (column 0 args.bindings.now) args.reference args.i if1.false if3.false)

@@ -1,0 +1,47 @@
+-- `check_bindings` meets its contract: its parts hold together exactly where the rows are in form.
+use mathlib.Core.Path.{refl, sym, subst}
+use Rattle.bindings.specs.Promises.{Free}
+use Rattle.bindings.specs.Checking.{checked_no, checked_last, trailed_stored, tells_false, form_trailed, form_few}
+use native.Mathlib.Omega.{arith}
+use borrow.Author.Rules.{rules}
+use Rattle.bindings.proofs.check_bindings.Goals as goal
+
+pub returns-then-b-variables : goal.returns-then-b-variables
+returns-then-b-variables c = checked_no (λ f. let l = f.lent_rows in omega arith) _ refl
+
+pub returns-then-variables-k : goal.returns-then-variables-k
+returns-then-variables-k c = checked_no (λ f. let l = form_few f in omega arith) _ refl
+
+pub check_trail-requires : goal.check_trail-requires
+check_trail-requires c = let a = c.requires.fact_2 in record { fact_1 = (a.2, omega arith, omega arith, a.0); fact_2 = c.requires.fact_3 }
+
+pub is_acyclic-requires : goal.is_acyclic-requires
+is_acyclic-requires c =
+    let pre = c.requires in
+    let check-trail = c.check_trail in
+    let if3 = c.if-check_trail in
+    let args = c.args in
+    let free = subst (Free args.room args.used) (sym check-trail.ensures.marks) pre.fact_3 in
+    record {
+      stored = trailed_stored pre.fact_1 pre.fact_2 (search rules) (check-trail.ensures.tells.yes if3.true);
+      long = free.lent;
+      zeros = free.empty;
+    }
+
+pub returns-then-check_rest : goal.returns-then-check_rest
+returns-then-check_rest c =
+    let pre = c.requires in
+    let check-trail = c.check_trail in
+    let if3 = c.if-check_trail in
+    let check-rest = c.check_rest in
+    let if4 = c.if-check_rest in
+    let is-acyclic = c.is_acyclic in
+    checked_last pre.fact_1 pre.fact_2 (search rules) check-trail.ensures if3.true check-rest.ensures if4.true is-acyclic.ensures
+
+pub returns-then-check_trail : goal.returns-then-check_trail
+returns-then-check_trail c =
+    checked_no (λ f. tells_false c.check_rest.ensures c.if-check_rest.false f.rest) _ c.check_trail.ensures.marks
+
+pub returns : goal.returns
+returns c =
+    checked_no (λ f. tells_false c.check_trail.ensures.tells c.if-check_trail.false (form_trailed f)) _ c.check_trail.ensures.marks

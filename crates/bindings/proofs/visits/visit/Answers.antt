@@ -1,0 +1,34 @@
+-- `visit` meets its contract: an unmarked reference is entered, and for it the list has room.
+use Rattle.bindings.specs.Entries.{entries_room}
+use Rattle.bindings.specs.Search.{mark_one, mark_none}
+use native.Mathlib.Omega.{arith}
+use borrow.Author.Rules.{rules}
+use Rattle.bindings.proofs.visits.visit.Goals as goal
+
+pub enter-requires : goal.enter-requires
+enter-requires c =
+    let pre = c.requires in
+    let args = c.args in
+    let if1 = c.if-m-i-eq0 in
+    let room = entries_room pre.fact_1 args.y pre.fact_2.0 if1.true in
+    let a = pre.fact_2.1 in
+    (omega arith, omega arith)
+
+pub overflow_add-result : goal.overflow_add-result
+overflow_add-result c =
+    let pre = c.requires in
+    let args = c.args in
+    let if1 = c.if-m-i-eq0 in
+    let room = entries_room pre.fact_1 args.y pre.fact_2.0 if1.true in
+    omega arith
+
+pub returns-then-m-i-eq0 : goal.returns-then-m-i-eq0
+returns-then-m-i-eq0 c =
+    let args = c.args in
+    let pre = c.requires in
+    let if1 = c.if-m-i-eq0 in
+    let enter = c.enter in
+    mark_one _ _ args.t args.y pre.fact_1 pre.fact_2.0 pre.fact_2.1 if1.true enter.ensures
+
+pub returns : goal.returns
+returns c = mark_none _ _ c.args.t c.requires.fact_1 (λ y e. rw e c.if-m-i-eq0.false)

@@ -1,0 +1,12 @@
+-- `walk` meets its contract. The loop's invariant: from q on the values lead where they lead from r; the bindings still to meet grow fewer.
+use Rattle.bindings.specs.Stored.{free, node}
+use Rattle.bindings.specs.Walking.{Walking, ahead, walk_in, walk_next, walk_less, walk_end}
+use borrow.Author.Rules.{rules}
+use native.Mathlib.Omega.{arith}
+use Rattle.bindings.proofs.walk.Given as goal
+
+abbrev pub invariant-loop-q : goal.invariant-loop-q
+invariant-loop-q l = Walking l.room l.w l.b l.variables l.used l.k l.r l.q
+
+abbrev pub decreases-loop-q : goal.decreases-loop-q
+decreases-loop-q l = ahead l.room l.w l.b l.k l.q

@@ -1,0 +1,11 @@
+-- `peek` meets its contract.
+use mathlib.Core.Path.{sym}
+use Rattle.term_parser.proofs.TokenLaws.{token_in, token_out}
+use borrow.Author.Rules.{rules}
+use Rattle.term_parser.proofs.tokens.peek.Goals as goal
+
+pub returns-then-at-tokens : goal.returns-then-at-tokens
+returns-then-at-tokens c = sym (token_in _ _ c.if-at-tokens.true)
+
+pub returns : goal.returns
+returns c = sym (token_out _ _ c.if-at-tokens.false)

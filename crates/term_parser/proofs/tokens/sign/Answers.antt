@@ -1,0 +1,46 @@
+-- `sign` meets its contract.
+use mathlib.Core.Path.{◌≡◌, sym, ap, ◌∙◌}
+use lib.ListN.{drop}
+use Rattle.term_parser.specs.Parsing.{kind_of, last_line}
+use native.Mathlib.Omega.{arith}
+use Rattle.term_parser.specs.Promises.{signed}
+use Rattle.term_parser.specs.declared.Step.TheVariants.{Refused}
+use Rattle.term_parser.specs.declared.Refusal.TheVariants.{SignExpected}
+use Rattle.term_parser.proofs.TokenLaws.{token_there, sign_there, sign_not}
+use borrow.Author.Rules.{rules}
+use Rattle.term_parser.proofs.tokens.sign.Goals as goal
+
+pub overflow_add-result : goal.overflow_add-result
+overflow_add-result c =
+    let args = c.args in
+    let peek = c.peek in
+    let if1 = c.if-peek-kind in
+    let pre = c.requires in
+    let e : kind_of (drop (args.at) (args.tokens.now)) ≡ args.kind = sym (ap (λ t. t.kind) peek.ensures) ∙ if1.true in
+    let h = token_there (args.tokens.now) (args.at) (omega (arith, pre)) in
+    omega (arith, pre)
+
+pub returns-then-peek-kind : goal.returns-then-peek-kind
+returns-then-peek-kind c =
+    let args = c.args in
+    let peek = c.peek in
+    let if1 = c.if-peek-kind in
+    let pre = c.requires in
+    let e : kind_of (drop (args.at) (args.tokens.now)) ≡ args.kind = sym (ap (λ t. t.kind) peek.ensures) ∙ if1.true in
+    let h = token_there (args.tokens.now) (args.at) (omega (arith, pre)) in
+    record {
+      is = sym (ap (signed (args.at) (args.used)) (sign_there (last_line (args.tokens.now)) (args.kind) (drop (args.at) (args.tokens.now)) e));
+      within = (omega arith, omega arith, omega arith, omega arith);
+    }
+
+pub returns : goal.returns
+returns c =
+    let line = c.line in
+    let args = c.args in
+    let if1 = c.if-peek-kind in
+    let peek = c.peek in
+    record {
+      is = ap (Refused SignExpected) line.ensures
+          ∙ sym (ap (signed (args.at) (args.used)) (sign_not (last_line (args.tokens.now)) (args.kind) (drop (args.at) (args.tokens.now)) (λ e. if1.false (ap (λ t. t.kind) peek.ensures ∙ e))));
+      within = tt;
+    }

@@ -1,0 +1,20 @@
+-- `read_code` meets its contract. The loop's invariant: the rows before n, and then the reading of the code from `at` on, come to the whole reading;
+-- there is no more than one row for each byte passed.
+use mathlib.Core.Path.{◌≡◌, refl, sym, ap, ◌∙◌}
+use mathlib.Core.List.{[], ◌∷◌}
+use Prim.Native.Nat.{◌≤◌, ◌<◌, ◌-◌, ◌+◌}
+use native.Mathlib.Nat.{add-zero}
+use lib.ListN.{length, drop, take, length-set}
+use Rattle.words.specs.Tokens.{and_then, read_after}
+use Rattle.words.specs.Tokens.Reading.{tokens}
+use Rattle.words.specs.declared.tokens.Item.TheVariants.{Token}
+use Rattle.words.proofs.Readings.{item_within, read_end, read_blank, read_token, read_refused, push_row}
+use borrow.Author.Rules.{rules}
+use native.Mathlib.Omega.{arith}
+use Rattle.words.proofs.tokens.read_code.Given as goal
+
+abbrev pub invariant-loop-at : goal.invariant-loop-at
+invariant-loop-at l = (l.at ≤ length l.code) × (l.n ≤ l.start + l.at) × (length l.rows ≡ length l.initial.rows) × (and_then (tokens (take l.count l.initial.rows)) (read_after l.code 0 l.start l.number) ≡ and_then (tokens (take l.n l.rows)) (read_after (drop l.at l.code) 0 (l.start + l.at) l.number))
+
+abbrev pub decreases-loop-at : goal.decreases-loop-at
+decreases-loop-at l = length l.code - l.at

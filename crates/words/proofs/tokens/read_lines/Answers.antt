@@ -1,0 +1,131 @@
+-- `read_lines` meets its contract. The loop's invariant: the rows before `count`, and then the reading of the lines from `at` on, come to the whole reading;
+-- there is no more than one row for each byte passed.
+use mathlib.Core.Path.{◌≡◌, refl, sym, ap, ◌∙◌}
+use Prim.Native.Nat.{◌≤◌, ◌-◌, ◌+◌}
+use lib.ListN.{length, drop, take}
+use Rattle.source_text.specs.Lines.{lines}
+use Rattle.words.specs.Tokens.{and_then, read_lines}
+use Rattle.words.specs.Rows.{outcome}
+use Rattle.words.specs.Lexer.{count_of}
+use Rattle.words.specs.Tokens.Reading.{tokens}
+use Rattle.source_text.proofs.Scans.{code_fits, part_long, code_within, line_within}
+use Rattle.words.proofs.Readings.{then_nil, then_end, line_read, lines_past, stopped}
+use borrow.Author.Rules.{rules}
+use native.Mathlib.Omega.{arith}
+use Rattle.words.proofs.tokens.read_lines.Goals as goal
+
+pub loop-at-init : goal.loop-at-init
+loop-at-init c = (search rules, search rules, search rules, refl, sym (then_nil _))
+
+pub slice_bounds-read_code-count : goal.slice_bounds-read_code-count
+slice_bounds-read_code-count c =
+    omega (arith, code_fits c.args.text.now c.loop-at.at c.code_end-end.result c.loop-at-test.true c.code_end-end.ensures)
+
+pub slice_bounds-read_code-start : goal.slice_bounds-read_code-start
+slice_bounds-read_code-start c =
+    omega (arith, code_fits c.args.text.now c.loop-at.at c.code_end-end.result c.loop-at-test.true c.code_end-end.ensures)
+
+pub slice_bounds-read_code-end : goal.slice_bounds-read_code-end
+slice_bounds-read_code-end c =
+    omega (arith, code_fits c.args.text.now c.loop-at.at c.code_end-end.result c.loop-at-test.true c.code_end-end.ensures)
+
+pub read_code-read-requires : goal.read_code-read-requires
+read_code-read-requires c =
+    let code-end = c.code_end-end in
+    let loop = c.loop-at in
+    let args = c.args in
+    let loop-test = c.loop-at-test in
+    let class-table = c.class_table-classes in
+    let pre = c.requires in
+    let long : length (take (code-end.result - loop.at) (drop loop.at args.text.now)) ≡ code-end.result - loop.at = part_long args.text.now loop.at code-end.result (code_fits args.text.now loop.at code-end.result loop-test.true code-end.ensures) in
+    record {
+      table = class-table.ensures;
+      below = loop.invariant.1;
+      lent = omega (arith, pre, loop.invariant, code_fits args.text.now loop.at code-end.result loop-test.true code-end.ensures);
+      small = omega (arith, pre, code_fits args.text.now loop.at code-end.result loop-test.true code-end.ensures);
+    }
+
+pub shape_of-rows-in_default : goal.shape_of-rows-in_default
+shape_of-rows-in_default c = c.read_code-read.ensures.long ∙ c.loop-at.invariant.3
+
+pub returns-in_default : goal.returns-in_default
+returns-in_default c =
+    let code-end = c.code_end-end in
+    let loop = c.loop-at in
+    let args = c.args in
+    let loop-test = c.loop-at-test in
+    let read-code = c.read_code-read in
+    let long : length (take (code-end.result - loop.at) (drop loop.at args.text.now)) ≡ code-end.result - loop.at = part_long args.text.now loop.at code-end.result (code_fits args.text.now loop.at code-end.result loop-test.true code-end.ensures) in
+    record {
+      reads = sym (then_nil _
+          ∙ line_read args.text.now loop.at code-end.result _ loop.number loop-test.true code-end.ensures refl _ (take loop.count loop.rows) (outcome read-code.result read-code.new.rows) loop.invariant.4 read-code.ensures.reads
+          ∙ stopped read-code.result read-code.new.rows _ _ _ c.in_default.is);
+      fits = omega (arith, read-code.ensures.fits, code_fits args.text.now loop.at code-end.result loop-test.true code-end.ensures);
+      long = read-code.ensures.long ∙ loop.invariant.3;
+    }
+
+pub line_end-at-requires : goal.line_end-at-requires
+line_end-at-requires c =
+    let args = c.args in
+    let loop = c.loop-at in
+    let code-end = c.code_end-end in
+    let loop-test = c.loop-at-test in
+    omega (arith, code_fits args.text.now loop.at code-end.result loop-test.true code-end.ensures)
+
+pub overflow_add-at : goal.overflow_add-at
+overflow_add-at c =
+    let args = c.args in
+    let loop = c.loop-at in
+    let code-end = c.code_end-end in
+    let line-end = c.line_end-at in
+    let loop-test = c.loop-at-test in
+    omega (arith, line_within args.text.now loop.at code-end.result line-end.result loop-test.true code-end.ensures line-end.ensures)
+
+pub overflow_add-number : goal.overflow_add-number
+overflow_add-number c =
+    let loop = c.loop-at in
+    let pre = c.requires in
+    omega (arith, loop.invariant, pre)
+
+pub loop-at-smaller : goal.loop-at-smaller
+loop-at-smaller c =
+    let args = c.args in
+    let loop = c.loop-at in
+    let code-end = c.code_end-end in
+    let line-end = c.line_end-at in
+    let loop-test = c.loop-at-test in
+    omega (arith, code_within args.text.now loop.at code-end.result line-end.result loop-test.true code-end.ensures line-end.ensures)
+
+pub loop-at-preserved : goal.loop-at-preserved
+loop-at-preserved c =
+    let code-end = c.code_end-end in
+    let loop = c.loop-at in
+    let args = c.args in
+    let loop-test = c.loop-at-test in
+    let read-code = c.read_code-read in
+    let line-end = c.line_end-at in
+    let long : length (take (code-end.result - loop.at) (drop loop.at args.text.now)) ≡ code-end.result - loop.at = part_long args.text.now loop.at code-end.result (code_fits args.text.now loop.at code-end.result loop-test.true code-end.ensures) in
+    let counted : count_of read-code.result ≡ c.in-Tokens.n = ap count_of c.in-Tokens.is in (
+      omega (arith, loop.invariant, code_within args.text.now loop.at code-end.result line-end.result loop-test.true code-end.ensures line-end.ensures),
+      omega (arith, read-code.ensures.fits, code_fits args.text.now loop.at code-end.result loop-test.true code-end.ensures, code_within args.text.now loop.at code-end.result line-end.result loop-test.true code-end.ensures line-end.ensures),
+      omega (arith, read-code.ensures.fits, code_fits args.text.now loop.at code-end.result loop-test.true code-end.ensures),
+      read-code.ensures.long
+          ∙ loop.invariant.3,
+      line_read args.text.now loop.at code-end.result line-end.result loop.number loop-test.true code-end.ensures line-end.ensures _ (take loop.count loop.rows) (outcome read-code.result read-code.new.rows) loop.invariant.4 read-code.ensures.reads
+          ∙ ap (λ l. and_then (outcome l read-code.new.rows) (read_lines (lines (drop (line-end.result + 1) args.text.now)) (line-end.result + 1) (loop.number + 1))) c.in-Tokens.is,
+    )
+
+pub shape_of-rows : goal.shape_of-rows
+shape_of-rows c = c.loop-at.invariant.3
+
+pub returns : goal.returns
+unfolding read_lines
+returns c =
+    let loop = c.loop-at in
+    let args = c.args in
+    let loop-test = c.loop-at-test in
+    record {
+      reads = sym (then_nil _ ∙ loop.invariant.4 ∙ simp (lines_past args.text.now loop.at loop-test.false, then_end));
+      fits = loop.invariant.2;
+      long = loop.invariant.3;
+    }
