@@ -6,7 +6,7 @@ use Prim.Native.Nat.{ℕ, zero, suc, ◌+◌, ◌-◌, ◌≤◌, ◌<◌}
 use native.Mathlib.Omega.{arith}
 use lib.ListN.{length, take, drop, length-append, length-drop}
 use lib.Seq.{drop-drop}
-use types.Run.{OneOf}
+use borrow.Enum.Refused.{Among, opened}
 use denote.Enum.Declared.{tag_of}
 use Rattle.term_parser.specs.contracts.Step.{the_type}
 use Rattle.term_parser.specs.declared.Refusal.{Refusal}
@@ -34,8 +34,8 @@ Stopped (At next used n) = ⊥
 Stopped Absent = Unit {0}
 Stopped (Refused r line) = Unit {0}
 
-pub stopped : (r : Step) → OneOf (1 ∷ 2 ∷ []) (tag_of the_type r) → Stopped r
-stopped (At next used n) h = ⊎_elim no_path (λ z. absurd (let w : ◌≡◌ {A = ℕ} 0 2 = z in omega arith)) h
+pub stopped : (r : Step) → Among (1 ∷ 2 ∷ []) (tag_of the_type r) → Stopped r
+stopped (At next used n) h = ⊎_elim no_path (λ z. absurd (let w : ◌≡◌ {A = ℕ} 0 2 = z in omega arith)) (opened h)
 stopped Absent h = tt
 stopped (Refused r line) h = tt
 

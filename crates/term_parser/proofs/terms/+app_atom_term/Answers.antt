@@ -1,0 +1,242 @@
+-- `atom`, `app` and `term` call each other in turn: the tokens left fall, and with the same tokens left the rank of the three.
+use Prim.Native.Nat.{◌+◌, ◌*◌, ◌-◌}
+use mathlib.Core.Path.{refl, sym, ap, ◌∙◌}
+use native.Mathlib.Omega.{arith}
+use lib.ListN.{length}
+use Rattle.term_parser.proofs.TokenLaws.{token_there}
+use Rattle.term_parser.proofs.Readers.{stopped, moved}
+use Rattle.term_parser.proofs.TermLaws.{room_on, there, is_name, is_meta, is_numeral_lem, is_open, is_none, too_deep, inner_stopped, inner_closed, Atoms, atoms_start, atoms_room, atoms_from, atoms_past, atoms_few, atoms_length, atoms_turn, atoms_none, atoms_applied, atoms_refused, term_stopped, term_plain, second_stopped, root_room, term_equated}
+use borrow.Author.Rules.{rules}
+use Prim.Native.Nat.{ℕ, ◌<◌}
+use Rattle.term_parser.proofs.terms.+app_atom_term.Goals as goal
+
+pub app-loop-q-init : goal.app-loop-q-init
+app-loop-q-init t c = atoms_start (c.args.text.now) (c.args.tokens.now) (c.args.left)
+
+pub app-atom-requires : goal.app-atom-requires
+app-atom-requires t c = let args = c.args in let pre = c.requires in let loop = c.loop-q in (let f = atoms_from (args.text.now) (args.tokens.now) (args.left) (pre) (loop.invariant) in omega (arith, f), atoms_room (args.text.now) (args.tokens.now) (args.left) (pre) (loop.invariant))
+
+pub app-overflow_add-n : goal.app-overflow_add-n
+app-overflow_add-n t c = let args = c.args in let pre = c.requires in let loop = c.loop-q in let f = atoms_few (args.text.now) (args.tokens.now) (args.left) (pre) (loop.invariant) in let r = atoms_room (args.text.now) (args.tokens.now) (args.left) (pre) (loop.invariant) in omega (arith, f, r.here, (pre.small))
+
+pub app-loop-q-smaller : goal.app-loop-q-smaller
+app-loop-q-smaller t c = let m = moved (c.atom.ensures) (c.in-At.is) in omega (arith, m)
+
+pub app-loop-q-preserved : goal.app-loop-q-preserved
+app-loop-q-preserved t c = let args = c.args in let pre = c.requires in let atom = c.atom in let loop = c.loop-q in atoms_turn (args.text.now) (args.tokens.now) (args.left) (pre) (atom.ensures) (loop.invariant) (c.in-At.is) (atom.auto.out)
+
+pub app-shape_of-out-then-n-eq0 : goal.app-shape_of-out-then-n-eq0
+app-shape_of-out-then-n-eq0 t c = let atom = c.atom in let args = c.args in let pre = c.requires in let loop = c.loop-q in (atom.auto.out) ∙ atoms_length (args.text.now) (args.tokens.now) (args.left) (pre) (loop.invariant)
+
+pub app-returns-then-n-eq0 : goal.app-returns-then-n-eq0
+app-returns-then-n-eq0 t c = let args = c.args in let pre = c.requires in let atom = c.atom in let loop = c.loop-q in let if1 = c.if-n-eq0 in let line = c.line in atoms_none (args.text.now) (args.tokens.now) (args.left) (pre) (atom.ensures) (loop.invariant) (c.in-Absent.is) (if1.true) (line.ensures)
+
+pub app-apply-requires : goal.app-apply-requires
+app-apply-requires t c = let args = c.args in let pre = c.requires in let loop = c.loop-q in let if1 = c.if-n-eq0 in let atom = c.atom in let r = atoms_room (args.text.now) (args.tokens.now) (args.left) (pre) (loop.invariant) in let f = atoms_past (args.text.now) (args.tokens.now) (args.left) (pre) (loop.invariant) (if1.false) in omega (arith, f, r.here, r.lent, (pre.below), (atom.auto.out))
+
+pub app-shape_of-out-in-Absent : goal.app-shape_of-out-in-Absent
+app-shape_of-out-in-Absent t c = let apply = c.apply in let atom = c.atom in let args = c.args in let pre = c.requires in let loop = c.loop-q in (apply.auto.out) ∙ (atom.auto.out) ∙ atoms_length (args.text.now) (args.tokens.now) (args.left) (pre) (loop.invariant)
+
+pub app-returns-in-Absent : goal.app-returns-in-Absent
+app-returns-in-Absent t c = let args = c.args in let pre = c.requires in let atom = c.atom in let loop = c.loop-q in let if1 = c.if-n-eq0 in let apply = c.apply in atoms_applied (args.text.now) (args.tokens.now) (args.left) (pre) (atom.ensures) (loop.invariant) (c.in-Absent.is) (if1.false) (apply.ensures)
+
+pub app-shape_of-out-in-Refused : goal.app-shape_of-out-in-Refused
+app-shape_of-out-in-Refused t c = let atom = c.atom in let args = c.args in let pre = c.requires in let loop = c.loop-q in (atom.auto.out) ∙ atoms_length (args.text.now) (args.tokens.now) (args.left) (pre) (loop.invariant)
+
+pub app-returns-in-Refused : goal.app-returns-in-Refused
+app-returns-in-Refused t c = let args = c.args in let pre = c.requires in let atom = c.atom in let loop = c.loop-q in atoms_refused (args.text.now) (args.tokens.now) (args.left) (pre) (atom.ensures) (loop.invariant) (c.in-Refused.is)
+
+pub atom-push-requires : goal.atom-push-requires
+atom-push-requires t c =
+    let args = c.args in
+    let pre = c.requires in
+    let peek = c.peek-t in
+    let if1 = c.if-t-eq-NAME in
+    let h = there args.text.now args.tokens.now args.left pre peek.ensures if1.true (omega arith) in
+    (omega (arith, pre.lent, pre.below), omega (arith, pre.small, pre.below), omega (arith, pre.small))
+
+pub atom-returns-then-t-eq-NAME : goal.atom-returns-then-t-eq-NAME
+atom-returns-then-t-eq-NAME t c =
+    let args = c.args in
+    let pre = c.requires in
+    let peek = c.peek-t in
+    let push = c.push in
+    let if1 = c.if-t-eq-NAME in
+    is_name args.text.now args.tokens.now args.left pre peek.ensures push.ensures.0 if1.true push.ensures.1
+
+pub atom-push-requires-then-t-eq-METAVARIABLE : goal.atom-push-requires-then-t-eq-METAVARIABLE
+atom-push-requires-then-t-eq-METAVARIABLE t c =
+    let args = c.args in
+    let pre = c.requires in
+    let peek = c.peek-t in
+    let if2 = c.if-t-eq-METAVARIABLE in
+    let h = there args.text.now args.tokens.now args.left pre peek.ensures if2.true (omega arith) in
+    (omega (arith, pre.lent, pre.below), omega (arith, pre.small, pre.below), omega (arith, pre.small))
+
+pub atom-returns-then-t-eq-METAVARIABLE : goal.atom-returns-then-t-eq-METAVARIABLE
+atom-returns-then-t-eq-METAVARIABLE t c =
+    let args = c.args in
+    let pre = c.requires in
+    let peek = c.peek-t in
+    let push2 = c.push-then-t-eq-METAVARIABLE in
+    let if1 = c.if-t-eq-NAME in
+    let if2 = c.if-t-eq-METAVARIABLE in
+    is_meta args.text.now args.tokens.now args.left pre peek.ensures push2.ensures.0 if1.false if2.true push2.ensures.1
+
+pub atom-push-requires-then-t-eq-NUMERAL : goal.atom-push-requires-then-t-eq-NUMERAL
+atom-push-requires-then-t-eq-NUMERAL t c =
+    let args = c.args in
+    let pre = c.requires in
+    let peek = c.peek-t in
+    let if3 = c.if-t-eq-NUMERAL in
+    let h = there args.text.now args.tokens.now args.left pre peek.ensures if3.true (omega arith) in
+    (omega (arith, pre.lent, pre.below), omega (arith, pre.small, pre.below), omega (arith, pre.small))
+
+pub atom-returns-then-t-eq-NUMERAL : goal.atom-returns-then-t-eq-NUMERAL
+atom-returns-then-t-eq-NUMERAL t c =
+    let args = c.args in
+    let pre = c.requires in
+    let peek = c.peek-t in
+    let push3 = c.push-then-t-eq-NUMERAL in
+    let if1 = c.if-t-eq-NAME in
+    let if2 = c.if-t-eq-METAVARIABLE in
+    let if3 = c.if-t-eq-NUMERAL in
+    let saturated = c.saturated-value in
+    is_numeral_lem args.text.now args.tokens.now args.left pre peek.ensures push3.ensures.0 if1.false if2.false if3.true saturated.ensures push3.ensures.1
+
+pub atom-overflow_add-inside : goal.atom-overflow_add-inside
+atom-overflow_add-inside t c =
+    let args = c.args in
+    let pre = c.requires in
+    let peek = c.peek-t in
+    let if4 = c.if-t-eq-OPEN in
+    let h = there args.text.now args.tokens.now args.left pre peek.ensures if4.true (omega arith) in
+    omega (arith, pre.small)
+
+pub atom-returns-then-left-eq0 : goal.atom-returns-then-left-eq0
+atom-returns-then-left-eq0 t c =
+    let args = c.args in
+    let pre = c.requires in
+    let peek = c.peek-t in
+    let if1 = c.if-t-eq-NAME in
+    let if2 = c.if-t-eq-METAVARIABLE in
+    let if3 = c.if-t-eq-NUMERAL in
+    let if4 = c.if-t-eq-OPEN in
+    let if5 = c.if-left-eq0 in
+    let line = c.line in
+    too_deep args.text.now args.tokens.now args.at args.left args.used _ (is_open args.text.now args.tokens.now args.left pre peek.ensures if1.false if2.false if3.false if4.true) if5.true line.ensures
+
+pub atom-term-r-requires : goal.atom-term-r-requires
+atom-term-r-requires t c =
+    let args = c.args in
+    let pre = c.requires in
+    let peek = c.peek-t in
+    let if4 = c.if-t-eq-OPEN in
+    let h = there args.text.now args.tokens.now args.left pre peek.ensures if4.true (omega arith) in
+    (omega (arith), room_on pre _ _ _ (omega arith) (omega arith) refl)
+
+pub atom-returns-in_default : goal.atom-returns-in_default
+atom-returns-in_default t c =
+    let args = c.args in
+    let pre = c.requires in
+    let peek = c.peek-t in
+    let if1 = c.if-t-eq-NAME in
+    let if2 = c.if-t-eq-METAVARIABLE in
+    let if3 = c.if-t-eq-NUMERAL in
+    let if4 = c.if-t-eq-OPEN in
+    let if5 = c.if-left-eq0 in
+    let term = c.term-r in
+    inner_stopped args.text.now args.tokens.now args.at args.left args.used _ (is_open args.text.now args.tokens.now args.left pre peek.ensures if1.false if2.false if3.false if4.true) if5.false term.ensures (stopped term.result c.in_default.in_default-own.keys2)
+
+pub atom-returns-then-t-eq-OPEN : goal.atom-returns-then-t-eq-OPEN
+atom-returns-then-t-eq-OPEN t c =
+    let args = c.args in
+    let pre = c.requires in
+    let peek = c.peek-t in
+    let if1 = c.if-t-eq-NAME in
+    let if2 = c.if-t-eq-METAVARIABLE in
+    let if3 = c.if-t-eq-NUMERAL in
+    let if4 = c.if-t-eq-OPEN in
+    let if5 = c.if-left-eq0 in
+    let term = c.term-r in
+    let sign = c.sign in
+    inner_closed args.text.now args.tokens.now args.at args.left args.used _ (is_open args.text.now args.tokens.now args.left pre peek.ensures if1.false if2.false if3.false if4.true) if5.false term.ensures c.in-At.is sign.ensures
+
+pub atom-returns : goal.atom-returns
+atom-returns t c =
+    let args = c.args in
+    let pre = c.requires in
+    let peek = c.peek-t in
+    let if1 = c.if-t-eq-NAME in
+    let if2 = c.if-t-eq-METAVARIABLE in
+    let if3 = c.if-t-eq-NUMERAL in
+    let if4 = c.if-t-eq-OPEN in
+    is_none args.text.now args.tokens.now args.left pre peek.ensures if1.false if2.false if3.false if4.false
+
+pub term-returns-in_default : goal.term-returns-in_default
+term-returns-in_default t c =
+    let args = c.args in
+    let pre = c.requires in
+    let app = c.app-first in
+    term_stopped args.text.now args.tokens.now args.left pre app.ensures (stopped app.result c.in_default.in_default-own.keys2)
+
+pub term-returns-then-peek-ne-EQUALS : goal.term-returns-then-peek-ne-EQUALS
+term-returns-then-peek-ne-EQUALS t c =
+    let args = c.args in
+    let pre = c.requires in
+    let app = c.app-first in
+    let if1 = c.if-peek-ne-EQUALS in
+    let peek = c.peek in
+    term_plain args.text.now args.tokens.now args.left pre app.ensures c.in-At.is (λ e. if1.true (ap (λ x. x.kind) peek.ensures ∙ e))
+
+pub term-overflow_add-next : goal.term-overflow_add-next
+term-overflow_add-next t c =
+    let app = c.app-first in
+    let pre = c.requires in
+    let m = moved app.ensures c.in-At.is in
+    omega (arith, m, pre.small)
+
+pub term-app-second-requires : goal.term-app-second-requires
+term-app-second-requires t c =
+    let app = c.app-first in
+    let args = c.args in
+    let peek = c.peek in
+    let if1 = c.if-peek-ne-EQUALS in
+    let pre = c.requires in
+    let m = moved app.ensures c.in-At.is in
+    let h = token_there args.tokens.now c.in-At.next (let e = ap (λ x. x.kind) (sym peek.ensures) ∙ if1.false in
+    omega arith) in
+    (omega (arith, m), room_on pre _ _ _ (omega arith) (omega (arith, m)) app.auto.out)
+
+pub term-returns-in_default-second : goal.term-returns-in_default-second
+term-returns-in_default-second t c =
+    let args = c.args in
+    let pre = c.requires in
+    let app = c.app-first in
+    let peek = c.peek in
+    let if1 = c.if-peek-ne-EQUALS in
+    let app2 = c.app-second in
+    second_stopped args.text.now args.tokens.now args.left pre app.ensures c.in-At.is (ap (λ x. x.kind) (sym peek.ensures) ∙ if1.false) app2.ensures (stopped app2.result c.in_default-second.in_default-second-own.keys2)
+
+pub term-equate-requires : goal.term-equate-requires
+term-equate-requires t c =
+    let app = c.app-first in
+    let app2 = c.app-second in
+    let pre = c.requires in
+    let args = c.args in
+    let peek = c.peek in
+    let if1 = c.if-peek-ne-EQUALS in
+    let m = moved app.ensures c.in-At.is in
+    let n = moved app2.ensures c.in-At-second.is in
+    record { fact_1 = omega (arith, m, n, pre.lent, pre.below, app.auto.out, app2.auto.out); fact_2 = root_room args.text.now args.tokens.now args.left pre app.ensures c.in-At.is (ap (λ x. x.kind) (sym peek.ensures) ∙ if1.false) app2.ensures c.in-At-second.is (omega (arith, m, n, pre.lent, pre.below, app.auto.out, app2.auto.out)) }
+
+pub term-returns : goal.term-returns
+term-returns t c =
+    let args = c.args in
+    let pre = c.requires in
+    let app = c.app-first in
+    let peek = c.peek in
+    let if1 = c.if-peek-ne-EQUALS in
+    let app2 = c.app-second in
+    let equate = c.equate in
+    term_equated args.text.now args.tokens.now args.left pre app.ensures c.in-At.is (ap (λ x. x.kind) (sym peek.ensures) ∙ if1.false) app2.ensures c.in-At-second.is equate.ensures

@@ -1,0 +1,26 @@
+-- `atom`, `app` and `term` call each other in turn: the tokens left fall, and with the same tokens left the rank of the three.
+use Prim.Native.Nat.{◌+◌, ◌*◌, ◌-◌}
+use mathlib.Core.Path.{refl, sym, ap, ◌∙◌}
+use native.Mathlib.Omega.{arith}
+use lib.ListN.{length}
+use Rattle.term_parser.proofs.TokenLaws.{token_there}
+use Rattle.term_parser.proofs.Readers.{stopped, moved}
+use Rattle.term_parser.proofs.TermLaws.{room_on, there, is_name, is_meta, is_numeral_lem, is_open, is_none, too_deep, inner_stopped, inner_closed, Atoms, atoms_start, atoms_room, atoms_from, atoms_past, atoms_few, atoms_length, atoms_turn, atoms_none, atoms_applied, atoms_refused, term_stopped, term_plain, second_stopped, root_room, term_equated}
+use borrow.Author.Rules.{rules}
+use Prim.Native.Nat.{ℕ, ◌<◌}
+use Rattle.term_parser.proofs.terms.+app_atom_term.Given as goal
+
+abbrev pub decreases-app : goal.decreases-app
+decreases-app l = 4 * (length l.tokens.now - l.at) + 2
+
+abbrev pub decreases-atom : goal.decreases-atom
+decreases-atom l = 4 * (length l.tokens.now - l.at)
+
+abbrev pub decreases-term : goal.decreases-term
+decreases-term l = 4 * (length l.tokens.now - l.at) + 3
+
+abbrev pub invariant-app-loop-q : goal.invariant-app-loop-q
+invariant-app-loop-q l = Atoms l.text l.tokens l.left l.at l.used l.initial.out l.p l.u l.n l.out
+
+abbrev pub decreases-app-loop-q : goal.decreases-app-loop-q
+decreases-app-loop-q l = length l.tokens - l.p
