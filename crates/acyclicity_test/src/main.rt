@@ -16,7 +16,7 @@ const UNARY: u32 = 0x10_0000 + 64 + 1;
 const BINARY: u32 = 0x10_0000 + 96 + 2;
 
 // What a case comes to.
-#[derive(Drop)]
+#[derive(Clone, Copy)]
 enum Found {
     Acyclic,
     Cyclic,

@@ -6,7 +6,7 @@ ghost use Rattle.arena.specs.Links.{least, greatest, Linkable, Arguments, Compar
 use super::format::SYMBOL_STEP;
 
 // Whether what was linked so far can be the same, and an address below which there are no links.
-#[derive(Drop)]
+#[derive(Clone, Copy)]
 pub struct Linked {
     pub same: bool,
     pub low: u32,

@@ -2,7 +2,7 @@
 // x not in form, f in form.
 
 // A term that was built: the first free address behind it, and its reference.
-#[derive(Drop)]
+#[derive(Clone, Copy)]
 struct Built {
     next: u32,
     root: u32,

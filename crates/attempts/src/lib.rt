@@ -10,7 +10,7 @@ use unifier::unify;
 
 // A stored rule: where its words start among the pattern's, how many its conclusion takes and how many its premises before them, the reference of its
 // conclusion, and how many variables are met in the conclusion and in all.
-#[derive(Drop)]
+#[derive(Clone, Copy)]
 pub struct Stored {
     pub from: u32,
     pub head: u32,
@@ -21,7 +21,7 @@ pub struct Stored {
 }
 
 // What came of the goal and a rule's conclusion.
-#[derive(Drop)]
+#[derive(Clone, Copy)]
 pub enum Meeting {
     // The limits refuse the conclusion.
     Refused,
@@ -32,7 +32,7 @@ pub enum Meeting {
 }
 
 // What came of an attempt.
-#[derive(Drop)]
+#[derive(Clone, Copy)]
 pub enum Tried {
     // The limits refuse it.
     Exceeded,

@@ -8,7 +8,7 @@ use attempts::{Stored, Tried};
 use samples::unification;
 
 // The counts of a search, and a goal.
-#[derive(Drop)]
+#[derive(Clone, Copy)]
 pub struct State {
     pub most: u32,
     pub limit: u32,
@@ -19,7 +19,7 @@ pub struct State {
 }
 
 // What came of it.
-#[derive(Drop)]
+#[derive(Clone, Copy)]
 pub enum Came {
     // The storage is not what the call asks.
     NotReady,

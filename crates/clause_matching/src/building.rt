@@ -7,7 +7,7 @@ use super::refusals::{NO_WORDS, UNBOUND};
 use arena::{PATTERN_ROOM, SYMBOL_STEP};
 
 // What came of building: the value and the words then used.
-#[derive(Drop)]
+#[derive(Clone, Copy)]
 pub enum Built {
     At { value: u32, used: u32 },
     Refused { number: u32 },

@@ -10,7 +10,7 @@ use arena::PATTERN_ROOM;
 use rules::RuleRow;
 
 // A stored pattern: a variable, or a node by its header and the address of its first argument.
-#[derive(Drop)]
+#[derive(Clone, Copy)]
 pub enum Pattern {
     Variable { index: u32 },
     Node { header: u32, first: u32 },
@@ -32,7 +32,7 @@ pub fn pattern_at(pattern: &[u32], reference: u32) -> Pattern
 }
 
 // The first clause that fits, by its rule's number.
-#[derive(Drop)]
+#[derive(Clone, Copy)]
 pub enum Clause {
     At { rule: usize },
     Nowhere,

@@ -12,7 +12,7 @@ use rules::{Entered, RuleRow, Title};
 use term_parser::APPLICATION;
 
 // What came of a clause: the row behind it, the words used and the room for nodes left.
-#[derive(Drop)]
+#[derive(Clone, Copy)]
 pub enum Outcome {
     Refused {
         number: u32,

@@ -14,7 +14,7 @@ use patterns::TermRow;
 use rules::{RuleRow, Title};
 
 // How many sorts, symbols and rules there are, how many words are in use, and how many nodes are left.
-#[derive(Drop)]
+#[derive(Clone, Copy)]
 pub struct State {
     pub sorts: usize,
     pub symbols: usize,
@@ -24,7 +24,7 @@ pub struct State {
 }
 
 // What came of a declaration: its refusal; or the row behind it and what there is then.
-#[derive(Drop)]
+#[derive(Clone, Copy)]
 pub enum Progress {
     Refused { number: u32 },
     Done { next: usize, state: State },

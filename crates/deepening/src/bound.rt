@@ -9,7 +9,7 @@ use rules::RuleRow;
 use search_machine::{Allowed, Machine, Mode, at_start, run};
 
 // What came of one depth bound.
-#[derive(Drop)]
+#[derive(Clone, Copy)]
 pub enum Came {
     // The limits refuse it.
     Exceeded,

@@ -15,7 +15,7 @@ use rules::RuleRow;
 use search_machine::Allowed;
 
 // The answer to a goal.
-#[derive(Drop)]
+#[derive(Clone, Copy)]
 pub enum Answer {
     // The limits refuse it (document 01, refusal 37).
     Refused,

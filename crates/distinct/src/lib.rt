@@ -11,7 +11,7 @@ ghost use Rattle.distinct.specs.Sorting.{name_at, Ascending, Next, Sorted};
 use names::SortRow;
 
 // How two names stand to each other.
-#[derive(Drop)]
+#[derive(Clone, Copy)]
 enum Order {
     Before,
     Same,

@@ -13,7 +13,7 @@ const OUTPUT: usize = 2;
 pub type OpenRow = [u32; 2];
 
 // How far a term is written: the place in the buffer, and the number of open nodes.
-#[derive(Drop)]
+#[derive(Clone, Copy)]
 struct Progress {
     at: usize,
     open: usize,

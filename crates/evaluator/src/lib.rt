@@ -22,14 +22,14 @@ use words::Limits;
 const SCRATCH: usize = 2049;
 
 // What came of an evaluation: the reference of the value, the number of calls and that of words; or a refusal.
-#[derive(Drop)]
+#[derive(Clone, Copy)]
 pub enum Evaluation {
     Value { value: u32, calls: u32, words: u32 },
     Refused { number: u32 },
 }
 
 // Whether an `#eval` is a forward call or a goal; or a refusal.
-#[derive(Drop)]
+#[derive(Clone, Copy)]
 pub enum Forward {
     Call,
     Goal,

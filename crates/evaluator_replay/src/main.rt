@@ -384,7 +384,7 @@ fn limits_of(text: u32, nodes: usize, words: u32) -> Limits {
 }
 
 // A text of the list: where it stands, the limits to load and evaluate it under, and the place of the next one's line.
-#[derive(Drop)]
+#[derive(Clone, Copy)]
 struct Text {
     start: usize,
     size: usize,

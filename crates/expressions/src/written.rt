@@ -11,7 +11,7 @@ use patterns::{TermRow, UNKNOWN_SYMBOL};
 use rules::RuleRow;
 
 // What came of a term: its value, the row behind it, the calls made and the words used then.
-#[derive(Drop)]
+#[derive(Clone, Copy)]
 pub enum Expressed {
     Value {
         value: u32,

@@ -14,7 +14,7 @@ use names::SymbolRow;
 pub type TermRow = [u32; 4];
 
 // A term flattened: the row after it, where its rows and all premises end, and how many calls were made; or a call too many.
-#[derive(Drop)]
+#[derive(Clone, Copy)]
 pub enum Flattened {
     Done {
         next: usize,

@@ -13,7 +13,7 @@ use rules::RuleRow;
 pub type TreeRow = [u32; 8];
 
 // What came of a call: its value, with the calls made and the words used then.
-#[derive(Drop)]
+#[derive(Clone, Copy)]
 pub enum Outcome {
     Value { value: u32, calls: u32, used: u32 },
     Refused { number: u32 },

@@ -21,7 +21,7 @@ use sessions::{NameRow, SessionCounts};
 const NODES: usize = 1024;
 
 // A compiled goal: its reference, how many variables there are with it, the session's names first, and how many words it has.
-#[derive(Drop)]
+#[derive(Clone, Copy)]
 pub struct Goal {
     pub node: u32,
     pub variables: u32,
@@ -29,7 +29,7 @@ pub struct Goal {
 }
 
 // What came of a goal.
-#[derive(Drop)]
+#[derive(Clone, Copy)]
 pub enum Outcome {
     Refused { number: u32 },
     Done { goal: Goal },

@@ -11,7 +11,7 @@ use lines::{write_refused_line, write_token};
 use words::{Lexed, Limits, Row};
 
 // What `write_listing` answers: how many bytes it wrote, or that the buffer is shorter than `size` says.
-#[derive(Drop)]
+#[derive(Clone, Copy)]
 pub enum Listed {
     Bytes(usize),
     TooShort,

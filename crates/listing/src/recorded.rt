@@ -8,7 +8,7 @@ use libc::STDOUT_FILENO;
 use words::Limits;
 
 // A text of a list: where it stands, the limits and the number of lent rows to read it with, and the place of the next one's line.
-#[derive(Drop)]
+#[derive(Clone, Copy)]
 pub struct Recorded {
     pub start: usize,
     pub length: usize,
@@ -18,7 +18,7 @@ pub struct Recorded {
 }
 
 // A decimal number of a list and the place past it and the byte that ends it.
-#[derive(Drop)]
+#[derive(Clone, Copy)]
 pub struct Decimal {
     pub value: u32,
     pub next: usize,

@@ -36,7 +36,7 @@ fn note(evals: &mut [EvalRow], count: usize, kind: u32, line: u32, at: usize) ->
 }
 
 // What came of all declarations: the refusal of one and its line; or what there is then, and how many `#eval` wait.
-#[derive(Drop)]
+#[derive(Clone, Copy)]
 pub enum Walk {
     Refused { number: u32, line: u32 },
     Done { state: State, evals: usize },
@@ -93,7 +93,7 @@ fn enter_all(
 }
 
 // What `load` answers: the refusal by its number and line; or how many declarations there are, how many `#eval` wait, and how much is stored.
-#[derive(Drop)]
+#[derive(Clone, Copy)]
 pub enum Loading {
     Refused {
         number: u32,

@@ -136,7 +136,7 @@ pub fn put_symbol(
 }
 
 // What came of the sorts of an arrow: one is unknown; or the number of the last.
-#[derive(Drop)]
+#[derive(Clone, Copy)]
 pub enum Arrow {
     Unknown,
     Known { last: u32 },

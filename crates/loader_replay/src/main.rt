@@ -14,7 +14,7 @@ use signature_tests::{buffers, damage};
 use words::Limits;
 
 // What a text has by the parser: how many declarations and how many rows of them, 0 where it is refused.
-#[derive(Drop)]
+#[derive(Clone, Copy)]
 struct Parsed {
     declarations: u32,
     rows: usize,

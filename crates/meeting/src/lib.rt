@@ -8,7 +8,7 @@ ghost use Rattle.meeting.specs.Contract.{Ready, Walked};
 use arena::{PATTERN_ROOM, SYMBOL_STEP};
 
 // What came of a walk.
-#[derive(Drop)]
+#[derive(Clone, Copy)]
 pub enum Met {
     // So many variables have places now, and the term takes so many words.
     Places(u32, u32),

@@ -17,7 +17,7 @@ pub const CLAUSE: u32 = 25;
 pub const BINDERS: u32 = 26;
 
 // What `parse` answers: how many declarations there are and how many rows they take, or the refusal and its line.
-#[derive(Drop)]
+#[derive(Clone, Copy)]
 pub enum Answer {
     Declarations(u32, usize),
     Refused(Refusal, u32),

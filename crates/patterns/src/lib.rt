@@ -43,7 +43,7 @@ fn wide(x: u32) -> usize
 }
 
 // What came of a variable: its number, and how many variables there are then.
-#[derive(Drop)]
+#[derive(Clone, Copy)]
 pub enum Got {
     At { index: usize, count: usize },
     Refused { number: u32 },
@@ -102,7 +102,7 @@ pub fn enter(
 }
 
 // What came of a source term: the reference of its pattern, the row behind it, the variables, the words used and the room for nodes left.
-#[derive(Drop)]
+#[derive(Clone, Copy)]
 pub enum Made {
     Node {
         node: u32,

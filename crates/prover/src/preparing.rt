@@ -18,7 +18,7 @@ const DEPTH: u32 = 128;
 pub const OVER_LIMIT: u32 = 37;
 
 // A goal that stands in the session's words: its reference, and the names, variables and words with it.
-#[derive(Drop)]
+#[derive(Clone, Copy)]
 pub struct StoredGoal {
     pub node: u32,
     pub names: u32,
@@ -27,7 +27,7 @@ pub struct StoredGoal {
 }
 
 // What came of a goal before its search.
-#[derive(Drop)]
+#[derive(Clone, Copy)]
 pub enum Prepared {
     Refused { number: u32 },
     Stored { goal: StoredGoal },

@@ -169,7 +169,7 @@ fn are_parts(
 }
 
 // What came of a walk through terms that are to take so many words: they take others; or so many variables have places.
-#[derive(Drop)]
+#[derive(Clone, Copy)]
 pub enum Outcome {
     Differs,
     Fits { count: u32 },
@@ -377,7 +377,7 @@ fn is_in_places(
 }
 
 // What came of the test: the row or the words are not in form; or where the rule's words end.
-#[derive(Drop)]
+#[derive(Clone, Copy)]
 pub enum Verdict {
     Bad,
     Good { next: u32 },

@@ -31,7 +31,7 @@ const RULES: usize = 1024;
 pub const SORT_NOT_KNOWN: u32 = 25;
 
 // What came of a rule's judgments: the conclusion's reference, the words used before the conclusion, the variables, the words used and the room left.
-#[derive(Drop)]
+#[derive(Clone, Copy)]
 pub enum Body {
     Failed {
         number: u32,
@@ -145,7 +145,7 @@ fn walk(
 }
 
 // How many variables are met in the conclusion, and how many in all.
-#[derive(Drop)]
+#[derive(Clone, Copy)]
 pub struct Counts {
     pub met: u32,
     pub all: u32,
@@ -275,7 +275,7 @@ fn store(
 }
 
 // Where a rule's name stands, and the number of its clause + 1; 0 for a written rule.
-#[derive(Drop)]
+#[derive(Clone, Copy)]
 pub struct Title {
     pub start: u32,
     pub size: u32,
@@ -326,7 +326,7 @@ fn keep(
 }
 
 // What came of a rule: the words used and the room for nodes left.
-#[derive(Drop)]
+#[derive(Clone, Copy)]
 pub enum Entered {
     Refused { number: u32 },
     Done { used: usize, room: usize },

@@ -6,7 +6,7 @@ use super::{report, rows};
 use arena::TERM_ROOM;
 
 // The counts of storage, and two references.
-#[derive(Drop)]
+#[derive(Clone, Copy)]
 pub struct Case {
     pub variables: u32,
     pub used: u32,
@@ -16,7 +16,7 @@ pub struct Case {
 }
 
 // What came of it.
-#[derive(Drop)]
+#[derive(Clone, Copy)]
 pub enum Found {
     // The storage is not what the call asks.
     NotReady,

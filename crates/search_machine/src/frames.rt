@@ -4,7 +4,7 @@ ghost use Rattle.search_machine.specs.State.{frame_at, row_of};
 
 // One application of a rule: the rule, its goal, the depth that its premises get; the place that it takes, a premise of its parent; and the
 // variables, bindings and words in use before it.
-#[derive(Drop)]
+#[derive(Clone, Copy)]
 pub struct Frame {
     pub rule: u32,
     pub goal: u32,

@@ -24,7 +24,7 @@ use rules::RuleRow;
 use stored::{arity_of, premise, try_stored};
 
 // What the search may use: variables of the session, words, frames; and how many rules there are.
-#[derive(Drop)]
+#[derive(Clone, Copy)]
 pub struct Allowed {
     pub variables: u32,
     pub words: u32,
@@ -33,7 +33,7 @@ pub struct Allowed {
 }
 
 // What the machine is about to do.
-#[derive(Drop)]
+#[derive(Clone, Copy)]
 pub enum Mode {
     // To enter a place: the next premise of an open application, or its end.
     Enter,
@@ -48,7 +48,7 @@ pub enum Mode {
 }
 
 // The machine's state beside its storage.
-#[derive(Drop)]
+#[derive(Clone, Copy)]
 pub struct Machine {
     pub mode: Mode,
     // The place: the application, counted from 1, and the number of its premise; application 0 is the top.

@@ -5,7 +5,7 @@
 pub type NameRow = [u32; 5];
 
 // How much of a session's storage is in use: names, variables made, bindings and words.
-#[derive(Drop)]
+#[derive(Clone, Copy)]
 pub struct SessionCounts {
     pub names: u32,
     pub variables: u32,
@@ -14,7 +14,7 @@ pub struct SessionCounts {
 }
 
 // What `open` answers.
-#[derive(Drop)]
+#[derive(Clone, Copy)]
 pub enum Opened {
     Refused { number: u32 },
     New,
@@ -22,7 +22,7 @@ pub enum Opened {
 
 // What `prove` answers: a refusal, after which the counts are those at entry; or a verdict with the steps used in the last bound and the
 // counts then, and for a proof the number of its nodes.
-#[derive(Drop)]
+#[derive(Clone, Copy)]
 pub enum Answer {
     Refused {
         number: u32,

@@ -35,7 +35,7 @@ const WORDS: usize = 65536;
 const RULE_WORDS: usize = 2048;
 
 // How much is stored of each kind.
-#[derive(Drop)]
+#[derive(Clone, Copy)]
 pub struct Counts {
     pub sorts: u32,
     pub symbols: u32,

@@ -162,7 +162,7 @@ pub fn class_table() -> Classes
     CLASS
 }
 
-#[derive(Drop)]
+#[derive(Clone, Copy)]
 pub struct Character {
     pub class: u8,
     pub length: usize,

@@ -14,7 +14,7 @@ ghost use Rattle.source_text.specs.Parts.{part_of, NumeralRead};
 use numerals::value;
 
 // What `numeral` answers: the value, or 5.
-#[derive(Drop)]
+#[derive(Clone, Copy)]
 pub enum NumeralValue {
     Fits(u64),
     TooLarge,

@@ -3,7 +3,7 @@ ghost use Rattle.std.specs.Prelude.{◌≡◌, ◌+◌, ◌<◌, length, drop};
 ghost use Rattle.source_text.specs.Utf8.{lead_of, tails_of, character_length, is_utf8};
 
 // What a first byte asks of its character: the length in bytes (0: no character), and the range of the second byte.
-#[derive(Drop)]
+#[derive(Clone, Copy)]
 pub struct Lead {
     pub length: usize,
     pub low: u8,

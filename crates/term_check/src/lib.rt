@@ -14,14 +14,14 @@ use words::NumeralValue;
 const LEVELS: usize = 132;
 
 // What `check_term` answers: the row past the term, or that there is none.
-#[derive(Drop)]
+#[derive(Clone, Copy)]
 pub enum TermChecked {
     Ends(usize),
     NoTerm,
 }
 
 // What a row is as the first of a term: the term takes so many arguments; or it is none.
-#[derive(Drop)]
+#[derive(Clone, Copy)]
 pub enum Top {
     Takes(u32),
     NoTerm,

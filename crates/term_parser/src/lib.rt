@@ -12,7 +12,7 @@ pub const APPLICATION: u32 = 24;
 pub const PARENTHESES: u32 = 64;
 
 // A token: the numbers of its row.
-#[derive(Drop)]
+#[derive(Clone, Copy)]
 pub struct Token {
     pub kind: u32,
     pub start: u32,
@@ -21,7 +21,7 @@ pub struct Token {
 }
 
 // Why a text is refused.
-#[derive(Drop)]
+#[derive(Clone, Copy)]
 pub enum Refusal {
     // 1: the lent rows are fewer than the tokens, or than the limit on the text's bytes; or there are over 65,536 tokens.
     Storage,
@@ -50,7 +50,7 @@ pub enum Refusal {
 }
 
 // What a reader answers: the next place, how many rows there are, and how many items it read; that there is no such item; or the refusal and its line.
-#[derive(Drop)]
+#[derive(Clone, Copy)]
 pub enum Step {
     At(usize, usize, u32),
     Absent,

@@ -19,7 +19,7 @@ use equations::equate;
 use stack::clear;
 
 // What is to be done with two references that are to be made equal.
-#[derive(Drop)]
+#[derive(Clone, Copy)]
 pub enum Decision {
     // They are equal already.
     Same,
@@ -32,7 +32,7 @@ pub enum Decision {
 }
 
 // Two nodes whose arguments are being made equal, and how many of them were taken.
-#[derive(Drop)]
+#[derive(Clone, Copy)]
 pub struct Pair {
     pub left: u32,
     pub right: u32,
@@ -40,7 +40,7 @@ pub struct Pair {
 }
 
 // How the loop of `unify` ended: whether the terms are equal, and how many bindings, links and open pairs there are.
-#[derive(Drop)]
+#[derive(Clone, Copy)]
 pub struct Ending {
     pub equal: bool,
     pub bound: u32,
@@ -49,7 +49,7 @@ pub struct Ending {
 }
 
 // Whether two terms were unified, and how many bindings there are.
-#[derive(Drop)]
+#[derive(Clone, Copy)]
 pub struct Ended {
     pub unified: bool,
     pub bound: u32,

@@ -14,7 +14,7 @@ const REFERENCES: usize = 275544;
 
 // Two towers, of nodes with one argument or with two, how high they are and on which references they stand, and the two references in question. A
 // pair may be built on each reference in question: of variable 0 and the left one, and of a constant and the right one.
-#[derive(Drop)]
+#[derive(Clone, Copy)]
 pub struct Towers {
     pub shared: bool,
     pub first: u32,

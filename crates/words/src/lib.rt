@@ -22,7 +22,7 @@ use source_text::utf8::is_utf8;
 use tokens::{outside_line, read_lines};
 
 // The limits that a caller may set. A limit over the one of document 01 counts as that one.
-#[derive(Drop)]
+#[derive(Clone, Copy)]
 pub struct Limits {
     pub text: u32,
     pub nodes: u32,
@@ -43,7 +43,7 @@ const VARIABLES: u32 = 65536;
 const WORDS: u32 = 262144;
 
 // Why a text is refused.
-#[derive(Drop)]
+#[derive(Clone, Copy)]
 pub enum Refusal {
     // 1: the token rows are fewer than the limit on the text's bytes.
     Storage,
@@ -62,7 +62,7 @@ pub enum Refusal {
 }
 
 // What `lex` answers: the number of tokens, or the refusal and its line.
-#[derive(Drop)]
+#[derive(Clone, Copy)]
 pub enum Lexed {
     Tokens(usize),
     Refused(Refusal, u32),

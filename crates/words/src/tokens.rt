@@ -16,7 +16,7 @@ use source_text::lines::{code_end, line_end};
 pub type Row = [u32; 4];
 
 // What stands at a place of a line: a blank, a token of a kind and a length, or a refusal.
-#[derive(Drop)]
+#[derive(Clone, Copy)]
 pub enum Item {
     Blank,
     Token(u32, usize),
