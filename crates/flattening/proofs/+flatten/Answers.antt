@@ -1,0 +1,121 @@
+-- `flatten` meets its contract: the rows left fall. The loop's invariant: of the arguments, the first i are flattened, and the others are left.
+use mathlib.Core.Path.{sym, ◌∙◌}
+use Prim.Native.Nat.{ℕ, ◌-◌, ◌<◌}
+use lib.ListN.{length}
+use Rattle.names.specs.Symbols.{symbols_of}
+use Rattle.flattening.proofs.FlatteningLaws.{Invariant, past_rows, loop_start, out_long, argument_room, turn_over, turn, end_plain, finish_room, end_call}
+use borrow.Author.Rules.{rules}
+use native.Mathlib.Omega.{arith}
+use Rattle.flattening.proofs.+flatten.Goals as goal
+
+pub returns-then-rows-at : goal.returns-then-rows-at
+returns-then-rows-at t c =
+    let args = c.args in
+    let if1 = c.if-rows-at in
+    past_rows args.text.now args.rows.now args.at (symbols_of args.text.now args.symbols.now args.count) args.calls.now args.end args.number if1.true
+
+pub loop-i-init : goal.loop-i-init
+loop-i-init t c =
+    let args = c.args in
+    let pre = c.requires in
+    let if1 = c.if-rows-at in
+    let arity = c.arity-n in
+    loop_start args.text.now pre if1.false arity.result
+
+pub flatten-requires : goal.flatten-requires
+flatten-requires t c =
+    let pre = c.requires in
+    let loop = c.loop-i in
+    let if1 = c.if-rows-at in
+    let arity = c.arity-n in
+    let loop-test = c.loop-i-test in
+    (omega (arith, loop.invariant.onward, if1.false), argument_room pre if1.false arity.ensures.value loop.invariant loop-test.true)
+
+pub shape_of-out-in-Over : goal.shape_of-out-in-Over
+shape_of-out-in-Over t c =
+    let flatten = c.flatten in
+    let pre = c.requires in
+    let if1 = c.if-rows-at in
+    let arity = c.arity-n in
+    let loop = c.loop-i in
+    flatten.auto.out ∙ out_long pre if1.false arity.ensures.value loop.invariant
+
+pub shape_of-calls-in-Over : goal.shape_of-calls-in-Over
+shape_of-calls-in-Over t c =
+    c.flatten.auto.calls ∙ c.loop-i.invariant.calls_kept
+
+pub returns-in-Over : goal.returns-in-Over
+returns-in-Over t c =
+    let pre = c.requires in
+    let if1 = c.if-rows-at in
+    let arity = c.arity-n in
+    let loop = c.loop-i in
+    let loop-test = c.loop-i-test in
+    let flatten = c.flatten in
+    turn_over pre if1.false arity.ensures.value loop.invariant loop-test.true (rw c.in-Over.is at flatten.ensures)
+
+pub loop-i-preserved : goal.loop-i-preserved
+loop-i-preserved t c =
+    let pre = c.requires in
+    let if1 = c.if-rows-at in
+    let arity = c.arity-n in
+    let loop = c.loop-i in
+    let loop-test = c.loop-i-test in
+    let flatten = c.flatten in
+    turn pre if1.false arity.ensures.value loop.invariant loop-test.true (rw c.in-Done.is at flatten.ensures)
+
+pub finish-requires : goal.finish-requires
+finish-requires t c =
+    let pre = c.requires in
+    let if1 = c.if-rows-at in
+    let arity = c.arity-n in
+    let loop = c.loop-i in
+    let loop-test = c.loop-i-test in
+    finish_room pre if1.false arity.ensures.value loop.invariant loop-test.false
+
+pub shape_of-out-then-is_call : goal.shape_of-out-then-is_call
+shape_of-out-then-is_call t c =
+    let finish = c.finish in
+    let pre = c.requires in
+    let if1 = c.if-rows-at in
+    let arity = c.arity-n in
+    let loop = c.loop-i in
+    finish.auto.out ∙ out_long pre if1.false arity.ensures.value loop.invariant
+
+pub shape_of-calls-then-is_call : goal.shape_of-calls-then-is_call
+shape_of-calls-then-is_call t c = c.finish.auto.calls ∙ c.loop-i.invariant.calls_kept
+
+pub returns-then-is_call : goal.returns-then-is_call
+returns-then-is_call t c =
+    let pre = c.requires in
+    let if1 = c.if-rows-at in
+    let arity = c.arity-n in
+    let loop = c.loop-i in
+    let loop-test = c.loop-i-test in
+    let is_call = c.is_call in
+    let if2 = c.if-is_call in
+    let finish = c.finish in
+    end_call pre if1.false arity.ensures.value loop.invariant loop-test.false (sym is_call.ensures
+    ∙ if2.true) _ _ finish.result finish.auto.out finish.auto.calls finish.ensures
+
+pub shape_of-out : goal.shape_of-out
+shape_of-out t c =
+    let pre = c.requires in
+    let if1 = c.if-rows-at in
+    let arity = c.arity-n in
+    let loop = c.loop-i in
+    out_long pre if1.false arity.ensures.value loop.invariant
+
+pub shape_of-calls : goal.shape_of-calls
+shape_of-calls t c = c.loop-i.invariant.calls_kept
+
+pub returns : goal.returns
+returns t c =
+    let pre = c.requires in
+    let if1 = c.if-rows-at in
+    let arity = c.arity-n in
+    let loop = c.loop-i in
+    let loop-test = c.loop-i-test in
+    let is_call = c.is_call in
+    let if2 = c.if-is_call in
+    end_plain pre if1.false arity.ensures.value loop.invariant loop-test.false (sym is_call.ensures ∙ if2.false)

@@ -1,0 +1,18 @@
+-- `flatten` meets its contract: the rows left fall. The loop's invariant: of the arguments, the first i are flattened, and the others are left.
+use mathlib.Core.Path.{sym, ◌∙◌}
+use Prim.Native.Nat.{ℕ, ◌-◌, ◌<◌}
+use lib.ListN.{length}
+use Rattle.names.specs.Symbols.{symbols_of}
+use Rattle.flattening.proofs.FlatteningLaws.{Invariant, past_rows, loop_start, out_long, argument_room, turn_over, turn, end_plain, finish_room, end_call}
+use borrow.Author.Rules.{rules}
+use native.Mathlib.Omega.{arith}
+use Rattle.flattening.proofs.+flatten.Given as goal
+
+abbrev pub decreases-flatten : goal.decreases-flatten
+decreases-flatten l = length l.rows.now - l.at
+
+abbrev pub invariant-loop-i : goal.invariant-loop-i
+invariant-loop-i l = Invariant l.text l.rows l.at (symbols_of l.text l.symbols l.count) l.n l.initial.out l.top l.initial.calls l.end l.number l.out l.calls l.i l.row l.last l.stop l.made
+
+abbrev pub decreases-loop-i : goal.decreases-loop-i
+decreases-loop-i l = l.n - l.i

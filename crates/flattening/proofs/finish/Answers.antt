@@ -1,0 +1,25 @@
+-- `finish` meets its contract: the call's row, its arguments and its result variable are written behind the premises.
+use mathlib.Core.Path.{◌∙◌}
+use lib.ListN.{length-set}
+use Rattle.flattening.proofs.PremiseLaws.{replaced}
+use borrow.Author.Rules.{rules}
+use native.Mathlib.Omega.{arith}
+use Rattle.flattening.proofs.finish.Goals as goal
+
+pub move_rows-requires : goal.move_rows-requires
+move_rows-requires c = (omega arith, simp length-set (omega arith))
+
+pub bounds-calls-stop : goal.bounds-calls-stop
+bounds-calls-stop c = let k = simp length-set at c.move_rows.ensures.kept in omega arith
+
+pub shape_of-calls : goal.shape_of-calls
+shape_of-calls c = simp length-set (c.move_rows.ensures.kept ∙ simp length-set)
+
+pub returns : goal.returns
+returns c =
+    let args = c.args in
+    let result-length = c.result_length-n in
+    let move-rows = c.move_rows in
+    let pre = c.requires in
+    let if1 = c.if-number-eq-CALLS in
+    replaced args.out.now args.calls.now _ args.top args.last args.end args.number args.start args.size args.args result-length.result args.next move-rows.ensures pre.0 pre.1 pre.2 (omega (arith, if1.false)) result-length.ensures

@@ -1,0 +1,23 @@
+-- `is_call` meets its contract: metavariables and numerals are no calls.
+use mathlib.Core.Path.{sym, ◌∙◌}
+use borrow.Author.Tests.{eq-eqb, ne_eqb}
+use Rattle.source_text.specs.Parts.{part_of}
+use Rattle.names.specs.Symbols.{symbols_of}
+use Rattle.flattening.proofs.SymbolLaws.{call_of_lem}
+use borrow.Author.Rules.{rules}
+use Rattle.flattening.proofs.is_call.Goals as goal
+
+pub returns-then-kind-eq-METAVARIABLE : goal.returns-then-kind-eq-METAVARIABLE
+returns-then-kind-eq-METAVARIABLE c = simp (eq-eqb c.args.kind 13 c.if-kind-eq-METAVARIABLE.true)
+
+pub returns-then-kind-eq-NUMERAL : goal.returns-then-kind-eq-NUMERAL
+returns-then-kind-eq-NUMERAL c = simp (ne_eqb c.args.kind 13 c.if-kind-eq-METAVARIABLE.false, eq-eqb c.args.kind 14 c.if-kind-eq-NUMERAL.true)
+
+pub returns : goal.returns
+returns c =
+    let is-function = c.is_function in
+    let args = c.args in
+    let if1 = c.if-kind-eq-METAVARIABLE in
+    let if2 = c.if-kind-eq-NUMERAL in
+    is-function.ensures
+    ∙ sym (call_of_lem (symbols_of args.text.now args.symbols.now args.count) args.kind (part_of args.text.now args.start args.size) if1.false if2.false)

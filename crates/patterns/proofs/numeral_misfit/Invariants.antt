@@ -1,0 +1,16 @@
+-- `numeral_misfit` meets its contract. The loop's invariant: what is left is refused for the same.
+use mathlib.Core.Path.{◌≡◌, refl, sym, ap, ◌∙◌}
+use mathlib.Core.List.{List}
+use Prim.Native.Nat.{ℕ, ◌-◌}
+use Rattle.names.specs.Symbols.{row_at, symbol_of}
+use Rattle.patterns.specs.Promises.{refusal}
+use Rattle.patterns.proofs.Numerals.{refuse_step, full_step, next_step, refuse_end, full_end, none_end, one_input}
+use borrow.Author.Rules.{rules}
+use native.Mathlib.Omega.{arith}
+use Rattle.patterns.proofs.numeral_misfit.Given as goal
+
+abbrev pub invariant-loop-k : goal.invariant-loop-k
+invariant-loop-k l = (text : List ℕ) → refusal (symbol_of text (row_at l.symbols l.y)) (symbol_of text (row_at l.symbols l.z)) l.n l.want l.room ≡ refusal (symbol_of text (row_at l.symbols l.y)) (symbol_of text (row_at l.symbols l.z)) l.k l.s l.m
+
+abbrev pub decreases-loop-k : goal.decreases-loop-k
+decreases-loop-k l = l.k

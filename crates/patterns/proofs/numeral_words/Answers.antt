@@ -1,0 +1,70 @@
+-- `numeral_words` meets its contract. The loop's invariant: k times `succ` on `zero` are laid.
+use mathlib.Core.Path.{◌≡◌, refl, sym, ap, ◌∙◌}
+use mathlib.Core.List.{List, [], ◌∷◌}
+use Prim.Native.Nat.{ℕ, ◌≤◌, ◌+◌, ◌-◌, ◌*◌}
+use lib.ListN.{length, set, length-set}
+use Rattle.patterns.specs.Laying.{lay, laid}
+use Rattle.patterns.specs.Promises.{tower}
+use Rattle.patterns.proofs.Numerals.{tower_start, tower_step}
+use borrow.Author.Rules.{rules}
+use native.Mathlib.Omega.{arith}
+use Rattle.patterns.proofs.numeral_words.Goals as goal
+
+pub loop-k-init : goal.loop-k-init
+loop-k-init c = (
+  refl,
+  omega arith,
+  omega arith,
+  λ v e. tower_start v (c.args.used) (c.args.y) (c.args.z)
+      ∙ ap (λ x. laid ((64 + c.args.used) ∷ []) x (c.args.used + 1)) (sym e),
+)
+
+pub bounds-words-u : goal.bounds-words-u
+bounds-words-u c =
+    let loop = c.loop-k in
+    let args = c.args in
+    let n : length (loop.words) ≡ length (args.words.now) = loop.invariant.0 ∙ length-set (args.words.now) (args.used) _ in
+    omega (arith, loop.invariant.1)
+
+pub overflow_add-words-in-loop-k : goal.overflow_add-words-in-loop-k
+overflow_add-words-in-loop-k c = omega (arith, c.loop-k.invariant.1)
+
+pub bounds-words-u-in-loop-k : goal.bounds-words-u-in-loop-k
+bounds-words-u-in-loop-k c =
+    let loop = c.loop-k in
+    let args = c.args in
+    let n : length (loop.words) ≡ length (args.words.now) = loop.invariant.0 ∙ length-set (args.words.now) (args.used) _ in
+    rw length-set (omega (arith, loop.invariant.1))
+
+pub overflow_cast-r-in-loop-k : goal.overflow_cast-r-in-loop-k
+overflow_cast-r-in-loop-k c = omega (arith, c.loop-k.invariant.1)
+
+pub overflow_add-r-in-loop-k : goal.overflow_add-r-in-loop-k
+overflow_add-r-in-loop-k c = omega (arith, c.loop-k.invariant.1)
+
+pub overflow_add-u-in-loop-k : goal.overflow_add-u-in-loop-k
+overflow_add-u-in-loop-k c = omega (arith, c.loop-k.invariant.1)
+
+pub loop-k-preserved : goal.loop-k-preserved
+loop-k-preserved c =
+    let loop = c.loop-k in
+    let args = c.args in (
+      length-set (set (loop.words) (loop.u) _) (loop.u + 1) _
+          ∙ length-set (loop.words) (loop.u) _
+          ∙ loop.invariant.0,
+      omega (arith, loop.invariant.1),
+      omega arith,
+      λ v e. tower_step v (args.used) (args.y) (args.z) (loop.k) (loop.r) (loop.words) (loop.u) (loop.invariant.3 v e),
+    )
+
+pub shape_of-words : goal.shape_of-words
+shape_of-words c = c.loop-k.invariant.0 ∙ length-set (c.args.words.now) (c.args.used) _
+
+pub returns : goal.returns
+returns c =
+    let loop = c.loop-k in
+    let args = c.args in
+    let loop-test = c.loop-k-test in
+    let kn : loop.k ≡ args.n = omega (arith, loop-test.false, loop.invariant.2) in
+    let un : loop.u ≡ args.used + 1 + 2 * args.n = omega (arith, loop.invariant.1) in
+    rw (kn, un) at (loop.invariant.3 (args.words.now) refl)
