@@ -1,4 +1,6 @@
 // One attempt with a rule (document 01, "Search"): its conclusion is copied with new variables and unified with a goal, and then its premises are copied.
+#![tactic(auto)]
+
 ghost use Rattle.std.specs.Prelude.{◌≡◌, ◌+◌, ◌<◌, true};
 ghost use Rattle.resolution.specs.Search.{within, over};
 ghost use Rattle.attempts.specs.Clashes.{Comparable, Clashes};
@@ -10,7 +12,7 @@ use unifier::unify;
 
 // A stored rule: where its words start among the pattern's, how many its conclusion takes and how many its premises before them, the reference of its
 // conclusion, and how many variables are met in the conclusion and in all.
-#[derive(Drop)]
+#[derive(Clone, Copy)]
 pub struct Stored {
     pub from: u32,
     pub head: u32,
