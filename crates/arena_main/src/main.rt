@@ -1,6 +1,8 @@
 // Exercises the arena: deep and shared terms that are equal or not, and malformed words. Writes a letter for each case: y the same, n not the same,
 // x not in form, f in form.
 
+#![tactic(auto)]
+
 // A term that was built: the first free address behind it, and its reference.
 #[derive(Clone, Copy)]
 struct Built {

@@ -1,6 +1,6 @@
 -- Parts that `check_words` accepts, and a stored rule in form as an example: le (succ y) (succ x) from le y x, whose variables x and y have the
 -- numbers 0 and 1 and are met in the order y, x.
-use Rattle.std.specs.Prelude.{ℕ, zero, suc, ◌+◌, ◌-◌, ◌≤◌, ◌<◌, ◌≡◌, refl, true, List, [], ◌∷◌, get_or, length}
+use Rattle.std.specs.Prelude.{ℕ, zero, suc, ◌+◌, ◌≤◌, ◌<◌, ◌≡◌, refl, true, List, [], ◌∷◌, get_or, length}
 use Rattle.std.proofs.Common.{arith}
 use Rattle.terms.specs.Numbers.{same, less, by_same, true_false}
 use Rattle.arena.specs.Cells.{headers, decode, denote, WellFormed, cells}

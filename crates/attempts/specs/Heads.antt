@@ -1,5 +1,5 @@
 -- The goal and the conclusion: what copying and `unify` ask, and what came of them.
-use Rattle.std.specs.Prelude.{ℕ, ◌+◌, ◌-◌, ◌≤◌, ◌<◌, ◌≡◌, refl, Bool, true, false, ◌||◌, List, length}
+use Rattle.std.specs.Prelude.{ℕ, ◌+◌, ◌≤◌, ◌<◌, ◌≡◌, refl, Bool, true, false, ◌||◌, List, length}
 use Rattle.std.proofs.Common.{arith, sym, ap, ap₂, ◌∙◌, subst}
 use Rattle.std.proofs.lemmas.List.Edits.{sets}
 use Rattle.terms.specs.Numbers.{less, less_yes, less_no, by_less, or_false, or_left, true_false}

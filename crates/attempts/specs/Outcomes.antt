@@ -1,5 +1,5 @@
 -- The theory's attempt over the stored counts, in its four ways, and what each way out of an attempt leaves.
-use Rattle.std.specs.Prelude.{ℕ, ◌+◌, ◌-◌, ◌≤◌, ◌≡◌, refl, Bool, true, false, List, get_or}
+use Rattle.std.specs.Prelude.{ℕ, ◌+◌, ◌≤◌, ◌≡◌, refl, Bool, true, false, List, get_or}
 use Rattle.std.proofs.Common.{arith, le_refl, sym, ◌∙◌, subst}
 use Rattle.std.proofs.Math.Path.{ap, ap₂}
 use Rattle.std.proofs.Math.ListN.{length}

@@ -1,4 +1,6 @@
 // One attempt with a rule (document 01, "Search"): its conclusion is copied with new variables and unified with a goal, and then its premises are copied.
+#![tactic(auto)]
+
 ghost use Rattle.std.specs.Prelude.{◌≡◌, ◌+◌, ◌<◌, true};
 ghost use Rattle.resolution.specs.Search.{within, over};
 ghost use Rattle.attempts.specs.Clashes.{Comparable, Clashes};

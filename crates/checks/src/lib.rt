@@ -1,4 +1,6 @@
 // Whether lent storage of any contents is what `unifier` asks of a session: terms in form, bindings in form, scratch zero. Each answer is exact.
+#![tactic(auto)]
+
 mod nodes; // words that are terms
 mod zeros; // rows that are zero
 

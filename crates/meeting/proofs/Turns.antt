@@ -155,7 +155,8 @@ module _ {pattern : List ℕ} {reference used : ℕ} {table₀ : List ℕ} {coun
         free_row = let a = h.deep in let b = h.keeps in let d = h.ready.room in omega arith
 
         opened : unmet (cells pattern) entered (depth + 1) ≡ append inner (unmet (cells pattern) stack depth)
-        opened = rw (add-one depth, add-one address) (unmet_put (cells pattern) stack depth (suc address) arity free_row)
+        opened = rw (add-one depth) (unmet_put (cells pattern) stack depth (address + 1) arity free_row
+            ∙ ap (λ (p : ℕ). append (args (denote pattern_room (cells pattern)) (cells pattern) p arity) (unmet (cells pattern) stack depth)) (add-one address))
 
         pub less_enter : left most entered (spent + (arity + 1)) (depth + 1) false < left most stack spent depth waiting
         less_enter =
@@ -271,7 +272,8 @@ module _ {pattern : List ℕ} {reference used : ℕ} {table₀ : List ℕ} {coun
             let m : rest ≡ suc (rest - 1) = omega arith in
             split ∙ ap (λ (k : ℕ). append (args (denote pattern_room (cells pattern)) (cells pattern) at k) (unmet (cells pattern) stack last)) m
             ∙ ap (cons (term_of pattern (cells pattern at)))
-            (sym (ap (unmet (cells pattern) taken) is ∙ rw (add-one at) (unmet_put (cells pattern) stack last (suc at) (rest - 1) last_row.0)))
+            (sym (ap (unmet (cells pattern) taken) is ∙ unmet_put (cells pattern) stack last (at + 1) (rest - 1) last_row.0
+            ∙ ap (λ (p : ℕ). append (args (denote pattern_room (cells pattern)) (cells pattern) p (rest - 1)) (unmet (cells pattern) stack last)) (add-one at)))
 
         pub less_next : left most taken spent depth true < left most stack spent depth waiting
         less_next =

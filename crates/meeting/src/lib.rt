@@ -1,5 +1,7 @@
 // Meeting order: a walk through a stored pattern from left to right, which gives each variable that has no place yet the next one and counts the words that
 // the term takes (document 01, refusal 37). The stack is lent, so that nothing is recursive.
+#![tactic(auto)]
+
 ghost use Rattle.std.specs.Prelude.{◌≡◌, ◌<◌, ◌≤◌, length};
 ghost use Rattle.arena.specs.Copies.{pattern_room};
 ghost use Rattle.meeting.specs.Places.{Given, in_order};

@@ -1,5 +1,5 @@
 -- The loop of unification: its invariant, what each turn changes, and what is known at its end.
-use Rattle.std.specs.Prelude.{ℕ, zero, suc, ◌+◌, ◌-◌, ◌≤◌, ◌<◌, ◌≡◌, refl, Bool, true, false, ◌⊎◌, ◌≢◌, List, [], ◌∷◌, get_or, length, set}
+use Rattle.std.specs.Prelude.{ℕ, suc, ◌+◌, ◌-◌, ◌≤◌, ◌<◌, ◌≡◌, refl, Bool, true, false, ◌≢◌, List, [], ◌∷◌, get_or, length, set}
 use Rattle.std.proofs.Common.{zero-le, arith, not-suc-le-zero, le_refl, sym, ap, ap₂, ◌∙◌, subst, ⊎_elim, length-set, get_or-set_same, get_or-set_other}
 use Rattle.terms.specs.Numbers.{by_same, true_false, same_ne}
 use Rattle.terms.specs.Term.{var, mem}

@@ -7,7 +7,7 @@ use Rattle.terms.specs.Bindings.{Bindings, bind, walk, Acyclic, Solves}
 use Rattle.terms.specs.Unification.{Eqn, eqn, eqns, Outcome, unifies, BelowE}
 use Rattle.terms.specs.BindingLaws.{solves_walk}
 use Rattle.arena.specs.Cells.{Cells, symbol_of, arity_of, args, denote, Reference, WellFormed, denote_node}
-use Rattle.unifier.specs.Promises.{LeadsTo, go}
+use Rattle.unifier.specs.Promises.{LeadsTo}
 use Rattle.bindings.specs.Holding.{Holds}
 
 -- Equal for whatever agrees with the bindings.

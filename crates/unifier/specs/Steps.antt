@@ -1,5 +1,5 @@
 -- What each decision about a pair of references comes to: skipping what is equal, binding a variable, opening a pair of nodes, and failing.
-use Rattle.std.specs.Prelude.{ℕ, zero, suc, ◌+◌, ◌-◌, ◌/◌, ◌%◌, ◌≤◌, ◌<◌, ◌≡◌, refl, true, false, ◌⊎◌, ◌≢◌, List, [], ◌∷◌}
+use Rattle.std.specs.Prelude.{ℕ, zero, suc, ◌+◌, ◌-◌, ◌/◌, ◌%◌, ◌≤◌, ◌<◌, ◌≡◌, refl, true, false, ◌≢◌, List, [], ◌∷◌}
 use Rattle.std.proofs.Common.{arith, not-suc-le-zero, le_refl, sym, ap, ap₂, ◌∙◌, subst, ⊎_elim}
 use Rattle.terms.specs.Numbers.{same, same_refl, same_ne}
 use Rattle.terms.specs.Term.{Kind, Syn, var, app, nil, cons, Term, Terms, Subst, sub, mem, size, Below}

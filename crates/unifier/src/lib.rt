@@ -3,6 +3,8 @@
 // `w` are the words, `b` the rows of the bindings with their trail, `links`, `m` (marks) and `s` (stack) lent scratch that is left as it was.
 // `room` is the number of variables there is room for, `variables` how many are in use, `used` how many words are in use, `k` how many bindings there
 // are. The room is a number here as in `bindings`; the crates above pass `arena::TERM_ROOM`.
+#![tactic(auto)]
+
 mod links; // links between equal nodes
 mod nodes; // the parts of a node
 mod stack; // the stack of open pairs

@@ -1,4 +1,6 @@
 // `unifier::unify` for programs in other languages that see to what it asks, as the measurements of its speed do. `capi::horn_unify` is the one for users.
+#![tactic(auto)]
+
 ghost use Rattle.arena.specs.Cells.{cells, Reference};
 ghost use Rattle.arena.specs.Copies.{term_room};
 ghost use Rattle.unifier.specs.Promises.{Scratch};

@@ -1,7 +1,5 @@
 -- `is_in_order` meets its contract. The loop's invariant: the places of the variables below `x` are their own numbers.
-use Prim.Native.Nat.{ℕ, ◌≤◌, ◌<◌, ◌-◌}
-use mathlib.Core.Path.{◌≡◌, sym}
-use lib.ListN.{get_or}
+use mathlib.Core.Path.{sym}
 use borrow.Author.Count.{below_none, below_more}
 use Rattle.meeting.specs.PlaceLaws.{each_order, order_fails}
 use borrow.Author.Rules.{rules}

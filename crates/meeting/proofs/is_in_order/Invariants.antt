@@ -1,11 +1,7 @@
 -- `is_in_order` meets its contract. The loop's invariant: the places of the variables below `x` are their own numbers.
 use Prim.Native.Nat.{ℕ, ◌≤◌, ◌<◌, ◌-◌}
-use mathlib.Core.Path.{◌≡◌, sym}
+use mathlib.Core.Path.{◌≡◌}
 use lib.ListN.{get_or}
-use borrow.Author.Count.{below_none, below_more}
-use Rattle.meeting.specs.PlaceLaws.{each_order, order_fails}
-use borrow.Author.Rules.{rules}
-use native.Mathlib.Omega.{arith}
 use Rattle.meeting.proofs.is_in_order.Given as goal
 
 abbrev pub invariant-loop-x : goal.invariant-loop-x

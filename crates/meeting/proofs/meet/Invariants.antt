@@ -1,9 +1,6 @@
 -- `meet` meets its contract. The loop's invariant: the words spent and those of what is left are the whole term's, and meeting what is left, from the
 -- variables that the table records, comes to meeting the whole. What falls: words left to spend, arguments left on the stack, rows to close.
-use mathlib.Core.Path.{refl}
-use Rattle.meeting.proofs.Turns.{Turn, left, turn_start, few, long, less_one, turn_variable, node_words, turn_over, free_row, less_enter, turn_enter, turn_done, last_row, less_close, turn_close, less_next, turn_next}
-use borrow.Author.Rules.{rules}
-use native.Mathlib.Omega.{arith}
+use Rattle.meeting.proofs.Turns.{Turn, left}
 use Rattle.meeting.proofs.meet.Given as goal
 
 abbrev pub invariant-loop-waiting : goal.invariant-loop-waiting

@@ -1,6 +1,5 @@
 -- `place_variable` meets its contract: it writes exactly where the table says that the variable has no place.
 use mathlib.Core.Path.{refl}
-use borrow.Author.Rules.{rules}
 use native.Mathlib.Omega.{arith}
 use Rattle.meeting.proofs.place_variable.Goals as goal
 

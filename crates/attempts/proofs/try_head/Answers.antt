@@ -1,0 +1,101 @@
+-- `try_head` meets its contract: the limits refuse the conclusion, or its head clashes with the goal's, or it is copied and the goal is unified with it.
+use mathlib.Core.Path.{sym, ◌∙◌}
+use Rattle.attempts.specs.Heads.{head_refused, head_comparable, head_clashes, head_copyable, head_movable, head_scratch, head_form, head_goal, head_conclusion, head_apart, head_unifies}
+use Rattle.attempts.proofs.try_head.Goals as goal
+
+pub returns-then-exceeds : goal.returns-then-exceeds
+returns-then-exceeds c =
+    let pre = c.requires in
+    let exceeds = c.exceeds in
+    head_refused pre (sym exceeds.ensures ∙ c.if-exceeds.true)
+
+pub clashes-requires : goal.clashes-requires
+clashes-requires c = head_comparable c.requires
+
+pub returns-then-clashes : goal.returns-then-clashes
+returns-then-clashes c =
+    let pre = c.requires in
+    let exceeds = c.exceeds in
+    let if1 = c.if-exceeds in
+    let clashes = c.clashes in
+    head_clashes pre (sym exceeds.ensures ∙ if1.false) (clashes.ensures c.if-clashes.true)
+
+pub moved_word-second-requires : goal.moved_word-second-requires
+moved_word-second-requires c =
+    let pre = c.requires in
+    let exceeds = c.exceeds in
+    let if1 = c.if-exceeds in
+    head_movable pre (sym exceeds.ensures ∙ if1.false)
+
+pub inst-requires : goal.inst-requires
+inst-requires c =
+    let pre = c.requires in
+    let exceeds = c.exceeds in
+    let if1 = c.if-exceeds in
+    head_copyable pre (sym exceeds.ensures ∙ if1.false)
+
+pub unify-ended-requires : goal.unify-ended-requires
+unify-ended-requires c =
+    let pre = c.requires in
+    let exceeds = c.exceeds in
+    let if1 = c.if-exceeds in
+    let inst = c.inst in
+    let moved_word = c.moved_word-second in
+    let fits = sym exceeds.ensures ∙ if1.false in
+    record { fact_1 = head_form pre fits _ inst.ensures; fact_2 = (head_goal pre fits _ inst.ensures, head_conclusion pre fits _ inst.ensures _ moved_word.ensures); fact_3 = head_scratch pre fits }
+
+pub shape_of-words-then-ended : goal.shape_of-words-then-ended
+shape_of-words-then-ended c =
+    let inst = c.inst in
+    inst.auto.words
+
+pub shape_of-bindings-then-ended : goal.shape_of-bindings-then-ended
+shape_of-bindings-then-ended c = c.unify-ended.auto.b
+
+pub shape_of-links-then-ended : goal.shape_of-links-then-ended
+shape_of-links-then-ended c = c.unify-ended.auto.links
+
+pub shape_of-marks-then-ended : goal.shape_of-marks-then-ended
+shape_of-marks-then-ended c = c.unify-ended.auto.m
+
+pub shape_of-stack-then-ended : goal.shape_of-stack-then-ended
+shape_of-stack-then-ended c = c.unify-ended.auto.s
+
+pub returns-then-ended : goal.returns-then-ended
+returns-then-ended c =
+    let pre = c.requires in
+    let exceeds = c.exceeds in
+    let if1 = c.if-exceeds in
+    let inst = c.inst in
+    let moved_word = c.moved_word-second in
+    let unify = c.unify-ended in
+    let fits = sym exceeds.ensures ∙ if1.false in
+    head_unifies pre fits _ inst.ensures moved_word.ensures unify.ensures c.if-ended.true
+
+pub shape_of-words : goal.shape_of-words
+shape_of-words c =
+    let inst = c.inst in
+    inst.auto.words
+
+pub shape_of-bindings : goal.shape_of-bindings
+shape_of-bindings c = c.unify-ended.auto.b
+
+pub shape_of-links : goal.shape_of-links
+shape_of-links c = c.unify-ended.auto.links
+
+pub shape_of-marks : goal.shape_of-marks
+shape_of-marks c = c.unify-ended.auto.m
+
+pub shape_of-stack : goal.shape_of-stack
+shape_of-stack c = c.unify-ended.auto.s
+
+pub returns : goal.returns
+returns c =
+    let pre = c.requires in
+    let exceeds = c.exceeds in
+    let if1 = c.if-exceeds in
+    let inst = c.inst in
+    let moved_word = c.moved_word-second in
+    let unify = c.unify-ended in
+    let fits = sym exceeds.ensures ∙ if1.false in
+    head_apart pre fits _ inst.ensures moved_word.ensures unify.ensures c.if-ended.false
