@@ -1,7 +1,10 @@
 // Runs the check of stored bindings on cases of all kinds, and writes a line for each.
-use libc::STDOUT_FILENO;
+#![tactic(auto)]
 
 mod form;
+
+// Standard output.
+const STDOUT_FILENO: i32 = 1;
 
 // The room for variables, and the scratch rows that a case has.
 const ROOM: u32 = 50000;
