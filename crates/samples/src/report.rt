@@ -1,6 +1,8 @@
 // Lines of output.
 use super::rows;
-use libc::STDOUT_FILENO;
+
+// Standard output.
+const STDOUT_FILENO: i32 = 1;
 
 // Writes bytes.
 pub fn text(bytes: &[u8]) {
