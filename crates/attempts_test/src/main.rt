@@ -1,4 +1,6 @@
 // Runs `try_rule` on a goal of 100,000 levels and on short ones, with just enough room and with less, and writes a line for each case.
+#![tactic(auto)]
+
 use arena::TERM_ROOM;
 use attempt::{Came, State};
 use samples::unification::Case;

@@ -1,4 +1,6 @@
 // Runs `unify`, `occurs`, `check_bindings` and `undo` on deep, shared, cyclic and malformed storage, and writes a line for each case.
+#![tactic(auto)]
+
 use arena::TERM_ROOM;
 use cases::{MANY, Towers};
 
