@@ -1,0 +1,17 @@
+-- `write_bytes` meets its contract: the bytes stand in the buffer from the place on.
+-- The loop's invariant: the first i bytes are written.
+use Prim.Native.Nat.{◌+◌, ◌-◌, ◌≤◌}
+use native.Mathlib.Omega.{arith}
+use native.Mathlib.Numerals.{add-one}
+use mathlib.Core.Path.{◌≡◌, refl, sym, ap, ◌∙◌}
+use mathlib.Core.List.{List}
+use lib.ListN.{get_or, length, set, take, length-set}
+use lib.Seq.{sets, take_all}
+use Rattle.byte_output.specs.OutputLaws.{sets_more}
+use Rattle.byte_output.proofs.write_bytes.Given as goal
+
+abbrev pub invariant-loop-i : goal.invariant-loop-i
+invariant-loop-i l = (l.i ≤ length l.bytes) × (length l.out ≡ length l.initial.out) × (l.out ≡ sets l.initial.out l.at (take l.i l.bytes))
+
+abbrev pub decreases-loop-i : goal.decreases-loop-i
+decreases-loop-i l = length l.bytes - l.i

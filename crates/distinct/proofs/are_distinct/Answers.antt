@@ -1,0 +1,11 @@
+-- `are_distinct` meets its contract: names that could be sorted all differ, and where they could not, one stands twice.
+use Rattle.distinct.proofs.SortLaws.{sorted_tells}
+use borrow.Author.Rules.{rules}
+use Rattle.distinct.proofs.are_distinct.Goals as goal
+
+pub returns : goal.returns
+returns c =
+    let args = c.args in
+    let pre = c.requires in
+    let sort = c.sort in
+    sorted_tells args.text.now args.places.now args.n pre.0 sort.ensures

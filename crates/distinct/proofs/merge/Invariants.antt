@@ -1,0 +1,15 @@
+-- `merge` meets its contract. The loop's invariant: what was read of both runs stands in the places before k, ascending and before what is left of both.
+use Prim.Native.Nat.{◌-◌}
+use mathlib.Core.Path.{◌≡◌, refl, ◌∙◌}
+use lib.ListN.{length, length-set}
+use Rattle.distinct.specs.Sorting.{name_at}
+use Rattle.distinct.proofs.MergeLaws.{Merging, merge_start, merge_first, merge_second, merge_both, merge_end}
+use borrow.Author.Rules.{rules}
+use native.Mathlib.Omega.{arith}
+use Rattle.distinct.proofs.merge.Given as goal
+
+abbrev pub invariant-loop-k : goal.invariant-loop-k
+invariant-loop-k l = (length l.places ≡ length l.initial.places) × Merging (name_at l.text l.spare) (name_at l.text l.initial.places) (name_at l.text l.places) l.from l.to l.from l.i l.middle l.middle l.j l.to l.k
+
+abbrev pub decreases-loop-k : goal.decreases-loop-k
+decreases-loop-k l = l.to - l.k

@@ -1,0 +1,112 @@
+-- `clause` meets its contract. At each place of the code it is said once what is read: the tokens before a place, and their rows behind a free one.
+use mathlib.Core.Path.{◌≡◌, refl, sym, ap, ◌∙◌}
+use Prim.Native.Nat.{ℕ, ◌+◌, ◌-◌, ◌<◌}
+use mathlib.Core.List.{List, [], ◌∷◌, ◌++◌}
+use native.Mathlib.Omega.{arith}
+use lib.ListN.{length, drop, take}
+use Rattle.term_parser.specs.Source.{Source, one}
+use Rattle.term_parser.specs.Promises.{told}
+use Rattle.term_parser.specs.Parsing.{Tokens, kind_of, last_line, Parsed, parsed, follow, sign_of}
+use Rattle.term_parser.specs.Lists.{app}
+use Rattle.term_parser.specs.Rows.{Rows, rows_of, rows_of_all}
+use Rattle.parser.specs.Source.{Clause}
+use Rattle.parser.specs.Declarations.{behind_bar, clause_of}
+use Rattle.parser.specs.Rows.{clause_rows, clause_kind}
+use Rattle.term_parser.proofs.TokenLaws.{token_there}
+use Rattle.term_parser.proofs.Readers.{stopped, got, firm_sign}
+use Rattle.term_parser.proofs.TermLaws.{firm_app}
+use Rattle.term_parser.proofs.ListLaws.{firm_patterns, behind_is, behind_not}
+use Rattle.parser.proofs.PartLaws.{Along, start, part, part_stopped, sign_part, sign_stopped, finish, room_along}
+use borrow.Author.Rules.{rules}
+use Rattle.parser.proofs.declarations.clause.Goals as goal
+
+module _ (text : List ℕ) (last : ℕ) (ps : List (Source one)) where
+  abbrev behind_arrow : Unit {0} → Tokens → Parsed Clause
+  behind_arrow _ vs = follow (app text last vs) vs (λ t ws. parsed (record { patterns = ps; body = t }) 0)
+
+  abbrev behind_patterns : Tokens → Parsed Clause
+  behind_patterns us = follow (sign_of last 16 us) us behind_arrow
+
+abbrev Read : List ℕ → Tokens → ℕ → ℕ → Rows → ℕ → ℕ → Rows → (List ℕ → ℕ → Tokens → Parsed Clause) → Rows → Type 0
+Read text₀ tokens₀ at₀ used₀ out₀ q k out then body =
+    Along clause_rows (clause_of text₀ (last_line tokens₀) (drop at₀ tokens₀)) tokens₀ at₀ used₀ out₀
+    q k out (then text₀ (last_line tokens₀) (drop q tokens₀)) body
+
+pub returns-then-peek-ne-BAR : goal.returns-then-peek-ne-BAR
+returns-then-peek-ne-BAR c =
+    let args = c.args in record {
+      is = sym (ap (told clause_rows args.at (take args.used args.out.now)) (behind_not 22 (behind_bar args.text.now (last_line args.tokens.now)) args.tokens.now args.at (λ e. c.if-peek-ne-BAR.true (ap (λ x. x.kind) c.peek.ensures
+          ∙ e))));
+      within = tt;
+      still = λ _. refl;
+    }
+
+pub patterns-list-requires : goal.patterns-list-requires
+patterns-list-requires c =
+    let is-bar : kind_of (drop c.args.at c.args.tokens.now) ≡ 22 = sym (ap (λ t. t.kind) c.peek.ensures) ∙ c.if-peek-ne-BAR.false in
+    let here : c.args.at < length c.args.tokens.now = let e = is-bar in token_there c.args.tokens.now c.args.at (omega arith) in
+    let after-bar : let args = c.args in Read c.args.text.now c.args.tokens.now c.args.at c.args.used c.args.out.now (args.at + 1) (args.used + 1) args.out.now behind_bar [] = let args = c.args in start clause_rows c.requires (here) _ _ (behind_is 22 (behind_bar args.text.now (last_line args.tokens.now)) args.tokens.now args.at (is-bar)) in
+    room_along (after-bar) c.requires
+
+pub returns-in_default : goal.returns-in_default
+returns-in_default c =
+    let is-bar : kind_of (drop c.args.at c.args.tokens.now) ≡ 22 = sym (ap (λ t. t.kind) c.peek.ensures) ∙ c.if-peek-ne-BAR.false in
+    let here : c.args.at < length c.args.tokens.now = let e = is-bar in token_there c.args.tokens.now c.args.at (omega arith) in
+    let after-bar : let args = c.args in Read c.args.text.now c.args.tokens.now c.args.at c.args.used c.args.out.now (args.at + 1) (args.used + 1) args.out.now behind_bar [] = let args = c.args in start clause_rows c.requires (here) _ _ (behind_is 22 (behind_bar args.text.now (last_line args.tokens.now)) args.tokens.now args.at (is-bar)) in
+    let args = c.args in let ts = args.tokens.now in
+    part_stopped (after-bar) (behind_patterns args.text.now (last_line ts)) refl c.patterns-list.ensures.answers (stopped c.patterns-list.result c.in_default.in_default-own.keys2) (firm_patterns args.text.now ts (drop (args.at + 1) ts))
+
+pub returns-in_default-arrow : goal.returns-in_default-arrow
+returns-in_default-arrow c =
+    let the-patterns : List (Source one) = (got c.patterns-list.ensures.answers c.in-At.is).item in
+    let is-bar : kind_of (drop c.args.at c.args.tokens.now) ≡ 22 = sym (ap (λ t. t.kind) c.peek.ensures) ∙ c.if-peek-ne-BAR.false in
+    let here : c.args.at < length c.args.tokens.now = let e = is-bar in token_there c.args.tokens.now c.args.at (omega arith) in
+    let after-bar : let args = c.args in Read c.args.text.now c.args.tokens.now c.args.at c.args.used c.args.out.now (args.at + 1) (args.used + 1) args.out.now behind_bar [] = let args = c.args in start clause_rows c.requires (here) _ _ (behind_is 22 (behind_bar args.text.now (last_line args.tokens.now)) args.tokens.now args.at (is-bar)) in
+    let after-patterns : Read c.args.text.now c.args.tokens.now c.args.at c.args.used c.args.out.now c.in-At.p c.in-At.u c.patterns-list.new.out (λ text last. behind_patterns text last (the-patterns)) (rows_of_all rows_of (the-patterns)) = let args = c.args in part (after-bar) (behind_patterns args.text.now (last_line args.tokens.now)) refl c.patterns-list.ensures.answers c.in-At.is c.patterns-list.auto.out in
+    let args = c.args in let last = last_line args.tokens.now in
+    sign_stopped (after-patterns) last 16 (behind_arrow args.text.now last (the-patterns)) refl c.sign-arrow.ensures (stopped c.sign-arrow.result c.in_default-arrow.in_default-arrow-own.keys2) (firm_sign last 16 (drop c.in-At.p args.tokens.now))
+
+pub app-body-requires : goal.app-body-requires
+app-body-requires c =
+    let the-patterns : List (Source one) = (got c.patterns-list.ensures.answers c.in-At.is).item in
+    let is-bar : kind_of (drop c.args.at c.args.tokens.now) ≡ 22 = sym (ap (λ t. t.kind) c.peek.ensures) ∙ c.if-peek-ne-BAR.false in
+    let here : c.args.at < length c.args.tokens.now = let e = is-bar in token_there c.args.tokens.now c.args.at (omega arith) in
+    let after-bar : let args = c.args in Read c.args.text.now c.args.tokens.now c.args.at c.args.used c.args.out.now (args.at + 1) (args.used + 1) args.out.now behind_bar [] = let args = c.args in start clause_rows c.requires (here) _ _ (behind_is 22 (behind_bar args.text.now (last_line args.tokens.now)) args.tokens.now args.at (is-bar)) in
+    let after-patterns : Read c.args.text.now c.args.tokens.now c.args.at c.args.used c.args.out.now c.in-At.p c.in-At.u c.patterns-list.new.out (λ text last. behind_patterns text last (the-patterns)) (rows_of_all rows_of (the-patterns)) = let args = c.args in part (after-bar) (behind_patterns args.text.now (last_line args.tokens.now)) refl c.patterns-list.ensures.answers c.in-At.is c.patterns-list.auto.out in
+    let after-arrow : Read c.args.text.now c.args.tokens.now c.args.at c.args.used c.args.out.now c.in-At-arrow.q c.in-At-arrow.v c.patterns-list.new.out (λ text last. behind_arrow text last (the-patterns) tt) (rows_of_all rows_of (the-patterns)) = let args = c.args in sign_part (after-patterns) (last_line args.tokens.now) 16 (behind_arrow args.text.now (last_line args.tokens.now) (the-patterns)) refl c.sign-arrow.ensures c.in-At-arrow.is in
+    room_along (after-arrow) c.requires
+
+pub returns-in_default-body : goal.returns-in_default-body
+returns-in_default-body c =
+    let the-patterns : List (Source one) = (got c.patterns-list.ensures.answers c.in-At.is).item in
+    let is-bar : kind_of (drop c.args.at c.args.tokens.now) ≡ 22 = sym (ap (λ t. t.kind) c.peek.ensures) ∙ c.if-peek-ne-BAR.false in
+    let here : c.args.at < length c.args.tokens.now = let e = is-bar in token_there c.args.tokens.now c.args.at (omega arith) in
+    let after-bar : let args = c.args in Read c.args.text.now c.args.tokens.now c.args.at c.args.used c.args.out.now (args.at + 1) (args.used + 1) args.out.now behind_bar [] = let args = c.args in start clause_rows c.requires (here) _ _ (behind_is 22 (behind_bar args.text.now (last_line args.tokens.now)) args.tokens.now args.at (is-bar)) in
+    let after-patterns : Read c.args.text.now c.args.tokens.now c.args.at c.args.used c.args.out.now c.in-At.p c.in-At.u c.patterns-list.new.out (λ text last. behind_patterns text last (the-patterns)) (rows_of_all rows_of (the-patterns)) = let args = c.args in part (after-bar) (behind_patterns args.text.now (last_line args.tokens.now)) refl c.patterns-list.ensures.answers c.in-At.is c.patterns-list.auto.out in
+    let after-arrow : Read c.args.text.now c.args.tokens.now c.args.at c.args.used c.args.out.now c.in-At-arrow.q c.in-At-arrow.v c.patterns-list.new.out (λ text last. behind_arrow text last (the-patterns) tt) (rows_of_all rows_of (the-patterns)) = let args = c.args in sign_part (after-patterns) (last_line args.tokens.now) 16 (behind_arrow args.text.now (last_line args.tokens.now) (the-patterns)) refl c.sign-arrow.ensures c.in-At-arrow.is in
+    let args = c.args in part_stopped (after-arrow) (λ t ws. parsed (record { patterns = the-patterns; body = t }) 0) refl c.app-body.ensures (stopped c.app-body.result c.in_default-body.in_default-body-own.keys2) (firm_app args.text.now args.tokens.now 64 (drop c.in-At-arrow.q args.tokens.now))
+
+pub put-requires : goal.put-requires
+put-requires c =
+    let the-patterns : List (Source one) = (got c.patterns-list.ensures.answers c.in-At.is).item in
+    let the-body : Source one = (got c.app-body.ensures c.in-At-body.is).item in
+    let is-bar : kind_of (drop c.args.at c.args.tokens.now) ≡ 22 = sym (ap (λ t. t.kind) c.peek.ensures) ∙ c.if-peek-ne-BAR.false in
+    let here : c.args.at < length c.args.tokens.now = let e = is-bar in token_there c.args.tokens.now c.args.at (omega arith) in
+    let after-bar : let args = c.args in Read c.args.text.now c.args.tokens.now c.args.at c.args.used c.args.out.now (args.at + 1) (args.used + 1) args.out.now behind_bar [] = let args = c.args in start clause_rows c.requires (here) _ _ (behind_is 22 (behind_bar args.text.now (last_line args.tokens.now)) args.tokens.now args.at (is-bar)) in
+    let after-patterns : Read c.args.text.now c.args.tokens.now c.args.at c.args.used c.args.out.now c.in-At.p c.in-At.u c.patterns-list.new.out (λ text last. behind_patterns text last (the-patterns)) (rows_of_all rows_of (the-patterns)) = let args = c.args in part (after-bar) (behind_patterns args.text.now (last_line args.tokens.now)) refl c.patterns-list.ensures.answers c.in-At.is c.patterns-list.auto.out in
+    let after-arrow : Read c.args.text.now c.args.tokens.now c.args.at c.args.used c.args.out.now c.in-At-arrow.q c.in-At-arrow.v c.patterns-list.new.out (λ text last. behind_arrow text last (the-patterns) tt) (rows_of_all rows_of (the-patterns)) = let args = c.args in sign_part (after-patterns) (last_line args.tokens.now) 16 (behind_arrow args.text.now (last_line args.tokens.now) (the-patterns)) refl c.sign-arrow.ensures c.in-At-arrow.is in
+    let after-body : Read c.args.text.now c.args.tokens.now c.args.at c.args.used c.args.out.now c.in-At-body.next c.in-At-body.k c.app-body.new.out (λ _ _ _. parsed (record { patterns = the-patterns; body = the-body }) 0) (rows_of_all rows_of (the-patterns) ++ rows_of (the-body)) = part (after-arrow) (λ t ws. parsed (record { patterns = the-patterns; body = t }) 0) refl c.app-body.ensures c.in-At-body.is c.app-body.auto.out in
+    omega (arith, c.requires.lent, c.requires.below, (here), (after-body).long)
+
+pub returns : goal.returns
+returns c =
+    let the-patterns : List (Source one) = (got c.patterns-list.ensures.answers c.in-At.is).item in
+    let the-body : Source one = (got c.app-body.ensures c.in-At-body.is).item in
+    let is-bar : kind_of (drop c.args.at c.args.tokens.now) ≡ 22 = sym (ap (λ t. t.kind) c.peek.ensures) ∙ c.if-peek-ne-BAR.false in
+    let here : c.args.at < length c.args.tokens.now = let e = is-bar in token_there c.args.tokens.now c.args.at (omega arith) in
+    let after-bar : let args = c.args in Read c.args.text.now c.args.tokens.now c.args.at c.args.used c.args.out.now (args.at + 1) (args.used + 1) args.out.now behind_bar [] = let args = c.args in start clause_rows c.requires (here) _ _ (behind_is 22 (behind_bar args.text.now (last_line args.tokens.now)) args.tokens.now args.at (is-bar)) in
+    let after-patterns : Read c.args.text.now c.args.tokens.now c.args.at c.args.used c.args.out.now c.in-At.p c.in-At.u c.patterns-list.new.out (λ text last. behind_patterns text last (the-patterns)) (rows_of_all rows_of (the-patterns)) = let args = c.args in part (after-bar) (behind_patterns args.text.now (last_line args.tokens.now)) refl c.patterns-list.ensures.answers c.in-At.is c.patterns-list.auto.out in
+    let after-arrow : Read c.args.text.now c.args.tokens.now c.args.at c.args.used c.args.out.now c.in-At-arrow.q c.in-At-arrow.v c.patterns-list.new.out (λ text last. behind_arrow text last (the-patterns) tt) (rows_of_all rows_of (the-patterns)) = let args = c.args in sign_part (after-patterns) (last_line args.tokens.now) 16 (behind_arrow args.text.now (last_line args.tokens.now) (the-patterns)) refl c.sign-arrow.ensures c.in-At-arrow.is in
+    let after-body : Read c.args.text.now c.args.tokens.now c.args.at c.args.used c.args.out.now c.in-At-body.next c.in-At-body.k c.app-body.new.out (λ _ _ _. parsed (record { patterns = the-patterns; body = the-body }) 0) (rows_of_all rows_of (the-patterns) ++ rows_of (the-body)) = part (after-arrow) (λ t ws. parsed (record { patterns = the-patterns; body = t }) 0) refl c.app-body.ensures c.in-At-body.is c.app-body.auto.out in
+    let count : c.in-At.n ≡ length (the-patterns) = c.patterns-list.ensures.counted _ _ _ c.in-At.is _ _ (got c.patterns-list.ensures.answers c.in-At.is).is in
+    finish (after-body) c.requires refl (ap (λ i. (clause_kind ∷ 0 ∷ 0 ∷ i ∷ []) ∷ (rows_of_all rows_of (the-patterns) ++ rows_of (the-body))) (sym (count))) c.put.ensures

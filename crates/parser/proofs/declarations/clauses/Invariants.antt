@@ -1,0 +1,18 @@
+-- `clauses` meets its contract.
+use Prim.Native.Nat.{◌-◌}
+use native.Mathlib.Omega.{arith}
+use lib.ListN.{length}
+use Rattle.term_parser.specs.Parsing.{last_line}
+use Rattle.parser.specs.Declarations.{clause_of}
+use Rattle.parser.specs.Rows.{clause_rows}
+use Rattle.term_parser.proofs.Readers.{moved, Looped, loop_start, loop_turn}
+use Rattle.term_parser.proofs.TermLaws.{room_on}
+use Rattle.term_parser.proofs.ListLaws.{list_absent, list_refused}
+use borrow.Author.Rules.{rules}
+use Rattle.parser.proofs.declarations.clauses.Given as goal
+
+abbrev pub invariant-loop-q : goal.invariant-loop-q
+invariant-loop-q l = Looped (clause_of l.text (last_line l.tokens)) clause_rows l.tokens l.at l.used 0 l.initial.out l.p l.u l.n l.out
+
+abbrev pub decreases-loop-q : goal.decreases-loop-q
+decreases-loop-q l = length l.tokens - l.p

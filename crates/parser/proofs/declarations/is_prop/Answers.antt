@@ -1,0 +1,10 @@
+-- `is_prop` meets its contract.
+use mathlib.Core.Path.{ap, ◌∙◌}
+use Prim.Native.Nat.{◌-◌}
+use Rattle.source_text.specs.Bytes.{same_bytes}
+use Rattle.parser.specs.Declarations.{prop_name}
+use borrow.Author.Rules.{rules}
+use Rattle.parser.proofs.declarations.is_prop.Goals as goal
+
+pub returns : goal.returns
+returns c = c.same.ensures ∙ ap (λ w. same_bytes w prop_name) c.word-word.ensures

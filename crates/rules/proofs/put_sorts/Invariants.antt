@@ -1,0 +1,17 @@
+-- `put_sorts` meets its contract. The loop's invariant: the sorts of the first j variables are written.
+use mathlib.Core.Path.{◌≡◌, sym, ap, ◌∙◌}
+use mathlib.Core.List.{List, []}
+use Prim.Native.Nat.{ℕ, ◌≤◌, ◌-◌}
+use lib.ListN.{length, set, length-set}
+use lib.Seq.{sets, set-get_or}
+use Rattle.names.specs.Symbols.{row_at, variables_of}
+use Rattle.rules.proofs.RowLaws.{sorts_in, sorts_next, column_written}
+use borrow.Author.Rules.{rules}
+use native.Mathlib.Omega.{arith}
+use Rattle.rules.proofs.put_sorts.Given as goal
+
+abbrev pub invariant-loop-j : goal.invariant-loop-j
+invariant-loop-j l = (l.j ≤ l.n) × ((text : List ℕ) → l.rules ≡ set l.initial.rules l.i (sets (row_at l.initial.rules l.i) 26 (sorts_in text l.variables l.j)))
+
+abbrev pub decreases-loop-j : goal.decreases-loop-j
+decreases-loop-j l = l.n - l.j
