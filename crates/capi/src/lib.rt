@@ -1,4 +1,6 @@
 // The functions that programs in other languages call: numbers, byte slices and rows.
+#![tactic(auto)]
+
 ghost use Rattle.std.specs.Prelude.{◌≡◌, ◌≤◌, cond, eqb, [], ◌∷◌, length, replicate};
 ghost use Rattle.std.proofs.lemmas.List.Edits.{sets};
 ghost use Rattle.capi.specs.Declarations.{ParsedAs};

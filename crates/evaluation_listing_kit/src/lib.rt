@@ -2,6 +2,8 @@
 //
 // A line is made in a lent buffer, and written to standard output from there. A line for which the buffer, or the stack of open nodes, is too short is
 // listed as `wrong`.
+#![tactic(auto)]
+
 mod output; // bytes and numbers, as long as there is room
 mod prefix; // terms in prefix form
 

@@ -3,6 +3,8 @@
 //
 // The entry points are `evaluate` and `is_forward_call`. They ask nothing of their caller, and each contract fixes the answer and every lent buffer on all
 // inputs. `evaluate_listed` serves programs that know their signature and their rows to be in form.
+#![tactic(auto)]
+
 ghost use Rattle.std.specs.Prelude.{◌≡◌, ◌≤◌, length, replicate};
 ghost use Rattle.load_storage.specs.Storage.{cleared_from};
 ghost use Rattle.function_calls.specs.Calls.{tree_rows};

@@ -1,6 +1,7 @@
 // Replays a recorded list of texts: loads each, evaluates each of its `#eval` that is a forward call, and lists the answers, for comparison with the
 // recorded ones. Tests also what the lent buffers hold afterwards, and that what is too short or not in form is refused. A test that fails writes a line
 // that begins with `wrong`.
+#![tactic(auto)]
 
 ghost use Rattle.std.specs.Prelude.{◌+◌, ◌^◌, ◌≤◌, ◌<◌};
 

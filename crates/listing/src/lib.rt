@@ -1,4 +1,6 @@
 // The token listing of a text, written into a lent buffer, and from there to standard output.
+#![tactic(auto)]
+
 pub mod recorded; // recorded lists of texts
 mod lines; // the line of a token, and of a refused text
 

@@ -1,6 +1,8 @@
 // Loading: from a text to a signature in lent storage. The text is lexed, parsed and loaded in this order, and refused by number and line.
 //
 // The entry point is `load`. It asks nothing of its caller, and its contract fixes the answer and every lent buffer on all inputs.
+#![tactic(auto)]
+
 ghost use Rattle.std.specs.Prelude.{◌≡◌, cond, [], ◌∷◌, ◌+◌, ◌-◌, ◌≤◌, eqb, set};
 ghost use Rattle.load.specs.Load.{noted, WalkAsked, Walked};
 ghost use Rattle.load.specs.Loading.{LoadingText};

@@ -1,6 +1,8 @@
 // Storage of `load`: whether lent buffers are as long as docs/STORAGE.md lists, and what is cleared of them.
 //
 // All functions here serve `load`; `clear_pairs` serves sessions too.
+#![tactic(auto)]
+
 ghost use Rattle.std.specs.Prelude.{◌≡◌, ◌≤◌, length};
 ghost use Rattle.load_storage.specs.Storage.{is_short, zero_pair, zero_symbol, zero_rule, cleared_from, Clearable, SignatureCleared, ScratchCleared, Wiped};
 

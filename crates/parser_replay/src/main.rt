@@ -1,5 +1,7 @@
 // Replays a recorded list of texts: lists the declarations' rows of each, for comparison with the recorded answers, and tests what the lent rows hold
 // afterwards. A test that fails writes a line that begins with `wrong`.
+#![tactic(auto)]
+
 ghost use Rattle.std.specs.Prelude.{◌&&◌, ◌≡◌, ◌+◌, ◌^◌, ◌≤◌, ◌<◌, leb, drop, length, replicate};
 ghost use Rattle.parser_replay.specs.Rows.{are_all, is_all, row_of};
 

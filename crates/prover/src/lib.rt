@@ -2,6 +2,8 @@
 //
 // The entry point is `prove`. It asks nothing of its caller, and its contract fixes the answer and every lent buffer on all inputs.
 // `prove_listed` serves programs that know what they lend to be in form, `prove_cleared` those that know besides that all past the counts is zero.
+#![tactic(auto)]
+
 mod clearing; // what lies past the counts
 mod preparing; // a goal compiled, tested and stored
 mod searching; // the search, and what it leaves

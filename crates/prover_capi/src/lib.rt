@@ -1,5 +1,7 @@
 // `prover::prove_cleared` for programs in other languages that see to what it asks, as the measurements of its speed do. `capi::horn_prove` is the one for
 // users.
+#![tactic(auto)]
+
 ghost use Rattle.std.specs.Prelude.{◌≤◌, length};
 ghost use Rattle.capi.specs.Evaluation.{store_with};
 ghost use Rattle.capi.specs.Sessions.{counts_in, search_limits};

@@ -2,6 +2,8 @@
 //
 // `check_session` tells it, with the lengths that a call's limits ask and the scratch that must be zero. Of its caller it asks only that
 // the symbols are there, which the test of the signature tells first.
+#![tactic(auto)]
+
 mod lengths; // lengths and counts
 mod naming; // the rows of names
 mod nodes; // words over the signature's arities

@@ -2,6 +2,8 @@
 //
 // The entry point is `open`. It asks nothing of its caller, and its contract fixes the answer and every lent buffer on all inputs.
 // `clear_names` serves `prove` too.
+#![tactic(auto)]
+
 ghost use Rattle.std.specs.Prelude.{◌≡◌, ◌≤◌, length};
 ghost use Rattle.load_storage.specs.Storage.{cleared_from};
 ghost use Rattle.sessions.specs.Storage.{zero_name, zero_triple};

@@ -1,5 +1,7 @@
 // Stored signatures, listed as the recorded answers are: a line for each sort and symbol, for each rule its heading, its nodes in order and its
 // references, and a line for each `#eval`.
+#![tactic(auto)]
+
 ghost use Rattle.std.specs.Prelude.{◌≡◌, ◌≤◌};
 ghost use Rattle.source_text.specs.Parts.{part_of};
 ghost use Rattle.signature_listing.specs.Nodes.{arity_at};
