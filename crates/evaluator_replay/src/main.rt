@@ -8,7 +8,6 @@ ghost use Rattle.std.specs.Prelude.{◌+◌, ◌^◌, ◌≤◌, ◌<◌};
 use evaluation_tests_kit::{lent, refused};
 use evaluator::{Evaluation, Forward};
 use function_calls::TreeRow;
-use libc::STDOUT_FILENO;
 use listing::recorded;
 use load::{EvalRow, Loading};
 use names::{SortRow, SymbolRow};
@@ -17,6 +16,9 @@ use rules::RuleRow;
 use signature::Counts;
 use signature_tests::buffers;
 use words::Limits;
+
+// Standard output.
+const STDOUT_FILENO: i32 = 1;
 
 // What is lent is exactly enough for this limit on words.
 const WORDS: u32 = 65536;

@@ -5,10 +5,12 @@
 ghost use Rattle.std.specs.Prelude.{◌&&◌, ◌≡◌, ◌+◌, ◌^◌, ◌≤◌, ◌<◌, leb, drop, length, replicate};
 ghost use Rattle.parser_replay.specs.Rows.{are_all, is_all, row_of};
 
-use libc::STDOUT_FILENO;
 use listing::recorded;
 use parser::Answer;
 use words::{Lexed, Limits, Row};
+
+// Standard output.
+const STDOUT_FILENO: i32 = 1;
 
 // What each number of the lent rows is before a call.
 const JUNK: u32 = 0xA5A5_A5A5;
