@@ -113,7 +113,7 @@ pub fn leave_nothing(
     words: &mut [u32],
     evals: &mut [EvalRow],
 )
-    ensures { Wiped (record { tokens = tokens.entry.now; rows = rows.old; calls = calls.old; sorts = sorts.old; symbols = symbols.old; rules = rules.old; words = words.old; evals = evals.old }) (record { tokens = tokens.exit.now; rows = rows.new; calls = calls.new; sorts = sorts.new; symbols = symbols.new; rules = rules.new; words = words.new; evals = evals.new }) }
+    ensures { Wiped (record { tokens = tokens.old; rows = rows.old; calls = calls.old; sorts = sorts.old; symbols = symbols.old; rules = rules.old; words = words.old; evals = evals.old }) (record { tokens = tokens.new; rows = rows.new; calls = calls.new; sorts = sorts.new; symbols = symbols.new; rules = rules.new; words = words.new; evals = evals.new }) }
 {
     words::clear(rows, 0);
     leave(
