@@ -312,7 +312,7 @@ fn case(plan: &Plan, tally: &mut Tally) -> Option<String> {
     let mut names = plan.names.clone();
     let mut kept = plan.words;
     tally.bound_at_start += usize::from(!plan.bindings.is_empty());
-    let mut out = String::from("record {\n        rules = ");
+    let mut out = String::from("record {\n      rules = ");
     for r in &plan.rules {
         let mut premises = String::new();
         text_args(&r.premises, &text_pat, &mut premises);
@@ -322,7 +322,7 @@ fn case(plan: &Plan, tally: &mut Tally) -> Option<String> {
     }
     let named: String = names.iter().map(|(n, x)| format!("record {{ name = record {{ text = {n} ∷ []; sort = 1 }}; variable = {x} }} ∷ ")).collect();
     out.push_str(&format!(
-        "[];\n        session = record {{ names = {named}[]; variables = {}; bindings = {}; words = {kept} }};\n        goals = ",
+        "[];\n      session = record {{ names = {named}[]; variables = {}; bindings = {}; words = {kept} }};\n      goals = ",
         plan.variables,
         text_bindings(&p)
     ));
@@ -392,7 +392,7 @@ fn case(plan: &Plan, tally: &mut Tally) -> Option<String> {
         code_session(names.len(), &p, kept, &mut expected);
     }
     let numbers: String = expected.iter().map(|n| format!("{n} ∷ ")).collect();
-    out.push_str(&format!("{goals}[];\n        expected = {numbers}[]\n      }}"));
+    out.push_str(&format!("{goals}[];\n      expected = {numbers}[];\n    }}"));
     Some(out)
 }
 
@@ -489,7 +489,7 @@ pub fn main() {
             out.push('\n');
         }
         out.push_str(&format!(
-            "    ∷ []\n\n-- All of them come out.\npub all-pass : passing cases ≡ {n}\nunfolding same less mem attempt compileBy cases\nall-pass = refl\n"
+            "    ∷ []\n\n-- All of them come out.\npub all_pass : passing cases ≡ {n}\nunfolding same less mem attempt compile_by cases\nall_pass = refl\n"
         ));
         fs::write(format!("{folder}/Batch{file}.antt"), out).expect("written");
         file += 1;

@@ -1,6 +1,8 @@
 // Whether stored bindings are acyclic. The bindings are a graph over references: from a bound variable an edge leads to the reference that it is bound to,
 // from a node an edge leads to each argument. The search goes through the graph in depth; scratch has by reference a mark and the way back, so that
 // nothing is recursive. A place is 0 for none, else 1 + a reference.
+#![tactic(auto)]
+
 ghost use Rattle.std.specs.Prelude.{◌≡◌, ◌+◌, ◌≤◌, length};
 ghost use Rattle.arena.specs.Cells.{cells};
 ghost use Rattle.arena.specs.Rows.{column};

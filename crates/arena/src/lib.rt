@@ -2,6 +2,8 @@
 // says what a reference denotes, and docs/STORAGE.md how much room it takes.
 //
 // All functions here serve the crates above, which count words and variables before they write: so they ask for room.
+#![tactic(auto)]
+
 mod format; // the numbers of the format
 mod copies; // one word of a copy
 mod form; // the tests on one word

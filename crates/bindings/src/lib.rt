@@ -3,6 +3,8 @@
 // `w` are the words, `b` the rows of the bindings with their trail, `m` lent marks that are left as they were. `room` is the number of variables there
 // is room for, `variables` how many are in use, `used` how many words are in use, `k` how many bindings there are. Every function takes the room as a
 // number, since no law here asks for more than that it holds the variables; the crates above pass `arena::TERM_ROOM`.
+#![tactic(auto)]
+
 pub use tables::{enter, undo};
 
 mod tables; // a table with the list of its entries

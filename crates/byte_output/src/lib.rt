@@ -1,6 +1,8 @@
 // Bytes and numbers in decimal, written into a lent buffer from a place on.
 //
 // Each function asks that there is room, and answers the place behind what it wrote.
+#![tactic(auto)]
+
 ghost use Rattle.std.specs.Prelude.{◌+◌, ◌≤◌, ◌<◌, [], ◌∷◌, length};
 ghost use Rattle.byte_output.specs.Output.{numeral, Written};
 

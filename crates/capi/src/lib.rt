@@ -1,4 +1,6 @@
-// The functions that programs in other languages call: numbers, byte slices and rows.
+// The functions that programs in other languages call: numbers, byte slices and rows. `capi_c` exports them.
+#![tactic(auto)]
+
 ghost use Rattle.std.specs.Prelude.{◌≡◌, ◌≤◌, cond, eqb, [], ◌∷◌, length, replicate};
 ghost use Rattle.std.proofs.lemmas.List.Edits.{sets};
 ghost use Rattle.capi.specs.Declarations.{ParsedAs};
@@ -13,8 +15,7 @@ ghost use Rattle.words.specs.Lexer.{lex_answer, lex_rows};
 use arena::TERM_ROOM;
 
 // `words::lex` under a limit on the text's bytes. The answer is the number of tokens, or 2^32 times the refusal's number and its line.
-#[unsafe(no_mangle)]
-pub extern "C" fn horn_lex(text: &[u8], limit: u32, tokens: &mut [[u32; 4]]) -> u64
+pub fn horn_lex(text: &[u8], limit: u32, tokens: &mut [[u32; 4]]) -> u64
     ensures answer { result ≡ packed (lex_answer text.now (text_limit limit) tokens.old) }
     ensures rows { tokens.new ≡ lex_rows text.now (text_limit limit) tokens.old }
 {
@@ -33,13 +34,7 @@ pub extern "C" fn horn_lex(text: &[u8], limit: u32, tokens: &mut [[u32; 4]]) -> 
 }
 
 // `parser::parse_text` under a limit on the text's bytes. The answer is the number of declarations, or 2^32 times the refusal's number and its line.
-#[unsafe(no_mangle)]
-pub extern "C" fn horn_parse(
-    text: &[u8],
-    limit: u32,
-    tokens: &mut [[u32; 4]],
-    rows: &mut [[u32; 4]],
-) -> u64
+pub fn horn_parse(text: &[u8], limit: u32, tokens: &mut [[u32; 4]], rows: &mut [[u32; 4]]) -> u64
     ensures { ParsedAs text.now limit tokens.old rows.old result tokens.new rows.new }
 {
     let limits = words::Limits {
@@ -82,8 +77,7 @@ fn clear_counts(counts: &mut [u32], number: u32)
 
 // `load::load` under limits on the text's bytes and the nodes in all. The answer is the number of declarations, or 2^32 times the refusal's number and its
 // line. The counts are those of sorts, symbols, rules, words and waiting `#eval`.
-#[unsafe(no_mangle)]
-pub extern "C" fn horn_load(
+pub fn horn_load(
     text: &[u8],
     bytes: u32,
     nodes: u32,
@@ -97,7 +91,7 @@ pub extern "C" fn horn_load(
     evals: &mut [[u32; 2]],
     counts: &mut [u32],
 ) -> u64
-    ensures { LoadedAs text.now bytes nodes (record { tokens = tokens.entry.now; rows = rows.old; calls = calls.old; sorts = sorts.old; symbols = symbols.old; rules = rules.old; words = words.old; evals = evals.old }) counts.old result (record { tokens = tokens.exit.now; rows = rows.new; calls = calls.new; sorts = sorts.new; symbols = symbols.new; rules = rules.new; words = words.new; evals = evals.new }) counts.new }
+    ensures { LoadedAs text.now bytes nodes (record { tokens = tokens.old; rows = rows.old; calls = calls.old; sorts = sorts.old; symbols = symbols.old; rules = rules.old; words = words.old; evals = evals.old }) counts.old result (record { tokens = tokens.new; rows = rows.new; calls = calls.new; sorts = sorts.new; symbols = symbols.new; rules = rules.new; words = words.new; evals = evals.new }) counts.new }
 {
     if counts.len() < 5 {
         return 0x1_0000_0000;
@@ -129,8 +123,7 @@ pub extern "C" fn horn_load(
 
 // `signature::check_signature` on storage of any contents, with the first four counts that `horn_load` leaves. The answer is 0 for a signature in the listed
 // form, and else 2^32, refusal 1.
-#[unsafe(no_mangle)]
-pub extern "C" fn horn_check_signature(
+pub fn horn_check_signature(
     text: &[u8],
     sorts: &[[u32; 2]],
     symbols: &[[u32; 24]],
@@ -169,8 +162,7 @@ fn put_results(results: &mut [u32], value: u32, calls: u32, used: u32)
 
 // `evaluator::evaluate` under a limit on words, with the first four counts that `horn_load` leaves. The answer is 0 for a value, or 2^32 times the
 // refusal's number. The results are the value's reference, the number of calls and that of words.
-#[unsafe(no_mangle)]
-pub extern "C" fn horn_evaluate(
+pub fn horn_evaluate(
     text: &[u8],
     limit: u32,
     sorts: &[[u32; 2]],
@@ -187,8 +179,8 @@ pub extern "C" fn horn_evaluate(
 ) -> u64
     ensures { EvaluatedAs text.now limit sorts.now symbols.now rules.now pattern.now
         counts.now rows.now at
-        (record { words = words.entry.now; links = links.old; trees = trees.old }) results.old result
-        (record { words = words.exit.now; links = links.new; trees = trees.new }) results.new }
+        (record { words = words.old; links = links.old; trees = trees.old }) results.old result
+        (record { words = words.new; links = links.new; trees = trees.new }) results.new }
 {
     if counts.len() < 4 {
         return 0x1_0000_0000;
@@ -229,8 +221,7 @@ pub extern "C" fn horn_evaluate(
 
 // `evaluator::is_forward_call` with the first four counts that `horn_load` leaves. The answer is 1 for a forward call, 0 for a goal, and 2^32 for
 // refusal 1.
-#[unsafe(no_mangle)]
-pub extern "C" fn horn_is_forward_call(
+pub fn horn_is_forward_call(
     text: &[u8],
     sorts: &[[u32; 2]],
     symbols: &[[u32; 24]],
@@ -260,8 +251,7 @@ pub extern "C" fn horn_is_forward_call(
 }
 
 // `session_open::open` under limits on variables and on words. The answer is 0 for a new session, or 2^32 for refusal 1.
-#[unsafe(no_mangle)]
-pub extern "C" fn horn_open(
+pub fn horn_open(
     variables: u32,
     limit: u32,
     names: &mut [[u32; 5]],
@@ -272,10 +262,10 @@ pub extern "C" fn horn_open(
     stack: &mut [[u32; 3]],
 ) -> u64
     ensures { OpenedAs variables limit
-        (record { names = names.entry.now; words = words.old; bindings = bindings.old })
-        (record { links = links.entry.now; marks = marks.old; stack = stack.old }) result
-        (record { names = names.exit.now; words = words.new; bindings = bindings.new })
-        (record { links = links.exit.now; marks = marks.new; stack = stack.new }) }
+        (record { names = names.old; words = words.old; bindings = bindings.old })
+        (record { links = links.old; marks = marks.old; stack = stack.old }) result
+        (record { names = names.new; words = words.new; bindings = bindings.new })
+        (record { links = links.new; marks = marks.new; stack = stack.new }) }
 {
     let limits = words::Limits {
         text: 0,
@@ -338,8 +328,7 @@ pub fn tell_answer(results: &mut [u32], answer: sessions::Answer) -> u64
 // `prover::prove` under limits on steps, on variables and on words, with the first four counts that `horn_load` leaves and the session's
 // four: names, variables, bindings and words. The answer is 1 for a proof, 2 for none and 3 for undecided, or 2^32 times the refusal's
 // number. The results are the steps of the last bound, the number of the proof's nodes, and the session's counts then.
-#[unsafe(no_mangle)]
-pub extern "C" fn horn_prove(
+pub fn horn_prove(
     text: &[u8],
     most: u32,
     variables: u32,
@@ -365,19 +354,19 @@ pub extern "C" fn horn_prove(
 ) -> u64
     ensures { ProvedAs sorts.now symbols.now rules.now pattern.now counts.now
         (record {
-          text = text.entry.now;
+          text = text.now;
           limits = search_limits most variables limit;
           rows = rows.now;
           at = at;
           steps = steps;
           depth = depth;
           proof = proof.old;
-          space = record { links = links.entry.now; marks = marks.old; stack = stack.old };
+          space = record { links = links.old; marks = marks.old; stack = stack.old };
         })
-        (record { names = names.entry.now; words = words.old; bindings = bindings.old }) session.now
+        (record { names = names.old; words = words.old; bindings = bindings.old }) session.now
         results.old result
-        (record { names = names.exit.now; words = words.new; bindings = bindings.new }) proof.new
-        (record { links = links.exit.now; marks = marks.new; stack = stack.new }) results.new }
+        (record { names = names.new; words = words.new; bindings = bindings.new }) proof.new
+        (record { links = links.new; marks = marks.new; stack = stack.new }) results.new }
 {
     if counts.len() < 4 {
         return 0x1_0000_0000;
@@ -416,8 +405,7 @@ pub extern "C" fn horn_prove(
 
 // `unifier::unify` on storage of any contents. Where words, bindings, scratch and references are what it asks, the answer is how it ended, as `packed`
 // tells it, below 2^32. Else the answer is 2^32, refusal 1 with line 0, and nothing is written.
-#[unsafe(no_mangle)]
-pub extern "C" fn horn_unify(
+pub fn horn_unify(
     words: &[u32],
     bindings: &mut [[u32; 2]],
     links: &mut [[u32; 2]],

@@ -2,6 +2,8 @@
 // `instantiate` and the choice in `Evaluator::call`).
 //
 // All functions here serve the crates above: they ask for patterns, values and environments in storage (specs/Stored.antt).
+#![tactic(auto)]
+
 mod refusals; // document 01's numbers, of the crates above too
 mod matching; // patterns against values
 mod building; // values from patterns

@@ -1,6 +1,8 @@
 // Clauses of functions: flattened and entered as rules. The Rust's `Sig::clause`, with the refusals of `rules`, and 28 for a 17th call.
 //
 // All functions here serve the crates above: they ask for storage of the listed sizes.
+#![tactic(auto)]
+
 ghost use Rattle.std.specs.Prelude.{◌+◌, ◌-◌, ◌≤◌, ◌<◌, length};
 ghost use Rattle.names.specs.Symbols.{symbols_of};
 ghost use Rattle.clauses.specs.Promises.{Skipped, HeadingAsked, Headed, ClauseAsked, ClauseEntered};

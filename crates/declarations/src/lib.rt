@@ -2,6 +2,8 @@
 // crates/loader/specs/Signature; what storage holds between two declarations is `Held` in specs/Held.
 //
 // All functions here serve the crates above: they ask for storage of the listed sizes.
+#![tactic(auto)]
+
 ghost use Rattle.std.specs.Prelude.{◌≡◌, cond, [], ◌∷◌, ◌+◌, ◌≤◌, min, eqb, length};
 ghost use Rattle.names.specs.Symbols.{column, row_at, sorts_of, symbols_of};
 ghost use Rattle.loader.specs.Signature.{sort_refusal};

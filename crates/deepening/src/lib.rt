@@ -3,6 +3,8 @@
 //
 // What is lent comes with zero past what is in use, and goes back so: only what was written is cleared. The functions serve the crates
 // above, which ask for a signature and a session in form.
+#![tactic(auto)]
+
 mod bound; // one depth bound
 mod clearing; // what was written is cleared
 mod trees; // the proof that the frames are

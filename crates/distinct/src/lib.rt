@@ -1,6 +1,8 @@
 // Are all names of a table distinct? The places of the names are sorted by merging, and a merge that meets the same name twice says no.
 //
 // The entry point is `are_distinct`.
+#![tactic(auto)]
+
 ghost use Rattle.std.specs.Prelude.{◌≡◌, ℕ, ◌+◌, ◌≤◌, ◌<◌, length};
 ghost use Rattle.unifier.specs.Promises.{Tells};
 ghost use Rattle.names.specs.Names.{Distinct};

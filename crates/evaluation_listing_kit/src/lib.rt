@@ -2,18 +2,22 @@
 //
 // A line is made in a lent buffer, and written to standard output from there. A line for which the buffer, or the stack of open nodes, is too short is
 // listed as `wrong`.
+#![tactic(auto)]
+
 mod output; // bytes and numbers, as long as there is room
 mod prefix; // terms in prefix form
 
 ghost use Rattle.std.specs.Prelude.{◌≤◌, length};
 
 use function_calls::TreeRow;
-use libc::STDOUT_FILENO;
 use names::SymbolRow;
 use output::{put, put_byte, put_decimal};
 pub use prefix::OpenRow;
 use prefix::{put_name, put_term};
 use rules::RuleRow;
+
+// Standard output.
+const STDOUT_FILENO: i32 = 1;
 
 // Writes the line that ends at a place.
 fn write_line(out: &[u8], end: usize) {

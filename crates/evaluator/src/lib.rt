@@ -3,6 +3,8 @@
 //
 // The entry points are `evaluate` and `is_forward_call`. They ask nothing of their caller, and each contract fixes the answer and every lent buffer on all
 // inputs. `evaluate_listed` serves programs that know their signature and their rows to be in form.
+#![tactic(auto)]
+
 ghost use Rattle.std.specs.Prelude.{◌≡◌, ◌≤◌, length, replicate};
 ghost use Rattle.load_storage.specs.Storage.{cleared_from};
 ghost use Rattle.function_calls.specs.Calls.{tree_rows};
@@ -76,8 +78,8 @@ fn clear_trees(trees: &mut [TreeRow], from: usize)
 
 // Zeroes all that was lent to write.
 fn wipe(words: &mut [u32], links: &mut [u32], trees: &mut [TreeRow])
-    ensures { record { words = words.exit.now; links = links.new; trees = trees.new }
-        ≡ wiped (record { words = words.entry.now; links = links.old; trees = trees.old }) }
+    ensures { record { words = words.new; links = links.new; trees = trees.new }
+        ≡ wiped (record { words = words.old; links = links.old; trees = trees.old }) }
 {
     arena::clear(words, 0);
     arena::clear(links, 0);
@@ -101,11 +103,11 @@ pub fn evaluate_listed(
 ) -> Evaluation
     requires { Ready text.now limits
         (record { sorts = sorts.now; symbols = symbols.now; rules = rules.now; words = pattern.now; counts = counts })
-        rows.now at (record { words = words.now; links = links.old; trees = trees.old }) }
+        rows.now at (record { words = words.old; links = links.old; trees = trees.old }) }
     ensures { EvaluationLeft text.now limits
-        (record { sorts = sorts.entry.now; symbols = symbols.now; rules = rules.now; words = pattern.now; counts = counts })
-        rows.now at (record { words = words.entry.now; links = links.old; trees = trees.old }) result
-        (record { words = words.exit.now; links = links.new; trees = trees.new }) }
+        (record { sorts = sorts.now; symbols = symbols.now; rules = rules.now; words = pattern.now; counts = counts })
+        rows.now at (record { words = words.old; links = links.old; trees = trees.old }) result
+        (record { words = words.new; links = links.new; trees = trees.new }) }
 {
     let most = limits.capped().words;
     let size = counts.words as usize;
@@ -166,9 +168,9 @@ pub fn evaluate(
     trees: &mut [TreeRow],
 ) -> Evaluation
     ensures { Evaluating text.now limits
-        (record { sorts = sorts.entry.now; symbols = symbols.now; rules = rules.now; words = pattern.now; counts = counts })
-        rows.now at (record { words = words.entry.now; links = links.old; trees = trees.old }) result
-        (record { words = words.exit.now; links = links.new; trees = trees.new }) }
+        (record { sorts = sorts.now; symbols = symbols.now; rules = rules.now; words = pattern.now; counts = counts })
+        rows.now at (record { words = words.old; links = links.old; trees = trees.old }) result
+        (record { words = words.new; links = links.new; trees = trees.new }) }
 {
     let most = limits.capped().words;
     if is_short(most, words, links, trees) {
@@ -197,7 +199,7 @@ pub fn is_forward_call(
     at: usize,
 ) -> Forward
     ensures { Forwarding text.now
-        (record { sorts = sorts.entry.now; symbols = symbols.now; rules = rules.now; words = pattern.now; counts = counts })
+        (record { sorts = sorts.now; symbols = symbols.now; rules = rules.now; words = pattern.now; counts = counts })
         rows.now at result }
 {
     if !signature::check_signature(text, sorts, symbols, rules, pattern, counts) {

@@ -1,13 +1,13 @@
 // Replays a recorded list of texts: loads each, evaluates each of its `#eval` that is a forward call, and lists the answers, for comparison with the
 // recorded ones. Tests also what the lent buffers hold afterwards, and that what is too short or not in form is refused. A test that fails writes a line
 // that begins with `wrong`.
+#![tactic(auto)]
 
 ghost use Rattle.std.specs.Prelude.{◌+◌, ◌^◌, ◌≤◌, ◌<◌};
 
 use evaluation_tests_kit::{lent, refused};
 use evaluator::{Evaluation, Forward};
 use function_calls::TreeRow;
-use libc::STDOUT_FILENO;
 use listing::recorded;
 use load::{EvalRow, Loading};
 use names::{SortRow, SymbolRow};
@@ -16,6 +16,9 @@ use rules::RuleRow;
 use signature::Counts;
 use signature_tests::buffers;
 use words::Limits;
+
+// Standard output.
+const STDOUT_FILENO: i32 = 1;
 
 // What is lent is exactly enough for this limit on words.
 const WORDS: u32 = 65536;

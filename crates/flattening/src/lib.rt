@@ -1,6 +1,8 @@
 // Flattening: the calls inside a term become premises, inner first and left to right, each with a variable for its result (document 01, "Rules").
 //
 // All functions here serve the crates above: `Room` and the contracts say what they ask.
+#![tactic(auto)]
+
 ghost use Rattle.std.specs.Prelude.{◌≡◌, ◌+◌, ◌-◌, ◌*◌, ◌≤◌, ◌<◌, length};
 ghost use Rattle.source_text.specs.Parts.{part_of};
 ghost use Rattle.names.specs.Names.{result_length};

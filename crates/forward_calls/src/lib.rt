@@ -1,6 +1,8 @@
 // Forward calls: which `#eval` is evaluated (document 01, "Evaluated terms"; the Rust's `is_forward_call`).
 //
 // Both functions serve the crates above: they ask for rows that stand for a term.
+#![tactic(auto)]
+
 ghost use Rattle.forward_calls.specs.Ground.{GroundAsked, GroundAnswered};
 ghost use Rattle.forward_calls.specs.Forward.{ForwardAsked, ForwardAnswered};
 

@@ -2,6 +2,8 @@
 // stored in the session.
 //
 // All functions here serve the crates above: they ask for storage of the listed sizes.
+#![tactic(auto)]
+
 ghost use Rattle.std.specs.Prelude.{◌≡◌, List, map, ℕ, ◌+◌, ◌-◌, ◌≤◌, ◌<◌, length};
 ghost use Rattle.std.proofs.lemmas.List.Edits.{sets};
 ghost use Rattle.arena.specs.Copies.{term_room, pattern_room, moved, copied, Copyable, Movable};

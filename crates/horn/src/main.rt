@@ -1,4 +1,6 @@
 // The program: reads a text from standard input and lists its tokens, or its refusal.
+#![tactic(auto)]
+
 use words::Limits;
 
 fn main() {

@@ -1,4 +1,6 @@
 // The token listing of a text, written into a lent buffer, and from there to standard output.
+#![tactic(auto)]
+
 pub mod recorded; // recorded lists of texts
 mod lines; // the line of a token, and of a refused text
 
@@ -6,9 +8,11 @@ ghost use Rattle.std.specs.Prelude.{◌≡◌, ◌≤◌, length, take};
 ghost use Rattle.byte_output.specs.Output.{Written};
 ghost use Rattle.listing.specs.Listing.{token_lines, listing_size, listed_buffer, listed_rows, ListingWritten};
 
-use libc::STDOUT_FILENO;
 use lines::{write_refused_line, write_token};
 use words::{Lexed, Limits, Row};
+
+// Standard output.
+const STDOUT_FILENO: i32 = 1;
 
 // What `write_listing` answers: how many bytes it wrote, or that the buffer is shorter than `size` says.
 #[derive(Clone, Copy)]

@@ -4,7 +4,7 @@
 ghost use Rattle.std.specs.Prelude.{◌≡◌, ◌+◌, ◌^◌, ◌≤◌, ◌<◌, min};
 ghost use Rattle.listing.specs.Recorded.{end_of, digit_at, decimal_at, recorded_at};
 
-use libc::STDOUT_FILENO;
+use crate::STDOUT_FILENO;
 use words::Limits;
 
 // A text of a list: where it stands, the limits and the number of lent rows to read it with, and the place of the next one's line.

@@ -1,6 +1,8 @@
 // Loading: from a text to a signature in lent storage. The text is lexed, parsed and loaded in this order, and refused by number and line.
 //
 // The entry point is `load`. It asks nothing of its caller, and its contract fixes the answer and every lent buffer on all inputs.
+#![tactic(auto)]
+
 ghost use Rattle.std.specs.Prelude.{◌≡◌, cond, [], ◌∷◌, ◌+◌, ◌-◌, ◌≤◌, eqb, set};
 ghost use Rattle.load.specs.Load.{noted, WalkAsked, Walked};
 ghost use Rattle.load.specs.Loading.{LoadingText};
@@ -122,7 +124,7 @@ fn load_rows(
     evals: &mut [EvalRow],
 ) -> Loading
     requires { RowsAsked text.now limit n used tokens.old rows.old calls.old sorts.old symbols.old rules.old words.old evals.old }
-    ensures { RowsLoaded text.now limit n used (record { tokens = tokens.entry.now; rows = rows.old; calls = calls.old; sorts = sorts.old; symbols = symbols.old; rules = rules.old; words = words.old; evals = evals.old }) result (record { tokens = tokens.exit.now; rows = rows.new; calls = calls.new; sorts = sorts.new; symbols = symbols.new; rules = rules.new; words = words.new; evals = evals.new }) }
+    ensures { RowsLoaded text.now limit n used (record { tokens = tokens.old; rows = rows.old; calls = calls.old; sorts = sorts.old; symbols = symbols.old; rules = rules.old; words = words.old; evals = evals.old }) result (record { tokens = tokens.new; rows = rows.new; calls = calls.new; sorts = sorts.new; symbols = symbols.new; rules = rules.new; words = words.new; evals = evals.new }) }
 {
     match enter_all(
         text,
@@ -186,7 +188,7 @@ pub fn load(
     words: &mut [u32],
     evals: &mut [EvalRow],
 ) -> Loading
-    ensures { LoadingText text.now limits (record { tokens = tokens.entry.now; rows = rows.old; calls = calls.old; sorts = sorts.old; symbols = symbols.old; rules = rules.old; words = words.old; evals = evals.old }) result (record { tokens = tokens.exit.now; rows = rows.new; calls = calls.new; sorts = sorts.new; symbols = symbols.new; rules = rules.new; words = words.new; evals = evals.new }) }
+    ensures { LoadingText text.now limits (record { tokens = tokens.old; rows = rows.old; calls = calls.old; sorts = sorts.old; symbols = symbols.old; rules = rules.old; words = words.old; evals = evals.old }) result (record { tokens = tokens.new; rows = rows.new; calls = calls.new; sorts = sorts.new; symbols = symbols.new; rules = rules.new; words = words.new; evals = evals.new }) }
 {
     if load_storage::is_short(
         limits,

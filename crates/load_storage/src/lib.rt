@@ -1,6 +1,8 @@
 // Storage of `load`: whether lent buffers are as long as docs/STORAGE.md lists, and what is cleared of them.
 //
 // All functions here serve `load`; `clear_pairs` serves sessions too.
+#![tactic(auto)]
+
 ghost use Rattle.std.specs.Prelude.{◌≡◌, ◌≤◌, length};
 ghost use Rattle.load_storage.specs.Storage.{is_short, zero_pair, zero_symbol, zero_rule, cleared_from, Clearable, SignatureCleared, ScratchCleared, Wiped};
 
@@ -111,7 +113,7 @@ pub fn leave_nothing(
     words: &mut [u32],
     evals: &mut [EvalRow],
 )
-    ensures { Wiped (record { tokens = tokens.entry.now; rows = rows.old; calls = calls.old; sorts = sorts.old; symbols = symbols.old; rules = rules.old; words = words.old; evals = evals.old }) (record { tokens = tokens.exit.now; rows = rows.new; calls = calls.new; sorts = sorts.new; symbols = symbols.new; rules = rules.new; words = words.new; evals = evals.new }) }
+    ensures { Wiped (record { tokens = tokens.old; rows = rows.old; calls = calls.old; sorts = sorts.old; symbols = symbols.old; rules = rules.old; words = words.old; evals = evals.old }) (record { tokens = tokens.new; rows = rows.new; calls = calls.new; sorts = sorts.new; symbols = symbols.new; rules = rules.new; words = words.new; evals = evals.new }) }
 {
     words::clear(rows, 0);
     leave(

@@ -1,6 +1,8 @@
 // The loader: from declarations to a signature. Its definition is `load_of` in specs/Signature; here are the functions that enter sorts, symbols and rules.
 //
 // All functions here serve the crates above: they ask for storage of the listed sizes.
+#![tactic(auto)]
+
 ghost use Rattle.std.specs.Prelude.{◌≡◌, [], ◌∷◌, ◌+◌, ◌-◌, ◌≤◌, ◌<◌, length, take, set, cond};
 ghost use Rattle.source_text.specs.Parts.{part_of};
 ghost use Rattle.std.proofs.lemmas.List.Edits.{sets};

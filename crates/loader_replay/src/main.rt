@@ -1,5 +1,6 @@
 // Replays a recorded list of texts: loads each and lists the signature, for comparison with the recorded answers, and tests what the lent buffers hold
 // afterwards. A test that fails writes a line that begins with `wrong`.
+#![tactic(auto)]
 
 ghost use Rattle.std.specs.Prelude.{◌+◌, ◌^◌, ◌≤◌, ◌<◌};
 

@@ -1,12 +1,16 @@
 // Replays a recorded list of texts: lists the declarations' rows of each, for comparison with the recorded answers, and tests what the lent rows hold
 // afterwards. A test that fails writes a line that begins with `wrong`.
+#![tactic(auto)]
+
 ghost use Rattle.std.specs.Prelude.{◌&&◌, ◌≡◌, ◌+◌, ◌^◌, ◌≤◌, ◌<◌, leb, drop, length, replicate};
 ghost use Rattle.parser_replay.specs.Rows.{are_all, is_all, row_of};
 
-use libc::STDOUT_FILENO;
 use listing::recorded;
 use parser::Answer;
 use words::{Lexed, Limits, Row};
+
+// Standard output.
+const STDOUT_FILENO: i32 = 1;
 
 // What each number of the lent rows is before a call.
 const JUNK: u32 = 0xA5A5_A5A5;

@@ -1,6 +1,8 @@
 // Patterns: source terms compiled to words. The Rust's `Vars::get`, `Sig::numeral` and `Sig::pattern`, with the refusals 19 to 24, 26 and 28.
 //
 // All functions here serve the crates above: they ask for storage of the listed sizes.
+#![tactic(auto)]
+
 ghost use Rattle.std.specs.Prelude.{◌≡◌, List, [], ◌∷◌, ℕ, ◌+◌, ◌*◌, ◌≤◌, ◌<◌, length};
 ghost use Rattle.names.specs.Names.{name_of};
 ghost use Rattle.names.specs.Symbols.{row_at, symbol_of, symbols_of, variables_of};

@@ -2,6 +2,8 @@
 //
 // The entry point is `prove`. It asks nothing of its caller, and its contract fixes the answer and every lent buffer on all inputs.
 // `prove_listed` serves programs that know what they lend to be in form, `prove_cleared` those that know besides that all past the counts is zero.
+#![tactic(auto)]
+
 mod clearing; // what lies past the counts
 mod preparing; // a goal compiled, tested and stored
 mod searching; // the search, and what it leaves
@@ -62,33 +64,33 @@ pub fn prove_cleared(
           steps = steps;
           depth = depth;
           proof = proof.old;
-          space = record { links = links.now; marks = marks.old; stack = stack.old };
+          space = record { links = links.old; marks = marks.old; stack = stack.old };
         })
-        (record { names = names.now; words = words.old; bindings = bindings.old }) session }
+        (record { names = names.old; words = words.old; bindings = bindings.old }) session }
     ensures { ProveLeft
         (record {
-          sorts = sorts.entry.now;
+          sorts = sorts.now;
           symbols = symbols.now;
           rules = rules.now;
           words = pattern.now;
           counts = counts;
         })
         (record {
-          text = text.entry.now;
+          text = text.now;
           limits = limits;
           rows = rows.now;
           at = at;
           steps = steps;
           depth = depth;
           proof = proof.old;
-          space = record { links = links.entry.now; marks = marks.old; stack = stack.old };
+          space = record { links = links.old; marks = marks.old; stack = stack.old };
         })
-        (record { names = names.entry.now; words = words.old; bindings = bindings.old }) session
+        (record { names = names.old; words = words.old; bindings = bindings.old }) session
         (record {
           answer = result;
-          store = record { names = names.exit.now; words = words.new; bindings = bindings.new };
+          store = record { names = names.new; words = words.new; bindings = bindings.new };
           proof = proof.new;
-          space = record { links = links.exit.now; marks = marks.new; stack = stack.new };
+          space = record { links = links.new; marks = marks.new; stack = stack.new };
         }) }
 {
     if is_too_much(limits, steps, depth) {
@@ -145,33 +147,33 @@ pub fn prove_listed(
           steps = steps;
           depth = depth;
           proof = proof.old;
-          space = record { links = links.now; marks = marks.old; stack = stack.old };
+          space = record { links = links.old; marks = marks.old; stack = stack.old };
         })
-        (record { names = names.now; words = words.old; bindings = bindings.old }) session }
+        (record { names = names.old; words = words.old; bindings = bindings.old }) session }
     ensures { ProveLeft
         (record {
-          sorts = sorts.entry.now;
+          sorts = sorts.now;
           symbols = symbols.now;
           rules = rules.now;
           words = pattern.now;
           counts = counts;
         })
         (record {
-          text = text.entry.now;
+          text = text.now;
           limits = limits;
           rows = rows.now;
           at = at;
           steps = steps;
           depth = depth;
           proof = proof.old;
-          space = record { links = links.entry.now; marks = marks.old; stack = stack.old };
+          space = record { links = links.old; marks = marks.old; stack = stack.old };
         })
-        (record { names = names.entry.now; words = words.old; bindings = bindings.old }) session
+        (record { names = names.old; words = words.old; bindings = bindings.old }) session
         (record {
           answer = result;
-          store = record { names = names.exit.now; words = words.new; bindings = bindings.new };
+          store = record { names = names.new; words = words.new; bindings = bindings.new };
           proof = proof.new;
-          space = record { links = links.exit.now; marks = marks.new; stack = stack.new };
+          space = record { links = links.new; marks = marks.new; stack = stack.new };
         }) }
 {
     clear_past(names, words, proof, session);
@@ -205,28 +207,28 @@ pub fn prove(
 ) -> Answer
     ensures { Proving
         (record {
-          sorts = sorts.entry.now;
+          sorts = sorts.now;
           symbols = symbols.now;
           rules = rules.now;
           words = pattern.now;
           counts = counts;
         })
         (record {
-          text = text.entry.now;
+          text = text.now;
           limits = limits;
           rows = rows.now;
           at = at;
           steps = steps;
           depth = depth;
           proof = proof.old;
-          space = record { links = links.entry.now; marks = marks.old; stack = stack.old };
+          space = record { links = links.old; marks = marks.old; stack = stack.old };
         })
-        (record { names = names.entry.now; words = words.old; bindings = bindings.old }) session
+        (record { names = names.old; words = words.old; bindings = bindings.old }) session
         (record {
           answer = result;
-          store = record { names = names.exit.now; words = words.new; bindings = bindings.new };
+          store = record { names = names.new; words = words.new; bindings = bindings.new };
           proof = proof.new;
-          space = record { links = links.exit.now; marks = marks.new; stack = stack.new };
+          space = record { links = links.new; marks = marks.new; stack = stack.new };
         }) }
 {
     if !is_ready(

@@ -31,15 +31,15 @@ pub fn is_ready(
 ) -> bool
     ensures { ReadyTold
         (record {
-          sorts = sorts.entry.now;
+          sorts = sorts.now;
           symbols = symbols.now;
           rules = rules.now;
           words = pattern.now;
           counts = counts;
         })
         text.now limits rows.now at proof.now
-        (record { links = links.entry.now; marks = marks.old; stack = stack.now })
-        (record { names = names.entry.now; words = words.now; bindings = bindings.now }) session
+        (record { links = links.now; marks = marks.old; stack = stack.now })
+        (record { names = names.now; words = words.now; bindings = bindings.now }) session
         marks.new result }
 {
     let capped = limits.capped();

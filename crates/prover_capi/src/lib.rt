@@ -1,5 +1,7 @@
 // `prover::prove_cleared` for programs in other languages that see to what it asks, as the measurements of its speed do. `capi::horn_prove` is the one for
 // users.
+#![tactic(auto)]
+
 ghost use Rattle.std.specs.Prelude.{◌≤◌, length};
 ghost use Rattle.capi.specs.Evaluation.{store_with};
 ghost use Rattle.capi.specs.Sessions.{counts_in, search_limits};
@@ -43,25 +45,25 @@ pub extern "C" fn horn_prove_cleared(
           steps = steps;
           depth = depth;
           proof = proof.old;
-          space = record { links = links.now; marks = marks.old; stack = stack.old };
+          space = record { links = links.old; marks = marks.old; stack = stack.old };
         })
-        (record { names = names.now; words = words.old; bindings = bindings.old }) (counts_in session.now) }
+        (record { names = names.old; words = words.old; bindings = bindings.old }) (counts_in session.now) }
     ensures { ClearedTold
         (store_with sorts.now symbols.now rules.now pattern.now counts.now)
         (record {
-          text = text.entry.now;
+          text = text.now;
           limits = search_limits most variables limit;
           rows = rows.now;
           at = at;
           steps = steps;
           depth = depth;
           proof = proof.old;
-          space = record { links = links.entry.now; marks = marks.old; stack = stack.old };
+          space = record { links = links.old; marks = marks.old; stack = stack.old };
         })
-        (record { names = names.entry.now; words = words.old; bindings = bindings.old }) (counts_in session.now)
+        (record { names = names.old; words = words.old; bindings = bindings.old }) (counts_in session.now)
         results.old result
-        (record { names = names.exit.now; words = words.new; bindings = bindings.new }) proof.new
-        (record { links = links.exit.now; marks = marks.new; stack = stack.new }) results.new }
+        (record { names = names.new; words = words.new; bindings = bindings.new }) proof.new
+        (record { links = links.new; marks = marks.new; stack = stack.new }) results.new }
 {
     let limits = words::Limits {
         text: 0,

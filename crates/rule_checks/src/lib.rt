@@ -1,6 +1,8 @@
 // Stored rules: the test of their form (document 01, refusal 1), for rows and words of any contents. The form is `RuleListed` in specs/RuleForm.
 //
 // All functions here serve the crates above: they ask for words of the listed sizes.
+#![tactic(auto)]
+
 ghost use Rattle.std.specs.Prelude.{◌≡◌, List, [], ℕ, ◌+◌, ◌<◌, ◌≤◌, length, get_or};
 ghost use Rattle.arena.specs.Cells.{headers};
 ghost use Rattle.arena.specs.Copies.{pattern_room};

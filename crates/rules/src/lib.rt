@@ -1,6 +1,8 @@
 // Rules: judgments compiled and stored as a rule. The Rust's `Sig::rule`, with the refusals 25 and 28.
 //
 // All functions here serve the crates above: they ask for storage of the listed sizes.
+#![tactic(auto)]
+
 ghost use Rattle.std.specs.Prelude.{◌≡◌, ℕ, ◌+◌, ◌≤◌, ◌<◌, length, take, set};
 ghost use mathlib.Core.List.{List};
 ghost use Rattle.std.proofs.lemmas.List.Edits.{sets};

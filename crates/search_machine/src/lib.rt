@@ -4,6 +4,8 @@
 //
 // All functions here serve the crates above: they ask for a signature and a session in form. What is ever written is counted, so that it
 // can be cleared.
+#![tactic(auto)]
+
 mod candidates; // the rules that a goal passes over
 mod frames; // one row for each rule that is entered
 mod moves; // the machine's next states

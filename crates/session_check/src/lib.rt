@@ -2,6 +2,8 @@
 //
 // `check_session` tells it, with the lengths that a call's limits ask and the scratch that must be zero. Of its caller it asks only that
 // the symbols are there, which the test of the signature tells first.
+#![tactic(auto)]
+
 mod lengths; // lengths and counts
 mod naming; // the rows of names
 mod nodes; // words over the signature's arities
@@ -34,8 +36,8 @@ pub fn check_session(
 ) -> bool
     requires { (loaded.symbols ≤ 1024) × (loaded.symbols ≤ length symbols.now) }
     ensures { SessionChecked text.now limits loaded.sorts symbols.now loaded.symbols
-        (record { names = names.entry.now; words = words.now; bindings = bindings.now })
-        (record { links = links.entry.now; marks = marks.old; stack = stack.now }) counts marks.new result }
+        (record { names = names.now; words = words.now; bindings = bindings.now })
+        (record { links = links.now; marks = marks.old; stack = stack.now }) counts marks.new result }
 {
     if is_short(
         limits,

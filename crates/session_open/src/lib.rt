@@ -2,6 +2,8 @@
 //
 // The entry point is `open`. It asks nothing of its caller, and its contract fixes the answer and every lent buffer on all inputs.
 // `clear_names` serves `prove` too.
+#![tactic(auto)]
+
 ghost use Rattle.std.specs.Prelude.{◌≡◌, ◌≤◌, length};
 ghost use Rattle.load_storage.specs.Storage.{cleared_from};
 ghost use Rattle.sessions.specs.Storage.{zero_name, zero_triple};
@@ -37,8 +39,8 @@ fn clear_triples(rows: &mut [[u32; 3]], from: usize)
 
 // Zeroes a session's part.
 fn clear_store(names: &mut [NameRow], words: &mut [u32], bindings: &mut [[u32; 2]])
-    ensures { StoreCleared (record { names = names.entry.now; words = words.old; bindings = bindings.old })
-        (record { names = names.exit.now; words = words.new; bindings = bindings.new }) }
+    ensures { StoreCleared (record { names = names.old; words = words.old; bindings = bindings.old })
+        (record { names = names.new; words = words.new; bindings = bindings.new }) }
 {
     clear_names(names, 0);
     arena::clear(words, 0);
@@ -47,8 +49,8 @@ fn clear_store(names: &mut [NameRow], words: &mut [u32], bindings: &mut [[u32; 2
 
 // Zeroes scratch.
 fn clear_space(links: &mut [[u32; 2]], marks: &mut [[u32; 2]], stack: &mut [[u32; 3]])
-    ensures { SpaceCleared (record { links = links.entry.now; marks = marks.old; stack = stack.old })
-        (record { links = links.exit.now; marks = marks.new; stack = stack.new }) }
+    ensures { SpaceCleared (record { links = links.old; marks = marks.old; stack = stack.old })
+        (record { links = links.new; marks = marks.new; stack = stack.new }) }
 {
     clear_pairs(links, 0);
     clear_pairs(marks, 0);
@@ -65,10 +67,10 @@ pub fn open(
     marks: &mut [[u32; 2]],
     stack: &mut [[u32; 3]],
 ) -> Opened
-    ensures { Opening limits (record { names = names.entry.now; words = words.old; bindings = bindings.old })
-        (record { links = links.entry.now; marks = marks.old; stack = stack.old }) result
-        (record { names = names.exit.now; words = words.new; bindings = bindings.new })
-        (record { links = links.exit.now; marks = marks.new; stack = stack.new }) }
+    ensures { Opening limits (record { names = names.old; words = words.old; bindings = bindings.old })
+        (record { links = links.old; marks = marks.old; stack = stack.old }) result
+        (record { names = names.new; words = words.new; bindings = bindings.new })
+        (record { links = links.new; marks = marks.new; stack = stack.new }) }
 {
     if session_check::is_short(
         limits,

@@ -1,6 +1,8 @@
 // Signatures in storage: the test of their form (document 01, refusal 1). The form is `Listed` in specs/Form.
 //
 // The entry point is `check_signature`. It asks nothing of its caller.
+#![tactic(auto)]
+
 ghost use Rattle.std.specs.Prelude.{◌≡◌, ℕ, ◌+◌, ◌≤◌, ◌<◌, length, get_or};
 ghost use Rattle.names.specs.Names.{Distinct};
 ghost use Rattle.names.specs.Symbols.{column, row_at, sorts_of, symbols_of};

@@ -1,14 +1,18 @@
 // Stored signatures, listed as the recorded answers are: a line for each sort and symbol, for each rule its heading, its nodes in order and its
 // references, and a line for each `#eval`.
+#![tactic(auto)]
+
 ghost use Rattle.std.specs.Prelude.{◌≡◌, ◌≤◌};
 ghost use Rattle.source_text.specs.Parts.{part_of};
 ghost use Rattle.signature_listing.specs.Nodes.{arity_at};
 
-use libc::STDOUT_FILENO;
 use load_storage::EvalRow;
 use names::{SortRow, SymbolRow};
 use rules::RuleRow;
 use signature::Counts;
+
+// Standard output.
+const STDOUT_FILENO: i32 = 1;
 
 // References to nodes start here, those below are variables; headers start at the other.
 const FIRST_NODE: u32 = 64;

@@ -2,12 +2,14 @@
 ghost use Rattle.std.specs.Prelude.{◌≡◌, ◌&&◌, length, drop, replicate, nat_le};
 ghost use Rattle.signature_tests.specs.Rows.{are_all, is_all, junk, Filled};
 
-use libc::STDOUT_FILENO;
 use load_storage::EvalRow;
 use names::{SortRow, SymbolRow};
 use patterns::TermRow;
 use rules::RuleRow;
 use signature::Counts;
+
+// Standard output.
+const STDOUT_FILENO: i32 = 1;
 
 // What each number is before a call.
 pub const JUNK: u32 = 0xA5A5_A5A5;

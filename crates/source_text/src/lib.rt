@@ -2,6 +2,8 @@
 //
 // The entry points are `word` and `numeral`, which `words` hands on. They ask nothing of their caller, and each contract fixes
 // the answer on all inputs. The modules serve the crates above.
+#![tactic(auto)]
+
 pub mod bytes; // comparing and reading bytes
 pub mod utf8; // RFC 3629
 pub mod characters; // the class table and the character test

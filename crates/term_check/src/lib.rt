@@ -2,6 +2,8 @@
 // crate of its own and no module of `term_parser`, so that the proofs and edits there stay quick, and since its laws speak of whole texts.
 //
 // `check_term` asks nothing of its caller, and its contract fixes the answer on all inputs.
+#![tactic(auto)]
+
 ghost use Rattle.std.specs.Prelude.{◌≡◌, length};
 ghost use Rattle.source_text.specs.Numerals.{numeral_of};
 ghost use Rattle.source_text.specs.Parts.{part_of};

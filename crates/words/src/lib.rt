@@ -3,6 +3,8 @@
 // The entry points are `lex`, `word`, `numeral`, `number` and the methods of `Limits`. They ask nothing
 // of their caller, and each contract fixes the answer and every byte of the lent rows on all inputs.
 // `same` and `clear` serve the crates above. What stands below tokens is in `source_text`.
+#![tactic(auto)]
+
 pub use names::{METAVARIABLE, NAME, NUMERAL};
 pub use signs::{ARROW, BAR, CLOSE, COLON, COMMA, DEFINES, DOUBLE_ARROW, EQUALS, OPEN};
 pub use source_text::bytes::same;

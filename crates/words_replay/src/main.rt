@@ -1,4 +1,6 @@
 // Replays a recorded list of texts: lists the tokens of each, for comparison with the recorded answers.
+#![tactic(auto)]
+
 ghost use Rattle.std.specs.Prelude.{◌+◌, ◌^◌, ◌≤◌, ◌<◌};
 
 use listing::recorded;
