@@ -1,0 +1,72 @@
+-- `clause` meets its contract: the conclusion's rows, the calls, and then the rule.
+use mathlib.Core.Path.{refl}
+use Rattle.source_text.specs.Parts.{part_of}
+use Rattle.names.specs.Symbols.{symbols_of}
+use Rattle.clauses.proofs.ClauseLaws.{seventeenth, clause_is, over_limit, prepared}
+use borrow.Author.Rules.{rules}
+use Rattle.clauses.proofs.clause.Goals as goal
+
+pub rule-requires : goal.rule-requires
+rule-requires c =
+    let pre = c.requires in
+    let args = c.args in
+    let heading = c.heading-right in
+    let flatten = c.flatten in
+    let S = pre.source in
+    let ts = S.patterns in
+    let q = S.behind in
+    let st = S.stand in
+    let sz = S.number in
+    let t = S.right in
+    let q' = S.end in
+    let st' = S.stands in
+    let P = prepared (args.text.now) (heading.ensures) (pre.out_lent) (pre.later) (rw (c.in-Done.is) at (flatten.ensures)) ts q st sz t q' st' in
+    let p = pre in
+    record {
+      source = record { judgments = P.premises; behind = P.end; stand = P.stand; number = P.numbered; conclusion = _; end = P.top; stands = P.stands };
+      lent = p.lent;
+      few = p.few;
+      inputs = p.inputs;
+      upto = p.upto;
+      formed = p.formed;
+      words = p.words;
+      low = p.low;
+      small = p.small;
+      rows = p.rules_lent;
+    }
+
+pub returns-in-Over : goal.returns-in-Over
+returns-in-Over c =
+    let args = c.args in
+    let heading = c.heading-right in
+    let pre = c.requires in
+    let flatten = c.flatten in
+    record {
+      same = λ ts q st sz t q' st' k ck. (tt, rw (seventeenth (symbols_of (args.text.now) (args.symbols.now) (args.count)) (part_of (args.text.now) (args.title.start) (args.title.size)) k ts t (args.room) (args.number) (over_limit (args.text.now) (heading.ensures) (pre.out_lent) (pre.later) (symbols_of (args.text.now) (args.symbols.now) (args.count)) _ (rw (c.in-Over.is) at (flatten.ensures)) ts q st sz t q' st')) refl);
+    }
+
+pub returns-in-Refused : goal.returns-in-Refused
+returns-in-Refused c =
+    let args = c.args in
+    let heading = c.heading-right in
+    let pre = c.requires in
+    let flatten = c.flatten in
+    let rule = c.rule in
+    record {
+      same = λ ts q st sz t q' st' k ck. let P = prepared (args.text.now) (heading.ensures) (pre.out_lent) (pre.later) (rw (c.in-Done.is) at (flatten.ensures)) ts q st sz t q' st' in
+          let d = clause_is (symbols_of (args.text.now) (args.symbols.now) (args.count)) (args.text.now) (args.title.start) (args.title.size) (args.title.clause) k ck ts t (args.room) P.is in
+          (tt, rw d at (rw (c.in-Refused.is) at (rule.ensures.same P.premises P.end P.stand P.numbered _ P.top P.stands)));
+    }
+
+pub returns-in-Done-rule : goal.returns-in-Done-rule
+returns-in-Done-rule c =
+    let args = c.args in
+    let heading = c.heading-right in
+    let pre = c.requires in
+    let flatten = c.flatten in
+    let rule = c.rule in
+    record {
+      same = λ ts q st sz t q' st' k ck. let P = prepared (args.text.now) (heading.ensures) (pre.out_lent) (pre.later) (rw (c.in-Done.is) at (flatten.ensures)) ts q st sz t q' st' in
+          let d = clause_is (symbols_of (args.text.now) (args.symbols.now) (args.count)) (args.text.now) (args.title.start) (args.title.size) (args.title.clause) k ck ts t (args.room) P.is in
+          (P.goes_on, rw d at (rw (c.in-Done-rule.is) at (rule.ensures.same P.premises P.end P.stand P.numbered _ P.top P.stands)));
+    }

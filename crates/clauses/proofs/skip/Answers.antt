@@ -1,0 +1,51 @@
+-- `skip` meets its contract. The loop's invariant: so many terms are left from the row p on.
+use Prim.Native.Nat.{◌≤◌, ◌+◌, ◌-◌, ◌*◌}
+use lib.ListN.{length}
+use Rattle.clauses.proofs.SkipLaws.{Left, left_start, left_turn, left_end, left_past}
+use borrow.Author.Rules.{rules}
+use native.Mathlib.Omega.{arith}
+use Rattle.clauses.proofs.skip.Goals as goal
+
+pub loop-left-init : goal.loop-left-init
+loop-left-init c = (omega arith, omega arith, left_start (c.args.rows.now) (c.args.at) (c.args.n), omega arith)
+
+pub returns-then-rows-p : goal.returns-then-rows-p
+returns-then-rows-p c =
+    let loop = c.loop-left in
+    let args = c.args in
+    let loop-test = c.loop-left-test in
+    let if1 = c.if-rows-p in
+    record {
+      onward = loop.invariant.0;
+      behind = left_past (args.rows.now) (args.at) (args.n) (loop.p) (loop.left) (loop.invariant.2) loop-test.true if1.true;
+    }
+
+pub overflow_sub-left : goal.overflow_sub-left
+overflow_sub-left c = omega arith
+
+pub overflow_add-left : goal.overflow_add-left
+overflow_add-left c = let i = c.loop-left.invariant in let e = c.arity-more.ensures.value in let f = c.arity-more.ensures.upper_bound in omega arith
+
+pub loop-left-smaller : goal.loop-left-smaller
+loop-left-smaller c = let i = c.loop-left.invariant in omega (arith, c.if-rows-p.false)
+
+pub loop-left-preserved : goal.loop-left-preserved
+loop-left-preserved c =
+    let arity = c.arity-more in
+    let loop = c.loop-left in
+    let args = c.args in
+    let loop-test = c.loop-left-test in
+    let e = arity.ensures.value in
+    let f = arity.ensures.upper_bound in
+    let i = loop.invariant in
+    (omega arith, omega arith, rw e (left_turn (args.rows.now) (args.at) (args.n) (loop.p) (loop.left) (loop.invariant.2) loop-test.true), omega arith)
+
+pub returns : goal.returns
+returns c =
+    let loop = c.loop-left in
+    let args = c.args in
+    let loop-test = c.loop-left-test in
+    record {
+      onward = loop.invariant.0;
+      behind = left_end (args.rows.now) (args.at) (args.n) (loop.p) (loop.left) (loop.invariant.2) loop-test.false;
+    }

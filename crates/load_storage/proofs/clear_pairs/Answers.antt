@@ -1,0 +1,28 @@
+-- `clear_pairs` meets its contract. The loop's invariant: the rows from `from` up to i are zero, the others as they were.
+use mathlib.Core.Path.{◌≡◌, refl, sym, ap, ◌∙◌}
+use Prim.Native.Nat.{◌≤◌, ◌-◌}
+use lib.ListN.{length, set, length-set}
+use Rattle.words.proofs.Rows.{cleared, clear_none, clear_more, clear_all}
+use Rattle.load_storage.specs.Storage.{zero_pair}
+use borrow.Author.Rules.{rules}
+use native.Mathlib.Omega.{arith}
+use Rattle.load_storage.proofs.clear_pairs.Goals as goal
+
+pub loop-i-init : goal.loop-i-init
+loop-i-init c = (omega arith, omega arith, refl, sym (clear_none c.args.rows.now c.args.from zero_pair))
+
+pub loop-i-preserved : goal.loop-i-preserved
+loop-i-preserved c =
+    let loop = c.loop-i in
+    let args = c.args in (
+      omega arith,
+      omega arith,
+      simp length-set loop.invariant.2,
+      ap (λ l. set l loop.i zero_pair) loop.invariant.3
+          ∙ clear_more args.rows.now args.from zero_pair loop.i loop.invariant.0 (omega (arith, loop.invariant)),
+    )
+
+pub returns : goal.returns
+returns c =
+    c.loop-i.invariant.3
+    ∙ clear_all c.args.rows.now c.args.from zero_pair c.loop-i.i (omega (arith, c.loop-i.invariant)) c.loop-i.invariant.1

@@ -1,0 +1,15 @@
+-- `clear_pairs` meets its contract. The loop's invariant: the rows from `from` up to i are zero, the others as they were.
+use mathlib.Core.Path.{◌≡◌, refl, sym, ap, ◌∙◌}
+use Prim.Native.Nat.{◌≤◌, ◌-◌}
+use lib.ListN.{length, set, length-set}
+use Rattle.words.proofs.Rows.{cleared, clear_none, clear_more, clear_all}
+use Rattle.load_storage.specs.Storage.{zero_pair}
+use borrow.Author.Rules.{rules}
+use native.Mathlib.Omega.{arith}
+use Rattle.load_storage.proofs.clear_pairs.Given as goal
+
+abbrev pub invariant-loop-i : goal.invariant-loop-i
+invariant-loop-i l = (l.from ≤ l.i) × (l.i ≤ length l.initial.rows) × (length l.rows ≡ length l.initial.rows) × (l.rows ≡ cleared l.initial.rows l.from zero_pair l.i)
+
+abbrev pub decreases-loop-i : goal.decreases-loop-i
+decreases-loop-i l = length l.initial.rows - l.i

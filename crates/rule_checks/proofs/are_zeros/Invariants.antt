@@ -1,0 +1,16 @@
+-- `are_zeros` meets its contract: it tells whether some columns are zero.
+-- The loop's invariant: the columns passed are zero.
+use mathlib.Core.Path.{◌≡◌}
+use Prim.Native.Nat.{ℕ, ◌+◌, ◌-◌, ◌≤◌, ◌<◌}
+use borrow.Author.Count.{below_more}
+use Rattle.names.specs.Symbols.{row_at, column}
+use Rattle.unifier.specs.Checking.{tells_yes, tells_no}
+use borrow.Author.Rules.{rules}
+use native.Mathlib.Omega.{arith}
+use Rattle.rule_checks.proofs.are_zeros.Given as goal
+
+abbrev pub invariant-loop-j : goal.invariant-loop-j
+invariant-loop-j l = (l.n ≤ l.j) × ((k : ℕ) → k < l.j → l.n ≤ k → column (row_at l.rules l.i) (l.at + k) ≡ 0)
+
+abbrev pub decreases-loop-j : goal.decreases-loop-j
+decreases-loop-j l = l.m - l.j
