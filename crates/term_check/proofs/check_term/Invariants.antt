@@ -1,0 +1,17 @@
+-- `check_term` meets its contract: it answers where the term ends, exactly if there is one.
+-- The loop's invariant: there is a term exactly if what the table says is still to come stands in the rows from `p` on. The measure falls with each row
+-- that is passed, and with each level that is left.
+use Prim.Native.Nat.{◌+◌, ◌-◌, ◌*◌}
+use native.Mathlib.Omega.{arith}
+use mathlib.Core.Path.{◌≡◌, refl, subst}
+use lib.ListN.{length, length-set}
+use Rattle.term_check.specs.Walk.{Topped, Walking}
+use Rattle.term_check.specs.WalkLaws.{walk_starts, walk_ends, walk_up, walk_short, walk_deep, walk_bad, walk_down}
+use borrow.Author.Rules.{rules}
+use Rattle.term_check.proofs.check_term.Given as goal
+
+abbrev pub invariant-loop-d : goal.invariant-loop-d
+invariant-loop-d l = Walking l.text l.rows l.at l.left l.d l.p × (length l.left ≡ 132)
+
+abbrev pub decreases-loop-d : goal.decreases-loop-d
+decreases-loop-d l = l.d + 2 * (length l.rows - l.p)
