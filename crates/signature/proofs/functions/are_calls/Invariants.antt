@@ -1,0 +1,21 @@
+-- `are_calls` meets its contract.
+-- The loop's invariant: the first k premises are calls.
+use Prim.Native.Nat.{ℕ, ◌+◌, ◌-◌, ◌≤◌, ◌<◌}
+use mathlib.Core.List.{List}
+use borrow.Author.Count.{below_more}
+use borrow.Author.Tests.{not-true}
+use Rattle.unifier.specs.Checking.{tells_yes, tells_no, tells_false}
+use Rattle.names.specs.Symbols.{column, row_at, symbols_of}
+use Rattle.meeting.specs.Contract.{term_of}
+use Rattle.loader.specs.Legal.{Calls}
+use Rattle.signature.proofs.Laws.{holds}
+use Rattle.signature.proofs.ClauseLaws.{premises_call, premise_calls}
+use borrow.Author.Rules.{rules}
+use native.Mathlib.Omega.{arith}
+use Rattle.signature.proofs.functions.are_calls.Given as goal
+
+abbrev pub invariant-loop-k : goal.invariant-loop-k
+invariant-loop-k l = (l.k ≤ l.n) × ((text : List ℕ) (j : ℕ) → j < l.k → Calls (symbols_of text l.symbols l.m) (term_of l.words (column (row_at l.rules l.r) (10 + j))))
+
+abbrev pub decreases-loop-k : goal.decreases-loop-k
+decreases-loop-k l = l.n - l.k
