@@ -1,0 +1,102 @@
+-- `declare` meets its contract: the keyword in the declaration's row says which function declares it.
+use Rattle.declarations.proofs.DeclarationLaws.{first_row}
+use Rattle.declarations.proofs.DeclareLaws.{sort_there, sort_done, ctor_asked, ctor_none, ctor_done, pred_asked, pred_done, rule_asked, rule_done, def_asked, def_done, eval_done, others_done}
+use borrow.Author.Rules.{rules}
+use native.Mathlib.Omega.{arith}
+use Rattle.declarations.proofs.declare.Goals as goal
+
+pub offset_bounds-rows-at : goal.offset_bounds-rows-at
+offset_bounds-rows-at c = let w = (first_row c.requires.stand.2).within in omega (arith, c.requires.short)
+
+pub bounds-rows-at : goal.bounds-rows-at
+bounds-rows-at c = let w = (first_row c.requires.stand.2).within in omega arith
+
+pub declare_sort-requires : goal.declare_sort-requires
+declare_sort-requires c =
+    let pre = c.requires in
+    let t = sort_there pre.ready.3 pre.stand.2 c.in-1.is in (
+      t,
+      pre.short,
+      pre.ready.3.names.sorts_lent,
+      pre.ready.3.names.few_sorts,
+      (let a = pre.ready.3.names.symbols_lent in
+          let b = pre.ready.3.names.few_symbols in
+          omega arith),
+    )
+
+pub offset_bounds-rows-at-in-2 : goal.offset_bounds-rows-at-in-2
+offset_bounds-rows-at-in-2 c = let w = (first_row c.requires.stand.2).within in omega (arith, c.requires.short)
+
+pub bounds-rows-at-in-2 : goal.bounds-rows-at-in-2
+bounds-rows-at-in-2 c = let w = (first_row c.requires.stand.2).within in omega arith
+
+pub returns-then-rows-at-eq0 : goal.returns-then-rows-at-eq0
+returns-then-rows-at-eq0 c = record { same = λ limit ts s held d q st. ctor_none held st _ _ _ _ c.in-2.is c.if-rows-at-eq0.true }
+
+pub declare_symbol-requires : goal.declare_symbol-requires
+declare_symbol-requires c =
+    let pre = c.requires in
+    ctor_asked pre.ready.3 pre.stand.2 pre.short c.in-2.is
+
+pub declare_symbol-requires-in-3 : goal.declare_symbol-requires-in-3
+declare_symbol-requires-in-3 c =
+    let pre = c.requires in
+    pred_asked pre.ready.3 pre.stand.2 pre.short c.in-3.is
+
+pub declare_rule-requires : goal.declare_rule-requires
+declare_rule-requires c =
+    let pre = c.requires in
+    rule_asked pre.ready.3 pre.stand.2 pre.short c.in-4.is
+
+pub declare_def-requires : goal.declare_def-requires
+declare_def-requires c =
+    let pre = c.requires in
+    def_asked pre.ready.3 pre.stand.2 _ _ pre.short pre.out_lent pre.calls_lent c.in-5.is
+
+pub overflow_add-at : goal.overflow_add-at
+overflow_add-at c = let w = (first_row c.requires.stand.2).within in omega (arith, c.requires.short)
+
+pub skip-requires : goal.skip-requires
+skip-requires c = (c.requires.short, omega arith)
+
+pub returns-in-1 : goal.returns-in-1
+returns-in-1 c =
+    record {
+      same = λ limit ts s held d q st. sort_done held st _ _ c.in-1.is c.declare_sort.ensures.value c.declare_sort.ensures.sorts_after;
+    }
+
+pub returns-else-rows-at-eq0 : goal.returns-else-rows-at-eq0
+returns-else-rows-at-eq0 c =
+    let if1 = c.if-rows-at-eq0 in
+    let declare-symbol = c.declare_symbol in
+    record {
+      same = λ limit ts s held d q st. ctor_done held st _ _ c.in-2.is (omega (arith, if1.false)) declare-symbol.ensures;
+    }
+
+pub returns-in-3 : goal.returns-in-3
+returns-in-3 c =
+    record {
+      same = λ limit ts s held d q st. pred_done held st _ _ c.in-3.is c.declare_symbol-in-3.ensures;
+    }
+
+pub returns-in-4 : goal.returns-in-4
+returns-in-4 c =
+    record {
+      same = λ limit ts s held d q st. rule_done held st _ _ _ c.in-4.is c.declare_rule.ensures;
+    }
+
+pub returns-in-5 : goal.returns-in-5
+returns-in-5 c =
+    let declare-def = c.declare_def in
+    record {
+      same = λ limit ts s held d q st. def_done held st _ _ _ _ c.in-5.is declare-def.ensures;
+    }
+
+pub returns-in-10 : goal.returns-in-10
+returns-in-10 c = record { same = λ limit ts s held d q st. eval_done held st _ c.in-10.is c.skip.ensures }
+
+pub returns-in_default : goal.returns-in_default
+returns-in_default c =
+    record {
+      same = λ limit ts s held d q st. others_done held st _ _ _ _ c.in_default.in_default-own.rest.0.0.0.0.0.1 c.in_default.in_default-own.rest.0.0.0.0.1 c.in_default.in_default-own.rest.0.0.0.1 c.in_default.in_default-own.rest.0.0.1 c.in_default.in_default-own.rest.0.1 c.in_default.in_default-own.rest.1;
+    }

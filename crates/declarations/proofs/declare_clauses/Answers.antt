@@ -1,0 +1,99 @@
+-- `declare_clauses` meets its contract. The loop's invariant: the clauses before the number i are entered, and the others are left to enter from the row p on.
+use mathlib.Core.Path.{◌≡◌, refl, ◌∙◌}
+use Prim.Native.Nat.{◌≤◌, ◌-◌}
+use lib.ListN.{length}
+use Rattle.declarations.proofs.ClauseLaws.{Everywhere, going_start, going_clause, going_refused, going_on, going_end}
+use borrow.Author.Rules.{rules}
+use native.Mathlib.Omega.{arith}
+use Rattle.declarations.proofs.declare_clauses.Goals as goal
+
+pub loop-i-init : goal.loop-i-init
+loop-i-init c = (omega arith, refl, refl, refl, refl, going_start)
+
+pub declare_clause-requires : goal.declare_clause-requires
+declare_clause-requires c =
+    let loop = c.loop-i in
+    let pre = c.requires in
+    let loop-test = c.loop-i-test in
+    let g = loop.invariant.5 pre.ready.0 pre.ready.1 pre.ready.2 pre.ready.3 pre.stand.0 pre.stand.1 pre.stand.2 pre.stand.3 in
+    let t = loop-test.true in
+    let f = pre.few in
+    let a = pre.out_lent in
+    let b = pre.calls_lent in
+    record {
+      short = pre.short;
+      few = omega arith;
+      out_lent = omega (arith, loop.invariant.3);
+      calls_lent = omega (arith, loop.invariant.4);
+      ready = (pre.ready.0, g.titles, g.signature, g.ready);
+      stand = going_clause g t;
+    }
+
+pub shape_of-rules-in-Refused : goal.shape_of-rules-in-Refused
+shape_of-rules-in-Refused c =
+    let declare-clause = c.declare_clause in
+    let loop = c.loop-i in
+    declare-clause.auto.rules ∙ loop.invariant.1
+
+pub shape_of-words-in-Refused : goal.shape_of-words-in-Refused
+shape_of-words-in-Refused c =
+    let declare-clause = c.declare_clause in
+    let loop = c.loop-i in
+    declare-clause.auto.words ∙ loop.invariant.2
+
+pub shape_of-out-in-Refused : goal.shape_of-out-in-Refused
+shape_of-out-in-Refused c =
+    let declare-clause = c.declare_clause in
+    let loop = c.loop-i in
+    declare-clause.auto.out ∙ loop.invariant.3
+
+pub shape_of-calls-in-Refused : goal.shape_of-calls-in-Refused
+shape_of-calls-in-Refused c =
+    let declare-clause = c.declare_clause in
+    let loop = c.loop-i in
+    declare-clause.auto.calls ∙ loop.invariant.4
+
+pub returns-in-Refused : goal.returns-in-Refused
+returns-in-Refused c =
+    let loop = c.loop-i in
+    let pre = c.requires in
+    let declare-clause = c.declare_clause in
+    let loop-test = c.loop-i-test in
+    record {
+      same = λ limit ts s ready cs q st n. let g = loop.invariant.5 limit ts s ready cs q st n in
+          rw (going_refused pre.inside declare-clause.ensures g loop-test.true c.in-Refused.is) refl;
+    }
+
+pub loop-i-preserved : goal.loop-i-preserved
+loop-i-preserved c =
+    let declare-clause = c.declare_clause in
+    let loop = c.loop-i in
+    let pre = c.requires in
+    let loop-test = c.loop-i-test in
+    (
+      omega arith,
+      declare-clause.auto.rules
+          ∙ loop.invariant.1,
+      declare-clause.auto.words
+          ∙ loop.invariant.2,
+      declare-clause.auto.out
+          ∙ loop.invariant.3,
+      declare-clause.auto.calls
+          ∙ loop.invariant.4,
+      λ limit ts s ready cs q st e. going_on pre.inside declare-clause.ensures (loop.invariant.5 limit ts s ready cs q st e) loop-test.true c.in-Done.is,
+    )
+
+pub shape_of-rules : goal.shape_of-rules
+shape_of-rules c = c.loop-i.invariant.1
+
+pub shape_of-words : goal.shape_of-words
+shape_of-words c = c.loop-i.invariant.2
+
+pub shape_of-out : goal.shape_of-out
+shape_of-out c = c.loop-i.invariant.3
+
+pub shape_of-calls : goal.shape_of-calls
+shape_of-calls c = c.loop-i.invariant.4
+
+pub returns : goal.returns
+returns c = record { same = λ limit ts s ready cs q st e. going_end (c.loop-i.invariant.5 limit ts s ready cs q st e) (omega (arith, c.loop-i-test.false)) }

@@ -1,0 +1,14 @@
+-- `declare_clauses` meets its contract. The loop's invariant: the clauses before the number i are entered, and the others are left to enter from the row p on.
+use mathlib.Core.Path.{◌≡◌, refl, ◌∙◌}
+use Prim.Native.Nat.{◌≤◌, ◌-◌}
+use lib.ListN.{length}
+use Rattle.declarations.proofs.ClauseLaws.{Everywhere, going_start, going_clause, going_refused, going_on, going_end}
+use borrow.Author.Rules.{rules}
+use native.Mathlib.Omega.{arith}
+use Rattle.declarations.proofs.declare_clauses.Given as goal
+
+abbrev pub invariant-loop-i : goal.invariant-loop-i
+invariant-loop-i l = (l.i ≤ l.n) × (length l.rules ≡ length l.initial.rules) × (length l.words ≡ length l.initial.words) × (length l.out ≡ length l.initial.out) × (length l.calls ≡ length l.initial.calls) × Everywhere l.text l.rows l.at l.n l.start l.size l.symbols l.initial.rules l.initial.words l.initial.st l.rules l.words l.st l.p l.i
+
+abbrev pub decreases-loop-i : goal.decreases-loop-i
+decreases-loop-i l = l.n - l.i

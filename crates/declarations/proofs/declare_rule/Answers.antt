@@ -1,0 +1,71 @@
+-- `declare_rule` meets its contract: the rule is entered with the room that is left.
+use mathlib.Core.Path.{refl, ◌∙◌}
+use Prim.Native.Nat.{ℕ, ◌+◌}
+use mathlib.Core.List.{List, ◌∷◌}
+use Rattle.term_parser.specs.Source.{all_of}
+use Rattle.term_parser.specs.Standing.{spelled}
+use Rattle.names.specs.Symbols.{Symbol, column, row_at}
+use Rattle.rules.specs.Rules.{rule_of}
+use Rattle.loader.specs.Signature.{front_of, last_judgment}
+use Rattle.declarations.specs.Steps.{name_at}
+use Rattle.declarations.proofs.FilledLaws.{storage, told_by, advanced_by}
+use borrow.Author.Rules.{rules}
+use native.Mathlib.Omega.{arith}
+use Rattle.declarations.proofs.declare_rule.Goals as goal
+
+pub returns-then-k-eq0 : goal.returns-then-k-eq0
+returns-then-k-eq0 c =
+    record {
+      none = λ z. refl;
+      same = λ limit ts s ready inside j js q st kn. absurd (let z = c.if-k-eq0.true in
+          let w = c.wide-k.ensures in
+          omega arith);
+    }
+
+pub enter_rule-outcome-requires : goal.enter_rule-outcome-requires
+enter_rule-outcome-requires c =
+    let wide = c.wide-k in
+    let pre = c.requires in
+    let if1 = c.if-k-eq0 in
+    let room = c.room-m in
+    let w = wide.ensures in
+    let st = pre.stand (omega (arith, if1.false)) in
+    let here = pre.here in
+    record {
+      first = st.0;
+      others = st.1;
+      end = st.2;
+      stand = st.3;
+      number = w ∙ st.4;
+      here = here;
+      later = omega arith;
+      short = pre.short;
+      storage = rw (room.ensures) (storage (pre.ready.3));
+    }
+
+pub told-requires : goal.told-requires
+told-requires c =
+    let wide = c.wide-k in
+    let pre = c.requires in
+    let if1 = c.if-k-eq0 in
+    let args = c.args in
+    let room = c.room-m in
+    let enter-rule = c.enter_rule-outcome in
+    let w = wide.ensures in
+    let st = pre.stand (omega (arith, if1.false)) in
+    told_by pre.ready.3 (record { start = column (row_at args.rows.now (args.at + 1)) 1; size = column (row_at args.rows.now (args.at + 1)) 2; clause = 0 }) (λ (F : List Symbol) (m : ℕ). rule_of F (name_at args.text.now args.rows.now (args.at + 1)) (spelled args.text.now (all_of (front_of (st.0 ∷ st.1)))) (spelled args.text.now (last_judgment st.0 st.1)) m) room.result room.ensures (enter-rule.new.rules) (enter-rule.new.words) enter-rule.result (enter-rule.ensures.same st.0 st.1 st.2 st.3 (w
+    ∙ st.4)).1
+
+pub returns : goal.returns
+returns c =
+    let if1 = c.if-k-eq0 in
+    let wide = c.wide-k in
+    let enter-rule = c.enter_rule-outcome in
+    let args = c.args in
+    let room = c.room-m in
+    let told = c.told in
+    record {
+      none = λ z. absurd (if1.false (wide.ensures ∙ z));
+      same = λ limit ts s ready inside j js q st kn. let h = enter-rule.ensures.same j js q st (wide.ensures ∙ kn) in
+          advanced_by ready (record { start = column (row_at args.rows.now (args.at + 1)) 1; size = column (row_at args.rows.now (args.at + 1)) 2; clause = 0 }) inside (omega arith) (enter-rule.new.rules) (enter-rule.new.words) (enter-rule.auto.rules) (enter-rule.auto.words) (λ (F : List Symbol) (m : ℕ). rule_of F (name_at args.text.now args.rows.now (args.at + 1)) (spelled args.text.now (all_of (front_of (j ∷ js)))) (spelled args.text.now (last_judgment j js)) m) room.result room.ensures q enter-rule.result told.result h.0 h.1 told.ensures;
+    }

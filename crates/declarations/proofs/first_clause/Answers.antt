@@ -1,0 +1,11 @@
+-- `first_clause` meets its contract.
+use mathlib.Core.Path.{refl}
+use borrow.Author.Tests.{eq-eqb, ne_eqb}
+use borrow.Author.Rules.{rules}
+use Rattle.declarations.proofs.first_clause.Goals as goal
+
+pub returns-then-n-eq0 : goal.returns-then-n-eq0
+returns-then-n-eq0 c = rw (eq-eqb c.args.n 0 c.if-n-eq0.true) refl
+
+pub returns : goal.returns
+returns c = rw (ne_eqb c.args.n 0 c.if-n-eq0.false) refl

@@ -1,0 +1,219 @@
+-- `enter_all` meets its contract. The loop's invariant: the declarations before the number i are entered, and the others are left from the row `at` on.
+use mathlib.Core.Path.{◌≡◌, refl, ◌∙◌}
+use Prim.Native.Nat.{◌≤◌, ◌-◌}
+use lib.ListN.{length}
+use Rattle.load.proofs.WalkLaws.{held_none, Everywhere, sofar_start, sofar_declaration, sofar_stops, sofar_on, sofar_end}
+use Rattle.declarations.proofs.DeclarationLaws.{first_row}
+use borrow.Author.Rules.{rules}
+use native.Mathlib.Omega.{arith}
+use Rattle.load.proofs.enter_all.Goals as goal
+
+pub loop-i-init : goal.loop-i-init
+loop-i-init c =
+    let pre = c.requires in
+    let args = c.args in
+    (omega arith, refl, refl, refl, refl, refl, refl, refl, sofar_start pre.evals_lent (held_none args.text.now args.limit args.sorts.now args.symbols.now args.rules.now args.words.now pre.sorts_lent pre.symbols_lent pre.rules_lent pre.words_lent pre.limited))
+
+pub offset_bounds-rows-at : goal.offset_bounds-rows-at
+offset_bounds-rows-at c =
+    let loop = c.loop-i in
+    let pre = c.requires in
+    let loop-test = c.loop-i-test in
+    let g = loop.invariant.8 pre.declared.0 pre.declared.1 pre.declared.2 pre.declared.3 in
+    let d = sofar_declaration g loop-test.true in
+    let w = (first_row d.2).within in
+    let s = pre.short in
+    omega arith
+
+pub bounds-rows-at : goal.bounds-rows-at
+bounds-rows-at c =
+    let loop = c.loop-i in
+    let pre = c.requires in
+    let loop-test = c.loop-i-test in
+    let g = loop.invariant.8 pre.declared.0 pre.declared.1 pre.declared.2 pre.declared.3 in
+    let d = sofar_declaration g loop-test.true in
+    let w = (first_row d.2).within in
+    let s = pre.short in
+    omega arith
+
+pub bounds-rows-1 : goal.bounds-rows-1
+bounds-rows-1 c =
+    let loop = c.loop-i in
+    let pre = c.requires in
+    let loop-test = c.loop-i-test in
+    let g = loop.invariant.8 pre.declared.0 pre.declared.1 pre.declared.2 pre.declared.3 in
+    let d = sofar_declaration g loop-test.true in
+    let w = (first_row d.2).within in
+    let s = pre.short in
+    omega arith
+
+pub offset_bounds-rows-at-in-loop-i : goal.offset_bounds-rows-at-in-loop-i
+offset_bounds-rows-at-in-loop-i c =
+    let loop = c.loop-i in
+    let pre = c.requires in
+    let loop-test = c.loop-i-test in
+    let g = loop.invariant.8 pre.declared.0 pre.declared.1 pre.declared.2 pre.declared.3 in
+    let d = sofar_declaration g loop-test.true in
+    let w = (first_row d.2).within in
+    let s = pre.short in
+    omega arith
+
+pub bounds-rows-at-in-loop-i : goal.bounds-rows-at-in-loop-i
+bounds-rows-at-in-loop-i c =
+    let loop = c.loop-i in
+    let pre = c.requires in
+    let loop-test = c.loop-i-test in
+    let g = loop.invariant.8 pre.declared.0 pre.declared.1 pre.declared.2 pre.declared.3 in
+    let d = sofar_declaration g loop-test.true in
+    let w = (first_row d.2).within in
+    let s = pre.short in
+    omega arith
+
+pub bounds-rows-0 : goal.bounds-rows-0
+bounds-rows-0 c =
+    let loop = c.loop-i in
+    let pre = c.requires in
+    let loop-test = c.loop-i-test in
+    let g = loop.invariant.8 pre.declared.0 pre.declared.1 pre.declared.2 pre.declared.3 in
+    let d = sofar_declaration g loop-test.true in
+    let w = (first_row d.2).within in
+    let s = pre.short in
+    omega arith
+
+pub note-count-requires : goal.note-count-requires
+note-count-requires c =
+    let loop = c.loop-i in
+    let pre = c.requires in
+    let loop-test = c.loop-i-test in
+    let g = loop.invariant.8 pre.declared.0 pre.declared.1 pre.declared.2 pre.declared.3 in
+    let d = sofar_declaration g loop-test.true in
+    let w = (first_row d.2).within in
+    let s = pre.short in
+    let f = g.few in
+    (omega arith, omega arith)
+
+pub declare-requires : goal.declare-requires
+declare-requires c =
+    let loop = c.loop-i in
+    let pre = c.requires in
+    let loop-test = c.loop-i-test in
+    let args = c.args in
+    let g = loop.invariant.8 pre.declared.0 pre.declared.1 pre.declared.2 pre.declared.3 in
+    let d = sofar_declaration g loop-test.true in
+    let w = (first_row d.2).within in
+    let s = pre.short in
+    let a = pre.out_lent in
+    let b = pre.calls_lent in
+    record {
+      short = s;
+      out_lent = omega (arith, loop.invariant.6);
+      calls_lent = omega (arith, loop.invariant.7);
+      ready = (args.limit, g.titles, g.signature, g.held);
+      stand = d;
+    }
+
+pub shape_of-sorts-in-Refused : goal.shape_of-sorts-in-Refused
+shape_of-sorts-in-Refused c =
+    let declare = c.declare in
+    let loop = c.loop-i in
+    declare.auto.sorts ∙ loop.invariant.1
+
+pub shape_of-symbols-in-Refused : goal.shape_of-symbols-in-Refused
+shape_of-symbols-in-Refused c =
+    let declare = c.declare in
+    let loop = c.loop-i in
+    declare.auto.symbols ∙ loop.invariant.2
+
+pub shape_of-rules-in-Refused : goal.shape_of-rules-in-Refused
+shape_of-rules-in-Refused c =
+    let declare = c.declare in
+    let loop = c.loop-i in
+    declare.auto.rules ∙ loop.invariant.3
+
+pub shape_of-words-in-Refused : goal.shape_of-words-in-Refused
+shape_of-words-in-Refused c =
+    let declare = c.declare in
+    let loop = c.loop-i in
+    declare.auto.words ∙ loop.invariant.4
+
+pub shape_of-evals-in-Refused : goal.shape_of-evals-in-Refused
+shape_of-evals-in-Refused c =
+    let note = c.note-count in
+    let loop = c.loop-i in
+    note.auto.evals ∙ loop.invariant.5
+
+pub shape_of-out-in-Refused : goal.shape_of-out-in-Refused
+shape_of-out-in-Refused c =
+    let declare = c.declare in
+    let loop = c.loop-i in
+    declare.auto.out ∙ loop.invariant.6
+
+pub shape_of-calls-in-Refused : goal.shape_of-calls-in-Refused
+shape_of-calls-in-Refused c =
+    let declare = c.declare in
+    let loop = c.loop-i in
+    declare.auto.calls ∙ loop.invariant.7
+
+pub returns-in-Refused : goal.returns-in-Refused
+returns-in-Refused c =
+    let declare = c.declare in
+    let loop = c.loop-i in
+    let loop-test = c.loop-i-test in
+    record {
+      same = λ ds a b t. sofar_stops declare.ensures (loop.invariant.8 ds a b t) loop-test.true c.in-Refused.is _ _ _ _ _;
+    }
+
+pub overflow_add-i : goal.overflow_add-i
+overflow_add-i c =
+    let loop-test = c.loop-i-test in
+    let fits = c.ranges in
+    omega (arith, loop-test.true, fits.n)
+
+pub loop-i-preserved : goal.loop-i-preserved
+loop-i-preserved c =
+    let loop-test = c.loop-i-test in
+    let declare = c.declare in
+    let loop = c.loop-i in
+    let note = c.note-count in
+    (
+      omega (arith, loop-test.true),
+      declare.auto.sorts
+          ∙ loop.invariant.1,
+      declare.auto.symbols
+          ∙ loop.invariant.2,
+      declare.auto.rules
+          ∙ loop.invariant.3,
+      declare.auto.words
+          ∙ loop.invariant.4,
+      note.auto.evals
+          ∙ loop.invariant.5,
+      declare.auto.out
+          ∙ loop.invariant.6,
+      declare.auto.calls
+          ∙ loop.invariant.7,
+      λ ds a b t. rw (note.ensures.0, note.ensures.1) (sofar_on declare.ensures (loop.invariant.8 ds a b t) loop-test.true c.in-Done.is),
+    )
+
+pub shape_of-sorts : goal.shape_of-sorts
+shape_of-sorts c = c.loop-i.invariant.1
+
+pub shape_of-symbols : goal.shape_of-symbols
+shape_of-symbols c = c.loop-i.invariant.2
+
+pub shape_of-rules : goal.shape_of-rules
+shape_of-rules c = c.loop-i.invariant.3
+
+pub shape_of-words : goal.shape_of-words
+shape_of-words c = c.loop-i.invariant.4
+
+pub shape_of-evals : goal.shape_of-evals
+shape_of-evals c = c.loop-i.invariant.5
+
+pub shape_of-out : goal.shape_of-out
+shape_of-out c = c.loop-i.invariant.6
+
+pub shape_of-calls : goal.shape_of-calls
+shape_of-calls c = c.loop-i.invariant.7
+
+pub returns : goal.returns
+returns c = record { same = λ ds a b t. sofar_end (c.loop-i.invariant.8 ds a b t) (omega (arith, c.loop-i-test.false)) }

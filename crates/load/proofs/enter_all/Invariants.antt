@@ -1,0 +1,15 @@
+-- `enter_all` meets its contract. The loop's invariant: the declarations before the number i are entered, and the others are left from the row `at` on.
+use mathlib.Core.Path.{◌≡◌, refl, ◌∙◌}
+use Prim.Native.Nat.{◌≤◌, ◌-◌}
+use lib.ListN.{length}
+use Rattle.load.proofs.WalkLaws.{held_none, Everywhere, sofar_start, sofar_declaration, sofar_stops, sofar_on, sofar_end}
+use Rattle.declarations.proofs.DeclarationLaws.{first_row}
+use borrow.Author.Rules.{rules}
+use native.Mathlib.Omega.{arith}
+use Rattle.load.proofs.enter_all.Given as goal
+
+abbrev pub invariant-loop-i : goal.invariant-loop-i
+invariant-loop-i l = (l.i ≤ l.n) × (length l.sorts ≡ length l.initial.sorts) × (length l.symbols ≡ length l.initial.symbols) × (length l.rules ≡ length l.initial.rules) × (length l.words ≡ length l.initial.words) × (length l.evals ≡ length l.initial.evals) × (length l.out ≡ length l.initial.out) × (length l.calls ≡ length l.initial.calls) × Everywhere l.text l.limit l.rows l.n l.sorts l.symbols l.rules l.words l.evals l.state l.count l.at l.i
+
+abbrev pub decreases-loop-i : goal.decreases-loop-i
+decreases-loop-i l = l.n - l.i

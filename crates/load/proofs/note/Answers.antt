@@ -1,0 +1,15 @@
+-- `note` meets its contract: an `#eval` is kept if it is one.
+use mathlib.Core.Path.{refl}
+use borrow.Author.Tests.{eq-eqb, ne_eqb}
+use borrow.Author.Rules.{rules}
+use Rattle.load.proofs.note.Goals as goal
+
+pub returns-then-kind-ne10 : goal.returns-then-kind-ne10
+returns-then-kind-ne10 c = (rw (ne_eqb c.args.kind 10 c.if-kind-ne10.true) refl, rw (ne_eqb c.args.kind 10 c.if-kind-ne10.true) refl)
+
+pub returns : goal.returns
+returns c =
+    let args = c.args in
+    let if1 = c.if-kind-ne10 in
+    let put = c.put in
+    (rw (eq-eqb args.kind 10 if1.false) refl, rw (eq-eqb args.kind 10 if1.false) put.ensures)
