@@ -8,7 +8,8 @@ use Rattle.terms.specs.TermLaws.{app_inj, count_sub}
 use Rattle.terms.specs.Bindings.{Bindings, full, Acyclic, BelowB, Solves}
 use Rattle.terms.specs.BindingLaws.{full_solves, solves_walk}
 use Rattle.terms.specs.Unification.{Outcome, unfinished, fails, unified, unify}
-use Rattle.terms.specs.Robinson.{Unified, unify_ok}
+use Rattle.terms.specs.Robinson.{Unified}
+use Rattle.terms.proofs.Robinson.{unify_ok}
 use Rattle.arena.specs.Cells.{headers, Cells, symbol_of, arity_of, args, denote, Reference, WellFormed, denote_node, reference_argument, cells}
 use Rattle.arena.specs.Copies.{pattern_room, term_room}
 use Rattle.arena.specs.Rows.{Rows}

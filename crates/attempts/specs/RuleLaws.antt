@@ -9,7 +9,8 @@ use Rattle.arena.specs.Cells.{terms_of}
 use Rattle.arena.specs.Copies.{numbered}
 use Rattle.resolution.specs.Rules.{Rule}
 use Rattle.resolution.specs.Fresh.{elem, place, fresh, head_vars, all_vars, head, body}
-use Rattle.resolution.specs.FreshLaws.{Covers, covers_grows, met_covers, met_back_covers, met_back_grows, vars_le, head_all}
+use Rattle.resolution.specs.FreshLaws.{Covers}
+use Rattle.resolution.proofs.FreshLaws.{covers_grows, met_covers, met_back_covers, met_back_grows, vars_le, head_all}
 use Rattle.resolution.specs.Search.{Limits, words, attempt}
 use Rattle.attempts.specs.StoredRules.{pattern_of, rule_of, StoredRule}
 use Rattle.attempts.specs.Promises.{instance}

@@ -7,7 +7,8 @@ use Rattle.terms.specs.Numbers.{by_same, some_none}
 use Rattle.terms.specs.Term.{mem}
 use Rattle.terms.specs.Bindings.{Bindings, bind, lookup, walk, res, Acyclic, BelowB}
 use Rattle.terms.specs.BindingLaws.{walk_app, walk_unbound, walk_bound}
-use Rattle.terms.specs.Loops.{walk_length, walk_length_bound}
+use Rattle.terms.specs.Loops.{walk_length}
+use Rattle.terms.proofs.Loops.{walk_length_bound}
 use Rattle.arena.specs.Cells.{Cells, cells, denote, Reference, WellFormed, denote_node, denote_variable, below_denote}
 use Rattle.arena.specs.Rows.{Rows, column}
 use Rattle.acyclicity.specs.Contract.{binding_of}

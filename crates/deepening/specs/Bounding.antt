@@ -17,7 +17,8 @@ use Rattle.bindings.specs.Stored.{held}
 use Rattle.terms.specs.Bindings.{Bindings}
 use Rattle.resolution.specs.Rules.{leaf}
 use Rattle.resolution.specs.Search.{goal, Result, failed, found, tries}
-use Rattle.resolution.specs.Machine.{search, search_cut, search_goal}
+use Rattle.resolution.specs.Machine.{search}
+use Rattle.resolution.proofs.Machine.{search_cut, search_goal}
 use Rattle.resolution.specs.Preorder.{Entry, entry}
 use Rattle.attempts.specs.Promises.{Added}
 use Rattle.attempts.specs.Extending.{held_kept, form_back}

@@ -13,7 +13,7 @@ use Rattle.resolution.specs.Rules.{Tree, leaf, ◌◂◌}
 use Rattle.resolution.specs.Search.{within, Result, refused, found, failed, Verdict, settle, bounds_from, bounds, deepen, nothing}
 use Rattle.resolution.specs.Search.{undecided, proved, refusal}
 use Rattle.resolution.specs.Preorder.{flat}
-use Rattle.resolution.specs.Verdicts as verdicts
+use Rattle.resolution.proofs.Verdicts as verdicts
 use Rattle.search_machine.specs.State.{term, rules_from, Well}
 use Rattle.search_machine.specs.declared.Allowed.{Allowed}
 use Rattle.deepening.specs.Bounds.{Asking, bounded_of, Unchanged, Extended, Shown, Counted, Says, Bounded, settled, prove_of}

@@ -17,7 +17,7 @@ use Rattle.arena.specs.Rows.{Rows}
 use Rattle.resolution.specs.Rules.{Tree, node, leaf, ◌◂◌}
 use Rattle.resolution.specs.Preorder.{Entry, entry, preorder}
 use Rattle.tree_rows.specs.Trees.{row_at, tree_row, RowOf, Lists, entry_of, entries_from}
-use Rattle.tree_rows.specs.TreeLaws.{lists_up}
+use Rattle.tree_rows.proofs.TreeLaws.{lists_up}
 use Rattle.search_machine.specs.State.{term, Refers, frame_of, frame_at, entries}
 use Rattle.search_machine.specs.declared.frames.Frame.{Frame}
 use Rattle.deepening.specs.Trees.{tree_rows, Node, Nodes}

@@ -6,7 +6,6 @@ pub mod Expressions
 pub mod MatchingLaws
 pub mod Derivations
 pub mod EvaluationLaws
-pub mod LoadedLaws
 pub mod CallLaws
 pub mod HeightLaws
 pub mod CountLaws
@@ -15,5 +14,3 @@ pub mod DepthLaws
 pub mod AgreementLaws
 -- Checks by computing:
 pub mod TextCases
-pub mod Examples
-pub mod RefusalCases

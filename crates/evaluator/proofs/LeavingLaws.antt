@@ -25,10 +25,10 @@ use Rattle.load_storage.specs.Storage.{cleared_from}
 use Rattle.signature.specs.Storage.{SignatureStore, symbols_in, rules_in, signature_of, SignatureListed}
 use Rattle.term_check.specs.TermLaws.{term_stands}
 use Rattle.tree_rows.specs.Trees.{Lists}
-use Rattle.tree_rows.specs.TreeLaws.{lists_grown, lists_same}
+use Rattle.tree_rows.proofs.TreeLaws.{lists_grown, lists_same}
 use Rattle.evaluation.specs.Calls.{Spent}
 use Rattle.evaluation.specs.Expressions.{Evaluated, failed, evaluated, evaluate_of}
-use Rattle.evaluation.specs.CountLaws.{evaluation_spends}
+use Rattle.evaluation.proofs.CountLaws.{evaluation_spends}
 use Rattle.clause_matching.specs.Stored.{Values, Links}
 use Rattle.clause_matching.specs.Building.{Stands as Built}
 use Rattle.function_calls.specs.Calls.{tree_rows, Working, TreesListed}

@@ -17,11 +17,13 @@ use Rattle.resolution.specs.Preorder.{preorder}
 use Rattle.resolution.specs.Fresh.{elem}
 use Rattle.signature.specs.Storage.{SignatureStore, symbols_in, rules_in, signature_of}
 use Rattle.tree_rows.specs.Trees.{entries_from}
-use Rattle.tree_rows.specs.TreeLaws.{lists_preorder}
+use Rattle.tree_rows.proofs.TreeLaws.{lists_preorder}
 use Rattle.evaluation.specs.Expressions.{is_forward_call, Evaluated, failed, evaluated, evaluate_of, nothing_spent}
 use Rattle.evaluation.specs.Derivations.{ClauseForm}
-use Rattle.evaluation.specs.EvaluationLaws.{Ends, expression_derives, forward_answered}
-use Rattle.evaluation.specs.NumberLaws.{evaluation_refusals, OneOf, never_by_1, expression_numbered}
+use Rattle.evaluation.specs.EvaluationLaws.{Ends}
+use Rattle.evaluation.proofs.EvaluationLaws.{expression_derives, forward_answered}
+use Rattle.evaluation.specs.NumberLaws.{evaluation_refusals, OneOf}
+use Rattle.evaluation.proofs.NumberLaws.{never_by_1, expression_numbered}
 use Rattle.evaluator.specs.Storage.{Results, most_words}
 use Rattle.evaluator.specs.Evaluating.{written_in, Ready, Left, Evaluating}
 use Rattle.evaluator.specs.ProgramLaws.{listed_clauses, listed_there}

@@ -27,7 +27,7 @@ use Rattle.signature.specs.Storage.{SignatureStore, symbols_in, rules_in, signat
 use Rattle.signature.specs.StoreLaws.{rules_length, rules_at, rule_count_lem, rule_of_row, symbol_count_lem, symbol_of_row}
 use Rattle.evaluation.specs.MatchingLaws.{Some}
 use Rattle.evaluation.specs.Derivations.{JudgmentOf, Judgments, ClauseOf, ClauseForm}
-use Rattle.evaluation.specs.LoadedLaws.{some_counted, is_function_lem}
+use Rattle.evaluation.proofs.LoadedLaws.{some_counted, is_function_lem}
 use Rattle.evaluation.specs.NumberLaws.{ClausesThere}
 use Rattle.clause_matching.specs.Stored.{PatternIn, Headed, pattern_at}
 use Rattle.clause_matching.specs.Building.{rule_words}

@@ -15,7 +15,7 @@ use Rattle.patterns.specs.Patterns.{when}
 use Rattle.resolution.specs.Rules.{Rule, Tree, leaf, ◌◂◌, joined}
 use Rattle.rules.specs.PatternLaws.{arities_of}
 use Rattle.tree_rows.specs.Trees.{Lists}
-use Rattle.tree_rows.specs.TreeLaws.{lists_one}
+use Rattle.tree_rows.proofs.TreeLaws.{lists_one}
 use Rattle.evaluation.specs.Matching.{Built, barred, built, build_node}
 use Rattle.evaluation.specs.Calls.{Spent, Called, refused, returned, call_of}
 use Rattle.evaluation.specs.Expressions.{Evaluated, failed, evaluated, misuse, behind, around, apply_of}

@@ -19,7 +19,7 @@ use Rattle.names.specs.SearchLaws.{columns_at}
 use Rattle.patterns.specs.Patterns.{first, rest}
 use Rattle.resolution.specs.Rules.{Rule, Tree, leaf, ◌◂◌, joined}
 use Rattle.rules.specs.PatternLaws.{arities_of}
-use Rattle.tree_rows.specs.TreeLaws.{lists_up, lists_grown, lists_same, lists_joined}
+use Rattle.tree_rows.proofs.TreeLaws.{lists_up, lists_grown, lists_same, lists_joined}
 use Rattle.evaluation.specs.Calls.{Spent}
 use Rattle.evaluation.specs.Expressions.{Evaluated, failed, evaluated, if_evaluated, sort_in, apply_of, expression_of}
 use Rattle.clause_matching.specs.Stored.{Value, Values, Headed, Formed, value_at}

@@ -20,7 +20,8 @@ use Rattle.resolution.specs.Rules.{Rule, Tree, node, leaf, ◌◂◌, joined}
 use Rattle.tree_rows.specs.Trees.{tree_row}
 use Rattle.evaluation.specs.Matching.{Fitted, misfit, fitted, bind_of, Built, barred, built, if_built, build_node, value_of, instantiate_of, front, last}
 use Rattle.evaluation.specs.Calls.{Spent, Called, refused, returned, Walked, stopped, walked, if_arguments, if_called, if_result, under_first, premises_of, concluded_by, concluded, call_of}
-use Rattle.evaluation.specs.CallLaws.{Growing, instantiate_grows}
+use Rattle.evaluation.specs.CallLaws.{Growing}
+use Rattle.evaluation.proofs.CallLaws.{instantiate_grows}
 use Rattle.clause_matching.specs.Stored.{Value, Values, PatternIn, Holds, Links, pattern_at, value_at}
 use Rattle.clause_matching.specs.Building.{rule_words, InstantiateAsked, Stands, Tells, Instantiated}
 use Rattle.clause_matching.specs.Choice.{Referable, pattern_from, ConclusionIn}

@@ -7,7 +7,8 @@ use Rattle.terms.specs.Numbers.{same, by_bool, true_false, same_refl, same_true,
 use Rattle.terms.specs.Term.{Kind, Syn, var, app, nil, cons, Below}
 use Rattle.arena.specs.Copies.{pattern_room}
 use Rattle.resolution.specs.Fresh.{elem, met, place}
-use Rattle.resolution.specs.FreshLaws.{Grows, covers_grows, elem_last, place_append, place_lt, at_place}
+use Rattle.resolution.specs.FreshLaws.{Grows}
+use Rattle.resolution.proofs.FreshLaws.{covers_grows, elem_last, place_append, place_lt, at_place}
 use Rattle.meeting.specs.Places.{Variables, Placed, Records, Given, in_order, numbers_below}
 
 -- A table in which no variable has a place.

@@ -12,7 +12,6 @@ pub mod Steps
 pub mod Limited
 pub mod Refutations
 pub mod Answers
-pub mod Failure
 pub mod Completeness
 pub mod Shifting
 pub mod Bounds
@@ -26,7 +25,6 @@ pub mod NamingLaws
 pub mod Machine
 pub mod Preorder
 pub mod Sizes
-pub mod SizeLaws
 -- Checks by computing:
 pub mod Cases
 pub mod Marked

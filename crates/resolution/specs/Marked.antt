@@ -1,14 +1,13 @@
 -- The search cases that document 01 marks for proof, over its text's `add`: one list, and one lemma that all of them come out.
-use Rattle.std.specs.Prelude.{ℕ, zero, suc, ◌≡◌, refl, Bool, true, false, ◌&&◌, List, [], ◌∷◌}
-use Rattle.terms.specs.Numbers.{same, less}
-use Rattle.terms.specs.Term.{var, app, nil, cons, Term, mem}
+use Rattle.std.specs.Prelude.{ℕ, zero, suc, Bool, true, false, ◌&&◌, List, [], ◌∷◌}
+use Rattle.terms.specs.Numbers.{same}
+use Rattle.terms.specs.Term.{var, app, nil, cons, Term}
 use Rattle.resolution.specs.Rules.{Rule}
-use Rattle.resolution.specs.Search.{attempt, Verdict, refusal, proved, nothing, undecided}
+use Rattle.resolution.specs.Search.{Verdict, refusal, proved, nothing, undecided}
 use Rattle.resolution.specs.Session.{new_session, step_limit, variable_limit, word_limit, ask}
-use Rattle.resolution.specs.Cases.{compile_by, query_of}
+use Rattle.resolution.specs.Cases.{query_of}
 
 -- zero, succ and add are the symbols 0, 1 and 2; Nat is the sort 1.
-
 -- A numeral: so many times succ on zero.
 unfoldable pub num : ℕ → Term
 num zero = app 0 nil
@@ -41,7 +40,7 @@ pub record MarkedCase : Type 0 where
   pub expected : Expected
 
 -- Is the verdict the expected one, with its steps?
-abbrev meets : Verdict → Expected → Bool
+abbrev pub meets : Verdict → Expected → Bool
 meets (refusal n) e = false
 meets (proved β st u c m) (isProved s) = same u s
 meets (proved β st u c m) (is_none s) = false
@@ -71,7 +70,3 @@ marked =
     ∷ record { goal = add (var 0) (num 2) (num 1); steps = 3; depth = 32; expected = is_none 2 }
     ∷ record { goal = add (var 0) (num 2) (num 1); steps = 2; depth = 32; expected = isUndecided 2 }
     ∷ []
-
-pub marked_meet : all_meet marked ≡ true
-unfolding same less mem attempt new_session compile_by num add succ add_rules marked
-marked_meet = refl

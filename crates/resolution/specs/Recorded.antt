@@ -1,10 +1,8 @@
 -- Random sessions with the answers of the Rust's `Prover`, computed with the definitions.
-use Rattle.std.specs.Prelude.{◌≡◌, refl, List, [], ◌∷◌}
-use Rattle.terms.specs.Numbers.{same, less}
-use Rattle.terms.specs.Term.{var, app, nil, cons, mem}
+use Rattle.std.specs.Prelude.{List, [], ◌∷◌}
+use Rattle.terms.specs.Term.{var, app, nil, cons}
 use Rattle.terms.specs.Bindings.{start, bind}
-use Rattle.resolution.specs.Search.{attempt}
-use Rattle.resolution.specs.Cases.{Case, compile_by, passing}
+use Rattle.resolution.specs.Cases.{Case}
 
 unfoldable pub cases : List Case
 cases =
@@ -254,8 +252,3 @@ cases =
       expected = 8 ∷ 1 ∷ 3 ∷ 10 ∷ 2 ∷ 5 ∷ 3 ∷ 1 ∷ 0 ∷ 0 ∷ 4 ∷ 9 ∷ 0 ∷ 3 ∷ 10 ∷ 2 ∷ 5 ∷ 3 ∷ 1 ∷ 0 ∷ 0 ∷ 4 ∷ [];
     }
     ∷ []
-
--- All of them come out.
-pub all_pass : passing cases ≡ 40
-unfolding same less mem attempt compile_by cases
-all_pass = refl

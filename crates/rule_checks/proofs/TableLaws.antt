@@ -10,7 +10,7 @@ use Rattle.arena.specs.Rows as arena
 use Rattle.meeting.specs.Places.{Records, numbers_below}
 use Rattle.meeting.specs.PlaceLaws.{records_none, variables_few, placed_yes, placed_no}
 use Rattle.resolution.specs.Fresh.{met, met_back, place}
-use Rattle.resolution.specs.FreshLaws.{place_lt}
+use Rattle.resolution.proofs.FreshLaws.{place_lt}
 use Rattle.rules.specs.CountLaws.{elem_met, all_met}
 use Rattle.rule_checks.specs.RuleForm.{rule_in}
 use Rattle.names.specs.Symbols.{column}

@@ -21,7 +21,8 @@ use Rattle.arena.specs.Form.{inputs, is_header, Place, is_argument, nodes, in_fo
 use Rattle.arena.specs.FormLaws.{Header, argument_reference, argument_from, reference_accepted}
 use Rattle.resolution.specs.Rules.{Rule}
 use Rattle.resolution.specs.Fresh.{elem, met, met_back, place, head_vars, all_vars}
-use Rattle.resolution.specs.FreshLaws.{Covers, grows_refl, covers_grows, met_covers, met_back_covers, met_back_grows, place_append, place_lt}
+use Rattle.resolution.specs.FreshLaws.{Covers}
+use Rattle.resolution.proofs.FreshLaws.{grows_refl, covers_grows, met_covers, met_back_covers, met_back_grows, place_append, place_lt}
 use Rattle.resolution.specs.Search.{words}
 use Rattle.meeting.specs.Places.{Variables, Records}
 use Rattle.meeting.specs.PlaceLaws.{met_variables, variables_few, records_earlier}

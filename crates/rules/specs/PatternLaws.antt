@@ -19,7 +19,7 @@ use Rattle.names.specs.Symbols.{Symbol, Variable, symbol_number, variable_number
 use Rattle.patterns.specs.Patterns.{no_variable, Entry, refused, entered, known, enter, kind_of, Out, bad, good, bind, counted, misfit, spent, unless, is_ctor, zero_name, succ_name, first, rest, chain, pattern_of}
 use Rattle.resolution.specs.Rules.{Rule}
 use Rattle.resolution.specs.Fresh.{elem, met}
-use Rattle.resolution.specs.FreshLaws.{elem_last, covers_grows}
+use Rattle.resolution.proofs.FreshLaws.{elem_last, covers_grows}
 use Rattle.resolution.specs.Search.{words}
 use Rattle.meeting.specs.Places.{numbers_below}
 use Rattle.rules.specs.Rules.{Ruled, barred, ruled, all_known, closed, concluded, rule_of}

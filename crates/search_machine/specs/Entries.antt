@@ -7,7 +7,8 @@ use Rattle.arena.specs.Copies.{term_room}
 use Rattle.arena.specs.Rows.{Rows}
 use Rattle.bindings.specs.Stored.{held}
 use Rattle.resolution.specs.Search.{Work, goal, build, goals, built, Result, tries}
-use Rattle.resolution.specs.Machine.{search, or_cut, resume, enter_out, enter_done, enter_build, enter_cut, enter_goal}
+use Rattle.resolution.specs.Machine.{search, or_cut, resume}
+use Rattle.resolution.proofs.Machine.{enter_out, enter_done, enter_build, enter_cut, enter_goal}
 use Rattle.resolution.specs.Preorder.{builds, builds_goals, made, made_build, Fits, fits_less}
 use Rattle.search_machine.specs.Storage.{PremiseAsked}
 use Rattle.search_machine.specs.State.{term, Refers, span, rules_from, arity, RulesStored, frame_at, premise_ref, pending}

@@ -10,7 +10,8 @@ use Rattle.names.specs.Symbols.{column, row_at}
 use Rattle.meeting.specs.Places.{numbers_below}
 use Rattle.resolution.specs.Rules.{Rule}
 use Rattle.resolution.specs.Fresh.{elem, met}
-use Rattle.resolution.specs.FreshLaws.{Covers, Grows, covers_grows, met_covers, met_grows}
+use Rattle.resolution.specs.FreshLaws.{Covers, Grows}
+use Rattle.resolution.proofs.FreshLaws.{covers_grows, met_covers, met_grows}
 use Rattle.rules.specs.LayingLaws.{lying_form}
 use Rattle.rules.specs.StoredRows.{Kept}
 use Rattle.rules.specs.StoredLaws.{kept_stored}

@@ -12,7 +12,8 @@ use Rattle.bindings.specs.Stored.{held, Form}
 use Rattle.resolution.specs.Rules.{Rule}
 use Rattle.resolution.specs.Fresh.{body}
 use Rattle.resolution.specs.Search.{Attempt, attempt, Work, build, goals, Result, tries}
-use Rattle.resolution.specs.Machine.{search, or_cut, Branch, resume, try_exceeded, try_missed, try_entered, try_none}
+use Rattle.resolution.specs.Machine.{search, or_cut, Branch, resume}
+use Rattle.resolution.proofs.Machine.{try_exceeded, try_missed, try_entered, try_none}
 use Rattle.resolution.specs.Preorder.{Entry, entry, builds, made, made_enter, Fits, fits_enter}
 use Rattle.rules.specs.StoredRows.{heads_in, places_in, stored_in}
 use Rattle.attempts.specs.Promises.{Added, Inside, attempt_of}

@@ -16,7 +16,7 @@ use Rattle.resolution.specs.Preorder.{preorder}
 use Rattle.resolution.specs.Demand3.{Holds, Decided, Goal}
 use Rattle.names.specs.Symbols.{Rows}
 use Rattle.tree_rows.specs.Trees.{Lists, entries_from}
-use Rattle.tree_rows.specs.TreeLaws.{lists_grown, lists_preorder}
+use Rattle.tree_rows.proofs.TreeLaws.{lists_grown, lists_preorder}
 use Rattle.sessions.specs.Promises.{answer_of, answer_told, verdict_told, IsRefused, IsProved, IsNothing, BindingsLeft}
 use Rattle.sessions.specs.declared.SessionCounts.{SessionCounts}
 use Rattle.sessions.specs.declared.Answer.{Answer}

@@ -20,7 +20,8 @@ use Rattle.resolution.specs.Repeats.{shown, excluded, finding}
 use Rattle.resolution.specs.Preorder.{preorder, flat, preorder_one}
 use Rattle.resolution.specs.Naming.{Grown, name_at, OneVariable}
 use Rattle.resolution.specs.NamingLaws.{grown_refl, grown_trans, answer_grown, goal_named, one_variable}
-use Rattle.resolution.specs.Demand3.{Event, Transcript, final, Holds, Again, reask, Decided, Goal, Claim, Claims, demand_3}
+use Rattle.resolution.specs.Demand3.{Event, Transcript, final, Holds, Again, reask, Decided, Goal, Claim, Claims}
+use Rattle.resolution.proofs.Demand3.{demand_3}
 use Rattle.names.specs.Symbols.{Rows, Symbol}
 use Rattle.rules.specs.PatternLaws.{arities_of}
 use Rattle.tree_rows.specs.Trees.{entries_from}

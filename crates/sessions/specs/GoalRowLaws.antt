@@ -21,7 +21,7 @@ use Rattle.parser.specs.Rows.{declared_rows}
 use Rattle.parser.specs.Parser.{rows_after, parsed_text, text_of}
 use Rattle.parser.specs.Depth.{ShallowDeclared, parse_shallow}
 use Rattle.whole_words.specs.Words.{TokenWhole}
-use Rattle.whole_words.specs.TokensWhole.{tokens_whole}
+use Rattle.whole_words.proofs.TokensWhole.{tokens_whole}
 use Rattle.term_check.specs.TermRows.{Worded, TermAt}
 use Rattle.term_check.specs.TermLaws.{term_one}
 use Rattle.term_check.specs.ParsedTerms.{Evaluable, parsed_evaluable}

@@ -22,7 +22,7 @@ use Rattle.resolution.specs.Session.{Named, Session, Compiled, refuses, compiles
 use Rattle.resolution.specs.Session.{too_much, goal_of, enter, searched, verdict_of, answered, tested, ask}
 use Rattle.resolution.specs.Session as theory
 use Rattle.resolution.specs.Sizes.{VerdictWithin}
-use Rattle.resolution.specs.SizeLaws.{prove_within}
+use Rattle.resolution.proofs.SizeLaws.{prove_within}
 use Rattle.names.specs.Names.{Name, Distinct, name_in}
 use Rattle.names.specs.Symbols.{Rows, Symbol, Variable, column, columns, row_at, symbol_of, symbols_of, symbol_at, no_symbol}
 use Rattle.names.specs.SearchLaws.{table_length, table_at, get_d_any, columns_length, columns_at}

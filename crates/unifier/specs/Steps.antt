@@ -7,9 +7,11 @@ use Rattle.terms.specs.Bindings.{Bindings, bind, full, res, walk, Solves}
 use Rattle.terms.specs.Unification.{Eqn, eqn, eqns, meet, Outcome, unfinished, fails, unified, unifies, BelowE}
 use Rattle.terms.specs.TermLaws.{app_inj}
 use Rattle.terms.specs.BindingLaws.{full_solves, unbound_le}
-use Rattle.terms.specs.UnificationLaws.{Answers, Over, unifies_ok, unifies_over}
-use Rattle.terms.specs.Loops.{Next, unify_next}
-use Rattle.terms.specs.Skips.{skips}
+use Rattle.terms.specs.UnificationLaws.{Answers, Over}
+use Rattle.terms.proofs.UnificationLaws.{unifies_ok, unifies_over}
+use Rattle.terms.specs.Loops.{Next}
+use Rattle.terms.proofs.Loops.{unify_next}
+use Rattle.terms.proofs.Skips.{skips}
 use Rattle.arena.specs.Cells.{Cells, headers, symbol_of, arity_of, args, denote, Reference, denote_node, denote_variable, below_denote}
 use Rattle.bindings.specs.Orders.{by_order, low_or_high}
 use Rattle.bindings.specs.Stored.{WalksTo}

@@ -6,7 +6,7 @@ use Rattle.terms.specs.Term.{nil, cons, Term, Terms, Subst, sub, size, Below}
 use Rattle.terms.specs.Bindings.{Bindings, full, Solves}
 use Rattle.terms.specs.Unification.{Eqn, eqn, eqns, Outcome, unified, unifies, BelowE}
 use Rattle.terms.specs.BindingLaws.{full_solves}
-use Rattle.terms.specs.Loops.{unify_next}
+use Rattle.terms.proofs.Loops.{unify_next}
 use Rattle.arena.specs.Cells.{Cells, arity_of, denote, Reference, WellFormed, reference_argument}
 use Rattle.bindings.specs.Orders.{by_order}
 use Rattle.bindings.specs.Stored.{bindings}

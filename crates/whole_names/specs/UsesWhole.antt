@@ -21,7 +21,7 @@ use Rattle.parser.specs.Source.{Tactic, induction, Declaration, sort}
 use Rattle.parser.specs.Declarations.{ends_in_prop, Declared, behind_open, binders_of, by_of, tactic_of, sort_of, ctor_of, behind_bar, clause_of, pred_of, rule_of, def_of, theorem_of, eval_of, check_of, body_of, declaration_of, parse_of}
 use Rattle.whole_words.specs.Words.{ReadAs, TokenWhole, WordAt}
 use Rattle.whole_names.specs.Uses.{WholeName, TermWhole, ClauseWhole, BindersWhole, TacticWhole, DeclarationWhole, DeclaredWhole}
-use Rattle.whole_words.specs.TokensWhole.{tokens_whole}
+use Rattle.whole_words.proofs.TokensWhole.{tokens_whole}
 use Rattle.whole_names.specs.ListLaws.{each_drop, each_take}
 
 -- Terms made of terms

@@ -4,4 +4,3 @@ pub mod Words
 pub mod WordLaws
 pub mod LineLaws
 -- The theorem, `tokens_whole`:
-pub mod TokensWhole

@@ -1,7 +1,7 @@
 -- Laws of trees in storage: they stay where words and rows are added, rows of several trees stand one behind another, and rows are a tree's preorder.
 use Prim.Native.Nat.{ℕ, zero, suc, ◌+◌, ◌-◌, ◌≤◌, ◌<◌}
 use native.Mathlib.Omega.{arith}
-use Rattle.std.specs.Prelude.{◌≡◌, refl, length, get_or, set}
+use Rattle.std.specs.Prelude.{◌≡◌, refl, length, set}
 use Rattle.std.proofs.Common.{sym, ap, ap₂, ◌∙◌, get_or-set_same}
 use Rattle.std.proofs.Math.Path.{subst}
 use mathlib.Core.List.{List, [], ◌∷◌, ◌++◌}

@@ -77,7 +77,6 @@ module _ (text s post : List ℕ) (p : ℕ) (h : drop p text ≡ s ++ post) wher
       (λ k _. true_false t (let y : i ≡ p + (m - 1) = omega arith in rw (y, byte_in text s post p h (m - 1) (omega arith)) (f.outer k (m - 1) (omega arith))))
 
 -- Tokens in order
-
 -- The tokens lie from `low` on and before `high`, one behind the other.
 abbrev Ordered : ℕ → ℕ → List (List ℕ) → Type 0
 Ordered low high [] = low ≤ high
@@ -106,7 +105,6 @@ ordered_apart low high (t ∷ ts) h (suc i) (suc j) l m =
     ordered_apart (get_or t 1 0 + get_or t 2 0) high ts h.1 i j (omega arith) (omega arith)
 
 -- Tokens in front and behind
-
 taken_left : (ts us : List (List ℕ)) (i : ℕ) → InToken ts i → InToken (ts ++ us) i
 taken_left ts us i h =
     let e : get_or (ts ++ us) h.number [] ≡ get_or ts h.number [] = get_or-append ts us [] h.number h.there in
@@ -122,7 +120,6 @@ taken_right ts us i h =
     record { number = length ts + h.number; there = omega arith; from = rw e h.from; to = rw e h.to; kinded = rw e h.kinded }
 
 -- Readings
-
 module _ (text : List ℕ) where
   left : (ts us : List (List ℕ)) (i : ℕ) → Accounted text ts i → Accounted text (ts ++ us) i
   left ts us i (commented h) = commented h

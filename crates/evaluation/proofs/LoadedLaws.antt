@@ -22,7 +22,8 @@ use Rattle.evaluation.specs.Calls.{Spent}
 use Rattle.evaluation.specs.Expressions.{is_forward_call, evaluated, evaluate_of}
 use Rattle.evaluation.specs.MatchingLaws.{Some}
 use Rattle.evaluation.specs.Derivations.{JudgmentOf, Judgments, ClauseOf, ClauseForm}
-use Rattle.evaluation.specs.EvaluationLaws.{Ends, evaluates_derives}
+use Rattle.evaluation.specs.EvaluationLaws.{Ends}
+use Rattle.evaluation.proofs.EvaluationLaws.{evaluates_derives}
 
 -- A rule that is found has its number, and is the one with that number.
 rule_found : (rules : List Rule) (i : ℕ) (R : Rule) → rule_at_lem rules i ≡ some R → (i < length rules) × (get_or rules i no_rule ≡ R)

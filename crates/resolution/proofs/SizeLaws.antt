@@ -10,15 +10,15 @@ use Rattle.terms.specs.Unification.{Outcome, unfinished, fails, unified, unify}
 use Rattle.resolution.specs.Rules.{Rule, Tree, node, leaf, ◌◂◌}
 use Rattle.resolution.specs.Fresh.{head_vars, all_vars, head, body}
 use Rattle.resolution.specs.Search.{words, within, over, Attempt, exceeded, missed, entered, guard, unifying, attempt, Work, goal}
-use Rattle.resolution.specs.Search.{build, gather, built, Result, refused, found, failed, Search, tries, solve, bounded, Verdict}
-use Rattle.resolution.specs.Search.{refusal, proved, nothing, undecided, settle, bounds, deepen, prove}
-use Rattle.resolution.specs.Attempts.{tries_cases}
-use Rattle.resolution.specs.Steps.{Falls, FallsSearch, solve_falls}
+use Rattle.resolution.specs.Search.{build, gather, built, Result, refused, found, failed, Search, tries, solve, bounded}
+use Rattle.resolution.specs.Search.{settle, bounds, deepen, prove}
+use Rattle.resolution.proofs.Attempts.{tries_cases}
+use Rattle.resolution.specs.Steps.{Falls, FallsSearch}
+use Rattle.resolution.proofs.Steps.{solve_falls}
 use Rattle.resolution.specs.Preorder.{preorder, flat}
 use Rattle.resolution.specs.Sizes.{nodes_in, VerdictWithin}
 
 -- Nodes
-
 preorder_nodes : {s : Kind} (h : ℕ) (t : Tree s) → length (preorder h t) ≡ nodes_in t
 preorder_nodes h (node r g ps) = ap suc (preorder_nodes (suc h) ps)
 preorder_nodes h leaf = refl
@@ -37,7 +37,6 @@ built_nodes : (r : ℕ) (g : Term) (n : ℕ) (st : Tree many) → nodes_in (buil
 built_nodes r g n st = let h = gather_nodes n leaf st in omega arith
 
 -- The search
-
 -- From so many proofs' nodes n, steps b and words m on, with at most `most` variables and `limit` words: a success has no more nodes than
 -- steps were used.
 abbrev Within : ℕ → ℕ → ℕ → ℕ → ℕ → Result → Type 0

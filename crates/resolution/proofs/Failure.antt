@@ -11,12 +11,16 @@ use Rattle.terms.specs.BindingLaws.{below_b_le, below_res}
 use Rattle.resolution.specs.Rules.{Rule, rule_at_lem, Tree, leaf, Derivable}
 use Rattle.resolution.specs.Fresh.{body}
 use Rattle.resolution.specs.Search.{Limits, attempt, Work, goal, build, goals, built, Result, refused, found, failed, Search, tries, solve, bounded}
-use Rattle.resolution.specs.Attempts.{Missed, Entered, Attempted, attempt_ok, tries_cases}
-use Rattle.resolution.specs.Soundness.{BelowW, below_w_le, Sound, SoundSearch, solve_sound, entered_below, Suffix, suffix_all, suffix_here, suffix_next}
-use Rattle.resolution.specs.Steps.{Falls, FallsSearch, tries_falls, solve_falls}
+use Rattle.resolution.specs.Attempts.{Missed, Entered, Attempted}
+use Rattle.resolution.proofs.Attempts.{attempt_ok, tries_cases}
+use Rattle.resolution.specs.Soundness.{BelowW, Sound, SoundSearch, Suffix}
+use Rattle.resolution.proofs.Soundness.{below_w_le, solve_sound, entered_below, suffix_all, suffix_here, suffix_next}
+use Rattle.resolution.specs.Steps.{Falls, FallsSearch}
+use Rattle.resolution.proofs.Steps.{tries_falls, solve_falls}
 use Rattle.resolution.specs.Lloyd.{Resolvent, Clash, FailsBy, FinitelyFailed}
 use Rattle.resolution.specs.Refutations.{finitely_failed_none}
-use Rattle.resolution.specs.Answers.{advance, entered_resolvent, missed_clash, atoms, atoms_goals}
+use Rattle.resolution.specs.Answers.{advance, atoms}
+use Rattle.resolution.proofs.Answers.{entered_resolvent, missed_clash, atoms_goals}
 
 -- A rule's branch fails, within height n.
 abbrev Closes : List Rule → ℕ → ℕ → Term → Terms → ℕ → Rule → Type 0
