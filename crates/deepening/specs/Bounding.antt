@@ -1,5 +1,5 @@
 -- The first state of a depth bound, and what is left of the last.
-use Prim.Native.Nat.{ℕ, zero, suc, ◌+◌, ◌-◌, ◌≤◌, ◌<◌}
+use Prim.Native.Nat.{ℕ, zero, suc, ◌-◌, ◌≤◌, ◌<◌}
 use native.Mathlib.Omega.{arith}
 use Rattle.std.proofs.Math.Nat.{le_refl}
 use Rattle.std.specs.Prelude.{◌≡◌, true, length, get_or}
@@ -16,13 +16,19 @@ use Rattle.bindings.specs.Holding.{form_undoable}
 use Rattle.bindings.specs.Stored.{held}
 use Rattle.terms.specs.Bindings.{Bindings}
 use Rattle.resolution.specs.Rules.{leaf}
+<<<<<<< HEAD
 use Rattle.resolution.specs.Search.{goal, Result, failed, found, tries}
 use Rattle.resolution.specs.Machine.{search}
 use Rattle.resolution.proofs.Machine.{search_cut, search_goal}
+=======
+use Rattle.resolution.specs.Search.{goal, failed, found, tries}
+use Rattle.resolution.specs.Machine.{search}
+use Rattle.resolution.proofs.Machine.{search_cut, search_goal}
+>>>>>>> 9c21b7d56b22d89d4ee470d2c4ae21ead4edd90d
 use Rattle.resolution.specs.Preorder.{Entry, entry}
 use Rattle.attempts.specs.Promises.{Added}
 use Rattle.attempts.specs.Extending.{held_kept, form_back}
-use Rattle.tree_rows.specs.Trees.{tree_row, entries_from}
+use Rattle.tree_rows.specs.Trees.{tree_row}
 use Rattle.search_machine.specs.State.{term, rules_from, frame_at, entries, top, Start, Well, limits, Holds, Proving, Ending, Refusing}
 use Rattle.search_machine.specs.Moves.{to_start}
 use Rattle.search_machine.specs.Promises.{Ready, Searched}
@@ -32,9 +38,9 @@ use Rattle.search_machine.specs.declared.Allowed.{Allowed}
 use Rattle.search_machine.specs.declared.Machine.{Machine}
 use Rattle.search_machine.specs.declared.Mode.{Mode}
 use Rattle.search_machine.specs.declared.Mode.TheVariants.{Enter, Try, Fail, Proved, Over, Refused}
-use Rattle.deepening.specs.Clearing.{zero_row, Cleared, ClearFrom}
+use Rattle.deepening.specs.Clearing.{zero_row, Cleared}
 use Rattle.deepening.specs.Trees.{tree_rows, Nodes}
-use Rattle.deepening.specs.Bounds.{Asking, bounded_of, Unchanged, Extended, Shown, Counted, Bounded, Wiped, Leaves, Left, Leaving}
+use Rattle.deepening.specs.Bounds.{Asking, bounded_of, Extended, Bounded, Wiped, Leaves, Left, Leaving}
 use Rattle.deepening.specs.ClearingLaws.{cleared_back, cleared_from_lem, kept_part}
 use Rattle.deepening.specs.TreeLaws.{tree_length, tree_behind, tree_row_lem, rows_listed, rows_nodes}
 use Rattle.deepening.specs.declared.bound.Came.{Came}

@@ -1,5 +1,5 @@
 -- Clearing what was written: a part of a list is set to a value, and the rest stands.
-use Rattle.std.specs.Prelude.{ℕ, ◌-◌, ◌≤◌, ◌<◌, ◌≡◌, List, length, get_or, take, drop, replicate}
+use Rattle.std.specs.Prelude.{ℕ, ◌-◌, ◌≤◌, ◌<◌, ◌≡◌, List, length, get_or, drop, replicate}
 
 -- A row of zeros, as wide as a frame's.
 abbrev pub zero_row : List ℕ

@@ -1,6 +1,6 @@
 -- Laws of clearing: one element more, and what a list is of which all that was written is cleared.
-use Rattle.std.specs.Prelude.{ℕ, zero, suc, ◌+◌, ◌-◌, ◌≤◌, ◌<◌, ◌≡◌, refl, List, [], ◌∷◌, length, get_or, set, take, drop, replicate}
-use Rattle.std.proofs.Common.{arith, sym, ap, ◌∙◌, subst, ⊎_elim, length-set, length-drop, get_or-set_same, get_or-set_other, get_or-take, get_or-drop, length-take-le, ext_get_or}
+use Rattle.std.specs.Prelude.{ℕ, zero, suc, ◌+◌, ◌-◌, ◌≤◌, ◌<◌, ◌≡◌, refl, List, length, get_or, set, take, drop, replicate}
+use Rattle.std.proofs.Common.{arith, sym, ap, ◌∙◌, length-set, length-drop, get_or-set_same, get_or-set_other, get_or-take, get_or-drop, length-take-le, ext_get_or}
 use Rattle.std.proofs.lemmas.List.{length-replicate}
 use Rattle.terms.specs.Numbers.{by_same, by_less}
 use Rattle.deepening.specs.Clearing.{Cleared, ClearFrom}

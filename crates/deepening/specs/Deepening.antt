@@ -1,7 +1,7 @@
 -- The bounds in turn: what the loop keeps, and its ways out.
 use Rattle.std.specs.Prelude.{ℕ, zero, suc, ◌+◌, ◌-◌, ◌≤◌, ◌<◌, ◌≡◌, refl, Bool, true, false, not, cond, ◌≢◌, List, [], ◌∷◌, length}
-use Rattle.std.proofs.Common.{arith, le_refl, ap, ap₂, sym, ◌∙◌, subst}
-use Rattle.terms.specs.Numbers.{less, less_yes, less_no, true_false}
+use Rattle.std.proofs.Common.{arith, le_refl, ap, sym, ◌∙◌, subst}
+use Rattle.terms.specs.Numbers.{less_yes, less_no, true_false}
 use Rattle.terms.specs.Term.{many}
 use Rattle.arena.specs.Cells.{reference_up, below_denote, cells}
 use Rattle.arena.specs.Copies.{term_room}
@@ -9,19 +9,23 @@ use Rattle.arena.specs.Form.{in_form}
 use Rattle.arena.specs.FormKept.{form_same}
 use Rattle.arena.specs.Rows.{Rows}
 use Rattle.bindings.specs.Stored.{held}
-use Rattle.resolution.specs.Rules.{Tree, leaf, ◌◂◌}
+use Rattle.resolution.specs.Rules.{Tree}
 use Rattle.resolution.specs.Search.{within, Result, refused, found, failed, Verdict, settle, bounds_from, bounds, deepen, nothing}
-use Rattle.resolution.specs.Search.{undecided, proved, refusal}
+use Rattle.resolution.specs.Search.{proved}
 use Rattle.resolution.specs.Preorder.{flat}
+<<<<<<< HEAD
 use Rattle.resolution.proofs.Verdicts as verdicts
 use Rattle.search_machine.specs.State.{term, rules_from, Well}
+=======
+use Rattle.resolution.specs.Verdicts as verdicts
+use Rattle.search_machine.specs.State.{term, rules_from}
+>>>>>>> 9c21b7d56b22d89d4ee470d2c4ae21ead4edd90d
 use Rattle.search_machine.specs.declared.Allowed.{Allowed}
 use Rattle.deepening.specs.Bounds.{Asking, bounded_of, Unchanged, Extended, Shown, Counted, Says, Bounded, settled, prove_of}
-use Rattle.deepening.specs.Bounds.{Proven, Answers, Deepened}
+use Rattle.deepening.specs.Bounds.{Deepened}
 use Rattle.deepening.specs.TreeLaws.{entries_count, lists_all}
 use Rattle.deepening.specs.declared.bound.Came.{Came}
 use Rattle.deepening.specs.declared.bound.Came.TheVariants.{Exceeded, Found, Failed}
-use Rattle.deepening.specs.declared.Answer.{Answer}
 use Rattle.deepening.specs.declared.Answer.TheVariants.{Refused, Proved, Nothing, Undecided}
 
 -- A failure that does not settle the goal, and one that does.

@@ -11,7 +11,6 @@ use Rattle.std.proofs.Math.Seq.{get_or-set_same, get_or-set_other}
 use Rattle.terms.specs.Numbers.{by_same}
 use Rattle.terms.specs.Term.{Kind, Term, var}
 use Rattle.terms.specs.Term.Kind.{one as single}
-use Rattle.arena.specs.Cells.{denote, cells}
 use Rattle.arena.specs.Copies.{term_room}
 use Rattle.arena.specs.Rows.{Rows}
 use Rattle.resolution.specs.Rules.{Tree, node, leaf, ◌◂◌}

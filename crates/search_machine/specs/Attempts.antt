@@ -1,7 +1,7 @@
 -- The rules as the theory has them, and an attempt with one: what `try_stored` asks and what it leaves, for a goal of the machine.
-use Rattle.std.specs.Prelude.{ℕ, zero, suc, ◌+◌, ◌-◌, ◌≤◌, ◌<◌, ◌≡◌, refl, List, [], ◌∷◌, map, length, get_or}
-use Rattle.std.proofs.Common.{arith, ap, ap₂, sym, ◌∙◌, subst}
-use Rattle.terms.specs.Term.{Term, Terms, cons, count}
+use Rattle.std.specs.Prelude.{ℕ, zero, suc, ◌+◌, ◌-◌, ◌<◌, ◌≡◌, refl, List, [], ◌∷◌, map, length, get_or}
+use Rattle.std.proofs.Common.{arith, ap, ap₂, sym, ◌∙◌}
+use Rattle.terms.specs.Term.{Term, cons, count}
 use Rattle.terms.specs.TermLaws.{count_sub}
 use Rattle.terms.specs.Bindings.{Bindings}
 use Rattle.arena.specs.Cells.{denote, cells, terms_of}
@@ -10,7 +10,6 @@ use Rattle.arena.specs.Rows.{Rows}
 use Rattle.names.specs.Symbols.{column, columns, row_at}
 use Rattle.names.specs.SearchLaws.{columns_length}
 use Rattle.unifier.specs.Promises.{Scratch}
-use Rattle.resolution.specs.Rules.{Rule}
 use Rattle.resolution.specs.Fresh.{all_vars, body, fresh}
 use Rattle.resolution.specs.Search.{Limits, attempt}
 use Rattle.rules.specs.StoredRows.{heads_in, places_in, stored_in}

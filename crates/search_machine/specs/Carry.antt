@@ -4,13 +4,12 @@ use Rattle.std.specs.Prelude.{ℕ, zero, suc, ◌+◌, ◌-◌, ◌≤◌, ◌<�
 use Rattle.std.proofs.Common.{arith, ap, ap₂, sym, ◌∙◌, subst, length-set}
 use Rattle.terms.specs.Numbers.{by_same}
 use Rattle.terms.specs.Term.{Term, Terms, cons, count}
-use Rattle.arena.specs.Cells.{Reference, WellFormed, Same, reference_up, frame_denote, cells}
+use Rattle.arena.specs.Cells.{WellFormed, Same, reference_up, frame_denote, cells}
 use Rattle.arena.specs.NodeLaws.{reference_same}
 use Rattle.arena.specs.Copies.{term_room}
 use Rattle.arena.specs.FormKept.{form_same}
 use Rattle.arena.specs.Rows.{Rows, column}
 use Rattle.bindings.specs.Tables.{valued, removed, undone}
-use Rattle.bindings.specs.Stored.{held, Form}
 use Rattle.resolution.specs.Search.{Work, build, goals}
 use Rattle.resolution.specs.Machine.{Branch}
 use Rattle.resolution.specs.Preorder.{Entry, entry}
@@ -18,7 +17,7 @@ use Rattle.attempts.specs.Promises.{Added}
 use Rattle.attempts.specs.Extending.{held_older, form_back}
 use Rattle.attempts.specs.Keeping.{added_none, added_both}
 use Rattle.search_machine.specs.State.{term, Refers, span, arity, frame_at, premise_ref, pending, Place, top, inside, entries}
-use Rattle.search_machine.specs.State.{Start, Above, FrameOk, Stack}
+use Rattle.search_machine.specs.State.{Start, Above, Stack}
 use Rattle.search_machine.specs.declared.Allowed.{Allowed}
 use Rattle.search_machine.specs.declared.frames.Frame.{Frame}
 

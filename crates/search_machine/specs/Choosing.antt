@@ -1,6 +1,6 @@
 -- Passing over rules by arithmetic: what the functions ask and leave. The header that a goal leads to is read once; a rule whose conclusion
 -- has another one, or clashes with the goal by the heads of arguments, is passed over as its attempt would, and nothing is written.
-use Rattle.std.specs.Prelude.{ℕ, ◌+◌, ◌-◌, ◌≤◌, ◌<◌, ◌≡◌, ◌≢◌, List, length}
+use Rattle.std.specs.Prelude.{ℕ, ◌-◌, ◌≤◌, ◌<◌, ◌≡◌, ◌≢◌, List, length}
 use Rattle.arena.specs.Cells.{headers, Reference, cells}
 use Rattle.arena.specs.Copies.{pattern_room, term_room}
 use Rattle.arena.specs.Rows.{Rows}

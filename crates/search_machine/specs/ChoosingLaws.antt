@@ -1,8 +1,8 @@
 -- Rules that are passed over: each is an attempt whose conclusion clashes with the goal, or that the limits refuse.
-use Rattle.std.specs.Prelude.{ℕ, suc, ◌+◌, ◌-◌, ◌*◌, ◌≤◌, ◌<◌, ◌≡◌, refl, true, false, ◌≢◌, List, length}
-use Rattle.std.proofs.Common.{arith, le_refl, ap, sym, ◌∙◌, subst}
+use Rattle.std.specs.Prelude.{ℕ, ◌+◌, ◌-◌, ◌*◌, ◌≤◌, ◌<◌, ◌≡◌, refl, true, false, List, length}
+use Rattle.std.proofs.Common.{arith, ap, sym, subst}
 use Rattle.arena.specs.Cells.{headers, cells}
-use Rattle.arena.specs.Copies.{pattern_room, term_room}
+use Rattle.arena.specs.Copies.{term_room}
 use Rattle.arena.specs.Rows.{Rows}
 use Rattle.names.specs.Symbols.{column, row_at}
 use Rattle.bindings.specs.Promises.{Walked}

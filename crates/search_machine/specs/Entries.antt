@@ -1,17 +1,23 @@
 -- Entering a place: the ways out, each keeping what the state means.
-use Rattle.std.specs.Prelude.{ℕ, zero, suc, ◌+◌, ◌-◌, ◌≤◌, ◌<◌, ◌≡◌, refl, Bool, true, false, ◌≢◌, List, [], ◌∷◌}
+use Rattle.std.specs.Prelude.{ℕ, suc, ◌+◌, ◌-◌, ◌≤◌, ◌<◌, ◌≡◌, refl, true, ◌≢◌, List, [], ◌∷◌}
 use Rattle.std.proofs.Common.{arith, ap, ap₂, sym, ◌∙◌, subst}
 use Rattle.terms.specs.Term.{Term}
-use Rattle.arena.specs.Cells.{headers}
 use Rattle.arena.specs.Copies.{term_room}
 use Rattle.arena.specs.Rows.{Rows}
 use Rattle.bindings.specs.Stored.{held}
+<<<<<<< HEAD
 use Rattle.resolution.specs.Search.{Work, goal, build, goals, built, Result, tries}
 use Rattle.resolution.specs.Machine.{search, or_cut, resume}
 use Rattle.resolution.proofs.Machine.{enter_out, enter_done, enter_build, enter_cut, enter_goal}
 use Rattle.resolution.specs.Preorder.{builds, builds_goals, made, made_build, Fits, fits_less}
+=======
+use Rattle.resolution.specs.Search.{Work, goal, build, built, Result, tries}
+use Rattle.resolution.specs.Machine.{search, or_cut, resume}
+use Rattle.resolution.proofs.Machine.{enter_out, enter_done, enter_build, enter_cut, enter_goal}
+use Rattle.resolution.specs.Preorder.{builds_goals, made, made_build, Fits, fits_less}
+>>>>>>> 9c21b7d56b22d89d4ee470d2c4ae21ead4edd90d
 use Rattle.search_machine.specs.Storage.{PremiseAsked}
-use Rattle.search_machine.specs.State.{term, Refers, span, rules_from, arity, RulesStored, frame_at, premise_ref, pending}
+use Rattle.search_machine.specs.State.{term, span, rules_from, arity, RulesStored, frame_at, premise_ref, pending}
 use Rattle.search_machine.specs.State.{Place, Start, limits, all_rules, Entering, Trying, Failing, Proving}
 use Rattle.search_machine.specs.Moves.{to_place, to_fail, to_stop, to_goal}
 use Rattle.search_machine.specs.Carry.{stack_above, stack_refers}

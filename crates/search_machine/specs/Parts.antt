@@ -1,5 +1,5 @@
 -- The parts of a rule's row that are lent to an attempt are the references of its premises and the places of its variables.
-use Rattle.std.specs.Prelude.{ℕ, zero, suc, ◌+◌, ◌-◌, ◌≤◌, ◌<◌, ◌≡◌, refl, length, take, drop}
+use Rattle.std.specs.Prelude.{ℕ, zero, suc, ◌+◌, ◌-◌, ◌≤◌, ◌≡◌, refl, length, take, drop}
 use Rattle.std.proofs.Common.{arith, ap, sym, ◌∙◌, subst, drop-cons}
 use Rattle.std.proofs.Math.Path.{ap₂}
 use mathlib.Core.List.{List, ◌∷◌}

@@ -1,5 +1,5 @@
 -- A place taken apart: the application that it belongs to, what is pending there, and the reference of its next premise.
-use Rattle.std.specs.Prelude.{ℕ, zero, suc, ◌+◌, ◌-◌, ◌≤◌, ◌<◌, ◌≡◌, refl, List, [], ◌∷◌, length, get_or}
+use Rattle.std.specs.Prelude.{ℕ, suc, ◌+◌, ◌-◌, ◌≤◌, ◌<◌, ◌≡◌, refl, List, [], ◌∷◌, length, get_or}
 use Rattle.std.proofs.Common.{arith, ap, sym, ◌∙◌, subst, ⊎_elim}
 use Rattle.arena.specs.Cells.{headers, Cells, Reference, cells, low_or_high}
 use Rattle.arena.specs.Copies.{pattern_room, term_room, moved, Movable}
@@ -9,7 +9,7 @@ use Rattle.names.specs.Symbols.{column, row_at}
 use Rattle.names.specs.SearchLaws.{columns_length, columns_at}
 use Rattle.resolution.specs.Search.{Work, goal, build, goals}
 use Rattle.resolution.specs.Preorder.{builds}
-use Rattle.rules.specs.StoredRows.{heads_in, places_in, stored_in}
+use Rattle.rules.specs.StoredRows.{heads_in, places_in}
 use Rattle.attempts.specs.StoredRules.{Part, Root}
 use Rattle.search_machine.specs.Storage.{PremiseAsked}
 use Rattle.search_machine.specs.State.{term, Refers, span, arity, RulesStored, frame_at, premise_ref, pending, Place, top, inside}

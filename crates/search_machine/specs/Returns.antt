@@ -1,15 +1,13 @@
 -- Going back to the newest application: the ways out, each keeping what the state means.
-use Rattle.std.specs.Prelude.{ℕ, zero, suc, ◌+◌, ◌-◌, ◌≤◌, ◌<◌, ◌≡◌, refl, List, [], ◌∷◌, length}
+use Rattle.std.specs.Prelude.{ℕ, zero, suc, ◌+◌, ◌-◌, ◌<◌, ◌≡◌, refl, List, [], ◌∷◌}
 use Rattle.std.proofs.Common.{arith, ap, sym, ◌∙◌, subst}
-use Rattle.arena.specs.Copies.{term_room}
 use Rattle.arena.specs.Rows.{Rows}
 use Rattle.bindings.specs.Tables.{undone}
 use Rattle.bindings.specs.Promises.{Undoable}
 use Rattle.bindings.specs.Holding.{form_undoable}
-use Rattle.bindings.specs.Stored.{held}
 use Rattle.resolution.specs.Search.{Result, failed, tries}
 use Rattle.resolution.specs.Machine.{search, Branch, resume}
-use Rattle.search_machine.specs.State.{term, frame_at, Start, Well, limits, all_rules, rules_on, FrameOk, Bottom, Stack}
+use Rattle.search_machine.specs.State.{frame_at, Start, limits, all_rules, rules_on, FrameOk, Bottom, Stack}
 use Rattle.search_machine.specs.State.{Trying, Failing, Ending}
 use Rattle.search_machine.specs.Moves.{to_stop, to_retry}
 use Rattle.search_machine.specs.Carry.{added_length}

@@ -1,7 +1,7 @@
 -- The rules of a signature in the listed form are stored as the search asks.
-use Rattle.std.specs.Prelude.{ℕ, zero, suc, ◌+◌, ◌≤◌, ◌<◌, ◌≡◌, refl, Bool, true, false, ◌≢◌, List, [], ◌∷◌, ◌++◌, map, length, get_or, take}
+use Rattle.std.specs.Prelude.{ℕ, zero, suc, ◌+◌, ◌≤◌, ◌<◌, ◌≡◌, refl, true, ◌≢◌, List, [], ◌∷◌, ◌++◌, map, length, get_or, take}
 use Rattle.std.proofs.Common.{arith, sym, ap, ap₂, ◌∙◌, subst}
-use Rattle.terms.specs.Numbers.{same, by_same, true_false}
+use Rattle.terms.specs.Numbers.{by_same, true_false}
 use Rattle.terms.specs.Term.{Kind, Syn, var, app, nil, cons, Below}
 use Rattle.arena.specs.Copies.{pattern_room}
 use Rattle.arena.specs.Form.{in_form}
@@ -10,13 +10,18 @@ use Rattle.names.specs.Symbols.{column, row_at}
 use Rattle.meeting.specs.Places.{numbers_below}
 use Rattle.resolution.specs.Rules.{Rule}
 use Rattle.resolution.specs.Fresh.{elem, met}
+<<<<<<< HEAD
 use Rattle.resolution.specs.FreshLaws.{Covers, Grows}
 use Rattle.resolution.proofs.FreshLaws.{covers_grows, met_covers, met_grows}
+=======
+use Rattle.resolution.specs.FreshLaws.{Covers}
+use Rattle.resolution.proofs.FreshLaws.{covers_grows, met_covers, met_grows}
+>>>>>>> 9c21b7d56b22d89d4ee470d2c4ae21ead4edd90d
 use Rattle.rules.specs.LayingLaws.{lying_form}
 use Rattle.rules.specs.StoredRows.{Kept}
 use Rattle.rules.specs.StoredLaws.{kept_stored}
 use Rattle.rule_checks.specs.RuleForm.{rule_in, RuleFormed}
-use Rattle.search_machine.specs.State.{rule_at, rules_from, RulesStored, RulesInForm}
+use Rattle.search_machine.specs.State.{rules_from, RulesStored, RulesInForm}
 
 elem_end : (x y : ℕ) (e : List ℕ) → x ≢ y → elem x (e ++ (y ∷ [])) ≡ true → elem x e ≡ true
 elem_end x y [] n h = by_same x y (λ p q. absurd (n p)) (λ p q. rw q at h)

@@ -1,8 +1,7 @@
 -- One rule for a goal: the ways out, each keeping what the state means.
-use Rattle.std.specs.Prelude.{ℕ, zero, suc, ◌+◌, ◌-◌, ◌≤◌, ◌<◌, ◌≡◌, refl, List, [], ◌∷◌, ◌++◌, length, get_or, set}
+use Rattle.std.specs.Prelude.{ℕ, suc, ◌+◌, ◌-◌, ◌≤◌, ◌<◌, ◌≡◌, refl, List, [], ◌∷◌, ◌++◌, length, set}
 use Rattle.std.proofs.Common.{arith, le_refl, ap, ap₂, sym, ◌∙◌, subst, get_or-set_same, get_or-set_other}
 use Rattle.terms.specs.Term.{Term, Terms, count}
-use Rattle.arena.specs.Cells.{Same, cells}
 use Rattle.arena.specs.Copies.{term_room}
 use Rattle.arena.specs.FormKept.{form_same}
 use Rattle.arena.specs.Rows.{Rows}
@@ -11,6 +10,7 @@ use Rattle.names.specs.SearchLaws.{columns_length}
 use Rattle.bindings.specs.Stored.{held, Form}
 use Rattle.resolution.specs.Rules.{Rule}
 use Rattle.resolution.specs.Fresh.{body}
+<<<<<<< HEAD
 use Rattle.resolution.specs.Search.{Attempt, attempt, Work, build, goals, Result, tries}
 use Rattle.resolution.specs.Machine.{search, or_cut, Branch, resume}
 use Rattle.resolution.proofs.Machine.{try_exceeded, try_missed, try_entered, try_none}
@@ -18,13 +18,18 @@ use Rattle.resolution.specs.Preorder.{Entry, entry, builds, made, made_enter, Fi
 use Rattle.rules.specs.StoredRows.{heads_in, places_in, stored_in}
 use Rattle.attempts.specs.Promises.{Added, Inside, attempt_of}
 use Rattle.attempts.specs.StoredRules.{rule_of}
+=======
+use Rattle.resolution.specs.Search.{Work, build, goals, Result, tries}
+use Rattle.resolution.specs.Machine.{search, Branch, resume}
+use Rattle.resolution.proofs.Machine.{try_exceeded, try_missed, try_entered}
+use Rattle.resolution.specs.Preorder.{Entry, entry, builds, made, made_enter, fits_enter}
+use Rattle.attempts.specs.Promises.{Added}
+>>>>>>> 9c21b7d56b22d89d4ee470d2c4ae21ead4edd90d
 use Rattle.attempts.specs.Extending.{held_kept, form_back}
-use Rattle.attempts.specs.Keeping.{added_both}
-use Rattle.attempts.specs.declared.Tried.{Tried}
 use Rattle.attempts.specs.declared.Tried.TheVariants.{Exceeded, Missed, Entered}
 use Rattle.search_machine.specs.Storage.{RowAsked, RowTried}
-use Rattle.search_machine.specs.State.{term, Refers, span, rule_at, rules_from, arity, RulesStored, frame_of, row_of, frame_at}
-use Rattle.search_machine.specs.State.{premise_ref, pending, Place, inside, entries, Start, Well, Above, limits, all_rules}
+use Rattle.search_machine.specs.State.{term, Refers, span, rule_at, rules_from, arity, frame_of, row_of, frame_at}
+use Rattle.search_machine.specs.State.{premise_ref, pending, Place, inside, entries, Start, limits, all_rules}
 use Rattle.search_machine.specs.State.{rules_on, FrameOk, Stack, Entering, Trying, Failing, Refusing}
 use Rattle.search_machine.specs.Moves.{to_fail, to_stop, to_rule, to_body, frame_for}
 use Rattle.search_machine.specs.Carry.{added_length, SameFrames, term_kept, refers_kept, place_kept, entries_kept}

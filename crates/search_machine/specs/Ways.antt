@@ -1,5 +1,5 @@
 -- The ways out of the machine's functions, as the contracts have them.
-use Prim.Native.Nat.{ℕ, zero, suc, ◌+◌, ◌-◌, ◌*◌, ◌≤◌, ◌<◌}
+use Prim.Native.Nat.{ℕ, suc, ◌+◌, ◌-◌, ◌*◌, ◌≤◌, ◌<◌}
 use native.Mathlib.Omega.{arith}
 use Rattle.std.specs.Prelude.{◌≡◌, Bool, true, false, ◌≢◌, List, [], length, get_or, set}
 use Rattle.std.proofs.Math.Path.{refl, ap}
@@ -21,7 +21,7 @@ use Rattle.search_machine.specs.Promises.{Ready, Stepped, Moved, Seen, Returned,
 use Rattle.search_machine.specs.Falls.{weights_same, weights_top, falls_step, falls_mode}
 use Rattle.search_machine.specs.Entries.{entry_out, entry_proof, entry_small, entry_built, entry_cut, entry_asked, entry_goal}
 use Rattle.search_machine.specs.Attempts.{row_asked}
-use Rattle.search_machine.specs.Tries.{frame_set, frames_set, tried_none, tried_refused, tried_missed, tried_entered}
+use Rattle.search_machine.specs.Tries.{frame_set, frames_set, tried_refused, tried_missed, tried_entered}
 use Rattle.search_machine.specs.Returns.{back_over, back_known, back_undoable, back_trying}
 use Rattle.search_machine.specs.declared.Allowed.{Allowed}
 use Rattle.search_machine.specs.declared.Machine.{Machine}

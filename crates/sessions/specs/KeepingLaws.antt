@@ -13,7 +13,7 @@ use Rattle.terms.specs.Term.{Term}
 use Rattle.arena.specs.Cells.{cells}
 use Rattle.arena.specs.NodeLaws.{formed_same, formed_up}
 use Rattle.arena.specs.FormKept.{form_same}
-use Rattle.bindings.specs.Stored.{bindings, held, Form}
+use Rattle.bindings.specs.Stored.{held, Form}
 use Rattle.bindings.specs.Holding.{form_holds, trail_in}
 use Rattle.bindings.specs.Growth.{held_grows, form_grows}
 use Rattle.resolution.specs.Rules.{Rule}

@@ -1,0 +1,12 @@
+-- `run` meets its contract: by steps, which keep what the state means; the measure falls with each.
+use Rattle.search_machine.specs.Moves.{measure}
+use Rattle.search_machine.specs.Ways.{Going}
+use Rattle.search_machine.proofs.run.Given as goal
+
+abbrev pub invariant-loop-words : goal.invariant-loop-words
+invariant-loop-words l =
+    Going l.allowed l.pattern l.rules l.initial.frames l.frames l.initial.words l.words l.initial.bindings l.bindings l.initial.links l.links l.initial.marks l.marks l.initial.stack l.stack l.initial.m l.m
+
+abbrev pub decreases-loop-words : goal.decreases-loop-words
+decreases-loop-words l =
+    measure l.allowed.rules l.frames l.m

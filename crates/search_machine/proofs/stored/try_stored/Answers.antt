@@ -1,0 +1,14 @@
+-- `try_stored` meets its contract: the parts of the row that are lent are its premises and places.
+use Rattle.search_machine.specs.Parts.{parts_asked, parts_tried}
+use borrow.Author.Rules.{rules}
+use Rattle.search_machine.proofs.stored.try_stored.Goals as goal
+
+pub try_rule-requires : goal.try_rule-requires
+try_rule-requires c = parts_asked
+    c.requires
+    (search rules) c.stored_in-stored.ensures
+
+pub returns : goal.returns
+returns c = parts_tried
+    c.requires (search rules)
+    c.stored_in-stored.ensures c.try_rule.ensures
