@@ -16,15 +16,9 @@ use Rattle.bindings.specs.Holding.{form_undoable}
 use Rattle.bindings.specs.Stored.{held}
 use Rattle.terms.specs.Bindings.{Bindings}
 use Rattle.resolution.specs.Rules.{leaf}
-<<<<<<< HEAD
-use Rattle.resolution.specs.Search.{goal, Result, failed, found, tries}
-use Rattle.resolution.specs.Machine.{search}
-use Rattle.resolution.proofs.Machine.{search_cut, search_goal}
-=======
 use Rattle.resolution.specs.Search.{goal, failed, found, tries}
 use Rattle.resolution.specs.Machine.{search}
 use Rattle.resolution.proofs.Machine.{search_cut, search_goal}
->>>>>>> 9c21b7d56b22d89d4ee470d2c4ae21ead4edd90d
 use Rattle.resolution.specs.Preorder.{Entry, entry}
 use Rattle.attempts.specs.Promises.{Added}
 use Rattle.attempts.specs.Extending.{held_kept, form_back}

@@ -13,13 +13,8 @@ use Rattle.resolution.specs.Rules.{Tree}
 use Rattle.resolution.specs.Search.{within, Result, refused, found, failed, Verdict, settle, bounds_from, bounds, deepen, nothing}
 use Rattle.resolution.specs.Search.{proved}
 use Rattle.resolution.specs.Preorder.{flat}
-<<<<<<< HEAD
 use Rattle.resolution.proofs.Verdicts as verdicts
-use Rattle.search_machine.specs.State.{term, rules_from, Well}
-=======
-use Rattle.resolution.specs.Verdicts as verdicts
 use Rattle.search_machine.specs.State.{term, rules_from}
->>>>>>> 9c21b7d56b22d89d4ee470d2c4ae21ead4edd90d
 use Rattle.search_machine.specs.declared.Allowed.{Allowed}
 use Rattle.deepening.specs.Bounds.{Asking, bounded_of, Unchanged, Extended, Shown, Counted, Says, Bounded, settled, prove_of}
 use Rattle.deepening.specs.Bounds.{Deepened}

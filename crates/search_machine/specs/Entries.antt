@@ -5,17 +5,10 @@ use Rattle.terms.specs.Term.{Term}
 use Rattle.arena.specs.Copies.{term_room}
 use Rattle.arena.specs.Rows.{Rows}
 use Rattle.bindings.specs.Stored.{held}
-<<<<<<< HEAD
-use Rattle.resolution.specs.Search.{Work, goal, build, goals, built, Result, tries}
-use Rattle.resolution.specs.Machine.{search, or_cut, resume}
-use Rattle.resolution.proofs.Machine.{enter_out, enter_done, enter_build, enter_cut, enter_goal}
-use Rattle.resolution.specs.Preorder.{builds, builds_goals, made, made_build, Fits, fits_less}
-=======
 use Rattle.resolution.specs.Search.{Work, goal, build, built, Result, tries}
 use Rattle.resolution.specs.Machine.{search, or_cut, resume}
 use Rattle.resolution.proofs.Machine.{enter_out, enter_done, enter_build, enter_cut, enter_goal}
 use Rattle.resolution.specs.Preorder.{builds_goals, made, made_build, Fits, fits_less}
->>>>>>> 9c21b7d56b22d89d4ee470d2c4ae21ead4edd90d
 use Rattle.search_machine.specs.Storage.{PremiseAsked}
 use Rattle.search_machine.specs.State.{term, span, rules_from, arity, RulesStored, frame_at, premise_ref, pending}
 use Rattle.search_machine.specs.State.{Place, Start, limits, all_rules, Entering, Trying, Failing, Proving}

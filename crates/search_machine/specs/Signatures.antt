@@ -10,13 +10,8 @@ use Rattle.names.specs.Symbols.{column, row_at}
 use Rattle.meeting.specs.Places.{numbers_below}
 use Rattle.resolution.specs.Rules.{Rule}
 use Rattle.resolution.specs.Fresh.{elem, met}
-<<<<<<< HEAD
-use Rattle.resolution.specs.FreshLaws.{Covers, Grows}
-use Rattle.resolution.proofs.FreshLaws.{covers_grows, met_covers, met_grows}
-=======
 use Rattle.resolution.specs.FreshLaws.{Covers}
 use Rattle.resolution.proofs.FreshLaws.{covers_grows, met_covers, met_grows}
->>>>>>> 9c21b7d56b22d89d4ee470d2c4ae21ead4edd90d
 use Rattle.rules.specs.LayingLaws.{lying_form}
 use Rattle.rules.specs.StoredRows.{Kept}
 use Rattle.rules.specs.StoredLaws.{kept_stored}

@@ -10,21 +10,11 @@ use Rattle.names.specs.SearchLaws.{columns_length}
 use Rattle.bindings.specs.Stored.{held, Form}
 use Rattle.resolution.specs.Rules.{Rule}
 use Rattle.resolution.specs.Fresh.{body}
-<<<<<<< HEAD
-use Rattle.resolution.specs.Search.{Attempt, attempt, Work, build, goals, Result, tries}
-use Rattle.resolution.specs.Machine.{search, or_cut, Branch, resume}
-use Rattle.resolution.proofs.Machine.{try_exceeded, try_missed, try_entered, try_none}
-use Rattle.resolution.specs.Preorder.{Entry, entry, builds, made, made_enter, Fits, fits_enter}
-use Rattle.rules.specs.StoredRows.{heads_in, places_in, stored_in}
-use Rattle.attempts.specs.Promises.{Added, Inside, attempt_of}
-use Rattle.attempts.specs.StoredRules.{rule_of}
-=======
 use Rattle.resolution.specs.Search.{Work, build, goals, Result, tries}
 use Rattle.resolution.specs.Machine.{search, Branch, resume}
 use Rattle.resolution.proofs.Machine.{try_exceeded, try_missed, try_entered}
 use Rattle.resolution.specs.Preorder.{Entry, entry, builds, made, made_enter, fits_enter}
 use Rattle.attempts.specs.Promises.{Added}
->>>>>>> 9c21b7d56b22d89d4ee470d2c4ae21ead4edd90d
 use Rattle.attempts.specs.Extending.{held_kept, form_back}
 use Rattle.attempts.specs.declared.Tried.TheVariants.{Exceeded, Missed, Entered}
 use Rattle.search_machine.specs.Storage.{RowAsked, RowTried}
