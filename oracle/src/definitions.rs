@@ -141,12 +141,12 @@ fn repeat<'a, A>(item: impl Fn(Tokens<'a>) -> Parsed<A>, mut ts: Tokens<'a>, mut
 
 // Grammar.antt
 
-/// `partOf` of the words' specification.
+/// `part_of` of the words' specification.
 pub(crate) fn part_of(text: &[u8], Place { start, length }: Place) -> &[u8] {
     text.get(start as usize..start as usize + length as usize).unwrap_or(&[])
 }
 
-/// `value` of `numeralOf`; from 2^64 on a number need not be exact.
+/// `value` of `numeral_of`; from 2^64 on a number need not be exact.
 fn value_at(text: &[u8], ts: Tokens) -> u128 {
     let word = part_of(text, place_of(ts));
     let value_from = |v: u128, c: &u8| v.saturating_mul(10).saturating_add(u128::from(c.saturating_sub(48)));
@@ -456,7 +456,7 @@ pub(crate) fn declared_rows(Declared { line, declaration }: &Declared) -> Vec<Ro
     }
 }
 
-/// Declarations and tokens taken, or number and line of the refusal: what `parseOf` comes to on the tokens of a text.
+/// Declarations and tokens taken, or number and line of the refusal: what `parse_of` comes to on the tokens of a text.
 pub(crate) fn declarations(text: &[u8], tokens: &[Row]) -> Result<(Vec<Declared>, usize), (u32, u32)> {
     match parse_of(text, tokens) {
         Item(declared, taken) => Ok((declared, taken)),

@@ -97,12 +97,12 @@ impl Signature {
         }
     }
 
-    /// `evaluateOf` under the limit that a caller sets.
+    /// `evaluate_of` under the limit that a caller sets.
     pub fn evaluate_with(&self, limit: u32, term: &Written, terms: &mut Terms) -> Answer {
         self.evaluate(u64::from(limit.min(WORDS)), term, terms).answer
     }
 
-    /// `evaluateOf` with so many words.
+    /// `evaluate_of` with so many words.
     pub fn evaluate(&self, limit: u64, term: &Written, terms: &mut Terms) -> Evaluation {
         let mut evaluator = Evaluator { signature: self, limit, terms, compared: 0 };
         let evaluated = evaluator.expression_of(term, 0, Spent { calls: 0, words: 0 });

@@ -1,4 +1,4 @@
-//! Our side: the static libraries that `rt staticlib capi` and `rt staticlib unifier_capi` make, called as any foreign program would.
+//! Our side: the static libraries that `tools/staticlib capi` and `tools/staticlib unifier_capi` make, called as any foreign program would.
 
 #![allow(dead_code)] // each program calls some of it
 

@@ -1,4 +1,4 @@
-//! Our search without its tests, in the static library that `rt staticlib prover_capi` makes: for measurements, as our own programs call it.
+//! Our search without its tests, in the static library that `tools/staticlib prover_capi` makes: for measurements, as our own programs call it.
 
 use crate::ours_search::{COUNTS, Ours, prove_by, told};
 use horn_oracle::call;

@@ -1,4 +1,4 @@
-//! Our evaluator, in the static library that `rt staticlib capi` makes, called as any foreign program would.
+//! Our evaluator, in the static library that `tools/staticlib capi` makes, called as any foreign program would.
 
 use horn_oracle::call;
 use horn_oracle::evaluated::{Buffers, Lent, Stored, TreeRow};

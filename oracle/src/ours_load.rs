@@ -1,4 +1,4 @@
-//! Our loader and the test of what it leaves, in the static library that `rt staticlib capi` makes, called as any foreign program would.
+//! Our loader and the test of what it leaves, in the static library that `tools/staticlib capi` makes, called as any foreign program would.
 
 use horn_oracle::call;
 use horn_oracle::loaded::{Buffers, Lent, Limits, Pair, RuleRow, SymbolRow};

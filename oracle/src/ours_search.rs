@@ -1,4 +1,4 @@
-//! Our sessions, in the static library that `rt staticlib capi` makes, called as any foreign program would.
+//! Our sessions, in the static library that `tools/staticlib capi` makes, called as any foreign program would.
 
 use crate::ours_load;
 use horn_oracle::call;

@@ -1,4 +1,4 @@
-//! Reads the rows of declarations back, as `declaredRows` in crates/parser/specs/Rows.antt writes them, and trusts
+//! Reads the rows of declarations back, as `declared_rows` in crates/parser/specs/Rows.antt writes them, and trusts
 //! nothing in them.
 //!
 //! Rows come in the order of the text, so each word outside comments must be met once and in order: as the place in a

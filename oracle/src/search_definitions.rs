@@ -35,7 +35,7 @@ enum Walked {
 struct Rule {
     conclusion: usize,
     premises: Vec<usize>,
-    /// How many variables `headVars` and `allVars` have.
+    /// How many variables `head_vars` and `all_vars` have.
     head_variables: usize,
     all_variables: usize,
     /// `words` of an instance of the conclusion and of the premises.
@@ -51,7 +51,7 @@ pub struct Limits {
 }
 
 impl Limits {
-    /// `limitsOf`.
+    /// `limits_of`.
     pub fn of(allowance: &Allowance) -> Limits {
         Limits {
             variables: u64::from(allowance.variables.min(VARIABLES)),
@@ -60,7 +60,7 @@ impl Limits {
     }
 }
 
-/// `tooMuch`.
+/// `too_much`.
 fn too_much(Ask { steps, depth, limits }: &Ask) -> bool {
     *steps > limits.steps.min(STEPS) || *depth > DEPTH
 }
@@ -187,7 +187,7 @@ fn bounds(largest: u32) -> impl Iterator<Item = u32> {
 }
 
 impl Session<'_> {
-    /// `newSession`, over a signature.
+    /// `new_session`, over a signature.
     pub fn new(signature: &Signature) -> Session<'_> {
         let mut nodes = Vec::new();
         let rules = signature.rules.iter().map(|rule| {
@@ -301,7 +301,7 @@ impl Session<'_> {
         Asked { answer, full, most, cost }
     }
 
-    /// `goalCompiled`: its new names in the order of their first appearance, and its term, in which a variable is a place among
+    /// `goal_compiled`: its new names in the order of their first appearance, and its term, in which a variable is a place among
     /// the session's names with the new ones behind them.
     fn compiled(&self, goal: &Written) -> Tried<(Vec<(Vec<u8>, u32)>, Pattern)> {
         let known = self.names.iter().map(|named| (named.name.clone(), named.sort)).collect();
@@ -311,7 +311,7 @@ impl Session<'_> {
         Ok((variables[self.names.len()..].to_vec(), pattern))
     }
 
-    /// `verdictOf` and `left`. The session is not restored where it refuses.
+    /// `verdict_of` and `left`. The session is not restored where it refuses.
     fn searched(
         &mut self,
         new: Vec<(Vec<u8>, u32)>,

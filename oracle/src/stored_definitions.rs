@@ -46,7 +46,7 @@ pub fn name_place(text: &[u8], start: u32, length: u32) -> Option<Vec<u8>> {
     (1..=WORD_BYTES).contains(&length).then(|| word.to_vec())
 }
 
-/// `numeralOf`: digits alone, with a value of 64 bits.
+/// `numeral_of`: digits alone, with a value of 64 bits.
 fn numeral_value(word: &[u8]) -> Option<u64> {
     let all_digits = word.iter().all(u8::is_ascii_digit);
     std::str::from_utf8(word).ok().filter(|_| all_digits)?.parse().ok()

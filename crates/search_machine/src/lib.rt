@@ -1,5 +1,5 @@
 // The search at one depth bound (document 01, "Search"), as a machine over lent storage: leftmost goal first, rules in source order. Its
-// recursion is a stack of frames, one for each rule that is entered; specs/State says what they denote, and specs/Contracts that a step
+// recursion is a stack of frames, one for each rule that is entered; specs/State says what they denote, and specs/Promises that a step
 // keeps what the whole search comes to.
 //
 // All functions here serve the crates above: they ask for a signature and a session in form. What is ever written is counted, so that it
