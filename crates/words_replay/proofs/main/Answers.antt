@@ -1,0 +1,18 @@
+-- `main` is safe: what is lent has the lengths that the arrays say.
+use mathlib.Core.Path.{sym}
+use Prim.Native.Nat.{ℕ}
+use lib.ListN.{length-replicate}
+use lib.Seq.{length-take-le}
+use Rattle.words_replay.proofs.main.Goals as goal
+
+pub slice_bounds-read_full-end : goal.slice_bounds-read_full-end
+slice_bounds-read_full-end c = sym (length-replicate {0} {A = ℕ} 524288 0)
+
+pub slice_bounds-list-end : goal.slice_bounds-list-end
+slice_bounds-list-end c = c.read_full-n.ensures.0
+
+pub slice_bounds-replay-end : goal.slice_bounds-replay-end
+slice_bounds-replay-end c = sym (length-take-le _ _ c.read_full-n.ensures.0)
+
+pub slice_bounds-replay-end-3 : goal.slice_bounds-replay-end-3
+slice_bounds-replay-end-3 c = sym (length-replicate {0} {A = ℕ} 1703971 0)
