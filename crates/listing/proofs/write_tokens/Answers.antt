@@ -1,6 +1,5 @@
 -- `write_tokens` meets its contract: the lines of the rows, in order.
 -- The loop's invariant: the lines of the first i rows are written.
-use Prim.Native.Nat.{◌-◌}
 use mathlib.Core.Path.{◌≡◌, refl, sym, ap, ◌∙◌}
 use lib.ListN.{take}
 use Rattle.byte_output.specs.OutputLaws.{and_then, written_as}

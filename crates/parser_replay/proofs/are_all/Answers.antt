@@ -1,7 +1,6 @@
 -- `are_all` meets its contract. The loop's invariant: the rows from `from` on are all the value exactly when those from i on are.
 use mathlib.Core.Path.{sym, ap, ◌∙◌}
 use mathlib.Core.Bool.{◌&&◌}
-use Prim.Native.Nat.{◌-◌}
 use lib.ListN.{length, drop}
 use borrow.Author.Tests.{le-leb, lt-leb}
 use Rattle.parser_replay.specs.Rows.{are_all}
