@@ -1,0 +1,10 @@
+-- `list_evals` is safe and ends.
+-- The loop's invariant: i is within the rows.
+use Rattle.std.proofs.Common.{◌-◌, ◌≤◌, length, rules}
+use Rattle.signature_listing.proofs.list_evals.Given as goal
+
+abbrev pub invariant-loop-i : goal.invariant-loop-i
+invariant-loop-i l = l.i ≤ length l.evals
+
+abbrev pub decreases-loop-i : goal.decreases-loop-i
+decreases-loop-i l = length l.evals - l.i

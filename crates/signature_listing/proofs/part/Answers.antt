@@ -1,0 +1,18 @@
+-- `part` meets its contract.
+use Rattle.std.proofs.Common.{◌≡◌, ◌+◌, ◌-◌, ◌<◌, ◌≤◌, length, ⊎_elim, arith, rules, le-leb}
+use borrow.Author.Tests.{lt-leb}
+use Rattle.signature_listing.proofs.part.Goals as goal
+
+pub returns-then-count-numbers : goal.returns-then-count-numbers
+returns-then-count-numbers c =
+    let args = c.args in
+    let h : args.start + args.count ≤ length args.numbers.now = omega arith in
+    let e : args.start + args.count - args.start ≡ args.count = omega arith in
+    simp (le-leb _ _ h, e)
+
+pub returns : goal.returns
+returns c =
+    let args = c.args in
+    let if1 = c.if-start-numbers in
+    let h : length args.numbers.now < args.start + args.count = ⊎_elim (λ w. omega arith) (λ w. omega arith) if1.branch in
+    simp (lt-leb _ _ h)
