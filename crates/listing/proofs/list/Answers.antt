@@ -1,5 +1,4 @@
 -- `list` meets its contract: buffer and rows are as `write_listing` leaves them.
--- No loop.
 use Rattle.listing.proofs.list.Goals as goal
 
 pub returns-in_default : goal.returns-in_default

@@ -1,5 +1,4 @@
 -- `size` meets its contract: by the capped limit.
--- No loop.
 use Prim.Native.Nat.{◌+◌, ◌*◌}
 use mathlib.Core.Path.{ap}
 use Rattle.listing.proofs.size.Goals as goal

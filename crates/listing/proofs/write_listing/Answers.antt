@@ -1,5 +1,4 @@
 -- `write_listing` meets its contract: a buffer of the size has room for the listing, and what `lex` answers is listed.
--- No loop.
 use mathlib.Core.Path.{sym, ap, ◌∙◌}
 use lib.ListN.{length}
 use Rattle.byte_output.specs.OutputLaws.{written_as}

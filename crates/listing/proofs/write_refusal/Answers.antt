@@ -1,5 +1,4 @@
 -- `write_refusal` is safe: a refusal's line has at most 35 bytes.
--- No loop.
 use Rattle.listing.specs.SizeLaws.{refused_short}
 use native.Mathlib.Omega.{arith}
 use Rattle.listing.proofs.write_refusal.Goals as goal

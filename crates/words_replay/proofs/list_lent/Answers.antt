@@ -1,5 +1,4 @@
 -- `list_lent` is safe: the rows lent are among those at hand.
--- No loop.
 use mathlib.Core.Path.{sym}
 use lib.Seq.{length-take-le}
 use Rattle.words_replay.proofs.list_lent.Goals as goal

@@ -2,7 +2,7 @@
 use mathlib.Core.Path.{sym}
 use Prim.Native.Nat.{ℕ}
 use lib.ListN.{length-replicate}
-use Rattle.std.proofs.lemmas.List.{length-take-le}
+use lib.Seq.{length-take-le}
 use Rattle.words_replay.proofs.main.Goals as goal
 
 pub slice_bounds-read_full-end : goal.slice_bounds-read_full-end
@@ -12,7 +12,7 @@ pub slice_bounds-list-end : goal.slice_bounds-list-end
 slice_bounds-list-end c = c.read_full-n.ensures.0
 
 pub slice_bounds-replay-end : goal.slice_bounds-replay-end
-slice_bounds-replay-end c = sym (length-take-le c.read_full-n.result c.read_full-n.new.buf c.read_full-n.ensures.0)
+slice_bounds-replay-end c = sym (length-take-le _ _ c.read_full-n.ensures.0)
 
 pub slice_bounds-replay-end-3 : goal.slice_bounds-replay-end-3
 slice_bounds-replay-end-3 c = sym (length-replicate {0} {A = ℕ} 1703971 0)

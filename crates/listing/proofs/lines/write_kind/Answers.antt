@@ -1,5 +1,4 @@
 -- `write_kind` meets its contract: by the number of the kind.
--- No loop.
 use mathlib.Core.Path.{sym, ap}
 use lib.ListN.{length}
 use Rattle.byte_output.specs.OutputLaws.{written_as}

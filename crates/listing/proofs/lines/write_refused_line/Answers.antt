@@ -1,5 +1,4 @@
 -- `write_refused_line` meets its contract: each part stands behind the one before, and there is room for it.
--- No loop.
 use Rattle.byte_output.specs.OutputLaws.{written_length, and_then}
 use Rattle.listing.specs.ListingLaws.{refused_length}
 use native.Mathlib.Omega.{arith}

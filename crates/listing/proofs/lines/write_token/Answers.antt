@@ -1,5 +1,4 @@
 -- `write_token` meets its contract: each part stands behind the one before, and there is room for it.
--- No loop.
 use mathlib.Core.Path.{ap}
 use lib.ListN.{length}
 use Rattle.byte_output.specs.OutputLaws.{written_length, and_then, written_as}

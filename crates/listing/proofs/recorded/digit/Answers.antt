@@ -1,5 +1,4 @@
 -- `digit` meets its contract: by the byte at the place.
--- No loop.
 use mathlib.Core.Path.{sym}
 use Rattle.listing.specs.RecordedLaws.{digit_past, digit_low, digit_high, digit_is}
 use native.Mathlib.Omega.{arith}

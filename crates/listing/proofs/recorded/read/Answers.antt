@@ -1,5 +1,4 @@
 -- `read` meets its contract: the text by the three numbers of its line.
--- No loop.
 use Rattle.listing.specs.RecordedLaws.{read_as}
 use native.Mathlib.Omega.{arith}
 use Rattle.listing.proofs.recorded.read.Goals as goal

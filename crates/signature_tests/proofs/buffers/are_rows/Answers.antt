@@ -1,6 +1,6 @@
 -- `are_rows` meets its contract. The loop's invariant: the rows from `from` on are all the value exactly when those from i on are.
 use Rattle.std.proofs.Common.{◌&&◌, length, drop, sym, ap, ◌∙◌, rules, le-leb}
-use borrow.Author.Tests.{lt-leb, not-false, not-true}
+use borrow.Author.Tests.{lt-leb}
 use Rattle.signature_tests.specs.Rows.{are_all}
 use Rattle.signature_tests.proofs.Laws.{next_row, unequal_row, no_row}
 use Rattle.signature_tests.proofs.buffers.are_rows.Goals as goal
@@ -20,7 +20,7 @@ returns-then-not-is_row c =
     let loop-test = c.loop-i-test in
     let is_row = c.is_row in
     let if2 = c.if-not-is_row in
-    sym ((loop.invariant.1) ∙ unequal_row (args.value) (args.rows.now) (loop.i) (loop-test.true) (sym (is_row.ensures) ∙ not-true _ (if2.true-raw)))
+    sym ((loop.invariant.1) ∙ unequal_row (args.value) (args.rows.now) (loop.i) (loop-test.true) (sym (is_row.ensures) ∙ if2.true))
 
 pub loop-i-preserved : goal.loop-i-preserved
 loop-i-preserved c =
@@ -29,7 +29,7 @@ loop-i-preserved c =
     let loop-test = c.loop-i-test in
     let is_row = c.is_row in
     let if2 = c.if-not-is_row in
-    (search rules, (loop.invariant.1) ∙ next_row (args.value) (args.rows.now) (loop.i) (loop-test.true) (sym (is_row.ensures) ∙ not-false _ (if2.false-raw)))
+    (search rules, (loop.invariant.1) ∙ next_row (args.value) (args.rows.now) (loop.i) (loop-test.true) (sym (is_row.ensures) ∙ if2.false))
 
 pub returns : goal.returns
 returns c =
