@@ -18,7 +18,8 @@ use Rattle.load.specs.declared.Loading.{Loading}
 use Rattle.load.specs.declared.Loading.TheVariants.{Loaded as Entered}
 use Rattle.sessions.specs.Storage.{SessionStore, Workspace, no_counts}
 use Rattle.sessions.specs.Promises.{Opening}
-use Rattle.sessions.specs.Demand3.{Call, Calls, StoredClaims, demand_3_opened}
+use Rattle.sessions.specs.Demand3.{Call, Calls, StoredClaims}
+use Rattle.sessions.proofs.Demand3.{demand_3_opened}
 use Rattle.sessions.specs.declared.Opened.TheVariants.{New}
 
 -- The signature that `load` left, with the counts that it answered.

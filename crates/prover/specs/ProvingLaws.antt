@@ -41,9 +41,9 @@ use Rattle.sessions.specs.Goals.{goal_in, goal_compiled}
 use Rattle.sessions.specs.Promises.{Asked, Given, ProveReady, allowance_of, query_of, answer_to, Continued, ProofListed}
 use Rattle.sessions.specs.Promises.{ProofLeft, ProveLeaves}
 use Rattle.sessions.specs.Leaving.{NamesFit, NamesKept, SessionMade, PartUnproved, grown_counts, cleared}
-use Rattle.sessions.specs.AnswerLaws.{listing_is}
-use Rattle.sessions.specs.KeepingLaws.{ask_within, stored_names}
-use Rattle.sessions.specs.LeavingLaws.{continued_cleared, refused_leaves, nothing_leaves, undecided_leaves, proved_leaves}
+use Rattle.sessions.proofs.AnswerLaws.{listing_is}
+use Rattle.sessions.proofs.KeepingLaws.{ask_within, stored_names}
+use Rattle.sessions.proofs.LeavingLaws.{continued_cleared, refused_leaves, nothing_leaves, undecided_leaves, proved_leaves}
 use Rattle.sessions.specs.declared.SessionCounts.{SessionCounts}
 use Rattle.sessions.specs.declared.Answer.{Answer}
 use Rattle.sessions.specs.declared.Answer.TheVariants.{Refused, Proved, Nothing, Undecided}

@@ -5,15 +5,10 @@ pub mod Promises
 -- Laws, in the order in which they are needed:
 pub mod GoalLaws
 pub mod GoalRowLaws
-pub mod RefusalLaws
 pub mod StoreLaws
 pub mod OpeningLaws
-pub mod AnswerLaws
 -- Demand 3:
 pub mod Demand3
 -- What the contract fixes, and what code needs to meet it:
 pub mod ContractLaws
 pub mod Leaving
-pub mod GoalNameLaws
-pub mod KeepingLaws
-pub mod LeavingLaws

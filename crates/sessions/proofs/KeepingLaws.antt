@@ -35,7 +35,7 @@ use Rattle.sessions.specs.Goals.{WrittenTerm, variable_for, goal_compiled}
 use Rattle.sessions.specs.Promises.{bound_in}
 use Rattle.sessions.specs.Leaving.{texts_of, new_texts, no_new, NamesFit, numbered_from, NamesKept, SessionMade, PartUnproved}
 use Rattle.sessions.specs.Leaving.{grown_counts}
-use Rattle.sessions.specs.GoalNameLaws.{goal_names}
+use Rattle.sessions.proofs.GoalNameLaws.{goal_names}
 use Rattle.sessions.specs.StoreLaws.{names_length, names_at_lem}
 use Rattle.sessions.specs.declared.SessionCounts.{SessionCounts}
 
@@ -44,7 +44,6 @@ abbrev nobody : Named
 nobody = record { name = record { text = []; sort = 0 }; variable = 0 }
 
 -- SessionCounts
-
 -- Storage holds as many bindings as the count says.
 pub bound_count : (w : List ℕ) (rows : Rows) (k : ℕ) → bound_in (held term_room w rows k) ≡ k
 unfolding bound_in
@@ -89,7 +88,6 @@ ask_within rules S q = go (too_much q.steps q.depth q.limits)
     go false = compiled (q.compile S.names)
 
 -- A goal's names
-
 -- The names of a session in form are distinct.
 pub listed_distinct : {text arities : List ℕ} {sorts : ℕ} {b : SessionStore} {n : SessionCounts} → SessionListed text arities sorts b n
     → Distinct (texts_of (session_of text b n).names)
@@ -142,12 +140,10 @@ stored_names text sg b n signature h t new p e =
     new p e
 
 -- Rows and words past the counts
-
 front_at : {A : Type 0} (u : ℕ) (l l' : List A) (d : A) → take u l' ≡ take u l → (i : ℕ) → i < u → get_or l' i d ≡ get_or l i d
 front_at {A} u l l' d e i m = sym (get_or-take u l' i d m) ∙ ap (λ (x : List A). get_or x i d) e ∙ get_or-take u l i d m
 
 -- New names
-
 pub enter_behind : (ns : List Named) (c : ℕ) (new : List theory.Name) → enter ns c new ≡ ns ++ numbered_from c new
 unfolding numbered_from
 enter_behind ns c [] = sym (append-nil ns)
@@ -307,7 +303,6 @@ pub made_names : {text arities : List ℕ} {sorts : ℕ} {b : SessionStore} {n :
 made_names {text} h {b'} m good = ap (names_in text b'.names) m.number ∙ kept_names h m.names good
 
 -- Without a proof
-
 module _ {text arities : List ℕ} {sorts : ℕ} {b : SessionStore} {n : SessionCounts}
     (h : SessionListed text arities sorts b n) {b' : SessionStore} {c : ℕ} (u : PartUnproved b n b' c) where
   same_words : (i : ℕ) → i < n.words → cells b.words i ≡ cells b'.words i

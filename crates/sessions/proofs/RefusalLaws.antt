@@ -13,7 +13,7 @@ use Rattle.signature.specs.Storage.{SignatureStore, symbols_in, rules_in}
 use Rattle.sessions.specs.Storage.{SessionStore, session_of}
 use Rattle.sessions.specs.Goals.{WrittenTerm, goal_compiled}
 use Rattle.sessions.specs.Promises.{Asked, query_of, answer_to, answer_of}
-use Rattle.sessions.specs.GoalLaws.{goal_refusals}
+use Rattle.sessions.proofs.GoalLaws.{goal_refusals}
 use Rattle.sessions.specs.declared.SessionCounts.{SessionCounts}
 use Rattle.sessions.specs.declared.Answer.{Answer}
 use Rattle.sessions.specs.declared.Answer.TheVariants.{Refused, Proved, Nothing, Undecided}

@@ -23,7 +23,6 @@ use Rattle.sessions.specs.declared.Answer.{Answer}
 use Rattle.sessions.specs.declared.Answer.TheVariants.{Refused, Nothing}
 
 -- What each verdict's answer says
-
 module _ (n : SessionCounts) (names : ℕ) where
   -- The answer of the code by the paper's numbers is that of the verdict.
   pub answer_told_lem : (v : Verdict) → answer_told (answer_of n names v) ≡ verdict_told n names v
@@ -82,7 +81,6 @@ pub refused_unproved : (a : Answer) (e : ℕ) → a ≡ Refused e → IsProved a
 refused_unproved a e p h = subst IsProved p h
 
 -- The names after a verdict
-
 pub entered_names : (rules : List Rule) (S : Session) (q : Query) (G : Goal (q.compile S.names)) → Decided (ask rules S q).verdict
     → (ask rules S q).session.names ≡ enter S.names S.variables G.new
 entered_names rules S q G d = go (too_much q.steps q.depth q.limits) d
@@ -103,7 +101,6 @@ entered_names rules S q G d = go (too_much q.steps q.depth q.limits) d
         (subst (λ (k : Compiled). Decided (A k).verdict) G.is d)
 
 -- Proofs in storage
-
 -- The rows of a tree are its preorder,
 pub listing_is : (rows : Rows) (w : List ℕ) (variables used : ℕ) (tree : Tree one) (q : ℕ) → Lists term_room variables w used rows 0 1 tree q
     → entries_from term_room w rows 0 q ≡ preorder 1 tree

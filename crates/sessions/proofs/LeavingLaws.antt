@@ -22,7 +22,7 @@ use Rattle.sessions.specs.Storage.{SessionStore, session_of, SessionIn, zero_nam
 use Rattle.sessions.specs.Promises.{Asked, Given, bound_in, answer_told, Continued, ProofListed, ProveLeaves}
 use Rattle.sessions.specs.Leaving.{texts_of, NamesFit, NewRows, NamesKept, SessionMade, PartUnproved, grown_counts, cleared}
 use Rattle.sessions.specs.StoreLaws.{names_length}
-use Rattle.sessions.specs.KeepingLaws.{bound_count, listed_distinct, made_listed, made_names, unproved_made, unproved_bindings}
+use Rattle.sessions.proofs.KeepingLaws.{bound_count, listed_distinct, made_listed, made_names, unproved_made, unproved_bindings}
 use Rattle.sessions.specs.declared.SessionCounts.{SessionCounts}
 use Rattle.sessions.specs.declared.Answer.{Answer}
 use Rattle.sessions.specs.declared.Answer.TheVariants.{Refused, Proved, Nothing, Undecided}

@@ -26,7 +26,6 @@ use Rattle.sessions.specs.Goals.{WrittenTerm, variable_for, name_for, closing, g
 use Rattle.sessions.specs.Leaving.{texts_of, new_texts, no_new, NamesFit}
 
 -- No name twice
-
 abbrev names_of : List Variable → List Name
 names_of vs = map (λ v. v.name) vs
 
@@ -144,7 +143,6 @@ module _ (symbols : List Symbol) where
       (pattern_apart ts (rest sorts) ws q h) (λ us xs p k. k))
 
 -- The names after a goal
-
 all_known_lem : (vs : List Variable) → all_known vs ≡ true → (i : ℕ) → i < length vs → 0 < (get_or vs i no_variable).sort
 unfolding all_known
 all_known_lem [] h i l = absurd (omega arith)
