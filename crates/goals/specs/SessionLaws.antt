@@ -1,6 +1,6 @@
 -- A goal stored in a session in form: what `store` asks is there, and the session with the goal in it is in form again.
-use Rattle.std.specs.Prelude.{ℕ, ◌+◌, ◌-◌, ◌≤◌, ◌<◌, ◌≡◌, true, List, length}
-use Rattle.std.proofs.Common.{arith, sym, ap, ◌∙◌, subst}
+use Rattle.std.specs.Prelude.{ℕ, ◌+◌, ◌-◌, ◌≤◌, ◌≡◌, true, List, length}
+use Rattle.std.proofs.Common.{arith, sym, subst}
 use Rattle.terms.specs.Term.{Term}
 use Rattle.term_check.specs.TermRows.{TermAt}
 use Rattle.arena.specs.Cells.{denote, Reference, cells}
@@ -12,7 +12,7 @@ use Rattle.resolution.specs.Search.{words}
 use Rattle.resolution.specs.Session as theory
 use Rattle.resolution.specs.Session.{variable_limit, word_limit, variable_at, goal_of}
 use Rattle.rules.specs.PatternLaws.{arities_of}
-use Rattle.sessions.specs.Storage.{SessionStore, names_in, session_of, SessionListed}
+use Rattle.sessions.specs.Storage.{SessionStore, session_of, SessionListed}
 use Rattle.sessions.specs.Leaving.{NamesKept, SessionMade}
 use Rattle.sessions.specs.StoreLaws.{names_length}
 use Rattle.sessions.specs.declared.SessionCounts.{SessionCounts}
