@@ -1,5 +1,5 @@
 -- `arity_at` meets its contract.
-use Rattle.std.proofs.Common.{◌<◌, ◌≤◌, length, get_or, arith, rules, le-ltb, lt-ltb, le-leb}
+use Rattle.std.proofs.Common.{◌<◌, ◌≤◌, length, get_or, arith, le-ltb, lt-ltb, le-leb}
 use borrow.Author.Tests.{lt-leb}
 use Rattle.signature_listing.proofs.arity_at.Goals as goal
 

@@ -1,6 +1,6 @@
 -- `list_nodes` is safe and ends.
 -- The loop's invariant: at most 31 words past the last header looked at are done.
-use Rattle.std.proofs.Common.{◌+◌, ◌-◌, ◌≤◌, length, rules}
+use Rattle.std.proofs.Common.{◌+◌, ◌-◌, ◌≤◌, length}
 use Rattle.signature_listing.proofs.list_nodes.Given as goal
 
 abbrev pub invariant-loop-done : goal.invariant-loop-done

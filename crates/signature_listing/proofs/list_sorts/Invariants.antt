@@ -1,6 +1,6 @@
 -- `list_sorts` is safe and ends.
 -- The loop's invariant: i is within the rows.
-use Rattle.std.proofs.Common.{◌-◌, ◌≤◌, length, rules}
+use Rattle.std.proofs.Common.{◌-◌, ◌≤◌, length}
 use Rattle.signature_listing.proofs.list_sorts.Given as goal
 
 abbrev pub invariant-loop-i : goal.invariant-loop-i

@@ -1,7 +1,8 @@
 -- `part` meets its contract.
-use Rattle.std.proofs.Common.{◌≡◌, ◌+◌, ◌-◌, ◌<◌, ◌≤◌, length, ⊎_elim, arith, rules, le-leb}
+use Rattle.std.proofs.Common.{◌≡◌, ◌+◌, ◌-◌, ◌<◌, ◌≤◌, length, arith, le-leb}
 use borrow.Author.Tests.{lt-leb}
 use Rattle.signature_listing.proofs.part.Goals as goal
+use Rattle.signature_listing.proofs.part.Goals.{then-start-numbers+else-count-numbers, else-start-numbers}
 
 pub returns-then-count-numbers : goal.returns-then-count-numbers
 returns-then-count-numbers c =
@@ -14,5 +15,6 @@ pub returns : goal.returns
 returns c =
     let args = c.args in
     let if1 = c.if-start-numbers in
-    let h : length args.numbers.now < args.start + args.count = ⊎_elim (λ w. omega arith) (λ w. omega arith) if1.branch in
+    let h : length args.numbers.now < args.start + args.count =
+    elim if1.branch [ then-start-numbers+else-count-numbers w ↦ omega arith | else-start-numbers w ↦ omega arith ] in
     simp (lt-leb _ _ h)

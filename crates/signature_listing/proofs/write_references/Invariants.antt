@@ -1,6 +1,6 @@
 -- `write_references` is safe and ends.
 -- The loop's invariant: i is within the references.
-use Rattle.std.proofs.Common.{◌-◌, ◌≤◌, length, rules}
+use Rattle.std.proofs.Common.{◌-◌, ◌≤◌, length}
 use Rattle.signature_listing.proofs.write_references.Given as goal
 
 abbrev pub invariant-loop-i : goal.invariant-loop-i
