@@ -1,13 +1,13 @@
 -- A first pattern and a first value of different symbols: the patterns do not fit the values.
-use Prim.Native.Nat.{ℕ, zero, suc, ◌+◌, ◌-◌, ◌≤◌, ◌<◌}
+use Prim.Native.Nat.{ℕ, suc, ◌-◌, ◌≤◌, ◌<◌}
 use native.Mathlib.Omega.{arith}
-use mathlib.Core.Path.{◌≡◌, refl, sym, ap, ap₂, ◌∙◌}
+use mathlib.Core.Path.{◌≡◌, ap, ap₂, ◌∙◌}
 use mathlib.Core.Logic.{◌≢◌}
 use mathlib.Core.List.{List}
 use lib.ListN.{length}
-use Rattle.terms.specs.Numbers.{same, by_same}
+use Rattle.terms.specs.Numbers.{by_same}
 use Rattle.terms.specs.Term.{app, Term, Terms}
-use Rattle.terms.specs.Bindings.{Bindings, start}
+use Rattle.terms.specs.Bindings.{start}
 use Rattle.arena.specs.Cells.{headers, cells, arity_of, symbol_of, args, denote, denote_node}
 use Rattle.arena.specs.Copies.{pattern_room}
 use Rattle.evaluation.specs.Matching.{Fitted, misfit, if_fitted, bind_of}

@@ -3,20 +3,20 @@ use Prim.Native.Nat.{ℕ, suc, ◌+◌, ◌-◌, ◌≤◌, ◌<◌}
 use native.Mathlib.Omega.{arith}
 use native.Mathlib.Numerals.{add-one}
 use mathlib.Core.Path.{◌≡◌, refl, sym, ap, ap₂, ◌∙◌, subst}
-use mathlib.Core.List.{List, []}
-use lib.ListN.{get_or, length, set, length-set}
+use mathlib.Core.List.{List}
+use lib.ListN.{length, set, length-set}
 use lib.Seq.{get_or-set_same, get_or-set_other}
 use Rattle.terms.specs.Numbers.{by_same, by_less}
 use Rattle.terms.specs.Term.{nil, cons, Term, Terms, append}
 use Rattle.terms.specs.Term.Kind.{one as single, many as several}
 use Rattle.terms.specs.Bindings.{Bindings}
-use Rattle.arena.specs.Cells.{headers, cells, args, denote, Same, reference_up, frame_denote, args_same}
+use Rattle.arena.specs.Cells.{cells, args, denote, Same, reference_up, frame_denote, args_same}
 use Rattle.arena.specs.NodeLaws.{reference_same}
 use Rattle.arena.specs.Copies.{pattern_room}
 use Rattle.arena.specs.Rows.{Rows}
 use Rattle.evaluation.specs.Matching.{Built, barred, built, if_built, instantiate_of}
 use Rattle.clause_matching.specs.Stored.{Value, Values, Holds, pattern_at, value_at}
-use Rattle.clause_matching.specs.Building.{rule_words, InstantiateAsked, Stands, Tells, Instantiated, ArgumentsAsked, StandAll, TellsAll, ArgumentsBuilt}
+use Rattle.clause_matching.specs.Building.{InstantiateAsked, Stands, Tells, Instantiated, ArgumentsAsked, TellsAll, ArgumentsBuilt}
 use Rattle.clause_matching.specs.declared.building.Built.{Built as Answer}
 use Rattle.clause_matching.specs.declared.building.Built.TheVariants.{At, Refused}
 use Rattle.clause_matching.proofs.Forming.{FormsKept, unbuilt_forms, built_forms}

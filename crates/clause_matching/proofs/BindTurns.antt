@@ -6,10 +6,10 @@ use mathlib.Core.Path.{◌≡◌, refl, sym, ap, ap₂, ◌∙◌, subst}
 use mathlib.Core.Logic.{◌≢◌}
 use mathlib.Core.Bool.{Bool, true, false}
 use mathlib.Core.List.{List, [], ◌∷◌}
-use lib.ListN.{get_or, length, set, length-set}
+use lib.ListN.{length, set, length-set}
 use lib.Seq.{get_or-set_same, get_or-set_other}
-use Rattle.terms.specs.Numbers.{same, same_refl, by_same, by_less, true_false}
-use Rattle.terms.specs.Term.{var, app, nil, cons, Term, Terms, count, append, size}
+use Rattle.terms.specs.Numbers.{same_refl, by_same, by_less, true_false}
+use Rattle.terms.specs.Term.{var, app, cons, Term, Terms, count, append, size}
 use Rattle.terms.specs.TermLaws.{size_pos}
 use Rattle.terms.specs.Bindings.{Bindings}
 use Rattle.arena.specs.Cells.{headers, cells, arity_of, symbol_of, args, denote, Reference, denote_node, denote_variable, reference_argument}
@@ -250,10 +250,12 @@ module _ {pattern : List ℕ} {reference : ℕ} {values : List ℕ} {used value 
         free_row = let a = spends in let b = h.keeps in omega arith
 
         opened : patterns_left pattern entered (depth + 1) ≡ append inner (patterns_left pattern stack depth)
-        opened = rw (add-one depth, add-one address) (unmet_put pattern_room 0 (cells pattern) stack depth (suc address ∷ (other + 1) ∷ arity_of header ∷ []) free_row)
+        opened = rw (add-one depth) (unmet_put pattern_room 0 (cells pattern) stack depth row free_row
+            ∙ ap (λ (p : ℕ). append (args (denote pattern_room (cells pattern)) (cells pattern) p (arity_of header)) (patterns_left pattern stack depth)) (add-one address))
 
         opened_values : values_left values entered (depth + 1) ≡ append other_inner (values_left values stack depth)
-        opened_values = rw (add-one depth, add-one other, ← o) (unmet_put 0 1 (cells values) stack depth ((address + 1) ∷ suc other ∷ arity_of header ∷ []) free_row)
+        opened_values = rw (add-one depth) (unmet_put 0 1 (cells values) stack depth row free_row
+            ∙ ap₂ (λ (p n : ℕ). append (args (denote 0 (cells values)) (cells values) p n) (values_left values stack depth)) (add-one other) (ap arity_of o))
 
         pub less_enter : left pattern entered (depth + 1) next false < left pattern stack depth next waiting
         less_enter =
@@ -390,14 +392,16 @@ module _ {pattern : List ℕ} {reference : ℕ} {values : List ℕ} {used value 
             let m : rest ≡ suc (rest - 1) = omega arith in
             split ∙ ap (λ (k : ℕ). append (args (denote pattern_room (cells pattern)) (cells pattern) at k) (patterns_left pattern stack last)) m
             ∙ ap (cons (pattern_at pattern (cells pattern at)))
-            (sym (ap (patterns_left pattern taken) is_suc ∙ rw (add-one at) (unmet_put pattern_room 0 (cells pattern) stack last (suc at ∷ (beside + 1) ∷ (rest - 1) ∷ []) last_row.0)))
+            (sym (ap (patterns_left pattern taken) is_suc ∙ unmet_put pattern_room 0 (cells pattern) stack last next_row last_row.0
+            ∙ ap (λ (p : ℕ). append (args (denote pattern_room (cells pattern)) (cells pattern) p (rest - 1)) (patterns_left pattern stack last)) (add-one at)))
 
         first_value : values_left values stack depth ≡ cons (value_at values (cells values beside)) (values_left values taken depth)
         first_value =
             let m : rest ≡ suc (rest - 1) = omega arith in
             split_values ∙ ap (λ (k : ℕ). append (args (denote 0 (cells values)) (cells values) beside k) (values_left values stack last)) m
             ∙ ap (cons (value_at values (cells values beside)))
-            (sym (ap (values_left values taken) is_suc ∙ rw (add-one beside) (unmet_put 0 1 (cells values) stack last ((at + 1) ∷ suc beside ∷ (rest - 1) ∷ []) last_row.0)))
+            (sym (ap (values_left values taken) is_suc ∙ unmet_put 0 1 (cells values) stack last next_row last_row.0
+            ∙ ap (λ (p : ℕ). append (args (denote 0 (cells values)) (cells values) p (rest - 1)) (values_left values stack last)) (add-one beside)))
 
         pub less_next : left pattern taken depth (cells pattern at) true < left pattern stack depth next waiting
         less_next = rw (q, first) (omega arith)

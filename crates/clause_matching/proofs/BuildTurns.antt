@@ -9,7 +9,7 @@ use mathlib.Core.Option.{Option, none, some}
 use mathlib.Core.List.{List, [], ◌∷◌}
 use lib.ListN.{get_or, length, set, length-set}
 use lib.Seq.{get_or-set_same, get_or-set_other}
-use Rattle.terms.specs.Numbers.{by_same, by_less, true_false}
+use Rattle.terms.specs.Numbers.{by_same, by_less}
 use Rattle.terms.specs.Term.{var, app, nil, cons, Term, Terms, count, append, size}
 use Rattle.terms.specs.Term.Kind.{one as single}
 use Rattle.terms.specs.TermLaws.{size_pos}
@@ -21,8 +21,7 @@ use Rattle.arena.specs.Rows.{Rows, column}
 use Rattle.resolution.specs.Search.{words}
 use Rattle.evaluation.specs.Matching.{Built, barred, built, if_built, build_node, value_of, instantiate_of}
 use Rattle.clause_matching.specs.Stored.{Value, Values, Valued, Holds, pattern_at, value_at}
-use Rattle.clause_matching.specs.Building.{rule_words, Pushed, InstantiateAsked, Stands, Tells, Instantiated}
-use Rattle.clause_matching.specs.declared.building.Built.{Built as Answer}
+use Rattle.clause_matching.specs.Building.{rule_words, Pushed, InstantiateAsked, Tells, Instantiated}
 use Rattle.clause_matching.specs.declared.building.Built.TheVariants.{At, Refused}
 use Rattle.clause_matching.proofs.Open.{args_count}
 use Rattle.clause_matching.proofs.Forming.{FormsKept, forms_same, pushed_form, unbuilt_forms, built_forms}

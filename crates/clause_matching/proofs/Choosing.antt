@@ -5,24 +5,21 @@ use native.Mathlib.Omega.{arith}
 use native.Mathlib.Numerals.{add-one}
 use mathlib.Core.Path.{◌≡◌, refl, sym, ap, ap₂, ◌∙◌, subst}
 use mathlib.Core.Bool.{Bool, true, false}
-use mathlib.Core.Option.{none}
-use mathlib.Core.List.{List, [], ◌∷◌, ◌++◌}
+use mathlib.Core.List.{List, ◌++◌}
 use lib.ListN.{get_or, length, take, replicate}
-use Rattle.terms.specs.Numbers.{by_same, by_less, less_no, true_false}
-use Rattle.terms.specs.Term.{Term, Terms, nil, cons}
+use Rattle.terms.specs.Numbers.{by_same, by_less, less_no}
+use Rattle.terms.specs.Term.{Term, Terms}
 use Rattle.terms.specs.Bindings.{Bindings, start}
 use Rattle.arena.specs.Cells.{headers, cells, Cells, arity_of, args, denote, denote_node, reference_argument}
 use Rattle.arena.specs.Copies.{pattern_room}
-use Rattle.names.specs.Symbols.{Rows, column, row_at}
+use Rattle.names.specs.Symbols.{Rows}
 use Rattle.resolution.specs.Search.{words as words_in}
 use Rattle.evaluation.specs.Matching.{Fitted, misfit, fitted, if_fitted, bind_of}
-use Rattle.clause_matching.specs.Stored.{Value, Values, PatternIn, Holds, Links, pattern_at, value_at}
-use Rattle.clause_matching.specs.Matching.{Says, Lent, Matched, BindAsked}
-use Rattle.clause_matching.specs.Building.{rule_words}
-use Rattle.clause_matching.specs.Choice.{Referable, pattern_from, patterns_from, ApartAsked, conclusion_in, patterns_in, values_of, fit_of, ConclusionIn, ClauseAsked, Fits, Chosen}
+use Rattle.clause_matching.specs.Stored.{Holds, pattern_at, value_at}
+use Rattle.clause_matching.specs.Matching.{Says, Matched, BindAsked}
+use Rattle.clause_matching.specs.Choice.{Referable, pattern_from, patterns_from, ApartAsked, conclusion_in, values_of, fit_of, ConclusionIn, ClauseAsked, Fits, Chosen}
 use Rattle.clause_matching.specs.declared.choice.Pattern.{Pattern}
 use Rattle.clause_matching.specs.declared.choice.Pattern.TheVariants.{Variable, Node}
-use Rattle.clause_matching.specs.declared.choice.Clause.{Clause}
 use Rattle.clause_matching.specs.declared.choice.Clause.TheVariants.{At, Nowhere}
 use Rattle.clause_matching.proofs.BindTurns.{says_false, says_true}
 

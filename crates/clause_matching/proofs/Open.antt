@@ -1,13 +1,13 @@
 -- Open nodes on a stack, a row for each: the arguments that are left, and the laws of matching that they need.
 use Prim.Native.Nat.{ℕ, zero, suc, ◌+◌, ◌≤◌, ◌<◌}
 use native.Mathlib.Omega.{arith}
-use mathlib.Core.Path.{◌≡◌, refl, ap, sym, ◌∙◌}
+use mathlib.Core.Path.{◌≡◌, refl, ap}
 use mathlib.Core.Logic.{◌≢◌}
-use mathlib.Core.Bool.{Bool, true, false, not}
-use mathlib.Core.List.{List, [], ◌∷◌}
+use mathlib.Core.Bool.{Bool, true, false}
+use mathlib.Core.List.{List, []}
 use lib.ListN.{get_or, length, set}
 use lib.Seq.{get_or-set_same, get_or-set_other}
-use Rattle.terms.specs.Term.{Kind, nil, cons, Term, Terms, count, append, size}
+use Rattle.terms.specs.Term.{nil, cons, Term, Terms, count, append, size}
 use Rattle.terms.specs.Bindings.{Bindings}
 use Rattle.arena.specs.Cells.{Cells, args, denote, Reference}
 use Rattle.arena.specs.Rows.{Rows, column}
@@ -86,12 +86,3 @@ bind_alone p t β = go (bind_of p t β)
     go : (o : Fitted) → if_fitted o (λ γ. bind_of nil nil γ) ≡ o
     go misfit = refl
     go (fitted γ) = refl
-
--- A negated test.
-pub not_yes : (b : Bool) → not b ≡ true → b ≡ false
-not_yes true e = sym e
-not_yes false e = refl
-
-pub not_no : (b : Bool) → not b ≡ false → b ≡ true
-not_no true e = refl
-not_no false e = sym e

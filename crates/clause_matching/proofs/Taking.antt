@@ -1,21 +1,21 @@
 -- A variable against a value: it takes the value where it has none, and is compared where it has one.
-use Prim.Native.Nat.{ℕ, suc, ◌+◌, ◌-◌, ◌≤◌, ◌<◌}
+use Prim.Native.Nat.{ℕ, ◌+◌, ◌-◌, ◌≤◌, ◌<◌}
 use native.Mathlib.Omega.{arith}
-use mathlib.Core.Path.{◌≡◌, refl, sym, ap, ◌∙◌, subst}
+use mathlib.Core.Path.{◌≡◌, refl, ap, ◌∙◌}
 use mathlib.Core.Logic.{◌≢◌}
-use mathlib.Core.Bool.{Bool, true, false, cond}
+use mathlib.Core.Bool.{Bool, true}
 use mathlib.Core.Option.{Option, none, some}
 use mathlib.Core.List.{List}
 use lib.ListN.{get_or, length, set, length-set}
 use lib.Seq.{get_or-set_same, get_or-set_other}
-use Rattle.terms.specs.Numbers.{same, same_refl, by_same, by_bool}
+use Rattle.terms.specs.Numbers.{by_same, by_bool}
 use Rattle.terms.specs.Term.{Term, var}
 use Rattle.terms.specs.Bindings.{Bindings, bind, lookup}
 use Rattle.arena.specs.Cells.{cells, headers}
 use Rattle.arena.specs.Copies.{pattern_room}
 use Rattle.arena.specs.Equality.{alike, Ready, Compared}
-use Rattle.evaluation.specs.Matching.{Fitted, misfit, fitted, takes, bind_of}
-use Rattle.clause_matching.specs.Stored.{Value, Values, Valued, Holds, Links, value_at}
+use Rattle.evaluation.specs.Matching.{takes, bind_of}
+use Rattle.clause_matching.specs.Stored.{Value, Valued, Holds, value_at}
 use Rattle.clause_matching.specs.Matching.{Says, Lent, Matched}
 
 -- The environment once a variable has its value.

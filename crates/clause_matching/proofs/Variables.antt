@@ -1,7 +1,7 @@
 -- A pattern that is a variable: what is built is its value, which stands already; and it takes a value, or is compared with it.
-use Prim.Native.Nat.{ℕ, ◌-◌, ◌≤◌, ◌<◌}
+use Prim.Native.Nat.{ℕ, ◌-◌, ◌<◌}
 use native.Mathlib.Omega.{arith}
-use mathlib.Core.Path.{◌≡◌, refl, sym, ap, ◌∙◌, subst}
+use mathlib.Core.Path.{◌≡◌, refl, sym, ap, subst}
 use mathlib.Core.Logic.{◌≢◌}
 use mathlib.Core.Bool.{Bool}
 use mathlib.Core.Option.{Option, none, some}
@@ -13,7 +13,7 @@ use Rattle.terms.specs.Bindings.{Bindings, lookup}
 use Rattle.arena.specs.Cells.{cells, denote_variable}
 use Rattle.arena.specs.Copies.{pattern_room}
 use Rattle.arena.specs.Rows.{Rows}
-use Rattle.evaluation.specs.Matching.{Built, barred, value_of, instantiate_of}
+use Rattle.evaluation.specs.Matching.{Built, value_of, instantiate_of}
 use Rattle.clause_matching.specs.Stored.{Valued, pattern_at}
 use Rattle.clause_matching.specs.Building.{InstantiateAsked, Tells, Instantiated}
 use Rattle.clause_matching.specs.Matching.{Matched}

@@ -1,11 +1,11 @@
 -- What matching in storage asks and answers (document 01, "Evaluated terms"; `bind_of` of `evaluation`).
-use Rattle.std.specs.Prelude.{ℕ, ◌≤◌, ◌<◌, ◌≡◌, Bool, true, false, List, length}
-use Rattle.terms.specs.Term.{Term, var}
+use Rattle.std.specs.Prelude.{ℕ, ◌≤◌, ◌≡◌, Bool, true, false, List, length}
+use Rattle.terms.specs.Term.{Term}
 use Rattle.terms.specs.Bindings.{Bindings}
 use Rattle.arena.specs.Copies.{pattern_room}
 use Rattle.arena.specs.Rows.{Rows}
 use Rattle.evaluation.specs.Matching.{Fitted, misfit, fitted, bind_of}
-use Rattle.clause_matching.specs.Stored.{Value, Values, PatternIn, Holds, Links, value_at, pattern_at}
+use Rattle.clause_matching.specs.Stored.{Value, Values, PatternIn, Holds, Links, value_at}
 
 -- An answer with the environment at exit says what matching comes to.
 abbrev pub Says : Fitted → Bool → List ℕ → List ℕ → ℕ → Type 0

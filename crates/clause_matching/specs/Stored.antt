@@ -1,10 +1,10 @@
 -- Values and environments in storage (docs/STORAGE.md, "Stored terms"). Values have no variables: they are stored terms with room for none, so that a reference
 -- is an address. An environment has a number for each of 64 variables: 0 for none, else 1 + the reference of its value.
-use Rattle.std.specs.Prelude.{ℕ, suc, ◌+◌, ◌-◌, ◌≤◌, ◌<◌, ◌≡◌, true, List, get_or, length}
+use Rattle.std.specs.Prelude.{ℕ, ◌+◌, ◌-◌, ◌≤◌, ◌<◌, ◌≡◌, true, List, get_or, length}
 use Rattle.std.proofs.Math.Option.{Option, none, some}
 use Rattle.terms.specs.Term.{Term}
 use Rattle.terms.specs.Bindings.{Bindings, lookup}
-use Rattle.arena.specs.Cells.{Cells, headers, cells, denote, Reference, WellFormed}
+use Rattle.arena.specs.Cells.{headers, cells, denote, Reference, WellFormed}
 use Rattle.arena.specs.Copies.{pattern_room}
 use Rattle.arena.specs.Form.{is_header, in_form}
 use Rattle.resolution.specs.Search.{words}

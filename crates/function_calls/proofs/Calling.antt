@@ -2,29 +2,25 @@
 use Prim.Native.Nat.{ℕ, zero, suc, ◌+◌, ◌-◌, ◌≤◌, ◌<◌}
 use native.Mathlib.Omega.{arith}
 use mathlib.Core.Path.{◌≡◌, refl, sym, ap, ap₂, ◌∙◌, subst}
-use mathlib.Core.Bool.{true, false}
-use mathlib.Core.Option.{Option, none, some}
-use mathlib.Core.List.{List, []}
-use lib.Dec.{ltb}
-use lib.ListN.{get_or, length}
+use mathlib.Core.Option.{Option, some}
+use mathlib.Core.List.{List}
+use lib.ListN.{length}
 use borrow.Author.Tests.{lt-ltb, le-ltb}
-use Rattle.terms.specs.Numbers.{by_same, by_less, some_none}
-use Rattle.terms.specs.Term.{Term, Terms, app}
+use Rattle.terms.specs.Numbers.{by_same, by_less}
+use Rattle.terms.specs.Term.{Terms, app}
 use Rattle.terms.specs.Bindings.{Bindings, start}
-use Rattle.arena.specs.Cells.{headers, cells, symbol_of, arity_of, args, denote, denote_node}
+use Rattle.arena.specs.Cells.{cells, symbol_of, args, denote, denote_node}
 use Rattle.arena.specs.Copies.{pattern_room}
 use Rattle.names.specs.Symbols.{Rows, Symbol, column, row_at, symbol_at}
 use Rattle.resolution.specs.Rules.{Rule, rule_at_lem}
 use Rattle.evaluation.specs.Matching.{Fitted, misfit, fitted, bind_of}
-use Rattle.evaluation.specs.Calls.{Spent, Called, refused, returned, premises_of, concluded, patterns_of, taken_or, tried, clauses_of, call_of, max_calls}
-use Rattle.clause_matching.specs.Stored.{Value, Values, PatternIn, Holds, Links, pattern_at, value_at}
-use Rattle.clause_matching.specs.Building.{rule_words}
-use Rattle.clause_matching.specs.Choice.{conclusion_in, patterns_in, values_of, fit_of, ConclusionIn, ClauseAsked, Fits, Chosen, Chooses}
-use Rattle.function_calls.specs.Calls.{PremiseIn, ClauseIn, Program, Working, Answers, CallAsked, CallAnswered, FollowAsked, Followed}
+use Rattle.evaluation.specs.Calls.{Spent, Called, refused, premises_of, concluded, patterns_of, taken_or, tried, clauses_of, call_of}
+use Rattle.clause_matching.specs.Choice.{values_of, fit_of, ClauseAsked, Chosen, Chooses}
+use Rattle.function_calls.specs.Calls.{ClauseIn, Program, Answers, CallAsked, CallAnswered, FollowAsked, Followed}
 use Rattle.clause_matching.specs.declared.choice.Clause.{Clause}
 use Rattle.clause_matching.specs.declared.choice.Clause.TheVariants.{At, Nowhere}
 use Rattle.function_calls.specs.declared.calls.Outcome.{Outcome}
-use Rattle.function_calls.specs.declared.calls.Outcome.TheVariants.{Value as Answer, Refused}
+use Rattle.function_calls.specs.declared.calls.Outcome.TheVariants.{Refused}
 use Rattle.function_calls.proofs.Forming.{refused_forms, refused_spent}
 use Rattle.function_calls.proofs.Premising.{front_args}
 

@@ -1,31 +1,29 @@
 -- A clause that was taken: its premises one after another come to `premises_of`, and its conclusion to `concluded`.
-use Prim.Native.Nat.{ℕ, zero, suc, ◌+◌, ◌-◌, ◌*◌, ◌%◌, ◌≤◌, ◌<◌}
+use Prim.Native.Nat.{ℕ, suc, ◌+◌, ◌-◌, ◌*◌, ◌%◌, ◌≤◌, ◌<◌}
 use native.Mathlib.Omega.{arith}
 use native.Mathlib.Numerals.{add-one}
 use mathlib.Core.Path.{◌≡◌, refl, sym, ap, ap₂, ◌∙◌, subst}
-use mathlib.Core.Bool.{true, false}
-use mathlib.Core.Option.{Option, none, some}
-use mathlib.Core.List.{List, [], ◌∷◌}
+use mathlib.Core.List.{List}
 use lib.Dec.{ltb}
-use lib.ListN.{get_or, length, set}
+use lib.ListN.{length, set}
 use Rattle.terms.specs.Numbers.{by_bool, less_no}
 use Rattle.terms.specs.Term.{Term, Terms, var, app, nil, cons, count}
 use Rattle.terms.specs.Term.Kind.{one as single, many as several}
 use Rattle.terms.specs.TermLaws.{app_inj}
-use Rattle.terms.specs.Bindings.{Bindings, lookup}
-use Rattle.arena.specs.Cells.{headers, cells, Cells, symbol_of, arity_of, args, denote, Same, denote_node, reference_argument}
+use Rattle.terms.specs.Bindings.{Bindings}
+use Rattle.arena.specs.Cells.{headers, cells, symbol_of, arity_of, args, denote, Same, denote_node, reference_argument}
 use Rattle.arena.specs.Copies.{pattern_room}
-use Rattle.names.specs.Symbols.{Rows, Symbol, column, row_at, symbol_at}
+use Rattle.names.specs.Symbols.{Rows, Symbol, column, row_at}
 use Rattle.resolution.specs.Rules.{Rule, Tree, node, leaf, ◌◂◌, joined}
 use Rattle.tree_rows.specs.Trees.{tree_row}
-use Rattle.evaluation.specs.Matching.{Fitted, misfit, fitted, bind_of, Built, barred, built, if_built, build_node, value_of, instantiate_of, front, last}
+use Rattle.evaluation.specs.Matching.{Fitted, misfit, fitted, bind_of, Built, barred, built, if_built, build_node, instantiate_of, front, last}
 use Rattle.evaluation.specs.Calls.{Spent, Called, refused, returned, Walked, stopped, walked, if_arguments, if_called, if_result, under_first, premises_of, concluded_by, concluded, call_of}
 use Rattle.evaluation.specs.CallLaws.{Growing}
 use Rattle.evaluation.proofs.CallLaws.{instantiate_grows}
-use Rattle.clause_matching.specs.Stored.{Value, Values, PatternIn, Holds, Links, pattern_at, value_at}
-use Rattle.clause_matching.specs.Building.{rule_words, InstantiateAsked, Stands, Tells, Instantiated}
+use Rattle.clause_matching.specs.Stored.{Value, Values, Holds, pattern_at, value_at}
+use Rattle.clause_matching.specs.Building.{InstantiateAsked, Tells, Instantiated}
 use Rattle.clause_matching.specs.Choice.{Referable, pattern_from, ConclusionIn}
-use Rattle.function_calls.specs.Calls.{PremiseIn, ClauseIn, Program, Working, TreesListed, Answers, FollowAsked, Followed, Stepped, Steps, PremiseAsked, PremiseAnswered}
+use Rattle.function_calls.specs.Calls.{PremiseIn, ClauseIn, Program, Working, TreesListed, Answers, FollowAsked, Followed, Steps, PremiseAsked, PremiseAnswered}
 use Rattle.clause_matching.specs.declared.building.Built.{Built as Reply}
 use Rattle.clause_matching.specs.declared.building.Built.TheVariants.{At, Refused as Unbuilt}
 use Rattle.clause_matching.specs.declared.choice.Pattern.{Pattern}
@@ -37,7 +35,7 @@ use Rattle.clause_matching.proofs.Forming.{FormsKept}
 use Rattle.function_calls.proofs.Forming.{refused_forms, answer_forms, refused_spent, answer_spent}
 use Rattle.clause_matching.proofs.Arguments.{refused_is, Found, found}
 use Rattle.function_calls.proofs.Listing.{listed_none, listed_more, listed_node}
-use Rattle.function_calls.proofs.Premising.{front_args, last_args, spent_of}
+use Rattle.function_calls.proofs.Premising.{last_args, spent_of}
 
 -- Trees in front of those of what is walked.
 abbrev pub prefixed : Tree several → Walked → Walked

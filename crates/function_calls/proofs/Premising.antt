@@ -1,28 +1,27 @@
 -- A premise in storage: its arguments, its call and its result come to one step of `premises_of`.
-use Prim.Native.Nat.{ℕ, zero, suc, ◌+◌, ◌-◌, ◌*◌, ◌%◌, ◌≤◌, ◌<◌}
+use Prim.Native.Nat.{ℕ, zero, suc, ◌+◌, ◌-◌, ◌%◌, ◌≤◌, ◌<◌}
 use native.Mathlib.Omega.{arith}
 use native.Mathlib.Numerals.{add-one}
 use mathlib.Core.Path.{◌≡◌, refl, sym, ap, ap₂, ◌∙◌, subst}
 use mathlib.Core.Bool.{Bool, true, false}
-use mathlib.Core.List.{List, [], ◌∷◌}
-use lib.ListN.{get_or, length, take, length-take}
+use mathlib.Core.List.{List}
+use lib.ListN.{length, take, length-take}
 use lib.Seq.{get_or-take}
 use Rattle.terms.specs.Term.{Term, Terms, app, nil, cons}
 use Rattle.terms.specs.Term.Kind.{one as single, many as several}
 use Rattle.terms.specs.Bindings.{Bindings}
-use Rattle.arena.specs.Cells.{headers, cells, Cells, symbol_of, arity_of, args, denote, Same, denote_node, reference_argument, reference_up, args_same}
-use Rattle.arena.specs.NodeLaws.{reference_same}
+use Rattle.arena.specs.Cells.{headers, cells, Cells, symbol_of, arity_of, args, denote, denote_node, reference_argument, args_same}
 use Rattle.arena.specs.Copies.{pattern_room}
 use Rattle.names.specs.Symbols.{Rows, Symbol, symbol_at}
 use Rattle.resolution.specs.Rules.{Rule, Tree, leaf, ◌◂◌}
 use Rattle.resolution.specs.Search.{words as words_in}
-use Rattle.evaluation.specs.Matching.{Fitted, misfit, fitted, bind_of, Built, barred, built, instantiate_of, front, last}
-use Rattle.evaluation.specs.Calls.{Spent, Called, refused, returned, Walked, stopped, walked, if_arguments, if_called, if_result, under_first, premises_of, call_of}
-use Rattle.clause_matching.specs.Stored.{Value, Values, PatternIn, Holds, Links, pattern_at, value_at}
-use Rattle.clause_matching.specs.Matching.{Says, Lent, Matched, BindAsked}
+use Rattle.evaluation.specs.Matching.{Fitted, bind_of, Built, barred, built, instantiate_of, front, last}
+use Rattle.evaluation.specs.Calls.{Spent, Called, refused, returned, Walked, walked, if_arguments, if_called, if_result, premises_of, call_of}
+use Rattle.clause_matching.specs.Stored.{Value, PatternIn, Holds, pattern_at, value_at}
+use Rattle.clause_matching.specs.Matching.{Says, Matched, BindAsked}
 use Rattle.clause_matching.specs.Building.{rule_words, Stands, ArgumentsAsked, StandAll, TellsAll, ArgumentsBuilt}
 use Rattle.clause_matching.specs.Choice.{values_of}
-use Rattle.function_calls.specs.Calls.{PremiseIn, Program, Working, TreesListed, Answers, CallAsked, CallAnswered, Stepped, Steps, PremiseAsked, PremiseAnswered}
+use Rattle.function_calls.specs.Calls.{PremiseIn, Program, TreesListed, Answers, CallAsked, CallAnswered, Steps, PremiseAsked, PremiseAnswered}
 use Rattle.clause_matching.specs.declared.building.Built.{Built as Reply}
 use Rattle.clause_matching.specs.declared.building.Built.TheVariants.{At, Refused as Unbuilt}
 use Rattle.function_calls.specs.declared.calls.Outcome.{Outcome}

@@ -1,7 +1,7 @@
 -- What calls in storage ask and answer (document 01, "Evaluated terms"; `call_of` of `evaluation`).
 use Rattle.std.specs.Prelude.{ℕ, suc, ◌+◌, ◌-◌, ◌*◌, ◌/◌, ◌≤◌, ◌<◌, min, ◌≡◌, List, length}
 use Rattle.std.proofs.Math.Option.{some}
-use Rattle.terms.specs.Term.{Kind, Term, Terms, app, nil, cons}
+use Rattle.terms.specs.Term.{Kind, nil, cons}
 use Rattle.terms.specs.Term.Kind.{many as several}
 use Rattle.terms.specs.Bindings.{Bindings}
 use Rattle.arena.specs.Cells.{headers, cells, symbol_of, arity_of, args, denote, Same}
