@@ -135,7 +135,9 @@ pub extern "C" fn horn_open(
         (record { names = names.new; words = words.new; bindings = bindings.new })
         (record { links = links.new; marks = marks.new; stack = stack.new }) }
 {
-    capi::horn_open(variables, limit, names, words, bindings, links, marks, stack)
+    capi::horn_open(
+        variables, limit, names, words, bindings, links, marks, stack,
+    )
 }
 
 // `capi::horn_prove`.
@@ -203,5 +205,7 @@ pub extern "C" fn horn_unify(
     ensures { Answered words.now bindings.old bindings.new links.old links.new
         marks.old marks.new stack.old stack.new variables used bound left right result }
 {
-    capi::horn_unify(words, bindings, links, marks, stack, variables, used, bound, left, right)
+    capi::horn_unify(
+        words, bindings, links, marks, stack, variables, used, bound, left, right,
+    )
 }

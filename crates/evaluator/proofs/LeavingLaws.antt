@@ -1,45 +1,40 @@
 -- What `evaluate_listed` leaves: what the expression came to, once the rest of the buffers is cleared, is what the definition says.
-use Prim.Native.Nat.{ℕ, zero, suc, ◌+◌, ◌-◌, ◌≤◌, ◌<◌, min}
+use Prim.Native.Nat.{ℕ, zero, suc, ◌+◌, ◌-◌, ◌≤◌, ◌<◌}
 use native.Mathlib.Omega.{arith}
 use mathlib.Core.Path.{◌≡◌, refl, sym, ap, ap₂, ◌∙◌, subst}
-use mathlib.Core.Bool.{Bool, true, false, ◌||◌}
+use mathlib.Core.Bool.{true, false}
 use mathlib.Core.List.{List, [], ◌∷◌, ◌++◌}
-use lib.Dec.{ltb}
-use lib.ListN.{length, get_or, take, replicate, length-take, length-append, length-replicate}
+use lib.ListN.{length, get_or, take, replicate, length-replicate}
 use borrow.Author.Tests.{lt-ltb, le-ltb}
-use Rattle.terms.specs.Numbers.{by_bool, by_less, true_false}
+use Rattle.terms.specs.Numbers.{by_less, true_false}
 use Rattle.terms.specs.Term.{Term}
 use Rattle.terms.specs.Term.Kind.{many as several}
-use Rattle.arena.specs.Cells.{headers, cells, denote, Same, Reference, WellFormed, frame_denote}
+use Rattle.arena.specs.Cells.{cells, Same, frame_denote}
 use Rattle.arena.specs.NodeLaws.{reference_same}
 use Rattle.arena.specs.Form.{in_form}
 use Rattle.arena.specs.FormKept.{form_same}
 use Rattle.term_parser.specs.Source.{one}
-use Rattle.term_parser.specs.Standing.{Written, Stands}
 use Rattle.words.specs.declared.Limits.{Limits}
-use Rattle.names.specs.Symbols.{Rows, row_at}
+use Rattle.names.specs.Symbols.{Rows}
 use Rattle.names.specs.SearchLaws.{zero_at}
 use Rattle.resolution.specs.Rules.{Tree}
 use Rattle.rules.specs.PatternLaws.{arities_of}
 use Rattle.load_storage.specs.Storage.{cleared_from}
-use Rattle.signature.specs.Storage.{SignatureStore, symbols_in, rules_in, signature_of, SignatureListed}
+use Rattle.signature.specs.Storage.{SignatureStore, symbols_in, rules_in, signature_of}
 use Rattle.term_check.specs.TermLaws.{term_stands}
 use Rattle.tree_rows.specs.Trees.{Lists}
 use Rattle.tree_rows.proofs.TreeLaws.{lists_grown, lists_same}
-use Rattle.evaluation.specs.Calls.{Spent}
 use Rattle.evaluation.specs.Expressions.{Evaluated, failed, evaluated, evaluate_of}
 use Rattle.evaluation.proofs.CountLaws.{evaluation_spends}
-use Rattle.clause_matching.specs.Stored.{Values, Links}
 use Rattle.clause_matching.specs.Building.{Stands as Built}
-use Rattle.function_calls.specs.Calls.{tree_rows, Working, TreesListed}
+use Rattle.function_calls.specs.Calls.{tree_rows, Working}
 use Rattle.expressions.specs.Terms.{ExpressionAsked, Evaluates, ExpressionAnswered}
 use Rattle.expressions.specs.declared.written.Expressed.{Expressed}
 use Rattle.expressions.specs.declared.written.Expressed.TheVariants.{Value as Found, Refused as Missed}
-use Rattle.evaluator.specs.Storage.{Results, most_words, is_short, too_short, zero_tree, wiped}
-use Rattle.evaluator.specs.Evaluating.{Readable, written_in, Ready, Valued, Denied, Left, EvaluationLeft}
-use Rattle.evaluator.specs.declared.Evaluation.{Evaluation}
+use Rattle.evaluator.specs.Storage.{Results, most_words, is_short, zero_tree, wiped}
+use Rattle.evaluator.specs.Evaluating.{written_in, Ready, Valued, Left, EvaluationLeft}
 use Rattle.evaluator.specs.declared.Evaluation.TheVariants.{Value, Refused}
-use Rattle.evaluator.specs.ProgramLaws.{pattern, pattern_length, listed_headed, listed_tables}
+use Rattle.evaluator.specs.ProgramLaws.{pattern, listed_headed, listed_tables}
 
 -- Clearing
 

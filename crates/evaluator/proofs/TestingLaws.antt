@@ -1,9 +1,9 @@
 -- The tests of the entry points: what fails one is not ready, and what passes all is.
 use Prim.Native.Nat.{ℕ, ◌+◌, ◌≤◌, ◌<◌, min}
 use native.Mathlib.Omega.{arith}
-use mathlib.Core.Path.{◌≡◌, refl, sym, ap, ◌∙◌, subst}
-use mathlib.Core.Bool.{Bool, true, false, cond, not}
-use mathlib.Core.List.{List, [], ◌∷◌}
+use mathlib.Core.Path.{◌≡◌, refl, sym, ap, ◌∙◌}
+use mathlib.Core.Bool.{Bool, true, false, not}
+use mathlib.Core.List.{List}
 use lib.Dec.{ltb}
 use lib.ListN.{length}
 use borrow.Author.Tests.{lt-ltb, le-ltb, not-true, not-false}
@@ -11,20 +11,19 @@ use Rattle.terms.specs.Numbers.{true_false}
 use Rattle.words.specs.Lexer.{capped_of}
 use Rattle.words.specs.declared.Limits.{Limits}
 use Rattle.names.specs.Symbols.{Rows}
-use Rattle.term_check.specs.TermRows.{TermAt, Checking}
+use Rattle.term_check.specs.TermRows.{Checking}
 use Rattle.term_check.specs.TermLaws.{term_stands}
 use Rattle.term_check.specs.declared.TermChecked.{TermChecked}
 use Rattle.term_check.specs.declared.TermChecked.TheVariants.{Ends, NoTerm}
 use Rattle.signature.specs.Form.{Checked}
-use Rattle.signature.specs.Storage.{SignatureStore, symbols_in, SignatureListed}
+use Rattle.signature.specs.Storage.{SignatureStore, symbols_in}
 use Rattle.evaluation.specs.Expressions.{is_forward_call}
 use Rattle.forward_calls.specs.Forward.{ForwardAsked, ForwardAnswered}
 use Rattle.function_calls.specs.Calls.{tree_rows}
 use Rattle.evaluator.specs.Storage.{Results, is_short, too_short}
 use Rattle.evaluator.specs.Evaluating.{Readable, written_in, Ready, EvaluationLeft, Evaluating, Forwarding}
 use Rattle.evaluator.specs.declared.Evaluation.{Evaluation}
-use Rattle.evaluator.specs.declared.Evaluation.TheVariants.{Value, Refused}
-use Rattle.evaluator.specs.declared.Forward.{Forward}
+use Rattle.evaluator.specs.declared.Evaluation.TheVariants.{Refused}
 use Rattle.evaluator.specs.declared.Forward.TheVariants.{Call, Goal, Refused as Barred}
 
 -- Sizes

@@ -1,12 +1,6 @@
 -- `are_pairs` meets its contract. The loop's invariant: the rows before `i` have two numbers each.
 use Prim.Native.Nat.{◌≤◌, ◌-◌}
-use native.Mathlib.Omega.{arith}
-use mathlib.Core.Path.{◌≡◌}
-use mathlib.Core.List.{[]}
-use lib.ListN.{get_or, length}
-use borrow.Author.Count.{below_none, below_more}
 use Rattle.acyclicity.specs.Edges.{Pairs}
-use borrow.Author.Rules.{rules}
 use Rattle.acyclicity.proofs.are_pairs.Given as goal
 
 abbrev pub invariant-loop-i : goal.invariant-loop-i

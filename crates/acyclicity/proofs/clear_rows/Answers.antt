@@ -1,7 +1,6 @@
 -- `clear_rows` meets its contract. The loop's invariant: the rows from `from` on before `i` are zero, and the others as they were.
-use Prim.Native.Nat.{◌≤◌, ◌-◌}
+use Prim.Native.Nat.{◌-◌}
 use mathlib.Core.Path.{◌≡◌, refl}
-use Rattle.acyclicity.specs.Edges.{Cleared}
 use Rattle.acyclicity.proofs.Clearing.{cleared_none, cleared_more}
 use borrow.Author.Rules.{rules}
 use native.Mathlib.Omega.{arith}

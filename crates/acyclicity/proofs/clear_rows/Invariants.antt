@@ -1,10 +1,7 @@
 -- `clear_rows` meets its contract. The loop's invariant: the rows from `from` on before `i` are zero, and the others as they were.
 use Prim.Native.Nat.{◌≤◌, ◌-◌}
-use mathlib.Core.Path.{◌≡◌, refl}
+use mathlib.Core.Path.{◌≡◌}
 use Rattle.acyclicity.specs.Edges.{Cleared}
-use Rattle.acyclicity.proofs.Clearing.{cleared_none, cleared_more}
-use borrow.Author.Rules.{rules}
-use native.Mathlib.Omega.{arith}
 use Rattle.acyclicity.proofs.clear_rows.Given as goal
 
 abbrev pub invariant-loop-i : goal.invariant-loop-i

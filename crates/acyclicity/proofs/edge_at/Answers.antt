@@ -6,7 +6,6 @@ use Rattle.arena.specs.Cells.{cells}
 use Rattle.arena.specs.Rows.{column}
 use Rattle.acyclicity.proofs.EdgeLaws.{edge_variable, edge_second, edge_argument, edge_past, variable_row, node_words, argument_small}
 use native.Mathlib.Omega.{arith}
-use borrow.Author.Rules.{rules}
 use Rattle.acyclicity.proofs.edge_at.Goals as goal
 
 pub bounds-bindings-reference : goal.bounds-bindings-reference

@@ -1,6 +1,5 @@
 -- `is_acyclic` meets its contract: the answer is the search's, and clearing the rows for references restores scratch.
 use Rattle.acyclicity.proofs.Clearing.{searchable, restored}
-use borrow.Author.Rules.{rules}
 use Rattle.acyclicity.proofs.is_acyclic.Goals as goal
 
 pub search-answer-requires : goal.search-answer-requires

@@ -4,8 +4,7 @@ use Prim.Native.Nat.{◌+◌, ◌-◌}
 use mathlib.Core.Path.{refl}
 use Rattle.terms.specs.Numbers.{true_false}
 use Rattle.arena.specs.Rows.{column}
-use Rattle.acyclicity.proofs.Turns.{Turn, left, pending_most, pending_one, risen, turn_start, ahead_row, turn_skip, turn_enter, turn_refuse, top_row, turn_close, turn_follow, turn_begin, turn_accept}
-use borrow.Author.Rules.{rules}
+use Rattle.acyclicity.proofs.Turns.{pending_most, pending_one, risen, turn_start, ahead_row, turn_skip, turn_enter, turn_refuse, top_row, turn_close, turn_follow, turn_begin, turn_accept}
 use native.Mathlib.Omega.{arith}
 use Rattle.acyclicity.proofs.search.Goals as goal
 

@@ -1,12 +1,8 @@
 -- `check_words` meets its contract. The loop's invariant: what is left to be read from `at` on decides as the whole does.
-use mathlib.Core.Path.{◌≡◌, refl, sym, ◌∙◌}
+use mathlib.Core.Path.{◌≡◌}
 use Prim.Native.Nat.{◌≤◌, ◌-◌}
 use lib.Seq.{slice}
-use borrow.Author.Tests.{not-true, not-false}
-use Rattle.arena.specs.Form.{nodes, in_form}
-use Rattle.arena.proofs.Checking.{header_step, header_stop, argument_step, argument_stop, end_step}
-use borrow.Author.Rules.{rules}
-use native.Mathlib.Omega.{arith}
+use Rattle.arena.specs.Form.{nodes}
 use Rattle.arena.proofs.check_words.Given as goal
 
 abbrev pub invariant-loop-at : goal.invariant-loop-at

@@ -1,8 +1,7 @@
 -- `clear` meets its contract. The loop's invariant: zeroes from `at` on give what zeroes from `from` on give.
-use mathlib.Core.Path.{◌≡◌, refl, sym, ◌∙◌}
-use mathlib.Core.List.{◌++◌}
-use Prim.Native.Nat.{◌-◌, ◌+◌}
-use lib.ListN.{length, take, replicate, length-set}
+use mathlib.Core.Path.{refl, sym, ◌∙◌}
+use Prim.Native.Nat.{◌-◌}
+use lib.ListN.{length-set}
 use Rattle.arena.proofs.Writing.{clear_step, clear_end}
 use borrow.Author.Rules.{rules}
 use Rattle.arena.proofs.clear.Goals as goal

@@ -1,10 +1,8 @@
 -- `clear` meets its contract. The loop's invariant: zeroes from `at` on give what zeroes from `from` on give.
-use mathlib.Core.Path.{◌≡◌, refl, sym, ◌∙◌}
+use mathlib.Core.Path.{◌≡◌}
 use mathlib.Core.List.{◌++◌}
 use Prim.Native.Nat.{◌-◌, ◌+◌}
-use lib.ListN.{length, take, replicate, length-set}
-use Rattle.arena.proofs.Writing.{clear_step, clear_end}
-use borrow.Author.Rules.{rules}
+use lib.ListN.{length, take, replicate}
 use Rattle.arena.proofs.clear.Given as goal
 
 abbrev pub invariant-loop-at : goal.invariant-loop-at

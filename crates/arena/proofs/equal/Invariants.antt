@@ -1,11 +1,9 @@
 -- `equal` meets its contract. The loop's invariant: the two references denote the same term exactly where the answer is still true and the links that are
 -- left, all from `low` on and below `at`, hold.
-use mathlib.Core.Path.{◌≡◌, refl, ap, ◌∙◌}
-use Prim.Native.Nat.{suc, ◌-◌}
+use mathlib.Core.Path.{◌≡◌}
+use Prim.Native.Nat.{◌-◌}
 use lib.ListN.{length}
-use Rattle.arena.proofs.Settling.{Passing, pass_start, pass_step, pass_end, ready_linkable, ready_low}
-use borrow.Author.Rules.{rules}
-use native.Mathlib.Omega.{arith}
+use Rattle.arena.proofs.Settling.{Passing}
 use Rattle.arena.proofs.equal.Given as goal
 
 abbrev pub invariant-loop-low : goal.invariant-loop-low

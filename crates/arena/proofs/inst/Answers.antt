@@ -1,8 +1,7 @@
 -- `inst` meets its contract. The loop's invariant: writing the copied words from i on completes the copy.
 use mathlib.Core.Path.{◌≡◌, refl, sym, ◌∙◌}
-use Prim.Native.Nat.{◌≤◌, ◌-◌, ◌+◌}
-use lib.ListN.{length, length-set, drop}
-use lib.Seq.{sets}
+use Prim.Native.Nat.{◌-◌, ◌+◌}
+use lib.ListN.{length-set}
 use Rattle.arena.specs.Copies.{copied}
 use Rattle.arena.specs.CopyLaws.{copied_length, copied_at, movable}
 use Rattle.arena.proofs.Writing.{write_step, write_end}

@@ -1,13 +1,9 @@
 -- `inst` meets its contract. The loop's invariant: writing the copied words from i on completes the copy.
-use mathlib.Core.Path.{◌≡◌, refl, sym, ◌∙◌}
+use mathlib.Core.Path.{◌≡◌}
 use Prim.Native.Nat.{◌≤◌, ◌-◌, ◌+◌}
-use lib.ListN.{length, length-set, drop}
+use lib.ListN.{length, drop}
 use lib.Seq.{sets}
 use Rattle.arena.specs.Copies.{copied}
-use Rattle.arena.specs.CopyLaws.{copied_length, copied_at, movable}
-use Rattle.arena.proofs.Writing.{write_step, write_end}
-use borrow.Author.Rules.{rules}
-use native.Mathlib.Omega.{arith}
 use Rattle.arena.proofs.inst.Given as goal
 
 abbrev pub invariant-loop-i : goal.invariant-loop-i

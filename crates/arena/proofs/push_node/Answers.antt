@@ -1,8 +1,7 @@
 -- `push_node` meets its contract. The loop's invariant: writing the arguments from i on completes the node.
 use mathlib.Core.Path.{◌≡◌, refl, sym, ◌∙◌}
-use Prim.Native.Nat.{suc, ◌≤◌, ◌-◌, ◌+◌}
-use lib.ListN.{length, length-set, drop}
-use lib.Seq.{sets}
+use Prim.Native.Nat.{suc, ◌-◌, ◌+◌}
+use lib.ListN.{length, length-set}
 use Rattle.arena.proofs.Writing.{write_step, write_end}
 use borrow.Author.Rules.{rules}
 use native.Mathlib.Omega.{arith}

@@ -1,11 +1,8 @@
 -- `push_node` meets its contract. The loop's invariant: writing the arguments from i on completes the node.
-use mathlib.Core.Path.{◌≡◌, refl, sym, ◌∙◌}
-use Prim.Native.Nat.{suc, ◌≤◌, ◌-◌, ◌+◌}
-use lib.ListN.{length, length-set, drop}
+use mathlib.Core.Path.{◌≡◌}
+use Prim.Native.Nat.{◌≤◌, ◌-◌, ◌+◌}
+use lib.ListN.{length, drop}
 use lib.Seq.{sets}
-use Rattle.arena.proofs.Writing.{write_step, write_end}
-use borrow.Author.Rules.{rules}
-use native.Mathlib.Omega.{arith}
 use Rattle.arena.proofs.push_node.Given as goal
 
 abbrev pub invariant-loop-i : goal.invariant-loop-i

@@ -1,11 +1,10 @@
 -- `occurs` meets its contract. The loop's invariant: what stands in the queue was reached from r, the edges of its first h are followed, none of them
 -- is x, and taking all marks back gives the marks at entry.
-use Prim.Native.Nat.{◌+◌, ◌-◌}
+use Prim.Native.Nat.{◌-◌}
 use mathlib.Core.Path.{sym, ap, ◌∙◌}
 use lib.ListN.{length}
-use Rattle.bindings.specs.Tables.{undone}
 use Rattle.bindings.specs.Entries.{entries_none, entries_few}
-use Rattle.bindings.specs.Search.{Searched, search_start, search_step, search_end, searched_lent, searched_undoable, searched_back, undone_zero, reference_low, occurs_yes, occurs_no}
+use Rattle.bindings.specs.Search.{search_start, search_step, search_end, searched_lent, searched_undoable, searched_back, undone_zero, reference_low, occurs_yes, occurs_no}
 use borrow.Author.Rules.{rules}
 use native.Mathlib.Omega.{arith}
 use Rattle.bindings.proofs.occurs.Goals as goal
@@ -68,8 +67,13 @@ visit_edges-t-requires c =
     let pre = c.requires in
     let loop = c.loop-h in
     let loop-test = c.loop-h-test in
-    let visit = c.visit-t in record { fact_1 = pre.fact_1; fact_2 = loop.invariant.queued loop.h loop-test.true; fact_3 = loop.invariant.entries; fact_4 = searched_lent loop.invariant (visit.ensures.back
-              ∙ undone_zero _ 0) pre.fact_4.lent }
+    let visit = c.visit-t in record {
+      fact_1 = pre.fact_1;
+      fact_2 = loop.invariant.queued loop.h loop-test.true;
+      fact_3 = loop.invariant.entries;
+      fact_4 = searched_lent loop.invariant (visit.ensures.back
+          ∙ undone_zero _ 0) pre.fact_4.lent;
+    }
 
 pub overflow_add-h : goal.overflow_add-h
 overflow_add-h c =

@@ -1,13 +1,8 @@
 -- `occurs` meets its contract. The loop's invariant: what stands in the queue was reached from r, the edges of its first h are followed, none of them
 -- is x, and taking all marks back gives the marks at entry.
 use Prim.Native.Nat.{◌+◌, ◌-◌}
-use mathlib.Core.Path.{sym, ap, ◌∙◌}
-use lib.ListN.{length}
 use Rattle.bindings.specs.Tables.{undone}
-use Rattle.bindings.specs.Entries.{entries_none, entries_few}
-use Rattle.bindings.specs.Search.{Searched, search_start, search_step, search_end, searched_lent, searched_undoable, searched_back, undone_zero, reference_low, occurs_yes, occurs_no}
-use borrow.Author.Rules.{rules}
-use native.Mathlib.Omega.{arith}
+use Rattle.bindings.specs.Search.{Searched}
 use Rattle.bindings.proofs.occurs.Given as goal
 
 abbrev pub invariant-loop-h : goal.invariant-loop-h

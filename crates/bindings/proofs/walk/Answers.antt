@@ -1,7 +1,6 @@
 -- `walk` meets its contract. The loop's invariant: from q on the values lead where they lead from r; the bindings still to meet grow fewer.
 use Rattle.bindings.specs.Stored.{free, node}
-use Rattle.bindings.specs.Walking.{Walking, ahead, walk_in, walk_next, walk_less, walk_end}
-use borrow.Author.Rules.{rules}
+use Rattle.bindings.specs.Walking.{walk_in, walk_next, walk_less, walk_end}
 use native.Mathlib.Omega.{arith}
 use Rattle.bindings.proofs.walk.Goals as goal
 

@@ -1,8 +1,5 @@
 -- `walk` meets its contract. The loop's invariant: from q on the values lead where they lead from r; the bindings still to meet grow fewer.
-use Rattle.bindings.specs.Stored.{free, node}
-use Rattle.bindings.specs.Walking.{Walking, ahead, walk_in, walk_next, walk_less, walk_end}
-use borrow.Author.Rules.{rules}
-use native.Mathlib.Omega.{arith}
+use Rattle.bindings.specs.Walking.{Walking, ahead}
 use Rattle.bindings.proofs.walk.Given as goal
 
 abbrev pub invariant-loop-q : goal.invariant-loop-q

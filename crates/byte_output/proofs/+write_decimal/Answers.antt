@@ -4,7 +4,6 @@ use native.Mathlib.Omega.{arith}
 use mathlib.Core.Path.{sym, ◌∙◌}
 use Rattle.byte_output.specs.OutputLaws.{written_as}
 use Rattle.byte_output.specs.NumeralLaws.{numeral_digit, digit_room, tenth_room, last_room, number_written}
-use Prim.Native.Nat.{ℕ, ◌<◌}
 use Rattle.byte_output.proofs.+write_decimal.Goals as goal
 
 pub overflow_add-number : goal.overflow_add-number

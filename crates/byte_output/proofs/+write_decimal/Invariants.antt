@@ -1,10 +1,5 @@
 -- `write_decimal` meets its contract: a number of one digit is written at once, and any other behind the digits of its tenth.
 -- No loop; the measure of the recursion is the number, so it is at most ten calls deep.
-use native.Mathlib.Omega.{arith}
-use mathlib.Core.Path.{sym, ◌∙◌}
-use Rattle.byte_output.specs.OutputLaws.{written_as}
-use Rattle.byte_output.specs.NumeralLaws.{numeral_digit, digit_room, tenth_room, last_room, number_written}
-use Prim.Native.Nat.{ℕ, ◌<◌}
 use Rattle.byte_output.proofs.+write_decimal.Given as goal
 
 abbrev pub decreases-write_decimal : goal.decreases-write_decimal

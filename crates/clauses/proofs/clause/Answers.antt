@@ -3,7 +3,6 @@ use mathlib.Core.Path.{refl}
 use Rattle.source_text.specs.Parts.{part_of}
 use Rattle.names.specs.Symbols.{symbols_of}
 use Rattle.clauses.proofs.ClauseLaws.{seventeenth, clause_is, over_limit, prepared}
-use borrow.Author.Rules.{rules}
 use Rattle.clauses.proofs.clause.Goals as goal
 
 pub rule-requires : goal.rule-requires

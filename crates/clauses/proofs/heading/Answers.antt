@@ -1,7 +1,6 @@
 -- `heading` meets its contract: the rows of the patterns are copied behind the function's.
 use lib.ListN.{length-set}
 use Rattle.clauses.proofs.ClauseLaws.{few_patterns, skipped_within, headed}
-use borrow.Author.Rules.{rules}
 use native.Mathlib.Omega.{arith}
 use Rattle.clauses.proofs.heading.Goals as goal
 

@@ -1,8 +1,6 @@
 -- `skip` meets its contract. The loop's invariant: so many terms are left from the row p on.
-use Prim.Native.Nat.{◌≤◌, ◌+◌, ◌-◌, ◌*◌}
-use lib.ListN.{length}
-use Rattle.clauses.proofs.SkipLaws.{Left, left_start, left_turn, left_end, left_past}
-use borrow.Author.Rules.{rules}
+use Prim.Native.Nat.{◌-◌}
+use Rattle.clauses.proofs.SkipLaws.{left_start, left_turn, left_end, left_past}
 use native.Mathlib.Omega.{arith}
 use Rattle.clauses.proofs.skip.Goals as goal
 

@@ -1,7 +1,6 @@
 -- `declare` meets its contract: the keyword in the declaration's row says which function declares it.
 use Rattle.declarations.proofs.DeclarationLaws.{first_row}
 use Rattle.declarations.proofs.DeclareLaws.{sort_there, sort_done, ctor_asked, ctor_none, ctor_done, pred_asked, pred_done, rule_asked, rule_done, def_asked, def_done, eval_done, others_done}
-use borrow.Author.Rules.{rules}
 use native.Mathlib.Omega.{arith}
 use Rattle.declarations.proofs.declare.Goals as goal
 

@@ -1,8 +1,7 @@
 -- `declare_clauses` meets its contract. The loop's invariant: the clauses before the number i are entered, and the others are left to enter from the row p on.
-use mathlib.Core.Path.{◌≡◌, refl, ◌∙◌}
-use Prim.Native.Nat.{◌≤◌, ◌-◌}
-use lib.ListN.{length}
-use Rattle.declarations.proofs.ClauseLaws.{Everywhere, going_start, going_clause, going_refused, going_on, going_end}
+use mathlib.Core.Path.{refl, ◌∙◌}
+use Prim.Native.Nat.{◌-◌}
+use Rattle.declarations.proofs.ClauseLaws.{going_start, going_clause, going_refused, going_on, going_end}
 use borrow.Author.Rules.{rules}
 use native.Mathlib.Omega.{arith}
 use Rattle.declarations.proofs.declare_clauses.Goals as goal
@@ -69,8 +68,7 @@ loop-i-preserved c =
     let declare-clause = c.declare_clause in
     let loop = c.loop-i in
     let pre = c.requires in
-    let loop-test = c.loop-i-test in
-    (
+    let loop-test = c.loop-i-test in (
       omega arith,
       declare-clause.auto.rules
           ∙ loop.invariant.1,

@@ -1,6 +1,5 @@
 -- `declare_sort` meets its contract: the sort is refused, or it is one more.
 use Rattle.declarations.proofs.ProgressLaws.{sort_refused, sort_done}
-use borrow.Author.Rules.{rules}
 use Rattle.declarations.proofs.declare_sort.Goals as goal
 
 pub returns-then-e-ne0 : goal.returns-then-e-ne0

@@ -2,7 +2,6 @@
 use mathlib.Core.Path.{◌≡◌}
 use Prim.Native.Nat.{◌+◌}
 use Rattle.declarations.proofs.ProgressLaws.{symbol_refused, symbol_done}
-use borrow.Author.Rules.{rules}
 use native.Mathlib.Omega.{arith}
 use Rattle.declarations.proofs.declare_symbol.Goals as goal
 

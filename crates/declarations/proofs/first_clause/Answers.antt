@@ -1,7 +1,6 @@
 -- `first_clause` meets its contract.
 use mathlib.Core.Path.{refl}
 use borrow.Author.Tests.{eq-eqb, ne_eqb}
-use borrow.Author.Rules.{rules}
 use Rattle.declarations.proofs.first_clause.Goals as goal
 
 pub returns-then-n-eq0 : goal.returns-then-n-eq0

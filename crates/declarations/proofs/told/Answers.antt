@@ -1,6 +1,5 @@
 -- `told` meets its contract: one equation for each outcome.
 use mathlib.Core.Path.{refl}
-use borrow.Author.Rules.{rules}
 use native.Mathlib.Omega.{arith}
 use Rattle.declarations.proofs.told.Goals as goal
 

@@ -1,6 +1,5 @@
 -- `are_distinct` meets its contract: names that could be sorted all differ, and where they could not, one stands twice.
 use Rattle.distinct.proofs.SortLaws.{sorted_tells}
-use borrow.Author.Rules.{rules}
 use Rattle.distinct.proofs.are_distinct.Goals as goal
 
 pub returns : goal.returns

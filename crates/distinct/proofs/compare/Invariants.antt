@@ -1,12 +1,8 @@
 -- `compare` meets its contract. The loop's invariant: the names stand to each other as they do from byte i on.
 use Prim.Native.Nat.{◌≤◌, ◌-◌}
-use mathlib.Core.Path.{◌≡◌}
-use lib.ListN.{length, get_or, drop}
+use lib.ListN.{length, drop}
 use Rattle.distinct.specs.Order.{Ordered}
 use Rattle.distinct.specs.declared.Order.{Order}
-use Rattle.distinct.proofs.OrderLaws.{is_before_lem, is_same, is_after, bytes_same, bytes_less, bytes_end, bytes_all}
-use borrow.Author.Rules.{rules}
-use native.Mathlib.Omega.{arith}
 use Rattle.distinct.proofs.compare.Given as goal
 
 abbrev pub invariant-loop-i : goal.invariant-loop-i

@@ -1,10 +1,8 @@
 -- `copy` meets its contract. The loop's invariant: the rows before i are copied.
-use Prim.Native.Nat.{ℕ, ◌≤◌, ◌<◌, ◌-◌}
-use mathlib.Core.Path.{◌≡◌, refl, ◌∙◌}
-use lib.ListN.{length, length-set}
-use Rattle.names.specs.Symbols.{row_at}
+use Prim.Native.Nat.{◌-◌}
+use mathlib.Core.Path.{refl, ◌∙◌}
+use lib.ListN.{length-set}
 use Rattle.distinct.proofs.SortLaws.{copy_more}
-use borrow.Author.Rules.{rules}
 use native.Mathlib.Omega.{arith}
 use Rattle.distinct.proofs.copy.Goals as goal
 

@@ -1,11 +1,8 @@
 -- `copy` meets its contract. The loop's invariant: the rows before i are copied.
 use Prim.Native.Nat.{ℕ, ◌≤◌, ◌<◌, ◌-◌}
-use mathlib.Core.Path.{◌≡◌, refl, ◌∙◌}
-use lib.ListN.{length, length-set}
+use mathlib.Core.Path.{◌≡◌}
+use lib.ListN.{length}
 use Rattle.names.specs.Symbols.{row_at}
-use Rattle.distinct.proofs.SortLaws.{copy_more}
-use borrow.Author.Rules.{rules}
-use native.Mathlib.Omega.{arith}
 use Rattle.distinct.proofs.copy.Given as goal
 
 abbrev pub invariant-loop-i : goal.invariant-loop-i

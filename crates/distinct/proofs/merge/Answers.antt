@@ -1,10 +1,8 @@
 -- `merge` meets its contract. The loop's invariant: what was read of both runs stands in the places before k, ascending and before what is left of both.
 use Prim.Native.Nat.{◌-◌}
-use mathlib.Core.Path.{◌≡◌, refl, ◌∙◌}
-use lib.ListN.{length, length-set}
-use Rattle.distinct.specs.Sorting.{name_at}
-use Rattle.distinct.proofs.MergeLaws.{Merging, merge_start, merge_first, merge_second, merge_both, merge_end}
-use borrow.Author.Rules.{rules}
+use mathlib.Core.Path.{refl, ◌∙◌}
+use lib.ListN.{length-set}
+use Rattle.distinct.proofs.MergeLaws.{merge_start, merge_first, merge_second, merge_both, merge_end}
 use native.Mathlib.Omega.{arith}
 use Rattle.distinct.proofs.merge.Goals as goal
 

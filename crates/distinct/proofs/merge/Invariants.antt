@@ -1,11 +1,9 @@
 -- `merge` meets its contract. The loop's invariant: what was read of both runs stands in the places before k, ascending and before what is left of both.
 use Prim.Native.Nat.{◌-◌}
-use mathlib.Core.Path.{◌≡◌, refl, ◌∙◌}
-use lib.ListN.{length, length-set}
+use mathlib.Core.Path.{◌≡◌}
+use lib.ListN.{length}
 use Rattle.distinct.specs.Sorting.{name_at}
-use Rattle.distinct.proofs.MergeLaws.{Merging, merge_start, merge_first, merge_second, merge_both, merge_end}
-use borrow.Author.Rules.{rules}
-use native.Mathlib.Omega.{arith}
+use Rattle.distinct.proofs.MergeLaws.{Merging}
 use Rattle.distinct.proofs.merge.Given as goal
 
 abbrev pub invariant-loop-k : goal.invariant-loop-k

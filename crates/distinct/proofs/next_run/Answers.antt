@@ -1,7 +1,6 @@
 -- `next_run` meets its contract: a run at its end has no next name, and otherwise the two names are compared.
 use Rattle.distinct.specs.Sorting.{name_at}
 use Rattle.distinct.proofs.MergeLaws.{next_second, next_first, next_compared}
-use borrow.Author.Rules.{rules}
 use native.Mathlib.Omega.{arith}
 use Rattle.distinct.proofs.next_run.Goals as goal
 

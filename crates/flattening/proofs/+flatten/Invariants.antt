@@ -1,11 +1,8 @@
 -- `flatten` meets its contract: the rows left fall. The loop's invariant: of the arguments, the first i are flattened, and the others are left.
-use mathlib.Core.Path.{sym, ◌∙◌}
-use Prim.Native.Nat.{ℕ, ◌-◌, ◌<◌}
+use Prim.Native.Nat.{◌-◌}
 use lib.ListN.{length}
 use Rattle.names.specs.Symbols.{symbols_of}
-use Rattle.flattening.proofs.FlatteningLaws.{Invariant, past_rows, loop_start, out_long, argument_room, turn_over, turn, end_plain, finish_room, end_call}
-use borrow.Author.Rules.{rules}
-use native.Mathlib.Omega.{arith}
+use Rattle.flattening.proofs.FlatteningLaws.{Invariant}
 use Rattle.flattening.proofs.+flatten.Given as goal
 
 abbrev pub decreases-flatten : goal.decreases-flatten

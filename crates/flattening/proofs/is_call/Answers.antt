@@ -4,7 +4,6 @@ use borrow.Author.Tests.{eq-eqb, ne_eqb}
 use Rattle.source_text.specs.Parts.{part_of}
 use Rattle.names.specs.Symbols.{symbols_of}
 use Rattle.flattening.proofs.SymbolLaws.{call_of_lem}
-use borrow.Author.Rules.{rules}
 use Rattle.flattening.proofs.is_call.Goals as goal
 
 pub returns-then-kind-eq-METAVARIABLE : goal.returns-then-kind-eq-METAVARIABLE

@@ -3,7 +3,6 @@ use mathlib.Core.Path.{ap, ◌∙◌}
 use Rattle.source_text.specs.Parts.{part_of}
 use Rattle.names.specs.Symbols.{symbols_of, symbol_number}
 use Rattle.flattening.proofs.SymbolLaws.{function_found, function_absent}
-use borrow.Author.Rules.{rules}
 use Rattle.flattening.proofs.is_function.Goals as goal
 
 pub returns-then-i-count : goal.returns-then-i-count

@@ -1,10 +1,6 @@
 -- `move_rows` meets its contract. The loop's invariant: the first i rows are copied.
 use Prim.Native.Nat.{◌≤◌, ◌-◌}
-use mathlib.Core.Path.{◌≡◌}
 use Rattle.flattening.specs.Promises.{Copied}
-use Rattle.flattening.proofs.RowLaws.{copy_start, copy_step}
-use borrow.Author.Rules.{rules}
-use native.Mathlib.Omega.{arith}
 use Rattle.flattening.proofs.move_rows.Given as goal
 
 abbrev pub invariant-loop-i : goal.invariant-loop-i

@@ -1,7 +1,6 @@
 -- `is_forward_call` meets its contract: one law for each way out.
 use native.Mathlib.Omega.{arith}
 use Rattle.forward_calls.proofs.Forwarding.{inside, of_numeral, of_meta, of_unknown, of_other, of_none, of_count, of_call, ground_asked}
-use borrow.Author.Rules.{rules}
 use Rattle.forward_calls.proofs.is_forward_call.Goals as goal
 
 pub offset_bounds-rows-at : goal.offset_bounds-rows-at

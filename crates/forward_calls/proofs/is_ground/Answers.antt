@@ -1,9 +1,7 @@
 -- `is_ground` meets its contract. The loop's invariant: from the row i on stand as many terms as are left, and they are ground if the whole is.
 use Prim.Native.Nat.{◌-◌}
 use native.Mathlib.Omega.{arith}
-use lib.ListN.{length}
-use borrow.Author.Rules.{rules}
-use Rattle.forward_calls.proofs.Pending.{Turn, turn_start, bounded, application_bounded, turn_meta, turn_application, turn_leaf, turn_done}
+use Rattle.forward_calls.proofs.Pending.{turn_start, bounded, application_bounded, turn_meta, turn_application, turn_leaf, turn_done}
 use Rattle.forward_calls.proofs.is_ground.Goals as goal
 
 pub loop-left-init : goal.loop-left-init

@@ -1,8 +1,7 @@
 -- `enter_all` meets its contract. The loop's invariant: the declarations before the number i are entered, and the others are left from the row `at` on.
-use mathlib.Core.Path.{◌≡◌, refl, ◌∙◌}
-use Prim.Native.Nat.{◌≤◌, ◌-◌}
-use lib.ListN.{length}
-use Rattle.load.proofs.WalkLaws.{held_none, Everywhere, sofar_start, sofar_declaration, sofar_stops, sofar_on, sofar_end}
+use mathlib.Core.Path.{refl, ◌∙◌}
+use Prim.Native.Nat.{◌-◌}
+use Rattle.load.proofs.WalkLaws.{held_none, sofar_start, sofar_declaration, sofar_stops, sofar_on, sofar_end}
 use Rattle.declarations.proofs.DeclarationLaws.{first_row}
 use borrow.Author.Rules.{rules}
 use native.Mathlib.Omega.{arith}
@@ -174,8 +173,7 @@ loop-i-preserved c =
     let loop-test = c.loop-i-test in
     let declare = c.declare in
     let loop = c.loop-i in
-    let note = c.note-count in
-    (
+    let note = c.note-count in (
       omega (arith, loop-test.true),
       declare.auto.sorts
           ∙ loop.invariant.1,

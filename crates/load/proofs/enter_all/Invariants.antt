@@ -1,11 +1,9 @@
 -- `enter_all` meets its contract. The loop's invariant: the declarations before the number i are entered, and the others are left from the row `at` on.
-use mathlib.Core.Path.{◌≡◌, refl, ◌∙◌}
+use mathlib.Core.Path.{◌≡◌}
 use Prim.Native.Nat.{◌≤◌, ◌-◌}
 use lib.ListN.{length}
-use Rattle.load.proofs.WalkLaws.{held_none, Everywhere, sofar_start, sofar_declaration, sofar_stops, sofar_on, sofar_end}
-use Rattle.declarations.proofs.DeclarationLaws.{first_row}
+use Rattle.load.proofs.WalkLaws.{Everywhere}
 use borrow.Author.Rules.{rules}
-use native.Mathlib.Omega.{arith}
 use Rattle.load.proofs.enter_all.Given as goal
 
 abbrev pub invariant-loop-i : goal.invariant-loop-i

@@ -1,7 +1,6 @@
 -- `note` meets its contract: an `#eval` is kept if it is one.
 use mathlib.Core.Path.{refl}
 use borrow.Author.Tests.{eq-eqb, ne_eqb}
-use borrow.Author.Rules.{rules}
 use Rattle.load.proofs.note.Goals as goal
 
 pub returns-then-kind-ne10 : goal.returns-then-kind-ne10

@@ -1,7 +1,6 @@
 -- `put` meets its contract.
 use mathlib.Core.Path.{sym}
 use lib.Seq.{set_out}
-use borrow.Author.Rules.{rules}
 use Rattle.load.proofs.put.Goals as goal
 
 pub returns-else-i-evals : goal.returns-else-i-evals

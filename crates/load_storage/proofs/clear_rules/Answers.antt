@@ -1,10 +1,9 @@
 -- `clear_rules` meets its contract. The loop's invariant: the rows from `from` up to i are zero, the others as they were.
-use mathlib.Core.Path.{◌≡◌, refl, sym, ap, ◌∙◌}
-use Prim.Native.Nat.{◌≤◌, ◌-◌}
-use lib.ListN.{length, set, length-set}
-use Rattle.words.proofs.Rows.{cleared, clear_none, clear_more, clear_all}
+use mathlib.Core.Path.{refl, sym, ap, ◌∙◌}
+use Prim.Native.Nat.{◌-◌}
+use lib.ListN.{set, length-set}
+use Rattle.words.proofs.Rows.{clear_none, clear_more, clear_all}
 use Rattle.load_storage.specs.Storage.{zero_rule}
-use borrow.Author.Rules.{rules}
 use native.Mathlib.Omega.{arith}
 use Rattle.load_storage.proofs.clear_rules.Goals as goal
 

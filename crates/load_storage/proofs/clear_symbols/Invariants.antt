@@ -1,11 +1,9 @@
 -- `clear_symbols` meets its contract. The loop's invariant: the rows from `from` up to i are zero, the others as they were.
-use mathlib.Core.Path.{◌≡◌, refl, sym, ap, ◌∙◌}
+use mathlib.Core.Path.{◌≡◌}
 use Prim.Native.Nat.{◌≤◌, ◌-◌}
-use lib.ListN.{length, set, length-set}
-use Rattle.words.proofs.Rows.{cleared, clear_none, clear_more, clear_all}
+use lib.ListN.{length}
+use Rattle.words.proofs.Rows.{cleared}
 use Rattle.load_storage.specs.Storage.{zero_symbol}
-use borrow.Author.Rules.{rules}
-use native.Mathlib.Omega.{arith}
 use Rattle.load_storage.proofs.clear_symbols.Given as goal
 
 abbrev pub invariant-loop-i : goal.invariant-loop-i

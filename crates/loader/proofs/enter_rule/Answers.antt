@@ -1,7 +1,6 @@
 -- `enter_rule` meets its contract: the premises are passed over to find the conclusion.
 use Rattle.names.specs.Standing.{parsed_stands}
 use Rattle.loader.proofs.JudgmentLaws.{premises_number, premises_few, conclusion_at, rule_ends}
-use borrow.Author.Rules.{rules}
 use Rattle.loader.proofs.enter_rule.Goals as goal
 
 pub skip-here-requires : goal.skip-here-requires

@@ -2,7 +2,6 @@
 use mathlib.Core.Path.{refl, sym, ◌∙◌}
 use Rattle.source_text.specs.Parts.{part_of}
 use Rattle.loader.proofs.EntryLaws.{sort_taken, sort_new, sort_full}
-use borrow.Author.Rules.{rules}
 use native.Mathlib.Omega.{arith}
 use Rattle.loader.proofs.enter_sort.Goals as goal
 
@@ -11,8 +10,11 @@ returns-then-is_taken c =
     let args = c.args in
     let pre = c.requires in
     let is-taken = c.is_taken in
-    let if1 = c.if-is_taken in record { value = sort_taken (args.text.now) (args.sorts.now) (args.many) (args.symbols.now) (args.count) (omega arith) (pre.2) (part_of (args.text.now) (args.start) (args.size)) (sym (is-taken.ensures)
-          ∙ if1.true); sorts_after = refl }
+    let if1 = c.if-is_taken in record {
+      value = sort_taken (args.text.now) (args.sorts.now) (args.many) (args.symbols.now) (args.count) (omega arith) (pre.2) (part_of (args.text.now) (args.start) (args.size)) (sym (is-taken.ensures)
+          ∙ if1.true);
+      sorts_after = refl;
+    }
 
 pub returns-then-many-lt-SORTS : goal.returns-then-many-lt-SORTS
 returns-then-many-lt-SORTS c =
@@ -20,8 +22,11 @@ returns-then-many-lt-SORTS c =
     let pre = c.requires in
     let is-taken = c.is_taken in
     let if1 = c.if-is_taken in
-    let if2 = c.if-many-lt-SORTS in record { value = sort_new (args.text.now) (args.sorts.now) (args.many) (args.symbols.now) (args.count) (omega arith) (pre.2) (part_of (args.text.now) (args.start) (args.size)) (sym (is-taken.ensures)
-          ∙ if1.false) if2.true; sorts_after = refl }
+    let if2 = c.if-many-lt-SORTS in record {
+      value = sort_new (args.text.now) (args.sorts.now) (args.many) (args.symbols.now) (args.count) (omega arith) (pre.2) (part_of (args.text.now) (args.start) (args.size)) (sym (is-taken.ensures)
+          ∙ if1.false) if2.true;
+      sorts_after = refl;
+    }
 
 pub returns : goal.returns
 returns c =
@@ -29,5 +34,8 @@ returns c =
     let pre = c.requires in
     let is-taken = c.is_taken in
     let if1 = c.if-is_taken in
-    let if2 = c.if-many-lt-SORTS in record { value = sort_full (args.text.now) (args.sorts.now) (args.many) (args.symbols.now) (args.count) (omega arith) (pre.2) (part_of (args.text.now) (args.start) (args.size)) (sym (is-taken.ensures)
-          ∙ if1.false) if2.false; sorts_after = refl }
+    let if2 = c.if-many-lt-SORTS in record {
+      value = sort_full (args.text.now) (args.sorts.now) (args.many) (args.symbols.now) (args.count) (omega arith) (pre.2) (part_of (args.text.now) (args.start) (args.size)) (sym (is-taken.ensures)
+          ∙ if1.false) if2.false;
+      sorts_after = refl;
+    }

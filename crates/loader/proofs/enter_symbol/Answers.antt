@@ -9,7 +9,6 @@ use Rattle.loader.specs.Arrows.{names_at}
 use Rattle.loader.specs.SymbolEntry.{arrow_refusal}
 use Rattle.loader.proofs.SymbolLaws.{arrow_count, arrow_unknown, arrow_known, inputs_count, row_is, not_refused, same_numbers}
 use Rattle.patterns.proofs.Terms.{symbols_length}
-use borrow.Author.Rules.{rules}
 use native.Mathlib.Omega.{arith}
 use Rattle.loader.proofs.enter_symbol.Goals as goal
 

@@ -1,11 +1,9 @@
 -- `find_arrow` meets its contract. The loop's invariant: the numbers of the first i names are known, and written as far as there is room.
 use mathlib.Core.Path.{sym, ap, ◌∙◌}
-use Prim.Native.Nat.{◌≤◌, ◌-◌}
+use Prim.Native.Nat.{◌-◌}
 use Rattle.names.specs.Names.{Name}
 use Rattle.names.specs.Symbols.{sorts_of, sort_number}
-use Rattle.loader.specs.Arrows.{names_at}
-use Rattle.loader.proofs.ArrowLaws.{Sofar, sofar_none, sofar_more, one_unknown, all_known_lem}
-use borrow.Author.Rules.{rules}
+use Rattle.loader.proofs.ArrowLaws.{sofar_none, sofar_more, one_unknown, all_known_lem}
 use native.Mathlib.Omega.{arith}
 use Rattle.loader.proofs.find_arrow.Goals as goal
 

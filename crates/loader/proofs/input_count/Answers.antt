@@ -1,6 +1,5 @@
 -- `input_count` meets its contract.
 use mathlib.Core.Path.{refl}
-use borrow.Author.Rules.{rules}
 use native.Mathlib.Omega.{arith}
 use Rattle.loader.proofs.input_count.Goals as goal
 

@@ -4,7 +4,6 @@ use Rattle.source_text.specs.Parts.{part_of}
 use Rattle.names.specs.Names.{Name}
 use Rattle.names.specs.Symbols.{sorts_of, symbols_of, sort_number, symbol_number}
 use Rattle.loader.proofs.EntryLaws.{is_sort, no_sort}
-use borrow.Author.Rules.{rules}
 use Rattle.loader.proofs.is_taken.Goals as goal
 
 pub returns-then-find_sort-many : goal.returns-then-find_sort-many

@@ -1,7 +1,6 @@
 -- `put_input` meets its contract.
 use mathlib.Core.Path.{sym}
 use lib.Seq.{set_out}
-use borrow.Author.Rules.{rules}
 use Rattle.loader.proofs.put_input.Goals as goal
 
 pub returns-else-i-inputs : goal.returns-else-i-inputs

@@ -1,12 +1,11 @@
 -- `put_inputs` meets its contract. The loop's invariant: the first j inputs are written.
 use mathlib.Core.Path.{◌≡◌, sym, ap, ◌∙◌}
 use mathlib.Core.List.{[]}
-use Prim.Native.Nat.{◌≤◌, ◌-◌}
-use lib.ListN.{length, take, set, length-set}
-use lib.Seq.{sets, set-get_or}
+use Prim.Native.Nat.{◌-◌}
+use lib.ListN.{length, set, length-set}
+use lib.Seq.{set-get_or}
 use Rattle.names.specs.Symbols.{row_at}
 use Rattle.rules.proofs.RowLaws.{sets_next, column_written}
-use borrow.Author.Rules.{rules}
 use native.Mathlib.Omega.{arith}
 use Rattle.loader.proofs.put_inputs.Goals as goal
 

@@ -5,7 +5,6 @@ use Prim.Native.Nat.{ℕ}
 use lib.ListN.{length, take, length-set}
 use lib.Seq.{sets}
 use Rattle.rules.proofs.RowLaws.{over, still_there}
-use borrow.Author.Rules.{rules}
 use Rattle.loader.proofs.put_symbol.Goals as goal
 
 pub put_inputs-requires : goal.put_inputs-requires

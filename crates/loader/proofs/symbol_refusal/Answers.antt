@@ -2,7 +2,6 @@
 use mathlib.Core.Path.{sym, ◌∙◌}
 use Rattle.source_text.specs.Parts.{part_of}
 use Rattle.loader.proofs.EntryLaws.{symbol_taken, symbol_wide, symbol_new, symbol_full}
-use borrow.Author.Rules.{rules}
 use Rattle.loader.proofs.symbol_refusal.Goals as goal
 
 pub returns-then-is_taken : goal.returns-then-is_taken

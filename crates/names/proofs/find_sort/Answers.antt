@@ -1,11 +1,9 @@
 -- `find_sort` meets its contract. The loop's invariant: no row before the place i has the name.
-use mathlib.Core.Path.{◌≡◌, sym, ◌∙◌}
-use Prim.Native.Nat.{◌≤◌, ◌+◌, ◌-◌}
-use lib.ListN.{drop}
+use mathlib.Core.Path.{sym, ◌∙◌}
+use Prim.Native.Nat.{◌-◌}
 use Rattle.names.specs.Names.{Name}
-use Rattle.names.specs.Symbols.{sort_of, sorts_of, sort_number}
+use Rattle.names.specs.Symbols.{sort_of, sorts_of}
 use Rattle.names.specs.SearchLaws.{row_hit, row_step, row_end}
-use borrow.Author.Rules.{rules}
 use native.Mathlib.Omega.{arith}
 use Rattle.names.proofs.find_sort.Goals as goal
 

@@ -1,11 +1,8 @@
 -- `find_symbol` meets its contract. The loop's invariant: no row before the place i has the name.
-use mathlib.Core.Path.{◌≡◌, sym, ◌∙◌}
+use mathlib.Core.Path.{◌≡◌}
 use Prim.Native.Nat.{◌≤◌, ◌+◌, ◌-◌}
 use lib.ListN.{drop}
-use Rattle.names.specs.Symbols.{Symbol, symbol_of, symbols_of, symbol_number}
-use Rattle.names.specs.SearchLaws.{row_hit, row_step, row_end}
-use borrow.Author.Rules.{rules}
-use native.Mathlib.Omega.{arith}
+use Rattle.names.specs.Symbols.{symbols_of, symbol_number}
 use Rattle.names.proofs.find_symbol.Given as goal
 
 abbrev pub invariant-loop-i : goal.invariant-loop-i

@@ -1,11 +1,9 @@
 -- `find_variable` meets its contract. The loop's invariant: no row before the place i has the name.
-use mathlib.Core.Path.{◌≡◌, sym, ◌∙◌}
-use Prim.Native.Nat.{◌≤◌, ◌+◌, ◌-◌}
-use lib.ListN.{drop}
-use Rattle.names.specs.Symbols.{Variable, variable_of, variables_of, variable_number}
+use mathlib.Core.Path.{sym, ◌∙◌}
+use Prim.Native.Nat.{◌-◌}
+use Rattle.names.specs.Symbols.{Variable, variable_of, variables_of}
 use Rattle.names.specs.Names.{name_in}
 use Rattle.names.specs.SearchLaws.{row_hit, row_step, row_end}
-use borrow.Author.Rules.{rules}
 use native.Mathlib.Omega.{arith}
 use Rattle.names.proofs.find_variable.Goals as goal
 

@@ -3,7 +3,6 @@ use mathlib.Core.Path.{ap, ◌∙◌}
 use Rattle.source_text.specs.Bytes.{same_bytes}
 use Rattle.names.specs.Names.{Name}
 use Rattle.names.proofs.Lengths.{other_length}
-use borrow.Author.Rules.{rules}
 use Rattle.names.proofs.is_called.Goals as goal
 
 pub returns-then-w-gt0 : goal.returns-then-w-gt0

@@ -1,6 +1,5 @@
 -- `is_named` meets its contract: the name is one of flattening, or a word of the text.
 use borrow.Author.Tests.{eq-eqb, ne_eqb}
-use borrow.Author.Rules.{rules}
 use Rattle.names.proofs.is_named.Goals as goal
 
 pub returns-then-kind-eq-RESULT : goal.returns-then-kind-eq-RESULT

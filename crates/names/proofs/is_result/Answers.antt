@@ -2,7 +2,6 @@
 use mathlib.Core.Path.{ap, ◌∙◌}
 use Rattle.source_text.specs.Bytes.{same_bytes}
 use Rattle.names.specs.Names.{Name, result_names}
-use borrow.Author.Rules.{rules}
 use Rattle.names.proofs.is_result.Goals as goal
 
 pub returns : goal.returns

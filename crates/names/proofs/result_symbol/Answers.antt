@@ -2,7 +2,6 @@
 use mathlib.Core.Path.{ap, ◌∙◌}
 use Rattle.names.specs.Names.{Name, result_names}
 use Rattle.names.specs.Symbols.{symbols_of, symbol_number}
-use borrow.Author.Rules.{rules}
 use Rattle.names.proofs.result_symbol.Goals as goal
 
 pub returns : goal.returns

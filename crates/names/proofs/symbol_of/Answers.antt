@@ -3,7 +3,6 @@ use mathlib.Core.Path.{ap, ◌∙◌}
 use borrow.Author.Tests.{eq-eqb, ne_eqb}
 use Rattle.names.specs.Names.{Name}
 use Rattle.names.specs.Symbols.{symbols_of, symbol_number}
-use borrow.Author.Rules.{rules}
 use Rattle.names.proofs.symbol_of.Goals as goal
 
 pub returns-then-kind-eq-RESULT : goal.returns-then-kind-eq-RESULT

@@ -2,7 +2,6 @@
 use native.Mathlib.Omega.{arith}
 use Rattle.term_parser.proofs.Readers.{moved}
 use Rattle.parser.proofs.StorageLaws.{over, few, parse_short, parse_end, parse_absent, parse_refused}
-use borrow.Author.Rules.{rules}
 use Rattle.parser.proofs.parse.Goals as goal
 
 pub returns-then-tokens-gt65536 : goal.returns-then-tokens-gt65536

@@ -5,7 +5,6 @@ use Prim.Native.Nat.{◌≤◌}
 use lib.ListN.{length}
 use Rattle.words.specs.Lexer.{capped_of}
 use Rattle.parser.proofs.StorageLaws.{text_short, short_tokens, short_rows, text_unread, tokens_in, text_parsed, text_refused}
-use borrow.Author.Rules.{rules}
 use Rattle.parser.proofs.parse_text.Goals as goal
 
 pub returns-then-tokens-limit : goal.returns-then-tokens-limit

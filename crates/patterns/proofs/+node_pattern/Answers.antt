@@ -1,6 +1,6 @@
 -- `pattern` and `node` meet their contracts. What falls: twice the rows left, and 1 more for `node`. The invariant of `node`'s loop: k arguments are done,
 -- and the rest comes to what the whole comes to.
-use Prim.Native.Nat.{ℕ, ◌<◌, ◌+◌, ◌*◌, ◌-◌}
+use Prim.Native.Nat.{◌+◌, ◌-◌}
 use mathlib.Core.List.{[]}
 use mathlib.Core.Path.{◌≡◌, refl, sym, ap, ◌∙◌}
 use lib.ListN.{length, take}
@@ -11,10 +11,8 @@ use Rattle.patterns.specs.Patterns.{pattern_of, Out}
 use Rattle.patterns.specs.Promises.{stored}
 use Rattle.patterns.proofs.Symbols.{misfit_args}
 use Rattle.patterns.proofs.Places.{placed_variable, placed_none, placed_node}
-use Rattle.patterns.proofs.Terms.{input_at, symbols_length, Looped, inputs_at, loop_start, loop_refused, loop_turn, loop_done, node_misfit, node_full, node_open, app_refused, node_done, out_of_rows, is_numeral_lem, is_meta, is_node, is_unknown, is_judgment, is_variable}
-use borrow.Author.Rules.{rules}
+use Rattle.patterns.proofs.Terms.{input_at, symbols_length, inputs_at, loop_start, loop_refused, loop_turn, loop_done, node_misfit, node_full, node_open, app_refused, node_done, out_of_rows, is_numeral_lem, is_meta, is_node, is_unknown, is_judgment, is_variable}
 use native.Mathlib.Omega.{arith}
-use Prim.Native.Nat.{ℕ, ◌<◌}
 use Rattle.patterns.proofs.+node_pattern.Goals as goal
 
 pub node-returns-then-e-ne0 : goal.node-returns-then-e-ne0

@@ -6,7 +6,6 @@ use Rattle.names.specs.Names.{name_of}
 use Rattle.names.specs.Symbols.{variables_of, variable_number}
 use Rattle.patterns.proofs.Variables.{sort_set, sort_none, sort_same, sort_other, var_new, var_full}
 use Rattle.patterns.proofs.Places.{placed_kept, placed_sort, placed_new}
-use borrow.Author.Rules.{rules}
 use native.Mathlib.Omega.{arith}
 use Rattle.patterns.proofs.enter.Goals as goal
 

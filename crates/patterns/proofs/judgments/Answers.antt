@@ -3,8 +3,7 @@ use mathlib.Core.List.{[]}
 use mathlib.Core.Path.{sym, ◌∙◌}
 use Prim.Native.Nat.{◌-◌}
 use Rattle.names.specs.Symbols.{symbols_of}
-use Rattle.patterns.proofs.Terms.{Looped, loop_start, loop_refused, loop_turn, loop_done, nothing_asked}
-use borrow.Author.Rules.{rules}
+use Rattle.patterns.proofs.Terms.{loop_start, loop_refused, loop_turn, loop_done, nothing_asked}
 use native.Mathlib.Omega.{arith}
 use Rattle.patterns.proofs.judgments.Goals as goal
 

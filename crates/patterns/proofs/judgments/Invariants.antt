@@ -1,11 +1,8 @@
 -- `judgments` meets its contract. The loop's invariant: k judgments are done, and the rest comes to what the whole comes to.
 use mathlib.Core.List.{[]}
-use mathlib.Core.Path.{sym, ◌∙◌}
 use Prim.Native.Nat.{◌-◌}
 use Rattle.names.specs.Symbols.{symbols_of}
-use Rattle.patterns.proofs.Terms.{Looped, loop_start, loop_refused, loop_turn, loop_done, nothing_asked}
-use borrow.Author.Rules.{rules}
-use native.Mathlib.Omega.{arith}
+use Rattle.patterns.proofs.Terms.{Looped}
 use Rattle.patterns.proofs.judgments.Given as goal
 
 abbrev pub invariant-loop-k : goal.invariant-loop-k

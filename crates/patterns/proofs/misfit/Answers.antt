@@ -1,7 +1,6 @@
 -- `misfit` meets its contract: one law for each way out.
 use Rattle.names.specs.Symbols.{row_at, column}
 use Rattle.patterns.proofs.Symbols.{no_fun, no_term, misfit_22, misfit_23, misfit_21, misfit_0}
-use borrow.Author.Rules.{rules}
 use Rattle.patterns.proofs.misfit.Goals as goal
 use Rattle.patterns.proofs.misfit.Goals.{then-symbols-i-eq1+else-want-gt0, else-symbols-i-eq1}
 

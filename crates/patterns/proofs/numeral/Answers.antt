@@ -3,7 +3,6 @@ use mathlib.Core.Path.{refl}
 use Prim.Native.Nat.{◌<◌}
 use Rattle.names.specs.Symbols.{variables_of}
 use Rattle.patterns.proofs.Numerals.{no_zero, zero_pred, no_succ, succ_pred, number_refused, number_room, number_done}
-use borrow.Author.Rules.{rules}
 use native.Mathlib.Omega.{arith}
 use Rattle.patterns.proofs.numeral.Goals as goal
 

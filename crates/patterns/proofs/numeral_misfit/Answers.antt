@@ -1,11 +1,9 @@
 -- `numeral_misfit` meets its contract. The loop's invariant: what is left is refused for the same.
 use mathlib.Core.Path.{◌≡◌, refl, sym, ap, ◌∙◌}
-use mathlib.Core.List.{List}
-use Prim.Native.Nat.{ℕ, ◌-◌}
+use Prim.Native.Nat.{◌-◌}
 use Rattle.names.specs.Symbols.{row_at, symbol_of}
 use Rattle.patterns.specs.Promises.{refusal}
 use Rattle.patterns.proofs.Numerals.{refuse_step, full_step, next_step, refuse_end, full_end, none_end, one_input}
-use borrow.Author.Rules.{rules}
 use native.Mathlib.Omega.{arith}
 use Rattle.patterns.proofs.numeral_misfit.Goals as goal
 

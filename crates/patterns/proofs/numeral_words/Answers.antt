@@ -1,12 +1,10 @@
 -- `numeral_words` meets its contract. The loop's invariant: k times `succ` on `zero` are laid.
 use mathlib.Core.Path.{◌≡◌, refl, sym, ap, ◌∙◌}
-use mathlib.Core.List.{List, [], ◌∷◌}
-use Prim.Native.Nat.{ℕ, ◌≤◌, ◌+◌, ◌-◌, ◌*◌}
+use mathlib.Core.List.{[], ◌∷◌}
+use Prim.Native.Nat.{◌+◌, ◌-◌, ◌*◌}
 use lib.ListN.{length, set, length-set}
-use Rattle.patterns.specs.Laying.{lay, laid}
-use Rattle.patterns.specs.Promises.{tower}
+use Rattle.patterns.specs.Laying.{laid}
 use Rattle.patterns.proofs.Numerals.{tower_start, tower_step}
-use borrow.Author.Rules.{rules}
 use native.Mathlib.Omega.{arith}
 use Rattle.patterns.proofs.numeral_words.Goals as goal
 

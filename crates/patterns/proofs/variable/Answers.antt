@@ -2,7 +2,6 @@
 use mathlib.Core.Path.{refl}
 use Rattle.patterns.proofs.Variables.{grew, variable_refused, variable_full, variable_node}
 use Rattle.patterns.proofs.Places.{placed_entry}
-use borrow.Author.Rules.{rules}
 use native.Mathlib.Omega.{arith}
 use Rattle.patterns.proofs.variable.Goals as goal
 

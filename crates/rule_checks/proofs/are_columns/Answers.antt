@@ -1,8 +1,6 @@
 -- `are_columns` meets its contract: it tells whether the columns are in form.
 -- Each way out is one of the tests of the columns.
-use borrow.Author.Tests.{not-true, not-false}
 use Rattle.unifier.specs.Checking.{tells_no, tells_false}
-use borrow.Author.Rules.{rules}
 use Rattle.rule_checks.proofs.are_columns.Goals as goal
 
 pub returns-then-not-are_zeros : goal.returns-then-not-are_zeros

@@ -1,8 +1,6 @@
 -- `are_numbers` meets its contract: it tells whether the ten numbers are in form.
 -- Each way out is one of the numbers.
-use borrow.Author.Tests.{not-true, not-false}
 use Rattle.unifier.specs.Checking.{tells_no, tells_false}
-use borrow.Author.Rules.{rules}
 use native.Mathlib.Omega.{arith}
 use Rattle.rule_checks.proofs.are_numbers.Goals as goal
 

@@ -1,10 +1,8 @@
 -- `are_parts` meets its contract: it tells whether words and references are in form.
 -- Each way out is one of the tests of words and references.
 use mathlib.Core.Path.{sym, ◌∙◌}
-use borrow.Author.Tests.{not-true, not-false}
 use Rattle.terms.specs.Numbers.{true_false}
 use Rattle.unifier.specs.Checking.{tells_no, tells_false}
-use borrow.Author.Rules.{rules}
 use Rattle.rule_checks.proofs.are_parts.Goals as goal
 
 pub returns-then-not-check_words : goal.returns-then-not-check_words

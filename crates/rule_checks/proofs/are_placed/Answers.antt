@@ -1,12 +1,11 @@
 -- `are_placed` meets its contract: it tells whether each variable among the words has a place.
 -- The loop's invariant: the variables among the words passed have places.
-use mathlib.Core.Logic.{◌≢◌, ⊎_elim}
-use Prim.Native.Nat.{ℕ, ◌-◌, ◌≤◌, ◌<◌}
+use mathlib.Core.Logic.{◌≢◌}
+use Prim.Native.Nat.{◌-◌, ◌≤◌, ◌<◌}
 use lib.ListN.{get_or}
 use borrow.Author.Count.{below_more}
 use Rattle.arena.specs.Copies.{pattern_room}
 use Rattle.unifier.specs.Checking.{tells_yes, tells_no}
-use borrow.Author.Rules.{rules}
 use native.Mathlib.Omega.{arith}
 use Rattle.rule_checks.proofs.are_placed.Goals as goal
 use Rattle.rule_checks.proofs.are_placed.Goals.{then-word-lt-ROOM+else-places-word-eq-ROOM, else-word-lt-ROOM}

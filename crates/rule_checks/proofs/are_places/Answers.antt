@@ -1,7 +1,7 @@
 -- `are_places` meets its contract: it tells whether the row has the table's places.
 -- The loop's invariant: the places passed are the row's.
 use mathlib.Core.Path.{◌≡◌}
-use Prim.Native.Nat.{ℕ, ◌+◌, ◌-◌, ◌<◌}
+use Prim.Native.Nat.{◌+◌, ◌-◌}
 use lib.ListN.{get_or}
 use borrow.Author.Count.{below_more}
 use Rattle.names.specs.Symbols.{row_at, column}

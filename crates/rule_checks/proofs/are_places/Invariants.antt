@@ -3,11 +3,8 @@
 use mathlib.Core.Path.{◌≡◌}
 use Prim.Native.Nat.{ℕ, ◌+◌, ◌-◌, ◌<◌}
 use lib.ListN.{get_or}
-use borrow.Author.Count.{below_more}
 use Rattle.names.specs.Symbols.{row_at, column}
-use Rattle.unifier.specs.Checking.{tells_yes, tells_no}
 use borrow.Author.Rules.{rules}
-use native.Mathlib.Omega.{arith}
 use Rattle.rule_checks.proofs.are_places.Given as goal
 
 abbrev pub invariant-loop-x : goal.invariant-loop-x

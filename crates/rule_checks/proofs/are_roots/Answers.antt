@@ -2,9 +2,8 @@
 -- The loop's invariant: the references passed are of the part.
 use mathlib.Core.Path.{◌≡◌, sym, ◌∙◌}
 use mathlib.Core.Bool.{true}
-use Prim.Native.Nat.{ℕ, ◌+◌, ◌-◌, ◌<◌}
+use Prim.Native.Nat.{◌+◌, ◌-◌}
 use borrow.Author.Count.{below_more}
-use borrow.Author.Tests.{not-true, not-false}
 use Rattle.terms.specs.Numbers.{true_false}
 use Rattle.arena.specs.Form.{is_argument}
 use Rattle.names.specs.Symbols.{row_at, column}

@@ -1,17 +1,12 @@
 -- `are_roots` meets its contract: it tells whether the premises' references are of the part.
 -- The loop's invariant: the references passed are of the part.
-use mathlib.Core.Path.{◌≡◌, sym, ◌∙◌}
+use mathlib.Core.Path.{◌≡◌}
 use mathlib.Core.Bool.{true}
 use Prim.Native.Nat.{ℕ, ◌+◌, ◌-◌, ◌<◌}
-use borrow.Author.Count.{below_more}
-use borrow.Author.Tests.{not-true, not-false}
-use Rattle.terms.specs.Numbers.{true_false}
 use Rattle.arena.specs.Form.{is_argument}
 use Rattle.names.specs.Symbols.{row_at, column}
-use Rattle.unifier.specs.Checking.{tells_yes, tells_no}
 use Rattle.rule_checks.specs.Steps.{place_from}
 use borrow.Author.Rules.{rules}
-use native.Mathlib.Omega.{arith}
 use Rattle.rule_checks.proofs.are_roots.Given as goal
 
 abbrev pub invariant-loop-j : goal.invariant-loop-j

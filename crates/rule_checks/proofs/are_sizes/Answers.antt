@@ -1,7 +1,6 @@
 -- `are_sizes` meets its contract: it tells whether the words are few and there.
 -- What is left is compared with each size in turn, so that no sum can wrap.
 use Rattle.unifier.specs.Checking.{tells_yes, tells_no}
-use borrow.Author.Rules.{rules}
 use native.Mathlib.Omega.{arith}
 use Rattle.rule_checks.proofs.are_sizes.Goals as goal
 

@@ -1,6 +1,6 @@
 -- `are_sorts` meets its contract: it tells whether each variable has a sort that there is.
 -- The loop's invariant: the variables passed have sorts that there are.
-use Prim.Native.Nat.{ℕ, ◌+◌, ◌-◌, ◌≤◌, ◌<◌}
+use Prim.Native.Nat.{◌+◌, ◌-◌, ◌≤◌, ◌<◌}
 use borrow.Author.Count.{below_more}
 use Rattle.names.specs.Symbols.{row_at, column}
 use Rattle.unifier.specs.Checking.{tells_yes, tells_no}

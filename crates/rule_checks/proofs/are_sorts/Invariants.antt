@@ -1,11 +1,8 @@
 -- `are_sorts` meets its contract: it tells whether each variable has a sort that there is.
 -- The loop's invariant: the variables passed have sorts that there are.
 use Prim.Native.Nat.{ℕ, ◌+◌, ◌-◌, ◌≤◌, ◌<◌}
-use borrow.Author.Count.{below_more}
 use Rattle.names.specs.Symbols.{row_at, column}
-use Rattle.unifier.specs.Checking.{tells_yes, tells_no}
 use borrow.Author.Rules.{rules}
-use native.Mathlib.Omega.{arith}
 use Rattle.rule_checks.proofs.are_sorts.Given as goal
 
 abbrev pub invariant-loop-j : goal.invariant-loop-j

@@ -1,7 +1,7 @@
 -- `are_zeros` meets its contract: it tells whether some columns are zero.
 -- The loop's invariant: the columns passed are zero.
 use mathlib.Core.Path.{◌≡◌}
-use Prim.Native.Nat.{ℕ, ◌+◌, ◌-◌, ◌≤◌, ◌<◌}
+use Prim.Native.Nat.{◌+◌, ◌-◌, ◌≤◌}
 use borrow.Author.Count.{below_more}
 use Rattle.names.specs.Symbols.{row_at, column}
 use Rattle.unifier.specs.Checking.{tells_yes, tells_no}

@@ -2,11 +2,8 @@
 -- The loop's invariant: the columns passed are zero.
 use mathlib.Core.Path.{◌≡◌}
 use Prim.Native.Nat.{ℕ, ◌+◌, ◌-◌, ◌≤◌, ◌<◌}
-use borrow.Author.Count.{below_more}
 use Rattle.names.specs.Symbols.{row_at, column}
-use Rattle.unifier.specs.Checking.{tells_yes, tells_no}
 use borrow.Author.Rules.{rules}
-use native.Mathlib.Omega.{arith}
 use Rattle.rule_checks.proofs.are_zeros.Given as goal
 
 abbrev pub invariant-loop-j : goal.invariant-loop-j

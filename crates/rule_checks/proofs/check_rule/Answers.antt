@@ -1,6 +1,5 @@
 -- `check_rule` meets its contract: it tells whether the row and the words are in form.
 -- Each way out is one step of the test, and the steps together are the form.
-use borrow.Author.Tests.{not-true, not-false}
 use Rattle.names.specs.Symbols.{row_at}
 use Rattle.unifier.specs.Checking.{tells_false}
 use Rattle.rule_checks.proofs.ListedLaws.{checked_bad, checked_good, listed_numbers, listed_columns, listed_parts, listed_order, listed_places, order_asked, walkable}

@@ -3,7 +3,6 @@
 use mathlib.Core.Path.{sym, ap, ◌∙◌}
 use mathlib.Core.List.{[]}
 use lib.ListN.{length}
-use borrow.Author.Tests.{not-true, not-false}
 use Rattle.meeting.specs.Places.{numbers_below}
 use Rattle.meeting.specs.PlaceLaws.{order_list, list_order}
 use Rattle.names.specs.Symbols.{row_at}

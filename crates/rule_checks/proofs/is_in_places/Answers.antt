@@ -2,7 +2,6 @@
 -- The conclusion and then the premises, the last first, are met in a new table.
 use mathlib.Core.Path.{sym, ◌∙◌}
 use mathlib.Core.List.{[]}
-use borrow.Author.Tests.{not-true, not-false}
 use Rattle.names.specs.Symbols.{row_at}
 use Rattle.unifier.specs.Checking.{tells_no, tells_false}
 use Rattle.rule_checks.specs.Steps.{conclusion_of}

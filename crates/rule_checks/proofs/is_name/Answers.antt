@@ -4,7 +4,6 @@ use Prim.Native.Nat.{◌+◌}
 use lib.ListN.{length}
 use borrow.Author.Tests.{leb-true, le-leb}
 use Rattle.unifier.specs.Checking.{tells_no}
-use borrow.Author.Rules.{rules}
 use native.Mathlib.Omega.{arith}
 use Rattle.rule_checks.proofs.is_name.Goals as goal
 

@@ -1,7 +1,6 @@
 -- `walk` meets its contract: the variables of the term are met.
 -- The term is never too large, so that the walk is never stopped.
 use Rattle.meeting.specs.WalkLaws.{walked_over, walked_places}
-use borrow.Author.Rules.{rules}
 use native.Mathlib.Omega.{arith}
 use Rattle.rule_checks.proofs.walk.Goals as goal
 

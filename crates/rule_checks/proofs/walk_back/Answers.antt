@@ -1,11 +1,10 @@
 -- `walk_back` meets its contract: the variables of the premises are met, the last premise first.
 -- The loop's invariant: the premises from number k on are met.
 use mathlib.Core.Path.{◌≡◌, refl, ◌∙◌}
-use Prim.Native.Nat.{◌-◌, ◌≤◌}
-use lib.ListN.{length}
+use Prim.Native.Nat.{◌-◌}
 use Rattle.meeting.specs.Contract.{term_of}
-use Rattle.names.specs.Symbols.{row_at, column}
-use Rattle.rule_checks.proofs.PremiseLaws.{Back, back_start, back_on, back_end}
+use Rattle.names.specs.Symbols.{row_at}
+use Rattle.rule_checks.proofs.PremiseLaws.{back_start, back_on, back_end}
 use borrow.Author.Rules.{rules}
 use native.Mathlib.Omega.{arith}
 use Rattle.rule_checks.proofs.walk_back.Goals as goal

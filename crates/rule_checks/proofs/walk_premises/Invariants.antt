@@ -1,16 +1,12 @@
 -- `walk_premises` meets its contract: the variables of premises of so many words are met.
 -- The loop's invariant: the premises passed are met, and their words are counted.
-use mathlib.Core.Path.{◌≡◌, refl, sym, ◌∙◌}
-use mathlib.Core.List.{[]}
+use mathlib.Core.Path.{◌≡◌}
 use Prim.Native.Nat.{◌-◌, ◌≤◌}
 use lib.ListN.{length}
 use Rattle.meeting.specs.Contract.{term_of}
-use Rattle.meeting.specs.WalkLaws.{walked_over, walked_places}
 use Rattle.names.specs.Symbols.{row_at}
-use Rattle.rule_checks.specs.Steps.{premises_of}
-use Rattle.rule_checks.proofs.PremiseLaws.{walked_differs, walked_fits, Going, going_start, going_on, going_over, going_words, going_records}
+use Rattle.rule_checks.proofs.PremiseLaws.{Going}
 use borrow.Author.Rules.{rules}
-use native.Mathlib.Omega.{arith}
 use Rattle.rule_checks.proofs.walk_premises.Given as goal
 
 abbrev pub invariant-loop-k : goal.invariant-loop-k

@@ -4,7 +4,6 @@ use mathlib.Core.Path.{sym, ◌∙◌}
 use Rattle.meeting.specs.WalkLaws.{walked_over, walked_places}
 use Rattle.meeting.specs.Contract.{term_of}
 use Rattle.rule_checks.proofs.PremiseLaws.{walked_differs, walked_fits}
-use borrow.Author.Rules.{rules}
 use native.Mathlib.Omega.{arith}
 use Rattle.rule_checks.proofs.walk_term.Goals as goal
 

@@ -1,12 +1,7 @@
 -- `all_known` meets its contract. The loop's invariant: all sorts are known exactly when those from i on are.
-use mathlib.Core.Path.{◌≡◌, refl, sym, ◌∙◌}
-use mathlib.Core.List.{List}
-use Prim.Native.Nat.{ℕ, ◌≤◌, ◌-◌}
-use lib.ListN.{drop}
-use Rattle.names.specs.Symbols.{variables_of}
-use Rattle.rules.specs.Rules.{all_known}
+use mathlib.Core.Path.{refl, sym, ◌∙◌}
+use Prim.Native.Nat.{◌-◌}
 use Rattle.rules.proofs.JudgmentLaws.{known_step, known_not, known_end}
-use borrow.Author.Rules.{rules}
 use native.Mathlib.Omega.{arith}
 use Rattle.rules.proofs.all_known.Goals as goal
 

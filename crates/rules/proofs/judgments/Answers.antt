@@ -3,7 +3,6 @@ use mathlib.Core.List.{[]}
 use Rattle.names.specs.Symbols.{symbols_of, variables_of}
 use Rattle.patterns.specs.Patterns.{pattern_of}
 use Rattle.rules.proofs.JudgmentLaws.{premises_refused, conclusion_refused, both_done, judged_bounds, made_bounds}
-use borrow.Author.Rules.{rules}
 use native.Mathlib.Omega.{arith}
 use Rattle.rules.proofs.judgments.Goals as goal
 

@@ -9,7 +9,6 @@ use Rattle.rules.proofs.RowLaws.{sorts_in, sorts_column, sorts_length}
 use Rattle.rules.proofs.KeepLaws.{order_asked, all_recorded, row_kept, title_at_lem}
 use Rattle.rules.proofs.ExactLaws.{places_exact, row_exact}
 use native.Mathlib.Omega.{arith}
-use borrow.Author.Rules.{rules}
 use Rattle.rules.proofs.keep.Goals as goal
 
 pub order_sized-counts-requires : goal.order_sized-counts-requires

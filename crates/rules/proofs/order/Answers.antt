@@ -1,12 +1,10 @@
 -- `order` meets its contract. The loop's invariant: the conclusion and the premises from number k on are met.
 use mathlib.Core.Path.{◌≡◌, refl, ◌∙◌}
 use mathlib.Core.List.{[]}
-use Prim.Native.Nat.{◌≤◌, ◌-◌}
-use lib.ListN.{length}
+use Prim.Native.Nat.{◌-◌}
 use Rattle.meeting.specs.Contract.{term_of}
 use Rattle.meeting.specs.PlaceLaws.{records_none}
-use Rattle.rules.proofs.OrderLaws.{MetFrom, met_none, met_more}
-use borrow.Author.Rules.{rules}
+use Rattle.rules.proofs.OrderLaws.{met_none, met_more}
 use native.Mathlib.Omega.{arith}
 use Rattle.rules.proofs.order.Goals as goal
 

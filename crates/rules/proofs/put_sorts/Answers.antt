@@ -1,11 +1,11 @@
 -- `put_sorts` meets its contract. The loop's invariant: the sorts of the first j variables are written.
 use mathlib.Core.Path.{◌≡◌, sym, ap, ◌∙◌}
-use mathlib.Core.List.{List, []}
-use Prim.Native.Nat.{ℕ, ◌≤◌, ◌-◌}
+use mathlib.Core.List.{[]}
+use Prim.Native.Nat.{◌-◌}
 use lib.ListN.{length, set, length-set}
-use lib.Seq.{sets, set-get_or}
+use lib.Seq.{set-get_or}
 use Rattle.names.specs.Symbols.{row_at, variables_of}
-use Rattle.rules.proofs.RowLaws.{sorts_in, sorts_next, column_written}
+use Rattle.rules.proofs.RowLaws.{sorts_next, column_written}
 use borrow.Author.Rules.{rules}
 use native.Mathlib.Omega.{arith}
 use Rattle.rules.proofs.put_sorts.Goals as goal

@@ -1,13 +1,12 @@
 -- `put_sorts` meets its contract. The loop's invariant: the sorts of the first j variables are written.
-use mathlib.Core.Path.{◌≡◌, sym, ap, ◌∙◌}
-use mathlib.Core.List.{List, []}
+use mathlib.Core.Path.{◌≡◌}
+use mathlib.Core.List.{List}
 use Prim.Native.Nat.{ℕ, ◌≤◌, ◌-◌}
-use lib.ListN.{length, set, length-set}
-use lib.Seq.{sets, set-get_or}
-use Rattle.names.specs.Symbols.{row_at, variables_of}
-use Rattle.rules.proofs.RowLaws.{sorts_in, sorts_next, column_written}
+use lib.ListN.{set}
+use lib.Seq.{sets}
+use Rattle.names.specs.Symbols.{row_at}
+use Rattle.rules.proofs.RowLaws.{sorts_in}
 use borrow.Author.Rules.{rules}
-use native.Mathlib.Omega.{arith}
 use Rattle.rules.proofs.put_sorts.Given as goal
 
 abbrev pub invariant-loop-j : goal.invariant-loop-j

@@ -6,8 +6,7 @@ use Rattle.term_parser.specs.Standing.{size}
 use Rattle.names.specs.Symbols.{symbols_of, variables_of}
 use Rattle.rules.specs.StoredRows.{titled}
 use Rattle.rules.specs.PatternLaws.{arities_of}
-use Rattle.rules.proofs.RuleLaws.{few_inputs, bounds, too_many, judgment_refused, bodied, not_known, rule_made, exactly, is_rule, made, lies, not_false, not_true}
-use borrow.Author.Rules.{rules}
+use Rattle.rules.proofs.RuleLaws.{few_inputs, bounds, too_many, judgment_refused, bodied, not_known, rule_made, exactly, is_rule, made, lies}
 use native.Mathlib.Omega.{arith}
 use Rattle.rules.proofs.rule.Goals as goal
 

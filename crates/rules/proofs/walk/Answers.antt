@@ -1,6 +1,5 @@
 -- `walk` meets its contract: a rule's term is never too large.
 use Rattle.meeting.specs.WalkLaws.{walked_over, walked_places}
-use borrow.Author.Rules.{rules}
 use native.Mathlib.Omega.{arith}
 use Rattle.rules.proofs.walk.Goals as goal
 

@@ -1,7 +1,6 @@
 -- `are_clauses_formed` meets its contract: the sum is computed in 64 bits, so it does not wrap.
 use Rattle.unifier.specs.Checking.{tells_yes, tells_no}
 use Rattle.signature.proofs.Laws.{by_eq}
-use borrow.Author.Rules.{rules}
 use native.Mathlib.Omega.{arith}
 use Rattle.signature.proofs.are_clauses_formed.Goals as goal
 

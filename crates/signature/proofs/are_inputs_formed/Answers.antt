@@ -1,12 +1,10 @@
 -- `are_inputs_formed` meets its contract. The loop's invariant: the first j columns are in form.
-use borrow.Author.Tests.{not-true}
 use Rattle.unifier.specs.Checking.{tells_yes, tells_no, tells_false}
 use Rattle.signature.proofs.Laws.{holds}
 use Rattle.names.specs.Symbols.{column, row_at}
 use Rattle.signature.specs.Parts.{InputFormed}
-use Prim.Native.Nat.{ℕ, ◌+◌, ◌≤◌, ◌<◌, ◌-◌}
+use Prim.Native.Nat.{◌+◌, ◌-◌}
 use borrow.Author.Count.{below_more}
-use borrow.Author.Rules.{rules}
 use native.Mathlib.Omega.{arith}
 use Rattle.signature.proofs.are_inputs_formed.Goals as goal
 

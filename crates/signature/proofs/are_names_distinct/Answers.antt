@@ -1,6 +1,5 @@
 -- `are_names_distinct` meets its contract: the names at the places that are written are those of sorts and symbols together.
 use Rattle.signature.proofs.NameLaws.{names_placed}
-use borrow.Author.Rules.{rules}
 use native.Mathlib.Omega.{arith}
 use Rattle.signature.proofs.are_names_distinct.Goals as goal
 

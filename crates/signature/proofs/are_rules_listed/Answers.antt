@@ -3,12 +3,9 @@
 use Rattle.unifier.specs.Checking.{tells_no}
 use Rattle.signature.proofs.Laws.{by_eq}
 use Rattle.signature.proofs.RuleLaws.{none_formed, none_listed, next_formed, one_more, here_listed, same_end, bad_good}
-use Rattle.arena.specs.Cells.{WellFormed, cells}
-use Rattle.arena.specs.Copies.{pattern_room}
 use Rattle.signature.specs.Parts.{RulesListed}
-use Prim.Native.Nat.{◌≤◌, ◌-◌}
+use Prim.Native.Nat.{◌-◌}
 use mathlib.Core.Path.{◌≡◌, refl, ◌∙◌}
-use lib.ListN.{length}
 use borrow.Author.Rules.{rules}
 use native.Mathlib.Omega.{arith}
 use Rattle.signature.proofs.are_rules_listed.Goals as goal

@@ -2,7 +2,6 @@
 use Rattle.signature.proofs.RuleLaws.{arities_of_lem}
 use Prim.Native.Nat.{◌-◌}
 use mathlib.Core.Path.{◌≡◌}
-use borrow.Author.Rules.{rules}
 use native.Mathlib.Omega.{arith}
 use Rattle.signature.proofs.are_rules_of.Goals as goal
 

@@ -1,10 +1,8 @@
 -- `check_signature` meets its contract: each test is one part of the form.
 -- Each way out is one part that does not hold.
-use borrow.Author.Tests.{not-true}
 use Rattle.unifier.specs.Checking.{tells_no, tells_false}
 use Rattle.signature.proofs.Laws.{holds, same}
 use Rattle.signature.proofs.FormLaws.{checked, sorts_there_lem, symbols_there_lem, rules_there_lem, listed, clauses_asked, listed_lent, listed_counted, listed_rules}
-use borrow.Author.Rules.{rules}
 use Rattle.signature.proofs.check_signature.Goals as goal
 
 pub returns-then-not-is_lent : goal.returns-then-not-is_lent

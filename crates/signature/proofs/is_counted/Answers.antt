@@ -3,7 +3,6 @@
 use Rattle.unifier.specs.Checking.{tells_no}
 use Rattle.signature.proofs.Laws.{by_le}
 use lib.ListN.{length}
-use borrow.Author.Rules.{rules}
 use native.Mathlib.Omega.{arith}
 use Rattle.signature.proofs.is_counted.Goals as goal
 

@@ -1,6 +1,5 @@
 -- `is_symbol_formed` meets its contract: each test is one part of the form.
 use Rattle.names.specs.Symbols.{row_at}
-use borrow.Author.Tests.{not-true}
 use Rattle.unifier.specs.Checking.{tells_no, tells_false}
 use Rattle.signature.proofs.Laws.{holds, same}
 use Rattle.signature.proofs.FormLaws.{row_formed, row_numbers, row_mark, row_clauses, row_inputs}

@@ -1,10 +1,9 @@
 -- `put_arities` meets its contract. The loop's invariant: the numbers of inputs of the first i symbols are written.
 use Rattle.names.specs.Symbols.{column, row_at}
-use Prim.Native.Nat.{ℕ, ◌≤◌, ◌<◌, ◌-◌}
-use lib.ListN.{length, get_or, length-set}
+use Prim.Native.Nat.{◌-◌}
+use lib.ListN.{length-set}
 use Rattle.signature.proofs.Laws.{written_next}
-use mathlib.Core.Path.{◌≡◌, refl, ◌∙◌}
-use borrow.Author.Rules.{rules}
+use mathlib.Core.Path.{refl, ◌∙◌}
 use native.Mathlib.Omega.{arith}
 use Rattle.signature.proofs.put_arities.Goals as goal
 

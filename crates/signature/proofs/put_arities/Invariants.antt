@@ -1,11 +1,8 @@
 -- `put_arities` meets its contract. The loop's invariant: the numbers of inputs of the first i symbols are written.
 use Rattle.names.specs.Symbols.{column, row_at}
 use Prim.Native.Nat.{ℕ, ◌≤◌, ◌<◌, ◌-◌}
-use lib.ListN.{length, get_or, length-set}
-use Rattle.signature.proofs.Laws.{written_next}
-use mathlib.Core.Path.{◌≡◌, refl, ◌∙◌}
-use borrow.Author.Rules.{rules}
-use native.Mathlib.Omega.{arith}
+use lib.ListN.{length, get_or}
+use mathlib.Core.Path.{◌≡◌}
 use Rattle.signature.proofs.put_arities.Given as goal
 
 abbrev pub invariant-loop-i : goal.invariant-loop-i

@@ -1,11 +1,10 @@
 -- `put_sorts` meets its contract. The loop's invariant: the places of the first i sorts are written.
-use Prim.Native.Nat.{ℕ, ◌≤◌, ◌<◌, ◌-◌}
-use mathlib.Core.Path.{◌≡◌, refl, ◌∙◌}
+use Prim.Native.Nat.{◌-◌}
+use mathlib.Core.Path.{refl, ◌∙◌}
 use mathlib.Core.List.{[]}
-use lib.ListN.{length, length-set}
+use lib.ListN.{length-set}
 use Rattle.names.specs.Symbols.{row_at}
 use Rattle.signature.proofs.Laws.{written_next}
-use borrow.Author.Rules.{rules}
 use native.Mathlib.Omega.{arith}
 use Rattle.signature.proofs.put_sorts.Goals as goal
 

@@ -1,12 +1,8 @@
 -- `put_sorts` meets its contract. The loop's invariant: the places of the first i sorts are written.
 use Prim.Native.Nat.{ℕ, ◌≤◌, ◌<◌, ◌-◌}
-use mathlib.Core.Path.{◌≡◌, refl, ◌∙◌}
-use mathlib.Core.List.{[]}
-use lib.ListN.{length, length-set}
+use mathlib.Core.Path.{◌≡◌}
+use lib.ListN.{length}
 use Rattle.names.specs.Symbols.{row_at}
-use Rattle.signature.proofs.Laws.{written_next}
-use borrow.Author.Rules.{rules}
-use native.Mathlib.Omega.{arith}
 use Rattle.signature.proofs.put_sorts.Given as goal
 
 abbrev pub invariant-loop-i : goal.invariant-loop-i

@@ -1,11 +1,8 @@
 -- `put_symbols` meets its contract. The loop's invariant: the places of the first i symbols are written.
 use Prim.Native.Nat.{◌≤◌, ◌-◌}
-use mathlib.Core.Path.{◌≡◌, refl, ◌∙◌}
-use lib.ListN.{length, length-set}
+use mathlib.Core.Path.{◌≡◌}
+use lib.ListN.{length}
 use Rattle.signature.specs.Parts.{SymbolsPut}
-use Rattle.signature.proofs.NameLaws.{none_put, more_put}
-use borrow.Author.Rules.{rules}
-use native.Mathlib.Omega.{arith}
 use Rattle.signature.proofs.put_symbols.Given as goal
 
 abbrev pub invariant-loop-i : goal.invariant-loop-i

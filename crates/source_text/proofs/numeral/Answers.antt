@@ -3,7 +3,6 @@
 use mathlib.Core.Path.{ap, ◌∙◌}
 use Rattle.source_text.specs.Numerals.{numeral_of}
 use Rattle.source_text.proofs.AnswerLaws.{numeral_read}
-use borrow.Author.Rules.{rules}
 use Rattle.source_text.proofs.numeral.Goals as goal
 
 pub returns : goal.returns

@@ -1,13 +1,12 @@
 -- `check_term` meets its contract: it answers where the term ends, exactly if there is one.
 -- The loop's invariant: there is a term exactly if what the table says is still to come stands in the rows from `p` on. The measure falls with each row
 -- that is passed, and with each level that is left.
-use Prim.Native.Nat.{◌+◌, ◌-◌, ◌*◌}
+use Prim.Native.Nat.{◌-◌}
 use native.Mathlib.Omega.{arith}
-use mathlib.Core.Path.{◌≡◌, refl, subst}
-use lib.ListN.{length, length-set}
-use Rattle.term_check.specs.Walk.{Topped, Walking}
+use mathlib.Core.Path.{refl, subst}
+use lib.ListN.{length-set}
+use Rattle.term_check.specs.Walk.{Topped}
 use Rattle.term_check.specs.WalkLaws.{walk_starts, walk_ends, walk_up, walk_short, walk_deep, walk_bad, walk_down}
-use borrow.Author.Rules.{rules}
 use Rattle.term_check.proofs.check_term.Goals as goal
 
 pub loop-d-init : goal.loop-d-init

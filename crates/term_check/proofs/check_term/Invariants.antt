@@ -2,12 +2,9 @@
 -- The loop's invariant: there is a term exactly if what the table says is still to come stands in the rows from `p` on. The measure falls with each row
 -- that is passed, and with each level that is left.
 use Prim.Native.Nat.{◌+◌, ◌-◌, ◌*◌}
-use native.Mathlib.Omega.{arith}
-use mathlib.Core.Path.{◌≡◌, refl, subst}
-use lib.ListN.{length, length-set}
-use Rattle.term_check.specs.Walk.{Topped, Walking}
-use Rattle.term_check.specs.WalkLaws.{walk_starts, walk_ends, walk_up, walk_short, walk_deep, walk_bad, walk_down}
-use borrow.Author.Rules.{rules}
+use mathlib.Core.Path.{◌≡◌}
+use lib.ListN.{length}
+use Rattle.term_check.specs.Walk.{Walking}
 use Rattle.term_check.proofs.check_term.Given as goal
 
 abbrev pub invariant-loop-d : goal.invariant-loop-d

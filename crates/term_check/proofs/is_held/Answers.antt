@@ -3,7 +3,6 @@
 use mathlib.Core.Path.{sym, ap, ◌∙◌}
 use Rattle.term_check.specs.Walk.{is_held}
 use Rattle.term_check.proofs.RowLaws.{held_small, held_large}
-use borrow.Author.Rules.{rules}
 use Rattle.term_check.proofs.is_held.Goals as goal
 
 pub returns-then-v-lt4294967295 : goal.returns-then-v-lt4294967295

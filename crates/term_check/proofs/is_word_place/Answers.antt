@@ -1,7 +1,6 @@
 -- `is_word_place` meets its contract: each way out is the test of the definition.
 -- There is no loop; the sum is computed in 64 bits, so it does not wrap.
 use Rattle.term_check.proofs.RowLaws.{place_empty, place_long, place_short}
-use borrow.Author.Rules.{rules}
 use Rattle.term_check.proofs.is_word_place.Goals as goal
 
 pub returns-then-size-eq0 : goal.returns-then-size-eq0

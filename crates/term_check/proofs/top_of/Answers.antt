@@ -1,9 +1,7 @@
 -- `top_of` meets its contract: each way out is a kind of row.
 -- There is no loop; what the tests before found is passed on.
 use mathlib.Core.Path.{sym, ◌∙◌}
-use borrow.Author.Tests.{not-true, not-false}
 use Rattle.term_check.proofs.RowLaws.{top_nowhere, top_numeral, top_misread, top_application, top_alone, top_numbered, top_metavariable, top_name, top_other}
-use borrow.Author.Rules.{rules}
 use Rattle.term_check.proofs.top_of.Goals as goal
 
 pub returns-then-not-is_word_place : goal.returns-then-not-is_word_place

@@ -1,10 +1,9 @@
 -- `clear` meets its contract. The loop's invariant: the rows from `from` up to i are zero, the others as they were.
-use mathlib.Core.Path.{◌≡◌, refl, sym, ap, ◌∙◌}
-use Prim.Native.Nat.{◌≤◌, ◌-◌}
-use lib.ListN.{length, set, length-set}
+use mathlib.Core.Path.{refl, sym, ap, ◌∙◌}
+use Prim.Native.Nat.{◌-◌}
+use lib.ListN.{set, length-set}
 use Rattle.words.specs.Lexer.{zero_row}
-use Rattle.words.proofs.Rows.{cleared, clear_none, clear_more, clear_all}
-use borrow.Author.Rules.{rules}
+use Rattle.words.proofs.Rows.{clear_none, clear_more, clear_all}
 use native.Mathlib.Omega.{arith}
 use Rattle.words.proofs.clear.Goals as goal
 

@@ -9,7 +9,6 @@ use Rattle.words.specs.Rows.{outcome}
 use Rattle.words.proofs.Readings.{then_nil, leaves}
 use Rattle.words.proofs.AnswerLaws.{lexing}
 use native.Mathlib.Omega.{arith}
-use borrow.Author.Rules.{rules}
 use Rattle.words.proofs.lex.Goals as goal
 
 pub returns-then-tokens-limit : goal.returns-then-tokens-limit

@@ -10,7 +10,6 @@ use Rattle.source_text.specs.Lines.{lines}
 use Rattle.words.proofs.Readings.{then_nil}
 use Rattle.words.proofs.Domains.{accepted, lines_inside, in_domain_lem, out_of_domain}
 use native.Mathlib.Omega.{arith}
-use borrow.Author.Rules.{rules}
 use Rattle.words.proofs.read.Goals as goal
 
 pub returns-then-limit-text : goal.returns-then-limit-text

@@ -2,7 +2,6 @@
 use mathlib.Core.Path.{sym}
 use Rattle.arena.specs.CopyLaws.{moved_variable, moved_node, moved_header}
 use native.Mathlib.Omega.{arith}
-use borrow.Author.Rules.{rules}
 use Rattle.arena.proofs.copies.moved_word.Goals as goal
 
 pub bounds-places-word : goal.bounds-places-word

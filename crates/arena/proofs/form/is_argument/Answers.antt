@@ -1,7 +1,6 @@
 -- `is_argument` meets its contract: each way out is one case of the definition.
 use mathlib.Core.Path.{sym}
 use Rattle.arena.proofs.Checking.{argument_variable, argument_outside, argument_node, argument_above}
-use borrow.Author.Rules.{rules}
 use Rattle.arena.proofs.form.is_argument.Goals as goal
 
 pub returns-then-word-room : goal.returns-then-word-room

@@ -1,7 +1,6 @@
 -- `is_header` meets its contract: each way out is one case of the definition.
 use mathlib.Core.Path.{sym}
 use Rattle.arena.proofs.Checking.{header_low, header_unknown, header_other, header_own}
-use borrow.Author.Rules.{rules}
 use Rattle.arena.proofs.form.is_header.Goals as goal
 
 pub returns-then-word-lt-HEADERS : goal.returns-then-word-lt-HEADERS

@@ -1,9 +1,7 @@
 -- `link` meets its contract. The loop's invariant: p and q have to be the same, by the links, exactly where a and b have to be, by the first links.
 use mathlib.Core.Path.{refl, ◌∙◌}
-use Prim.Native.Nat.{◌+◌}
 use lib.ListN.{length-set}
-use Rattle.arena.proofs.Linking.{Linking, link_start, link_order, link_in, link_same, link_clash, link_new, link_step, link_falls, order_sum, least_low}
-use borrow.Author.Rules.{rules}
+use Rattle.arena.proofs.Linking.{link_start, link_order, link_in, link_same, link_clash, link_new, link_step, link_falls, order_sum, least_low}
 use native.Mathlib.Omega.{arith}
 use Rattle.arena.proofs.links.link.Goals as goal
 

@@ -1,7 +1,7 @@
 -- `link_arguments` meets its contract. The loop's invariant: the first i pairs are linked, and there are no links below `floor`.
 use mathlib.Core.Path.{◌≡◌, refl, ◌∙◌}
 use mathlib.Core.Bool.{true}
-use Prim.Native.Nat.{◌≤◌, ◌-◌, ◌+◌}
+use Prim.Native.Nat.{◌-◌}
 use mathlib.Core.Path.{subst}
 use borrow.Author.Tests.{not-true, not-false}
 use Rattle.arena.proofs.Linking.{Pairs, pair_linkable, pair_linked, pair_stop, joined_none}

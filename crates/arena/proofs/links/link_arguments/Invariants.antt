@@ -1,12 +1,8 @@
 -- `link_arguments` meets its contract. The loop's invariant: the first i pairs are linked, and there are no links below `floor`.
-use mathlib.Core.Path.{◌≡◌, refl, ◌∙◌}
+use mathlib.Core.Path.{◌≡◌}
 use mathlib.Core.Bool.{true}
 use Prim.Native.Nat.{◌≤◌, ◌-◌, ◌+◌}
-use mathlib.Core.Path.{subst}
-use borrow.Author.Tests.{not-true, not-false}
-use Rattle.arena.proofs.Linking.{Pairs, pair_linkable, pair_linked, pair_stop, joined_none}
-use borrow.Author.Rules.{rules}
-use native.Mathlib.Omega.{arith}
+use Rattle.arena.proofs.Linking.{Pairs}
 use Rattle.arena.proofs.links.link_arguments.Given as goal
 
 abbrev pub invariant-loop-i : goal.invariant-loop-i

@@ -3,7 +3,6 @@ use mathlib.Core.Path.{refl, ◌∙◌}
 use lib.ListN.{length-set}
 use Rattle.arena.proofs.Settling.{settle_none, settle_no, settle_clash, settle_linked, lower, room_for, arguments_linkable}
 use native.Mathlib.Omega.{arith}
-use borrow.Author.Rules.{rules}
 use Rattle.arena.proofs.links.settle.Goals as goal
 
 pub returns-then-next-eq0 : goal.returns-then-next-eq0

@@ -1,6 +1,5 @@
 -- `enter` meets its contract: two rows are replaced, one after the other.
 use Rattle.bindings.specs.TableLaws.{entered_is}
-use borrow.Author.Rules.{rules}
 use Rattle.bindings.proofs.tables.enter.Goals as goal
 
 pub returns : goal.returns

@@ -3,7 +3,6 @@ use Prim.Native.Nat.{ℕ}
 use mathlib.Core.Path.{ap}
 use mathlib.Core.List.{[], ◌∷◌}
 use lib.ListN.{set}
-use borrow.Author.Rules.{rules}
 use Rattle.bindings.proofs.tables.set_listed.Goals as goal
 
 pub returns : goal.returns

@@ -1,7 +1,6 @@
 -- `check_rest` meets its contract. The loop's invariant: the positions passed are 0.
-use Prim.Native.Nat.{ℕ, ◌-◌, ◌≤◌, ◌<◌}
+use Prim.Native.Nat.{◌-◌}
 use mathlib.Core.Path.{◌≡◌, ap, ◌∙◌}
-use lib.ListN.{length}
 use Rattle.bindings.specs.Orders.{by_order}
 use Rattle.arena.specs.Rows.{column}
 use Rattle.bindings.specs.TableLaws.{column_past}

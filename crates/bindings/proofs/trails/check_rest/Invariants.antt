@@ -1,13 +1,8 @@
 -- `check_rest` meets its contract. The loop's invariant: the positions passed are 0.
 use Prim.Native.Nat.{ℕ, ◌-◌, ◌≤◌, ◌<◌}
-use mathlib.Core.Path.{◌≡◌, ap, ◌∙◌}
+use mathlib.Core.Path.{◌≡◌}
 use lib.ListN.{length}
-use Rattle.bindings.specs.Orders.{by_order}
 use Rattle.arena.specs.Rows.{column}
-use Rattle.bindings.specs.TableLaws.{column_past}
-use Rattle.bindings.specs.Checking.{tells_yes, tells_no}
-use borrow.Author.Rules.{rules}
-use native.Mathlib.Omega.{arith}
 use Rattle.bindings.proofs.trails.check_rest.Given as goal
 
 abbrev pub invariant-loop-i : goal.invariant-loop-i

@@ -1,12 +1,7 @@
 -- `check_values` meets its contract. The loop's invariant: the values of the variables passed are good.
 use Prim.Native.Nat.{ℕ, ◌-◌, ◌≤◌, ◌<◌}
 use lib.ListN.{length}
-use borrow.Author.Count.{below_more}
-use Rattle.bindings.specs.Orders.{by_order}
-use Rattle.bindings.specs.TableLaws.{column_past}
-use Rattle.bindings.specs.Checking.{GoodValue, tells_yes, tells_no, tells_false}
-use borrow.Author.Rules.{rules}
-use native.Mathlib.Omega.{arith}
+use Rattle.bindings.specs.Checking.{GoodValue}
 use Rattle.bindings.proofs.trails.check_values.Given as goal
 
 abbrev pub invariant-loop-v : goal.invariant-loop-v

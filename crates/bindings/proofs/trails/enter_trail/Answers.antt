@@ -1,6 +1,6 @@
 -- `enter_trail` meets its contract. The loop's invariant: the first i entries are entered; each is in use, bound, and none stands twice.
-use Prim.Native.Nat.{◌-◌, ◌≤◌}
-use Rattle.bindings.specs.Checking.{Entering, entering_start, entering_room, entering_more}
+use Prim.Native.Nat.{◌-◌}
+use Rattle.bindings.specs.Checking.{entering_start, entering_room, entering_more}
 use borrow.Author.Rules.{rules}
 use native.Mathlib.Omega.{arith}
 use Rattle.bindings.proofs.trails.enter_trail.Goals as goal

@@ -2,7 +2,6 @@
 use Rattle.bindings.specs.Entries.{entries_room}
 use Rattle.bindings.specs.Search.{mark_one, mark_none}
 use native.Mathlib.Omega.{arith}
-use borrow.Author.Rules.{rules}
 use Rattle.bindings.proofs.visits.visit.Goals as goal
 
 pub enter-requires : goal.enter-requires

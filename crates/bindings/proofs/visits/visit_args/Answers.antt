@@ -1,7 +1,7 @@
 -- `visit_args` meets its contract. The loop's invariant: the marks grew by the first i arguments.
-use Prim.Native.Nat.{suc, ◌+◌, ◌-◌, ◌≤◌}
+use Prim.Native.Nat.{suc, ◌+◌, ◌-◌}
 use mathlib.Core.Path.{◌≡◌}
-use Rattle.bindings.specs.Search.{Grown, ArgumentOf, args_more, args_none}
+use Rattle.bindings.specs.Search.{args_more, args_none}
 use borrow.Author.Rules.{rules}
 use native.Mathlib.Omega.{arith}
 use Rattle.bindings.proofs.visits.visit_args.Goals as goal

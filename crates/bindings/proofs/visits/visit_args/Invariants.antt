@@ -1,9 +1,6 @@
 -- `visit_args` meets its contract. The loop's invariant: the marks grew by the first i arguments.
-use Prim.Native.Nat.{suc, ◌+◌, ◌-◌, ◌≤◌}
-use mathlib.Core.Path.{◌≡◌}
-use Rattle.bindings.specs.Search.{Grown, ArgumentOf, args_more, args_none}
-use borrow.Author.Rules.{rules}
-use native.Mathlib.Omega.{arith}
+use Prim.Native.Nat.{◌-◌, ◌≤◌}
+use Rattle.bindings.specs.Search.{Grown, ArgumentOf}
 use Rattle.bindings.proofs.visits.visit_args.Given as goal
 
 abbrev pub invariant-loop-i : goal.invariant-loop-i

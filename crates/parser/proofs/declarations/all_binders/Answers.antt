@@ -1,14 +1,12 @@
 -- `all_binders` meets its contract.
 use Prim.Native.Nat.{◌-◌}
 use native.Mathlib.Omega.{arith}
-use lib.ListN.{length}
 use Rattle.term_parser.specs.Parsing.{last_line}
 use Rattle.parser.specs.Declarations.{binders_of}
 use Rattle.parser.specs.Rows.{binders_rows}
-use Rattle.term_parser.proofs.Readers.{moved, Looped, loop_start, loop_turn}
+use Rattle.term_parser.proofs.Readers.{moved, loop_start, loop_turn}
 use Rattle.term_parser.proofs.TermLaws.{room_on}
 use Rattle.term_parser.proofs.ListLaws.{list_absent, list_refused}
-use borrow.Author.Rules.{rules}
 use Rattle.parser.proofs.declarations.all_binders.Goals as goal
 
 pub loop-q-init : goal.loop-q-init

@@ -1,14 +1,10 @@
 -- `all_binders` meets its contract.
 use Prim.Native.Nat.{◌-◌}
-use native.Mathlib.Omega.{arith}
 use lib.ListN.{length}
 use Rattle.term_parser.specs.Parsing.{last_line}
 use Rattle.parser.specs.Declarations.{binders_of}
 use Rattle.parser.specs.Rows.{binders_rows}
-use Rattle.term_parser.proofs.Readers.{moved, Looped, loop_start, loop_turn}
-use Rattle.term_parser.proofs.TermLaws.{room_on}
-use Rattle.term_parser.proofs.ListLaws.{list_absent, list_refused}
-use borrow.Author.Rules.{rules}
+use Rattle.term_parser.proofs.Readers.{Looped}
 use Rattle.parser.proofs.declarations.all_binders.Given as goal
 
 abbrev pub invariant-loop-q : goal.invariant-loop-q

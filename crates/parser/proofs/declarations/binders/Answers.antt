@@ -17,7 +17,6 @@ use Rattle.term_parser.proofs.TokenLaws.{token_there}
 use Rattle.term_parser.proofs.Readers.{stopped, got, firm_sign}
 use Rattle.term_parser.proofs.ListLaws.{firm_names, behind_is, behind_not}
 use Rattle.parser.proofs.PartLaws.{Along, name_part, name_stopped, start, part, part_stopped, sign_part, sign_stopped, finish, room_along}
-use borrow.Author.Rules.{rules}
 use Rattle.parser.proofs.declarations.binders.Goals as goal
 
 module _ (last : ℕ) (xs : List Place) where

@@ -17,7 +17,6 @@ use Rattle.term_parser.proofs.Readers.{stopped, got, firm_sign}
 use Rattle.term_parser.proofs.TermLaws.{firm_app}
 use Rattle.term_parser.proofs.ListLaws.{firm_patterns, behind_is, behind_not}
 use Rattle.parser.proofs.PartLaws.{Along, start, part, part_stopped, sign_part, sign_stopped, finish, room_along}
-use borrow.Author.Rules.{rules}
 use Rattle.parser.proofs.declarations.clause.Goals as goal
 
 module _ (text : List ℕ) (last : ℕ) (ps : List (Source one)) where

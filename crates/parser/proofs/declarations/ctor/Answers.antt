@@ -14,7 +14,6 @@ use Rattle.parser.specs.Rows.{declaration_rows}
 use Rattle.term_parser.proofs.Readers.{stopped, got}
 use Rattle.term_parser.proofs.ListLaws.{firm_name, firm_title, firm_separated}
 use Rattle.parser.proofs.PartLaws.{start, part, part_stopped, finish, room_along}
-use borrow.Author.Rules.{rules}
 use Rattle.parser.proofs.declarations.ctor.Goals as goal
 
 pub returns-in_default : goal.returns-in_default

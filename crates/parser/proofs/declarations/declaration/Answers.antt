@@ -11,7 +11,6 @@ use Rattle.parser.specs.Declarations.{theorem_of, sort_of, ctor_of, pred_of, rul
 use Rattle.parser.specs.Rows.{declared_rows}
 use Rattle.term_parser.proofs.TokenLaws.{line_in}
 use Rattle.parser.proofs.DeclarationLaws.{up, declared, undeclared, no_declaration, starts_sort, starts_ctor, starts_pred, starts_rule, starts_def, starts_theorem, starts_eval, starts_check, starts_nothing, no_keyword}
-use borrow.Author.Rules.{rules}
 use Rattle.parser.proofs.declarations.declaration.Goals as goal
 
 pub returns-then-at-tokens : goal.returns-then-at-tokens

@@ -1,15 +1,13 @@
 -- `declarations` meets its contract.
 use Prim.Native.Nat.{◌-◌}
 use native.Mathlib.Omega.{arith}
-use lib.ListN.{length}
 use Prim.Native.Nat.{zero-le}
 use Rattle.term_parser.specs.Parsing.{last_line}
 use Rattle.parser.specs.Declarations.{declaration_of, parse_of}
 use Rattle.parser.specs.Rows.{declared_rows}
-use Rattle.term_parser.proofs.Readers.{moved, Looped, loop_start, loop_turn}
+use Rattle.term_parser.proofs.Readers.{moved, loop_start, loop_turn}
 use Rattle.term_parser.proofs.TermLaws.{room_on}
 use Rattle.term_parser.proofs.ListLaws.{list_absent, list_refused}
-use borrow.Author.Rules.{rules}
 use Rattle.parser.proofs.declarations.declarations.Goals as goal
 
 pub loop-q-init : goal.loop-q-init

@@ -1,15 +1,10 @@
 -- `declarations` meets its contract.
 use Prim.Native.Nat.{◌-◌}
-use native.Mathlib.Omega.{arith}
 use lib.ListN.{length}
-use Prim.Native.Nat.{zero-le}
 use Rattle.term_parser.specs.Parsing.{last_line}
-use Rattle.parser.specs.Declarations.{declaration_of, parse_of}
+use Rattle.parser.specs.Declarations.{declaration_of}
 use Rattle.parser.specs.Rows.{declared_rows}
-use Rattle.term_parser.proofs.Readers.{moved, Looped, loop_start, loop_turn}
-use Rattle.term_parser.proofs.TermLaws.{room_on}
-use Rattle.term_parser.proofs.ListLaws.{list_absent, list_refused}
-use borrow.Author.Rules.{rules}
+use Rattle.term_parser.proofs.Readers.{Looped}
 use Rattle.parser.proofs.declarations.declarations.Given as goal
 
 abbrev pub invariant-loop-q : goal.invariant-loop-q

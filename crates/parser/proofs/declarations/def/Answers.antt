@@ -15,7 +15,6 @@ use Rattle.parser.specs.Rows.{declaration_rows, clause_rows}
 use Rattle.term_parser.proofs.Readers.{stopped, got, firm_repeat}
 use Rattle.term_parser.proofs.ListLaws.{firm_name, firm_title, firm_separated}
 use Rattle.parser.proofs.PartLaws.{Along, start, part, part_stopped, finish, room_along}
-use borrow.Author.Rules.{rules}
 use Rattle.parser.proofs.declarations.def.Goals as goal
 
 module _ (text : List ℕ) (last : ℕ) (n : Place) where

@@ -3,7 +3,6 @@ use mathlib.Core.Path.{ap, ◌∙◌}
 use Prim.Native.Nat.{◌-◌}
 use Rattle.source_text.specs.Bytes.{same_bytes}
 use Rattle.parser.specs.Declarations.{prop_name}
-use borrow.Author.Rules.{rules}
 use Rattle.parser.proofs.declarations.is_prop.Goals as goal
 
 pub returns : goal.returns

@@ -18,7 +18,6 @@ use Rattle.term_parser.proofs.Readers.{stopped, got}
 use Rattle.term_parser.proofs.ListLaws.{firm_name, firm_title, firm_separated}
 use Rattle.parser.proofs.PartLaws.{Along, start, part, part_stopped, finish, room_along}
 use Rattle.parser.proofs.DeclarationLaws.{separated_some, refuse, without_last, prop_is, init_long}
-use borrow.Author.Rules.{rules}
 use Rattle.parser.proofs.declarations.pred.Goals as goal
 
 module _ (last : ℕ) (n : Place) where

@@ -9,7 +9,6 @@ use Rattle.parser.specs.Rows.{declaration_rows}
 use Rattle.term_parser.proofs.Readers.{stopped}
 use Rattle.term_parser.proofs.ListLaws.{firm_name}
 use Rattle.parser.proofs.PartLaws.{start, part, part_stopped, finish}
-use borrow.Author.Rules.{rules}
 use Rattle.parser.proofs.declarations.sort.Goals as goal
 
 pub returns-in_default : goal.returns-in_default

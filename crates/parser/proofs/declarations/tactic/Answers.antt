@@ -7,7 +7,6 @@ use Rattle.term_parser.specs.Parsing.{kind_of}
 use Rattle.term_parser.proofs.TokenLaws.{token_there}
 use Rattle.term_parser.proofs.TermLaws.{room_on}
 use Rattle.parser.proofs.TacticLaws.{no_tactic, no_by, by_auto, neither, by_induction}
-use borrow.Author.Rules.{rules}
 use Rattle.parser.proofs.declarations.tactic.Goals as goal
 
 pub returns-then-peek-ne-DEFINES : goal.returns-then-peek-ne-DEFINES

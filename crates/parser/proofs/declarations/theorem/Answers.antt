@@ -1,5 +1,5 @@
 -- `theorem` meets its contract. At each place of the code it is said once what is read: the tokens before a place, and their rows behind a free one.
-use mathlib.Core.Path.{◌≡◌, refl, ◌∙◌}
+use mathlib.Core.Path.{◌≡◌, refl}
 use Prim.Native.Nat.{ℕ, ◌+◌, ◌-◌}
 use mathlib.Core.List.{List, [], ◌∷◌, ◌++◌}
 use native.Mathlib.Omega.{arith}
@@ -18,7 +18,6 @@ use Rattle.term_parser.proofs.ListLaws.{firm_name, firm_separated}
 use Rattle.parser.proofs.PartLaws.{Along, start, part, part_stopped, sign_part, sign_stopped, finish, room_along}
 use Rattle.parser.proofs.DeclarationLaws.{marked, tactic_rows_lem, theorem_rows}
 use Rattle.parser.proofs.TacticLaws.{firm_tactic}
-use borrow.Author.Rules.{rules}
 use Rattle.parser.proofs.declarations.theorem.Goals as goal
 
 module _ (text : List ℕ) (last : ℕ) (n : Place) where

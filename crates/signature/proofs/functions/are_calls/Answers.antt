@@ -1,9 +1,7 @@
 -- `are_calls` meets its contract.
 -- The loop's invariant: the first k premises are calls.
-use Prim.Native.Nat.{ℕ, ◌+◌, ◌-◌, ◌≤◌, ◌<◌}
-use mathlib.Core.List.{List}
+use Prim.Native.Nat.{◌+◌, ◌-◌}
 use borrow.Author.Count.{below_more}
-use borrow.Author.Tests.{not-true}
 use Rattle.unifier.specs.Checking.{tells_yes, tells_no, tells_false}
 use Rattle.names.specs.Symbols.{column, row_at, symbols_of}
 use Rattle.meeting.specs.Contract.{term_of}

@@ -2,16 +2,10 @@
 -- The loop's invariant: the first k premises are calls.
 use Prim.Native.Nat.{ℕ, ◌+◌, ◌-◌, ◌≤◌, ◌<◌}
 use mathlib.Core.List.{List}
-use borrow.Author.Count.{below_more}
-use borrow.Author.Tests.{not-true}
-use Rattle.unifier.specs.Checking.{tells_yes, tells_no, tells_false}
 use Rattle.names.specs.Symbols.{column, row_at, symbols_of}
 use Rattle.meeting.specs.Contract.{term_of}
 use Rattle.loader.specs.Legal.{Calls}
-use Rattle.signature.proofs.Laws.{holds}
-use Rattle.signature.proofs.ClauseLaws.{premises_call, premise_calls}
 use borrow.Author.Rules.{rules}
-use native.Mathlib.Omega.{arith}
 use Rattle.signature.proofs.functions.are_calls.Given as goal
 
 abbrev pub invariant-loop-k : goal.invariant-loop-k

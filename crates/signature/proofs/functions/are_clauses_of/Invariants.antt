@@ -2,15 +2,10 @@
 -- The loop's invariant: the first j clauses are in form.
 use Prim.Native.Nat.{ℕ, ◌+◌, ◌-◌, ◌≤◌, ◌<◌}
 use mathlib.Core.List.{List}
-use borrow.Author.Count.{below_more}
-use borrow.Author.Tests.{not-true}
-use Rattle.unifier.specs.Checking.{tells_yes, tells_no, tells_false}
-use Rattle.names.specs.Symbols.{column, row_at, symbols_of}
+use Rattle.names.specs.Symbols.{row_at, symbols_of}
 use Rattle.rule_checks.specs.RuleForm.{rule_in}
 use Rattle.loader.specs.Legal.{ClauseFormed}
-use Rattle.signature.proofs.Laws.{holds}
 use borrow.Author.Rules.{rules}
-use native.Mathlib.Omega.{arith}
 use Rattle.signature.proofs.functions.are_clauses_of.Given as goal
 
 abbrev pub invariant-loop-j : goal.invariant-loop-j

@@ -1,9 +1,7 @@
 -- `are_listed` meets its contract.
 -- The loop's invariant: the clauses of the first i symbols are in form.
-use Prim.Native.Nat.{ℕ, ◌-◌, ◌≤◌, ◌<◌}
-use mathlib.Core.List.{List}
+use Prim.Native.Nat.{◌-◌}
 use borrow.Author.Count.{below_more}
-use borrow.Author.Tests.{not-true}
 use Rattle.unifier.specs.Checking.{tells_yes, tells_no, tells_false}
 use Rattle.signature.specs.Parts.{ClausesOf}
 use Rattle.signature.proofs.Laws.{holds}

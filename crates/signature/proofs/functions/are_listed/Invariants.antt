@@ -2,13 +2,8 @@
 -- The loop's invariant: the clauses of the first i symbols are in form.
 use Prim.Native.Nat.{ℕ, ◌-◌, ◌≤◌, ◌<◌}
 use mathlib.Core.List.{List}
-use borrow.Author.Count.{below_more}
-use borrow.Author.Tests.{not-true}
-use Rattle.unifier.specs.Checking.{tells_yes, tells_no, tells_false}
 use Rattle.signature.specs.Parts.{ClausesOf}
-use Rattle.signature.proofs.Laws.{holds}
 use borrow.Author.Rules.{rules}
-use native.Mathlib.Omega.{arith}
 use Rattle.signature.proofs.functions.are_listed.Given as goal
 
 abbrev pub invariant-loop-i : goal.invariant-loop-i

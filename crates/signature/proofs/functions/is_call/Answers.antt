@@ -3,7 +3,6 @@
 use Rattle.unifier.specs.Checking.{tells_no}
 use Rattle.names.specs.Symbols.{symbols_of}
 use Rattle.signature.proofs.ClauseLaws.{no_call, past_call, call_told}
-use borrow.Author.Rules.{rules}
 use native.Mathlib.Omega.{arith}
 use Rattle.signature.proofs.functions.is_call.Goals as goal
 

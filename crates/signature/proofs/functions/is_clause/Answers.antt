@@ -1,9 +1,7 @@
 -- `is_clause` meets its contract: the conclusion and the premises are the two parts of the form.
 -- Each way out is one part.
-use borrow.Author.Tests.{not-true}
 use Rattle.unifier.specs.Checking.{tells_no, tells_false}
 use Rattle.signature.proofs.Laws.{holds, same}
-use borrow.Author.Rules.{rules}
 use Rattle.signature.proofs.functions.is_clause.Goals as goal
 
 pub returns-then-not-is_node_of : goal.returns-then-not-is_node_of

@@ -2,7 +2,6 @@
 -- The two ways out are a variable and a node.
 use Rattle.unifier.specs.Checking.{tells_no}
 use Rattle.signature.proofs.ClauseLaws.{no_node, node_told}
-use borrow.Author.Rules.{rules}
 use native.Mathlib.Omega.{arith}
 use Rattle.signature.proofs.functions.is_node_of.Goals as goal
 

@@ -1,7 +1,7 @@
 -- `same` meets its contract. The loop's invariant: from place i on both words are equal.
 use mathlib.Core.Path.{◌≡◌, sym, ap}
 use mathlib.Core.List.{List}
-use Prim.Native.Nat.{ℕ, suc, ◌≤◌, ◌-◌}
+use Prim.Native.Nat.{ℕ, suc, ◌-◌}
 use lib.ListN.{length, drop, get_or}
 use Rattle.source_text.specs.ByteLaws.{same_itself}
 use Rattle.source_text.proofs.Scans.{same_not, same_end, same_before}

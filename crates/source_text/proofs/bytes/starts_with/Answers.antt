@@ -1,9 +1,8 @@
 -- `starts_with` meets its contract. The loop's invariant: w stands at the place exactly when the rest of w from i on stands i bytes further.
-use mathlib.Core.Path.{◌≡◌, sym, ◌∙◌}
-use Prim.Native.Nat.{◌+◌, ◌≤◌, ◌-◌}
+use mathlib.Core.Path.{sym, ◌∙◌}
+use Prim.Native.Nat.{◌+◌, ◌-◌}
 use native.Mathlib.Nat.{add-zero, add_assoc}
-use lib.ListN.{length, drop, length-drop}
-use Rattle.source_text.specs.Bytes.{starts_with}
+use lib.ListN.{length-drop}
 use Rattle.source_text.proofs.Scans.{prefix_short, prefix_next, prefix_not, prefix_end}
 use borrow.Author.Rules.{rules}
 use native.Mathlib.Omega.{arith}

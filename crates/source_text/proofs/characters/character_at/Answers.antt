@@ -1,7 +1,6 @@
 -- `character_at` meets its contract.
 use mathlib.Core.Path.{sym, ◌∙◌}
 use Rattle.source_text.proofs.Encodings.{character_past, character_ascii, character_wide}
-use borrow.Author.Rules.{rules}
 use Rattle.source_text.proofs.characters.character_at.Goals as goal
 
 pub returns-then-text-at : goal.returns-then-text-at

@@ -1,6 +1,5 @@
 -- `class_of` meets its contract.
 use Rattle.source_text.proofs.Encodings.{class_at}
-use borrow.Author.Rules.{rules}
 use Rattle.source_text.proofs.characters.class_of.Goals as goal
 
 pub returns : goal.returns

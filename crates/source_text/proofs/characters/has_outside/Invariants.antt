@@ -1,11 +1,8 @@
 -- `has_outside` meets its contract. The loop's invariant: the line has a character outside the domain exactly when it has one from `at` on.
-use mathlib.Core.Path.{◌≡◌, refl, sym, ◌∙◌}
+use mathlib.Core.Path.{◌≡◌}
 use Prim.Native.Nat.{◌≤◌, ◌-◌}
 use lib.ListN.{length, drop}
 use Rattle.source_text.specs.Characters.{has_outside, outside_after}
-use Rattle.source_text.proofs.Encodings.{inside_at, outside_next, outside_here, outside_end}
-use borrow.Author.Rules.{rules}
-use native.Mathlib.Omega.{arith}
 use Rattle.source_text.proofs.characters.has_outside.Given as goal
 
 abbrev pub invariant-loop-at : goal.invariant-loop-at

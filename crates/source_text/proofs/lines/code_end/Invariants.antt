@@ -1,11 +1,8 @@
 -- `code_end` meets its contract. The loop's invariant: the code's end is as far from i as the end of the code that starts at i.
-use mathlib.Core.Path.{◌≡◌, refl, sym, ◌∙◌}
+use mathlib.Core.Path.{◌≡◌}
 use Prim.Native.Nat.{◌≤◌, ◌-◌, ◌+◌}
 use lib.ListN.{length, drop}
 use Rattle.source_text.specs.Lines.{line_of, code_of}
-use Rattle.source_text.proofs.Scans.{code_next, code_stop, code_past}
-use borrow.Author.Rules.{rules}
-use native.Mathlib.Omega.{arith}
 use Rattle.source_text.proofs.lines.code_end.Given as goal
 
 abbrev pub invariant-loop-i : goal.invariant-loop-i

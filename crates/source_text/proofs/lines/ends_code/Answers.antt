@@ -2,7 +2,6 @@
 use mathlib.Core.Path.{sym, ◌∙◌}
 use borrow.Author.Tests.{eq-eqb, ne_eqb}
 use Rattle.source_text.proofs.Scans.{ends_at}
-use borrow.Author.Rules.{rules}
 use Rattle.source_text.proofs.lines.ends_code.Goals as goal
 
 pub returns-then-c-eq-LINE_FEED : goal.returns-then-c-eq-LINE_FEED

@@ -1,11 +1,8 @@
 -- `line_end` meets its contract. The loop's invariant: the line's end is as far from i as the end of the line that starts at i.
-use mathlib.Core.Path.{◌≡◌, refl}
+use mathlib.Core.Path.{◌≡◌}
 use Prim.Native.Nat.{◌≤◌, ◌-◌, ◌+◌}
 use lib.ListN.{length, drop}
 use Rattle.source_text.specs.Lines.{line_of}
-use Rattle.source_text.proofs.Scans.{line_next, line_stop, line_end_lem}
-use borrow.Author.Rules.{rules}
-use native.Mathlib.Omega.{arith}
 use Rattle.source_text.proofs.lines.line_end.Given as goal
 
 abbrev pub invariant-loop-i : goal.invariant-loop-i

@@ -1,8 +1,6 @@
 -- `all_digits` meets its contract. The loop's invariant: the word is all digits exactly when it is from place i on.
-use mathlib.Core.Path.{◌≡◌, refl, sym, ◌∙◌}
-use Prim.Native.Nat.{◌≤◌, ◌-◌}
-use lib.ListN.{length, drop}
-use Rattle.source_text.specs.Numerals.{all_digits}
+use mathlib.Core.Path.{refl, sym, ◌∙◌}
+use Prim.Native.Nat.{◌-◌}
 use Rattle.source_text.proofs.Numbers.{digits_low, digits_high, digits_next, digits_end}
 use borrow.Author.Rules.{rules}
 use native.Mathlib.Omega.{arith}

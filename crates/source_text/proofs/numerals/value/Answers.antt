@@ -1,9 +1,7 @@
 -- `value` meets its contract. The loop's invariant: the word's numeral is the one whose first digits make v and whose other bytes stand from place i on.
-use mathlib.Core.Path.{◌≡◌, sym, ◌∙◌}
-use Prim.Native.Nat.{◌≤◌, ◌<◌, ◌-◌, ◌^◌}
-use lib.ListN.{length, drop}
-use Rattle.source_text.specs.Numerals.{numeral_of}
-use Rattle.source_text.proofs.Numbers.{numeral_from, numeral_empty, numeral_start, numeral_not, numeral_next, numeral_over, numeral_end, digits_low, digits_high}
+use mathlib.Core.Path.{sym, ◌∙◌}
+use Prim.Native.Nat.{◌-◌}
+use Rattle.source_text.proofs.Numbers.{numeral_empty, numeral_start, numeral_not, numeral_next, numeral_over, numeral_end, digits_low, digits_high}
 use borrow.Author.Rules.{rules}
 use native.Mathlib.Omega.{arith}
 use Rattle.source_text.proofs.numerals.value.Goals as goal

@@ -1,7 +1,6 @@
 -- `character_length` meets its contract.
 use mathlib.Core.Path.{sym, ◌∙◌}
 use Rattle.source_text.proofs.Encodings.{length_past, length_none, length_at}
-use borrow.Author.Rules.{rules}
 use Rattle.source_text.proofs.utf8.character_length.Goals as goal
 
 pub returns-then-text-at : goal.returns-then-text-at

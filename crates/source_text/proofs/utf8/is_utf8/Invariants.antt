@@ -1,11 +1,8 @@
 -- `is_utf8` meets its contract. The loop's invariant: the text is UTF-8 exactly when it is from `at` on, where a character starts.
-use mathlib.Core.Path.{◌≡◌, refl, sym, ◌∙◌}
+use mathlib.Core.Path.{◌≡◌}
 use Prim.Native.Nat.{◌≤◌, ◌-◌}
 use lib.ListN.{length, drop}
 use Rattle.source_text.specs.Utf8.{is_utf8, utf8_after}
-use Rattle.source_text.proofs.Encodings.{length_within, utf8_next, utf8_not, utf8_end}
-use borrow.Author.Rules.{rules}
-use native.Mathlib.Omega.{arith}
 use Rattle.source_text.proofs.utf8.is_utf8.Given as goal
 
 abbrev pub invariant-loop-at : goal.invariant-loop-at

@@ -3,7 +3,6 @@ use mathlib.Core.Path.{sym, ◌∙◌}
 use Rattle.source_text.specs.Utf8.{lead_of, form_of, forms, asks}
 use Rattle.source_text.proofs.Encodings.{same_lead, lead_range}
 use native.Mathlib.Omega.{arith}
-use borrow.Author.Rules.{rules}
 use Rattle.source_text.proofs.utf8.lead_of.Goals as goal
 
 pub returns-then-a-lt128 : goal.returns-then-a-lt128

@@ -1,10 +1,8 @@
 -- `tails` meets its contract. The loop's invariant: what is asked of the text from `at` on is what is still asked of it from i on.
-use mathlib.Core.Path.{◌≡◌, refl, sym, ◌∙◌}
+use mathlib.Core.Path.{◌≡◌}
 use Prim.Native.Nat.{◌-◌}
 use lib.ListN.{drop}
 use Rattle.source_text.specs.Utf8.{tails_of}
-use Rattle.source_text.proofs.Encodings.{tails_short, tails_low, tails_high, tails_next, tails_none}
-use borrow.Author.Rules.{rules}
 use Rattle.source_text.proofs.utf8.tails.Given as goal
 
 abbrev pub invariant-loop-left : goal.invariant-loop-left

@@ -1,15 +1,10 @@
 -- `judgments` meets its contract: the loop reads the items behind a sign.
-use mathlib.Core.Path.{◌≡◌, sym, ap, ◌∙◌}
-use Prim.Native.Nat.{◌+◌, ◌-◌}
-use lib.ListN.{length, drop}
-use native.Mathlib.Omega.{arith}
-use Rattle.term_parser.specs.Parsing.{kind_of, behind}
+use Prim.Native.Nat.{◌-◌}
+use lib.ListN.{length}
+use Rattle.term_parser.specs.Parsing.{behind}
 use Rattle.term_parser.specs.Rows.{rows_of}
-use Rattle.term_parser.proofs.TermLaws.{room_on, term_at, firm_term}
-use Rattle.term_parser.proofs.TokenLaws.{token_there}
-use Rattle.term_parser.proofs.Readers.{stopped, moved, Looped, loop_start, loop_turn}
-use Rattle.term_parser.proofs.ListLaws.{behind_answers, behind_firm, behind_not, chain_stopped, chain_end, chain_refused}
-use borrow.Author.Rules.{rules}
+use Rattle.term_parser.proofs.TermLaws.{term_at}
+use Rattle.term_parser.proofs.Readers.{Looped}
 use Rattle.term_parser.proofs.lists.judgments.Given as goal
 
 abbrev pub invariant-loop-out : goal.invariant-loop-out

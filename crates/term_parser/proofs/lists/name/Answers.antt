@@ -1,7 +1,6 @@
 -- `name` meets its contract.
 use native.Mathlib.Omega.{arith}
 use Rattle.term_parser.proofs.ListLaws.{name_there, name_answers, name_refused}
-use borrow.Author.Rules.{rules}
 use Rattle.term_parser.proofs.lists.name.Goals as goal
 
 pub push-requires : goal.push-requires

@@ -2,7 +2,6 @@
 use mathlib.Core.Path.{sym, ap, ◌∙◌}
 use Prim.Native.Nat.{◌-◌}
 use Rattle.term_parser.proofs.ListLaws.{patterns_none, patterns_some}
-use borrow.Author.Rules.{rules}
 use Rattle.term_parser.proofs.lists.patterns.Goals as goal
 
 pub returns-then-peek-eq-DOUBLE_ARROW : goal.returns-then-peek-eq-DOUBLE_ARROW

@@ -3,7 +3,6 @@ use lib.ListN.{drop}
 use Rattle.term_parser.specs.Parsing.{last_line}
 use Rattle.term_parser.proofs.Readers.{stopped}
 use Rattle.term_parser.proofs.ListLaws.{firm_name, before_sign, then_sign_lem}
-use borrow.Author.Rules.{rules}
 use Rattle.term_parser.proofs.lists.title.Goals as goal
 
 pub returns-in_default : goal.returns-in_default

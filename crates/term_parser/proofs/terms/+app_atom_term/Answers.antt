@@ -1,13 +1,10 @@
 -- `atom`, `app` and `term` call each other in turn: the tokens left fall, and with the same tokens left the rank of the three.
-use Prim.Native.Nat.{◌+◌, ◌*◌, ◌-◌}
+use Prim.Native.Nat.{◌-◌}
 use mathlib.Core.Path.{refl, sym, ap, ◌∙◌}
 use native.Mathlib.Omega.{arith}
-use lib.ListN.{length}
 use Rattle.term_parser.proofs.TokenLaws.{token_there}
 use Rattle.term_parser.proofs.Readers.{stopped, moved}
-use Rattle.term_parser.proofs.TermLaws.{room_on, there, is_name, is_meta, is_numeral_lem, is_open, is_none, too_deep, inner_stopped, inner_closed, Atoms, atoms_start, atoms_room, atoms_from, atoms_past, atoms_few, atoms_length, atoms_turn, atoms_none, atoms_applied, atoms_refused, term_stopped, term_plain, second_stopped, root_room, term_equated}
-use borrow.Author.Rules.{rules}
-use Prim.Native.Nat.{ℕ, ◌<◌}
+use Rattle.term_parser.proofs.TermLaws.{room_on, there, is_name, is_meta, is_numeral_lem, is_open, is_none, too_deep, inner_stopped, inner_closed, atoms_start, atoms_room, atoms_from, atoms_past, atoms_few, atoms_length, atoms_turn, atoms_none, atoms_applied, atoms_refused, term_stopped, term_plain, second_stopped, root_room, term_equated}
 use Rattle.term_parser.proofs.terms.+app_atom_term.Goals as goal
 
 pub app-loop-q-init : goal.app-loop-q-init

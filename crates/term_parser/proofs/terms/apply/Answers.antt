@@ -3,7 +3,6 @@ use mathlib.Core.Path.{ap, refl}
 use native.Mathlib.Omega.{arith}
 use Rattle.term_parser.specs.declared.Step.TheVariants.{Refused}
 use Rattle.term_parser.specs.declared.Refusal.TheVariants.{OnlyNames}
-use borrow.Author.Rules.{rules}
 use Rattle.term_parser.proofs.terms.apply.Goals as goal
 
 pub returns-then-more-eq0 : goal.returns-then-more-eq0

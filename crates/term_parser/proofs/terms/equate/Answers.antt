@@ -3,7 +3,6 @@ use mathlib.Core.Path.{ap, refl}
 use native.Mathlib.Omega.{arith}
 use Rattle.term_parser.specs.declared.Step.TheVariants.{Refused}
 use Rattle.term_parser.specs.declared.Refusal.TheVariants.{LeftOfEquals}
-use borrow.Author.Rules.{rules}
 use Rattle.term_parser.proofs.terms.equate.Goals as goal
 
 pub returns-then-row-eq-NAME : goal.returns-then-row-eq-NAME

@@ -1,7 +1,6 @@
 -- `line` meets its contract.
 use mathlib.Core.Path.{ap, ◌∙◌}
 use Rattle.term_parser.proofs.TokenLaws.{line_in, line_out, line_none}
-use borrow.Author.Rules.{rules}
 use Rattle.term_parser.proofs.tokens.line.Goals as goal
 
 pub returns-then-at-tokens : goal.returns-then-at-tokens

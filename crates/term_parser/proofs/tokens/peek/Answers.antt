@@ -1,7 +1,6 @@
 -- `peek` meets its contract.
 use mathlib.Core.Path.{sym}
 use Rattle.term_parser.proofs.TokenLaws.{token_in, token_out}
-use borrow.Author.Rules.{rules}
 use Rattle.term_parser.proofs.tokens.peek.Goals as goal
 
 pub returns-then-at-tokens : goal.returns-then-at-tokens

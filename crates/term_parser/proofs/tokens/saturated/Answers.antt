@@ -2,7 +2,6 @@
 use mathlib.Core.Path.{sym, ap, ◌∙◌}
 use native.Mathlib.Omega.{arith}
 use Rattle.term_parser.specs.Grammar.{value}
-use borrow.Author.Rules.{rules}
 use Rattle.term_parser.proofs.tokens.saturated.Goals as goal
 
 pub returns-then-v-lt4294967295 : goal.returns-then-v-lt4294967295

@@ -7,7 +7,6 @@ use Rattle.term_parser.specs.Promises.{signed}
 use Rattle.term_parser.specs.declared.Step.TheVariants.{Refused}
 use Rattle.term_parser.specs.declared.Refusal.TheVariants.{SignExpected}
 use Rattle.term_parser.proofs.TokenLaws.{token_there, sign_there, sign_not}
-use borrow.Author.Rules.{rules}
 use Rattle.term_parser.proofs.tokens.sign.Goals as goal
 
 pub overflow_add-result : goal.overflow_add-result

@@ -1,5 +1,4 @@
 -- `capped` meets its contract: each field is the lesser of the two.
-use borrow.Author.Rules.{rules}
 use Rattle.words.proofs.Limits.capped.Goals as goal
 
 pub returns : goal.returns

@@ -1,5 +1,4 @@
 -- `hash_keyword` meets its contract.
-use borrow.Author.Rules.{rules}
 use Rattle.words.proofs.names.hash_keyword.Goals as goal
 
 pub returns-then-same : goal.returns-then-same

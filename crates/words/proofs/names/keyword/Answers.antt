@@ -4,7 +4,6 @@ use mathlib.Core.List.{[], ◌∷◌}
 use Rattle.source_text.specs.Bytes.{same_bytes}
 use Rattle.words.specs.Names.{keywords, keyword_of, number_among, number_if, hash_keyword_of}
 use Rattle.words.proofs.Items.{keyword_by, keyword_none}
-use borrow.Author.Rules.{rules}
 use Rattle.words.proofs.names.keyword.Goals as goal
 
 pub returns-in-115 : goal.returns-in-115

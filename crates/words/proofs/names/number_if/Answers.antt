@@ -1,5 +1,4 @@
 -- `number_if` meets its contract.
-use borrow.Author.Rules.{rules}
 use Rattle.words.proofs.names.number_if.Goals as goal
 
 pub returns-then-same : goal.returns-then-same

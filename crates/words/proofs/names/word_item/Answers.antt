@@ -1,7 +1,6 @@
 -- `word_item` meets its contract.
 use borrow.Author.Tests.{eq-eqb, ne_eqb, lt-ltb, le-ltb}
 use Rattle.words.specs.Names.{word_item}
-use borrow.Author.Rules.{rules}
 use Rattle.words.proofs.names.word_item.Goals as goal
 
 pub returns-then-length-gt-LONGEST : goal.returns-then-length-gt-LONGEST

@@ -2,7 +2,6 @@
 use mathlib.Core.Path.{refl, sym, ◌∙◌}
 use borrow.Author.Tests.{eq-eqb, ne_eqb}
 use Rattle.words.proofs.Items.{sign_at, no_arrow}
-use borrow.Author.Rules.{rules}
 use Rattle.words.proofs.signs.sign_item.Goals as goal
 
 pub returns-then-second-eq62 : goal.returns-then-second-eq62

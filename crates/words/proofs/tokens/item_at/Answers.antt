@@ -6,7 +6,6 @@ use Rattle.words.specs.Tokens.{item_of}
 use Rattle.words.specs.Names.{word_item}
 use Rattle.words.proofs.Items.{word_fits, word_part, word_starts}
 use native.Mathlib.Omega.{arith}
-use borrow.Author.Rules.{rules}
 use Rattle.words.proofs.tokens.item_at.Goals as goal
 
 pub character_at-class-requires : goal.character_at-class-requires

@@ -1,8 +1,6 @@
 -- `outside_line` meets its contract. The loop's invariant: the first line outside the domain is the first one from the line at `at` on.
-use mathlib.Core.Path.{◌≡◌, refl, sym, ◌∙◌}
-use Prim.Native.Nat.{◌≤◌, ◌-◌, ◌+◌}
-use lib.ListN.{length, drop}
-use Rattle.source_text.specs.Lines.{lines}
+use mathlib.Core.Path.{refl, sym, ◌∙◌}
+use Prim.Native.Nat.{◌-◌}
 use Rattle.words.specs.Tokens.{outside_line}
 use Rattle.source_text.proofs.Scans.{code_fits, code_within, line_within}
 use Rattle.words.proofs.Readings.{outside_line_lem, lines_past}

@@ -1,13 +1,9 @@
 -- `outside_line` meets its contract. The loop's invariant: the first line outside the domain is the first one from the line at `at` on.
-use mathlib.Core.Path.{◌≡◌, refl, sym, ◌∙◌}
+use mathlib.Core.Path.{◌≡◌}
 use Prim.Native.Nat.{◌≤◌, ◌-◌, ◌+◌}
 use lib.ListN.{length, drop}
 use Rattle.source_text.specs.Lines.{lines}
 use Rattle.words.specs.Tokens.{outside_line}
-use Rattle.source_text.proofs.Scans.{code_fits, code_within, line_within}
-use Rattle.words.proofs.Readings.{outside_line_lem, lines_past}
-use borrow.Author.Rules.{rules}
-use native.Mathlib.Omega.{arith}
 use Rattle.words.proofs.tokens.outside_line.Given as goal
 
 abbrev pub invariant-loop-at : goal.invariant-loop-at

@@ -1,16 +1,10 @@
 -- `read_code` meets its contract. The loop's invariant: the rows before n, and then the reading of the code from `at` on, come to the whole reading;
 -- there is no more than one row for each byte passed.
-use mathlib.Core.Path.{◌≡◌, refl, sym, ap, ◌∙◌}
-use mathlib.Core.List.{[], ◌∷◌}
-use Prim.Native.Nat.{◌≤◌, ◌<◌, ◌-◌, ◌+◌}
-use native.Mathlib.Nat.{add-zero}
-use lib.ListN.{length, drop, take, length-set}
+use mathlib.Core.Path.{◌≡◌}
+use Prim.Native.Nat.{◌≤◌, ◌-◌, ◌+◌}
+use lib.ListN.{length, drop, take}
 use Rattle.words.specs.Tokens.{and_then, read_after}
 use Rattle.words.specs.Tokens.Reading.{tokens}
-use Rattle.words.specs.declared.tokens.Item.TheVariants.{Token}
-use Rattle.words.proofs.Readings.{item_within, read_end, read_blank, read_token, read_refused, push_row}
-use borrow.Author.Rules.{rules}
-use native.Mathlib.Omega.{arith}
 use Rattle.words.proofs.tokens.read_code.Given as goal
 
 abbrev pub invariant-loop-at : goal.invariant-loop-at

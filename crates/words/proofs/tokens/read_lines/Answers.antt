@@ -1,13 +1,12 @@
 -- `read_lines` meets its contract. The loop's invariant: the rows before `count`, and then the reading of the lines from `at` on, come to the whole reading;
 -- there is no more than one row for each byte passed.
 use mathlib.Core.Path.{◌≡◌, refl, sym, ap, ◌∙◌}
-use Prim.Native.Nat.{◌≤◌, ◌-◌, ◌+◌}
+use Prim.Native.Nat.{◌-◌, ◌+◌}
 use lib.ListN.{length, drop, take}
 use Rattle.source_text.specs.Lines.{lines}
 use Rattle.words.specs.Tokens.{and_then, read_lines}
 use Rattle.words.specs.Rows.{outcome}
 use Rattle.words.specs.Lexer.{count_of}
-use Rattle.words.specs.Tokens.Reading.{tokens}
 use Rattle.source_text.proofs.Scans.{code_fits, part_long, code_within, line_within}
 use Rattle.words.proofs.Readings.{then_nil, then_end, line_read, lines_past, stopped}
 use borrow.Author.Rules.{rules}

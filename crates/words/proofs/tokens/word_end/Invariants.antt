@@ -1,12 +1,8 @@
 -- `word_end` meets its contract. The loop's invariant: the word's end is as far from i as the end of the word that starts at i.
-use mathlib.Core.Path.{◌≡◌, refl, sym, ap, ◌∙◌}
+use mathlib.Core.Path.{◌≡◌}
 use Prim.Native.Nat.{◌≤◌, ◌-◌, ◌+◌}
 use lib.ListN.{length, drop}
-use borrow.Author.Tests.{not-true, not-false}
-use Rattle.words.specs.Tokens.{word_of, is_word}
-use Rattle.words.proofs.Items.{word_next, word_stop, word_past}
-use borrow.Author.Rules.{rules}
-use native.Mathlib.Omega.{arith}
+use Rattle.words.specs.Tokens.{word_of}
 use Rattle.words.proofs.tokens.word_end.Given as goal
 
 abbrev pub invariant-loop-i : goal.invariant-loop-i
