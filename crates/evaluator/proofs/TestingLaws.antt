@@ -2,11 +2,11 @@
 use Prim.Native.Nat.{ℕ, ◌+◌, ◌≤◌, ◌<◌, min}
 use native.Mathlib.Omega.{arith}
 use mathlib.Core.Path.{◌≡◌, refl, sym, ap, ◌∙◌}
-use mathlib.Core.Bool.{Bool, true, false, not}
+use mathlib.Core.Bool.{Bool, true, false}
 use mathlib.Core.List.{List}
 use lib.Dec.{ltb}
 use lib.ListN.{length}
-use borrow.Author.Tests.{lt-ltb, le-ltb, not-true, not-false}
+use borrow.Author.Tests.{lt-ltb, le-ltb}
 use Rattle.terms.specs.Numbers.{true_false}
 use Rattle.words.specs.Lexer.{capped_of}
 use Rattle.words.specs.declared.Limits.{Limits}
@@ -52,17 +52,17 @@ short_is limits l e r b f =
 module _ {text : List ℕ} {sg : SignatureStore} {rows : Rows} {at : ℕ} where
   -- A signature that fails its test is not in form,
   pub no_signature : {r : Bool} → Checked text sg.sorts sg.symbols sg.rules sg.words sg.counts.sorts sg.counts.symbols sg.counts.rules sg.counts.words r
-      → not r ≡ true → Readable text sg rows at → ⊥
-  no_signature {r} k e h = true_false (k.complete h.signature) (not-true r e)
+      → r ≡ false → Readable text sg rows at → ⊥
+  no_signature k e h = true_false (k.complete h.signature) e
 
   -- and rows that fail theirs are no term's.
   pub no_term : {r : TermChecked} → Checking text rows at r → r ≡ NoTerm → Readable text sg rows at → ⊥
   no_term k e h = let f = k.complete h.next h.term in let z : ◌≡◌ {A = ℕ} 0 1 = cc in let y : ⊥ = omega arith in y
 
   pub is_readable : {r : Bool} {t : TermChecked} {q : ℕ}
-      → Checked text sg.sorts sg.symbols sg.rules sg.words sg.counts.sorts sg.counts.symbols sg.counts.rules sg.counts.words r → not r ≡ false
+      → Checked text sg.sorts sg.symbols sg.rules sg.words sg.counts.sorts sg.counts.symbols sg.counts.rules sg.counts.words r → r ≡ true
       → Checking text rows at t → t ≡ Ends q → Readable text sg rows at
-  is_readable {q = q} k e l f = record { signature = k.sound (not-false _ e); next = q; term = l.sound q f }
+  is_readable {q = q} k e l f = record { signature = k.sound e; next = q; term = l.sound q f }
 
 -- `evaluate`
 

@@ -8,7 +8,7 @@ use lib.Dec.{eqb, ltb}
 use lib.ListN.{length}
 use borrow.Author.Tests.{lt-ltb, le-ltb, eqb-true}
 use Rattle.terms.specs.Term.Kind.{one as single, many as several}
-use Rattle.term_parser.specs.Source.{one, many}
+use Rattle.term_parser.specs.Source.{one}
 use Rattle.term_parser.specs.Standing as standing
 use Rattle.term_parser.specs.Standing.{Written, number, meta, called, applied, size}
 use Rattle.names.specs.Names.{name_of}
