@@ -13,7 +13,8 @@ use Rattle.resolution.specs.Rules.{Tree}
 use Rattle.resolution.specs.Search.{within, Result, refused, found, failed, Verdict, settle, bounds_from, bounds, deepen, nothing}
 use Rattle.resolution.specs.Search.{proved}
 use Rattle.resolution.specs.Preorder.{flat}
-use Rattle.resolution.proofs.Verdicts as verdicts
+use Rattle.resolution.specs.Verdicts as verdicts
+use Rattle.resolution.proofs.Verdicts.{deepen_says}
 use Rattle.search_machine.specs.State.{term, rules_from}
 use Rattle.search_machine.specs.declared.Allowed.{Allowed}
 use Rattle.deepening.specs.Bounds.{Asking, bounded_of, Unchanged, Extended, Shown, Counted, Says, Bounded, settled, prove_of}
@@ -188,7 +189,7 @@ module _ {a : Allowed} {P : List ℕ} {R F₀ F : Rows} {W₀ W : List ℕ} {T�
       told text =
           subst (λ (v : Verdict). verdicts.Says (rules_from text P R 0 a.rules) c (held term_room W₀ T₀ t) (term W₀ g) v)
           (sym (value text (found (held term_room W' T' t₁) (shown text).trees b c₁ u₁) (shown text).value))
-          (verdicts.deepen_says (within a.variables a.words) (rules_from text P R 0 a.rules) s u c (held term_room W₀ T₀ t)
+          (deepen_says (within a.variables a.words) (rules_from text P R 0 a.rules) s u c (held term_room W₀ T₀ t)
           (term W₀ g)
           h.start.well.form.acyclic h.start.well.form.below
           (below_denote term_room (cells W₀) c u h.start.well.form.words g h.start.refers) (bounds largest) 0 c (le_refl c))

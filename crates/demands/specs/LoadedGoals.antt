@@ -1,7 +1,7 @@
 -- The goals of a loaded text (document 01, "Terms and declarations": `#eval` terms wait until everything is loaded): each row of `evals`
 -- that
 -- `load` leaves has the line and the row of one `#eval`, and from that row on there are the rows of a goal, which is the one written there.
-use Rattle.std.specs.Prelude.{ℕ, zero, suc, ◌+◌, ◌-◌, ◌<◌, ◌≡◌, refl, List, [], ◌∷◌, ◌++◌, length, get_or}
+use Rattle.std.specs.Prelude.{ℕ, zero, suc, ◌+◌, ◌<◌, ◌≡◌, refl, List, [], ◌∷◌, ◌++◌, length, get_or}
 use Rattle.std.proofs.Common.{arith, ap, ◌∙◌, length-append}
 use Rattle.std.proofs.Math.ListN.{get_or-append}
 use Rattle.words.specs.declared.Limits.{Limits}

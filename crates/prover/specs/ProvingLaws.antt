@@ -6,7 +6,7 @@ use Rattle.std.proofs.lemmas.List.{length-replicate}
 use Rattle.words.specs.Lexer.{capped_of}
 use Rattle.words.specs.declared.Limits.{Limits}
 use Rattle.terms.specs.Numbers.{less, by_bool, by_less, true_false, or_false}
-use Rattle.terms.specs.Term.{Term, one, many}
+use Rattle.terms.specs.Term.{Term, one}
 use Rattle.terms.specs.Bindings.{Bindings}
 use Rattle.arena.specs.Cells.{cells}
 use Rattle.arena.specs.Copies.{term_room, pattern_room}
@@ -19,7 +19,7 @@ use Rattle.resolution.specs.Preorder.{preorder}
 use Rattle.resolution.specs.Search as search
 use Rattle.resolution.specs.Search.{words, over, within, Verdict, refusal, proved, nothing, undecided, prove}
 use Rattle.resolution.specs.Session.{Session, Compiled, refuses, compiles, goal_of, limits_of, at_most, variable_limit, word_limit, too_much}
-use Rattle.resolution.specs.Session.{left, searched, answer, answered, tested}
+use Rattle.resolution.specs.Session.{searched, answer, answered, tested}
 use Rattle.resolution.specs.Session as theory
 use Rattle.resolution.specs.Sizes.{VerdictWithin}
 use Rattle.rules.specs.PatternLaws.{arities_of}

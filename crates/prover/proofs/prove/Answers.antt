@@ -1,0 +1,18 @@
+-- `prove` meets its contract: what is not ready gets 1 and nothing is written; else the listed entry point answers.
+use mathlib.Core.Bool.{not}
+use mathlib.Core.Path.{ap}
+use Rattle.prover.specs.TestingLaws.{prove_unready, listed_ready, prove_ready}
+use Rattle.prover.proofs.prove.Goals as goal
+
+pub returns-then-not-is_ready : goal.returns-then-not-is_ready
+returns-then-not-is_ready c =
+    prove_unready c.args.steps c.args.depth c.is_ready.ensures (ap not c.if-not-is_ready.true)
+
+pub prove_listed-requires : goal.prove_listed-requires
+prove_listed-requires c =
+    listed_ready c.args.steps c.args.depth c.is_ready.ensures (ap not c.if-not-is_ready.false)
+
+pub returns : goal.returns
+returns c =
+    prove_ready c.args.steps c.args.depth c.is_ready.ensures (ap not c.if-not-is_ready.false)
+    c.prove_listed.ensures

@@ -1,0 +1,27 @@
+-- `clear_triples` meets its contract. The loop's invariant: the rows from `from` up to i are zero, the others as they were.
+use mathlib.Core.Path.{refl, sym, ap, ◌∙◌}
+use lib.ListN.{set, length-set}
+use Rattle.words.proofs.Rows.{clear_none, clear_more, clear_all}
+use Rattle.sessions.specs.Storage.{zero_triple}
+use native.Mathlib.Omega.{arith}
+use Rattle.session_open.proofs.clear_triples.Goals as goal
+
+pub loop-i-init : goal.loop-i-init
+loop-i-init c = (omega arith, omega arith, refl, sym (clear_none c.args.rows.now c.args.from zero_triple))
+
+pub loop-i-preserved : goal.loop-i-preserved
+loop-i-preserved c =
+    let loop = c.loop-i in
+    let args = c.args in (
+      omega arith,
+      omega arith,
+      simp length-set loop.invariant.2,
+      ap (λ l. set l loop.i zero_triple) loop.invariant.3
+          ∙ clear_more args.rows.now args.from zero_triple loop.i loop.invariant.0 (omega (arith, loop.invariant)),
+    )
+
+pub returns : goal.returns
+returns c =
+    c.loop-i.invariant.3
+    ∙ clear_all c.args.rows.now c.args.from zero_triple c.loop-i.i
+    (omega (arith, c.loop-i.invariant)) c.loop-i.invariant.1
