@@ -1,0 +1,13 @@
+-- `put_decimal` meets its contract: a number has at most ten digits.
+use Rattle.byte_output.specs.NumeralLaws.{numeral_short}
+use native.Mathlib.Omega.{arith}
+use Rattle.evaluation_listing_kit.proofs.output.put_decimal.Goals as goal
+
+pub write_decimal-requires : goal.write_decimal-requires
+write_decimal-requires c = let h = numeral_short c.args.number in omega arith
+
+pub returns : goal.returns
+returns c =
+    let h = numeral_short c.args.number in
+    let p = c.write_decimal.ensures.place in
+    (omega arith, omega arith)
