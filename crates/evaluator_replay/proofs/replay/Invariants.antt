@@ -1,0 +1,10 @@
+-- `replay` is safe and ends: each text moves the place forward.
+-- The loop's invariant: no more texts are counted than places passed.
+use Prim.Native.Nat.{◌≤◌, ◌-◌, ◌+◌}
+use Rattle.evaluator_replay.proofs.replay.Given as goal
+
+abbrev pub invariant-loop-at : goal.invariant-loop-at
+invariant-loop-at l = l.number ≤ l.at + 1
+
+abbrev pub decreases-loop-at : goal.decreases-loop-at
+decreases-loop-at l = l.end - l.at
