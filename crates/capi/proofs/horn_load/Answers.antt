@@ -1,6 +1,5 @@
 -- `horn_load` meets its contract: too few counts, or the answer of `load` told in numbers.
 use mathlib.Core.Path.{refl}
-use borrow.Author.Rules.{rules}
 use native.Mathlib.Omega.{arith}
 use Rattle.capi.proofs.horn_load.Goals as goal
 

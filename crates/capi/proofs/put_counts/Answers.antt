@@ -5,7 +5,6 @@ use Prim.Native.Nat.{ℕ}
 use lib.ListN.{length-set}
 use lib.Seq.{sets}
 use Rattle.load_storage.proofs.WipeLaws.{wipe}
-use borrow.Author.Rules.{rules}
 use native.Mathlib.Omega.{arith}
 use Rattle.capi.proofs.put_counts.Goals as goal
 
