@@ -1,6 +1,8 @@
 // Names: sorts, symbols and variables, found by their whole names. Every comparison reads every byte.
 //
 // All functions here serve the crates above: they ask that as many rows are lent as they count.
+#![tactic(auto)]
+
 ghost use Rattle.std.specs.Prelude.{◌≡◌, ◌≤◌, length};
 ghost use Rattle.source_text.specs.Bytes.{same_bytes};
 ghost use Rattle.source_text.specs.Parts.{part_of};

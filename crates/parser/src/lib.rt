@@ -2,6 +2,8 @@
 //
 // The entry points are `parse_text` and `number`. They ask nothing of their caller, and each contract fixes the answer and every byte of the lent rows on
 // all inputs. `parse` serves `parse_text`: its refusal 1 goes by the number of tokens, not by the limits alone.
+#![tactic(auto)]
+
 mod declarations; // declarations
 
 ghost use Rattle.std.specs.Prelude.{◌≡◌};

@@ -1,6 +1,8 @@
 // Term parser: from tokens to terms, to names, and to lists of them, as rows. The Rust's `Parser` without its declarations, with the refusals 7 to 12.
 //
 // A reader starts at a token's place with some rows in use. It asks for a row for each token, and its contract fixes what it answers and writes.
+#![tactic(auto)]
+
 pub mod tokens; // reading tokens and writing rows
 pub mod terms; // terms: the cycle of calls
 pub mod lists; // names, and lists of items

@@ -17,8 +17,5 @@ loop-i-preserved c =
     let n = c.loop-i.invariant.3.long in
     (refl, search rules, search rules, cleared_more c.loop-i.invariant.3 c.loop-i.invariant.1 (omega (arith, c.requires)))
 
-pub shape_of-rows : goal.shape_of-rows
-shape_of-rows c = c.loop-i.invariant.3.long
-
 pub returns : goal.returns
 returns c = let e : c.loop-i.i ≡ c.args.to = omega arith in rw e at c.loop-i.invariant.3

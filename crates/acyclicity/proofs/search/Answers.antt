@@ -48,9 +48,6 @@ loop-ahead-smaller-then-mark-eq0 c =
 pub loop-ahead-preserved-then-mark-eq0 : goal.loop-ahead-preserved-then-mark-eq0
 loop-ahead-preserved-then-mark-eq0 c = turn_enter c.loop-ahead.invariant c.if-ahead-ne0.true c.if-mark-eq0.true
 
-pub shape_of-scratch-else-mark-eq0 : goal.shape_of-scratch-else-mark-eq0
-shape_of-scratch-else-mark-eq0 c = c.loop-ahead.invariant.long
-
 pub returns-else-mark-eq0 : goal.returns-else-mark-eq0
 returns-else-mark-eq0 c =
     let loop = c.loop-ahead in
@@ -161,9 +158,6 @@ loop-ahead-preserved-else-place-eq0 c =
     let edge_at = c.edge_at-place in
     let if5 = c.if-place-eq0 in
     turn_follow loop.invariant if1.false if4.true edge_at.result edge_at.ensures if5.false
-
-pub shape_of-scratch-then-next-variables : goal.shape_of-scratch-then-next-variables
-shape_of-scratch-then-next-variables c = c.loop-ahead.invariant.long
 
 pub returns-then-next-variables : goal.returns-then-next-variables
 returns-then-next-variables c =

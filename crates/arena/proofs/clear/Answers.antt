@@ -12,8 +12,5 @@ loop-at-init c = (refl, refl)
 pub loop-at-preserved : goal.loop-at-preserved
 loop-at-preserved c = ((simp length-set) ∙ c.loop-at.invariant.0, clear_step c.loop-at.words c.loop-at.at (search rules) ∙ c.loop-at.invariant.1)
 
-pub shape_of-words : goal.shape_of-words
-shape_of-words c = c.loop-at.invariant.0
-
 pub returns : goal.returns
 returns c = sym (clear_end c.loop-at.words c.loop-at.at (search rules)) ∙ c.loop-at.invariant.1

@@ -39,9 +39,6 @@ loop-low-preserved c =
     let args = c.args in
     (settle.ensures.long ∙ loop.invariant.0, pass_step args.room args.words.now args.variables args.used args.a args.b loop.links _ loop.at loop.low _ loop.same _ (search rules) loop.invariant.1 settle.ensures)
 
-pub shape_of-links : goal.shape_of-links
-shape_of-links c = c.loop-low.invariant.0 ∙ c.link-first.ensures.long
-
 pub returns : goal.returns
 returns c =
     let args = c.args in

@@ -44,9 +44,6 @@ loop-i-preserved c =
     let n = copied_length args.pattern.now args.from args.count args.places.now args.room args.used args.counter pre.part in
     (refl, refl, refl, refl, refl, (simp length-set) ∙ loop.invariant.5, search rules, sym (write_step loop.words (copied args.pattern.now args.from args.count args.places.now args.room args.used args.counter) args.used loop.i _ (omega arith) (moved_word.ensures ∙ sym (copied_at args.pattern.now args.from args.count args.places.now args.room args.used args.counter pre.part loop.i (search rules)))) ∙ loop.invariant.7)
 
-pub shape_of-words : goal.shape_of-words
-shape_of-words c = c.loop-i.invariant.5
-
 pub returns : goal.returns
 returns c =
     let args = c.args in

@@ -26,9 +26,6 @@ loop-i-preserved c =
     let args = c.args in
     (refl, refl, search rules, (simp length-set) ∙ loop.invariant.3, sym (write_step loop.words args.arguments.now (args.used + 1) loop.i _ (search rules) refl) ∙ loop.invariant.4)
 
-pub shape_of-words : goal.shape_of-words
-shape_of-words c = c.loop-i.invariant.3 ∙ simp length-set
-
 pub returns : goal.returns
 returns c =
     let args = c.args in

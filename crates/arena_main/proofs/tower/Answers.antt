@@ -7,15 +7,6 @@ use Rattle.arena_main.proofs.tower.Goals as goal
 pub loop-i-init : goal.loop-i-init
 loop-i-init c = refl
 
-pub shape_of-words-then-next-gt262144 : goal.shape_of-words-then-next-gt262144
-shape_of-words-then-next-gt262144 c = c.loop-i.invariant
-
-pub shape_of-words-then-next-words : goal.shape_of-words-then-next-words
-shape_of-words-then-next-words c = c.loop-i.invariant
-
 pub loop-i-preserved : goal.loop-i-preserved
 loop-i-preserved c =
     ap length c.push_node.ensures ∙ (simp length-sets) ∙ c.loop-i.invariant
-
-pub shape_of-words : goal.shape_of-words
-shape_of-words c = c.loop-i.invariant

@@ -6,9 +6,6 @@ use Rattle.attempts.proofs.try_body.Goals as goal
 pub undo-requires : goal.undo-requires
 undo-requires c = body_undoable c.requires
 
-pub shape_of-bindings-then-exceeds : goal.shape_of-bindings-then-exceeds
-shape_of-bindings-then-exceeds c = c.undo.auto.t
-
 pub returns-then-exceeds : goal.returns-then-exceeds
 returns-then-exceeds c =
     let pre = c.requires in
@@ -20,9 +17,6 @@ returns-then-exceeds c =
 pub inst-requires : goal.inst-requires
 inst-requires c =
     body_copyable c.requires (sym c.exceeds.ensures ∙ c.if-exceeds.false)
-
-pub shape_of-words : goal.shape_of-words
-shape_of-words c = c.inst.auto.words
 
 pub returns : goal.returns
 returns c =

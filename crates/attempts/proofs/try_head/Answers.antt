@@ -44,23 +44,6 @@ unify-ended-requires c =
     let fits = sym exceeds.ensures ∙ if1.false in
     record { fact_1 = head_form pre fits _ inst.ensures; fact_2 = (head_goal pre fits _ inst.ensures, head_conclusion pre fits _ inst.ensures _ moved_word.ensures); fact_3 = head_scratch pre fits }
 
-pub shape_of-words-then-ended : goal.shape_of-words-then-ended
-shape_of-words-then-ended c =
-    let inst = c.inst in
-    inst.auto.words
-
-pub shape_of-bindings-then-ended : goal.shape_of-bindings-then-ended
-shape_of-bindings-then-ended c = c.unify-ended.auto.b
-
-pub shape_of-links-then-ended : goal.shape_of-links-then-ended
-shape_of-links-then-ended c = c.unify-ended.auto.links
-
-pub shape_of-marks-then-ended : goal.shape_of-marks-then-ended
-shape_of-marks-then-ended c = c.unify-ended.auto.m
-
-pub shape_of-stack-then-ended : goal.shape_of-stack-then-ended
-shape_of-stack-then-ended c = c.unify-ended.auto.s
-
 pub returns-then-ended : goal.returns-then-ended
 returns-then-ended c =
     let pre = c.requires in
@@ -71,23 +54,6 @@ returns-then-ended c =
     let unify = c.unify-ended in
     let fits = sym exceeds.ensures ∙ if1.false in
     head_unifies pre fits _ inst.ensures moved_word.ensures unify.ensures c.if-ended.true
-
-pub shape_of-words : goal.shape_of-words
-shape_of-words c =
-    let inst = c.inst in
-    inst.auto.words
-
-pub shape_of-bindings : goal.shape_of-bindings
-shape_of-bindings c = c.unify-ended.auto.b
-
-pub shape_of-links : goal.shape_of-links
-shape_of-links c = c.unify-ended.auto.links
-
-pub shape_of-marks : goal.shape_of-marks
-shape_of-marks c = c.unify-ended.auto.m
-
-pub shape_of-stack : goal.shape_of-stack
-shape_of-stack c = c.unify-ended.auto.s
 
 pub returns : goal.returns
 returns c =

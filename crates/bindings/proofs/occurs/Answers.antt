@@ -1,8 +1,7 @@
 -- `occurs` meets its contract. The loop's invariant: what stands in the queue was reached from r, the edges of its first h are followed, none of them
 -- is x, and taking all marks back gives the marks at entry.
 use Prim.Native.Nat.{◌-◌}
-use mathlib.Core.Path.{sym, ap, ◌∙◌}
-use lib.ListN.{length}
+use mathlib.Core.Path.{sym, ◌∙◌}
 use Rattle.bindings.specs.Entries.{entries_none, entries_few}
 use Rattle.bindings.specs.Search.{search_start, search_step, search_end, searched_lent, searched_undoable, searched_back, undone_zero, reference_low, occurs_yes, occurs_no}
 use borrow.Author.Rules.{rules}
@@ -42,12 +41,6 @@ undo-requires c =
     let visit = c.visit-t in
     let pre = c.requires in
     searched_undoable loop.invariant (visit.ensures.back ∙ undone_zero _ 0) pre.fact_4.lent
-
-pub shape_of-m-then-y-x : goal.shape_of-m-then-y-x
-shape_of-m-then-y-x c =
-    c.undo.auto.t
-    ∙ c.loop-h.invariant.long
-    ∙ ap length (c.visit-t.ensures.back ∙ undone_zero _ 0)
 
 pub returns-then-y-x : goal.returns-then-y-x
 returns-then-y-x c =
@@ -105,12 +98,6 @@ pub undo-requires-2 : goal.undo-requires-2
 undo-requires-2 c =
     searched_undoable c.loop-h.invariant (c.visit-t.ensures.back
     ∙ undone_zero _ 0) c.requires.fact_4.lent
-
-pub shape_of-m : goal.shape_of-m
-shape_of-m c =
-    c.undo-2.auto.t
-    ∙ c.loop-h.invariant.long
-    ∙ ap length (c.visit-t.ensures.back ∙ undone_zero _ 0)
 
 pub returns : goal.returns
 returns c =

@@ -1,7 +1,7 @@
 -- `write_decimal` meets its contract: a number of one digit is written at once, and any other behind the digits of its tenth.
 -- No loop; the measure of the recursion is the number, so it is at most ten calls deep.
 use native.Mathlib.Omega.{arith}
-use mathlib.Core.Path.{sym, ◌∙◌}
+use mathlib.Core.Path.{sym}
 use Rattle.byte_output.specs.OutputLaws.{written_as}
 use Rattle.byte_output.specs.NumeralLaws.{numeral_digit, digit_room, tenth_room, last_room, number_written}
 use Rattle.byte_output.proofs.+write_decimal.Goals as goal
@@ -14,9 +14,6 @@ overflow_cast-number t c = omega arith
 
 pub write_byte-requires : goal.write_byte-requires
 write_byte-requires t c = digit_room c.args.out.now _ _ c.requires c.if-number-lt10.true
-
-pub shape_of-out-then-number-lt10 : goal.shape_of-out-then-number-lt10
-shape_of-out-then-number-lt10 t c = c.write_byte.auto.out
 
 pub returns-then-number-lt10 : goal.returns-then-number-lt10
 returns-then-number-lt10 t c = written_as c.write_byte.ensures (sym (numeral_digit _ c.if-number-lt10.true))
@@ -32,9 +29,6 @@ overflow_cast-number-2 t c = omega arith
 
 pub write_byte-requires-2 : goal.write_byte-requires-2
 write_byte-requires-2 t c = last_room _ _ _ c.requires c.if-number-lt10.false (omega arith) c.write_decimal-last.ensures
-
-pub shape_of-out : goal.shape_of-out
-shape_of-out t c = c.write_byte-2.auto.out ∙ c.write_decimal-last.auto.out
 
 pub returns : goal.returns
 returns t c = number_written _ _ _ c.requires c.if-number-lt10.false (omega arith) c.write_decimal-last.ensures c.write_byte-2.ensures

@@ -41,9 +41,6 @@ loop-i-preserved c = let loop = c.loop-i in
 pub overflow_add-result : goal.overflow_add-result
 overflow_add-result c = omega arith
 
-pub shape_of-out : goal.shape_of-out
-shape_of-out c = c.loop-i.invariant.1
-
 pub returns : goal.returns
 returns c = record {
   buffer = c.loop-i.invariant.2 ∙ ap (sets _ _) (take_all _ _ c.loop-i-test.false);

@@ -9,18 +9,6 @@ returns-then-counts-lt4 c = record { few_counts = λ l. (refl, refl, refl); few_
 pub returns-then-results-lt3 : goal.returns-then-results-lt3
 returns-then-results-lt3 c = record { few_counts = λ l. (refl, refl, refl); few_results = λ l. (refl, refl, refl); enough = λ l m. absurd (let z = c.if-results-lt3.true in omega arith) }
 
-pub shape_of-words-in-Refused : goal.shape_of-words-in-Refused
-shape_of-words-in-Refused c = c.evaluate.auto.words
-
-pub shape_of-links-in-Refused : goal.shape_of-links-in-Refused
-shape_of-links-in-Refused c = c.evaluate.auto.links
-
-pub shape_of-trees-in-Refused : goal.shape_of-trees-in-Refused
-shape_of-trees-in-Refused c = c.evaluate.auto.trees
-
-pub shape_of-results-in-Refused : goal.shape_of-results-in-Refused
-shape_of-results-in-Refused c = c.clear_counts.auto.counts
-
 pub returns-in-Refused : goal.returns-in-Refused
 returns-in-Refused c =
     let if1 = c.if-counts-lt4 in
@@ -39,18 +27,6 @@ returns-in-Refused c =
         written = rw (c.in-Refused.is) written.ensures;
       };
     }
-
-pub shape_of-words-in-Value : goal.shape_of-words-in-Value
-shape_of-words-in-Value c = c.evaluate.auto.words
-
-pub shape_of-links-in-Value : goal.shape_of-links-in-Value
-shape_of-links-in-Value c = c.evaluate.auto.links
-
-pub shape_of-trees-in-Value : goal.shape_of-trees-in-Value
-shape_of-trees-in-Value c = c.evaluate.auto.trees
-
-pub shape_of-results-in-Value : goal.shape_of-results-in-Value
-shape_of-results-in-Value c = c.put_results.auto.results
 
 pub returns-in-Value : goal.returns-in-Value
 returns-in-Value c =

@@ -19,14 +19,6 @@ move_rows-requires c =
     let p = c.requires in
     (omega arith, rw length-set (omega arith))
 
-pub shape_of-out : goal.shape_of-out
-shape_of-out c =
-    let pre = c.requires in
-    let args = c.args in
-    let skip = c.skip-end in
-    let move-rows = c.move_rows in
-    (headed pre (args.start) (args.size) (skip.result) _ (skip.ensures) (move-rows.ensures)).kept
-
 pub returns : goal.returns
 returns c =
     let pre = c.requires in

@@ -28,30 +28,6 @@ declare_clause-requires c =
       stand = going_clause g t;
     }
 
-pub shape_of-rules-in-Refused : goal.shape_of-rules-in-Refused
-shape_of-rules-in-Refused c =
-    let declare-clause = c.declare_clause in
-    let loop = c.loop-i in
-    declare-clause.auto.rules ∙ loop.invariant.1
-
-pub shape_of-words-in-Refused : goal.shape_of-words-in-Refused
-shape_of-words-in-Refused c =
-    let declare-clause = c.declare_clause in
-    let loop = c.loop-i in
-    declare-clause.auto.words ∙ loop.invariant.2
-
-pub shape_of-out-in-Refused : goal.shape_of-out-in-Refused
-shape_of-out-in-Refused c =
-    let declare-clause = c.declare_clause in
-    let loop = c.loop-i in
-    declare-clause.auto.out ∙ loop.invariant.3
-
-pub shape_of-calls-in-Refused : goal.shape_of-calls-in-Refused
-shape_of-calls-in-Refused c =
-    let declare-clause = c.declare_clause in
-    let loop = c.loop-i in
-    declare-clause.auto.calls ∙ loop.invariant.4
-
 pub returns-in-Refused : goal.returns-in-Refused
 returns-in-Refused c =
     let loop = c.loop-i in
@@ -80,18 +56,6 @@ loop-i-preserved c =
           ∙ loop.invariant.4,
       λ limit ts s ready cs q st e. going_on pre.inside declare-clause.ensures (loop.invariant.5 limit ts s ready cs q st e) loop-test.true c.in-Done.is,
     )
-
-pub shape_of-rules : goal.shape_of-rules
-shape_of-rules c = c.loop-i.invariant.1
-
-pub shape_of-words : goal.shape_of-words
-shape_of-words c = c.loop-i.invariant.2
-
-pub shape_of-out : goal.shape_of-out
-shape_of-out c = c.loop-i.invariant.3
-
-pub shape_of-calls : goal.shape_of-calls
-shape_of-calls c = c.loop-i.invariant.4
 
 pub returns : goal.returns
 returns c = record { same = λ limit ts s ready cs q st e. going_end (c.loop-i.invariant.5 limit ts s ready cs q st e) (omega (arith, c.loop-i-test.false)) }

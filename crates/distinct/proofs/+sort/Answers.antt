@@ -1,6 +1,5 @@
 -- `sort` meets its contract: the part to sort gets shorter. Its halves are sorted one after the other, copied, and merged.
 use Prim.Native.Nat.{◌-◌}
-use mathlib.Core.Path.{◌∙◌}
 use native.Mathlib.Omega.{arith}
 use Rattle.distinct.proofs.SortLaws.{copied_names, sorted_short, sorted_first, sorted_second, first_run, second_run, sorted_all}
 use Rattle.distinct.proofs.+sort.Goals as goal
@@ -14,12 +13,6 @@ sort-requires t c =
     let if1 = c.if-to-from-lt2 in
     (omega (arith, if1.false), (omega arith, omega (arith, pre), omega (arith, pre)))
 
-pub shape_of-places-then-not-sort : goal.shape_of-places-then-not-sort
-shape_of-places-then-not-sort t c = c.sort.auto.places
-
-pub shape_of-spare-then-not-sort : goal.shape_of-spare-then-not-sort
-shape_of-spare-then-not-sort t c = c.sort.auto.spare
-
 pub returns-then-not-sort : goal.returns-then-not-sort
 returns-then-not-sort t c =
     sorted_first (omega (arith, c.requires)) c.sort.ensures (c.if-not-sort.true)
@@ -30,12 +23,6 @@ sort-requires-2 t c =
     let if1 = c.if-to-from-lt2 in
     let sort = c.sort in
     (omega (arith, if1.false), (omega (arith, pre), omega (arith, pre, sort.auto.places), omega (arith, pre, sort.auto.spare)))
-
-pub shape_of-places-then-not-sort-2 : goal.shape_of-places-then-not-sort-2
-shape_of-places-then-not-sort-2 t c = c.sort-2.auto.places ∙ c.sort.auto.places
-
-pub shape_of-spare-then-not-sort-2 : goal.shape_of-spare-then-not-sort-2
-shape_of-spare-then-not-sort-2 t c = c.sort-2.auto.spare ∙ c.sort.auto.spare
 
 pub returns-then-not-sort-2 : goal.returns-then-not-sort-2
 returns-then-not-sort-2 t c =
@@ -63,20 +50,6 @@ merge-requires t c =
     let if3 = c.if-not-sort-2 in
     let args = c.args in
     (omega arith, omega (arith), omega (arith, pre.2, sort.auto.spare, sort2.auto.spare, copy.auto.spare), omega (arith, pre.1, sort.auto.places, sort2.auto.places), first_run (omega arith) (omega (arith)) sort.ensures (if2.false) sort2.ensures (if3.false) (copied_names args.text.now sort2.new.places copy.new.spare copy.ensures), second_run (omega arith) (omega (arith)) sort.ensures (if2.false) sort2.ensures (if3.false) (copied_names args.text.now sort2.new.places copy.new.spare copy.ensures))
-
-pub shape_of-places : goal.shape_of-places
-shape_of-places t c =
-    let merge = c.merge in
-    let sort2 = c.sort-2 in
-    let sort = c.sort in
-    merge.auto.places ∙ sort2.auto.places ∙ sort.auto.places
-
-pub shape_of-spare : goal.shape_of-spare
-shape_of-spare t c =
-    let copy = c.copy in
-    let sort2 = c.sort-2 in
-    let sort = c.sort in
-    copy.auto.spare ∙ sort2.auto.spare ∙ sort.auto.spare
 
 pub returns : goal.returns
 returns t c =

@@ -22,8 +22,5 @@ loop-i-preserved c =
       copy_more args.rows.now loop.spare args.from loop.i (omega (arith, loop.invariant.1)) loop.invariant.2,
     )
 
-pub shape_of-spare : goal.shape_of-spare
-shape_of-spare c = c.loop-i.invariant.1
-
 pub returns : goal.returns
 returns c = λ i a l. c.loop-i.invariant.2 i (omega (arith, c.loop-i-test.false)) a

@@ -16,9 +16,6 @@ next_run-requires c =
     let pre = c.requires in
     (loop.invariant.1.end, loop.invariant.1.other_end, omega (arith, loop.invariant.1.at, loop-test.true, pre.0, pre.1, loop.invariant.1.end, loop.invariant.1.other_end), omega arith, omega arith)
 
-pub shape_of-places-in-Same : goal.shape_of-places-in-Same
-shape_of-places-in-Same c = c.loop-k.invariant.0
-
 pub returns-in-Same : goal.returns-in-Same
 returns-in-Same c =
     let args = c.args in
@@ -75,9 +72,6 @@ loop-k-preserved c =
           ∙ loop.invariant.0,
       merge_second args.text.now args.spare.now args.places.now loop.places loop.invariant.1 pre.5 next-run.ensures c.in-After.is (omega arith) (omega (arith, loop.invariant.0, loop-test.true)),
     )
-
-pub shape_of-places : goal.shape_of-places
-shape_of-places c = c.loop-k.invariant.0
 
 pub returns : goal.returns
 returns c =

@@ -2,7 +2,7 @@
 use mathlib.Core.Path.{sym, ◌∙◌}
 use Prim.Native.Nat.{◌-◌}
 use Rattle.names.specs.Symbols.{symbols_of}
-use Rattle.flattening.proofs.FlatteningLaws.{past_rows, loop_start, out_long, argument_room, turn_over, turn, end_plain, finish_room, end_call}
+use Rattle.flattening.proofs.FlatteningLaws.{past_rows, loop_start, argument_room, turn_over, turn, end_plain, finish_room, end_call}
 use native.Mathlib.Omega.{arith}
 use Rattle.flattening.proofs.+flatten.Goals as goal
 
@@ -28,19 +28,6 @@ flatten-requires t c =
     let arity = c.arity-n in
     let loop-test = c.loop-i-test in
     (omega (arith, loop.invariant.onward, if1.false), argument_room pre if1.false arity.ensures.value loop.invariant loop-test.true)
-
-pub shape_of-out-in-Over : goal.shape_of-out-in-Over
-shape_of-out-in-Over t c =
-    let flatten = c.flatten in
-    let pre = c.requires in
-    let if1 = c.if-rows-at in
-    let arity = c.arity-n in
-    let loop = c.loop-i in
-    flatten.auto.out ∙ out_long pre if1.false arity.ensures.value loop.invariant
-
-pub shape_of-calls-in-Over : goal.shape_of-calls-in-Over
-shape_of-calls-in-Over t c =
-    c.flatten.auto.calls ∙ c.loop-i.invariant.calls_kept
 
 pub returns-in-Over : goal.returns-in-Over
 returns-in-Over t c =
@@ -71,18 +58,6 @@ finish-requires t c =
     let loop-test = c.loop-i-test in
     finish_room pre if1.false arity.ensures.value loop.invariant loop-test.false
 
-pub shape_of-out-then-is_call : goal.shape_of-out-then-is_call
-shape_of-out-then-is_call t c =
-    let finish = c.finish in
-    let pre = c.requires in
-    let if1 = c.if-rows-at in
-    let arity = c.arity-n in
-    let loop = c.loop-i in
-    finish.auto.out ∙ out_long pre if1.false arity.ensures.value loop.invariant
-
-pub shape_of-calls-then-is_call : goal.shape_of-calls-then-is_call
-shape_of-calls-then-is_call t c = c.finish.auto.calls ∙ c.loop-i.invariant.calls_kept
-
 pub returns-then-is_call : goal.returns-then-is_call
 returns-then-is_call t c =
     let pre = c.requires in
@@ -95,17 +70,6 @@ returns-then-is_call t c =
     let finish = c.finish in
     end_call pre if1.false arity.ensures.value loop.invariant loop-test.false (sym is_call.ensures
     ∙ if2.true) _ _ finish.result finish.auto.out finish.auto.calls finish.ensures
-
-pub shape_of-out : goal.shape_of-out
-shape_of-out t c =
-    let pre = c.requires in
-    let if1 = c.if-rows-at in
-    let arity = c.arity-n in
-    let loop = c.loop-i in
-    out_long pre if1.false arity.ensures.value loop.invariant
-
-pub shape_of-calls : goal.shape_of-calls
-shape_of-calls t c = c.loop-i.invariant.calls_kept
 
 pub returns : goal.returns
 returns t c =

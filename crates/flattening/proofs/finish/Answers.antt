@@ -1,5 +1,4 @@
 -- `finish` meets its contract: the call's row, its arguments and its result variable are written behind the premises.
-use mathlib.Core.Path.{◌∙◌}
 use lib.ListN.{length-set}
 use Rattle.flattening.proofs.PremiseLaws.{replaced}
 use native.Mathlib.Omega.{arith}
@@ -10,9 +9,6 @@ move_rows-requires c = (omega arith, simp length-set (omega arith))
 
 pub bounds-calls-stop : goal.bounds-calls-stop
 bounds-calls-stop c = let k = simp length-set at c.move_rows.ensures.kept in omega arith
-
-pub shape_of-calls : goal.shape_of-calls
-shape_of-calls c = simp length-set (c.move_rows.ensures.kept ∙ simp length-set)
 
 pub returns : goal.returns
 returns c =

@@ -11,8 +11,5 @@ loop-i-init c = (omega arith, copy_start _ _ _ _)
 pub loop-i-preserved : goal.loop-i-preserved
 loop-i-preserved c = let k = c.loop-i.invariant.1.kept in (omega arith, copy_step c.loop-i.invariant.1 (omega arith))
 
-pub shape_of-to : goal.shape_of-to
-shape_of-to c = c.loop-i.invariant.1.kept
-
 pub returns : goal.returns
 returns c = let k = c.loop-i.invariant.1 in let e : c.loop-i.i ≡ c.args.n = omega arith in rw e at k

@@ -37,9 +37,6 @@ loop-i-preserved c =
           omega arith))),
     )
 
-pub shape_of-out : goal.shape_of-out
-shape_of-out c = c.loop-i.invariant.1
-
 pub returns : goal.returns
 returns c =
     let loop = c.loop-i in

@@ -111,48 +111,6 @@ declare-requires c =
       stand = d;
     }
 
-pub shape_of-sorts-in-Refused : goal.shape_of-sorts-in-Refused
-shape_of-sorts-in-Refused c =
-    let declare = c.declare in
-    let loop = c.loop-i in
-    declare.auto.sorts ∙ loop.invariant.1
-
-pub shape_of-symbols-in-Refused : goal.shape_of-symbols-in-Refused
-shape_of-symbols-in-Refused c =
-    let declare = c.declare in
-    let loop = c.loop-i in
-    declare.auto.symbols ∙ loop.invariant.2
-
-pub shape_of-rules-in-Refused : goal.shape_of-rules-in-Refused
-shape_of-rules-in-Refused c =
-    let declare = c.declare in
-    let loop = c.loop-i in
-    declare.auto.rules ∙ loop.invariant.3
-
-pub shape_of-words-in-Refused : goal.shape_of-words-in-Refused
-shape_of-words-in-Refused c =
-    let declare = c.declare in
-    let loop = c.loop-i in
-    declare.auto.words ∙ loop.invariant.4
-
-pub shape_of-evals-in-Refused : goal.shape_of-evals-in-Refused
-shape_of-evals-in-Refused c =
-    let note = c.note-count in
-    let loop = c.loop-i in
-    note.auto.evals ∙ loop.invariant.5
-
-pub shape_of-out-in-Refused : goal.shape_of-out-in-Refused
-shape_of-out-in-Refused c =
-    let declare = c.declare in
-    let loop = c.loop-i in
-    declare.auto.out ∙ loop.invariant.6
-
-pub shape_of-calls-in-Refused : goal.shape_of-calls-in-Refused
-shape_of-calls-in-Refused c =
-    let declare = c.declare in
-    let loop = c.loop-i in
-    declare.auto.calls ∙ loop.invariant.7
-
 pub returns-in-Refused : goal.returns-in-Refused
 returns-in-Refused c =
     let declare = c.declare in
@@ -191,27 +149,6 @@ loop-i-preserved c =
           ∙ loop.invariant.7,
       λ ds a b t. rw (note.ensures.0, note.ensures.1) (sofar_on declare.ensures (loop.invariant.8 ds a b t) loop-test.true c.in-Done.is),
     )
-
-pub shape_of-sorts : goal.shape_of-sorts
-shape_of-sorts c = c.loop-i.invariant.1
-
-pub shape_of-symbols : goal.shape_of-symbols
-shape_of-symbols c = c.loop-i.invariant.2
-
-pub shape_of-rules : goal.shape_of-rules
-shape_of-rules c = c.loop-i.invariant.3
-
-pub shape_of-words : goal.shape_of-words
-shape_of-words c = c.loop-i.invariant.4
-
-pub shape_of-evals : goal.shape_of-evals
-shape_of-evals c = c.loop-i.invariant.5
-
-pub shape_of-out : goal.shape_of-out
-shape_of-out c = c.loop-i.invariant.6
-
-pub shape_of-calls : goal.shape_of-calls
-shape_of-calls c = c.loop-i.invariant.7
 
 pub returns : goal.returns
 returns c = record { same = λ ds a b t. sofar_end (c.loop-i.invariant.8 ds a b t) (omega (arith, c.loop-i-test.false)) }

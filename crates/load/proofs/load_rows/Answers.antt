@@ -110,51 +110,6 @@ overflow_cast-result-in-Done-4 c =
     let m = pre.limited in
     omega arith
 
-pub shape_of-tokens-in-Refused : goal.shape_of-tokens-in-Refused
-shape_of-tokens-in-Refused c =
-    let leave-nothing = c.leave_nothing in
-    let enter-all = c.enter_all in
-    leave-nothing.auto.tokens ∙ enter-all.auto.out
-
-pub shape_of-rows-in-Refused : goal.shape_of-rows-in-Refused
-shape_of-rows-in-Refused c = c.leave_nothing.auto.rows
-
-pub shape_of-calls-in-Refused : goal.shape_of-calls-in-Refused
-shape_of-calls-in-Refused c =
-    let leave-nothing = c.leave_nothing in
-    let enter-all = c.enter_all in
-    leave-nothing.auto.calls ∙ enter-all.auto.calls
-
-pub shape_of-sorts-in-Refused : goal.shape_of-sorts-in-Refused
-shape_of-sorts-in-Refused c =
-    let leave-nothing = c.leave_nothing in
-    let enter-all = c.enter_all in
-    leave-nothing.auto.sorts ∙ enter-all.auto.sorts
-
-pub shape_of-symbols-in-Refused : goal.shape_of-symbols-in-Refused
-shape_of-symbols-in-Refused c =
-    let leave-nothing = c.leave_nothing in
-    let enter-all = c.enter_all in
-    leave-nothing.auto.symbols ∙ enter-all.auto.symbols
-
-pub shape_of-rules-in-Refused : goal.shape_of-rules-in-Refused
-shape_of-rules-in-Refused c =
-    let leave-nothing = c.leave_nothing in
-    let enter-all = c.enter_all in
-    leave-nothing.auto.rules ∙ enter-all.auto.rules
-
-pub shape_of-words-in-Refused : goal.shape_of-words-in-Refused
-shape_of-words-in-Refused c =
-    let leave-nothing = c.leave_nothing in
-    let enter-all = c.enter_all in
-    leave-nothing.auto.words ∙ enter-all.auto.words
-
-pub shape_of-evals-in-Refused : goal.shape_of-evals-in-Refused
-shape_of-evals-in-Refused c =
-    let leave-nothing = c.leave_nothing in
-    let enter-all = c.enter_all in
-    leave-nothing.auto.evals ∙ enter-all.auto.evals
-
 pub returns-in-Refused : goal.returns-in-Refused
 returns-in-Refused c =
     let args = c.args in
@@ -204,48 +159,6 @@ returns-in-Refused c =
       same = λ ds x y t. rows_refused b m d l args.text.now args.limit ds enter-all.result args.n (load_of args.limit args.text.now ds) (enter-all.ensures.same ds (part_is args.used args.rows.now
           ∙ x) y t) c.in-Refused.is w;
     }
-
-pub shape_of-tokens-in-Done : goal.shape_of-tokens-in-Done
-shape_of-tokens-in-Done c =
-    let leave = c.leave in
-    let enter-all = c.enter_all in
-    leave.auto.tokens ∙ enter-all.auto.out
-
-pub shape_of-calls-in-Done : goal.shape_of-calls-in-Done
-shape_of-calls-in-Done c =
-    let leave = c.leave in
-    let enter-all = c.enter_all in
-    leave.auto.calls ∙ enter-all.auto.calls
-
-pub shape_of-sorts-in-Done : goal.shape_of-sorts-in-Done
-shape_of-sorts-in-Done c =
-    let leave = c.leave in
-    let enter-all = c.enter_all in
-    leave.auto.sorts ∙ enter-all.auto.sorts
-
-pub shape_of-symbols-in-Done : goal.shape_of-symbols-in-Done
-shape_of-symbols-in-Done c =
-    let leave = c.leave in
-    let enter-all = c.enter_all in
-    leave.auto.symbols ∙ enter-all.auto.symbols
-
-pub shape_of-rules-in-Done : goal.shape_of-rules-in-Done
-shape_of-rules-in-Done c =
-    let leave = c.leave in
-    let enter-all = c.enter_all in
-    leave.auto.rules ∙ enter-all.auto.rules
-
-pub shape_of-words-in-Done : goal.shape_of-words-in-Done
-shape_of-words-in-Done c =
-    let leave = c.leave in
-    let enter-all = c.enter_all in
-    leave.auto.words ∙ enter-all.auto.words
-
-pub shape_of-evals-in-Done : goal.shape_of-evals-in-Done
-shape_of-evals-in-Done c =
-    let leave = c.leave in
-    let enter-all = c.enter_all in
-    leave.auto.evals ∙ enter-all.auto.evals
 
 pub returns-in-Done : goal.returns-in-Done
 returns-in-Done c =

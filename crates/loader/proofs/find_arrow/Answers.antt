@@ -1,5 +1,5 @@
 -- `find_arrow` meets its contract. The loop's invariant: the numbers of the first i names are known, and written as far as there is room.
-use mathlib.Core.Path.{sym, ap, ◌∙◌}
+use mathlib.Core.Path.{ap, ◌∙◌}
 use Prim.Native.Nat.{◌-◌}
 use Rattle.names.specs.Names.{Name}
 use Rattle.names.specs.Symbols.{sorts_of, sort_number}
@@ -12,10 +12,6 @@ loop-i-init c =
     let args = c.args in
     let pre = c.requires in
     (omega arith, sofar_none args.text.now args.rows.now args.at args.k args.sorts.now args.many pre.0 args.inputs.now pre.4)
-
-pub shape_of-inputs-then-many-s : goal.shape_of-inputs-then-many-s
-shape_of-inputs-then-many-s c =
-    c.loop-i.invariant.1.wide ∙ sym (c.requires.4)
 
 pub returns-then-many-s : goal.returns-then-many-s
 returns-then-many-s c =
@@ -41,9 +37,6 @@ loop-i-preserved c =
       sofar_more args.text.now args.rows.now args.at args.k args.sorts.now args.many pre.0 loop.invariant.1 (find-sort.ensures
           ∙ ap (λ (x : Name). sort_number (sorts_of args.text.now args.sorts.now args.many) x) part.ensures) if1.false put-input.ensures,
     )
-
-pub shape_of-inputs : goal.shape_of-inputs
-shape_of-inputs c = c.loop-i.invariant.1.wide ∙ sym (c.requires.4)
 
 pub returns : goal.returns
 returns c =

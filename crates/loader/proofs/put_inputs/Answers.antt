@@ -2,7 +2,7 @@
 use mathlib.Core.Path.{◌≡◌, sym, ap, ◌∙◌}
 use mathlib.Core.List.{[]}
 use Prim.Native.Nat.{◌-◌}
-use lib.ListN.{length, set, length-set}
+use lib.ListN.{set, length-set}
 use lib.Seq.{set-get_or}
 use Rattle.names.specs.Symbols.{row_at}
 use Rattle.rules.proofs.RowLaws.{sets_next, column_written}
@@ -24,9 +24,6 @@ loop-j-preserved c =
       rw (loop.invariant.1) (column_written (args.symbols.now) (args.i) (pre.0) _ _ _
           ∙ ap (set (args.symbols.now) (args.i)) (sets_next (row_at (args.symbols.now) (args.i)) (args.inputs.now) 8 (loop.j) (omega arith))),
     )
-
-pub shape_of-symbols : goal.shape_of-symbols
-shape_of-symbols c = ap length (c.loop-j.invariant.1) ∙ length-set (c.args.symbols.now) (c.args.i) _
 
 pub returns : goal.returns
 returns c = let e : c.loop-j.j ≡ c.args.n = omega (arith, c.loop-j-test.false) in rw e at (c.loop-j.invariant.1)

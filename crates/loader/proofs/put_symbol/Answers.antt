@@ -1,8 +1,8 @@
 -- `put_symbol` meets its contract: the row without inputs, and then the inputs.
-use mathlib.Core.Path.{refl, ap, ◌∙◌}
+use mathlib.Core.Path.{refl}
 use mathlib.Core.List.{List}
 use Prim.Native.Nat.{ℕ}
-use lib.ListN.{length, take, length-set}
+use lib.ListN.{take}
 use lib.Seq.{sets}
 use Rattle.rules.proofs.RowLaws.{over, still_there}
 use Rattle.loader.proofs.put_symbol.Goals as goal
@@ -10,14 +10,6 @@ use Rattle.loader.proofs.put_symbol.Goals as goal
 pub put_inputs-requires : goal.put_inputs-requires
 put_inputs-requires c =
     (still_there (c.args.symbols.now) _ (c.args.i) (c.requires.0) _ refl, c.requires.1, c.requires.2)
-
-pub shape_of-symbols : goal.shape_of-symbols
-shape_of-symbols c =
-    let args = c.args in
-    let pre = c.requires in
-    let put-inputs = c.put_inputs in
-    ap length (over (args.symbols.now) _ _ (args.i) (pre.0) _ (λ (x : List ℕ). sets x 8 (take (args.n) (args.inputs.now))) refl (put-inputs.ensures))
-    ∙ length-set (args.symbols.now) (args.i) _
 
 pub returns : goal.returns
 returns c =

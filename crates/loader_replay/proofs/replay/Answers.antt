@@ -29,27 +29,3 @@ loop-at-preserved c =
       (replay-one.auto.evals)
           ∙ (loop.invariant.8),
     )
-
-pub shape_of-tokens : goal.shape_of-tokens
-shape_of-tokens c = c.loop-at.invariant.1
-
-pub shape_of-rows : goal.shape_of-rows
-shape_of-rows c = c.loop-at.invariant.2
-
-pub shape_of-calls : goal.shape_of-calls
-shape_of-calls c = c.loop-at.invariant.3
-
-pub shape_of-sorts : goal.shape_of-sorts
-shape_of-sorts c = c.loop-at.invariant.4
-
-pub shape_of-symbols : goal.shape_of-symbols
-shape_of-symbols c = c.loop-at.invariant.5
-
-pub shape_of-rules : goal.shape_of-rules
-shape_of-rules c = c.loop-at.invariant.6
-
-pub shape_of-words : goal.shape_of-words
-shape_of-words c = c.loop-at.invariant.7
-
-pub shape_of-evals : goal.shape_of-evals
-shape_of-evals c = c.loop-at.invariant.8

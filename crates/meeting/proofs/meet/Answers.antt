@@ -34,12 +34,6 @@ bounds-words-address c = (node_words c.loop-waiting.invariant c.if-waiting.true 
 pub overflow_sub-most : goal.overflow_sub-most
 overflow_sub-most c = c.loop-waiting.invariant.enough
 
-pub shape_of-places-then-most-spent : goal.shape_of-places-then-most-spent
-shape_of-places-then-most-spent c = c.loop-waiting.invariant.kept
-
-pub shape_of-stack-then-most-spent : goal.shape_of-stack-then-most-spent
-shape_of-stack-then-most-spent c = c.loop-waiting.invariant.keeps
-
 pub returns-then-most-spent : goal.returns-then-most-spent
 returns-then-most-spent c =
     let loop = c.loop-waiting in
@@ -85,12 +79,6 @@ loop-waiting-smaller-else-next-lt-PATTERN_ROOM c = less_enter c.loop-waiting.inv
 
 pub loop-waiting-preserved-else-next-lt-PATTERN_ROOM : goal.loop-waiting-preserved-else-next-lt-PATTERN_ROOM
 loop-waiting-preserved-else-next-lt-PATTERN_ROOM c = turn_enter c.loop-waiting.invariant c.if-waiting.true c.if-next-lt-PATTERN_ROOM.false c.if-most-spent.false
-
-pub shape_of-places-then-depth-eq0 : goal.shape_of-places-then-depth-eq0
-shape_of-places-then-depth-eq0 c = c.loop-waiting.invariant.kept
-
-pub shape_of-stack-then-depth-eq0 : goal.shape_of-stack-then-depth-eq0
-shape_of-stack-then-depth-eq0 c = c.loop-waiting.invariant.keeps
 
 pub returns-then-depth-eq0 : goal.returns-then-depth-eq0
 returns-then-depth-eq0 c = turn_done c.loop-waiting.invariant c.if-waiting.false c.if-depth-eq0.true

@@ -65,16 +65,6 @@ node-pattern-requires t c =
     let y0 = pre in
     (omega arith, record { lent = pre.0.lent; few = pre.0.few; inputs = pre.0.inputs; variables = omega arith; entered = L.bound; words = omega arith; low = omega arith })
 
-pub node-shape_of-variables-in-Failed : goal.node-shape_of-variables-in-Failed
-node-shape_of-variables-in-Failed t c =
-    c.pattern.auto.variables
-    ∙ c.loop-k.invariant.kept_vars
-
-pub node-shape_of-words-in-Failed : goal.node-shape_of-words-in-Failed
-node-shape_of-words-in-Failed t c =
-    c.pattern.auto.words
-    ∙ c.loop-k.invariant.kept_words
-
 pub node-returns-in-Failed : goal.node-returns-in-Failed
 node-returns-in-Failed t c =
     let args = c.args in
@@ -165,12 +155,6 @@ node-push_node-requires t c =
     let y0 = pre in
     let n : length (take (args.arguments) (loop.refs)) ≡ args.arguments = length-take-le (args.arguments) (loop.refs) (omega arith) in
     rw n (omega arith)
-
-pub node-shape_of-variables : goal.node-shape_of-variables
-node-shape_of-variables t c = c.loop-k.invariant.kept_vars
-
-pub node-shape_of-words : goal.node-shape_of-words
-node-shape_of-words t c = c.push_node.auto.words ∙ c.loop-k.invariant.kept_words
 
 pub node-returns : goal.node-returns
 node-returns t c =

@@ -1,6 +1,5 @@
 -- `judgments` meets its contract. The loop's invariant: k judgments are done, and the rest comes to what the whole comes to.
 use mathlib.Core.List.{[]}
-use mathlib.Core.Path.{sym, ◌∙◌}
 use Prim.Native.Nat.{◌-◌}
 use Rattle.names.specs.Symbols.{symbols_of}
 use Rattle.patterns.proofs.Terms.{loop_start, loop_refused, loop_turn, loop_done, nothing_asked}
@@ -29,22 +28,6 @@ pattern-requires c =
       low = omega arith;
     }
 
-pub shape_of-variables-in-Failed : goal.shape_of-variables-in-Failed
-shape_of-variables-in-Failed c =
-    c.pattern.auto.variables
-    ∙ c.loop-k.invariant.kept_vars
-
-pub shape_of-words-in-Failed : goal.shape_of-words-in-Failed
-shape_of-words-in-Failed c =
-    c.pattern.auto.words
-    ∙ c.loop-k.invariant.kept_words
-
-pub shape_of-heads-in-Failed : goal.shape_of-heads-in-Failed
-shape_of-heads-in-Failed c =
-    let loop = c.loop-k in
-    let pre = c.requires in
-    loop.invariant.sixteen ∙ sym (pre.fact_2.1)
-
 pub returns-in-Failed : goal.returns-in-Failed
 returns-in-Failed c =
     let args = c.args in
@@ -70,15 +53,6 @@ loop-k-preserved c =
     let pattern = c.pattern in
     let pre = c.requires in
     loop_turn (args.text.now) (args.rows.now) (args.at) (args.n) (symbols_of (args.text.now) (args.symbols.now) (args.count)) [] (args.variables.now) (args.entered) (args.words.now) (args.used) (args.room) (loop.k) (loop.p) (loop.variables) (loop.nv) (loop.words) (loop.u) (loop.m) (loop.heads) (loop.invariant) (loop-test.true) 0 (nothing_asked (loop.k)) (pattern.result) _ _ (pattern.ensures) (c.in-Node.is) (pattern.auto.variables) (pattern.auto.words) (pre.fact_2.0)
-
-pub shape_of-variables : goal.shape_of-variables
-shape_of-variables c = c.loop-k.invariant.kept_vars
-
-pub shape_of-words : goal.shape_of-words
-shape_of-words c = c.loop-k.invariant.kept_words
-
-pub shape_of-heads : goal.shape_of-heads
-shape_of-heads c = c.loop-k.invariant.sixteen ∙ sym (c.requires.fact_2.1)
 
 pub returns : goal.returns
 returns c =

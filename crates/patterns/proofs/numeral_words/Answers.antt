@@ -55,9 +55,6 @@ loop-k-preserved c =
       λ v e. tower_step v (args.used) (args.y) (args.z) (loop.k) (loop.r) (loop.words) (loop.u) (loop.invariant.3 v e),
     )
 
-pub shape_of-words : goal.shape_of-words
-shape_of-words c = c.loop-k.invariant.0 ∙ length-set (c.args.words.now) (c.args.used) _
-
 pub returns : goal.returns
 returns c =
     let loop = c.loop-k in

@@ -39,12 +39,6 @@ loop-k-preserved c =
       back_on (term_of args.words.now) (row_at args.rules.now args.i) _ loop-test.true loop.invariant.0 loop.invariant.3 walk.ensures,
     )
 
-pub shape_of-places : goal.shape_of-places
-shape_of-places c = c.loop-k.invariant.1
-
-pub shape_of-stack : goal.shape_of-stack
-shape_of-stack c = c.loop-k.invariant.2
-
 pub returns : goal.returns
 returns c =
     let loop = c.loop-k in

@@ -42,15 +42,6 @@ meet-requires c =
       room = omega arith;
     }
 
-pub shape_of-places-in-Over : goal.shape_of-places-in-Over
-shape_of-places-in-Over c =
-    c.meet.auto.places ∙ c.loop-k.invariant.2
-
-pub shape_of-stack-in-Over : goal.shape_of-stack-in-Over
-shape_of-stack-in-Over c =
-    c.meet.auto.stack
-    ∙ c.loop-k.invariant.3
-
 pub returns-in-Over : goal.returns-in-Over
 returns-in-Over c =
     let loop = c.loop-k in
@@ -98,12 +89,6 @@ loop-k-preserved c =
       going_on (term_of args.words.now) (row_at args.rules.now args.i) _ loop.invariant.4 loop-test.true counted.spends (λ e h. (walked_places meet.ensures h _ _ c.in-Places.is).records),
     )
 
-pub shape_of-places-then-spent-size : goal.shape_of-places-then-spent-size
-shape_of-places-then-spent-size c = c.loop-k.invariant.2
-
-pub shape_of-stack-then-spent-size : goal.shape_of-stack-then-spent-size
-shape_of-stack-then-spent-size c = c.loop-k.invariant.3
-
 pub returns-then-spent-size : goal.returns-then-spent-size
 returns-then-spent-size c =
     let args = c.args in
@@ -112,12 +97,6 @@ returns-then-spent-size c =
     let loop-test = c.loop-k-test in
     walked_differs (premises_of args.words.now (row_at args.rules.now args.i)) (λ q. if1.true (sym (going_words (term_of args.words.now) (row_at args.rules.now args.i) _ loop.invariant.4 loop-test.false)
     ∙ q))
-
-pub shape_of-places : goal.shape_of-places
-shape_of-places c = c.loop-k.invariant.2
-
-pub shape_of-stack : goal.shape_of-stack
-shape_of-stack c = c.loop-k.invariant.3
 
 pub returns : goal.returns
 returns c =

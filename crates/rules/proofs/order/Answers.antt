@@ -51,12 +51,6 @@ loop-k-preserved c =
       met_more (term_of (args.words.now)) (args.heads.now) (args.n) (pre.fact_1.lent) (args.conclusion) (loop.k) loop-test.true (loop.invariant.0) _ _ (walk2.ensures _ (loop.invariant.3)),
     )
 
-pub shape_of-places : goal.shape_of-places
-shape_of-places c = c.loop-k.invariant.1 ∙ c.walk-met.auto.places
-
-pub shape_of-stack : goal.shape_of-stack
-shape_of-stack c = c.loop-k.invariant.2 ∙ c.walk-met.auto.stack
-
 pub returns : goal.returns
 returns c =
     let loop = c.loop-k in

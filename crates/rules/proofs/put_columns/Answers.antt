@@ -2,7 +2,7 @@
 use mathlib.Core.Path.{◌≡◌, sym, ap, ◌∙◌}
 use mathlib.Core.List.{[]}
 use Prim.Native.Nat.{◌-◌}
-use lib.ListN.{length, set, length-set}
+use lib.ListN.{set, length-set}
 use lib.Seq.{set-get_or}
 use Rattle.names.specs.Symbols.{row_at}
 use Rattle.rules.proofs.RowLaws.{sets_next, column_written}
@@ -25,9 +25,6 @@ loop-j-preserved c =
       rw (loop.invariant.1) (column_written (args.rules.now) (args.i) (pre.0) _ _ _
           ∙ ap (set (args.rules.now) (args.i)) (sets_next (row_at (args.rules.now) (args.i)) (args.values.now) (args.at) (loop.j) (omega arith))),
     )
-
-pub shape_of-rules : goal.shape_of-rules
-shape_of-rules c = ap length (c.loop-j.invariant.1) ∙ length-set (c.args.rules.now) (c.args.i) _
 
 pub returns : goal.returns
 returns c = let e : c.loop-j.j ≡ c.args.n = omega (arith, c.loop-j-test.false) in rw e at (c.loop-j.invariant.1)

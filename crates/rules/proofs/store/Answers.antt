@@ -1,8 +1,8 @@
 -- `store` meets its contract: the row is written over part by part.
-use mathlib.Core.Path.{◌≡◌, refl, ap, ◌∙◌}
+use mathlib.Core.Path.{◌≡◌, refl}
 use mathlib.Core.List.{List, []}
 use Prim.Native.Nat.{ℕ, ◌<◌}
-use lib.ListN.{length, take, replicate, length-set}
+use lib.ListN.{length, take, replicate}
 use lib.Seq.{sets, take_all}
 use Rattle.rules.proofs.RowLaws.{over, still_there, sorts_in}
 use borrow.Author.Rules.{rules}
@@ -52,22 +52,6 @@ put_columns-requires-3 c =
     let s3 = over (args.rules.now) _ _ (args.i) l _ (λ (x : List ℕ). sets x 10 (take (args.n) (args.heads.now))) s2 (put-columns2.ensures) in
     let s4 = over (args.rules.now) _ _ (args.i) l _ (λ (x : List ℕ). sets x 26 (sorts_in [] (args.variables.now) (args.v))) s3 (put-sorts.ensures []) in
     (still_there (args.rules.now) _ (args.i) l _ s4, omega arith, omega arith)
-
-pub shape_of-rules : goal.shape_of-rules
-shape_of-rules c =
-    let args = c.args in
-    let pre = c.requires in
-    let put-columns = c.put_columns in
-    let put-columns2 = c.put_columns-2 in
-    let put-sorts = c.put_sorts in
-    let put-columns3 = c.put_columns-3 in
-    let l : args.i < length (args.rules.now) = pre.0 in
-    let z : List ℕ = replicate 154 0 in
-    let s2 = over (args.rules.now) _ _ (args.i) l z (λ (x : List ℕ). sets x 0 (take 10 (args.numbers.now))) refl (put-columns.ensures) in
-    let s3 = over (args.rules.now) _ _ (args.i) l _ (λ (x : List ℕ). sets x 10 (take (args.n) (args.heads.now))) s2 (put-columns2.ensures) in
-    let s4 = over (args.rules.now) _ _ (args.i) l _ (λ (x : List ℕ). sets x 26 (sorts_in [] (args.variables.now) (args.v))) s3 (put-sorts.ensures []) in
-    ap length (over (args.rules.now) _ _ (args.i) l _ (λ (x : List ℕ). sets x 90 (take (args.v) (args.places.now))) s4 (put-columns3.ensures))
-    ∙ length-set (args.rules.now) (args.i) _
 
 pub returns : goal.returns
 returns c =

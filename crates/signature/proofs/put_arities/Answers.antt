@@ -23,8 +23,5 @@ loop-i-preserved c =
       written_next 0 loop.arities loop.i (λ j. column (row_at args.symbols.now j) 6) (omega (arith, loop.invariant.1)) loop.invariant.2,
     )
 
-pub shape_of-arities : goal.shape_of-arities
-shape_of-arities c = c.loop-i.invariant.1
-
 pub returns : goal.returns
 returns c = λ i l. c.loop-i.invariant.2 i (omega (arith, c.loop-i-test.false))

@@ -24,8 +24,5 @@ loop-i-preserved c =
       written_next [] loop.places loop.i (λ j. row_at args.sorts.now j) (omega (arith, loop.invariant.1)) loop.invariant.2,
     )
 
-pub shape_of-places : goal.shape_of-places
-shape_of-places c = c.loop-i.invariant.1
-
 pub returns : goal.returns
 returns c = λ i l. c.loop-i.invariant.2 i (omega (arith, c.loop-i-test.false))

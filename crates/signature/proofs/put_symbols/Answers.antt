@@ -14,8 +14,5 @@ loop-i-preserved c =
     let loop = c.loop-i in
     (omega arith, length-set loop.places _ _ ∙ loop.invariant.1, more_put loop.invariant.2 (omega (arith, loop.invariant.1)))
 
-pub shape_of-places : goal.shape_of-places
-shape_of-places c = c.loop-i.invariant.1
-
 pub returns : goal.returns
 returns c = let e : c.loop-i.i ≡ c.args.m = omega arith in rw e at c.loop-i.invariant.2

@@ -1,5 +1,4 @@
 -- `unify` meets its contract: after the loop the links are undone and the stack is cleared, and without success the bindings are undone.
-use mathlib.Core.Path.{◌∙◌}
 use Rattle.unifier.specs.Ending.{links_undoable, bindings_undoable, stack_within, ended_yes, ended_no}
 use Rattle.unifier.proofs.unify.Goals as goal
 
@@ -9,18 +8,6 @@ undo-requires c =
 
 pub clear-requires : goal.clear-requires
 clear-requires c = stack_within c.equate-e.ensures
-
-pub shape_of-b-then-equal : goal.shape_of-b-then-equal
-shape_of-b-then-equal c = c.equate-e.auto.b
-
-pub shape_of-links-then-equal : goal.shape_of-links-then-equal
-shape_of-links-then-equal c = c.undo.auto.t ∙ c.equate-e.auto.links
-
-pub shape_of-m-then-equal : goal.shape_of-m-then-equal
-shape_of-m-then-equal c = c.equate-e.auto.m
-
-pub shape_of-s-then-equal : goal.shape_of-s-then-equal
-shape_of-s-then-equal c = c.clear.auto.s ∙ c.equate-e.auto.s
 
 pub returns-then-equal : goal.returns-then-equal
 returns-then-equal c =
@@ -32,18 +19,6 @@ returns-then-equal c =
 
 pub undo-requires-2 : goal.undo-requires-2
 undo-requires-2 c = bindings_undoable c.equate-e.ensures
-
-pub shape_of-b : goal.shape_of-b
-shape_of-b c = c.undo-2.auto.t ∙ c.equate-e.auto.b
-
-pub shape_of-links : goal.shape_of-links
-shape_of-links c = c.undo.auto.t ∙ c.equate-e.auto.links
-
-pub shape_of-m : goal.shape_of-m
-shape_of-m c = c.equate-e.auto.m
-
-pub shape_of-s : goal.shape_of-s
-shape_of-s c = c.clear.auto.s ∙ c.equate-e.auto.s
 
 pub returns : goal.returns
 returns c =

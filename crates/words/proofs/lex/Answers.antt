@@ -32,9 +32,6 @@ read-r-requires c =
 pub clear-requires : goal.clear-requires
 clear-requires c = omega arith
 
-pub shape_of-tokens-in_default : goal.shape_of-tokens-in_default
-shape_of-tokens-in_default c = c.clear.auto.rows ∙ c.read-r.ensures.long
-
 pub returns-in_default : goal.returns-in_default
 returns-in_default c =
     let capped = c.capped-limit in
@@ -57,9 +54,6 @@ clear-requires-2 c =
     let if1 = c.if-tokens-limit in
     let counted : count_of read'.result ≡ c.in-Tokens.n = ap count_of c.in-Tokens.is in
     omega (arith, read'.ensures.fits, read'.ensures.long, if1.false)
-
-pub shape_of-tokens : goal.shape_of-tokens
-shape_of-tokens c = c.clear-2.auto.rows ∙ c.read-r.ensures.long
 
 pub returns : goal.returns
 returns c =

@@ -28,9 +28,6 @@ returns-then-not-is_utf8 c =
 pub read_lines-r-requires : goal.read_lines-r-requires
 read_lines-r-requires c = (omega arith, omega arith)
 
-pub shape_of-rows-in_default : goal.shape_of-rows-in_default
-shape_of-rows-in_default c = c.read_lines-r.ensures.long
-
 pub returns-in_default : goal.returns-in_default
 unfolding lex_of
 returns-in_default c =
@@ -52,9 +49,6 @@ returns-in_default c =
 pub outside_line-line-requires : goal.outside_line-line-requires
 outside_line-line-requires c = omega (arith, c.requires)
 
-pub shape_of-rows-then-line-ne0 : goal.shape_of-rows-then-line-ne0
-shape_of-rows-then-line-ne0 c = c.read_lines-r.ensures.long
-
 pub returns-then-line-ne0 : goal.returns-then-line-ne0
 unfolding lex_of
 returns-then-line-ne0 c =
@@ -71,9 +65,6 @@ returns-then-line-ne0 c =
       fits = omega arith;
       long = read-lines.ensures.long;
     }
-
-pub shape_of-rows : goal.shape_of-rows
-shape_of-rows c = c.read_lines-r.ensures.long
 
 pub returns : goal.returns
 unfolding lex_of

@@ -21,8 +21,5 @@ loop-i-preserved c =
           z) ∙ loop.invariant.2 k l) (get_or-set_same loop.rows loop.i (0 ∷ 0 ∷ []) [] (search rules)),
     )
 
-pub shape_of-rows : goal.shape_of-rows
-shape_of-rows c = c.loop-i.invariant.0
-
 pub returns : goal.returns
 returns c = λ a l. c.loop-i.invariant.2 a (omega arith)

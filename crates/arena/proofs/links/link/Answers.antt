@@ -1,15 +1,11 @@
 -- `link` meets its contract. The loop's invariant: p and q have to be the same, by the links, exactly where a and b have to be, by the first links.
-use mathlib.Core.Path.{refl, ◌∙◌}
-use lib.ListN.{length-set}
+use mathlib.Core.Path.{refl}
 use Rattle.arena.proofs.Linking.{link_start, link_order, link_in, link_same, link_clash, link_new, link_step, link_falls, order_sum, least_low}
 use native.Mathlib.Omega.{arith}
 use Rattle.arena.proofs.links.link.Goals as goal
 
 pub loop-p-init : goal.loop-p-init
 loop-p-init c = link_start c.args.room c.args.links.now c.args.a c.args.b c.requires.form
-
-pub shape_of-links-then-lower-room : goal.shape_of-links-then-lower-room
-shape_of-links-then-lower-room c = c.loop-p.invariant.long
 
 pub returns-then-lower-room : goal.returns-then-lower-room
 returns-then-lower-room c =
@@ -100,9 +96,6 @@ overflow_sub-high c =
     let o = link_order args.room args.links.now args.a args.b loop.links loop.p loop.q greatest.result least.result loop.invariant loop-test.true greatest.ensures least.ensures in
     omega (arith, o.1)
 
-pub shape_of-links-then-next-eq0 : goal.shape_of-links-then-next-eq0
-shape_of-links-then-next-eq0 c = (simp length-set) ∙ c.loop-p.invariant.long
-
 pub returns-then-next-eq0 : goal.returns-then-next-eq0
 returns-then-next-eq0 c =
     let args = c.args in
@@ -179,9 +172,6 @@ loop-p-preserved c =
     let o = link_order args.room args.links.now args.a args.b loop.links loop.p loop.q greatest.result least.result loop.invariant loop-test.true greatest.ensures least.ensures in
     let b = link_in args.room args.links.now args.a args.b loop.links greatest.result least.result o.0 pre in
     link_step args.room args.links.now args.a args.b loop.links greatest.result least.result _ least3.result o.0 o.1 if1.false b refl if2.false least3.ensures
-
-pub shape_of-links : goal.shape_of-links
-shape_of-links c = c.loop-p.invariant.long
 
 pub returns : goal.returns
 returns c =

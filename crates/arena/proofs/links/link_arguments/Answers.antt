@@ -1,5 +1,5 @@
 -- `link_arguments` meets its contract. The loop's invariant: the first i pairs are linked, and there are no links below `floor`.
-use mathlib.Core.Path.{◌≡◌, refl, ◌∙◌}
+use mathlib.Core.Path.{◌≡◌, refl}
 use mathlib.Core.Bool.{true}
 use Prim.Native.Nat.{◌-◌}
 use mathlib.Core.Path.{subst}
@@ -43,10 +43,6 @@ link-step-requires c =
     let pre = c.requires in
     pair_linkable args.room args.words.now args.links.now args.a args.b args.count args.low loop.links loop.i loop.floor true pre loop.invariant.4 (search rules)
 
-pub shape_of-links-then-not-step : goal.shape_of-links-then-not-step
-shape_of-links-then-not-step c =
-    c.link-step.ensures.long ∙ c.loop-i.invariant.4.long
-
 pub returns-then-not-step : goal.returns-then-not-step
 returns-then-not-step c =
     let args = c.args in
@@ -62,9 +58,6 @@ loop-i-preserved c =
     let link = c.link-step in
     let if1 = c.if-not-step in
     (refl, refl, refl, search rules, pair_linked args.room args.words.now args.links.now args.a args.b args.count args.low loop.links _ loop.i loop.floor _ _ loop.invariant.4 link.ensures (not-false _ if1.false))
-
-pub shape_of-links : goal.shape_of-links
-shape_of-links c = c.loop-i.invariant.4.long
 
 pub returns : goal.returns
 returns c =

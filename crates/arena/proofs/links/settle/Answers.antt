@@ -1,6 +1,5 @@
 -- `settle` meets its contract: each way out is one law.
-use mathlib.Core.Path.{refl, ◌∙◌}
-use lib.ListN.{length-set}
+use mathlib.Core.Path.{refl}
 use Rattle.arena.proofs.Settling.{settle_none, settle_no, settle_clash, settle_linked, lower, room_for, arguments_linkable}
 use native.Mathlib.Omega.{arith}
 use Rattle.arena.proofs.links.settle.Goals as goal
@@ -47,9 +46,6 @@ link_arguments-requires c =
     let if1 = c.if-next-eq0 in
     let if3 = c.if-header-words in
     arguments_linkable args.room args.words.now args.links.now args.variables args.used args.at pre.fact_1 pre.fact_2 _ _ refl if1.false refl if3.true
-
-pub shape_of-links-then-header-words : goal.shape_of-links-then-header-words
-shape_of-links-then-header-words c = c.link_arguments.ensures.long ∙ simp length-set
 
 pub returns-then-header-words : goal.returns-then-header-words
 returns-then-header-words c =

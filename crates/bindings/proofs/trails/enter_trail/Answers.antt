@@ -11,14 +11,8 @@ loop-i-init c = (search rules, entering_start c.args.b.now _ c.args.variables c.
 pub overflow_cast-key : goal.overflow_cast-key
 overflow_cast-key c = omega arith
 
-pub shape_of-m-then-variables-key : goal.shape_of-m-then-variables-key
-shape_of-m-then-variables-key c = c.loop-i.invariant.1.long
-
 pub returns-then-variables-key : goal.returns-then-variables-key
 returns-then-variables-key c = record { entering = c.loop-i.invariant.1; le = c.loop-i.invariant.0; stuck = λ _ u bd f. omega arith }
-
-pub shape_of-m-then-b-key-eq0 : goal.shape_of-m-then-b-key-eq0
-shape_of-m-then-b-key-eq0 c = c.loop-i.invariant.1.long
 
 pub returns-then-b-key-eq0 : goal.returns-then-b-key-eq0
 returns-then-b-key-eq0 c =
@@ -30,9 +24,6 @@ returns-then-b-key-eq0 c =
 
 pub bounds-m-key : goal.bounds-m-key
 bounds-m-key c = let e = c.loop-i.invariant.1.long in omega arith
-
-pub shape_of-m-then-m-key-ne0 : goal.shape_of-m-then-m-key-ne0
-shape_of-m-then-m-key-ne0 c = c.loop-i.invariant.1.long
 
 pub returns-then-m-key-ne0 : goal.returns-then-m-key-ne0
 returns-then-m-key-ne0 c =
@@ -54,9 +45,6 @@ loop-i-preserved c =
     let if2 = c.if-b-key-eq0 in
     let enter = c.enter in
     (search rules, entering_more loop.invariant.1 (search rules) if3.false pre.fact_1.2 if2.false _ enter.ensures)
-
-pub shape_of-m : goal.shape_of-m
-shape_of-m c = c.loop-i.invariant.1.long
 
 pub returns : goal.returns
 returns c = record { entering = c.loop-i.invariant.1; le = c.loop-i.invariant.0; stuck = λ l. let z : ⊥ = omega arith in absurd z }

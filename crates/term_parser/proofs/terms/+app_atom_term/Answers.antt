@@ -4,7 +4,7 @@ use mathlib.Core.Path.{refl, sym, ap, ◌∙◌}
 use native.Mathlib.Omega.{arith}
 use Rattle.term_parser.proofs.TokenLaws.{token_there}
 use Rattle.term_parser.proofs.Readers.{stopped, moved}
-use Rattle.term_parser.proofs.TermLaws.{room_on, there, is_name, is_meta, is_numeral_lem, is_open, is_none, too_deep, inner_stopped, inner_closed, atoms_start, atoms_room, atoms_from, atoms_past, atoms_few, atoms_length, atoms_turn, atoms_none, atoms_applied, atoms_refused, term_stopped, term_plain, second_stopped, root_room, term_equated}
+use Rattle.term_parser.proofs.TermLaws.{room_on, there, is_name, is_meta, is_numeral_lem, is_open, is_none, too_deep, inner_stopped, inner_closed, atoms_start, atoms_room, atoms_from, atoms_past, atoms_few, atoms_turn, atoms_none, atoms_applied, atoms_refused, term_stopped, term_plain, second_stopped, root_room, term_equated}
 use Rattle.term_parser.proofs.terms.+app_atom_term.Goals as goal
 
 pub app-loop-q-init : goal.app-loop-q-init
@@ -22,23 +22,14 @@ app-loop-q-smaller t c = let m = moved (c.atom.ensures) (c.in-At.is) in omega (a
 pub app-loop-q-preserved : goal.app-loop-q-preserved
 app-loop-q-preserved t c = let args = c.args in let pre = c.requires in let atom = c.atom in let loop = c.loop-q in atoms_turn (args.text.now) (args.tokens.now) (args.left) (pre) (atom.ensures) (loop.invariant) (c.in-At.is) (atom.auto.out)
 
-pub app-shape_of-out-then-n-eq0 : goal.app-shape_of-out-then-n-eq0
-app-shape_of-out-then-n-eq0 t c = let atom = c.atom in let args = c.args in let pre = c.requires in let loop = c.loop-q in (atom.auto.out) ∙ atoms_length (args.text.now) (args.tokens.now) (args.left) (pre) (loop.invariant)
-
 pub app-returns-then-n-eq0 : goal.app-returns-then-n-eq0
 app-returns-then-n-eq0 t c = let args = c.args in let pre = c.requires in let atom = c.atom in let loop = c.loop-q in let if1 = c.if-n-eq0 in let line = c.line in atoms_none (args.text.now) (args.tokens.now) (args.left) (pre) (atom.ensures) (loop.invariant) (c.in-Absent.is) (if1.true) (line.ensures)
 
 pub app-apply-requires : goal.app-apply-requires
 app-apply-requires t c = let args = c.args in let pre = c.requires in let loop = c.loop-q in let if1 = c.if-n-eq0 in let atom = c.atom in let r = atoms_room (args.text.now) (args.tokens.now) (args.left) (pre) (loop.invariant) in let f = atoms_past (args.text.now) (args.tokens.now) (args.left) (pre) (loop.invariant) (if1.false) in omega (arith, f, r.here, r.lent, (pre.below), (atom.auto.out))
 
-pub app-shape_of-out-in-Absent : goal.app-shape_of-out-in-Absent
-app-shape_of-out-in-Absent t c = let apply = c.apply in let atom = c.atom in let args = c.args in let pre = c.requires in let loop = c.loop-q in (apply.auto.out) ∙ (atom.auto.out) ∙ atoms_length (args.text.now) (args.tokens.now) (args.left) (pre) (loop.invariant)
-
 pub app-returns-in-Absent : goal.app-returns-in-Absent
 app-returns-in-Absent t c = let args = c.args in let pre = c.requires in let atom = c.atom in let loop = c.loop-q in let if1 = c.if-n-eq0 in let apply = c.apply in atoms_applied (args.text.now) (args.tokens.now) (args.left) (pre) (atom.ensures) (loop.invariant) (c.in-Absent.is) (if1.false) (apply.ensures)
-
-pub app-shape_of-out-in-Refused : goal.app-shape_of-out-in-Refused
-app-shape_of-out-in-Refused t c = let atom = c.atom in let args = c.args in let pre = c.requires in let loop = c.loop-q in (atom.auto.out) ∙ atoms_length (args.text.now) (args.tokens.now) (args.left) (pre) (loop.invariant)
 
 pub app-returns-in-Refused : goal.app-returns-in-Refused
 app-returns-in-Refused t c = let args = c.args in let pre = c.requires in let atom = c.atom in let loop = c.loop-q in atoms_refused (args.text.now) (args.tokens.now) (args.left) (pre) (atom.ensures) (loop.invariant) (c.in-Refused.is)

@@ -16,9 +16,6 @@ occurs-requires c =
     let if2 = c.if-p-room in
     record { fact_1 = pre.fact_1; fact_2 = walk2.ensures.in_form; fact_3 = (walk.ensures.in_form.variable if2.true, walk.ensures.ends if2.true); fact_4 = pre.fact_5 }
 
-pub shape_of-m-then-occurs : goal.shape_of-m-then-occurs
-shape_of-m-then-occurs c = c.occurs.auto.m
-
 pub returns-then-occurs : goal.returns-then-occurs
 returns-then-occurs c =
     let walk = c.walk-p in
@@ -31,9 +28,6 @@ returns-then-occurs c =
       says = in_second _ _ (ways walk.ensures walk2.ensures) if2.true if1.false (sym occurs.ensures.is ∙ if3.true);
       marks = occurs.ensures.marks;
     }
-
-pub shape_of-m-then-p-room : goal.shape_of-m-then-p-room
-shape_of-m-then-p-room c = c.occurs.auto.m
 
 pub returns-then-p-room : goal.returns-then-p-room
 returns-then-p-room c =
@@ -56,9 +50,6 @@ occurs-requires-then-q-room c =
     let if4 = c.if-q-room in
     record { fact_1 = pre.fact_1; fact_2 = walk.ensures.in_form; fact_3 = (walk2.ensures.in_form.variable if4.true, walk2.ensures.ends if4.true); fact_4 = pre.fact_5 }
 
-pub shape_of-m-then-occurs-2 : goal.shape_of-m-then-occurs-2
-shape_of-m-then-occurs-2 c = c.occurs-then-q-room.auto.m
-
 pub returns-then-occurs-2 : goal.returns-then-occurs-2
 returns-then-occurs-2 c =
     let walk = c.walk-p in
@@ -70,9 +61,6 @@ returns-then-occurs-2 c =
       says = in_first _ _ (ways walk.ensures walk2.ensures) (search rules) if4.true (sym occurs2.ensures.is ∙ if5.true);
       marks = occurs2.ensures.marks;
     }
-
-pub shape_of-m-then-q-room : goal.shape_of-m-then-q-room
-shape_of-m-then-q-room c = c.occurs-then-q-room.auto.m
 
 pub returns-then-q-room : goal.returns-then-q-room
 returns-then-q-room c =

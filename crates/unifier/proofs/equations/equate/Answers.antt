@@ -1,7 +1,6 @@
 -- `equate` meets its contract. The loop's invariant: what is left to be made equal, under the bindings held, comes to what the whole comes to; links
 -- join equal terms; bindings, links and open pairs were only added. What falls: links still possible, room on the stack, arguments left, the stage.
-use mathlib.Core.Path.{ap, ◌∙◌, subst}
-use lib.ListN.{length}
+use mathlib.Core.Path.{subst}
 use Rattle.arena.specs.Rows.{column}
 use Rattle.unifier.specs.Promises.{Says}
 use Rattle.unifier.specs.declared.Decision.{Decision}
@@ -125,18 +124,6 @@ loop-pending-preserved-in-Open c =
     let says : Says args.room args.w.now loop.b loop.links loop.n loop.x loop.y (Open c.in-Open.p c.in-Open.q) = subst (λ (e : Decision). Says args.room args.w.now loop.b loop.links loop.n loop.x loop.y e) c.in-Open.is decide.ensures.says in
     rw put-pair.ensures.is (turn_open loop.invariant if1.true _ decide.ensures.marks _ _ says (open_room loop.invariant if1.true _ _ says) put-pair.ensures.wide)
 
-pub shape_of-b-in-Clash : goal.shape_of-b-in-Clash
-shape_of-b-in-Clash c = c.loop-pending.invariant.binding.long
-
-pub shape_of-links-in-Clash : goal.shape_of-links-in-Clash
-shape_of-links-in-Clash c = c.loop-pending.invariant.linking.long
-
-pub shape_of-m-in-Clash : goal.shape_of-m-in-Clash
-shape_of-m-in-Clash c = c.decide.auto.m ∙ ap length c.loop-pending.invariant.marks
-
-pub shape_of-s-in-Clash : goal.shape_of-s-in-Clash
-shape_of-s-in-Clash c = c.loop-pending.invariant.stacking.long
-
 pub returns-in-Clash : goal.returns-in-Clash
 returns-in-Clash c =
     let args = c.args in
@@ -145,18 +132,6 @@ returns-in-Clash c =
     let if1 = c.if-pending in
     let says : Says args.room args.w.now loop.b loop.links loop.n loop.x loop.y Clash = subst (λ (e : Decision). Says args.room args.w.now loop.b loop.links loop.n loop.x loop.y e) c.in-Clash.is decide.ensures.says in
     turn_clash loop.invariant if1.true _ decide.ensures.marks says
-
-pub shape_of-b-then-d-eq0 : goal.shape_of-b-then-d-eq0
-shape_of-b-then-d-eq0 c = c.loop-pending.invariant.binding.long
-
-pub shape_of-links-then-d-eq0 : goal.shape_of-links-then-d-eq0
-shape_of-links-then-d-eq0 c = c.loop-pending.invariant.linking.long
-
-pub shape_of-m-then-d-eq0 : goal.shape_of-m-then-d-eq0
-shape_of-m-then-d-eq0 c = ap length c.loop-pending.invariant.marks
-
-pub shape_of-s-then-d-eq0 : goal.shape_of-s-then-d-eq0
-shape_of-s-then-d-eq0 c = c.loop-pending.invariant.stacking.long
 
 pub returns-then-d-eq0 : goal.returns-then-d-eq0
 returns-then-d-eq0 c = turn_done c.loop-pending.invariant c.if-pending.false c.if-d-eq0.true

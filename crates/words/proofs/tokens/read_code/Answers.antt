@@ -94,9 +94,6 @@ loop-at-preserved c =
           ∙ ap (λ ts. and_then (tokens ts) (read_after (drop (loop.at + c.in-Token.length) args.code.now) 0 (args.start + (loop.at + c.in-Token.length)) args.number)) (sym (push_row loop.rows loop.n (c.in-Token.kind ∷ (args.start + loop.at) ∷ c.in-Token.length ∷ args.number ∷ []) room)),
     )
 
-pub shape_of-rows-in-Refused : goal.shape_of-rows-in-Refused
-shape_of-rows-in-Refused c = c.loop-at.invariant.2
-
 pub returns-in-Refused : goal.returns-in-Refused
 returns-in-Refused c =
     let loop = c.loop-at in
@@ -109,9 +106,6 @@ returns-in-Refused c =
       fits = omega arith;
       long = loop.invariant.2;
     }
-
-pub shape_of-rows : goal.shape_of-rows
-shape_of-rows c = c.loop-at.invariant.2
 
 pub returns : goal.returns
 returns c =

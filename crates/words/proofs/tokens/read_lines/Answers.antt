@@ -44,9 +44,6 @@ read_code-read-requires c =
       small = omega (arith, pre, code_fits args.text.now loop.at code-end.result loop-test.true code-end.ensures);
     }
 
-pub shape_of-rows-in_default : goal.shape_of-rows-in_default
-shape_of-rows-in_default c = c.read_code-read.ensures.long ∙ c.loop-at.invariant.3
-
 pub returns-in_default : goal.returns-in_default
 returns-in_default c =
     let code-end = c.code_end-end in
@@ -113,9 +110,6 @@ loop-at-preserved c =
       line_read args.text.now loop.at code-end.result line-end.result loop.number loop-test.true code-end.ensures line-end.ensures _ (take loop.count loop.rows) (outcome read-code.result read-code.new.rows) loop.invariant.4 read-code.ensures.reads
           ∙ ap (λ l. and_then (outcome l read-code.new.rows) (read_lines (lines (drop (line-end.result + 1) args.text.now)) (line-end.result + 1) (loop.number + 1))) c.in-Tokens.is,
     )
-
-pub shape_of-rows : goal.shape_of-rows
-shape_of-rows c = c.loop-at.invariant.3
 
 pub returns : goal.returns
 unfolding read_lines
