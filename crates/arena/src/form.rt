@@ -32,7 +32,7 @@ pub fn is_argument(
 ) -> bool
     // The pass over the words has come to `node`, and all references are below the headers.
     requires { (from ≤ node) × (node ≤ length words.now) × (room + node ≤ headers) }
-    ensures { result ≡ is_argument (record { words = words.entry.now; room = room; variables = variables; from = from }) node word }
+    ensures { result ≡ is_argument (record { words = words.now; room = room; variables = variables; from = from }) node word }
 {
     if word < room {
         return word < variables;

@@ -1,6 +1,7 @@
 -- Evaluations of one term agree (document 01, "Evaluated terms" and 37): what succeeds with some depth, calls and words behind it and
 -- some limit on words succeeds with less behind it and a greater limit too, with the same value, the same trees and as much spent. So
 -- any two that succeed have the same answer.
+-- The definitions that it speaks of are in specs/AgreementLaws.
 use Prim.Native.Nat.{ℕ, zero, suc, ◌+◌, ◌-◌, ◌≤◌, min, max}
 use native.Mathlib.Omega.{arith}
 use Rattle.std.specs.Prelude.{◌≡◌, Bool, false, cond, ◌&&◌, eqb, length}

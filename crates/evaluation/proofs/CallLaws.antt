@@ -1,5 +1,6 @@
 -- An induction over calls, and one over written terms: what each step keeps holds of every tree that comes back, with what was spent
 -- before and after it. Spending is all that a step is known by: building takes words, and a call is counted before its premises.
+-- The definitions that it speaks of are in specs/CallLaws.
 use Prim.Native.Nat.{ℕ, zero, suc, ◌+◌, ◌-◌, ◌<◌}
 use Rattle.std.proofs.Common.{arith, ltb-true, ltb-false}
 use Rattle.std.specs.Prelude.{◌&&◌, eqb, ltb, length}

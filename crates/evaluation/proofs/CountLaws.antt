@@ -1,5 +1,6 @@
 -- What an evaluation spends (document 01, "Evaluated terms" and 37): each call is a node of a tree that comes back, calls and words
 -- only grow, and neither passes its limit.
+-- The definitions that it speaks of are in specs/CountLaws.
 use Rattle.std.specs.Prelude.{ℕ, suc, ◌+◌, ◌≤◌, ◌≡◌, refl, List, [], length}
 use Rattle.std.proofs.Common.{arith, ap, ap₂, ◌∙◌, length-append}
 use Rattle.terms.specs.Term.{Kind, Term, Terms, Syn}

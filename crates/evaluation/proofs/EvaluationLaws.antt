@@ -1,5 +1,6 @@
 -- Evaluation answers with derivations (document 01, "Evaluated terms"): every tree that comes back is one, and the last tree of a forward call is that of its
 -- own function, with the value as the last argument of the root.
+-- The definitions that it speaks of are in specs/EvaluationLaws.
 use Rattle.std.specs.Prelude.{ℕ, zero, suc, ◌-◌, ◌≡◌, Bool, true, ◌&&◌, eqb, ltb, length}
 use Rattle.std.proofs.Math.Path.{refl}
 use mathlib.Core.List.{List, []}

@@ -1,5 +1,6 @@
 -- How high the trees of an evaluation are (document 01, "Evaluated terms"): a call that may nest so many calls returns a tree of at
 -- most that height, so no tree of an evaluation is higher than 128.
+-- The definitions that it speaks of are in specs/HeightLaws.
 use Rattle.std.specs.Prelude.{ℕ, ◌-◌, ◌≤◌, ◌≡◌, List, []}
 use Rattle.std.proofs.Common.{arith}
 use Rattle.terms.specs.Term.{Term, Terms, Syn}

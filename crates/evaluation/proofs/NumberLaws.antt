@@ -1,5 +1,6 @@
 -- By which numbers an evaluation is refused (document 01, "Evaluated terms"): where the clauses are in form, only by those that document
 -- 01 lists for calls and for written terms, and never by 1, which is for what is not in form.
+-- The definitions that it speaks of are in specs/NumberLaws.
 use Prim.Native.Nat.{ℕ, zero, suc, ◌+◌, ◌-◌, ◌≤◌, ◌<◌}
 use native.Mathlib.Omega.{arith}
 use Rattle.std.specs.Prelude.{◌≡◌, ◌&&◌, eqb, ltb}

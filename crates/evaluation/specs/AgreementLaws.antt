@@ -1,6 +1,7 @@
 -- Evaluations of one term agree (document 01, "Evaluated terms" and 37): what succeeds with some depth, calls and words behind it and
 -- some limit on words succeeds with less behind it and a greater limit too, with the same value, the same trees and as much spent. So
 -- any two that succeed have the same answer.
+-- Here are the definitions; the theorems about them are in proofs/AgreementLaws.
 use Prim.Native.Nat.{◌+◌, ◌≤◌}
 use Rattle.std.specs.Prelude.{◌≡◌}
 use Rattle.evaluation.specs.Calls.{Spent}

@@ -1,5 +1,6 @@
 -- An induction over calls, and one over written terms: what each step keeps holds of every tree that comes back, with what was spent
 -- before and after it. Spending is all that a step is known by: building takes words, and a call is counted before its premises.
+-- Here are the definitions; the theorems about them are in proofs/CallLaws.
 use Prim.Native.Nat.{ℕ, suc, ◌-◌, ◌≤◌, ◌<◌}
 use Rattle.terms.specs.Term.{Kind, Term}
 use Rattle.terms.specs.Term.Kind.{one as single, many as several}

@@ -1,5 +1,6 @@
 -- What an evaluation spends (document 01, "Evaluated terms" and 37): each call is a node of a tree that comes back, calls and words
 -- only grow, and neither passes its limit.
+-- Here are the definitions; the theorems about them are in proofs/CountLaws.
 use Rattle.std.specs.Prelude.{ℕ, suc, ◌+◌, ◌≤◌, ◌≡◌}
 use Rattle.terms.specs.Term.{Kind}
 use Rattle.resolution.specs.Rules.{Tree, node, leaf, ◌◂◌}

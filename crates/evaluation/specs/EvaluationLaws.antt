@@ -1,5 +1,6 @@
 -- Evaluation answers with derivations (document 01, "Evaluated terms"): every tree that comes back is one, and the last tree of a forward call is that of its
 -- own function, with the value as the last argument of the root.
+-- Here are the definitions; the theorems about them are in proofs/EvaluationLaws.
 use Rattle.std.specs.Prelude.{ℕ, ◌≡◌}
 use mathlib.Core.List.{List}
 use Rattle.terms.specs.Term.{Term, Terms}

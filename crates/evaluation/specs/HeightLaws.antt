@@ -1,5 +1,6 @@
 -- How high the trees of an evaluation are (document 01, "Evaluated terms"): a call that may nest so many calls returns a tree of at
 -- most that height, so no tree of an evaluation is higher than 128.
+-- Here are the definitions; the theorems about them are in proofs/HeightLaws.
 use Rattle.std.specs.Prelude.{ℕ, suc, ◌≤◌, max}
 use Rattle.terms.specs.Term.{Kind}
 use Rattle.terms.specs.Term.Kind.{one as single}

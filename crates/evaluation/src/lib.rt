@@ -1,2 +1,2 @@
-// What evaluation is: the value and the trees of a forward call. Its definitions and laws are in specs/, and no code is needed.
+// What evaluation is: the value and the trees of a forward call. Its definitions are in specs/, its laws there and in proofs/, and no code is needed.
 #![tactic(auto)]

@@ -1,5 +1,6 @@
 -- The search's answers in Lloyd's terms: success is a refutation whose computed answer, put in after the starting bindings, is the final bindings;
 -- "none" is a finitely failed goal, so that nothing is derivable; and SLD resolution is complete.
+-- The definitions that it speaks of are in specs/Answers.
 use Rattle.std.specs.Prelude.{ℕ, zero, suc, ◌+◌, ◌≤◌, ◌<◌, ◌≡◌, refl, Bool, false, ◌||◌, List, [], ◌∷◌, length}
 use Rattle.std.proofs.Common.{ap, ap₂, sym, ◌∙◌, subst, arith, le_refl}
 use Rattle.std.proofs.Math.Option.{Option, none, some}

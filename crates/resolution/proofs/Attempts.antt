@@ -1,4 +1,5 @@
 -- What one attempt does, from Robinson's theorem, and how the attempts with the rules go on from it: all that the theorems use of them.
+-- The definitions that it speaks of are in specs/Attempts.
 use Rattle.std.specs.Prelude.{ℕ, suc, ◌+◌, ◌≡◌, refl, Bool, true, false, ◌||◌, List, ◌∷◌, length}
 use Rattle.std.proofs.Common.{sym, subst, arith}
 use Rattle.terms.specs.Term.{many, Term, count, Below}

@@ -1,4 +1,5 @@
 -- Completeness of SLD resolution (Lloyd, section 8): every derivable instance of a goal is an instance of the goal under the answer of a refutation.
+-- The definitions that it speaks of are in specs/Completeness.
 use Rattle.std.specs.Prelude.{ℕ, zero, suc, ◌+◌, ◌≤◌, ◌≡◌, refl, List, length}
 use Rattle.std.proofs.Common.{ap, ap₂, sym, ◌∙◌, subst, arith, le_refl}
 use Rattle.terms.specs.Term.{Kind, many, Syn, var, nil, cons, Terms, append, Subst, sub, compose, Below}

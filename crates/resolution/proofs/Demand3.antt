@@ -1,5 +1,6 @@
 -- Demand 3 (document 01, "Search"), as one theorem about a whole list of goals, refused ones included, each with steps, depth and limits of its own,
--- from any session in form. The theorem is `demand_3` at the end; what it claims is defined first.
+-- from any session in form. The theorem is `demand_3` at the end.
+-- The definitions that it speaks of are in specs/Demand3.
 use Rattle.std.specs.Prelude.{ℕ, zero, suc, ◌+◌, ◌≤◌, ◌<◌, ◌≡◌, refl, Bool, true, false, List, [], ◌∷◌, ◌++◌, ◌⊎◌, length}
 use Rattle.std.proofs.Common.{ap, sym, ◌∙◌, subst, inl, inr, arith, le_refl}
 use Rattle.terms.specs.Term.{var, Term, Below}

@@ -1,4 +1,5 @@
 -- Laws of fresh instances: numbers given once stay, lie in the range from the counter on, and can be given any terms, whatever older variables stand for.
+-- The definitions that it speaks of are in specs/FreshLaws.
 use Rattle.std.specs.Prelude.{ℕ, suc, ◌+◌, ◌-◌, ◌≤◌, ◌<◌, ◌≡◌, refl, true, List, [], ◌∷◌, ◌++◌, length, get_or}
 use Rattle.std.proofs.Common.{ap, ap₂, sym, ◌∙◌, append_assoc, append-nil, arith, length-append}
 use Rattle.terms.specs.Numbers.{same, same_refl, same_true, by_bool, true_false, less_yes, less_no}

@@ -1,4 +1,5 @@
 -- A limited search refuses, or comes to what the unlimited one comes to: bindings, proofs, steps, counter and words.
+-- The definitions that it speaks of are in specs/Limited.
 use Rattle.std.specs.Prelude.{ℕ, zero, suc, ◌+◌, ◌-◌, ◌≡◌, refl, Bool, true, false, ◌||◌, List, [], ◌∷◌, ◌⊎◌, length}
 use Rattle.std.proofs.Common.{ap, sym, ◌∙◌, subst, inl, inr, arith}
 use Rattle.terms.specs.Term.{many, Term, count}

@@ -1,5 +1,6 @@
 -- The search as a machine runs it: its equations without the bound on recursion; one cut flag; and its recursion as a stack of branch records, whose
 -- invariant is that what the whole search comes to stays the same at every step.
+-- The definitions that it speaks of are in specs/Machine.
 use Rattle.std.specs.Prelude.{ℕ, zero, suc, ◌≤◌, ◌≡◌, Bool, true, ◌||◌, List, [], ◌∷◌}
 use Rattle.std.proofs.Math.Path.{refl, sym}
 use Rattle.std.proofs.Common.{ap, ◌∙◌, arith, le_refl}

@@ -1,4 +1,5 @@
 -- The search cases that document 01 marks for proof, over its text's `add`: one list, and one lemma that all of them come out.
+-- The definitions that it speaks of are in specs/Marked.
 use Rattle.std.specs.Prelude.{◌≡◌, refl, true}
 use Rattle.terms.specs.Numbers.{same, less}
 use Rattle.terms.specs.Term.{mem}

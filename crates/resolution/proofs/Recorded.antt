@@ -1,4 +1,5 @@
 -- Random sessions with the answers of the Rust's `Prover`, computed with the definitions.
+-- The definitions that it speaks of are in specs/Recorded.
 use Rattle.std.specs.Prelude.{◌≡◌, refl}
 use Rattle.terms.specs.Numbers.{same, less}
 use Rattle.terms.specs.Term.{mem}

@@ -1,5 +1,6 @@
 -- Repeatability: steps and depth no smaller, from the same bindings and goal, repeat "proved" and "none", whatever the limits and wherever fresh numbers
 -- start, unless storage refuses.
+-- The definitions that it speaks of are in specs/Repeats.
 use Rattle.std.specs.Prelude.{ℕ, zero, suc, ◌+◌, ◌-◌, ◌≤◌, ◌≡◌, refl, true, false, List, [], ◌∷◌, ◌++◌, ◌⊎◌}
 use Rattle.std.proofs.Common.{ap, sym, ◌∙◌, subst, inl, inr, arith, le_refl}
 use Rattle.terms.specs.Term.{many, Term, Subst, sub, Below}

@@ -1,5 +1,6 @@
 -- The unlimited search does not depend on how variables are numbered: it commutes with an injective renaming that shifts the numbers from n₀ on by k.
 -- So it does not matter where fresh numbers start.
+-- The definitions that it speaks of are in specs/Shifting.
 use Prim.Native.Nat.{ℕ, zero, suc, ◌+◌, ◌-◌, ◌≤◌, ◌<◌}
 use Rattle.std.specs.Prelude.{◌≡◌, refl, Bool, true, false, ◌||◌, List, [], ◌∷◌}
 use Rattle.std.proofs.Math.Path.{ap}

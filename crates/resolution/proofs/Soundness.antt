@@ -1,5 +1,6 @@
 -- Soundness: what a successful search has built is a derivation once the final bindings are put in throughout, under any limits, and the bindings
 -- only add. It is a derivation under every substitution that agrees with the final bindings, so later bindings leave it one.
+-- The definitions that it speaks of are in specs/Soundness.
 use Rattle.std.specs.Prelude.{ℕ, zero, suc, ◌+◌, ◌≤◌, ◌≡◌, refl, Bool, false, ◌||◌, List, [], ◌∷◌}
 use Rattle.std.proofs.Common.{ap, ap₂, sym, ◌∙◌, subst, arith, le_refl}
 use Rattle.std.proofs.Math.Option.{some}

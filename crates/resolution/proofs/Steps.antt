@@ -1,4 +1,5 @@
 -- Steps left only fall, and what was cut off stays so. A search that did not exhaust its steps comes to the same with more of them.
+-- The definitions that it speaks of are in specs/Steps.
 use Rattle.std.specs.Prelude.{ℕ, zero, suc, ◌+◌, ◌≤◌, ◌<◌, ◌≡◌, refl, Bool, true, false, ◌||◌, List, [], ◌∷◌}
 use Rattle.std.proofs.Common.{ap, ◌∙◌, subst, arith, le_refl}
 use Rattle.terms.specs.Numbers.{or_false}

@@ -1,4 +1,5 @@
 -- What a verdict says: of derivation trees, and in Lloyd's terms.
+-- The definitions that it speaks of are in specs/Verdicts.
 use Rattle.std.specs.Prelude.{ℕ, zero, suc, ◌-◌, ◌≤◌, ◌≡◌, refl, true, false, List, [], ◌∷◌}
 use Rattle.std.proofs.Common.{sym, ◌∙◌, subst, arith}
 use Rattle.terms.specs.Term.{one, many, Term, nil, cons, Subst, Below}

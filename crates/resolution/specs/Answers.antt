@@ -1,5 +1,6 @@
 -- The search's answers in Lloyd's terms: success is a refutation whose computed answer, put in after the starting bindings, is the final bindings;
 -- "none" is a finitely failed goal, so that nothing is derivable; and SLD resolution is complete.
+-- Here are the definitions; the theorems about them are in proofs/Answers.
 use Rattle.std.specs.Prelude.{ℕ, ◌<◌, ◌≡◌, List, [], ◌∷◌}
 use Rattle.std.proofs.Math.Option.{Option, none, some}
 use Rattle.terms.specs.Term.{var, nil, cons, Term, Terms, Subst, sub}

@@ -1,4 +1,5 @@
 -- What one attempt does, from Robinson's theorem, and how the attempts with the rules go on from it: all that the theorems use of them.
+-- Here are the definitions; the theorems about them are in proofs/Attempts.
 use Rattle.std.specs.Prelude.{ℕ, ◌+◌, ◌≤◌, ◌≡◌, length}
 use Rattle.terms.specs.Term.{Term, Subst, sub, Below}
 use Rattle.terms.specs.Bindings.{Bindings, Acyclic, Solves, BelowB, Extends}

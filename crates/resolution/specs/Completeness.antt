@@ -1,4 +1,5 @@
 -- Completeness of SLD resolution (Lloyd, section 8): every derivable instance of a goal is an instance of the goal under the answer of a refutation.
+-- Here are the definitions; the theorems about them are in proofs/Completeness.
 use Rattle.std.specs.Prelude.{ℕ, ◌<◌, ◌≡◌, List}
 use Rattle.terms.specs.Term.{Terms, Subst, sub}
 use Rattle.terms.specs.Bindings.{Bindings, full, res}

@@ -1,5 +1,6 @@
 -- Demand 3 (document 01, "Search"), as one theorem about a whole list of goals, refused ones included, each with steps, depth and limits of its own,
--- from any session in form. The theorem is `demand_3` at the end; what it claims is defined first.
+-- from any session in form. The theorem is `demand_3`; what it claims is defined here.
+-- Here are the definitions; the theorems about them are in proofs/Demand3.
 use Rattle.std.specs.Prelude.{ℕ, ◌≤◌, ◌≡◌, false, List, [], ◌∷◌, ◌⊎◌}
 use Rattle.terms.specs.Term.{one, many, Term}
 use Rattle.terms.specs.Bindings.{full, res, Extends}

@@ -1,4 +1,5 @@
 -- Laws of fresh instances: numbers given once stay, lie in the range from the counter on, and can be given any terms, whatever older variables stand for.
+-- Here are the definitions; the theorems about them are in proofs/FreshLaws.
 use Rattle.std.specs.Prelude.{ℕ, ◌+◌, ◌-◌, ◌≡◌, true, cond, List, ◌++◌, get_or}
 use Rattle.terms.specs.Numbers.{less}
 use Rattle.terms.specs.Term.{Kind, Syn, var, app, nil, cons, Subst}

@@ -1,5 +1,6 @@
 -- The search as a machine runs it: its equations without the bound on recursion; one cut flag; and its recursion as a stack of branch records, whose
 -- invariant is that what the whole search comes to stays the same at every step.
+-- Here are the definitions; the theorems about them are in proofs/Machine.
 use Rattle.std.specs.Prelude.{ℕ, Bool, ◌||◌, List, [], ◌∷◌}
 use Rattle.terms.specs.Term.{many, Term}
 use Rattle.terms.specs.Bindings.{Bindings}

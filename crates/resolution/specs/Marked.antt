@@ -1,4 +1,5 @@
 -- The search cases that document 01 marks for proof, over its text's `add`: one list, and one lemma that all of them come out.
+-- Here are the definitions; the theorems about them are in proofs/Marked.
 use Rattle.std.specs.Prelude.{ℕ, zero, suc, Bool, true, false, ◌&&◌, List, [], ◌∷◌}
 use Rattle.terms.specs.Numbers.{same}
 use Rattle.terms.specs.Term.{var, app, nil, cons, Term}
@@ -30,7 +31,7 @@ add_rules =
 
 -- A verdict with its steps, as expected of a goal in a new session with the full limits.
 pub data Expected : Type 0 where
-  isProved is_none isUndecided : ℕ → Expected
+  is_proved is_none is_undecided : ℕ → Expected
 
 -- A goal with steps and depth, and what is expected.
 pub record MarkedCase : Type 0 where
@@ -42,15 +43,15 @@ pub record MarkedCase : Type 0 where
 -- Is the verdict the expected one, with its steps?
 abbrev pub meets : Verdict → Expected → Bool
 meets (refusal n) e = false
-meets (proved β st u c m) (isProved s) = same u s
+meets (proved β st u c m) (is_proved s) = same u s
 meets (proved β st u c m) (is_none s) = false
-meets (proved β st u c m) (isUndecided s) = false
-meets (nothing u c) (isProved s) = false
+meets (proved β st u c m) (is_undecided s) = false
+meets (nothing u c) (is_proved s) = false
 meets (nothing u c) (is_none s) = same u s
-meets (nothing u c) (isUndecided s) = false
-meets (undecided u c) (isProved s) = false
+meets (nothing u c) (is_undecided s) = false
+meets (undecided u c) (is_proved s) = false
 meets (undecided u c) (is_none s) = false
-meets (undecided u c) (isUndecided s) = same u s
+meets (undecided u c) (is_undecided s) = same u s
 
 -- Does a case come out?
 abbrev pub meets_case : MarkedCase → Bool
@@ -64,9 +65,9 @@ all_meet (k ∷ ks) = meets_case k && all_meet ks
 -- `add ?x 1 = 2` and `add ?x 2 = 1`.
 unfoldable pub marked : List MarkedCase
 marked =
-    record { goal = add (var 0) (num 1) (num 2); steps = 5; depth = 32; expected = isProved 5 }
-    ∷ record { goal = add (var 0) (num 1) (num 2); steps = 4; depth = 32; expected = isUndecided 4 }
-    ∷ record { goal = add (var 0) (num 1) (num 2); steps = 5; depth = 3; expected = isUndecided 0 }
+    record { goal = add (var 0) (num 1) (num 2); steps = 5; depth = 32; expected = is_proved 5 }
+    ∷ record { goal = add (var 0) (num 1) (num 2); steps = 4; depth = 32; expected = is_undecided 4 }
+    ∷ record { goal = add (var 0) (num 1) (num 2); steps = 5; depth = 3; expected = is_undecided 0 }
     ∷ record { goal = add (var 0) (num 2) (num 1); steps = 3; depth = 32; expected = is_none 2 }
-    ∷ record { goal = add (var 0) (num 2) (num 1); steps = 2; depth = 32; expected = isUndecided 2 }
+    ∷ record { goal = add (var 0) (num 2) (num 1); steps = 2; depth = 32; expected = is_undecided 2 }
     ∷ []

@@ -1,4 +1,5 @@
 -- Random sessions with the answers of the Rust's `Prover`, computed with the definitions.
+-- Here are the definitions; the theorems about them are in proofs/Recorded.
 use Rattle.std.specs.Prelude.{List, [], ◌∷◌}
 use Rattle.terms.specs.Term.{var, app, nil, cons}
 use Rattle.terms.specs.Bindings.{start, bind}

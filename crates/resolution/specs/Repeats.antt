@@ -1,5 +1,6 @@
 -- Repeatability: steps and depth no smaller, from the same bindings and goal, repeat "proved" and "none", whatever the limits and wherever fresh numbers
 -- start, unless storage refuses.
+-- Here are the definitions; the theorems about them are in proofs/Repeats.
 use Rattle.std.specs.Prelude.{zero, suc, ◌≡◌, true, false, ◌⊎◌}
 use Rattle.resolution.specs.Search.{Result, refused, found, failed, Verdict, refusal, proved, nothing, undecided}
 

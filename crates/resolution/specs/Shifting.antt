@@ -1,5 +1,6 @@
 -- The unlimited search does not depend on how variables are numbered: it commutes with an injective renaming that shifts the numbers from n₀ on by k.
 -- So it does not matter where fresh numbers start.
+-- Here are the definitions; the theorems about them are in proofs/Shifting.
 use Prim.Native.Nat.{ℕ, ◌+◌}
 use Rattle.std.specs.Prelude.{cond, List, [], ◌∷◌}
 use Rattle.terms.specs.Numbers.{less}

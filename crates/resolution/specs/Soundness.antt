@@ -1,5 +1,6 @@
 -- Soundness: what a successful search has built is a derivation once the final bindings are put in throughout, under any limits, and the bindings
 -- only add. It is a derivation under every substitution that agrees with the final bindings, so later bindings leave it one.
+-- Here are the definitions; the theorems about them are in proofs/Soundness.
 use Rattle.std.specs.Prelude.{ℕ, ◌+◌, ◌≤◌, ◌≡◌, List, [], ◌∷◌}
 use Rattle.terms.specs.Term.{one, many, Subst, Below}
 use Rattle.terms.specs.Bindings.{Bindings, Acyclic, Solves, BelowB, Extends}

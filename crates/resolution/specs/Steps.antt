@@ -1,4 +1,5 @@
 -- Steps left only fall, and what was cut off stays so. A search that did not exhaust its steps comes to the same with more of them.
+-- Here are the definitions; the theorems about them are in proofs/Steps.
 use Rattle.std.specs.Prelude.{ℕ, ◌+◌, ◌≤◌, ◌<◌, ◌≡◌, Bool, false, List}
 use Rattle.terms.specs.Term.{many}
 use Rattle.terms.specs.Bindings.{Bindings}

@@ -1,4 +1,5 @@
 -- What a verdict says: of derivation trees, and in Lloyd's terms.
+-- Here are the definitions; the theorems about them are in proofs/Verdicts.
 use Rattle.std.specs.Prelude.{ℕ, ◌≤◌, ◌≡◌, List}
 use Rattle.terms.specs.Term.{one, many, Term, nil, cons, Subst, sub}
 use Rattle.terms.specs.Bindings.{Bindings, res, Acyclic, Solves, BelowB, Extends}

@@ -1,2 +1,2 @@
-// The theory of SLD resolution. Its definitions and theorems are in specs/, and no code is needed.
+// The theory of SLD resolution. Its definitions are in specs/, its theorems there and in proofs/, and no code is needed.
 #![tactic(auto)]

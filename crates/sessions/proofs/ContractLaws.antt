@@ -1,5 +1,6 @@
 -- What the contract of `prove` fixes: of two programs that meet it, answers, scratch and the session denoted are the same; without a proof
 -- all that is written is the same but for the places of new names; refused, everything is; and of a proof the listing is the same.
+-- The definitions that it speaks of are in specs/ContractLaws.
 use Rattle.std.specs.Prelude.{ℕ, ◌≡◌, refl, ◌⊎◌, List, ◌++◌, length, drop}
 use Rattle.std.proofs.Common.{arith, sym, ap, ap₂, ◌∙◌, subst, inl, inr, take-append-drop}
 use Rattle.terms.specs.Term.{one, many}

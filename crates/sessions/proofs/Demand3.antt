@@ -1,8 +1,9 @@
 -- Demand 3 at the entry points (document 01, "Search"): one theorem about a whole list of calls of `prove` over one stored signature, from
 -- any stored session in form. Each call meets its contract and starts from the session part that the last one left; goal, steps, depth,
--- limits, proof buffer and scratch are its own; and the text may grow behind its end. First what a list of calls is, then what is claimed
--- of it; `demand_3_stored` at the end proves it. Calls that are answered by 1 wrote nothing and are left out; the others become goals of
+-- limits, proof buffer and scratch are its own; and the text may grow behind its end. What a list of calls is and what is claimed
+-- of it is defined; `demand_3_stored` proves it. Calls that are answered by 1 wrote nothing and are left out; the others become goals of
 -- resolution, whose theorem is cited; and a proof's rows are carried to the end of the list, since words in use are never rewritten.
+-- The definitions that it speaks of are in specs/Demand3.
 use Rattle.std.specs.Prelude.{ℕ, ◌≤◌, ◌<◌, ◌≡◌, refl, ◌⊎◌, List, [], ◌∷◌, length, get_or}
 use Rattle.std.proofs.Common.{arith, sym, ap, ap₂, ◌∙◌, subst, inl, inr, get_or-take}
 use Rattle.words.specs.declared.Limits.{Limits}

@@ -1,5 +1,6 @@
 -- Laws of goals: a goal's term has no variables but those of the session's names and its own; in a new session it compiles as a rule
 -- without premises does; and its refusals are numbers of the signature's place, 19 to 28.
+-- The definitions that it speaks of are in specs/GoalLaws.
 use Prim.Native.Nat.{ℕ, zero, suc, ◌+◌, ◌-◌, ◌≤◌}
 use native.Mathlib.Omega.{arith}
 use Rattle.std.specs.Prelude.{◌≡◌, refl, Bool, true, false, cond, ◌&&◌, ◌⊎◌, List, [], ◌∷◌, map, eqb, ltb, length, get_or, drop}

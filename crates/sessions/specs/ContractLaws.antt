@@ -1,5 +1,6 @@
 -- What the contract of `prove` fixes: of two programs that meet it, answers, scratch and the session denoted are the same; without a proof
 -- all that is written is the same but for the places of new names; refused, everything is; and of a proof the listing is the same.
+-- Here are the definitions; the theorems about them are in proofs/ContractLaws.
 use Rattle.std.specs.Prelude.{ℕ, ◌≡◌, List}
 use Rattle.arena.specs.Copies.{term_room}
 use Rattle.tree_rows.specs.Trees.{entries_from}

@@ -1,5 +1,6 @@
 -- Laws of goals: a goal's term has no variables but those of the session's names and its own; in a new session it compiles as a rule
 -- without premises does; and its refusals are numbers of the signature's place, 19 to 28.
+-- Here are the definitions; the theorems about them are in proofs/GoalLaws.
 use Prim.Native.Nat.{◌≤◌}
 use Rattle.std.specs.Prelude.{◌≡◌, map}
 use Rattle.terms.specs.Term.{nil}

@@ -1,5 +1,5 @@
-// Sessions: what one is stored in, what `open` and `prove` promise, and demand 3 over calls of them. The definitions and theorems are in
-// specs/; here are the types that the contracts speak of, and no function.
+// Sessions: what one is stored in, what `open` and `prove` promise, and demand 3 over calls of them. The definitions are in
+// specs/, the theorems there and in proofs/; here are the types that the contracts speak of, and no function.
 #![tactic(auto)]
 
 // A name of a session: kind, start, length, sort, variable.

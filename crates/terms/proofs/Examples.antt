@@ -1,4 +1,5 @@
 -- Unification by computing: the Rust's order, the raw terms that it stores, and the occurs check, also through bindings.
+-- The definitions that it speaks of are in specs/Examples.
 use Rattle.std.specs.Prelude.{◌≡◌, refl, [], ◌∷◌}
 use Rattle.terms.specs.Numbers.{same}
 use Rattle.terms.specs.Term.{var, mem}

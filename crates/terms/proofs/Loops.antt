@@ -1,4 +1,5 @@
 -- What loops over stored terms need of `walk`, `occurs` and `unify`: the Rust's recursion equations, with no bound on steps, and numbers that fall.
+-- The definitions that it speaks of are in specs/Loops.
 use Rattle.std.specs.Prelude.{ℕ, zero, suc, ◌≤◌, ◌<◌, ◌≡◌, refl, false, ◌||◌, List, [], ◌∷◌, ◌≢◌}
 use Rattle.std.proofs.Common.{ap, sym, ◌∙◌, subst, arith}
 use Rattle.std.proofs.Math.Option.{none, some}

@@ -1,4 +1,5 @@
 -- `unify` by the Rust's own recursion: two walked terms, and arguments from left to right, each with the bindings that the last one left.
+-- The definitions that it speaks of are in specs/Recursion.
 use Rattle.std.specs.Prelude.{ℕ, zero, suc, ◌≤◌, ◌<◌, ◌≡◌, refl, Bool, true, false, cond, List, [], ◌∷◌, ◌++◌}
 use Rattle.std.proofs.Common.{ap, sym, ◌∙◌, subst, arith, le_refl}
 use Rattle.terms.specs.Numbers.{same, by_bool}

@@ -1,4 +1,5 @@
 -- Unification does not depend on how variables are numbered: it commutes with every injective renaming.
+-- The definitions that it speaks of are in specs/Renaming.
 use Rattle.std.specs.Prelude.{ℕ, zero, suc, ◌+◌, ◌≤◌, ◌≡◌, Bool, true, false, cond, List, [], ◌∷◌}
 use Rattle.std.proofs.Math.Path.{refl, ap₂}
 use Rattle.std.proofs.Common.{ap, sym, ◌∙◌, subst}

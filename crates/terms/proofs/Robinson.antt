@@ -1,5 +1,6 @@
 -- Robinson's theorem for `unify`: success gives acyclic bindings that only add and that are a most general unifier over the starting bindings;
 -- failure means that no substitution that agrees with the starting bindings unifies the terms.
+-- The definitions that it speaks of are in specs/Robinson.
 use Rattle.std.specs.Prelude.{ℕ, ◌≡◌, [], ◌∷◌, ◌⊎◌}
 use Rattle.std.proofs.Common.{sym, inl, inr}
 use Rattle.terms.specs.Term.{Term, Subst, Below, sub}

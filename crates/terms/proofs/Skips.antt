@@ -1,4 +1,5 @@
 -- Unifying terms that are equal under the bindings binds nothing, so a machine that skips such pairs makes the very same bindings.
+-- The definitions that it speaks of are in specs/Skips.
 use Rattle.std.specs.Prelude.{ℕ, zero, suc, ◌≤◌, ◌≡◌, refl, true, List, [], ◌∷◌}
 use Rattle.std.proofs.Common.{ap, sym, ◌∙◌, subst, arith, le_refl}
 use Rattle.terms.specs.Numbers.{same, same_refl}

@@ -1,4 +1,5 @@
 -- What one step of unification does to the solutions of the equations, and why the steps come to an end.
+-- The definitions that it speaks of are in specs/UnificationLaws.
 use Rattle.std.specs.Prelude.{ℕ, zero, suc, ◌≤◌, ◌<◌, ◌≡◌, refl, true, List, [], ◌∷◌}
 use Rattle.std.proofs.Common.{ap, ap₂, sym, ◌∙◌, arith}
 use Rattle.terms.specs.Numbers.{by_same, by_bool}

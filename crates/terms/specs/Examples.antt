@@ -1,4 +1,5 @@
 -- Unification by computing: the Rust's order, the raw terms that it stores, and the occurs check, also through bindings.
+-- Here are the definitions; the theorems about them are in proofs/Examples.
 use Rattle.std.specs.Prelude.{List, [], ◌∷◌}
 use Rattle.terms.specs.Term.{var, app, nil, cons, Term}
 use Rattle.terms.specs.Bindings.{Bindings, start, bind}

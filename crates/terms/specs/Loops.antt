@@ -1,4 +1,5 @@
 -- What loops over stored terms need of `walk`, `occurs` and `unify`: the Rust's recursion equations, with no bound on steps, and numbers that fall.
+-- Here are the definitions; the theorems about them are in proofs/Loops.
 use Rattle.std.specs.Prelude.{ℕ, suc, ◌+◌, ◌<◌, ◌≡◌, cond, List}
 use Rattle.terms.specs.Numbers.{same}
 use Rattle.terms.specs.Term.{var, app, Term}

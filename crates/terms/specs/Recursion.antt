@@ -1,4 +1,5 @@
 -- `unify` by the Rust's own recursion: two walked terms, and arguments from left to right, each with the bindings that the last one left.
+-- Here are the definitions; the theorems about them are in proofs/Recursion.
 use Rattle.std.specs.Prelude.{ℕ, cond, [], ◌∷◌}
 use Rattle.terms.specs.Numbers.{same}
 use Rattle.terms.specs.Term.{var, app, Term, Terms}

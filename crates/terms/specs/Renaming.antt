@@ -1,4 +1,5 @@
 -- Unification does not depend on how variables are numbered: it commutes with every injective renaming.
+-- Here are the definitions; the theorems about them are in proofs/Renaming.
 use Rattle.std.specs.Prelude.{ℕ, List, [], ◌∷◌}
 use Rattle.terms.specs.Term.{Kind, Syn, var, app, nil, cons}
 use Rattle.terms.specs.Bindings.{Bindings, start, bind}

@@ -1,5 +1,6 @@
 -- Robinson's theorem for `unify`: success gives acyclic bindings that only add and that are a most general unifier over the starting bindings;
 -- failure means that no substitution that agrees with the starting bindings unifies the terms.
+-- Here are the definitions; the theorems about them are in proofs/Robinson.
 use Rattle.std.specs.Prelude.{ℕ, [], ◌∷◌}
 use Rattle.terms.specs.Term.{Term, Subst}
 use Rattle.terms.specs.Bindings.{Bindings}

@@ -1,4 +1,5 @@
 -- What one step of unification does to the solutions of the equations, and why the steps come to an end.
+-- Here are the definitions; the theorems about them are in proofs/UnificationLaws.
 use Rattle.std.specs.Prelude.{ℕ, ◌<◌, ◌≡◌, List}
 use Rattle.terms.specs.Term.{Term, Subst, sub, Below}
 use Rattle.terms.specs.Bindings.{Bindings, bind, Acyclic, Solves, BelowB, Extends}

@@ -1,2 +1,2 @@
-// The theory of terms and unification. Its definitions and theorems are in specs/, and no code is needed.
+// The theory of terms and unification. Its definitions are in specs/, its theorems there and in proofs/, and no code is needed.
 #![tactic(auto)]
