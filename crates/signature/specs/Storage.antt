@@ -6,6 +6,7 @@ use Rattle.rules.specs.PatternLaws.{nodes}
 use Rattle.loader.specs.Signature.{Signature}
 use Rattle.signature.specs.Form.{rules_of, Listed}
 use Rattle.signature.specs.declared.Counts.{Counts}
+use Rattle.signature.specs.declared.StoredSignature.{StoredSignature}
 
 pub record SignatureStore : Type 0 where
   pub sorts : Rows
@@ -13,6 +14,10 @@ pub record SignatureStore : Type 0 where
   pub rules : Rows
   pub words : List ℕ
   pub counts : Counts
+
+-- What a struct of references to it holds.
+abbrev pub store_of : StoredSignature → SignatureStore
+store_of s = record { sorts = s.sorts.now; symbols = s.symbols.now; rules = s.rules.now; words = s.words.now; counts = s.counts }
 
 -- Its symbols and rules, over a text.
 abbrev pub symbols_in : List ℕ → SignatureStore → List Symbol

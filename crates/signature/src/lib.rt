@@ -45,6 +45,16 @@ pub struct Counts {
     pub words: u32,
 }
 
+// A signature in storage: the rows of its sorts, symbols and rules, the words of the rules, and how much of each is in use.
+#[derive(Clone, Copy)]
+pub struct StoredSignature<'a> {
+    pub sorts: &'a [SortRow],
+    pub symbols: &'a [SymbolRow],
+    pub rules: &'a [RuleRow],
+    pub words: &'a [u32],
+    pub counts: Counts,
+}
+
 // Are as many rows lent as there may be?
 fn is_lent(sorts: &[SortRow], symbols: &[SymbolRow], rules: &[RuleRow]) -> bool
     ensures { Tells result (Lent sorts.now symbols.now rules.now) }
