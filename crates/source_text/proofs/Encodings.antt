@@ -100,6 +100,10 @@ pub positive_some : (n m : ℕ) → positive n ≡ Some m → (m ≡ n) × (0 < 
 positive_some zero m e = absurd (let y : ◌≡◌ {A = ℕ} 0 1 = cc in omega arith)
 positive_some (suc n) m e = let f : suc n ≡ m = cc in (sym f, omega arith)
 
+pub positive_is : (n m : ℕ) → 0 < m → n ≡ m → Some m ≡ positive n
+positive_is n zero h e = absurd (omega arith)
+positive_is n (suc m) h e = rw e refl
+
 pub positive_or : (n : ℕ) → unwrap_or (positive n) 0 ≡ n
 positive_or zero = refl
 positive_or (suc n) = refl
