@@ -67,13 +67,31 @@ module _ (text : List ℕ) (rows : Rows) (n : ℕ) (h : n ≤ length rows) (w : 
   unfolding sorts_of
   sort_found = ap₂ (λ i m. found m i) (find_position (sort_of text) (take n rows) w ∙ find_map (λ s. s) (sort_of text) (take n rows) w) (length-take-le n rows h)
 
+  pub sort_some : (i : ℕ) → Some i ≡ position (λ row. same_bytes (sort_of text row) w) (take n rows) → (i ≡ sort_number (sorts_of text rows n) w) × (i < n)
+  sort_some i e = found_some n _ i (e ∙ sort_found)
+
+  pub sort_none : None ≡ position (λ row. same_bytes (sort_of text row) w) (take n rows) → n ≤ sort_number (sorts_of text rows n) w
+  sort_none e = found_none n _ (e ∙ sort_found)
+
   pub symbol_found : position (λ row. same_bytes (sort_of text row) w) (take n rows) ≡ found n (symbol_number (symbols_of text rows n) w)
   unfolding symbols_of symbol_of
   symbol_found = ap₂ (λ i m. found m i) (find_position (sort_of text) (take n rows) w ∙ find_map (λ f. f.name) (symbol_of text) (take n rows) w) (length-take-le n rows h)
 
+  pub symbol_some : (i : ℕ) → Some i ≡ position (λ row. same_bytes (sort_of text row) w) (take n rows) → (i ≡ symbol_number (symbols_of text rows n) w) × (i < n)
+  symbol_some i e = found_some n _ i (e ∙ symbol_found)
+
+  pub symbol_none : None ≡ position (λ row. same_bytes (sort_of text row) w) (take n rows) → n ≤ symbol_number (symbols_of text rows n) w
+  symbol_none e = found_none n _ (e ∙ symbol_found)
+
   pub variable_found : position (λ row. same_bytes (name_in text row) w) (take n rows) ≡ found n (variable_number (variables_of text rows n) w)
   unfolding variables_of variable_of
   variable_found = ap₂ (λ i m. found m i) (find_position (name_in text) (take n rows) w ∙ find_map (λ v. v.name) (variable_of text) (take n rows) w) (length-take-le n rows h)
+
+  pub variable_some : (i : ℕ) → Some i ≡ position (λ row. same_bytes (name_in text row) w) (take n rows) → (i ≡ variable_number (variables_of text rows n) w) × (i < n)
+  variable_some i e = found_some n _ i (e ∙ variable_found)
+
+  pub variable_none : None ≡ position (λ row. same_bytes (name_in text row) w) (take n rows) → n ≤ variable_number (variables_of text rows n) w
+  variable_none e = found_none n _ (e ∙ variable_found)
 
 -- A row changed, and a row more.
 map_set : {A B : Type 0} (f : A → B) (l : List A) (i : ℕ) (a : A) → map f (set l i a) ≡ set (map f l) i (f a)

@@ -13,6 +13,9 @@ pub type SortRow = [u32; 2];
 // A symbol: start, length, output, function mark, first clause, number of clauses, number of inputs, 0, 16 inputs.
 pub type SymbolRow = [u32; 24];
 
+// A source term: kind, start, length, number of arguments or value.
+pub type TermRow = [u32; 4];
+
 // A variable: kind, start, length, sort.
 pub type VariableRow = [u32; 4];
 
