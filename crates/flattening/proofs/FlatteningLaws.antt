@@ -2,6 +2,7 @@
 use mathlib.Core.Path.{◌≡◌, refl, sym, ap, ◌∙◌}
 use mathlib.Core.Bool.{Bool, true, false, cond}
 use mathlib.Core.List.{List, []}
+use Rattle.std.specs.Prelude.{Option, Some, None}
 use Prim.Native.Nat.{ℕ, suc, ◌+◌, ◌*◌, ◌-◌, ◌≤◌, ◌<◌}
 use native.Mathlib.Omega.{arith}
 use lib.ListN.{length, set, length-set}
@@ -17,8 +18,7 @@ use Rattle.names.specs.Symbols.{Rows, column, row_at, Symbol, symbols_of}
 use Rattle.names.specs.Standing.{Stands, parsed_stands}
 use Rattle.flattening.specs.Flattening.{snoc, is_function, Flat, flat, resulted, calling, paired, and_flat, flatten_of}
 use Rattle.flattening.specs.Promises.{call_limit, arity_of, is_call, premise_count, Finishes, Room, FlatAs, FlatRows, TooMany, Flattens}
-use Rattle.flattening.specs.declared.Flattened.{Flattened}
-use Rattle.flattening.specs.declared.Flattened.TheVariants.{Done, Over}
+use Rattle.flattening.specs.declared.Place.{Place}
 use Rattle.flattening.proofs.SymbolLaws.{call_of_lem, is_call_kind}
 use Rattle.flattening.proofs.RowLaws.{forward, moved, stands_snoc, size_snoc}
 
@@ -385,10 +385,10 @@ module _ {text : List ℕ} {rows : Rows} {at : ℕ} {symbol_rows : Rows} {count 
         (inv.written, omega arith, omega arith, inv.allowed, omega arith)
 
     -- What `finish` answers is right.
-    pub end_call : is_call symbols (kind_at rows at) (word_at text rows at) ≡ true → (out' calls' : Rows) (r : Flattened) → length out' ≡ length out → length calls' ≡ length calls
+    pub end_call : is_call symbols (kind_at rows at) (word_at text rows at) ≡ true → (out' calls' : Rows) (r : Option Place) → length out' ≡ length out → length calls' ≡ length calls
         → Finishes out top last calls stop made (column (row_at rows at) 1) (column (row_at rows at) 2) n row out' calls' r → Flattens text rows at symbols out₀ top calls₀ end number out' calls' r
-    end_call called-here out' calls' Over lo lc f = λ t q ps st sp cp. call_over (call_is called-here t q ps st sp cp) f
-    end_call called-here out' calls' (Done next t e m) lo lc f =
+    end_call called-here out' calls' None lo lc f = λ t q ps st sp cp. call_over (call_is called-here t q ps st sp cp) f
+    end_call called-here out' calls' (Some p) lo lc f =
         let f0 = f.next_same in
         let f1 = f.one_row in
         record {

@@ -1,6 +1,6 @@
 -- What flattening asks of its caller, and what it leaves in the rows that it writes. Source terms stand in the parser's rows; flattened terms and premises
 -- stand in rows that may name variables of flattening.
-use Rattle.std.specs.Prelude.{ℕ, suc, ◌+◌, ◌-◌, ◌*◌, ◌≤◌, ◌<◌, ◌≡◌, Bool, false, cond, List, eqb, length}
+use Rattle.std.specs.Prelude.{ℕ, suc, ◌+◌, ◌-◌, ◌*◌, ◌≤◌, ◌<◌, ◌≡◌, Bool, false, cond, Option, Some, None, List, eqb, length}
 use Rattle.words.specs.Names.{metavariable_kind, numeral_kind}
 use Rattle.source_text.specs.Parts.{part_of}
 use Rattle.term_parser.specs.Source.{Arity, one, many}
@@ -11,8 +11,7 @@ use Rattle.names.specs.Names.{Name, result_name}
 use Rattle.names.specs.Symbols.{Rows, row_at, Symbol}
 use Rattle.names.specs.Standing.{Stands}
 use Rattle.flattening.specs.Flattening.{Flat, flat, snoc, is_function, flatten_of}
-use Rattle.flattening.specs.declared.Flattened.{Flattened}
-use Rattle.flattening.specs.declared.Flattened.TheVariants.{Done, Over}
+use Rattle.flattening.specs.declared.Place.{Place}
 
 -- The most premises of a rule, and so the most calls (document 01, 28).
 abbrev pub call_limit : ℕ
@@ -49,10 +48,10 @@ pub record Replaced (out : Rows) (top last : ℕ) (calls : Rows) (end number sta
       × Stands text calls' 0 (snoc ps (applied (part_of text start n) (snoc us (called (result_name (suc number)))))) end'
 
 -- What `finish` owes: a 17th call is refused.
-abbrev pub Finishes : Rows → ℕ → ℕ → Rows → ℕ → ℕ → ℕ → ℕ → ℕ → ℕ → Rows → Rows → Flattened → Type 0
-Finishes out top last calls end number start n args next out' calls' Over = number ≡ call_limit
-Finishes out top last calls end number start n args next out' calls' (Done next' top' end' number') =
-    Replaced out top last calls end number start n args next out' calls' next' top' end' number'
+abbrev pub Finishes : Rows → ℕ → ℕ → Rows → ℕ → ℕ → ℕ → ℕ → ℕ → ℕ → Rows → Rows → Option Place → Type 0
+Finishes out top last calls end number start n args next out' calls' None = number ≡ call_limit
+Finishes out top last calls end number start n args next out' calls' (Some place) =
+    Replaced out top last calls end number start n args next out' calls' place.next place.top place.end place.number
 
 -- What `flatten` asks: a row of `out` for each row that is left; of `calls` a row for each of these and of those in `out`, and two for each call that may come.
 pub record Room (rows : Rows) (at : ℕ) (symbols : Rows) (count : ℕ) (out : Rows) (top : ℕ) (calls : Rows) (end number : ℕ) : Type 0 where
@@ -92,7 +91,7 @@ TooMany text rows at symbols calls end number =
     (t : Written one) (q : ℕ) (ps : Written many) → parsed.Stands text rows at t q → Stands text calls 0 ps end → size ps ≡ number → call_limit < premise_count (flatten_of symbols t ps)
 
 -- What `flatten` owes.
-abbrev pub Flattens : List ℕ → Rows → ℕ → List Symbol → Rows → ℕ → Rows → ℕ → ℕ → Rows → Rows → Flattened → Type 0
-Flattens text rows at symbols out top calls end number out' calls' Over = TooMany text rows at symbols calls end number
-Flattens text rows at symbols out top calls end number out' calls' (Done next top' end' number') =
-    FlatRows text rows at symbols out top calls end number out' calls' next top' end' number'
+abbrev pub Flattens : List ℕ → Rows → ℕ → List Symbol → Rows → ℕ → Rows → ℕ → ℕ → Rows → Rows → Option Place → Type 0
+Flattens text rows at symbols out top calls end number out' calls' None = TooMany text rows at symbols calls end number
+Flattens text rows at symbols out top calls end number out' calls' (Some place) =
+    FlatRows text rows at symbols out top calls end number out' calls' place.next place.top place.end place.number

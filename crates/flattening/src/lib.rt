@@ -10,21 +10,15 @@ ghost use Rattle.names.specs.Symbols.{symbols_of};
 ghost use Rattle.flattening.specs.Flattening.{is_function};
 ghost use Rattle.flattening.specs.Promises.{call_limit, arity_of, is_call, Copied, Finishes, Room, Flattens};
 
-use names::SymbolRow;
+use names::{SymbolRow, TermRow};
 
-// A term's row: kind, start, length, number of arguments.
-pub type TermRow = [u32; 4];
-
-// A term flattened: the row after it, where its rows and all premises end, and how many calls were made; or a call too many.
+// How far flattening is: the next row of the source, where the next row of the term and of the premises goes, and how many calls were made.
 #[derive(Clone, Copy)]
-pub enum Flattened {
-    Done {
-        next: usize,
-        top: usize,
-        end: usize,
-        number: usize,
-    },
-    Over,
+pub struct Place {
+    pub next: usize,
+    pub top: usize,
+    pub end: usize,
+    pub number: usize,
 }
 
 // The most premises of a rule, and so the most calls (document 01, 28).
@@ -35,11 +29,7 @@ pub fn move_rows(source: &[TermRow], from: usize, n: usize, to: &mut [TermRow], 
     requires { (from + n ≤ length source.now) × (at + n ≤ length to.old) }
     ensures { Copied source.now to.old to.new from n at }
 {
-    let mut i = 0;
-    while i < n {
-        to[at + i] = source[from + i];
-        i += 1;
-    }
+    to[at..at + n].copy_from_slice(&source[from..from + n]);
 }
 
 // Is the word at a place of the text the name of a function?
@@ -47,11 +37,10 @@ fn is_function(text: &[u8], symbols: &[SymbolRow], count: usize, start: u32, siz
     requires { count ≤ length symbols.now }
     ensures { result ≡ is_function (symbols_of text.now symbols.now count) (part_of text.now start size) }
 {
-    let i = names::find_symbol(text, symbols, count, names::part(text, start, size));
-    if i < count {
-        return symbols[i][3] == 1;
+    match names::find(text, &symbols[..count], names::part(text, start, size)) {
+        Some(i) => symbols[i][3] == 1,
+        None => false,
     }
-    false
 }
 
 // Does a row stand for a call?
@@ -105,12 +94,12 @@ fn finish(
     size: u32,
     args: usize,
     next: usize,
-) -> Flattened
+) -> Option<Place>
     requires { (top < last) × (last ≤ length out.old) × (end + last + 2 * (call_limit - number) ≤ length calls.old) × (number ≤ call_limit) × (args ≤ 65536) }
     ensures { Finishes out.old top last calls.old end number start size args next out.new calls.new result }
 {
     if number == CALLS {
-        return Flattened::Over;
+        return None;
     }
     calls[end] = [term_parser::APPLICATION, start, size, args as u32 + 1];
     move_rows(out, top + 1, last - top - 1, calls, end + 1);
@@ -119,70 +108,59 @@ fn finish(
     let n = result_length(number);
     calls[stop] = [names::RESULT, place, n, 0];
     out[top] = [names::RESULT, place, n, 0];
-    Flattened::Done {
+    Some(Place {
         next: next,
         top: top + 1,
         end: stop + 1,
         number: number + 1,
-    }
+    })
 }
 
-// The term at the row `at`, flattened: its rows go to `out` from `top` on, its calls go to `calls` from `end` on, after `number` others.
+// The term at the row `from.next`, flattened: its rows go to `out`, its calls to `calls`, each from the place on that `from` says. No term may need more
+// calls than a rule has premises.
 pub fn flatten(
     text: &[u8],
     rows: &[TermRow],
-    at: usize,
     symbols: &[SymbolRow],
     count: usize,
     out: &mut [TermRow],
-    top: usize,
     calls: &mut [TermRow],
-    end: usize,
-    number: usize,
-) -> Flattened
-    requires { Room rows.now at symbols.now count out.old top calls.old end number }
-    ensures { Flattens text.now rows.now at (symbols_of text.now symbols.now count) out.old top calls.old end number out.new calls.new result }
+    from: Place,
+) -> Option<Place>
+    requires { Room rows.now from.next symbols.now count out.old from.top calls.old from.end from.number }
+    ensures { Flattens text.now rows.now from.next (symbols_of text.now symbols.now count) out.old from.top calls.old from.end from.number out.new calls.new result }
 {
+    let at = from.next;
+    let top = from.top;
     // No term stands past the last row, so that any answer serves there.
     if rows.len() <= at {
-        return Flattened::Over;
+        return None;
     }
-    let kind = rows[at][0];
-    let start = rows[at][1];
-    let size = rows[at][2];
-    let n = arity(kind, rows[at][3]);
+    let [kind, start, size, more] = rows[at];
+    let n = arity(kind, more);
     out[top] = rows[at];
-    let mut i = 0;
-    let mut row = at + 1;
-    let mut last = top + 1;
-    let mut stop = end;
-    let mut made = number;
-    while i < n {
-        match flatten(
-            text, rows, row, symbols, count, out, last, calls, stop, made,
-        ) {
-            Flattened::Over => return Flattened::Over,
-            Flattened::Done {
-                next,
-                top: t,
-                end: e,
-                number: m,
-            } => {
-                row = next;
-                last = t;
-                stop = e;
-                made = m;
-                i += 1;
-            }
-        }
+    let mut place = Place {
+        next: at + 1,
+        top: top + 1,
+        end: from.end,
+        number: from.number,
+    };
+    for _i in 0..n {
+        place = flatten(text, rows, symbols, count, out, calls, place)?;
     }
     if is_call(text, symbols, count, kind, start, size) {
-        return finish(out, top, last, calls, stop, made, start, size, n, row);
+        return finish(
+            out,
+            top,
+            place.top,
+            calls,
+            place.end,
+            place.number,
+            start,
+            size,
+            n,
+            place.next,
+        );
     }
-    Flattened::Done {
-        next: row,
-        top: last,
-        end: stop,
-        number: made,
-    }
+    Some(place)
 }

@@ -1,6 +1,6 @@
 -- Names are lists of bytes, and two names are the same if all their bytes are (document 01, "Rules"; the Rust's `String`). The name of a row: the word at
 -- its place in the text, or the name that flattening gives a variable.
-use Rattle.std.specs.Prelude.{ℕ, zero, suc, ◌+◌, ◌*◌, ◌/◌, ◌%◌, ◌<◌, ◌≡◌, refl, Bool, true, cond, ◌&&◌, List, [], ◌∷◌, ◌++◌, eqb, ltb, length, get_or}
+use Rattle.std.specs.Prelude.{ℕ, zero, suc, ◌+◌, ◌*◌, ◌/◌, ◌%◌, ◌<◌, ◌≡◌, refl, Bool, true, cond, ◌&&◌, Option, Some, None, List, [], ◌∷◌, ◌++◌, eqb, ltb, length, get_or}
 use Rattle.std.proofs.Common.{arith, below_more}
 use Rattle.source_text.specs.Bytes.{same_bytes}
 use Rattle.source_text.specs.ByteLaws.{and_left, and_right, same_is}
@@ -71,6 +71,10 @@ name_in text row = name_of text (get_or row 0 0) (get_or row 1 0) (get_or row 2 
 unfoldable pub find : {A : Type 0} → (A → Name) → List A → Name → ℕ
 find name [] w = 0
 find name (a ∷ l) w = cond (same_bytes (name a) w) 0 (suc (find name l w))
+
+-- A number that is found among n, or that of all.
+abbrev pub found : ℕ → ℕ → Option ℕ
+found n i = cond (ltb i n) (Some i) None
 
 -- Has the place j of the table its name, and has each of the first n?
 abbrev agrees : ℕ → Bool

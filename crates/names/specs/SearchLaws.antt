@@ -1,25 +1,40 @@
--- Searching the first n rows of a table by name, row by row, for every way of reading a row; and columns of a row.
-use Rattle.std.specs.Prelude.{◌≡◌, refl, Bool, true, false, cond, List, [], ◌∷◌, ◌++◌, map, ℕ, zero, suc, ◌+◌, ◌≤◌, ◌<◌, length, get_or, drop, take, set, replicate}
-use Rattle.std.proofs.Common.{ap, ap₂, ◌∙◌, add-one, arith, drop_of_length-le, drop-cons, get_or-take, length-take-le, take-suc-set}
+-- Searching the first n rows of a table by name, for every way of reading a row; and columns of a row.
+use Rattle.std.specs.Prelude.{◌≡◌, refl, Bool, true, false, cond, Some, None, List, [], ◌∷◌, ◌++◌, map, ℕ, zero, suc, ◌+◌, ◌≤◌, ◌<◌, ltb, length, get_or, take, set, replicate}
+use Rattle.std.specs.List.{position, position_or_len}
+use Rattle.std.proofs.Common.{sym, ap, ap₂, ◌∙◌, add-one, arith, get_or-take, length-take-le, take-suc-set, ltb-true, ltb-false}
+use Rattle.std.proofs.lemmas.List.Recursion.{is_position_or_len}
 use Rattle.std.proofs.Math.ListN.{get_or-map}
 use Rattle.std.proofs.Math.Seq.{take-set-lt}
 use Rattle.source_text.specs.Bytes.{same_bytes}
-use Rattle.names.specs.Names.{Name, find}
-use Rattle.names.specs.Symbols.{Rows, row_at, column, columns, sort_of, sorts_of}
+use Rattle.names.specs.Names.{Name, name_in, find, found}
+use Rattle.names.specs.Symbols.{Rows, row_at, column, columns, sort_of, sorts_of, symbol_of, symbols_of, variable_of, variables_of, sort_number, symbol_number, variable_number}
 
--- A search from the front.
-module _ {A : Type 0} (name : A → Name) (xs : List A) (w : Name) (d : A) where
-  find_hit : (i : ℕ) → i < length xs → same_bytes (name (get_or xs i d)) w ≡ true → find name (drop i xs) w ≡ 0
-  unfolding find
-  find_hit i l e = simp (drop-cons xs i d l, e)
+-- A search as std has it.
+find_position : {A : Type 0} (name : A → Name) (xs : List A) (w : Name) → position_or_len (λ x. same_bytes (name x) w) xs ≡ find name xs w
+unfolding find
+find_position name xs w =
+    sym (is_position_or_len (λ l. find name l w) (λ x. same_bytes (name x) w) refl (λ x l. let e : 1 + find name l w ≡ suc (find name l w) = omega arith in rw e refl) xs)
 
-  find_step : (i : ℕ) → i < length xs → same_bytes (name (get_or xs i d)) w ≡ false → find name (drop i xs) w ≡ suc (find name (drop (i + 1) xs) w)
-  unfolding find
-  find_step i l e = simp (drop-cons xs i d l, e, add-one)
+-- A search in what was read of a list.
+find_map : {A B : Type 0} (name : B → Name) (f : A → B) (xs : List A) (w : Name) → find (λ x. name (f x)) xs w ≡ find name (map f xs) w
+unfolding find
+find_map name f [] w = refl
+find_map name f (x ∷ xs) w = ap (λ n. cond (same_bytes (name (f x)) w) 0 (suc n)) (find_map name f xs w)
 
-  find_end : (i : ℕ) → length xs ≤ i → find name (drop i xs) w ≡ 0
-  unfolding find
-  find_end i l = simp (drop_of_length-le xs l)
+-- What is found, and what isn't.
+pub found_some : (n k i : ℕ) → Some i ≡ found n k → (i ≡ k) × (i < n)
+found_some n k i e = go (ltb k n) refl e
+  where
+    go : (b : Bool) → ltb k n ≡ b → Some i ≡ cond b (Some k) None → (i ≡ k) × (i < n)
+    go true h e = let f : i ≡ k = cc in let l : k < n = ltb-true _ _ h in (f, omega arith)
+    go false h e = absurd (let z : Some i ≡ None = e in cc)
+
+pub found_none : (n k : ℕ) → None ≡ found n k → n ≤ k
+found_none n k e = go (ltb k n) refl e
+  where
+    go : (b : Bool) → ltb k n ≡ b → None ≡ cond b (Some k) None → n ≤ k
+    go true h e = absurd (let z : None ≡ Some k = e in cc)
+    go false h e = ltb-false _ _ h
 
 pub find_within : {A : Type 0} (name : A → Name) (xs : List A) (w : Name) → find name xs w ≤ length xs
 unfolding find
@@ -46,26 +61,37 @@ pub sorts_length : (text : List ℕ) (rows : Rows) (n : ℕ) → n ≤ length ro
 unfolding sorts_of
 sorts_length text rows n h = table_length (sort_of text) rows n h
 
--- The search in a table: i rows are passed.
-module _ {A : Type 0} (f : List ℕ → A) (name : A → Name) (rows : Rows) (n : ℕ) (h : n ≤ length rows) (w : Name) (i : ℕ)
-    (inv : find name (map f (take n rows)) w ≡ i + find name (drop i (map f (take n rows))) w) where
-  pub row_hit : i < n → same_bytes (name (f (row_at rows i))) w ≡ true → i ≡ find name (map f (take n rows)) w
-  row_hit l e =
-      let m : i < length (map f (take n rows)) = rw (table_length f rows n h) l in
-      let k : find name (drop i (map f (take n rows))) w ≡ 0 = find_hit name (map f (take n rows)) w (f []) i m (rw (table_at f rows n h i l) e) in
-      omega arith
+-- The search in the first n rows of a table.
+module _ (text : List ℕ) (rows : Rows) (n : ℕ) (h : n ≤ length rows) (w : Name) where
+  pub sort_found : position (λ row. same_bytes (sort_of text row) w) (take n rows) ≡ found n (sort_number (sorts_of text rows n) w)
+  unfolding sorts_of
+  sort_found = ap₂ (λ i m. found m i) (find_position (sort_of text) (take n rows) w ∙ find_map (λ s. s) (sort_of text) (take n rows) w) (length-take-le n rows h)
 
-  pub row_step : i < n → same_bytes (name (f (row_at rows i))) w ≡ false → find name (map f (take n rows)) w ≡ i + 1 + find name (drop (i + 1) (map f (take n rows))) w
-  row_step l e =
-      let m : i < length (map f (take n rows)) = rw (table_length f rows n h) l in
-      let k : find name (drop i (map f (take n rows))) w ≡ suc (find name (drop (i + 1) (map f (take n rows))) w) = find_step name (map f (take n rows)) w (f []) i m (rw (table_at f rows n h i l) e) in
-      omega arith
+  pub sort_some : (i : ℕ) → Some i ≡ position (λ row. same_bytes (sort_of text row) w) (take n rows) → (i ≡ sort_number (sorts_of text rows n) w) × (i < n)
+  sort_some i e = found_some n _ i (e ∙ sort_found)
 
-  pub row_end : n ≤ i → i ≡ find name (map f (take n rows)) w
-  row_end l =
-      let m : length (map f (take n rows)) ≤ i = rw (table_length f rows n h) l in
-      let k : find name (drop i (map f (take n rows))) w ≡ 0 = find_end name (map f (take n rows)) w (f []) i m in
-      omega arith
+  pub sort_none : None ≡ position (λ row. same_bytes (sort_of text row) w) (take n rows) → n ≤ sort_number (sorts_of text rows n) w
+  sort_none e = found_none n _ (e ∙ sort_found)
+
+  pub symbol_found : position (λ row. same_bytes (sort_of text row) w) (take n rows) ≡ found n (symbol_number (symbols_of text rows n) w)
+  unfolding symbols_of symbol_of
+  symbol_found = ap₂ (λ i m. found m i) (find_position (sort_of text) (take n rows) w ∙ find_map (λ f. f.name) (symbol_of text) (take n rows) w) (length-take-le n rows h)
+
+  pub symbol_some : (i : ℕ) → Some i ≡ position (λ row. same_bytes (sort_of text row) w) (take n rows) → (i ≡ symbol_number (symbols_of text rows n) w) × (i < n)
+  symbol_some i e = found_some n _ i (e ∙ symbol_found)
+
+  pub symbol_none : None ≡ position (λ row. same_bytes (sort_of text row) w) (take n rows) → n ≤ symbol_number (symbols_of text rows n) w
+  symbol_none e = found_none n _ (e ∙ symbol_found)
+
+  pub variable_found : position (λ row. same_bytes (name_in text row) w) (take n rows) ≡ found n (variable_number (variables_of text rows n) w)
+  unfolding variables_of variable_of
+  variable_found = ap₂ (λ i m. found m i) (find_position (name_in text) (take n rows) w ∙ find_map (λ v. v.name) (variable_of text) (take n rows) w) (length-take-le n rows h)
+
+  pub variable_some : (i : ℕ) → Some i ≡ position (λ row. same_bytes (name_in text row) w) (take n rows) → (i ≡ variable_number (variables_of text rows n) w) × (i < n)
+  variable_some i e = found_some n _ i (e ∙ variable_found)
+
+  pub variable_none : None ≡ position (λ row. same_bytes (name_in text row) w) (take n rows) → n ≤ variable_number (variables_of text rows n) w
+  variable_none e = found_none n _ (e ∙ variable_found)
 
 -- A row changed, and a row more.
 map_set : {A B : Type 0} (f : A → B) (l : List A) (i : ℕ) (a : A) → map f (set l i a) ≡ set (map f l) i (f a)

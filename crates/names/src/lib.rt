@@ -1,19 +1,20 @@
 // Names: sorts, symbols and variables, found by their whole names. Every comparison reads every byte.
-//
-// All functions here serve the crates above: they ask that as many rows are lent as they count.
 #![tactic(auto)]
 
-ghost use Rattle.std.specs.Prelude.{◌≡◌, ◌≤◌, length};
+ghost use Rattle.std.specs.Prelude.{ℕ, ◌≡◌, List, position};
 ghost use Rattle.source_text.specs.Bytes.{same_bytes};
 ghost use Rattle.source_text.specs.Parts.{part_of};
-ghost use Rattle.names.specs.Names.{result_names, name_of};
-ghost use Rattle.names.specs.Symbols.{sorts_of, symbols_of, variables_of, sort_number, symbol_number, variable_number};
+ghost use Rattle.names.specs.Names.{Name, result_names, name_of, name_in};
+ghost use Rattle.names.specs.Symbols.{sort_of};
 
 // A sort: start, length.
 pub type SortRow = [u32; 2];
 
 // A symbol: start, length, output, function mark, first clause, number of clauses, number of inputs, 0, 16 inputs.
 pub type SymbolRow = [u32; 24];
+
+// A source term: kind, start, length, number of arguments or value.
+pub type TermRow = [u32; 4];
 
 // A variable: kind, start, length, sort.
 pub type VariableRow = [u32; 4];
@@ -33,7 +34,7 @@ pub fn part<'a>(text: &'a [u8], start: u32, size: u32) -> &'a [u8]
 }
 
 // Is the word at a place of a text w? Most words differ in length, so that is looked at before the place.
-fn is_called(text: &[u8], start: u32, size: u32, w: &[u8]) -> bool
+fn is_word(text: &[u8], start: u32, size: u32, w: &[u8]) -> bool
     ensures { result ≡ same_bytes (part_of text.now start size) w.now }
 {
     if w.len() != size as usize {
@@ -58,108 +59,62 @@ pub fn is_named(text: &[u8], kind: u32, start: u32, size: u32, w: &[u8]) -> bool
     if kind == RESULT {
         return is_result(start, size, w);
     }
-    is_called(text, start, size, w)
+    is_word(text, start, size, w)
 }
 
-// The number of the first sort that is called w, or the number of all.
-pub fn find_sort(text: &[u8], sorts: &[SortRow], count: usize, w: &[u8]) -> usize
-    requires { count ≤ length sorts.now }
-    ensures { result ≡ sort_number (sorts_of text.now sorts.now count) w.now }
-{
-    let mut i = 0;
-    while i < count {
-        if is_called(text, sorts[i][0], sorts[i][1], w) {
-            return i;
-        }
-        i += 1;
+// A row with a name.
+pub trait Named {
+    ghost name: { List ℕ → Self → Name };
+
+    // Is the row called w?
+    fn is_called(&self, text: &[u8], w: &[u8]) -> bool
+        ensures { result ≡ same_bytes (name text.now self.now) w.now };
+}
+
+impl Named for SortRow {
+    ghost name = { sort_of };
+
+    fn is_called(&self, text: &[u8], w: &[u8]) -> bool {
+        is_word(text, self[0], self[1], w)
     }
-    i
 }
 
-// The number of the first symbol that is called w, or the number of all.
-pub fn find_symbol(text: &[u8], symbols: &[SymbolRow], count: usize, w: &[u8]) -> usize
-    requires { count ≤ length symbols.now }
-    ensures { result ≡ symbol_number (symbols_of text.now symbols.now count) w.now }
-{
-    let mut i = 0;
-    while i < count {
-        if is_called(text, symbols[i][0], symbols[i][1], w) {
-            return i;
-        }
-        i += 1;
+impl Named for SymbolRow {
+    ghost name = { sort_of };
+
+    fn is_called(&self, text: &[u8], w: &[u8]) -> bool {
+        is_word(text, self[0], self[1], w)
     }
-    i
 }
 
-// The number of the first variable that is called w, or the number of all.
-pub fn find_variable(text: &[u8], variables: &[VariableRow], count: usize, w: &[u8]) -> usize
-    requires { count ≤ length variables.now }
-    ensures { result ≡ variable_number (variables_of text.now variables.now count) w.now }
-{
-    let mut i = 0;
-    while i < count {
-        if is_named(text, variables[i][0], variables[i][1], variables[i][2], w) {
-            return i;
-        }
-        i += 1;
+impl Named for VariableRow {
+    ghost name = { name_in };
+
+    fn is_called(&self, text: &[u8], w: &[u8]) -> bool {
+        is_named(text, self[0], self[1], self[2], w)
     }
-    i
 }
 
-// The number of the symbol whose name stands at a place of `RESULT_NAMES`.
-fn result_symbol(text: &[u8], symbols: &[SymbolRow], count: usize, start: u32, size: u32) -> usize
-    requires { count ≤ length symbols.now }
-    ensures { result ≡ symbol_number (symbols_of text.now symbols.now count) (part_of result_names start size) }
+// The number of the first row that is called w.
+pub fn find<R: Named>(text: &[u8], rows: &[R], w: &[u8]) -> Option<usize>
+    ensures { result ≡ position (λ row. same_bytes (R.name text.now row) w.now) rows.now }
 {
-    find_symbol(text, symbols, count, part(&RESULT_NAMES, start, size))
+    rows.iter().position(|row| row.is_called(text, w))
 }
 
-// The number of the symbol whose name stands at a place.
-pub fn symbol_of(
-    text: &[u8],
-    symbols: &[SymbolRow],
-    count: usize,
-    kind: u32,
-    start: u32,
-    size: u32,
-) -> usize
-    requires { count ≤ length symbols.now }
-    ensures { result ≡ symbol_number (symbols_of text.now symbols.now count) (name_of text.now kind start size) }
+// The number of the first row whose name stands at a place of `RESULT_NAMES`.
+fn find_result<R: Named>(text: &[u8], rows: &[R], start: u32, size: u32) -> Option<usize>
+    ensures { result ≡ position (λ row. same_bytes (R.name text.now row) (part_of result_names start size)) rows.now }
+{
+    find(text, rows, part(&RESULT_NAMES, start, size))
+}
+
+// The number of the first row whose name stands at a place.
+pub fn find_at<R: Named>(text: &[u8], rows: &[R], kind: u32, start: u32, size: u32) -> Option<usize>
+    ensures { result ≡ position (λ row. same_bytes (R.name text.now row) (name_of text.now kind start size)) rows.now }
 {
     if kind == RESULT {
-        return result_symbol(text, symbols, count, start, size);
+        return find_result(text, rows, start, size);
     }
-    find_symbol(text, symbols, count, part(text, start, size))
-}
-
-// The number of the variable whose name stands at a place of `RESULT_NAMES`.
-fn result_variable(
-    text: &[u8],
-    variables: &[VariableRow],
-    count: usize,
-    start: u32,
-    size: u32,
-) -> usize
-    requires { count ≤ length variables.now }
-    ensures { result ≡ variable_number (variables_of text.now variables.now count) (part_of result_names start size) }
-{
-    find_variable(text, variables, count, part(&RESULT_NAMES, start, size))
-}
-
-// The number of the variable whose name stands at a place.
-pub fn variable_of(
-    text: &[u8],
-    variables: &[VariableRow],
-    count: usize,
-    kind: u32,
-    start: u32,
-    size: u32,
-) -> usize
-    requires { count ≤ length variables.now }
-    ensures { result ≡ variable_number (variables_of text.now variables.now count) (name_of text.now kind start size) }
-{
-    if kind == RESULT {
-        return result_variable(text, variables, count, start, size);
-    }
-    find_variable(text, variables, count, part(text, start, size))
+    find(text, rows, part(text, start, size))
 }

@@ -1,26 +1,16 @@
 -- `is_function` meets its contract: the symbol that is found has the mark of a function.
-use mathlib.Core.Path.{ap, ◌∙◌}
 use Rattle.source_text.specs.Parts.{part_of}
-use Rattle.names.specs.Symbols.{symbols_of, symbol_number}
+use Rattle.names.specs.SearchLaws.{symbol_some, symbol_none}
 use Rattle.flattening.proofs.SymbolLaws.{function_found, function_absent}
+use mathlib.Core.Path.{refl}
 use Rattle.flattening.proofs.is_function.Goals as goal
 
-pub returns-then-i-count : goal.returns-then-i-count
-returns-then-i-count c =
-    let args = c.args in
-    let pre = c.requires in
-    let find-symbol = c.find_symbol-i in
-    let part = c.part in
-    let if1 = c.if-i-count in
-    function_found args.text.now args.symbols.now args.count pre (part_of args.text.now args.start args.size) find-symbol.result (find-symbol.ensures
-    ∙ ap (symbol_number (symbols_of args.text.now args.symbols.now args.count)) part.ensures) if1.true
+pub returns-in-Some : goal.returns-in-Some
+returns-in-Some c =
+    let (e, l) = symbol_some c.args.text.now c.args.symbols.now c.args.count c.requires (part_of c.args.text.now c.args.start c.args.size) c.in-Some.i (rw c.part.ensures at c.in-Some.ensures) in
+    function_found c.args.text.now c.args.symbols.now c.args.count c.requires _ c.in-Some.i e l
 
-pub returns : goal.returns
-returns c =
-    let args = c.args in
-    let pre = c.requires in
-    let find-symbol = c.find_symbol-i in
-    let part = c.part in
-    let if1 = c.if-i-count in
-    function_absent args.text.now args.symbols.now args.count pre (part_of args.text.now args.start args.size) find-symbol.result (find-symbol.ensures
-    ∙ ap (symbol_number (symbols_of args.text.now args.symbols.now args.count)) part.ensures) if1.false
+pub returns-in-None : goal.returns-in-None
+returns-in-None c =
+    let l = symbol_none c.args.text.now c.args.symbols.now c.args.count c.requires (part_of c.args.text.now c.args.start c.args.size) (rw c.part.ensures at c.in-None.ensures) in
+    function_absent c.args.text.now c.args.symbols.now c.args.count c.requires _ _ refl l

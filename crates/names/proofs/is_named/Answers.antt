@@ -6,4 +6,4 @@ pub returns-then-kind-eq-RESULT : goal.returns-then-kind-eq-RESULT
 returns-then-kind-eq-RESULT c = rw (eq-eqb c.args.kind 27 c.if-kind-eq-RESULT.true) c.is_result.ensures
 
 pub returns : goal.returns
-returns c = rw (ne_eqb c.args.kind 27 c.if-kind-eq-RESULT.false) c.is_called.ensures
+returns c = rw (ne_eqb c.args.kind 27 c.if-kind-eq-RESULT.false) c.is_word.ensures

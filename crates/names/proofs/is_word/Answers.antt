@@ -1,9 +1,9 @@
--- `is_called` meets its contract: a word of another length is not the one at the place.
+-- `is_word` meets its contract: a word of another length is not the one at the place.
 use mathlib.Core.Path.{ap, ◌∙◌}
 use Rattle.source_text.specs.Bytes.{same_bytes}
 use Rattle.names.specs.Names.{Name}
 use Rattle.names.proofs.Lengths.{other_length}
-use Rattle.names.proofs.is_called.Goals as goal
+use Rattle.names.proofs.is_word.Goals as goal
 
 pub returns-then-w-gt0 : goal.returns-then-w-gt0
 returns-then-w-gt0 c =
