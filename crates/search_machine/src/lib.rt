@@ -17,11 +17,8 @@ ghost use Rattle.search_machine.specs.declared.Mode.TheVariants.{Enter, Try, Fai
 
 use attempts::Tried;
 use bindings::undo;
-use candidates::{larger, next_candidate};
-use frames::put_frame;
-pub use frames::{Frame, frame_at};
-pub use moves::at_start;
-use moves::{at_body, at_fail, at_goal, at_place, at_retry, at_rule, at_stop, frame_for};
+use candidates::next_candidate;
+pub use frames::{Frame, frame_at, put_row};
 use rules::RuleRow;
 use stored::{arity_of, premise, try_stored};
 
@@ -49,11 +46,22 @@ pub enum Mode {
     Refused,
 }
 
+impl Mode {
+    // Whether the machine goes on.
+    fn is_live(self) -> bool
+        ensures live { result ≡ true → Live self }
+        ensures stopped { result ≡ false → Stopped self }
+    {
+        matches!(self, Mode::Enter | Mode::Try | Mode::Fail)
+    }
+}
+
 // The machine's state beside its storage.
 #[derive(Clone, Copy)]
 pub struct Machine {
     pub mode: Mode,
     // The place: the application, counted from 1, and the number of its premise; application 0 is the top.
+    // Stays: a row of a frame, which C callers lend, holds the application as such a number.
     pub parent: u32,
     pub place: u32,
     // How many applications there are.
@@ -83,20 +91,20 @@ fn enter(rules: &[RuleRow], allowed: Allowed, frames: &[[u32; 8]], m: Machine) -
     let parent = m.parent;
     let place = m.place;
     if steps == 0 {
-        return at_fail(m, 0, m.cut);
+        return m.at_fail(0, m.cut);
     }
     if parent == 0 {
-        return at_stop(m, Mode::Proved, steps - 1);
+        return m.at_stop(Mode::Proved, steps - 1);
     }
     let x = frame_at(frames, parent - 1);
     if place == arity_of(rules, x.rule) {
-        return at_place(m, x.parent, x.place + 1, steps - 1);
+        return m.at_place(x.parent, x.place + 1, steps - 1);
     }
     if x.depth == 0 {
-        return at_fail(m, steps - 1, true);
+        return m.at_fail(steps - 1, true);
     }
     let goal = premise(rules, x, place);
-    at_goal(m, goal, x.depth - 1, steps - 1)
+    m.at_goal(goal, x.depth - 1, steps - 1)
 }
 
 // One attempt with the rule that was chosen for the goal.
@@ -134,13 +142,12 @@ fn attempt(
         m.goal,
         m.rule,
     ) {
-        Tried::Exceeded => at_stop(m, Mode::Refused, m.steps),
-        Tried::Missed(counter) => at_rule(m, m.rule + 1, counter, m.top),
+        Tried::Exceeded => m.at_stop(Mode::Refused, m.steps),
+        Tried::Missed(counter) => m.at_rule(m.rule + 1, counter, m.top),
         Tried::Entered(counter, bound, used) => {
-            let x = frame_for(m);
-            put_frame(frames, m.frames, x);
-            let high = larger(m.high, m.frames + 1);
-            at_body(m, counter, bound, used, high)
+            put_row(frames, m.frames, m.frame().into());
+            let high = m.high.max(m.frames + 1);
+            m.at_body(counter, bound, used, high)
         }
     }
 }
@@ -165,16 +172,11 @@ fn next_rule(
         marks.old marks.new stack.old stack.new m result }
 {
     let n = next_candidate(rules, pattern, allowed, words, bindings, m);
-    let mode = n.mode;
-    match mode {
+    match n.mode {
         Mode::Try => attempt(
             rules, pattern, allowed, words, bindings, links, marks, stack, frames, n,
         ),
-        Mode::Enter => n,
-        Mode::Fail => n,
-        Mode::Proved => n,
-        Mode::Over => n,
-        Mode::Refused => n,
+        _ => n,
     }
 }
 
@@ -185,11 +187,11 @@ fn back(allowed: Allowed, bindings: &mut [[u32; 2]], frames: &[[u32; 8]], m: Mac
 {
     let count = m.frames;
     if count == 0 {
-        return at_stop(m, Mode::Over, m.steps);
+        return m.at_stop(Mode::Over, m.steps);
     }
     let x = frame_at(frames, count - 1);
     undo(bindings, m.bound, x.bound);
-    at_retry(m, x)
+    m.at_retry(x)
 }
 
 // One step of the machine.
@@ -213,31 +215,13 @@ fn step(
         bindings.old bindings.new links.old links.new marks.old marks.new
         stack.old stack.new m result }
 {
-    let mode = m.mode;
-    match mode {
+    match m.mode {
         Mode::Enter => enter(rules, allowed, frames, m),
         Mode::Try => next_rule(
             rules, pattern, allowed, words, bindings, links, marks, stack, frames, m,
         ),
         Mode::Fail => back(allowed, bindings, frames, m),
-        Mode::Proved => m,
-        Mode::Over => m,
-        Mode::Refused => m,
-    }
-}
-
-// Whether a mode is one of the three that go on.
-fn is_live(mode: Mode) -> bool
-    ensures live { result ≡ true → Live mode }
-    ensures stopped { result ≡ false → Stopped mode }
-{
-    match mode {
-        Mode::Enter => true,
-        Mode::Try => true,
-        Mode::Fail => true,
-        Mode::Proved => false,
-        Mode::Over => false,
-        Mode::Refused => false,
+        Mode::Proved | Mode::Over | Mode::Refused => m,
     }
 }
 
@@ -262,15 +246,10 @@ pub fn run(
         stack.old stack.new first result }
 {
     let mut m = first;
-    loop {
-        let mode = m.mode;
-        let go = is_live(mode);
-        if go {
-            m = step(
-                rules, pattern, allowed, words, bindings, links, marks, stack, frames, m,
-            );
-        } else {
-            return m;
-        }
+    while m.mode.is_live() {
+        m = step(
+            rules, pattern, allowed, words, bindings, links, marks, stack, frames, m,
+        );
     }
+    m
 }

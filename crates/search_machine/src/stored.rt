@@ -1,5 +1,5 @@
 // What an attempt reads in a rule's row.
-ghost use Rattle.std.specs.Prelude.{◌≡◌, length};
+ghost use Rattle.std.specs.Prelude.{◌≡◌};
 ghost use Rattle.rules.specs.StoredRows.{stored_in};
 ghost use Rattle.search_machine.specs.Storage.{RowAsked, RowTried, PremiseAsked};
 ghost use Rattle.search_machine.specs.State.{arity, premise_ref};
@@ -10,8 +10,7 @@ use attempts::{Stored, Tried, try_rule};
 use rules::RuleRow;
 
 // What a row says of its rule.
-fn stored_in(row: &[u32]) -> Stored
-    requires { length row.now ≡ 154 }
+fn stored_in(row: &RuleRow) -> Stored
     ensures { result ≡ stored_in row.now }
 {
     Stored {
@@ -28,11 +27,10 @@ fn stored_in(row: &[u32]) -> Stored
 pub fn arity_of(rules: &[RuleRow], rule: u32) -> u32
     ensures { result ≡ arity rules.now rule }
 {
-    let k = rule as usize;
-    if k < rules.len() {
-        return rules[k][4];
+    match rules.get(rule as usize) {
+        Some(row) => row[4],
+        None => 0,
     }
-    0
 }
 
 // The reference of a premise of an application.
@@ -40,8 +38,7 @@ pub fn premise(rules: &[RuleRow], x: Frame, place: u32) -> u32
     requires { PremiseAsked rules.now x place }
     ensures { result ≡ premise_ref rules.now x place }
 {
-    let k = x.rule as usize;
-    let row = &rules[k][..];
+    let row = &rules[x.rule as usize];
     let end = 90 + row[3] as usize;
     let at = 10 + place as usize;
     let first = PATTERN_ROOM + row[6];
@@ -72,8 +69,7 @@ pub fn try_stored(
         bindings.old bindings.new links.old links.new marks.old marks.new
         stack.old stack.new counter used bound goal rule result }
 {
-    let k = rule as usize;
-    let row = &rules[k][..];
+    let row = &rules[rule as usize];
     let stored = stored_in(row);
     let heads = 10 + row[4] as usize;
     let places = 90 + row[3] as usize;
