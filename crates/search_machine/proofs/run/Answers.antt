@@ -1,10 +1,10 @@
 -- `run` meets its contract: by steps, which keep what the state means; the measure falls with each.
+use Rattle.search_machine.specs.Groups.{lent_on}
 use Rattle.search_machine.specs.Ways.{going_on}
 use Rattle.search_machine.proofs.run.Goals as goal
 
-pub loop-allowed-preserved : goal.loop-allowed-preserved
-loop-allowed-preserved c = going_on
-    c.loop-allowed.invariant c.step-m.ensures
-    c.step-m.auto.words
-    c.step-m.auto.bindings
-    c.step-m.auto.frames
+pub loop-program-preserved : goal.loop-program-preserved
+loop-program-preserved c = record {
+  going = going_on c.loop-program.invariant.going c.step-m.ensures.stepped;
+  lent = lent_on c.loop-program.invariant.lent c.step-m.ensures.lent;
+}

@@ -5,4 +5,4 @@ use Rattle.search_machine.proofs.candidates.next_candidate.Given as goal
 
 abbrev pub invariant-loop-rule : goal.invariant-loop-rule
 invariant-loop-rule l =
-    Passing l.allowed l.pattern l.rules l.words l.bindings l.m l.rule l.counter
+    Passing l.program.allowed l.program.pattern.now l.program.rules.now l.store.words.now l.store.bindings.now l.m l.rule l.counter
