@@ -8,7 +8,7 @@ use lib.Dec.{eqb, leb}
 use lib.ListN.{length}
 use borrow.Author.Tests.{lt-ltb, le-ltb, le-leb, lt-leb, eq-eqb, ne_eqb}
 use Rattle.source_text.specs.Numerals.{numeral_of}
-use Rattle.source_text.specs.declared.NumeralValue.TheVariants.{Fits}
+use Rattle.std.specs.Prelude.{Some}
 use Rattle.term_check.specs.Walk.{is_word_place, is_held, column, word_in, top_of}
 use Rattle.term_check.specs.declared.Top.TheVariants.{Takes, NoTerm}
 
@@ -25,10 +25,10 @@ module _ (text : List ℕ) (s n : ℕ) where
 
 -- A numeral's value
 module _ (k v : ℕ) where
-  pub held_small : v < 4294967295 → eqb k v ≡ is_held (Fits v) k
+  pub held_small : v < 4294967295 → eqb k v ≡ is_held (Some v) k
   held_small l = let e : v ≡ min v 4294967295 = omega arith in ap (eqb k) e
 
-  pub held_large : 4294967295 ≤ v → eqb k 4294967295 ≡ is_held (Fits v) k
+  pub held_large : 4294967295 ≤ v → eqb k 4294967295 ≡ is_held (Some v) k
   held_large l = let e : 4294967295 ≡ min v 4294967295 = omega arith in ap (eqb k) e
 
 -- A row

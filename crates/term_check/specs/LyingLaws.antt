@@ -10,8 +10,7 @@ use borrow.Author.Tests.{ltb-true, lt-ltb, leb-true, le-leb, eqb-true, eq-eqb, e
 use Rattle.source_text.proofs.Scans.{by_bool}
 use Rattle.source_text.specs.ByteLaws.{and_left, and_right}
 use Rattle.source_text.specs.Numerals.{numeral_of}
-use Rattle.source_text.specs.declared.NumeralValue.{NumeralValue}
-use Rattle.source_text.specs.declared.NumeralValue.TheVariants.{Fits, TooLarge}
+use Rattle.std.specs.Prelude.{Option, Some, None}
 use Rattle.term_parser.specs.Source.{place, one, many, Source, numeral, metavariable, name, application, none, more, count}
 use Rattle.term_parser.specs.Rows.{Rows, rows_of}
 use Rattle.term_parser.specs.Depth.{depth}
@@ -140,16 +139,16 @@ module _ (text row : List ℕ) (long : length row ≡ 4) (ts : Source many) (fin
       }
 
   module _ (w : NamePlace text (column row 1) (column row 2)) where
-    of_numeral : (v : NumeralValue) → numeral_of (word_in text row) ≡ v → column row 0 ≡ 14 → cond (is_held v (column row 3)) (Takes 0) NoTerm ≡ Takes (count ts) → Topmost text row ts
+    of_numeral : (v : Option ℕ) → numeral_of (word_in text row) ≡ v → column row 0 ≡ 14 → cond (is_held v (column row 3)) (Takes 0) NoTerm ≡ Takes (count ts) → Topmost text row ts
     unfolding rows_of depth
-    of_numeral (Fits v) f a e =
+    of_numeral (Some v) f a e =
         by_bool (eqb (column row 3) (min v 4294967295))
         (λ h. let g : Takes 0 ≡ Takes (count ts) = rw h at e in
         let z : count ts ≡ 0 = cc in
         leaf (numeral (place (column row 1) (column row 2)) v) z
         (ap (λ (r : List ℕ). r ∷ []) (sym (row_is row 14 (min v 4294967295) long a (eqb-true _ _ h)))) (w, f) refl)
         (λ h. no_term (rw h at e))
-    of_numeral TooLarge f a e = no_term e
+    of_numeral None f a e = no_term e
 
     of_application : column row 0 ≡ 24 → cond (eqb (column row 3) 0) NoTerm (Takes (column row 3)) ≡ Takes (count ts) → Topmost text row ts
     unfolding rows_of depth

@@ -3,7 +3,7 @@
 use Rattle.std.specs.Prelude.{ℕ, ◌+◌, ◌≤◌, ◌<◌, ◌≡◌, List, [], ◌∷◌, ◌++◌, length, drop}
 use Rattle.source_text.specs.Numerals.{numeral_of}
 use Rattle.source_text.specs.Answers.{Told, answers, refuses}
-use Rattle.source_text.specs.declared.NumeralValue.TheVariants.{Fits}
+use Rattle.std.specs.Prelude.{Some}
 use Rattle.term_parser.specs.Source.{Place, place, Arity, one, Source, numeral, metavariable, name, application, none, more, count}
 use Rattle.term_parser.specs.Rows.{Rows, rows_of}
 use Rattle.term_parser.specs.Depth.{depth}
@@ -18,7 +18,7 @@ Word text (place start n) = NamePlace text start n
 
 -- Each word of a term, or of several, has such a place; a numeral has the value that is read there; an application has arguments.
 abbrev pub Worded : {n : Arity} → List ℕ → Source n → Type 0
-Worded text (numeral p v) = Word text p × (numeral_of (bytes_at text p) ≡ Fits v)
+Worded text (numeral p v) = Word text p × (numeral_of (bytes_at text p) ≡ Some v)
 Worded text (metavariable p) = Word text p
 Worded text (name p) = Word text p
 Worded text (application p ts) = Word text p × (0 < count ts) × Worded text ts

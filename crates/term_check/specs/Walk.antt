@@ -3,8 +3,7 @@ use Rattle.std.specs.Prelude.{ℕ, zero, suc, ◌+◌, ◌≤◌, min, ◌≡◌
 use Rattle.words.specs.Names.{name_kind, metavariable_kind, numeral_kind}
 use Rattle.source_text.specs.Numerals.{numeral_of}
 use Rattle.source_text.specs.Parts.{part_of}
-use Rattle.source_text.specs.declared.NumeralValue.{NumeralValue}
-use Rattle.source_text.specs.declared.NumeralValue.TheVariants.{Fits, TooLarge}
+use Rattle.std.specs.Prelude.{Option, Some, None}
 use Rattle.term_parser.specs.Source.{Source, many, count}
 use Rattle.term_parser.specs.Rows.{Rows, application_kind}
 use Rattle.term_parser.specs.Depth.{depth}
@@ -19,9 +18,9 @@ abbrev pub is_word_place : List ℕ → ℕ → ℕ → Bool
 is_word_place text start n = ltb 0 n && (leb n 64 && leb (start + n) (length text))
 
 -- Does a row hold the value of its numeral, 2^32 - 1 for a larger one?
-abbrev pub is_held : NumeralValue → ℕ → Bool
-is_held (Fits v) k = eqb k (min v 4294967295)
-is_held TooLarge k = false
+abbrev pub is_held : Option ℕ → ℕ → Bool
+is_held (Some v) k = eqb k (min v 4294967295)
+is_held None k = false
 
 -- How many arguments the term takes whose first row has this kind and this number.
 abbrev pub takes : ℕ → ℕ → Bool → Top

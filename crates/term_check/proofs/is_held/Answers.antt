@@ -11,5 +11,5 @@ returns-then-v-lt4294967295 c = held_small _ _ c.if-v-lt4294967295.true ∙ ap (
 pub returns-else-v-lt4294967295 : goal.returns-else-v-lt4294967295
 returns-else-v-lt4294967295 c = held_large _ _ c.if-v-lt4294967295.false ∙ ap (λ x. is_held x c.args.held) (sym c.in-Fits.is ∙ c.numeral.ensures.answer)
 
-pub returns-in-TooLarge : goal.returns-in-TooLarge
-returns-in-TooLarge c = ap (λ x. is_held x c.args.held) (sym c.in-TooLarge.is ∙ c.numeral.ensures.answer)
+pub returns-in-None : goal.returns-in-None
+returns-in-None c = ap (λ x. is_held x c.args.held) (sym c.in-None.is ∙ c.numeral.ensures.answer)
