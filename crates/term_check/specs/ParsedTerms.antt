@@ -98,7 +98,7 @@ module _ (text : List ℕ) where
 
   -- A numeral's token has the value that the parser takes.
   token_value : (t : List ℕ) → TokenWhole text t → get_or t 0 0 ≡ 14
-      → numeral_of (part_of text (get_or t 1 0) (get_or t 2 0)) ≡ Fits (value (numeral_of (part_of text (get_or t 1 0) (get_or t 2 0))))
+      → numeral_of (part_of text (get_or t 1 0) (get_or t 2 0)) ≡ Some (value (numeral_of (part_of text (get_or t 1 0) (get_or t 2 0))))
   token_value t h e = let (v, _, q) = h.reads.numeral e in rw q refl
 
   module _ (last : ℕ) where

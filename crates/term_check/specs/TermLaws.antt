@@ -77,7 +77,7 @@ unfolding rows_of width
 rows_one text (numeral (place a m) v) (numeral (place b k) w) r s x y i e =
     let f : a ≡ b = cc in
     let g : m ≡ k = cc in
-    let h : Some v ≡ Fits w = sym x.1 ∙ ap₂ (λ (j l : ℕ). numeral_of (part_of text j l)) f g ∙ y.1 in
+    let h : Some v ≡ Some w = sym x.1 ∙ ap₂ (λ (j l : ℕ). numeral_of (part_of text j l)) f g ∙ y.1 in
     let z : v ≡ w = cc in
     (ap₂ numeral (ap₂ place f g) z, cc)
 rows_one text (metavariable (place a m)) (metavariable (place b k)) r s x y i e =
