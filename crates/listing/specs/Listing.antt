@@ -4,11 +4,11 @@ use Rattle.std.proofs.lemmas.List.Edits.{sets}
 use Rattle.words.specs.Names.{name_kind, metavariable_kind, numeral_kind}
 use Rattle.words.specs.Tokens.{Reading}
 use Rattle.words.specs.Tokens.Reading.{tokens, refused}
-use Rattle.words.specs.Refusals.{number_of}
+use Rattle.refusals.specs.Refusals.{number_of}
 use Rattle.source_text.specs.Parts.{part_of}
 use Rattle.words.specs.Lexer.{capped_of, lex_of, lex_rows}
 use Rattle.words.specs.declared.Limits.{Limits}
-use Rattle.words.specs.declared.Refusal.TheVariants.{Storage}
+use Rattle.refusals.specs.declared.Refusal.TheVariants.{Storage}
 use Rattle.byte_output.specs.Output.{numeral}
 use Rattle.listing.specs.declared.Listed.{Listed}
 use Rattle.listing.specs.declared.Listed.TheVariants.{Bytes, TooShort}

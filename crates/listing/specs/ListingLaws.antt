@@ -10,13 +10,13 @@ use Rattle.terms.specs.Numbers.{by_bool}
 use Rattle.words.specs.Names.{name_kind, metavariable_kind, numeral_kind}
 use Rattle.words.specs.Tokens.{Reading}
 use Rattle.words.specs.Tokens.Reading.{tokens, refused}
-use Rattle.words.specs.Refusals.{number_of}
+use Rattle.refusals.specs.Refusals.{number_of}
 use Rattle.source_text.specs.Parts.{part_of}
 use Rattle.words.specs.Lexer.{capped_of, zero_row, lex_of, answer_of, rows_of, count_of, lex_answer, lex_rows}
 use Rattle.words.specs.declared.Limits.{Limits}
 use Rattle.words.specs.declared.Lexed.{Lexed}
 use Rattle.words.specs.declared.Lexed.TheVariants.{Tokens, Refused}
-use Rattle.words.specs.declared.Refusal.{Refusal}
+use Rattle.refusals.specs.declared.Refusal.{Refusal}
 use Rattle.byte_output.specs.Output.{numeral, Written}
 use Rattle.listing.specs.Listing.{keyword_word, sign_word, kind_word, line_word, line_end, token_line, token_lines, refused_line, reading_lines, listing_of, listing_size, ListingWritten}
 use Rattle.listing.specs.declared.Listed.TheVariants.{Bytes, TooShort}
