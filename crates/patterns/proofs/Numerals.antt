@@ -2,10 +2,7 @@
 use mathlib.Core.Path.{◌≡◌, refl, sym, ◌∙◌}
 use mathlib.Core.List.{List, [], ◌∷◌}
 use mathlib.Core.Bool.{Bool, true, false, cond}
-use Rattle.std.specs.Prelude.{Option, Some, None, Err}
-use Rattle.std.specs.Option.{ok_or}
-use Rattle.refusals.specs.declared.Refusal.{Refusal}
-use Rattle.refusals.specs.declared.Refusal.TheVariants.{NoNumerals}
+use Rattle.std.specs.Prelude.{Some, None}
 use Rattle.std.proofs.Common.{ltb-true}
 use Rattle.source_text.specs.ByteLaws.{and_left}
 use Prim.Native.Nat.{ℕ, zero, suc, ◌+◌, ◌*◌, ◌-◌, ◌≤◌, ◌<◌}
@@ -153,11 +150,6 @@ module _ (ss : List Symbol) (w : Name) where
       go : (b : Bool) → is_ctor ss w ≡ b → None ≡ cond b (Some (symbol_number ss w)) None → is_ctor ss w ≡ false
       go true h e = absurd (let z : None ≡ Some (symbol_number ss w) = e in cc)
       go false h e = h
-
--- No constructor: the numeral is refused.
-pub no_numerals : (o : Option ℕ) {e : Refusal} → o ≡ None → Err e ≡ ok_or o NoNumerals → e ≡ NoNumerals
-no_numerals None h q = cc
-no_numerals (Some x) h q = absurd (cc)
 
 -- `numeral`
 module _ (text : List ℕ) (sr : Rows) (n : ℕ) (hs : n ≤ length sr) (v s : ℕ) (vs : List Variable) (m : ℕ) (w : List ℕ) (u : ℕ) where
