@@ -1,6 +1,10 @@
 -- Laws of numerals.
 use mathlib.Core.Path.{◌≡◌, refl, sym, ◌∙◌}
 use mathlib.Core.List.{List, [], ◌∷◌}
+use mathlib.Core.Bool.{Bool, true, false, cond}
+use Rattle.std.specs.Prelude.{Some, None}
+use Rattle.std.proofs.Common.{ltb-true}
+use Rattle.source_text.specs.ByteLaws.{and_left}
 use Prim.Native.Nat.{ℕ, zero, suc, ◌+◌, ◌*◌, ◌-◌, ◌≤◌, ◌<◌}
 use native.Mathlib.Numerals.{add-one}
 use native.Mathlib.Omega.{arith}
@@ -8,22 +12,23 @@ use lib.ListN.{length, set}
 use borrow.Author.Tests.{lt-ltb, le-ltb}
 use Rattle.terms.specs.Term.{app, nil, cons}
 use Rattle.term_parser.specs.Standing.{number}
+use Rattle.names.specs.Names.{Name}
 use Rattle.names.specs.Symbols.{Rows, Symbol, Variable, column, row_at, symbol_of, symbols_of, symbol_number, symbol_at}
 use Rattle.names.specs.SearchLaws.{columns_at}
-use Rattle.patterns.specs.Patterns.{bad, good, bind, misfit, spent, unless, zero_name, succ_name, first, chain, pattern_of}
+use Rattle.patterns.specs.Patterns.{bad, good, bind, misfit, spent, unless, is_ctor, zero_name, succ_name, first, chain, pattern_of}
 use Rattle.patterns.specs.Laying.{laid, lay}
-use Rattle.patterns.specs.Promises.{no, yes, stored, tower, or_full, refusal}
+use Rattle.patterns.specs.Promises.{no, yes, stored, tower, or_full, refusal, constructor_of}
 use Rattle.patterns.proofs.Symbols.{misfit_args}
 use Rattle.patterns.proofs.Terms.{symbol_at_lem, symbols_length}
 
 module _ (f g : Symbol) (s m : ℕ) where
-  pub refuse_step : (n : ℕ) {e : ℕ} → e ≡ misfit f s 1 → (e ≡ 0 → ⊥) → 0 < n → e ≡ refusal f g n s m
+  pub refuse_step : (n : ℕ) {e : ℕ} → e ≡ misfit f s 1 → 0 < e → 0 < n → e ≡ refusal f g n s m
   unfolding refusal
   refuse_step zero q z l = absurd (omega arith)
   refuse_step (suc n) {e} q z l = rw (← q) (go e z)
     where
-      go : (e : ℕ) → (e ≡ 0 → ⊥) → e ≡ or_full e m (λ r. refusal f g n (first f.inputs) r)
-      go zero z = absurd (z refl)
+      go : (e : ℕ) → 0 < e → e ≡ or_full e m (λ r. refusal f g n (first f.inputs) r)
+      go zero z = absurd (omega arith)
       go (suc e) z = refl
 
   pub full_step : (n : ℕ) → 0 ≡ misfit f s 1 → m ≡ 0 → 0 < n → 28 ≡ refusal f g n s m
@@ -40,12 +45,12 @@ module _ (f g : Symbol) (s m : ℕ) where
       go zero y = absurd (omega arith)
       go (suc m) y = let a : suc m - 1 ≡ m = omega arith in rw a
 
-  pub refuse_end : {e : ℕ} → e ≡ misfit g s 0 → (e ≡ 0 → ⊥) → e ≡ refusal f g 0 s m
+  pub refuse_end : {e : ℕ} → e ≡ misfit g s 0 → 0 < e → e ≡ refusal f g 0 s m
   unfolding refusal
   refuse_end {e} q z = rw (← q) (go e z)
     where
-      go : (e : ℕ) → (e ≡ 0 → ⊥) → e ≡ or_full e m (λ r. 0)
-      go zero z = absurd (z refl)
+      go : (e : ℕ) → 0 < e → e ≡ or_full e m (λ r. 0)
+      go zero z = absurd (omega arith)
       go (suc e) z = refl
 
   pub full_end : 0 ≡ misfit g s 0 → m ≡ 0 → 28 ≡ refusal f g 0 s m
@@ -114,52 +119,74 @@ pub one_input : (text r : List ℕ) (s : ℕ) → 0 ≡ misfit (symbol_of text r
 unfolding symbol_of
 one_input text r s e = let x : 1 ≡ column r 6 = misfit_args text r s 1 e in columns_at r 8 (column r 6) 0 (omega arith)
 
+-- `constructor`
+module _ (text : List ℕ) (sr : Rows) (n : ℕ) (hs : n ≤ length sr) (w : Name) where
+  module _ (i : ℕ) (e : i ≡ symbol_number (symbols_of text sr n) w) (l : i < n) where
+    pub is_predicate : column (row_at sr i) 2 ≡ 0 → None ≡ constructor_of (symbols_of text sr n) w
+    unfolding symbol_of
+    is_predicate o = let b : column (row_at sr i) 2 ≤ 0 = omega arith in simp (← e, symbols_length text sr n hs, lt-ltb i n l, symbol_at_lem text sr n hs i l, le-ltb 0 (column (row_at sr i) 2) b)
+
+    pub is_constructor : (column (row_at sr i) 2 ≡ 0 → ⊥) → Some i ≡ constructor_of (symbols_of text sr n) w
+    unfolding symbol_of
+    is_constructor o = let b : 0 < column (row_at sr i) 2 = omega arith in simp (← e, symbols_length text sr n hs, lt-ltb i n l, symbol_at_lem text sr n hs i l, lt-ltb 0 (column (row_at sr i) 2) b)
+
+  pub is_nothing : n ≤ symbol_number (symbols_of text sr n) w → None ≡ constructor_of (symbols_of text sr n) w
+  is_nothing l = simp (symbols_length text sr n hs, le-ltb (symbol_number (symbols_of text sr n) w) n l)
+
+module _ (ss : List Symbol) (w : Name) where
+  pub constructor_some : (i : ℕ) → Some i ≡ constructor_of ss w → (i ≡ symbol_number ss w) × (is_ctor ss w ≡ true) × (i < length ss)
+  constructor_some i e = go (is_ctor ss w) refl e
+    where
+      go : (b : Bool) → is_ctor ss w ≡ b → Some i ≡ cond b (Some (symbol_number ss w)) None → (i ≡ symbol_number ss w) × (is_ctor ss w ≡ true) × (i < length ss)
+      go true h e =
+          let f : i ≡ symbol_number ss w = cc in
+          let l = ltb-true (symbol_number ss w) (length ss) (and_left _ _ h) in
+          (f, h, omega arith)
+      go false h e = absurd (let z : Some i ≡ None = e in cc)
+
+  pub constructor_none : None ≡ constructor_of ss w → is_ctor ss w ≡ false
+  constructor_none e = go (is_ctor ss w) refl e
+    where
+      go : (b : Bool) → is_ctor ss w ≡ b → None ≡ cond b (Some (symbol_number ss w)) None → is_ctor ss w ≡ false
+      go true h e = absurd (let z : None ≡ Some (symbol_number ss w) = e in cc)
+      go false h e = h
+
 -- `numeral`
-module _ (text : List ℕ) (sr : Rows) (n : ℕ) (hs : n ≤ length sr) (v s : ℕ) (vs : List Variable) (m : ℕ) (w : List ℕ) (u : ℕ) (y z : ℕ)
-    (ez : z ≡ symbol_number (symbols_of text sr n) zero_name) where
-  all_symbols : length (symbols_of text sr n) ≡ n
-  all_symbols = symbols_length text sr n hs
-
-  pub no_zero : n ≤ z → no 26 ≡ stored [] (pattern_of (symbols_of text sr n) (number v) (s ∷ []) vs m) w u
+module _ (text : List ℕ) (sr : Rows) (n : ℕ) (hs : n ≤ length sr) (v s : ℕ) (vs : List Variable) (m : ℕ) (w : List ℕ) (u : ℕ) where
+  pub no_zero : is_ctor (symbols_of text sr n) zero_name ≡ false → no 26 ≡ stored [] (pattern_of (symbols_of text sr n) (number v) (s ∷ []) vs m) w u
   unfolding pattern_of
-  no_zero l = simp (← ez, all_symbols, le-ltb z n l)
+  no_zero h = simp h
 
-  module _ (lz : z < n) where
-    pub zero_pred : column (row_at sr z) 2 ≡ 0 → no 26 ≡ stored [] (pattern_of (symbols_of text sr n) (number v) (s ∷ []) vs m) w u
-    unfolding pattern_of symbol_of
-    zero_pred o = let b : column (row_at sr z) 2 ≤ 0 = omega arith in simp (← ez, all_symbols, lt-ltb z n lz, symbol_at_lem text sr n hs z lz, le-ltb 0 (column (row_at sr z) 2) b)
+  module _ {z : ℕ} (ez : z ≡ symbol_number (symbols_of text sr n) zero_name) (cz : is_ctor (symbols_of text sr n) zero_name ≡ true) (lz : z < length (symbols_of text sr n)) where
+    pub no_succ : is_ctor (symbols_of text sr n) succ_name ≡ false → no 26 ≡ stored [] (pattern_of (symbols_of text sr n) (number v) (s ∷ []) vs m) w u
+    unfolding pattern_of
+    no_succ h = simp (cz, h)
 
-    module _ (oz : column (row_at sr z) 2 ≡ 0 → ⊥) (ey : y ≡ symbol_number (symbols_of text sr n) succ_name) where
-      pub no_succ : n ≤ y → no 26 ≡ stored [] (pattern_of (symbols_of text sr n) (number v) (s ∷ []) vs m) w u
-      unfolding pattern_of symbol_of
-      no_succ l = let zb : 0 < column (row_at sr z) 2 = omega arith in simp (← ez, all_symbols, lt-ltb z n lz, symbol_at_lem text sr n hs z lz, lt-ltb 0 (column (row_at sr z) 2) zb, ← ey, le-ltb y n l)
+    module _ {y : ℕ} (ey : y ≡ symbol_number (symbols_of text sr n) succ_name) (cy : is_ctor (symbols_of text sr n) succ_name ≡ true) (ly : y < length (symbols_of text sr n)) where
+      it_is : pattern_of (symbols_of text sr n) (number v) (s ∷ []) vs m ≡ chain (symbols_of text sr n) y z v s vs m
+      unfolding pattern_of
+      it_is = simp (cz, cy, ← ez, ← ey)
 
-      module _ (ly : y < n) where
-        pub succ_pred : column (row_at sr y) 2 ≡ 0 → no 26 ≡ stored [] (pattern_of (symbols_of text sr n) (number v) (s ∷ []) vs m) w u
-        unfolding pattern_of symbol_of
-        succ_pred o = let zb : 0 < column (row_at sr z) 2 = omega arith in let b : column (row_at sr y) 2 ≤ 0 = omega arith in simp (← ez, all_symbols, lt-ltb z n lz, symbol_at_lem text sr n hs z lz, lt-ltb 0 (column (row_at sr z) 2) zb, ← ey, lt-ltb y n ly, symbol_at_lem text sr n hs y ly, le-ltb 0 (column (row_at sr y) 2) b)
+      pub inside : (y < n) × (z < n)
+      inside = let e = symbols_length text sr n hs in (omega arith, omega arith)
 
-        module _ (oy : column (row_at sr y) 2 ≡ 0 → ⊥) where
-          it_is : pattern_of (symbols_of text sr n) (number v) (s ∷ []) vs m ≡ chain (symbols_of text sr n) y z v s vs m
-          unfolding pattern_of symbol_of
-          it_is = let zb : 0 < column (row_at sr z) 2 = omega arith in let yb : 0 < column (row_at sr y) 2 = omega arith in simp (← ez, all_symbols, lt-ltb z n lz, symbol_at_lem text sr n hs z lz, lt-ltb 0 (column (row_at sr z) 2) zb, ← ey, lt-ltb y n ly, symbol_at_lem text sr n hs y ly, lt-ltb 0 (column (row_at sr y) 2) yb)
+      same_refusal : refusal (symbol_at (symbols_of text sr n) y) (symbol_at (symbols_of text sr n) z) v s m ≡ refusal (symbol_of text (row_at sr y)) (symbol_of text (row_at sr z)) v s m
+      same_refusal = rw (symbol_at_lem text sr n hs y inside.0, symbol_at_lem text sr n hs z inside.1)
 
-          same_refusal : refusal (symbol_at (symbols_of text sr n) y) (symbol_at (symbols_of text sr n) z) v s m ≡ refusal (symbol_of text (row_at sr y)) (symbol_of text (row_at sr z)) v s m
-          same_refusal = rw (symbol_at_lem text sr n hs y ly, symbol_at_lem text sr n hs z lz)
+      pub number_refused : {e : ℕ} → e ≡ refusal (symbol_of text (row_at sr y)) (symbol_of text (row_at sr z)) v s m → 0 < e
+          → no e ≡ stored [] (pattern_of (symbols_of text sr n) (number v) (s ∷ []) vs m) w u
+      number_refused {e} q l =
+          let a : refusal (symbol_at (symbols_of text sr n) y) (symbol_at (symbols_of text sr n) z) v s m ≡ e = same_refusal ∙ sym q in
+          let b = chain_bad (symbols_of text sr n) y z vs v s m (λ x. omega arith) in
+          rw (it_is, b, a)
 
-          pub number_refused : {e : ℕ} → e ≡ refusal (symbol_of text (row_at sr y)) (symbol_of text (row_at sr z)) v s m → (e ≡ 0 → ⊥) → no e ≡ stored [] (pattern_of (symbols_of text sr n) (number v) (s ∷ []) vs m) w u
-          number_refused {e} q h =
-              let a : refusal (symbol_at (symbols_of text sr n) y) (symbol_at (symbols_of text sr n) z) v s m ≡ e = same_refusal ∙ sym q in
-              let b = chain_bad (symbols_of text sr n) y z vs v s m (λ x. h (sym a ∙ x)) in
-              rw (it_is, b, a)
+      module _ (q : 0 ≡ refusal (symbol_of text (row_at sr y)) (symbol_of text (row_at sr z)) v s m) where
+        fine : (v < m) × (chain (symbols_of text sr n) y z v s vs m ≡ good (tower y z v) vs (m - 1 - v))
+        fine = chain_good (symbols_of text sr n) y z vs v s m (same_refusal ∙ sym q)
 
-          module _ {e : ℕ} (q : e ≡ refusal (symbol_of text (row_at sr y)) (symbol_of text (row_at sr z)) v s m) (h : e ≡ 0) where
-            fine : (v < m) × (chain (symbols_of text sr n) y z v s vs m ≡ good (tower y z v) vs (m - 1 - v))
-            fine = chain_good (symbols_of text sr n) y z vs v s m (same_refusal ∙ sym q ∙ h)
+        pub number_room : v < m
+        number_room = fine.0
 
-            pub number_room : v < m
-            number_room = fine.0
-
-            pub number_done : (r : ℕ) (wx : List ℕ) → lay (tower y z v) w u ≡ laid (r ∷ []) wx (u + 1 + 2 * v)
-                → yes (laid (r ∷ []) wx (u + 1 + 2 * v)) vs (m - 1 - v) ≡ stored [] (pattern_of (symbols_of text sr n) (number v) (s ∷ []) vs m) w u
-            number_done r wx l = rw (it_is, fine.1, l)
+        pub number_done : (r : ℕ) (wx : List ℕ) → lay (tower y z v) w u ≡ laid (r ∷ []) wx (u + 1 + 2 * v)
+            → yes (laid (r ∷ []) wx (u + 1 + 2 * v)) vs (m - 1 - v) ≡ stored [] (pattern_of (symbols_of text sr n) (number v) (s ∷ []) vs m) w u
+        number_done r wx l = rw (it_is, fine.1, l)

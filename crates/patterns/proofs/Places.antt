@@ -9,11 +9,10 @@ use Rattle.words.specs.Names.{numeral_kind}
 use Rattle.terms.specs.Numbers.{by_less, by_same}
 use Rattle.term_parser.specs.Rows.{application_kind}
 use Rattle.names.specs.Symbols.{Rows, column, row_at}
-use Rattle.patterns.specs.Promises.{NextIs, place_of, Placed, LiesAt, LiesIn, EntryPlaced, MadePlaced, NoneNew}
-use Rattle.patterns.specs.declared.Got.{Got}
-use Rattle.patterns.specs.declared.Got.TheVariants.{At}
-use Rattle.patterns.specs.declared.Made.{Made}
-use Rattle.patterns.specs.declared.Made.TheVariants.{Node, Failed}
+use Rattle.patterns.specs.Promises.{NextIs, place_of, Placed, LiesAt, LiesIn, MadePlaced, NoneNew}
+use Rattle.std.specs.Prelude.{Result, Ok, Err}
+use Rattle.refusals.specs.declared.Refusal.{Refusal}
+use Rattle.patterns.specs.declared.CompiledTerm.{CompiledTerm}
 
 -- `enter`
 
@@ -49,10 +48,6 @@ module _ (rs : Rows) (n k a b s : ℕ) (inside : n < length rs) where
         subst (λ (j : ℕ). LiesAt k a b (row_at (set rs n last) j)) e (ap place_of (get_or-set_same rs n last [] inside));
   }
 
-pub placed_entry : {P : List ℕ → Type 0} {vs vx : Rows} {nv : ℕ} (g : Got) {i n : ℕ} → g ≡ At i n
-    → EntryPlaced P vs nv g vx → Placed P vs nv vx n
-placed_entry {P} {vs} {vx} {nv} g e h = subst (λ (x : Got). EntryPlaced P vs nv x vx) e h
-
 -- A term
 
 -- A row that lies in some rows lies in more of them, and so does a row at the same place.
@@ -75,26 +70,26 @@ module _ (rows : Rows) (p : ℕ) (vs : Rows) (nv : ℕ) where
   LiesHere _ = LiesAt (column (row_at rows p) 0) (column (row_at rows p) 1) (column (row_at rows p) 2)
 
   -- It is a variable.
-  pub placed_variable : (vx : Rows) (r : Made) → (column (row_at rows p) 0 ≡ numeral_kind → ⊥)
+  pub placed_variable : (vx : Rows) (r : Result CompiledTerm Refusal) → (column (row_at rows p) 0 ≡ numeral_kind → ⊥)
       → (column (row_at rows p) 0 ≡ application_kind → ⊥) → NextIs (p + 1) r → MadePlaced LiesHere vs nv r vx
       → MadePlaced (LiesIn rows p) vs nv r vx
-  placed_variable vx (Node o next n u m) a b e h = record {
+  placed_variable vx (Ok r) a b e h = record {
     old = h.old;
     new = λ i l k.
         record { at = p; from = omega arith; before = omega arith; no_numeral = a; no_application = b; same = h.new i l k };
   }
-  placed_variable vx (Failed e) a b f h = tt
+  placed_variable vx (Err e) a b f h = tt
 
   -- It has no variable.
-  pub placed_none : (r : Made) → NoneNew nv r → MadePlaced (LiesIn rows p) vs nv r vs
-  placed_none (Node o next n u m) e = record { old = λ i l. refl; new = λ i l k. absurd (omega arith) }
-  placed_none (Failed e) f = tt
+  pub placed_none : (r : Result CompiledTerm Refusal) → NoneNew nv r → MadePlaced (LiesIn rows p) vs nv r vs
+  placed_none (Ok r) e = record { old = λ i l. refl; new = λ i l k. absurd (omega arith) }
+  placed_none (Err e) f = tt
 
   -- It is a node, whose arguments have the rows behind its first.
-  pub placed_node : (vx : Rows) (r : Made) → MadePlaced (LiesIn rows (p + 1)) vs nv r vx → MadePlaced (LiesIn rows p) vs nv r vx
-  placed_node vx (Node o next n u m) h =
+  pub placed_node : (vx : Rows) (r : Result CompiledTerm Refusal) → MadePlaced (LiesIn rows (p + 1)) vs nv r vx → MadePlaced (LiesIn rows p) vs nv r vx
+  placed_node vx (Ok r) h =
       record { old = h.old; new = λ i l k. lies_wider (omega arith) (omega arith) refl (h.new i l k) }
-  placed_node vx (Failed e) h = tt
+  placed_node vx (Err e) h = tt
 
 -- One term behind another.
 pub placed_more : (rows : Rows) {p₀ p q : ℕ} {vs₀ vs vx : Rows} {n₀ n n₁ : ℕ} → p₀ ≤ p → p ≤ q → n₀ ≤ n

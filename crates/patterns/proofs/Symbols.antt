@@ -1,5 +1,5 @@
 -- Laws of the checks of a symbol.
-use mathlib.Core.Path.{◌≡◌, refl, sym, ◌∙◌}
+use mathlib.Core.Path.{◌≡◌, refl, sym}
 use mathlib.Core.Bool.{Bool, true, false, cond, ◌&&◌}
 use mathlib.Core.List.{List}
 use Prim.Native.Nat.{ℕ, ◌≤◌, ◌<◌}
@@ -32,14 +32,14 @@ module _ (text r : List ℕ) (s k : ℕ) where
     unfolding symbol_of
     misfit_23 o = simp (f, ne_eqb _ _ o)
 
-    module _ (o : column r 2 ≡ s) {n : ℕ} (i : n ≡ column r 6) where
-      pub misfit_21 : (n ≡ k → ⊥) → 21 ≡ misfit (symbol_of text r) s k
+    module _ (o : column r 2 ≡ s) where
+      pub misfit_21 : (column r 6 ≡ k → ⊥) → 21 ≡ misfit (symbol_of text r) s k
       unfolding symbol_of
-      misfit_21 h = simp (f, eq-eqb _ _ o, columns_length, ne_eqb (column r 6) k (λ q. h (i ∙ q)))
+      misfit_21 h = simp (f, eq-eqb _ _ o, columns_length, ne_eqb (column r 6) k h)
 
-      pub misfit_0 : n ≡ k → 0 ≡ misfit (symbol_of text r) s k
+      pub misfit_0 : column r 6 ≡ k → 0 ≡ misfit (symbol_of text r) s k
       unfolding symbol_of
-      misfit_0 h = let q : column r 6 ≡ k = cc in simp (f, eq-eqb _ _ o, columns_length, eq-eqb _ _ q)
+      misfit_0 h = simp (f, eq-eqb _ _ o, columns_length, eq-eqb _ _ h)
 
 pub misfit_args : (text r : List ℕ) (s k : ℕ) → 0 ≡ misfit (symbol_of text r) s k → k ≡ column r 6
 unfolding symbol_of

@@ -20,8 +20,10 @@ use Rattle.names.specs.SearchLaws.{columns_at, table_length, table_at, get_d_any
 use Rattle.patterns.specs.Patterns.{enter, kind_of, Out, bad, good, bind, counted, misfit, spent, unless, zero_name, succ_name, first, rest, chain, pattern_of}
 use Rattle.patterns.specs.Laying.{Laid, laid, header, after, lay}
 use Rattle.patterns.specs.Promises.{no, yes, stored, node_of, Placed, LiesIn, MadePlaced, Compiled}
-use Rattle.patterns.specs.declared.Made.{Made}
-use Rattle.patterns.specs.declared.Made.TheVariants.{Node, Failed}
+use Rattle.std.specs.Prelude.{Result, Ok, Err}
+use Rattle.refusals.specs.declared.Refusal.{Refusal}
+use Rattle.refusals.specs.Refusals.{number_of}
+use Rattle.patterns.specs.declared.CompiledTerm.{CompiledTerm}
 use Rattle.patterns.proofs.Places.{placed_kept, placed_more}
 
 -- the symbols of a table
@@ -192,32 +194,32 @@ loop_start text rs p args ss is vs nv w u m refs a b = record {
 module _ (text : List ℕ) (rs : Rows) (p₀ args : ℕ) (ss : List Symbol) (is : List ℕ) (vs₀ : Rows) (nv₀ : ℕ) (w₀ : List ℕ) (u₀ m₀ : ℕ)
     (k p : ℕ) (vs : Rows) (nv : ℕ) (w : List ℕ) (u m : ℕ) (refs : List ℕ)
     (L : Looped text rs p₀ args ss is vs₀ nv₀ w₀ u₀ m₀ k p vs nv w u m refs) where
-  module _ (l : k < args) (want : ℕ) (sort_is : first (drop k is) ≡ want) (r : Made) (vx : Rows) (wx : List ℕ)
+  module _ (l : k < args) (want : ℕ) (sort_is : first (drop k is) ≡ want) (r : Result CompiledTerm Refusal) (vx : Rows) (wx : List ℕ)
       (C : Compiled text rs p ss want vs nv w u m r vx wx) where
     -- an argument is refused
-    pub loop_refused : {e : ℕ} → r ≡ Failed e → (ts : Written many) (q : ℕ) → Stands text rs p₀ ts q → size ts ≡ args
-        → no e ≡ stored [] (pattern_of ss ts is (variables_of text vs₀ nv₀) m₀) w₀ u₀
+    pub loop_refused : {e : Refusal} → r ≡ Err e → (ts : Written many) (q : ℕ) → Stands text rs p₀ ts q → size ts ≡ args
+        → no (number_of e) ≡ stored [] (pattern_of ss ts is (variables_of text vs₀ nv₀) m₀) w₀ u₀
     unfolding Stands size
     loop_refused {e} f ts q st c = let x = L.same ts q st c in go x.0 x.1 x.2 x.3
       where
         go : (us : Written many) → Stands text rs p us q → size us ≡ args - k
             → stored [] (pattern_of ss ts is (variables_of text vs₀ nv₀) m₀) w₀ u₀ ≡ stored (take k refs) (pattern_of ss us (drop k is) (variables_of text vs nv) m) w u
-            → no e ≡ stored [] (pattern_of ss ts is (variables_of text vs₀ nv₀) m₀) w₀ u₀
+            → no (number_of e) ≡ stored [] (pattern_of ss ts is (variables_of text vs₀ nv₀) m₀) w₀ u₀
         go none a d g = absurd (omega arith)
         go (more t us) a d g =
             let y = (C.same t a.0 a.1).1 in
-            let z : no e ≡ stored [] (pattern_of ss t (first (drop k is) ∷ []) (variables_of text vs nv) m) w u = rw sort_is (rw f at y) in
+            let z : no (number_of e) ≡ stored [] (pattern_of ss t (first (drop k is) ∷ []) (variables_of text vs nv) m) w u = rw sort_is (rw f at y) in
             turn_refused ss t us (drop k is) (variables_of text vs nv) m (take k refs) w u z ∙ sym g
 
     -- an argument is done
-    module _ {o next nv₁ u₁ m₁ : ℕ} (f : r ≡ Node o next nv₁ u₁ m₁) (kv : length vx ≡ length vs) (kw : length wx ≡ length w) (six : args ≤ 16) where
-      small : (p + 1 ≤ next) × (nv ≤ nv₁) × (nv₁ ≤ 64) × (u ≤ u₁) × (u₁ + 2 * m₁ + 1 ≤ u + 2 * m)
+    module _ {made : CompiledTerm} (f : r ≡ Ok made) (kv : length vx ≡ length vs) (kw : length wx ≡ length w) (six : args ≤ 16) where
+      small : (p + 1 ≤ made.place.next) × (nv ≤ made.place.variables) × (made.place.variables ≤ 64) × (u ≤ made.place.used) × (made.place.used + 2 * made.place.room + 1 ≤ u + 2 * m)
       small = let y = C.small in rw f at y
 
-      placed_argument : Placed (LiesIn rs p next) vs nv vx nv₁
-      placed_argument = subst (λ (x : Made). MadePlaced (LiesIn rs p) vs nv x vx) f C.placed
+      placed_argument : Placed (LiesIn rs p made.place.next) vs nv vx made.place.variables
+      placed_argument = subst (λ (x : Result CompiledTerm Refusal). MadePlaced (LiesIn rs p) vs nv x vx) f C.placed
 
-      pub loop_turn : Looped text rs p₀ args ss is vs₀ nv₀ w₀ u₀ m₀ (k + 1) next vx nv₁ wx u₁ m₁ (set refs k o)
+      pub loop_turn : Looped text rs p₀ args ss is vs₀ nv₀ w₀ u₀ m₀ (k + 1) made.place.next vx made.place.variables wx made.place.used made.place.room (set refs k made.node)
       unfolding Stands size
       loop_turn =
           let x0 = small in
@@ -232,25 +234,25 @@ module _ (text : List ℕ) (rs : Rows) (p₀ args : ℕ) (ss : List Symbol) (is 
             kept_words = kw ∙ L.kept_words;
             spent = omega arith;
             further = omega arith;
-            sixteen = length-set refs k o ∙ y4;
+            sixteen = length-set refs k made.node ∙ y4;
             placed = placed_more rs y1 (omega arith) y2 L.placed placed_argument;
             same = λ ts q st c. let x = L.same ts q st c in go inside ts q x.0 x.1 x.2 x.3;
           }
         where
           go : k < length refs → (ts : Written many) (q : ℕ) (us : Written many) → Stands text rs p us q → size us ≡ args - k
               → stored [] (pattern_of ss ts is (variables_of text vs₀ nv₀) m₀) w₀ u₀ ≡ stored (take k refs) (pattern_of ss us (drop k is) (variables_of text vs nv) m) w u
-              → (us : Written many) × Stands text rs next us q × (size us ≡ args - (k + 1))
-              × (stored [] (pattern_of ss ts is (variables_of text vs₀ nv₀) m₀) w₀ u₀ ≡ stored (take (k + 1) (set refs k o)) (pattern_of ss us (drop (k + 1) is) (variables_of text vx nv₁) m₁) wx u₁)
+              → (us : Written many) × Stands text rs made.place.next us q × (size us ≡ args - (k + 1))
+              × (stored [] (pattern_of ss ts is (variables_of text vs₀ nv₀) m₀) w₀ u₀ ≡ stored (take (k + 1) (set refs k made.node)) (pattern_of ss us (drop (k + 1) is) (variables_of text vx made.place.variables) made.place.room) wx made.place.used)
           go h ts q none a d g = absurd (omega arith)
           go h ts q (more t us) a d g =
               let y = C.same t a.0 a.1 in
-              let e : next ≡ a.0 = (let y2 = y.0 in rw f at y2) in
-              let z : yes (laid (o ∷ []) wx u₁) (variables_of text vx nv₁) m₁ ≡ stored [] (pattern_of ss t (first (drop k is) ∷ []) (variables_of text vs nv) m) w u = (let y3 = y.1 in rw sort_is (rw f at y3)) in
-              let tk : take (k + 1) (set refs k o) ≡ take k refs ++ (o ∷ []) = rw add-one (take-suc-set refs k o h) in (
+              let e : made.place.next ≡ a.0 = (let y2 = y.0 in rw f at y2) in
+              let z : yes (laid (made.node ∷ []) wx made.place.used) (variables_of text vx made.place.variables) made.place.room ≡ stored [] (pattern_of ss t (first (drop k is) ∷ []) (variables_of text vs nv) m) w u = (let y3 = y.1 in rw sort_is (rw f at y3)) in
+              let tk : take (k + 1) (set refs k made.node) ≡ take k refs ++ (made.node ∷ []) = rw add-one (take-suc-set refs k made.node h) in (
                 us,
                 rw e a.2,
                 omega arith,
-                rw (tk, ← rest_drop is k) (g ∙ turn ss t us (drop k is) (variables_of text vs nv) m (take k refs) w u o wx u₁ (variables_of text vx nv₁) m₁ z),
+                rw (tk, ← rest_drop is k) (g ∙ turn ss t us (drop k is) (variables_of text vs nv) m (take k refs) w u made.node wx made.place.used (variables_of text vx made.place.variables) made.place.room z),
               )
 
   -- all arguments are done

@@ -10,10 +10,11 @@ use Rattle.names.specs.Symbols.{Rows, column, row_at, variable_of, variables_of,
 use Rattle.names.specs.SearchLaws.{table_length, table_at, table_set, table_more, get_d_any}
 use Rattle.patterns.specs.Patterns.{no_variable, Entry, refused, entered, known, enter, counted}
 use Rattle.patterns.specs.Laying.{laid, lay}
-use Rattle.patterns.specs.Promises.{yes, stored, entry_of, Grew, answer}
-use Rattle.patterns.specs.declared.Got.{Got}
-use Rattle.patterns.specs.declared.Got.TheVariants.{At, Refused}
-use Rattle.patterns.specs.declared.Made.TheVariants.{Node, Failed}
+use Rattle.patterns.specs.Promises.{yes, stored, entry_of, answer}
+use Rattle.std.specs.Prelude.{Result, Ok, Err}
+use Rattle.refusals.specs.declared.Refusal.{Refusal}
+use Rattle.refusals.specs.declared.Refusal.TheVariants.{Full}
+use Rattle.patterns.specs.declared.EnteredVariable.{EnteredVariable}
 
 module _ (text : List ℕ) (rs : Rows) (n : ℕ) (h : n ≤ length rs) (w : Name) (s : ℕ) (i : ℕ) (e : i ≡ variable_number (variables_of text rs n) w) where
   pub many_vars : length (variables_of text rs n) ≡ n
@@ -60,20 +61,18 @@ module _ (text : List ℕ) (rs : Rows) (n : ℕ) (h : n ≤ length rs) (w : Name
   var_full l k = sym (simp (← e, many_vars, le-ltb i n l, le-ltb n 64 k))
 
 -- a variable's answer
-pub grew : {m : ℕ} (g : Got) {i n : ℕ} → g ≡ At i n → Grew m g → (i < n) × (m ≤ n) × (n ≤ 64)
-grew g e h = rw e at h
-
-module _ (text : List ℕ) (g : Got) (vx : Rows) (x : Entry) (eq : entry_of text g vx ≡ x) (w : List ℕ) (u m : ℕ) where
-  pub variable_refused : {e : ℕ} → g ≡ Refused e → answer text (Failed e) vx w ≡ stored [] (counted x m) w u
+module _ (text : List ℕ) (g : Result EnteredVariable Refusal) (vx : Rows) (x : Entry) (eq : entry_of text g vx ≡ x) (w : List ℕ) (u m : ℕ) where
+  pub variable_refused : {e : Refusal} → g ≡ Err e → answer text (Err e) vx w ≡ stored [] (counted x m) w u
   variable_refused h = simp (← eq, h)
 
-  pub variable_full : {i n : ℕ} → g ≡ At i n → m ≡ 0 → answer text (Failed 28) vx w ≡ stored [] (counted x m) w u
+  pub variable_full : {v : EnteredVariable} → g ≡ Ok v → m ≡ 0 → answer text (Err Full) vx w ≡ stored [] (counted x m) w u
   variable_full h z = simp (← eq, h, z)
 
-  pub variable_node : {i n : ℕ} → g ≡ At i n → (next : ℕ) → 0 < m → answer text (Node i next n u (m - 1)) vx w ≡ stored [] (counted x m) w u
+  pub variable_node : {v : EnteredVariable} → g ≡ Ok v → (next : ℕ) → 0 < m
+      → answer text (Ok (record { node = v.index; place = record { next = next; variables = v.count; used = u; room = m - 1 } })) vx w ≡ stored [] (counted x m) w u
   unfolding lay
-  variable_node {i} {n} h next l = let z : m ≡ suc (m - 1) = omega arith in simp (← eq, h) (go m (omega arith))
+  variable_node {v} h next l = simp (← eq, h) (go m l)
     where
-      go : (k : ℕ) → 0 < k → yes (laid (i ∷ []) w u) (variables_of text vx n) (k - 1) ≡ stored [] (counted (entered i (variables_of text vx n)) k) w u
+      go : (k : ℕ) → 0 < k → yes (laid (v.index ∷ []) w u) (variables_of text vx v.count) (k - 1) ≡ stored [] (counted (entered v.index (variables_of text vx v.count)) k) w u
       go zero b = absurd (omega arith)
       go (suc k) b = let y : suc k - 1 ≡ k = omega arith in rw y

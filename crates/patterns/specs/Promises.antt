@@ -1,18 +1,20 @@
 -- What the functions of `patterns` ask of and owe to each other.
-use Rattle.std.specs.Prelude.{ℕ, zero, suc, ◌+◌, ◌*◌, ◌≤◌, ◌<◌, ◌≡◌, List, [], ◌∷◌, length, take}
+use Rattle.std.specs.Prelude.{ℕ, zero, suc, ◌+◌, ◌*◌, ◌≤◌, ◌<◌, ◌≡◌, cond, Option, Some, None, Result, Ok, Err, List, [], ◌∷◌, length, take}
 use Rattle.terms.specs.Term.{Term, app, nil, cons}
 use Rattle.words.specs.Names.{numeral_kind}
 use Rattle.term_parser.specs.Source.{Arity, one, many}
 use Rattle.term_parser.specs.Rows.{application_kind}
 use Rattle.term_parser.specs.Standing.{Written, number, size}
-use Rattle.names.specs.Symbols.{Rows, Symbol, Variable, column, row_at, variables_of, symbol_at}
-use Rattle.patterns.specs.Patterns.{Entry, refused, entered, Out, bad, good, bind, misfit, spent, unless, first, pattern_of}
+use Rattle.names.specs.Symbols.{Rows, Symbol, Variable, column, row_at, variables_of, symbol_number, symbol_at}
+use Rattle.patterns.specs.Patterns.{Entry, refused, entered, Out, bad, good, bind, misfit, spent, unless, first, is_ctor, pattern_of}
+use Rattle.names.specs.Names.{Name}
 use Rattle.names.specs.Standing.{Stands}
 use Rattle.patterns.specs.Laying.{Laid, laid, after, lay}
-use Rattle.patterns.specs.declared.Got.{Got}
-use Rattle.patterns.specs.declared.Got.TheVariants.{At, Refused}
-use Rattle.patterns.specs.declared.Made.{Made}
-use Rattle.patterns.specs.declared.Made.TheVariants.{Node, Failed}
+use Rattle.refusals.specs.declared.Refusal.{Refusal}
+use Rattle.refusals.specs.Refusals.{number_of}
+use Rattle.patterns.specs.declared.EnteredVariable.{EnteredVariable}
+use Rattle.patterns.specs.declared.CompiledTerm.{CompiledTerm}
+use Rattle.patterns.specs.declared.Place.{Place}
 
 -- What the code hands back: a refusal, or references, words, variables and the room left.
 pub data Answer : Type 0 where
@@ -25,27 +27,27 @@ stored acc (bad e) w u = no e
 stored acc (good t vs room) w u = yes (after acc (lay t w u)) vs room
 
 -- An answer of `enter`, with the variables' rows at exit.
-abbrev pub entry_of : List ℕ → Got → Rows → Entry
-entry_of text (At i n) rows = entered i (variables_of text rows n)
-entry_of text (Refused e) rows = refused e
+abbrev pub entry_of : List ℕ → Result EnteredVariable Refusal → Rows → Entry
+entry_of text (Ok v) rows = entered v.index (variables_of text rows v.count)
+entry_of text (Err e) rows = refused (number_of e)
 
-abbrev pub Grew : ℕ → Got → Type 0
-Grew m (At i n) = (i < n) × (m ≤ n) × (n ≤ 64)
-Grew m (Refused e) = 0 < e
+abbrev pub Grew : ℕ → Result EnteredVariable Refusal → Type 0
+Grew m (Ok v) = (v.index < v.count) × (m ≤ v.count) × (v.count ≤ 64)
+Grew m (Err e) = 0 < number_of e
 
 -- An answer of the compiler, with the variables' rows and the words at exit.
-abbrev pub answer : List ℕ → Made → Rows → List ℕ → Answer
-answer text (Node r next n u room) vx wx = yes (laid (r ∷ []) wx u) (variables_of text vx n) room
-answer text (Failed e) vx wx = no e
+abbrev pub answer : List ℕ → Result CompiledTerm Refusal → Rows → List ℕ → Answer
+answer text (Ok p) vx wx = yes (laid (p.node ∷ []) wx p.place.used) (variables_of text vx p.place.variables) p.place.room
+answer text (Err e) vx wx = no (number_of e)
 
 -- What callers count with: a node takes no more than 2 words.
-abbrev pub Small : ℕ → ℕ → ℕ → ℕ → Made → Type 0
-Small p n u room (Node r next n' u' room') = (p ≤ next) × (n ≤ n') × (n' ≤ 64) × (u ≤ u') × (u' + 2 * room' + 1 ≤ u + 2 * room)
-Small p n u room (Failed e) = Unit {0}
+abbrev pub Small : ℕ → ℕ → ℕ → ℕ → Result CompiledTerm Refusal → Type 0
+Small p n u room (Ok r) = (p ≤ r.place.next) × (n ≤ r.place.variables) × (r.place.variables ≤ 64) × (u ≤ r.place.used) × (r.place.used + 2 * r.place.room + 1 ≤ u + 2 * room)
+Small p n u room (Err e) = Unit {0}
 
-abbrev pub NextIs : ℕ → Made → Type 0
-NextIs q (Node r next n u room) = next ≡ q
-NextIs q (Failed e) = Unit {0}
+abbrev pub NextIs : ℕ → Result CompiledTerm Refusal → Type 0
+NextIs q (Ok r) = r.place.next ≡ q
+NextIs q (Err e) = Unit {0}
 
 -- Where a row's name lies: kind, start and length.
 abbrev pub place_of : List ℕ → List ℕ
@@ -70,18 +72,18 @@ pub record LiesIn (rows : Rows) (p q : ℕ) (row : List ℕ) : Type 0 where
   pub same : place_of row ≡ place_of (row_at rows at)
 
 -- The same of an answer of `enter`, and of one of the compiler, where P may speak of the row behind the term.
-abbrev pub EntryPlaced : (List ℕ → Type 0) → Rows → ℕ → Got → Rows → Type 0
-EntryPlaced P vs nv (At i n) vx = Placed P vs nv vx n
-EntryPlaced P vs nv (Refused e) vx = Unit {0}
+abbrev pub EntryPlaced : (List ℕ → Type 0) → Rows → ℕ → Result EnteredVariable Refusal → Rows → Type 0
+EntryPlaced P vs nv (Ok v) vx = Placed P vs nv vx v.count
+EntryPlaced P vs nv (Err e) vx = Unit {0}
 
-abbrev pub MadePlaced : (ℕ → List ℕ → Type 0) → Rows → ℕ → Made → Rows → Type 0
-MadePlaced P vs nv (Node r next n u room) vx = Placed (P next) vs nv vx n
-MadePlaced P vs nv (Failed e) vx = Unit {0}
+abbrev pub MadePlaced : (ℕ → List ℕ → Type 0) → Rows → ℕ → Result CompiledTerm Refusal → Rows → Type 0
+MadePlaced P vs nv (Ok r) vx = Placed (P r.place.next) vs nv vx r.place.variables
+MadePlaced P vs nv (Err e) vx = Unit {0}
 
 -- No variable is new.
-abbrev pub NoneNew : ℕ → Made → Type 0
-NoneNew nv (Node r next n u room) = n ≡ nv
-NoneNew nv (Failed e) = Unit {0}
+abbrev pub NoneNew : ℕ → Result CompiledTerm Refusal → Type 0
+NoneNew nv (Ok r) = r.place.variables ≡ nv
+NoneNew nv (Err e) = Unit {0}
 
 -- What the compiler asks of the storage: n symbols with at most 16 inputs, nv variables, u words, and 2 words for each of `room` nodes.
 pub record Ready (symbols : Rows) (n : ℕ) (vs : Rows) (nv : ℕ) (w : List ℕ) (u room : ℕ) : Type 0 where
@@ -99,14 +101,14 @@ node_of symbols i ts s vs room =
     unless (misfit (symbol_at symbols i) s (size ts)) (λ _. spent room (λ r. bind (pattern_of symbols ts (symbol_at symbols i).inputs vs r) (λ us ws q. good (app i us) ws q)))
 
 -- `pattern` at the row p: whatever term stands there is compiled, and `next` is the row behind it.
-pub record Compiled (text : List ℕ) (rows : Rows) (p : ℕ) (symbols : List Symbol) (s : ℕ) (vs : Rows) (nv : ℕ) (w : List ℕ) (u room : ℕ) (r : Made) (vx : Rows) (wx : List ℕ) : Type 0 where
+pub record Compiled (text : List ℕ) (rows : Rows) (p : ℕ) (symbols : List Symbol) (s : ℕ) (vs : Rows) (nv : ℕ) (w : List ℕ) (u room : ℕ) (r : Result CompiledTerm Refusal) (vx : Rows) (wx : List ℕ) : Type 0 where
   pub small : Small (p + 1) nv u room r
   pub same : (t : Written one) (q : ℕ) → Stands text rows p t q → NextIs q r × (answer text r vx wx ≡ stored [] (pattern_of symbols t (s ∷ []) (variables_of text vs nv) room) w u)
   -- the name of a new variable lies where the term has it
   pub placed : MadePlaced (LiesIn rows p) vs nv r vx
 
 -- `node` of the symbol i, its k arguments from the row p on.
-pub record NodeMade (text : List ℕ) (rows : Rows) (p k : ℕ) (symbols : List Symbol) (i s : ℕ) (vs : Rows) (nv : ℕ) (w : List ℕ) (u room : ℕ) (r : Made) (vx : Rows) (wx : List ℕ) : Type 0 where
+pub record NodeMade (text : List ℕ) (rows : Rows) (p k : ℕ) (symbols : List Symbol) (i s : ℕ) (vs : Rows) (nv : ℕ) (w : List ℕ) (u room : ℕ) (r : Result CompiledTerm Refusal) (vx : Rows) (wx : List ℕ) : Type 0 where
   pub small : Small p nv u room r
   pub same : (ts : Written many) (q : ℕ) → Stands text rows p ts q → size ts ≡ k → NextIs q r × (answer text r vx wx ≡ stored [] (node_of symbols i ts s (variables_of text vs nv) room) w u)
   pub placed : MadePlaced (LiesIn rows p) vs nv r vx
@@ -115,6 +117,15 @@ pub record NodeMade (text : List ℕ) (rows : Rows) (p k : ℕ) (symbols : List 
 unfoldable pub tower : ℕ → ℕ → ℕ → Term
 tower y z zero = app z nil
 tower y z (suc n) = app y (cons (tower y z n) nil)
+
+-- The answer is the refusal with a number; 0: nothing is refused.
+abbrev pub RefusedFor : ℕ → Result (Unit {0}) Refusal → Type 0
+RefusedFor n (Ok _) = 0 ≡ n
+RefusedFor n (Err e) = (number_of e ≡ n) × (0 < number_of e)
+
+-- The number of the constructor with a name.
+abbrev pub constructor_of : List Symbol → Name → Option ℕ
+constructor_of symbols w = cond (is_ctor symbols w) (Some (symbol_number symbols w)) None
 
 -- What n times f on g is refused for, at a place of the sort s with room for so many nodes; 0: nothing.
 abbrev pub or_full : ℕ → ℕ → (ℕ → ℕ) → ℕ
@@ -126,23 +137,27 @@ unfoldable pub refusal : Symbol → Symbol → ℕ → ℕ → ℕ → ℕ
 refusal f g zero s room = or_full (misfit g s 0) room (λ r. 0)
 refusal f g (suc n) s room = or_full (misfit f s 1) room (λ r. refusal f g n (first f.inputs) r)
 
-pub record Numbered (text : List ℕ) (symbols : List Symbol) (n s nv next : ℕ) (w : List ℕ) (u room : ℕ) (r : Made) (wx : List ℕ) : Type 0 where
+pub record Numbered (text : List ℕ) (symbols : List Symbol) (n s nv next : ℕ) (w : List ℕ) (u room : ℕ) (r : Result CompiledTerm Refusal) (wx : List ℕ) : Type 0 where
   pub small : Small next nv u room r
   pub going : NextIs next r
   pub none_new : NoneNew nv r
   pub same : (vx : Rows) → answer text r vx wx ≡ stored [] (pattern_of symbols (number n) (s ∷ []) (variables_of text vx nv) room) w u
 
 -- An answer about several terms: their references stand first in the list l.
-abbrev pub answers : List ℕ → Made → ℕ → List ℕ → Rows → List ℕ → Answer
-answers text (Node r next n u room) k l vx wx = yes (laid (take k l) wx u) (variables_of text vx n) room
-answers text (Failed e) k l vx wx = no e
+abbrev pub answers : List ℕ → Result Place Refusal → ℕ → List ℕ → Rows → List ℕ → Answer
+answers text (Ok r) k l vx wx = yes (laid (take k l) wx r.used) (variables_of text vx r.variables) r.room
+answers text (Err e) k l vx wx = no (number_of e)
+
+abbrev pub EndsAt : ℕ → Result Place Refusal → Type 0
+EndsAt q (Ok r) = r.next ≡ q
+EndsAt q (Err e) = Unit {0}
 
 -- What callers count with there.
-abbrev pub Judging : ℕ → ℕ → ℕ → ℕ → Made → Type 0
-Judging p n u room (Node r next n' u' room') = (p ≤ next) × (n ≤ n') × (n' ≤ 64) × (u ≤ u') × (u' + 2 * room' ≤ u + 2 * room)
-Judging p n u room (Failed e) = Unit {0}
+abbrev pub Judging : ℕ → ℕ → ℕ → ℕ → Result Place Refusal → Type 0
+Judging p n u room (Ok r) = (p ≤ r.next) × (n ≤ r.variables) × (r.variables ≤ 64) × (u ≤ r.used) × (r.used + 2 * r.room ≤ u + 2 * room)
+Judging p n u room (Err e) = Unit {0}
 
 -- `judgments`: k judgments from the row p on.
-pub record Judged (text : List ℕ) (rows : Rows) (p k : ℕ) (symbols : List Symbol) (vs : Rows) (nv : ℕ) (w : List ℕ) (u room : ℕ) (r : Made) (vx : Rows) (wx lx : List ℕ) : Type 0 where
+pub record Judged (text : List ℕ) (rows : Rows) (p k : ℕ) (symbols : List Symbol) (vs : Rows) (nv : ℕ) (w : List ℕ) (u room : ℕ) (r : Result Place Refusal) (vx : Rows) (wx lx : List ℕ) : Type 0 where
   pub small : Judging p nv u room r
-  pub same : (ts : Written many) (q : ℕ) → Stands text rows p ts q → size ts ≡ k → NextIs q r × (answers text r k lx vx wx ≡ stored [] (pattern_of symbols ts [] (variables_of text vs nv) room) w u)
+  pub same : (ts : Written many) (q : ℕ) → Stands text rows p ts q → size ts ≡ k → EndsAt q r × (answers text r k lx vx wx ≡ stored [] (pattern_of symbols ts [] (variables_of text vs nv) room) w u)

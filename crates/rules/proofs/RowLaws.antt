@@ -4,10 +4,26 @@ use mathlib.Core.List.{List, [], ◌∷◌, ◌++◌, map}
 use Prim.Native.Nat.{ℕ, zero, suc, ◌+◌, ◌≤◌, ◌<◌}
 use native.Mathlib.Numerals.{add-one}
 use native.Mathlib.Omega.{arith}
-use lib.ListN.{length, get_or, take, set, length-set, get_or-map}
-use lib.Seq.{sets, take-suc, length-take-le, get_or-set_same, set-set}
+use lib.ListN.{length, get_or, take, drop, set, length-set, get_or-map}
+use borrow.Rule.Slice.PartMut.{put_mid}
+use Rattle.std.proofs.lemmas.List.{take-append-drop, drop-drop, drop-set-lt}
+use Rattle.std.proofs.Common.{append_assoc}
+use lib.Seq.{sets, take-suc, take-suc-set, length-take-le, get_or-set_same, set-set}
 use Rattle.names.specs.Symbols.{Rows, Variable, row_at, column, variable_of, variables_of}
 use Rattle.names.specs.SearchLaws.{map_length, table_length}
+
+-- A part of a row that is written at once.
+pub sets_part : (vs row : List ℕ) (at k : ℕ) → k ≡ length vs → at + length vs ≤ length row → put_mid at k row vs ≡ sets row at vs
+sets_part vs row at k e l = rw (e, drop-drop (length vs) at row) (go vs row at l)
+  where
+    go : (vs row : List ℕ) (at : ℕ) → at + length vs ≤ length row → take at row ++ (vs ++ drop (at + length vs) row) ≡ sets row at vs
+    go [] row at l = let e : at + 0 ≡ at = omega arith in rw e (take-append-drop at row)
+    go (v ∷ vs) row at l =
+        let h = go vs (set row at v) (suc at) (rw length-set (omega arith)) in
+        let d : drop (suc at + length vs) (set row at v) ≡ drop (suc at + length vs) row = drop-set-lt (suc at + length vs) row at v (omega arith) in
+        let t : take (suc at) (set row at v) ≡ take at row ++ (v ∷ []) = take-suc-set row at v (omega arith) in
+        let n : at + suc (length vs) ≡ suc at + length vs = omega arith in
+        rw n (sym (append_assoc (take at row) (v ∷ []) (vs ++ drop (suc at + length vs) row)) ∙ rw (t, d) at h)
 
 -- A run of stores, and one more.
 sets_snoc : (vs l : List ℕ) (i v : ℕ) → sets l i (vs ++ (v ∷ [])) ≡ set (sets l i vs) (i + length vs) v

@@ -23,9 +23,7 @@ use Rattle.rules.specs.Rules.{barred, ruled, all_known, closed, concluded, rule_
 use Rattle.rules.specs.LayingLaws.{RuleLaid, rule_laid}
 use Rattle.rules.specs.LayoutLaws.{RuleExact, rule_exact}
 use Rattle.rules.specs.PatternLaws.{arities_of, FewInputs, InputsUpto, RuleMade, ruled_made}
-use Rattle.rules.specs.Promises.{no, yes, onward, both, Bounded}
-use Rattle.rules.specs.declared.Body.{Body}
-use Rattle.rules.specs.declared.Body.TheVariants.{Done}
+use Rattle.rules.specs.Promises.{no, yes, onward, both}
 
 -- The symbols of a table have few inputs, if their rows say so.
 pub few_inputs : (text : List ℕ) (symbols : Rows) (count : ℕ) → count ≤ length symbols → ((i : ℕ) → i < count → column (row_at symbols i) 6 ≤ 16) → FewInputs (symbols_of text symbols count)
@@ -34,10 +32,6 @@ few_inputs text symbols count lent h i l =
     let n : length (symbols_of text symbols count) ≡ count = symbols_length text symbols count lent in
     let m : i < count = rw n at l in
     rw (symbol_at_lem text symbols count lent i m) (rw columns_length (h i m))
-
-pub bounds : (u room : ℕ) (r : Body) {x middle nv u' room' : ℕ} → r ≡ Done x middle nv u' room' → Bounded u room r
-    → (nv ≤ 64) × (u ≤ middle) × (middle ≤ u') × (u' + 2 * room' ≤ u + 2 * room)
-bounds u room r e h = rw e at h
 
 module _ (symbols : List Symbol) (name : Name) (ps : Written many) (c : Written one) (room : ℕ) where
   -- over 16 premises

@@ -1,5 +1,6 @@
 -- What the contracts of `rules` cite, in reading order.
 pub mod Rules
+pub mod KnownLaws
 pub mod LayingLaws
 pub mod CountLaws
 pub mod PatternLaws

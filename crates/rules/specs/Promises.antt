@@ -1,5 +1,5 @@
 -- What the functions of `rules` ask of and owe to each other.
-use Rattle.std.specs.Prelude.{ℕ, ◌+◌, ◌*◌, ◌≤◌, ◌<◌, ◌≡◌, List, [], ◌∷◌, map, length, take, get_or, set}
+use Rattle.std.specs.Prelude.{ℕ, ◌+◌, ◌*◌, ◌≤◌, ◌<◌, ◌≡◌, Result, Ok, Err, List, [], ◌∷◌, map, length, take, get_or, set}
 use Rattle.std.proofs.lemmas.List.Edits.{sets}
 use Rattle.arena.specs.Cells.{headers, Reference, WellFormed, Same, cells, terms_of}
 use Rattle.arena.specs.Copies.{pattern_room}
@@ -19,11 +19,12 @@ use Rattle.rules.specs.Rules.{Ruled, barred, ruled, rule_of, entering}
 use Rattle.rules.specs.PatternLaws.{arities_of, InputsUpto}
 use Rattle.rules.specs.StoredRows.{titled, Kept}
 use Rattle.rules.specs.Layout.{references, rule_words, row_of}
-use Rattle.rules.specs.declared.Entered.{Entered}
-use Rattle.rules.specs.declared.Entered.TheVariants.{Refused as Refusal, Done as Entry}
+use Rattle.refusals.specs.declared.Refusal.{Refusal}
+use Rattle.refusals.specs.Refusals.{number_of}
+use Rattle.patterns.specs.Refused.{Refuses}
+use Rattle.rules.specs.declared.Space.{Space}
 use Rattle.rules.specs.declared.Title.{Title}
 use Rattle.rules.specs.declared.Body.{Body}
-use Rattle.rules.specs.declared.Body.TheVariants.{Failed, Done}
 use Rattle.rules.specs.declared.Counts.{Counts}
 
 -- What the judgments of a rule come to: a refusal; or the premises' references, the words used then, the conclusion laid behind them, the variables and the room.
@@ -40,17 +41,17 @@ both symbols c (bad e) w u = no e
 both symbols c (good ps vs room) w u = onward (lay ps w u) (pattern_of symbols c (0 ∷ []) vs room)
 
 -- The same of the code's answer, with the variables' rows, the words and the premises' references at exit.
-abbrev pub told : List ℕ → ℕ → Body → Rows → List ℕ → List ℕ → Twofold
-told text n (Failed e) vx wx heads = no e
-told text n (Done r middle nv u room) vx wx heads = yes (take n heads) middle (laid (r ∷ []) wx u) (variables_of text vx nv) room
+abbrev pub told : List ℕ → ℕ → Result Body Refusal → Rows → List ℕ → List ℕ → Twofold
+told text n (Err e) vx wx heads = no (number_of e)
+told text n (Ok b) vx wx heads = yes (take n heads) b.middle (laid (b.conclusion ∷ []) wx b.space.used) (variables_of text vx b.variables) b.space.room
 
-abbrev pub Bounded : ℕ → ℕ → Body → Type 0
-Bounded u room (Failed e) = Unit {0}
-Bounded u room (Done r middle nv u' room') = (nv ≤ 64) × (u ≤ middle) × (middle ≤ u') × (u' + 2 * room' ≤ u + 2 * room)
+abbrev pub Bounded : ℕ → ℕ → Result Body Refusal → Type 0
+Bounded u room (Err e) = Unit {0}
+Bounded u room (Ok b) = (b.variables ≤ 64) × (u ≤ b.middle) × (b.middle ≤ b.space.used) × (b.space.used + 2 * b.space.room ≤ u + 2 * room)
 
 -- `judgments`: n premises from the row p on, and a conclusion at a row of its own.
 pub record Judging (text : List ℕ) (premises : Rows) (p n : ℕ) (conclusions : Rows) (here : ℕ) (symbols : List Symbol) (vs : Rows) (w : List ℕ) (u room : ℕ)
-    (r : Body) (vx : Rows) (wx heads : List ℕ) : Type 0 where
+    (r : Result Body Refusal) (vx : Rows) (wx heads : List ℕ) : Type 0 where
   pub bounded : Bounded u room r
   pub same : (ps : Written many) (q : ℕ) → Stands text premises p ps q → size ps ≡ n → (c : Written one) (q' : ℕ) → Stands text conclusions here c q'
       → told text n r vx wx heads ≡ both symbols c (pattern_of symbols ps [] (variables_of text vs 0) room) w u
@@ -132,9 +133,9 @@ pub record RuleAsked (text : List ℕ) (premises : Rows) (p n : ℕ) (conclusion
   pub rows : 1024 ≤ length rules
 
 -- A rule was entered: its row and its words keep it, its name stands at the title's place, with the title's clause number, and no earlier word changed.
-pub record RuleDone (text arities : List ℕ) (title : Title) (w : List ℕ) (u room : ℕ) (rules : Rows) (number : ℕ) (w' : List ℕ) (rules' : Rows) (R : Rule) (room' : ℕ) (r : Entered) : Type 0 where
+pub record RuleDone (text arities : List ℕ) (title : Title) (w : List ℕ) (u room : ℕ) (rules : Rows) (number : ℕ) (w' : List ℕ) (rules' : Rows) (R : Rule) (room' : ℕ) (r : Result Space Refusal) : Type 0 where
   pub used : ℕ
-  pub is : r ≡ Entry used room'
+  pub is : r ≡ Ok (record { used = used; room = room' })
   pub row : List ℕ
   pub written : rules' ≡ set rules number row
   pub placed : (column row 0 ≡ title.start) × (column row 1 ≡ title.size) × (column row 2 ≡ title.clause)
@@ -146,12 +147,12 @@ pub record RuleDone (text arities : List ℕ) (title : Title) (w : List ℕ) (u 
   pub fits : used + 2 * room' ≤ u + 2 * room
 
 -- What the definition says, and what the code answers and leaves.
-abbrev pub Entering : List ℕ → List ℕ → Title → List ℕ → ℕ → ℕ → Rows → ℕ → List ℕ → Rows → Ruled → Entered → Type 0
-Entering text arities title w u room rules number w' rules' (barred e) r = r ≡ Refusal e
+abbrev pub Entering : List ℕ → List ℕ → Title → List ℕ → ℕ → ℕ → Rows → ℕ → List ℕ → Rows → Ruled → Result Space Refusal → Type 0
+Entering text arities title w u room rules number w' rules' (barred e) r = Refuses e r
 Entering text arities title w u room rules number w' rules' (ruled R room') r = RuleDone text arities title w u room rules number w' rules' R room' r
 
 -- What `rule` owes.
 pub record RuleEntered (text : List ℕ) (premises : Rows) (p n : ℕ) (conclusions : Rows) (here : ℕ) (symbols : List Symbol) (title : Title) (w : List ℕ) (u room : ℕ)
-    (rules : Rows) (number : ℕ) (r : Entered) (w' : List ℕ) (rules' : Rows) : Type 0 where
+    (rules : Rows) (number : ℕ) (r : Result Space Refusal) (w' : List ℕ) (rules' : Rows) : Type 0 where
   pub same : (ps : Written many) (q : ℕ) → Stands text premises p ps q → size ps ≡ n → (c : Written one) (q' : ℕ) → Stands text conclusions here c q'
       → Entering text (arities_of symbols) title w u room rules number w' rules' (entering number (rule_of symbols (titled text title.start title.size title.clause) ps c room)) r

@@ -3,20 +3,21 @@
 // All functions here serve the crates above: they ask for storage of the listed sizes.
 #![tactic(auto)]
 
-ghost use Rattle.std.specs.Prelude.{◌≡◌, ℕ, ◌+◌, ◌≤◌, ◌<◌, length, take, set};
+ghost use Rattle.std.specs.Prelude.{◌≡◌, ℕ, ◌+◌, ◌≤◌, ◌<◌, length, nat_lt, take, set};
+ghost use Rattle.std.specs.List.{list_all};
 ghost use mathlib.Core.List.{List};
 ghost use Rattle.std.proofs.lemmas.List.Edits.{sets};
-ghost use Rattle.names.specs.Symbols.{row_at, symbols_of, variables_of};
+ghost use Rattle.names.specs.Symbols.{column, row_at, symbols_of, variables_of};
 ghost use Rattle.meeting.specs.Places.{Records};
 ghost use Rattle.meeting.specs.Contract.{term_of};
 ghost use Rattle.resolution.specs.Fresh.{met};
 ghost use Rattle.patterns.specs.Promises.{Ready};
-ghost use Rattle.rules.specs.Rules.{all_known};
 ghost use Rattle.rules.specs.StoredRows.{rule_row};
 ghost use Rattle.rules.specs.Promises.{Judging, RootAsked, Walkable, OrderAsked, Ordered, Keeping, KeepAsked, RuleAsked, RuleEntered};
 
-use names::{SymbolRow, VariableRow};
-use patterns::{Made, TermRow};
+use names::{SymbolRow, TermRow, VariableRow};
+use patterns::Place;
+use refusals::Refusal;
 
 // A rule: start and length of its name, clause number + 1 (0: a written rule), number of variables, number of premises, reference of the conclusion, first
 // word, words of the premises, words of the conclusion, variables met in the conclusion; 16 references of premises; 64 sorts; 64 places in meeting order.
@@ -30,21 +31,20 @@ const PREMISES: usize = 16;
 
 const RULES: usize = 1024;
 
-pub const SORT_NOT_KNOWN: u32 = 25;
-
-// What came of a rule's judgments: the conclusion's reference, the words used before the conclusion, the variables, the words used and the room left.
+// How many words are used, and the room for nodes left.
 #[derive(Clone, Copy)]
-pub enum Body {
-    Failed {
-        number: u32,
-    },
-    Done {
-        conclusion: u32,
-        middle: usize,
-        variables: usize,
-        used: usize,
-        room: usize,
-    },
+pub struct Space {
+    pub used: usize,
+    pub room: usize,
+}
+
+// A rule's judgments: the conclusion's reference, the words used before the conclusion, how many variables there are, and the space behind them.
+#[derive(Clone, Copy)]
+struct Body {
+    conclusion: u32,
+    middle: usize,
+    variables: usize,
+    space: Space,
 }
 
 // Compiles n premises, and then the conclusion; their variables are numbered together.
@@ -59,70 +59,45 @@ fn judgments(
     count: usize,
     variables: &mut [VariableRow],
     words: &mut [u32],
-    used: usize,
-    room: usize,
+    space: Space,
     heads: &mut [u32],
-) -> Body
-    requires fact_1 { Ready symbols.now count variables.old 0 words.old used room }
+) -> Result<Body, Refusal>
+    requires fact_1 { Ready symbols.now count variables.old 0 words.old space.used space.room }
     requires fact_2 { (n ≤ 16) × (length heads.old ≡ 16) }
-    ensures { Judging text.now premises.now at n conclusions.now here (symbols_of text.now symbols.now count) variables.old words.old used room result variables.new words.new heads.new }
+    ensures { Judging text.now premises.now at n conclusions.now here (symbols_of text.now symbols.now count) variables.old words.old space.used space.room result variables.new words.new heads.new }
 {
-    match patterns::judgments(
-        text, premises, at, n, symbols, count, variables, 0, words, used, room, heads,
-    ) {
-        Made::Failed { number } => Body::Failed { number: number },
-        Made::Node {
-            node: _,
-            next: _,
-            variables: v,
-            used: middle,
-            room: m,
-        } => {
-            match patterns::pattern(
-                text,
-                conclusions,
-                here,
-                symbols,
-                count,
-                0,
-                variables,
-                v,
-                words,
-                middle,
-                m,
-            ) {
-                Made::Failed { number } => Body::Failed { number: number },
-                Made::Node {
-                    node: r,
-                    next: _,
-                    variables: v2,
-                    used: u2,
-                    room: m2,
-                } => Body::Done {
-                    conclusion: r,
-                    middle: middle,
-                    variables: v2,
-                    used: u2,
-                    room: m2,
-                },
-            }
-        }
-    }
+    let from = Place {
+        next: at,
+        variables: 0,
+        used: space.used,
+        room: space.room,
+    };
+    let place = patterns::judgments(
+        text, premises, n, symbols, count, variables, words, heads, from,
+    )?;
+    let last = Place {
+        next: here,
+        variables: place.variables,
+        used: place.used,
+        room: place.room,
+    };
+    let made = patterns::pattern(text, conclusions, symbols, count, 0, variables, words, last)?;
+    Ok(Body {
+        conclusion: made.node,
+        middle: place.used,
+        variables: made.place.variables,
+        space: Space {
+            used: made.place.used,
+            room: made.place.room,
+        },
+    })
 }
 
 // Is the sort of each variable known?
-pub fn all_known(variables: &[VariableRow], n: usize) -> bool
-    requires { n ≤ length variables.now }
-    ensures { (text : List ℕ) → result ≡ all_known (variables_of text variables.now n) }
+pub fn all_known(variables: &[VariableRow]) -> bool
+    ensures { result ≡ list_all (λ row. nat_lt 0 (column row 3)) variables.now }
 {
-    let mut i = 0;
-    while i < n {
-        if variables[i][3] == 0 {
-            return false;
-        }
-        i += 1;
-    }
-    true
+    variables.iter().all(|row| 0 < row[3])
 }
 
 // Meets the variables of a term of at most `most` words; answers how many have places then.
@@ -170,16 +145,14 @@ fn order(
 {
     let met = walk(words, conclusion, used, places, 0, most, stack);
     let mut all = met;
-    let mut k = n;
-    while 0 < k {
-        k -= 1;
+    for k in (0..n).rev() {
         all = walk(words, heads[k], used, places, all, most, stack);
     }
     Counts { met: met, all: all }
 }
 
-// The same for a rule of few words.
-fn order_small(
+// The same with a stack of its own, for terms of at most N words.
+fn order_within<const N: usize>(
     words: &[u32],
     used: u32,
     heads: &[u32],
@@ -188,31 +161,15 @@ fn order_small(
     places: &mut [u32],
     most: u32,
 ) -> Counts
-    requires { (OrderAsked words.now used heads.now n conclusion places.old most) × (most ≤ 64) }
+    requires { (OrderAsked words.now used heads.now n conclusion places.old most) × (most ≤ N) × (N ≤ 2048) }
     ensures { Ordered words.now heads.now n conclusion places.old result places.new }
 {
-    let mut stack = [[0u32; 2]; 64];
+    let mut stack = [[0u32; 2]; N];
     order(words, used, heads, n, conclusion, places, most, &mut stack)
 }
 
-// The same for a rule of any size: 2 words for each of 1,024 nodes.
-fn order_large(
-    words: &[u32],
-    used: u32,
-    heads: &[u32],
-    n: usize,
-    conclusion: u32,
-    places: &mut [u32],
-    most: u32,
-) -> Counts
-    requires { (OrderAsked words.now used heads.now n conclusion places.old most) × (most ≤ 2048) }
-    ensures { Ordered words.now heads.now n conclusion places.old result places.new }
-{
-    let mut stack = [[0u32; 2]; 2048];
-    order(words, used, heads, n, conclusion, places, most, &mut stack)
-}
-
-// The same with a stack for as many words as the rule has: laying out the large one takes longer than the walk through a small rule.
+// The same with a stack for as many words as the rule has, at most 2 for each of 1,024 nodes: laying out the large one takes longer than the walk through
+// a small rule.
 fn order_sized(
     words: &[u32],
     used: u32,
@@ -226,9 +183,9 @@ fn order_sized(
     ensures { Ordered words.now heads.now n conclusion places.old result places.new }
 {
     if most <= FEW {
-        return order_small(words, used, heads, n, conclusion, places, most);
+        return order_within::<64>(words, used, heads, n, conclusion, places, most);
     }
-    order_large(words, used, heads, n, conclusion, places, most)
+    order_within::<2048>(words, used, heads, n, conclusion, places, most)
 }
 
 // Writes the first n of some values into the row i, from a column on.
@@ -236,11 +193,7 @@ fn put_columns(rules: &mut [RuleRow], i: usize, at: usize, values: &[u32], n: us
     requires { (i < length rules.old) × (at + n ≤ 154) × (n ≤ length values.now) }
     ensures { rules.new ≡ set rules.old i (sets (row_at rules.old i) at (take n values.now)) }
 {
-    let mut j = 0;
-    while j < n {
-        rules[i][at + j] = values[j];
-        j += 1;
-    }
+    rules[i][at..at + n].copy_from_slice(&values[..n]);
 }
 
 // Writes the sorts of n variables into the row i, from column 26 on.
@@ -248,10 +201,8 @@ fn put_sorts(rules: &mut [RuleRow], i: usize, variables: &[VariableRow], n: usiz
     requires { (i < length rules.old) × (n ≤ 64) × (n ≤ length variables.now) }
     ensures { (text : List ℕ) → rules.new ≡ set rules.old i (sets (row_at rules.old i) 26 (mathlib.Core.List.map (λ v. v.sort) (variables_of text variables.now n))) }
 {
-    let mut j = 0;
-    while j < n {
+    for j in 0..n {
         rules[i][26 + j] = variables[j][3];
-        j += 1;
     }
 }
 
@@ -327,13 +278,6 @@ fn keep(
     store(rules, i, &numbers, heads, n, variables, v, &places);
 }
 
-// What came of a rule: the words used and the room for nodes left.
-#[derive(Clone, Copy)]
-pub enum Entered {
-    Refused { number: u32 },
-    Done { used: usize, room: usize },
-}
-
 // Compiles a rule of n premises from a row on and a conclusion at a row of its own, and keeps it as the rule with a number.
 pub fn rule(
     text: &[u8],
@@ -345,23 +289,20 @@ pub fn rule(
     symbols: &[SymbolRow],
     count: usize,
     words: &mut [u32],
-    used: usize,
-    room: usize,
+    space: Space,
     rules: &mut [RuleRow],
     number: usize,
     title: Title,
-) -> Entered
-    requires { RuleAsked text.now premises.now at n conclusions.now here symbols.now count words.old used room rules.old }
-    ensures { RuleEntered text.now premises.now at n conclusions.now here (symbols_of text.now symbols.now count) title words.old used room rules.old number result words.new rules.new }
+) -> Result<Space, Refusal>
+    requires { RuleAsked text.now premises.now at n conclusions.now here symbols.now count words.old space.used space.room rules.old }
+    ensures { RuleEntered text.now premises.now at n conclusions.now here (symbols_of text.now symbols.now count) title words.old space.used space.room rules.old number result words.new rules.new }
 {
     if PREMISES < n {
-        return Entered::Refused {
-            number: patterns::FULL,
-        };
+        return Err(Refusal::Full);
     }
     let mut variables = [[0u32; 4]; 64];
     let mut heads = [0u32; 16];
-    match judgments(
+    let body = judgments(
         text,
         premises,
         at,
@@ -372,32 +313,29 @@ pub fn rule(
         count,
         &mut variables,
         words,
-        used,
-        room,
+        space,
         &mut heads,
-    ) {
-        Body::Failed { number: e } => Entered::Refused { number: e },
-        Body::Done {
-            conclusion,
-            middle,
-            variables: v,
-            used: u,
-            room: m,
-        } => {
-            if !all_known(&variables, v) {
-                return Entered::Refused {
-                    number: SORT_NOT_KNOWN,
-                };
-            }
-            if RULES <= number {
-                return Entered::Refused {
-                    number: patterns::FULL,
-                };
-            }
-            keep(
-                words, used, middle, u, &heads, n, conclusion, &variables, v, rules, number, title,
-            );
-            Entered::Done { used: u, room: m }
-        }
+    )?;
+    let v = body.variables;
+    if !all_known(&variables[..v]) {
+        return Err(Refusal::SortNotKnown);
     }
+    if RULES <= number {
+        return Err(Refusal::Full);
+    }
+    keep(
+        words,
+        space.used,
+        body.middle,
+        body.space.used,
+        &heads,
+        n,
+        body.conclusion,
+        &variables,
+        v,
+        rules,
+        number,
+        title,
+    );
+    Ok(body.space)
 }

@@ -1,7 +1,7 @@
 -- `judgments` meets its contract. The loop's invariant: k judgments are done, and the rest comes to what the whole comes to.
 use mathlib.Core.List.{[]}
-use Prim.Native.Nat.{◌-◌}
 use Rattle.names.specs.Symbols.{symbols_of}
+use Rattle.patterns.specs.Refused.{handed_on}
 use Rattle.patterns.proofs.Terms.{loop_start, loop_refused, loop_turn, loop_done, nothing_asked}
 use native.Mathlib.Omega.{arith}
 use Rattle.patterns.proofs.judgments.Goals as goal
@@ -10,7 +10,7 @@ pub loop-k-init : goal.loop-k-init
 loop-k-init c =
     let args = c.args in
     let pre = c.requires in
-    loop_start (args.text.now) (args.rows.now) (args.at) (args.n) (symbols_of (args.text.now) (args.symbols.now) (args.count)) [] (args.variables.now) (args.entered) (args.words.now) (args.used) (args.room) (args.heads.now) (pre.fact_1.entered) (pre.fact_2.1)
+    loop_start (args.text.now) (args.rows.now) (args.from.next) (args.n) (symbols_of (args.text.now) (args.symbols.now) (args.count)) [] (args.variables.now) (args.from.variables) (args.words.now) (args.from.used) (args.from.room) (args.heads.now) (pre.fact_1.entered) (pre.fact_2.1)
 
 pub pattern-requires : goal.pattern-requires
 pattern-requires c =
@@ -28,16 +28,17 @@ pattern-requires c =
       low = omega arith;
     }
 
-pub returns-in-Failed : goal.returns-in-Failed
-returns-in-Failed c =
+pub returns-in_err-made : goal.returns-in_err-made
+returns-in_err-made c =
     let args = c.args in
     let loop = c.loop-k in
     let loop-test = c.loop-k-test in
     let pattern = c.pattern in
-    record {
+    rw (handed_on c.from_residual.result c.in_err-made.field-0.0 c.from_residual.ensures.1)
+    (record {
       small = tt;
-      same = λ ts q st cn. (tt, loop_refused (args.text.now) (args.rows.now) (args.at) (args.n) (symbols_of (args.text.now) (args.symbols.now) (args.count)) [] (args.variables.now) (args.entered) (args.words.now) (args.used) (args.room) (loop.k) (loop.p) (loop.variables) (loop.nv) (loop.words) (loop.u) (loop.m) (loop.heads) (loop.invariant) (loop-test.true) 0 (nothing_asked (loop.k)) (pattern.result) _ _ (pattern.ensures) (c.in-Failed.is) ts q st cn);
-    }
+      same = λ ts q st cn. (tt, loop_refused (args.text.now) (args.rows.now) (args.from.next) (args.n) (symbols_of (args.text.now) (args.symbols.now) (args.count)) [] (args.variables.now) (args.from.variables) (args.words.now) (args.from.used) (args.from.room) (loop.k) (loop.place.next) (loop.variables) (loop.place.variables) (loop.words) (loop.place.used) (loop.place.room) (loop.heads) (loop.invariant) (loop-test.true) 0 (nothing_asked (loop.k)) (pattern.result) _ _ (pattern.ensures) c.in_err-made.was ts q st cn);
+    })
 
 pub bounds-heads-k : goal.bounds-heads-k
 bounds-heads-k c =
@@ -52,7 +53,7 @@ loop-k-preserved c =
     let loop-test = c.loop-k-test in
     let pattern = c.pattern in
     let pre = c.requires in
-    loop_turn (args.text.now) (args.rows.now) (args.at) (args.n) (symbols_of (args.text.now) (args.symbols.now) (args.count)) [] (args.variables.now) (args.entered) (args.words.now) (args.used) (args.room) (loop.k) (loop.p) (loop.variables) (loop.nv) (loop.words) (loop.u) (loop.m) (loop.heads) (loop.invariant) (loop-test.true) 0 (nothing_asked (loop.k)) (pattern.result) _ _ (pattern.ensures) (c.in-Node.is) (pattern.auto.variables) (pattern.auto.words) (pre.fact_2.0)
+    loop_turn (args.text.now) (args.rows.now) (args.from.next) (args.n) (symbols_of (args.text.now) (args.symbols.now) (args.count)) [] (args.variables.now) (args.from.variables) (args.words.now) (args.from.used) (args.from.room) (loop.k) (loop.place.next) (loop.variables) (loop.place.variables) (loop.words) (loop.place.used) (loop.place.room) (loop.heads) (loop.invariant) (loop-test.true) 0 (nothing_asked (loop.k)) (pattern.result) _ _ (pattern.ensures) c.in_ok-made.was (pattern.auto.variables) (pattern.auto.words) (pre.fact_2.0)
 
 pub returns : goal.returns
 returns c =
@@ -62,5 +63,5 @@ returns c =
     let L = loop.invariant in
     record {
       small = (L.from, L.grown, L.bound, L.further, omega arith);
-      same = λ ts q st cn. loop_done (args.text.now) (args.rows.now) (args.at) (args.n) (symbols_of (args.text.now) (args.symbols.now) (args.count)) [] (args.variables.now) (args.entered) (args.words.now) (args.used) (args.room) (loop.k) (loop.p) (loop.variables) (loop.nv) (loop.words) (loop.u) (loop.m) (loop.heads) (loop.invariant) (loop-test.false) ts q st cn;
+      same = λ ts q st cn. loop_done (args.text.now) (args.rows.now) (args.from.next) (args.n) (symbols_of (args.text.now) (args.symbols.now) (args.count)) [] (args.variables.now) (args.from.variables) (args.words.now) (args.from.used) (args.from.room) (loop.k) (loop.place.next) (loop.variables) (loop.place.variables) (loop.words) (loop.place.used) (loop.place.room) (loop.heads) (loop.invariant) (loop-test.false) ts q st cn;
     }

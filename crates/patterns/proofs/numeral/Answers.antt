@@ -1,188 +1,133 @@
 -- `numeral` meets its contract: one law for each way out.
-use mathlib.Core.Path.{refl}
-use Prim.Native.Nat.{◌<◌}
-use Rattle.names.specs.Symbols.{variables_of}
-use Rattle.patterns.proofs.Numerals.{no_zero, zero_pred, no_succ, succ_pred, number_refused, number_room, number_done}
+use mathlib.Core.Path.{refl, sym, ◌∙◌}
+use Prim.Native.Nat.{◌<◌, ◌≤◌}
+use lib.ListN.{length}
+use mathlib.Core.List.{[]}
+use Rattle.names.specs.Symbols.{symbols_of, variables_of}
+use Rattle.patterns.specs.Patterns.{zero_name, succ_name}
+use Rattle.patterns.specs.Refused.{handed_on, none_is}
+use Rattle.patterns.proofs.Numerals.{constructor_some, constructor_none, no_zero, no_succ, inside, number_refused, number_room, number_done}
 use native.Mathlib.Omega.{arith}
 use Rattle.patterns.proofs.numeral.Goals as goal
 
-pub returns-then-count-z : goal.returns-then-count-z
-returns-then-count-z c =
-    let args = c.args in
-    let pre = c.requires in
-    let find-symbol = c.find_symbol-z in
-    let if1 = c.if-count-z in
-    record {
+pub returns-in_err-z : goal.returns-in_err-z
+returns-in_err-z c =
+    let a = c.args in
+    let h : a.count ≤ length a.symbols.now = c.requires.0 in
+    let ss = symbols_of a.text.now a.symbols.now a.count in
+    rw (handed_on c.from_residual.result c.in_err-z.field-0.0 c.from_residual.ensures.1, none_is c.constructor.result c.in_err-z.ensures.ok_part c.in_err-z.ensures.value)
+    (record {
       small = tt;
       going = tt;
       none_new = tt;
-      same = λ vx. no_zero (args.text.now) (args.symbols.now) (args.count) (pre.0) (args.n) (args.want) (variables_of (args.text.now) vx (args.variables)) (args.room) (args.words.now) (args.used) 0 (find-symbol.result) (find-symbol.ensures) if1.true;
-    }
+      same = λ vx. no_zero a.text.now a.symbols.now a.count h a.n a.want (variables_of a.text.now vx a.from.variables) a.from.room a.words.now a.from.used
+          (constructor_none ss zero_name (sym c.in_err-z.ensures.ok_part ∙ c.constructor.ensures));
+    })
 
-pub returns-then-symbols-z-eq0 : goal.returns-then-symbols-z-eq0
-returns-then-symbols-z-eq0 c =
-    let args = c.args in
-    let pre = c.requires in
-    let find-symbol = c.find_symbol-z in
-    let if1 = c.if-count-z in
-    let if2 = c.if-symbols-z-eq0 in
-    record {
+pub returns-in_err-y : goal.returns-in_err-y
+returns-in_err-y c =
+    let a = c.args in
+    let h : a.count ≤ length a.symbols.now = c.requires.0 in
+    let ss = symbols_of a.text.now a.symbols.now a.count in
+    let (ez, cz, lz) = constructor_some ss zero_name c.in_ok-z.z (sym c.in_ok-z.ensures.ok_part ∙ c.constructor.ensures) in
+    rw (handed_on c.from_residual-in_err-y.result c.in_err-y.field-0.0 c.from_residual-in_err-y.ensures.1, none_is c.constructor-2.result c.in_err-y.ensures.ok_part c.in_err-y.ensures.value)
+    (record {
       small = tt;
       going = tt;
       none_new = tt;
-      same = λ vx. zero_pred (args.text.now) (args.symbols.now) (args.count) (pre.0) (args.n) (args.want) (variables_of (args.text.now) vx (args.variables)) (args.room) (args.words.now) (args.used) 0 (find-symbol.result) (find-symbol.ensures) if1.false if2.true;
-    }
+      same = λ vx. no_succ a.text.now a.symbols.now a.count h a.n a.want (variables_of a.text.now vx a.from.variables) a.from.room a.words.now a.from.used ez cz lz
+          (constructor_none ss succ_name (sym c.in_err-y.ensures.ok_part ∙ c.constructor-2.ensures));
+    })
 
-pub returns-then-count-y : goal.returns-then-count-y
-returns-then-count-y c =
-    let args = c.args in
-    let pre = c.requires in
-    let find-symbol2 = c.find_symbol-y in
-    let find-symbol = c.find_symbol-z in
-    let if1 = c.if-count-z in
-    let if2 = c.if-symbols-z-eq0 in
-    let if3 = c.if-count-y in
-    record {
-      small = tt;
-      going = tt;
-      none_new = tt;
-      same = λ vx. no_succ (args.text.now) (args.symbols.now) (args.count) (pre.0) (args.n) (args.want) (variables_of (args.text.now) vx (args.variables)) (args.room) (args.words.now) (args.used) (find-symbol2.result) (find-symbol.result) (find-symbol.ensures) if1.false if2.false (find-symbol2.ensures) if3.true;
-    }
+pub numeral_misfit-requires : goal.numeral_misfit-requires
+numeral_misfit-requires c =
+    let a = c.args in
+    let h : a.count ≤ length a.symbols.now = c.requires.0 in
+    let ss = symbols_of a.text.now a.symbols.now a.count in
+    let (ez, cz, lz) = constructor_some ss zero_name c.in_ok-z.z (sym c.in_ok-z.ensures.ok_part ∙ c.constructor.ensures) in
+    let (ey, cy, ly) = constructor_some ss succ_name c.in_ok-y.y (sym c.in_ok-y.ensures.ok_part ∙ c.constructor-2.ensures) in
+    let (b, d) = inside a.text.now a.symbols.now a.count h a.n a.want [] a.from.room a.words.now a.from.used ez cz lz ey cy ly in
+    (omega arith, omega arith)
 
-pub returns-then-symbols-y-eq0 : goal.returns-then-symbols-y-eq0
-returns-then-symbols-y-eq0 c =
-    let args = c.args in
-    let pre = c.requires in
-    let find-symbol2 = c.find_symbol-y in
-    let find-symbol = c.find_symbol-z in
-    let if1 = c.if-count-z in
-    let if2 = c.if-symbols-z-eq0 in
-    let if3 = c.if-count-y in
-    let if4 = c.if-symbols-y-eq0 in
-    record {
+pub returns-in_err-numeral_misfit : goal.returns-in_err-numeral_misfit
+returns-in_err-numeral_misfit c =
+    let a = c.args in
+    let h : a.count ≤ length a.symbols.now = c.requires.0 in
+    let ss = symbols_of a.text.now a.symbols.now a.count in
+    let (ez, cz, lz) = constructor_some ss zero_name c.in_ok-z.z (sym c.in_ok-z.ensures.ok_part ∙ c.constructor.ensures) in
+    let (ey, cy, ly) = constructor_some ss succ_name c.in_ok-y.y (sym c.in_ok-y.ensures.ok_part ∙ c.constructor-2.ensures) in
+    let e = c.in_err-numeral_misfit.ensures a.text.now in
+    rw (handed_on c.from_residual-in_err-numeral_misfit.result c.in_err-numeral_misfit.field-0.0 c.from_residual-in_err-numeral_misfit.ensures.1)
+    (record {
       small = tt;
       going = tt;
       none_new = tt;
-      same = λ vx. succ_pred (args.text.now) (args.symbols.now) (args.count) (pre.0) (args.n) (args.want) (variables_of (args.text.now) vx (args.variables)) (args.room) (args.words.now) (args.used) (find-symbol2.result) (find-symbol.result) (find-symbol.ensures) if1.false if2.false (find-symbol2.ensures) if3.false if4.true;
-    }
-
-pub returns-then-e-ne0 : goal.returns-then-e-ne0
-returns-then-e-ne0 c =
-    let args = c.args in
-    let pre = c.requires in
-    let find-symbol2 = c.find_symbol-y in
-    let find-symbol = c.find_symbol-z in
-    let if1 = c.if-count-z in
-    let if2 = c.if-symbols-z-eq0 in
-    let if3 = c.if-count-y in
-    let if4 = c.if-symbols-y-eq0 in
-    let numeral-misfit = c.numeral_misfit-e in
-    let if5 = c.if-e-ne0 in
-    record {
-      small = tt;
-      going = tt;
-      none_new = tt;
-      same = λ vx. number_refused (args.text.now) (args.symbols.now) (args.count) (pre.0) (args.n) (args.want) (variables_of (args.text.now) vx (args.variables)) (args.room) (args.words.now) (args.used) (find-symbol2.result) (find-symbol.result) (find-symbol.ensures) if1.false if2.false (find-symbol2.ensures) if3.false if4.false (numeral-misfit.ensures (args.text.now)) if5.true;
-    }
+      same = λ vx. number_refused a.text.now a.symbols.now a.count h a.n a.want (variables_of a.text.now vx a.from.variables) a.from.room a.words.now a.from.used ez cz lz ey cy ly e.0 e.1;
+    })
 
 pub numeral_words-r-requires : goal.numeral_words-r-requires
 numeral_words-r-requires c =
-    let args = c.args in
-    let pre = c.requires in
-    let find-symbol2 = c.find_symbol-y in
-    let find-symbol = c.find_symbol-z in
-    let if1 = c.if-count-z in
-    let if2 = c.if-symbols-z-eq0 in
-    let if3 = c.if-count-y in
-    let if4 = c.if-symbols-y-eq0 in
-    let numeral-misfit = c.numeral_misfit-e in
-    let if5 = c.if-e-ne0 in
-    let vx = args.symbols.now in
-    let l : args.n < args.room = number_room (args.text.now) (args.symbols.now) (args.count) (pre.0) (args.n) (args.want) (variables_of (args.text.now) vx (args.variables)) (args.room) (args.words.now) (args.used) (find-symbol2.result) (find-symbol.result) (find-symbol.ensures) if1.false if2.false (find-symbol2.ensures) if3.false if4.false (numeral-misfit.ensures (args.text.now)) if5.false in
+    let a = c.args in
+    let h : a.count ≤ length a.symbols.now = c.requires.0 in
+    let ss = symbols_of a.text.now a.symbols.now a.count in
+    let (ez, cz, lz) = constructor_some ss zero_name c.in_ok-z.z (sym c.in_ok-z.ensures.ok_part ∙ c.constructor.ensures) in
+    let (ey, cy, ly) = constructor_some ss succ_name c.in_ok-y.y (sym c.in_ok-y.ensures.ok_part ∙ c.constructor-2.ensures) in
+    let (b, d) = inside a.text.now a.symbols.now a.count h a.n a.want [] a.from.room a.words.now a.from.used ez cz lz ey cy ly in
+    let l : a.n < a.from.room = number_room a.text.now a.symbols.now a.count h a.n a.want [] a.from.room a.words.now a.from.used ez cz lz ey cy ly (c.in_ok-numeral_misfit.ensures a.text.now) in
     (omega arith, omega arith, omega arith, omega arith)
 
 pub overflow_mul-result : goal.overflow_mul-result
 overflow_mul-result c =
-    let args = c.args in
-    let pre = c.requires in
-    let find-symbol2 = c.find_symbol-y in
-    let find-symbol = c.find_symbol-z in
-    let if1 = c.if-count-z in
-    let if2 = c.if-symbols-z-eq0 in
-    let if3 = c.if-count-y in
-    let if4 = c.if-symbols-y-eq0 in
-    let numeral-misfit = c.numeral_misfit-e in
-    let if5 = c.if-e-ne0 in
-    let vx = args.symbols.now in
-    let l : args.n < args.room = number_room (args.text.now) (args.symbols.now) (args.count) (pre.0) (args.n) (args.want) (variables_of (args.text.now) vx (args.variables)) (args.room) (args.words.now) (args.used) (find-symbol2.result) (find-symbol.result) (find-symbol.ensures) if1.false if2.false (find-symbol2.ensures) if3.false if4.false (numeral-misfit.ensures (args.text.now)) if5.false in
+    let a = c.args in
+    let h : a.count ≤ length a.symbols.now = c.requires.0 in
+    let ss = symbols_of a.text.now a.symbols.now a.count in
+    let (ez, cz, lz) = constructor_some ss zero_name c.in_ok-z.z (sym c.in_ok-z.ensures.ok_part ∙ c.constructor.ensures) in
+    let (ey, cy, ly) = constructor_some ss succ_name c.in_ok-y.y (sym c.in_ok-y.ensures.ok_part ∙ c.constructor-2.ensures) in
+    let l : a.n < a.from.room = number_room a.text.now a.symbols.now a.count h a.n a.want [] a.from.room a.words.now a.from.used ez cz lz ey cy ly (c.in_ok-numeral_misfit.ensures a.text.now) in
     omega arith
 
 pub overflow_add-result-2 : goal.overflow_add-result-2
 overflow_add-result-2 c =
-    let args = c.args in
-    let pre = c.requires in
-    let find-symbol2 = c.find_symbol-y in
-    let find-symbol = c.find_symbol-z in
-    let if1 = c.if-count-z in
-    let if2 = c.if-symbols-z-eq0 in
-    let if3 = c.if-count-y in
-    let if4 = c.if-symbols-y-eq0 in
-    let numeral-misfit = c.numeral_misfit-e in
-    let if5 = c.if-e-ne0 in
-    let vx = args.symbols.now in
-    let l : args.n < args.room = number_room (args.text.now) (args.symbols.now) (args.count) (pre.0) (args.n) (args.want) (variables_of (args.text.now) vx (args.variables)) (args.room) (args.words.now) (args.used) (find-symbol2.result) (find-symbol.result) (find-symbol.ensures) if1.false if2.false (find-symbol2.ensures) if3.false if4.false (numeral-misfit.ensures (args.text.now)) if5.false in
+    let a = c.args in
+    let h : a.count ≤ length a.symbols.now = c.requires.0 in
+    let ss = symbols_of a.text.now a.symbols.now a.count in
+    let (ez, cz, lz) = constructor_some ss zero_name c.in_ok-z.z (sym c.in_ok-z.ensures.ok_part ∙ c.constructor.ensures) in
+    let (ey, cy, ly) = constructor_some ss succ_name c.in_ok-y.y (sym c.in_ok-y.ensures.ok_part ∙ c.constructor-2.ensures) in
+    let l : a.n < a.from.room = number_room a.text.now a.symbols.now a.count h a.n a.want [] a.from.room a.words.now a.from.used ez cz lz ey cy ly (c.in_ok-numeral_misfit.ensures a.text.now) in
     omega arith
 
 pub overflow_sub-result : goal.overflow_sub-result
 overflow_sub-result c =
-    let args = c.args in
-    let pre = c.requires in
-    let find-symbol2 = c.find_symbol-y in
-    let find-symbol = c.find_symbol-z in
-    let if1 = c.if-count-z in
-    let if2 = c.if-symbols-z-eq0 in
-    let if3 = c.if-count-y in
-    let if4 = c.if-symbols-y-eq0 in
-    let numeral-misfit = c.numeral_misfit-e in
-    let if5 = c.if-e-ne0 in
-    let vx = args.symbols.now in
-    let l : args.n < args.room = number_room (args.text.now) (args.symbols.now) (args.count) (pre.0) (args.n) (args.want) (variables_of (args.text.now) vx (args.variables)) (args.room) (args.words.now) (args.used) (find-symbol2.result) (find-symbol.result) (find-symbol.ensures) if1.false if2.false (find-symbol2.ensures) if3.false if4.false (numeral-misfit.ensures (args.text.now)) if5.false in
+    let a = c.args in
+    let h : a.count ≤ length a.symbols.now = c.requires.0 in
+    let ss = symbols_of a.text.now a.symbols.now a.count in
+    let (ez, cz, lz) = constructor_some ss zero_name c.in_ok-z.z (sym c.in_ok-z.ensures.ok_part ∙ c.constructor.ensures) in
+    let (ey, cy, ly) = constructor_some ss succ_name c.in_ok-y.y (sym c.in_ok-y.ensures.ok_part ∙ c.constructor-2.ensures) in
+    let l : a.n < a.from.room = number_room a.text.now a.symbols.now a.count h a.n a.want [] a.from.room a.words.now a.from.used ez cz lz ey cy ly (c.in_ok-numeral_misfit.ensures a.text.now) in
     omega arith
 
 pub overflow_sub-result-2 : goal.overflow_sub-result-2
 overflow_sub-result-2 c =
-    let args = c.args in
-    let pre = c.requires in
-    let find-symbol2 = c.find_symbol-y in
-    let find-symbol = c.find_symbol-z in
-    let if1 = c.if-count-z in
-    let if2 = c.if-symbols-z-eq0 in
-    let if3 = c.if-count-y in
-    let if4 = c.if-symbols-y-eq0 in
-    let numeral-misfit = c.numeral_misfit-e in
-    let if5 = c.if-e-ne0 in
-    let vx = args.symbols.now in
-    let l : args.n < args.room = number_room (args.text.now) (args.symbols.now) (args.count) (pre.0) (args.n) (args.want) (variables_of (args.text.now) vx (args.variables)) (args.room) (args.words.now) (args.used) (find-symbol2.result) (find-symbol.result) (find-symbol.ensures) if1.false if2.false (find-symbol2.ensures) if3.false if4.false (numeral-misfit.ensures (args.text.now)) if5.false in
+    let a = c.args in
+    let h : a.count ≤ length a.symbols.now = c.requires.0 in
+    let ss = symbols_of a.text.now a.symbols.now a.count in
+    let (ez, cz, lz) = constructor_some ss zero_name c.in_ok-z.z (sym c.in_ok-z.ensures.ok_part ∙ c.constructor.ensures) in
+    let (ey, cy, ly) = constructor_some ss succ_name c.in_ok-y.y (sym c.in_ok-y.ensures.ok_part ∙ c.constructor-2.ensures) in
+    let l : a.n < a.from.room = number_room a.text.now a.symbols.now a.count h a.n a.want [] a.from.room a.words.now a.from.used ez cz lz ey cy ly (c.in_ok-numeral_misfit.ensures a.text.now) in
     omega arith
 
 pub returns : goal.returns
 returns c =
-    let args = c.args in
-    let pre = c.requires in
-    let find-symbol2 = c.find_symbol-y in
-    let find-symbol = c.find_symbol-z in
-    let if1 = c.if-count-z in
-    let if2 = c.if-symbols-z-eq0 in
-    let if3 = c.if-count-y in
-    let if4 = c.if-symbols-y-eq0 in
-    let numeral-misfit = c.numeral_misfit-e in
-    let if5 = c.if-e-ne0 in
-    let numeral-words = c.numeral_words-r in
-    let vx = args.symbols.now in
-    let l : args.n < args.room = number_room (args.text.now) (args.symbols.now) (args.count) (pre.0) (args.n) (args.want) (variables_of (args.text.now) vx (args.variables)) (args.room) (args.words.now) (args.used) (find-symbol2.result) (find-symbol.result) (find-symbol.ensures) if1.false if2.false (find-symbol2.ensures) if3.false if4.false (numeral-misfit.ensures (args.text.now)) if5.false in
+    let a = c.args in
+    let h : a.count ≤ length a.symbols.now = c.requires.0 in
+    let ss = symbols_of a.text.now a.symbols.now a.count in
+    let (ez, cz, lz) = constructor_some ss zero_name c.in_ok-z.z (sym c.in_ok-z.ensures.ok_part ∙ c.constructor.ensures) in
+    let (ey, cy, ly) = constructor_some ss succ_name c.in_ok-y.y (sym c.in_ok-y.ensures.ok_part ∙ c.constructor-2.ensures) in
+    let q = c.in_ok-numeral_misfit.ensures a.text.now in
+    let l : a.n < a.from.room = number_room a.text.now a.symbols.now a.count h a.n a.want [] a.from.room a.words.now a.from.used ez cz lz ey cy ly q in
     record {
       small = (omega arith, omega arith, omega arith, omega arith, omega arith);
       going = refl;
       none_new = refl;
-      same = λ vx. number_done (args.text.now) (args.symbols.now) (args.count) (pre.0) (args.n) (args.want) (variables_of (args.text.now) vx (args.variables)) (args.room) (args.words.now) (args.used) (find-symbol2.result) (find-symbol.result) (find-symbol.ensures) if1.false if2.false (find-symbol2.ensures) if3.false if4.false (numeral-misfit.ensures (args.text.now)) if5.false (numeral-words.result) _ (numeral-words.ensures);
+      same = λ vx. number_done a.text.now a.symbols.now a.count h a.n a.want (variables_of a.text.now vx a.from.variables) a.from.room a.words.now a.from.used ez cz lz ey cy ly q c.numeral_words-r.result _ c.numeral_words-r.ensures;
     }

@@ -1,82 +1,70 @@
 -- `numeral_misfit` meets its contract. The loop's invariant: what is left is refused for the same.
 use mathlib.Core.Path.{◌≡◌, refl, sym, ap, ◌∙◌}
-use Prim.Native.Nat.{◌-◌}
-use Rattle.names.specs.Symbols.{row_at, symbol_of}
+use Prim.Native.Nat.{◌-◌, ◌+◌}
+use Rattle.names.specs.Symbols.{Symbol, row_at, symbol_of}
 use Rattle.patterns.specs.Promises.{refusal}
+use Rattle.patterns.specs.Refused.{handed_on}
 use Rattle.patterns.proofs.Numerals.{refuse_step, full_step, next_step, refuse_end, full_end, none_end, one_input}
 use native.Mathlib.Omega.{arith}
 use Rattle.patterns.proofs.numeral_misfit.Goals as goal
 
 pub loop-k-init : goal.loop-k-init
-loop-k-init c = λ text. refl
+loop-k-init c = λ text. let e : c.args.n - 0 ≡ c.args.n = omega arith in rw e refl
 
-pub returns-then-e-ne0 : goal.returns-then-e-ne0
-returns-then-e-ne0 c =
-    let args = c.args in
-    let loop = c.loop-k in
-    let misfit = c.misfit-e in
-    let if1 = c.if-e-ne0 in
-    let loop-test = c.loop-k-test in
-    λ text. refuse_step (symbol_of text (row_at (args.symbols.now) (args.y))) (symbol_of text (row_at (args.symbols.now) (args.z))) (loop.s) (loop.m) (loop.k) (misfit.ensures text) if1.true loop-test.true
-    ∙ sym (loop.invariant text)
+pub returns-in_err-misfit : goal.returns-in_err-misfit
+returns-in_err-misfit c =
+    λ text. rw (handed_on c.from_residual.result c.in_err-misfit.field-0.0 c.from_residual.ensures.1) (
+      refuse_step (symbol_of text (row_at c.args.symbols.now c.args.y)) (symbol_of text (row_at c.args.symbols.now c.args.z)) c.loop-k.s c.loop-k.m (c.args.n - c.loop-k._k) (c.in_err-misfit.ensures text).0 (c.in_err-misfit.ensures text).1 (omega (arith, c.loop-k-test.true))
+          ∙ sym (c.loop-k.invariant text),
+      (c.in_err-misfit.ensures text).1,
+    )
 
 pub returns-then-m-eq0 : goal.returns-then-m-eq0
 returns-then-m-eq0 c =
-    let args = c.args in
-    let loop = c.loop-k in
-    let if1 = c.if-e-ne0 in
-    let misfit = c.misfit-e in
-    let if2 = c.if-m-eq0 in
-    let loop-test = c.loop-k-test in
-    λ text. full_step (symbol_of text (row_at (args.symbols.now) (args.y))) (symbol_of text (row_at (args.symbols.now) (args.z))) (loop.s) (loop.m) (loop.k) (sym if1.false ∙ misfit.ensures text) if2.true loop-test.true
-    ∙ sym (loop.invariant text)
+    λ text. (
+      full_step (symbol_of text (row_at c.args.symbols.now c.args.y)) (symbol_of text (row_at c.args.symbols.now c.args.z)) c.loop-k.s c.loop-k.m (c.args.n - c.loop-k._k) (c.in_ok-misfit.ensures text) c.if-m-eq0.true (omega (arith, c.loop-k-test.true))
+          ∙ sym (c.loop-k.invariant text),
+      omega arith,
+    )
 
 pub loop-k-preserved : goal.loop-k-preserved
 loop-k-preserved c =
-    let loop = c.loop-k in
-    let args = c.args in
-    let if1 = c.if-e-ne0 in
-    let misfit = c.misfit-e in
-    let if2 = c.if-m-eq0 in
-    let loop-test = c.loop-k-test in
-    λ text. loop.invariant text
-    ∙ next_step (symbol_of text (row_at (args.symbols.now) (args.y))) (symbol_of text (row_at (args.symbols.now) (args.z))) (loop.s) (loop.m) (loop.k) (sym if1.false ∙ misfit.ensures text) (omega (arith, if2.false)) loop-test.true
-    ∙ ap (λ x. refusal (symbol_of text (row_at (args.symbols.now) (args.y))) (symbol_of text (row_at (args.symbols.now) (args.z))) (loop.k - 1) x (loop.m - 1)) (one_input text (row_at (args.symbols.now) (args.y)) (loop.s) (sym if1.false ∙ misfit.ensures text))
+    λ text.
+    let f : Symbol = symbol_of text (row_at c.args.symbols.now c.args.y) in
+    let g : Symbol = symbol_of text (row_at c.args.symbols.now c.args.z) in
+    let k : c.args.n - (c.loop-k._k + 1) ≡ c.args.n - c.loop-k._k - 1 = omega arith in
+    rw k (c.loop-k.invariant text
+    ∙ next_step f g c.loop-k.s c.loop-k.m (c.args.n - c.loop-k._k) (c.in_ok-misfit.ensures text) (omega (arith, c.if-m-eq0.false)) (omega (arith, c.loop-k-test.true))
+    ∙ ap (λ x. refusal f g (c.args.n - c.loop-k._k - 1) x (c.loop-k.m - 1)) (one_input text (row_at c.args.symbols.now c.args.y) c.loop-k.s (c.in_ok-misfit.ensures text)))
 
-pub returns-then-e-ne0-2 : goal.returns-then-e-ne0-2
-returns-then-e-ne0-2 c =
-    let args = c.args in
-    let loop = c.loop-k in
-    let misfit2 = c.misfit-e-2 in
-    let if3 = c.if-e-ne0-2 in
-    let loop-test = c.loop-k-test in
-    λ text. refuse_end (symbol_of text (row_at (args.symbols.now) (args.y))) (symbol_of text (row_at (args.symbols.now) (args.z))) (loop.s) (loop.m) (misfit2.ensures text) if3.true
-    ∙ (let kz : loop.k ≡ 0 = omega (arith, loop-test.false) in
-    ap (λ x. refusal (symbol_of text (row_at (args.symbols.now) (args.y))) (symbol_of text (row_at (args.symbols.now) (args.z))) x (loop.s) (loop.m)) (sym kz)
-    ∙ sym (loop.invariant text))
+pub returns-in_err-misfit-2 : goal.returns-in_err-misfit-2
+returns-in_err-misfit-2 c =
+    λ text.
+    let f : Symbol = symbol_of text (row_at c.args.symbols.now c.args.y) in
+    let g : Symbol = symbol_of text (row_at c.args.symbols.now c.args.z) in
+    let z : c.args.n - c.loop-k._k ≡ 0 = omega (arith, c.loop-k-test.false) in
+    rw (handed_on c.from_residual-in_err-misfit-2.result c.in_err-misfit-2.field-0.0 c.from_residual-in_err-misfit-2.ensures.1) (
+      refuse_end f g c.loop-k.s c.loop-k.m (c.in_err-misfit-2.ensures text).0 (c.in_err-misfit-2.ensures text).1
+          ∙ ap (λ x. refusal f g x c.loop-k.s c.loop-k.m) (sym z) ∙ sym (c.loop-k.invariant text),
+      (c.in_err-misfit-2.ensures text).1,
+    )
 
 pub returns-then-m-eq0-2 : goal.returns-then-m-eq0-2
 returns-then-m-eq0-2 c =
-    let args = c.args in
-    let loop = c.loop-k in
-    let if3 = c.if-e-ne0-2 in
-    let misfit2 = c.misfit-e-2 in
-    let if4 = c.if-m-eq0-2 in
-    let loop-test = c.loop-k-test in
-    λ text. full_end (symbol_of text (row_at (args.symbols.now) (args.y))) (symbol_of text (row_at (args.symbols.now) (args.z))) (loop.s) (loop.m) (sym if3.false ∙ misfit2.ensures text) if4.true
-    ∙ (let kz : loop.k ≡ 0 = omega (arith, loop-test.false) in
-    ap (λ x. refusal (symbol_of text (row_at (args.symbols.now) (args.y))) (symbol_of text (row_at (args.symbols.now) (args.z))) x (loop.s) (loop.m)) (sym kz)
-    ∙ sym (loop.invariant text))
+    λ text.
+    let f : Symbol = symbol_of text (row_at c.args.symbols.now c.args.y) in
+    let g : Symbol = symbol_of text (row_at c.args.symbols.now c.args.z) in
+    let z : c.args.n - c.loop-k._k ≡ 0 = omega (arith, c.loop-k-test.false) in (
+      full_end f g c.loop-k.s c.loop-k.m (c.in_ok-misfit-2.ensures text) c.if-m-eq0-2.true
+          ∙ ap (λ x. refusal f g x c.loop-k.s c.loop-k.m) (sym z) ∙ sym (c.loop-k.invariant text),
+      omega arith,
+    )
 
 pub returns : goal.returns
 returns c =
-    let args = c.args in
-    let loop = c.loop-k in
-    let if3 = c.if-e-ne0-2 in
-    let misfit2 = c.misfit-e-2 in
-    let if4 = c.if-m-eq0-2 in
-    let loop-test = c.loop-k-test in
-    λ text. none_end (symbol_of text (row_at (args.symbols.now) (args.y))) (symbol_of text (row_at (args.symbols.now) (args.z))) (loop.s) (loop.m) (sym if3.false ∙ misfit2.ensures text) (omega (arith, if4.false))
-    ∙ (let kz : loop.k ≡ 0 = omega (arith, loop-test.false) in
-    ap (λ x. refusal (symbol_of text (row_at (args.symbols.now) (args.y))) (symbol_of text (row_at (args.symbols.now) (args.z))) x (loop.s) (loop.m)) (sym kz)
-    ∙ sym (loop.invariant text))
+    λ text.
+    let f : Symbol = symbol_of text (row_at c.args.symbols.now c.args.y) in
+    let g : Symbol = symbol_of text (row_at c.args.symbols.now c.args.z) in
+    let z : c.args.n - c.loop-k._k ≡ 0 = omega (arith, c.loop-k-test.false) in
+    none_end f g c.loop-k.s c.loop-k.m (c.in_ok-misfit-2.ensures text) (omega (arith, c.if-m-eq0-2.false))
+    ∙ ap (λ x. refusal f g x c.loop-k.s c.loop-k.m) (sym z) ∙ sym (c.loop-k.invariant text)

@@ -7,7 +7,4 @@ use Rattle.patterns.specs.Promises.{refusal}
 use Rattle.patterns.proofs.numeral_misfit.Given as goal
 
 abbrev pub invariant-loop-k : goal.invariant-loop-k
-invariant-loop-k l = (text : List ℕ) → refusal (symbol_of text (row_at l.symbols l.y)) (symbol_of text (row_at l.symbols l.z)) l.n l.want l.room ≡ refusal (symbol_of text (row_at l.symbols l.y)) (symbol_of text (row_at l.symbols l.z)) l.k l.s l.m
-
-abbrev pub decreases-loop-k : goal.decreases-loop-k
-decreases-loop-k l = l.k
+invariant-loop-k l = (text : List ℕ) → refusal (symbol_of text (row_at l.symbols l.y)) (symbol_of text (row_at l.symbols l.z)) l.n l.want l.room ≡ refusal (symbol_of text (row_at l.symbols l.y)) (symbol_of text (row_at l.symbols l.z)) (l.n - l._k) l.s l.m

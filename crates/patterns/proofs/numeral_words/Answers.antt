@@ -1,7 +1,7 @@
 -- `numeral_words` meets its contract. The loop's invariant: k times `succ` on `zero` are laid.
 use mathlib.Core.Path.{◌≡◌, refl, sym, ap, ◌∙◌}
 use mathlib.Core.List.{[], ◌∷◌}
-use Prim.Native.Nat.{◌+◌, ◌-◌, ◌*◌}
+use Prim.Native.Nat.{◌+◌, ◌*◌}
 use lib.ListN.{length, set, length-set}
 use Rattle.patterns.specs.Laying.{laid}
 use Rattle.patterns.proofs.Numerals.{tower_start, tower_step}
@@ -11,7 +11,6 @@ use Rattle.patterns.proofs.numeral_words.Goals as goal
 pub loop-k-init : goal.loop-k-init
 loop-k-init c = (
   refl,
-  omega arith,
   omega arith,
   λ v e. tower_start v (c.args.used) (c.args.y) (c.args.z)
       ∙ ap (λ x. laid ((64 + c.args.used) ∷ []) x (c.args.used + 1)) (sym e),
@@ -51,8 +50,7 @@ loop-k-preserved c =
           ∙ length-set (loop.words) (loop.u) _
           ∙ loop.invariant.0,
       omega (arith, loop.invariant.1),
-      omega arith,
-      λ v e. tower_step v (args.used) (args.y) (args.z) (loop.k) (loop.r) (loop.words) (loop.u) (loop.invariant.3 v e),
+      λ v e. tower_step v (args.used) (args.y) (args.z) (loop._k) (loop.r) (loop.words) (loop.u) (loop.invariant.2 v e),
     )
 
 pub returns : goal.returns
@@ -60,6 +58,6 @@ returns c =
     let loop = c.loop-k in
     let args = c.args in
     let loop-test = c.loop-k-test in
-    let kn : loop.k ≡ args.n = omega (arith, loop-test.false, loop.invariant.2) in
+    let kn : loop._k ≡ args.n = omega (arith, loop-test.false) in
     let un : loop.u ≡ args.used + 1 + 2 * args.n = omega (arith, loop.invariant.1) in
-    rw (kn, un) at (loop.invariant.3 (args.words.now) refl)
+    rw (kn, un) at (loop.invariant.2 (args.words.now) refl)

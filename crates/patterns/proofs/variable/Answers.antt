@@ -1,30 +1,25 @@
 -- `variable` meets its contract: the entry, and then the count of nodes.
 use mathlib.Core.Path.{refl}
-use Rattle.patterns.proofs.Variables.{grew, variable_refused, variable_full, variable_node}
-use Rattle.patterns.proofs.Places.{placed_entry}
 use native.Mathlib.Omega.{arith}
+use Rattle.patterns.specs.Refused.{handed_on}
+use Rattle.patterns.proofs.Variables.{variable_refused, variable_full, variable_node}
 use Rattle.patterns.proofs.variable.Goals as goal
 
-pub returns-then-room-eq0 : goal.returns-then-room-eq0
-returns-then-room-eq0 c =
-    let args = c.args in
-    let enter = c.enter in
-    let if1 = c.if-room-eq0 in
-    record { small = tt; by_index = (λ w. variable_full (args.text.now) (enter.result) _ _ (enter.ensures.variables_after) w (args.used) (args.room) (c.in-At.is) (if1.true)); next_is = tt; made_placed = tt }
+pub returns-in_err-entered : goal.returns-in_err-entered
+returns-in_err-entered c =
+    rw (handed_on c.from_residual.result c.in_err-entered.field-0.0 c.from_residual.ensures.1)
+    (record { small = tt; by_index = λ w. variable_refused c.args.text.now c.enter.result _ _ c.enter.ensures.variables_after w c.args.from.used c.args.from.room c.in_err-entered.was; next_is = tt; made_placed = tt })
 
-pub overflow_cast-result : goal.overflow_cast-result
-overflow_cast-result c =
-    let g = grew (c.enter.result) (c.in-At.is) (c.enter.ensures.grew) in
-    omega arith
+pub returns-then-from-eq0 : goal.returns-then-from-eq0
+returns-then-from-eq0 c =
+    record { small = tt; by_index = λ w. variable_full c.args.text.now c.enter.result _ _ c.enter.ensures.variables_after w c.args.from.used c.args.from.room c.in_ok-entered.was c.if-from-eq0.true; next_is = tt; made_placed = tt }
 
-pub returns-in-Refused : goal.returns-in-Refused
-returns-in-Refused c =
-    let args = c.args in
-    let enter = c.enter in
-    record { small = tt; by_index = (λ w. variable_refused (args.text.now) (enter.result) _ _ (enter.ensures.variables_after) w (args.used) (args.room) (c.in-Refused.is)); next_is = tt; made_placed = tt }
-
-pub returns-else-room-eq0 : goal.returns-else-room-eq0
-returns-else-room-eq0 c =
-    let enter = c.enter in
-    let args = c.args in
-    let g = grew (enter.result) (c.in-At.is) (enter.ensures.grew) in record { small = (omega arith, g.1, g.2, omega arith, omega arith); by_index = (λ w. variable_node (args.text.now) (enter.result) _ _ (enter.ensures.variables_after) w (args.used) (args.room) (c.in-At.is) (args.next) (omega arith)); next_is = refl; made_placed = placed_entry enter.result c.in-At.is enter.ensures.entry_placed }
+pub returns : goal.returns
+returns c =
+    let g = c.in_ok-entered.ensures.grew in
+    record {
+      small = (omega arith, g.1, g.2, omega arith, omega arith);
+      by_index = λ w. variable_node c.args.text.now c.enter.result _ _ c.enter.ensures.variables_after w c.args.from.used c.args.from.room c.in_ok-entered.was c.args.from.next (omega arith);
+      next_is = refl;
+      made_placed = c.in_ok-entered.ensures.entry_placed;
+    }

@@ -2,7 +2,8 @@
 use mathlib.Core.List.{[]}
 use Rattle.names.specs.Symbols.{symbols_of, variables_of}
 use Rattle.patterns.specs.Patterns.{pattern_of}
-use Rattle.rules.proofs.JudgmentLaws.{premises_refused, conclusion_refused, both_done, judged_bounds, made_bounds}
+use Rattle.patterns.specs.Refused.{handed_on}
+use Rattle.rules.proofs.JudgmentLaws.{premises_refused, conclusion_refused, both_done}
 use native.Mathlib.Omega.{arith}
 use Rattle.rules.proofs.judgments.Goals as goal
 
@@ -11,7 +12,7 @@ pattern-requires c =
     let args = c.args in
     let judgments = c.judgments in
     let pre = c.requires in
-    let j = judged_bounds (args.at) 0 (args.used) (args.room) (judgments.result) (c.in-Node.is) (judgments.ensures.small) in
+    let j = c.in_ok-place.ensures.small in
     let y0 = pre in
     let k1 = judgments.auto.variables in
     let k2 = judgments.auto.words in
@@ -25,33 +26,35 @@ pattern-requires c =
       low = omega arith;
     }
 
-pub returns-in-Failed : goal.returns-in-Failed
-returns-in-Failed c =
+pub returns-in_err-place : goal.returns-in_err-place
+returns-in_err-place c =
     let args = c.args in
     let judgments = c.judgments in
-    record {
+    rw (handed_on c.from_residual.result c.in_err-place.field-0.0 c.from_residual.ensures.1)
+    (record {
       bounded = tt;
-      same = λ ps q st cn c₁ q' st'. premises_refused (symbols_of (args.text.now) (args.symbols.now) (args.count)) c₁ (pattern_of (symbols_of (args.text.now) (args.symbols.now) (args.count)) ps [] (variables_of (args.text.now) (args.variables.now) 0) (args.room)) (args.words.now) (args.used) (rw (c.in-Failed.is) at (judgments.ensures.same ps q st cn).1);
-    }
+      same = λ ps q st cn c₁ q' st'. premises_refused (symbols_of (args.text.now) (args.symbols.now) (args.count)) c₁ (pattern_of (symbols_of (args.text.now) (args.symbols.now) (args.count)) ps [] (variables_of (args.text.now) (args.variables.now) 0) (args.space.room)) (args.words.now) (args.space.used) (c.in_err-place.ensures.same ps q st cn).1;
+    })
 
-pub returns-in-Failed-pattern : goal.returns-in-Failed-pattern
-returns-in-Failed-pattern c =
+pub returns-in_err-made : goal.returns-in_err-made
+returns-in_err-made c =
     let args = c.args in
     let judgments = c.judgments in
     let pattern = c.pattern in
-    record {
+    rw (handed_on c.from_residual-in_err-made.result c.in_err-made.field-0.0 c.from_residual-in_err-made.ensures.1)
+    (record {
       bounded = tt;
-      same = λ ps q st cn c₁ q' st'. conclusion_refused (symbols_of (args.text.now) (args.symbols.now) (args.count)) c₁ (pattern_of (symbols_of (args.text.now) (args.symbols.now) (args.count)) ps [] (variables_of (args.text.now) (args.variables.now) 0) (args.room)) (args.words.now) (args.used) _ _ _ _ _ (rw (c.in-Node.is) at (judgments.ensures.same ps q st cn).1) (rw (c.in-Failed-pattern.is) at (pattern.ensures.same c₁ q' st').1);
-    }
+      same = λ ps q st cn c₁ q' st'. conclusion_refused (symbols_of (args.text.now) (args.symbols.now) (args.count)) c₁ (pattern_of (symbols_of (args.text.now) (args.symbols.now) (args.count)) ps [] (variables_of (args.text.now) (args.variables.now) 0) (args.space.room)) (args.words.now) (args.space.used) _ _ _ _ _ (c.in_ok-place.ensures.same ps q st cn).1 (c.in_err-made.ensures.same c₁ q' st').1;
+    })
 
-pub returns-in-Node-pattern : goal.returns-in-Node-pattern
-returns-in-Node-pattern c =
+pub returns : goal.returns
+returns c =
     let args = c.args in
     let judgments = c.judgments in
     let pattern = c.pattern in
-    let j = judged_bounds (args.at) 0 (args.used) (args.room) (judgments.result) (c.in-Node.is) (judgments.ensures.small) in
-    let k = made_bounds _ _ _ _ (pattern.result) (c.in-Node-pattern.is) (pattern.ensures.small) in
+    let j = c.in_ok-place.ensures.small in
+    let k = c.in_ok-made.ensures.small in
     record {
       bounded = (k.2, j.3, k.3, omega arith);
-      same = λ ps q st cn c₁ q' st'. both_done (symbols_of (args.text.now) (args.symbols.now) (args.count)) c₁ (pattern_of (symbols_of (args.text.now) (args.symbols.now) (args.count)) ps [] (variables_of (args.text.now) (args.variables.now) 0) (args.room)) (args.words.now) (args.used) _ _ _ _ _ (rw (c.in-Node.is) at (judgments.ensures.same ps q st cn).1) _ _ _ _ _ (rw (c.in-Node-pattern.is) at (pattern.ensures.same c₁ q' st').1);
+      same = λ ps q st cn c₁ q' st'. both_done (symbols_of (args.text.now) (args.symbols.now) (args.count)) c₁ (pattern_of (symbols_of (args.text.now) (args.symbols.now) (args.count)) ps [] (variables_of (args.text.now) (args.variables.now) 0) (args.space.room)) (args.words.now) (args.space.used) _ _ _ _ _ (c.in_ok-place.ensures.same ps q st cn).1 _ _ _ _ _ (c.in_ok-made.ensures.same c₁ q' st').1;
     }

@@ -1,30 +1,17 @@
--- `put_columns` meets its contract. The loop's invariant: the first j values are written.
-use mathlib.Core.Path.{◌≡◌, sym, ap, ◌∙◌}
-use mathlib.Core.List.{[]}
-use Prim.Native.Nat.{◌-◌}
-use lib.ListN.{set, length-set}
-use lib.Seq.{set-get_or}
-use Rattle.names.specs.Symbols.{row_at}
-use Rattle.rules.proofs.RowLaws.{sets_next, column_written}
-use borrow.Author.Rules.{rules}
+-- `put_columns` meets its contract: the values are a part of the row.
+use mathlib.Core.Path.{◌≡◌, ap}
+use Prim.Native.Nat.{◌+◌, ◌-◌}
+use lib.ListN.{length, take, set}
+use lib.Seq.{length-take-le}
 use native.Mathlib.Omega.{arith}
+use Rattle.names.specs.Symbols.{row_at}
+use Rattle.rules.proofs.RowLaws.{sets_part}
 use Rattle.rules.proofs.put_columns.Goals as goal
 
-pub loop-j-init : goal.loop-j-init
-loop-j-init c = (omega arith, sym (set-get_or (c.args.rules.now) (c.args.i) []))
-
-pub bounds-rules-i : goal.bounds-rules-i
-bounds-rules-i c = rw (c.loop-j.invariant.1) (rw length-set (c.requires.0))
-
-pub loop-j-preserved : goal.loop-j-preserved
-loop-j-preserved c =
-    let loop = c.loop-j in
-    let args = c.args in
-    let pre = c.requires in (
-      omega arith,
-      rw (loop.invariant.1) (column_written (args.rules.now) (args.i) (pre.0) _ _ _
-          ∙ ap (set (args.rules.now) (args.i)) (sets_next (row_at (args.rules.now) (args.i)) (args.values.now) (args.at) (loop.j) (omega arith))),
-    )
-
 pub returns : goal.returns
-returns c = let e : c.loop-j.j ≡ c.args.n = omega (arith, c.loop-j-test.false) in rw e at (c.loop-j.invariant.1)
+returns c =
+    let a = c.args in
+    let n : length (take a.n a.values.now) ≡ a.n = length-take-le a.n a.values.now c.requires.2 in
+    let long : length (row_at a.rules.now a.i) ≡ 154 = c.told-rules a.i c.requires.0 in
+    rw c.copy_from_slice.ensures.after
+    (ap (set a.rules.now a.i) (sets_part (take a.n a.values.now) (row_at a.rules.now a.i) a.at (a.at + a.n - a.at) (omega arith) (omega arith)))

@@ -1,16 +1,12 @@
 -- `put_sorts` meets its contract. The loop's invariant: the sorts of the first j variables are written.
 use mathlib.Core.Path.{◌≡◌}
 use mathlib.Core.List.{List}
-use Prim.Native.Nat.{ℕ, ◌≤◌, ◌-◌}
+use Prim.Native.Nat.{ℕ}
 use lib.ListN.{set}
 use lib.Seq.{sets}
 use Rattle.names.specs.Symbols.{row_at}
 use Rattle.rules.proofs.RowLaws.{sorts_in}
-use borrow.Author.Rules.{rules}
 use Rattle.rules.proofs.put_sorts.Given as goal
 
 abbrev pub invariant-loop-j : goal.invariant-loop-j
-invariant-loop-j l = (l.j ≤ l.n) × ((text : List ℕ) → l.rules ≡ set l.initial.rules l.i (sets (row_at l.initial.rules l.i) 26 (sorts_in text l.variables l.j)))
-
-abbrev pub decreases-loop-j : goal.decreases-loop-j
-decreases-loop-j l = l.n - l.j
+invariant-loop-j l = (text : List ℕ) → l.rules ≡ set l.initial.rules l.i (sets (row_at l.initial.rules l.i) 26 (sorts_in text l.variables l.j))

@@ -6,7 +6,9 @@ use Rattle.term_parser.specs.Standing.{size}
 use Rattle.names.specs.Symbols.{symbols_of, variables_of}
 use Rattle.rules.specs.StoredRows.{titled}
 use Rattle.rules.specs.PatternLaws.{arities_of}
-use Rattle.rules.proofs.RuleLaws.{few_inputs, bounds, too_many, judgment_refused, bodied, not_known, rule_made, exactly, is_rule, made, lies}
+use Rattle.patterns.specs.Refused.{handed_on}
+use Rattle.rules.specs.KnownLaws.{known_rows}
+use Rattle.rules.proofs.RuleLaws.{few_inputs, too_many, judgment_refused, bodied, not_known, rule_made, exactly, is_rule, made, lies}
 use native.Mathlib.Omega.{arith}
 use Rattle.rules.proofs.rule.Goals as goal
 
@@ -15,17 +17,8 @@ returns-then-n-gt-PREMISES c =
     let args = c.args in
     let if1 = c.if-n-gt-PREMISES in
     record {
-      same = λ ps q st cn c₁ q' st'. rw (too_many (symbols_of (args.text.now) (args.symbols.now) (args.count)) (titled (args.text.now) (args.title.start) (args.title.size) (args.title.clause)) ps c₁ (args.room) (rw cn (if1.true))) refl;
+      same = λ ps q st cn c₁ q' st'. rw (too_many (symbols_of (args.text.now) (args.symbols.now) (args.count)) (titled (args.text.now) (args.title.start) (args.title.size) (args.title.clause)) ps c₁ (args.space.room) (rw cn (if1.true))) refl;
     }
-
-pub all_known-requires : goal.all_known-requires
-all_known-requires c =
-    let args = c.args in
-    let judgments = c.judgments in
-    let b = bounds (args.used) (args.room) (judgments.result) (c.in-Done.is) (judgments.ensures.bounded) in
-    let lh = judgments.auto.heads in
-    let lv = judgments.auto.variables in
-    omega arith
 
 pub returns-then-not-all_known : goal.returns-then-not-all_known
 unfolding variables_of
@@ -37,7 +30,7 @@ returns-then-not-all_known c =
     let if2 = c.if-not-all_known in
     record {
       same = λ ps q st cn c₁ q' st'. let few : size ps ≤ 16 = rw cn (if1.false) in
-          rw (not_known (symbols_of (args.text.now) (args.symbols.now) (args.count)) (titled (args.text.now) (args.title.start) (args.title.size) (args.title.clause)) ps c₁ (args.room) few (bodied (symbols_of (args.text.now) (args.symbols.now) (args.count)) (titled (args.text.now) (args.title.start) (args.title.size) (args.title.clause)) ps c₁ (args.room) few (args.words.now) (args.used) _ _ _ _ _ (rw (c.in-Done.is) at (judgments.ensures.same ps q st cn c₁ q' st'))) (sym (all_known_lem.ensures (args.text.now))
+          rw (not_known (symbols_of (args.text.now) (args.symbols.now) (args.count)) (titled (args.text.now) (args.title.start) (args.title.size) (args.title.clause)) ps c₁ (args.space.room) few (bodied (symbols_of (args.text.now) (args.symbols.now) (args.count)) (titled (args.text.now) (args.title.start) (args.title.size) (args.title.clause)) ps c₁ (args.space.room) few (args.words.now) (args.space.used) _ _ _ _ _ (c.in_ok-body.ensures.same ps q st cn c₁ q' st')) (sym (all_known_lem.ensures ∙ known_rows (args.text.now) judgments.new.variables c.in_ok-body.body.variables)
           ∙ if2.true)) refl;
     }
 
@@ -53,7 +46,7 @@ returns-then-number-ge-RULES c =
     record {
       same = λ ps q st cn c₁ q' st'. let few : size ps ≤ 16 = rw cn (if1.false) in
           rw (
-            is_rule (symbols_of (args.text.now) (args.symbols.now) (args.count)) (titled (args.text.now) (args.title.start) (args.title.size) (args.title.clause)) ps c₁ (args.room) few (bodied (symbols_of (args.text.now) (args.symbols.now) (args.count)) (titled (args.text.now) (args.title.start) (args.title.size) (args.title.clause)) ps c₁ (args.room) few (args.words.now) (args.used) _ _ _ _ _ (rw (c.in-Done.is) at (judgments.ensures.same ps q st cn c₁ q' st'))) (sym (all_known_lem.ensures (args.text.now))
+            is_rule (symbols_of (args.text.now) (args.symbols.now) (args.count)) (titled (args.text.now) (args.title.start) (args.title.size) (args.title.clause)) ps c₁ (args.space.room) few (bodied (symbols_of (args.text.now) (args.symbols.now) (args.count)) (titled (args.text.now) (args.title.start) (args.title.size) (args.title.clause)) ps c₁ (args.space.room) few (args.words.now) (args.space.used) _ _ _ _ _ (c.in_ok-body.ensures.same ps q st cn c₁ q' st')) (sym (all_known_lem.ensures ∙ known_rows (args.text.now) judgments.new.variables c.in_ok-body.body.variables)
                 ∙ if2.false),
             le-ltb (args.number) 1024 (if3.true),
           ) refl;
@@ -73,28 +66,29 @@ keep-requires c =
     let ps = S.judgments in
     let c₁ = S.conclusion in
     let few : size ps ≤ 16 = rw S.number (if1.false) in
-    let b = bounds (args.used) (args.room) (judgments.result) (c.in-Done.is) (judgments.ensures.bounded) in
+    let b = c.in_ok-body.ensures.bounded in
     let lh = judgments.auto.heads in
     let lv = judgments.auto.variables in
-    let B = bodied (symbols_of (args.text.now) (args.symbols.now) (args.count)) (titled (args.text.now) (args.title.start) (args.title.size) (args.title.clause)) ps c₁ (args.room) few (args.words.now) (args.used) _ _ _ _ _ (rw (c.in-Done.is) at (judgments.ensures.same ps S.behind S.stand S.number c₁ S.end S.stands)) in
-    let L = lies (symbols_of (args.text.now) (args.symbols.now) (args.count)) (titled (args.text.now) (args.title.start) (args.title.size) (args.title.clause)) ps c₁ (args.room) few B (sym (all_known_lem.ensures (args.text.now))
+    let B = bodied (symbols_of (args.text.now) (args.symbols.now) (args.count)) (titled (args.text.now) (args.title.start) (args.title.size) (args.title.clause)) ps c₁ (args.space.room) few (args.words.now) (args.space.used) _ _ _ _ _ (c.in_ok-body.ensures.same ps S.behind S.stand S.number c₁ S.end S.stands) in
+    let L = lies (symbols_of (args.text.now) (args.symbols.now) (args.count)) (titled (args.text.now) (args.title.start) (args.title.size) (args.title.clause)) ps c₁ (args.space.room) few B (sym (all_known_lem.ensures ∙ known_rows (args.text.now) judgments.new.variables c.in_ok-body.body.variables)
     ∙ if2.false) (few_inputs (args.text.now) (args.symbols.now) (args.count) (pre.lent) (pre.inputs)) (pre.upto.0) (pre.upto.1) _ _ _ refl (pre.formed) (pre.words) (pre.low) in
-    record { rule = (arities_of (symbols_of (args.text.now) (args.symbols.now) (args.count)), rule_made (symbols_of (args.text.now) (args.symbols.now) (args.count)) (titled (args.text.now) (args.title.start) (args.title.size) (args.title.clause)) ps c₁ (args.room) few B, L.lying); rising = (b.1, b.2); small = omega arith; low = omega arith; few = if1.false; references = omega arith; vars = b.0; lent = omega arith; row = omega (arith, if3.false, pre.rows) }
+    record { rule = (arities_of (symbols_of (args.text.now) (args.symbols.now) (args.count)), rule_made (symbols_of (args.text.now) (args.symbols.now) (args.count)) (titled (args.text.now) (args.title.start) (args.title.size) (args.title.clause)) ps c₁ (args.space.room) few B, L.lying); rising = (b.1, b.2); small = omega arith; low = omega arith; few = if1.false; references = omega arith; vars = b.0; lent = omega arith; row = omega (arith, if3.false, pre.rows) }
 
-pub returns-in-Failed : goal.returns-in-Failed
+pub returns-in_err-body : goal.returns-in_err-body
 unfolding variables_of
-returns-in-Failed c =
+returns-in_err-body c =
     let if1 = c.if-n-gt-PREMISES in
     let args = c.args in
     let judgments = c.judgments in
-    record {
+    rw (handed_on c.from_residual.result c.in_err-body.field-0.0 c.from_residual.ensures.1)
+    (record {
       same = λ ps q st cn c₁ q' st'. let few : size ps ≤ 16 = rw cn (if1.false) in
-          rw (judgment_refused (symbols_of (args.text.now) (args.symbols.now) (args.count)) (titled (args.text.now) (args.title.start) (args.title.size) (args.title.clause)) ps c₁ (args.room) few (args.words.now) (args.used) (rw (c.in-Failed.is) at (judgments.ensures.same ps q st cn c₁ q' st'))) refl;
-    }
+          rw (judgment_refused (symbols_of (args.text.now) (args.symbols.now) (args.count)) (titled (args.text.now) (args.title.start) (args.title.size) (args.title.clause)) ps c₁ (args.space.room) few (args.words.now) (args.space.used) (c.in_err-body.ensures.same ps q st cn c₁ q' st')) refl;
+    })
 
-pub returns-else-number-ge-RULES : goal.returns-else-number-ge-RULES
+pub returns : goal.returns
 unfolding variables_of
-returns-else-number-ge-RULES c =
+returns c =
     let args = c.args in
     let judgments = c.judgments in
     let if1 = c.if-n-gt-PREMISES in
@@ -103,24 +97,24 @@ returns-else-number-ge-RULES c =
     let pre = c.requires in
     let if3 = c.if-number-ge-RULES in
     let keep = c.keep in
-    let b = bounds (args.used) (args.room) (judgments.result) (c.in-Done.is) (judgments.ensures.bounded) in
+    let b = c.in_ok-body.ensures.bounded in
     let lh = judgments.auto.heads in
     let lv = judgments.auto.variables in
     record {
       same = λ ps q st cn c₁ q' st'. let few : size ps ≤ 16 = rw cn (if1.false) in
-          let B = bodied (symbols_of (args.text.now) (args.symbols.now) (args.count)) (titled (args.text.now) (args.title.start) (args.title.size) (args.title.clause)) ps c₁ (args.room) few (args.words.now) (args.used) _ _ _ _ _ (rw (c.in-Done.is) at (judgments.ensures.same ps q st cn c₁ q' st')) in
-          let k = (sym (all_known_lem.ensures (args.text.now)) ∙ if2.false) in
-          let M = made (symbols_of (args.text.now) (args.symbols.now) (args.count)) (titled (args.text.now) (args.title.start) (args.title.size) (args.title.clause)) ps c₁ (args.room) few B k (few_inputs (args.text.now) (args.symbols.now) (args.count) (pre.lent) (pre.inputs)) (pre.upto.0) (pre.upto.1) in
-          let L = lies (symbols_of (args.text.now) (args.symbols.now) (args.count)) (titled (args.text.now) (args.title.start) (args.title.size) (args.title.clause)) ps c₁ (args.room) few B k (few_inputs (args.text.now) (args.symbols.now) (args.count) (pre.lent) (pre.inputs)) (pre.upto.0) (pre.upto.1) _ _ _ refl (pre.formed) (pre.words) (pre.low) in
-          let X = exactly (symbols_of (args.text.now) (args.symbols.now) (args.count)) (titled (args.text.now) (args.title.start) (args.title.size) (args.title.clause)) ps c₁ (args.room) few B _ _ _ refl in
-          rw (is_rule (symbols_of (args.text.now) (args.symbols.now) (args.count)) (titled (args.text.now) (args.title.start) (args.title.size) (args.title.clause)) ps c₁ (args.room) few B k, lt-ltb (args.number) 1024 (if3.false)) (record {
+          let B = bodied (symbols_of (args.text.now) (args.symbols.now) (args.count)) (titled (args.text.now) (args.title.start) (args.title.size) (args.title.clause)) ps c₁ (args.space.room) few (args.words.now) (args.space.used) _ _ _ _ _ (c.in_ok-body.ensures.same ps q st cn c₁ q' st') in
+          let k = (sym (all_known_lem.ensures ∙ known_rows (args.text.now) judgments.new.variables c.in_ok-body.body.variables) ∙ if2.false) in
+          let M = made (symbols_of (args.text.now) (args.symbols.now) (args.count)) (titled (args.text.now) (args.title.start) (args.title.size) (args.title.clause)) ps c₁ (args.space.room) few B k (few_inputs (args.text.now) (args.symbols.now) (args.count) (pre.lent) (pre.inputs)) (pre.upto.0) (pre.upto.1) in
+          let L = lies (symbols_of (args.text.now) (args.symbols.now) (args.count)) (titled (args.text.now) (args.title.start) (args.title.size) (args.title.clause)) ps c₁ (args.space.room) few B k (few_inputs (args.text.now) (args.symbols.now) (args.count) (pre.lent) (pre.inputs)) (pre.upto.0) (pre.upto.1) _ _ _ refl (pre.formed) (pre.words) (pre.low) in
+          let X = exactly (symbols_of (args.text.now) (args.symbols.now) (args.count)) (titled (args.text.now) (args.title.start) (args.title.size) (args.title.clause)) ps c₁ (args.space.room) few B _ _ _ refl in
+          rw (is_rule (symbols_of (args.text.now) (args.symbols.now) (args.count)) (titled (args.text.now) (args.title.start) (args.title.size) (args.title.clause)) ps c₁ (args.space.room) few B k, lt-ltb (args.number) 1024 (if3.false)) (record {
             used = _;
             is = refl;
             row = keep.ensures.row;
             written = keep.ensures.written;
             placed = keep.ensures.placed;
-            kept = keep.ensures.kept (args.text.now) (arities_of (symbols_of (args.text.now) (args.symbols.now) (args.count))) (rule_made (symbols_of (args.text.now) (args.symbols.now) (args.count)) (titled (args.text.now) (args.title.start) (args.title.size) (args.title.clause)) ps c₁ (args.room) few B) L.lying refl refl M.order;
-            exact = keep.ensures.exact (args.text.now) (arities_of (symbols_of (args.text.now) (args.symbols.now) (args.count))) (rule_made (symbols_of (args.text.now) (args.symbols.now) (args.count)) (titled (args.text.now) (args.title.start) (args.title.size) (args.title.clause)) ps c₁ (args.room) few B) L.lying refl M.order X.premises X.conclusion;
+            kept = keep.ensures.kept (args.text.now) (arities_of (symbols_of (args.text.now) (args.symbols.now) (args.count))) (rule_made (symbols_of (args.text.now) (args.symbols.now) (args.count)) (titled (args.text.now) (args.title.start) (args.title.size) (args.title.clause)) ps c₁ (args.space.room) few B) L.lying refl refl M.order;
+            exact = keep.ensures.exact (args.text.now) (arities_of (symbols_of (args.text.now) (args.symbols.now) (args.count))) (rule_made (symbols_of (args.text.now) (args.symbols.now) (args.count)) (titled (args.text.now) (args.title.start) (args.title.size) (args.title.clause)) ps c₁ (args.space.room) few B) L.lying refl M.order X.premises X.conclusion;
             laid = X.written;
             same = L.low;
             fits = b.3;

@@ -5,7 +5,6 @@ use Prim.Native.Nat.{ℕ, ◌<◌}
 use lib.ListN.{length, take, replicate}
 use lib.Seq.{sets, take_all}
 use Rattle.rules.proofs.RowLaws.{over, still_there, sorts_in}
-use borrow.Author.Rules.{rules}
 use native.Mathlib.Omega.{arith}
 use Rattle.rules.proofs.store.Goals as goal
 
