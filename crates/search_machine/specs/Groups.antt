@@ -1,6 +1,6 @@
 -- The contracts over what travels together: a program, which is read, and a store, which is written.
 use Rattle.std.specs.Prelude.{◌≡◌}
-use Rattle.std.proofs.Common.{◌∙◌}
+use Rattle.std.proofs.Common.{refl, ◌∙◌}
 use Rattle.attempts.specs.declared.Tried.{Tried}
 use Rattle.search_machine.specs.Storage.{RowAsked, RowTried}
 use Rattle.search_machine.specs.Promises.{Ready, Stepped, Returned, Searched}
@@ -54,6 +54,9 @@ SearchedIn p s s' m m' =
     s.links.now s'.links.now s.marks.now s'.marks.now s.stack.now s'.stack.now m m'
 
 -- Laws
+
+pub lent_start : {s : Store} → IsLent s s
+lent_start = record { words = refl; bindings = refl; links = refl; marks = refl; stack = refl; frames = refl }
 
 pub lent_on : {s s' s'' : Store} → IsLent s s' → IsLent s' s'' → IsLent s s''
 lent_on h k = record {
