@@ -165,19 +165,9 @@ fn walk_premises(
     let mut count = 0;
     let mut spent = 0;
     for reference in &rule[10..10 + rule[4] as usize] {
-        let meeting::Met::Places(given, taken) = meeting::meet(
-            words,
-            *reference,
-            end,
-            places,
-            count,
-            size - spent,
-            stack,
-        ) else {
-            return None;
-        };
-        count = given;
-        spent += taken;
+        let walked = meeting::meet(words, *reference, end, places, count, size - spent, stack)?;
+        count = walked.places;
+        spent += walked.words;
     }
     if spent != size {
         return None;
@@ -198,15 +188,11 @@ fn walk_term(
     requires { (size ≤ 2048) × RootAsked words.now end reference × Lent places.old stack.old × ((e : List ℕ) × Records e places.old count) }
     ensures { Walked (term_of words.now reference) size places.old count result places.new }
 {
-    let meeting::Met::Places(given, taken) = meeting::meet(
-        words, reference, end, places, count, size, stack,
-    ) else {
-        return None;
-    };
-    if taken != size {
+    let walked = meeting::meet(words, reference, end, places, count, size, stack)?;
+    if walked.words != size {
         return None;
     }
-    Some(given)
+    Some(walked.places)
 }
 
 // Whether each variable among words has a place.
@@ -263,8 +249,8 @@ fn walk(
     ensures { (e : List ℕ) → Records e places.old count → Records (met (term_of words.now reference) e) places.new result }
 {
     match meeting::meet(words, reference, end, places, count, MOST, stack) {
-        meeting::Met::Places(given, _) => given,
-        meeting::Met::Over => count,
+        Some(walked) => walked.places,
+        None => count,
     }
 }
 

@@ -44,21 +44,22 @@ meet-requires c =
       room = omega arith;
     }
 
-pub returns-in_default : goal.returns-in_default
+pub returns-in_err-walked : goal.returns-in_err-walked
 unfolding heads
-returns-in_default c =
+returns-in_err-walked c =
     let pre = c.requires in
     let loop = c.loop-reference in
     let args = c.args in
     let n = heads_length args.rule.now _ pre.1.premises c.told-rule in
     let e = heads_index args.rule.now _ pre.1.premises c.told-rule loop.reference-index c.loop-reference-test.true in
     let known = loop.invariant.1.recorded [] pre.3 in
-    walked_differs (premises_of args.words.now args.rule.now) (going_over (term_of args.words.now) args.rule.now _ loop.invariant.1 (omega (arith, c.loop-reference-test.true)) _ loop.invariant.0 (rw e at (walked_over c.meet.ensures known.1 c.in_default.is)))
+    rw c.from_residual.ensures (walked_differs (premises_of args.words.now args.rule.now) (going_over (term_of args.words.now) args.rule.now _ loop.invariant.1 (omega (arith, c.loop-reference-test.true)) _ loop.invariant.0 (rw e at (walked_over c.meet.ensures known.1 c.in_err-walked.was))))
 
 pub overflow_add-spent : goal.overflow_add-spent
+
 overflow_add-spent c =
     let known = c.loop-reference.invariant.1.recorded [] c.requires.3 in
-    let counted = (walked_places c.meet.ensures known.1 _ _ c.in-Places.is).allowed in
+    let counted = (walked_places c.meet.ensures known.1 _ c.in_ok-walked.was).allowed in
     let small = c.requires.0 in
     let l = c.loop-reference.invariant.0 in
     omega arith
@@ -72,11 +73,11 @@ loop-reference-preserved c =
     let n = heads_length args.rule.now _ pre.1.premises c.told-rule in
     let e = heads_index args.rule.now _ pre.1.premises c.told-rule loop.reference-index c.loop-reference-test.true in
     let known = loop.invariant.1.recorded [] pre.3 in
-    let counted = walked_places c.meet.ensures known.1 _ _ c.in-Places.is in
+    let counted = walked_places c.meet.ensures known.1 _ c.in_ok-walked.was in
     let a = counted.allowed in
     let l = loop.invariant.0 in (
       omega arith,
-      going_on (term_of args.words.now) args.rule.now _ loop.invariant.1 (omega (arith, c.loop-reference-test.true)) (rw e at counted.spends) (λ e' h. rw e at ((walked_places c.meet.ensures h _ _ c.in-Places.is).records)),
+      going_on (term_of args.words.now) args.rule.now _ loop.invariant.1 (omega (arith, c.loop-reference-test.true)) (rw e at counted.spends) (λ e' h. rw e at ((walked_places c.meet.ensures h _ c.in_ok-walked.was).records)),
     )
 
 pub returns-then-spent-size : goal.returns-then-spent-size
