@@ -1,5 +1,6 @@
 -- Rules that are passed over: each is an attempt whose conclusion clashes with the goal, or that the limits refuse.
-use Rattle.std.specs.Prelude.{ℕ, ◌+◌, ◌-◌, ◌*◌, ◌≤◌, ◌<◌, ◌≡◌, refl, true, false, ◌≢◌, List, length, Option, Some, IfSome}
+use Rattle.std.specs.Prelude.{ℕ, ◌+◌, ◌-◌, ◌*◌, ◌≤◌, ◌<◌, ◌≡◌, refl, true, false, ◌≢◌, List, length, Option, Some, IfSome, Ok, Err}
+use Rattle.refusals.specs.declared.Refusal.TheVariants.{OverLimit}
 use Rattle.std.proofs.Common.{arith, ap, sym, subst}
 use Rattle.arena.specs.Cells.{headers, cells}
 use Rattle.arena.specs.Copies.{term_room}
@@ -12,7 +13,7 @@ use Rattle.attempts.specs.RuleLaws.{variables_le}
 use Rattle.attempts.specs.Clashes.{Comparable, Clashes, heads_clash}
 use Rattle.attempts.specs.Heads.{head_refused, head_comparable, head_clashes}
 use Rattle.attempts.specs.Outcomes.{head_asked, refused_way, missed_way}
-use Rattle.attempts.specs.declared.Tried.TheVariants.{Exceeded, Missed}
+use Rattle.attempts.specs.declared.Tried.TheVariants.{Missed}
 use Rattle.search_machine.specs.Storage.{RowAsked, RowTried}
 use Rattle.search_machine.specs.State.{Start, Holds, Trying}
 use Rattle.search_machine.specs.Moves.{to_fail, to_stop, to_rule, current, measure}
@@ -75,13 +76,13 @@ module _ {most limit : ℕ} {P : List ℕ} {R : Rows} {W : List ℕ} {T L M S : 
 
   -- The limits refuse it.
   row_over : over (within most limit) (c + column (row_at R r) 9) (u + column (row_at R r) 8) ≡ true
-      → RowTried most limit P R W W T T L L M M S S c u t g r Exceeded
-  row_over e = refused_way asked.asked (head_refused (head_asked asked.asked) e) refl
+      → RowTried most limit P R W W T T L L M M S S c u t g r (Err OverLimit)
+  row_over e = refused_way asked.asked (head_refused (head_asked asked.asked) e) OverLimit refl
 
   -- Its conclusion clashes with the goal.
   row_passed : over (within most limit) (c + column (row_at R r) 9) (u + column (row_at R r) 8) ≡ false
       → Clashes P W T t g (column (row_at R r) 5)
-      → RowTried most limit P R W W T T L L M M S S c u t g r (Missed (c + column (row_at R r) 9))
+      → RowTried most limit P R W W T T L L M M S S c u t g r (Ok (Missed (c + column (row_at R r) 9)))
   row_passed e k = missed_way asked.asked (head_clashes (head_asked asked.asked) e k) refl
 
 -- The loop
@@ -174,7 +175,7 @@ module _ {a : Allowed} {P : List ℕ} {R : Rows} {W : List ℕ} {T : Rows} {m : 
         → Chosen a P R W T m (to_stop (to_rule m r c m.top) Refused m.steps)
     passing_over l e = record {
       keeps = λ F z o h. holds_on (passing.keeps F z o h) (omega arith) (omega arith) (omega arith) refl refl (λ i q. refl)
-          (tried_refused a P R F W T z o (to_rule m r c m.top) (trying F z o h) l (asked_now l) (row_over (asked_now l) e));
+          (tried_refused a P R F W T z o (to_rule m r c m.top) (trying F z o h) l (asked_now l) OverLimit (row_over (asked_now l) e));
       goes = λ F. let q = at_try in falls_mode a.rules F m (to_stop (to_rule m r c m.top) Refused m.steps) refl refl (omega arith);
     }
 

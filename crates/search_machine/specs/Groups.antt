@@ -1,8 +1,7 @@
 -- The contracts over what travels together: a program, which is read, and a store, which is written.
 use Rattle.std.specs.Prelude.{◌≡◌}
 use Rattle.std.proofs.Common.{refl, ◌∙◌}
-use Rattle.attempts.specs.declared.Tried.{Tried}
-use Rattle.search_machine.specs.Storage.{RowAsked, RowTried}
+use Rattle.search_machine.specs.Storage.{RowAsked, RowTried, Attempt}
 use Rattle.search_machine.specs.Promises.{Ready, Stepped, Returned, Searched}
 use Rattle.search_machine.specs.declared.Allowed.{Allowed}
 use Rattle.search_machine.specs.declared.Machine.{Machine}
@@ -24,7 +23,7 @@ AskedIn p s m =
     RowAsked p.allowed.variables p.allowed.words p.pattern.now p.rules.now s.words.now s.bindings.now s.links.now s.marks.now s.stack.now
     m.counter m.used m.bound m.goal m.rule
 
-abbrev pub TriedIn : Program → Store → Store → Machine → Tried → Type 0
+abbrev pub TriedIn : Program → Store → Store → Machine → Attempt → Type 0
 TriedIn p s s' m answer =
     RowTried p.allowed.variables p.allowed.words p.pattern.now p.rules.now s.words.now s'.words.now s.bindings.now s'.bindings.now
     s.links.now s'.links.now s.marks.now s'.marks.now s.stack.now s'.stack.now m.counter m.used m.bound m.goal m.rule answer

@@ -1,7 +1,8 @@
 -- The ways out of the machine's functions, as the contracts have them.
 use Prim.Native.Nat.{ℕ, suc, ◌+◌, ◌-◌, ◌*◌, ◌≤◌, ◌<◌}
+use Rattle.refusals.specs.declared.Refusal.{Refusal}
 use native.Mathlib.Omega.{arith}
-use Rattle.std.specs.Prelude.{◌≡◌, true, ◌≢◌, List, [], length, get_or, set}
+use Rattle.std.specs.Prelude.{◌≡◌, true, ◌≢◌, List, [], length, get_or, set, Ok, Err}
 use Rattle.std.proofs.Math.Path.{refl, ap}
 use Rattle.std.proofs.Common.{sym, ◌∙◌, subst, length-set, get_or-set_other}
 use Rattle.arena.specs.Cells.{cells}
@@ -11,9 +12,8 @@ use Rattle.bindings.specs.Tables.{undone}
 use Rattle.bindings.specs.Promises.{Undoable}
 use Rattle.unifier.specs.Promises.{Scratch}
 use Rattle.resolution.specs.Search.{Result}
-use Rattle.attempts.specs.declared.Tried.{Tried}
-use Rattle.attempts.specs.declared.Tried.TheVariants.{Exceeded, Missed, Entered}
-use Rattle.search_machine.specs.Storage.{RowAsked, RowTried, PremiseAsked}
+use Rattle.attempts.specs.declared.Tried.TheVariants.{Missed, Entered}
+use Rattle.search_machine.specs.Storage.{RowAsked, RowTried, PremiseAsked, Attempt}
 use Rattle.search_machine.specs.State.{arity, premise_ref, frame_at, row_of, Start, Holds, Case, Entering, Trying, Failing}
 use Rattle.search_machine.specs.Moves.{to_place, to_fail, to_stop, to_goal, to_rule, to_body, to_retry, frame_for, weights, current, measure}
 use Rattle.search_machine.specs.Promises.{Ready, Stepped, Moved, Seen, Returned, Known, Choice, Stopped, Searched}
@@ -154,33 +154,33 @@ module _ {a : Allowed} {P : List ℕ} {R F : Rows} {W : List ℕ} {T L M S : Row
   pub ready_asked : RowAsked a.variables a.words P R W T L M S m.counter m.used m.bound m.goal m.rule
   ready_asked = row_asked ready.holds.rules ready_case.well ready.scratch ready_case.refers ready_rule
 
-  module _ {W' : List ℕ} {T' L' M' S' : Rows} {answer : Tried}
+  module _ {W' : List ℕ} {T' L' M' S' : Rows} {answer : Attempt}
       (t : RowTried a.variables a.words P R W W' T T' L L' M M' S S' m.counter m.used m.bound m.goal
       m.rule answer) where
-    known : (k : Tried) → answer ≡ k
+    known : (k : Attempt) → answer ≡ k
         → RowTried a.variables a.words P R W W' T T' L L' M M' S S' m.counter m.used m.bound m.goal m.rule k
     known k q =
-        subst (λ (k : Tried). RowTried a.variables a.words P R W W' T T' L L' M M' S S' m.counter m.used m.bound m.goal
+        subst (λ (k : Attempt). RowTried a.variables a.words P R W W' T T' L L' M M' S S' m.counter m.used m.bound m.goal
         m.rule k) q t
 
     -- The words from the top on stand.
     past : (i : ℕ) → m.top ≤ i → cells W' i ≡ cells W i
     past i l = let r = choice.reach in t.past i (omega arith)
 
-    pub step_refused : answer ≡ Exceeded → Stepped a P R F F W W' T T' L L' M M' S S' m (to_stop m Refused m.steps)
-    step_refused q = record {
+    pub step_refused : (e : Refusal) → answer ≡ Err e → Stepped a P R F F W W' T T' L L' M M' S S' m (to_stop m Refused m.steps)
+    step_refused e q = record {
       keeps = λ z o h. holds_on h (omega arith) (omega arith) (omega arith) refl t.long past
-          (tried_refused a P R F W T z o m (case_at h trying) ready_rule ready_asked (known Exceeded q));
+          (tried_refused a P R F W T z o m (case_at h trying) ready_rule ready_asked e (known (Err e) q));
       falls = let c = at_try in falls_mode a.rules F m (to_stop m Refused m.steps) refl refl (omega arith);
       links = t.links_kept;
       marks = t.marks_kept;
       stack = t.stack_kept;
     }
 
-    pub step_missed : (c' : ℕ) → answer ≡ Missed c' → Stepped a P R F F W W' T T' L L' M M' S S' m (to_rule m (m.rule + 1) c' m.top)
+    pub step_missed : (c' : ℕ) → answer ≡ Ok (Missed c') → Stepped a P R F F W W' T T' L L' M M' S S' m (to_rule m (m.rule + 1) c' m.top)
     step_missed c' q = record {
-      keeps = λ z o h. holds_on h (omega arith) (known (Missed c') q).left.0 (omega arith) refl t.long past
-          (tried_missed a P R F W T z o m (case_at h trying) ready_rule ready_asked c' (known (Missed c') q));
+      keeps = λ z o h. holds_on h (omega arith) (known (Ok (Missed c')) q).left.0 (omega arith) refl t.long past
+          (tried_missed a P R F W T z o m (case_at h trying) ready_rule ready_asked c' (known (Ok (Missed c')) q));
       falls = let c = at_try in let l = ready_rule in falls_mode a.rules F m (to_rule m (m.rule + 1) c' m.top) refl refl
           (omega arith);
       links = t.links_kept;
@@ -188,7 +188,7 @@ module _ {a : Allowed} {P : List ℕ} {R F : Rows} {W : List ℕ} {T L M S : Row
       stack = t.stack_kept;
     }
 
-    module _ (c' t' u' high : ℕ) (q : answer ≡ Entered c' t' u') (above : m.high ≤ high) (new : m.frames + 1 ≤ high) where
+    module _ (c' t' u' high : ℕ) (q : answer ≡ Ok (Entered c' t' u')) (above : m.high ≤ high) (new : m.frames + 1 ≤ high) where
       abbrev F' : Rows
       F' = set F m.frames (row_of (frame_for m))
 
@@ -211,11 +211,11 @@ module _ {a : Allowed} {P : List ℕ} {R F : Rows} {W : List ℕ} {T L M S : Row
       step_entered = record {
         keeps = λ z o h. record {
           case = tried_entered a P R F W T z o m (case_at h trying) ready_rule ready_asked c' t' u' high lent_frames
-              (known (Entered c' t' u') q);
+              (known (Ok (Entered c' t' u')) q);
           rules = h.rules;
           frames = let l = h.frames in let s = length-set F m.frames (row_of (frame_for m)) in omega arith;
           left = h.left;
-          later = let c = h.later in let l = (known (Entered c' t' u') q).left.later in omega arith;
+          later = let c = h.later in let l = (known (Ok (Entered c' t' u')) q).left.later in omega arith;
           words_past = λ i l. past i l ∙ h.words_past i l;
           frames_past = λ i l. rows_past i l ∙ h.frames_past i (omega arith);
           words_long = t.long ∙ h.words_long;

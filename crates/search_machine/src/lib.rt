@@ -145,9 +145,15 @@ fn attempt(program: Program, store: &mut Store, m: Machine) -> Machine
     ensures lent { IsLent store.old store.new }
 {
     match try_stored(program, store, m) {
-        Tried::Exceeded => m.at_stop(Mode::Refused, m.steps),
-        Tried::Missed(counter) => m.at_rule(m.rule + 1, counter, m.top),
-        Tried::Entered(counter, bound, used) => {
+        Err(_) => m.at_stop(Mode::Refused, m.steps),
+        Ok(Tried::Missed { counter }) => m.at_rule(m.rule + 1, counter, m.top),
+        Ok(
+            Tried::Entered {
+                counter,
+                bound,
+                used,
+            },
+        ) => {
             put_row(store.frames, m.frames, m.frame().into());
             let high = m.high.max(m.frames + 1);
             m.at_body(counter, bound, used, high)

@@ -9,6 +9,7 @@ use super::frames::Frame;
 use super::{Machine, Program, Store};
 use arena::{PATTERN_ROOM, TERM_ROOM, moved_word};
 use attempts::{Stored, Tried, try_rule};
+use refusals::Refusal;
 use rules::RuleRow;
 
 // What a row says of its rule.
@@ -49,7 +50,7 @@ pub fn premise(rules: &[RuleRow], x: Frame, place: u32) -> u32
 }
 
 // One attempt with the rule that a state has come to.
-pub fn try_stored(program: Program, store: &mut Store, m: Machine) -> Tried
+pub fn try_stored(program: Program, store: &mut Store, m: Machine) -> Result<Tried, Refusal>
     requires { AskedIn program store.old m }
     ensures tried { TriedIn program.entry store.old store.new m result }
     ensures frames { store.new.frames.now ≡ store.old.frames.now }
