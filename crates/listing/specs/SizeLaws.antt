@@ -21,7 +21,7 @@ use Rattle.refusals.specs.Refusals.{number_of}
 use Rattle.source_text.specs.Parts.{part_of}
 use Rattle.words.specs.Lexer.{capped_of, in_domain, lex_of}
 use Rattle.words.specs.declared.Limits.{Limits}
-use Rattle.std.specs.Prelude.{Option, Some, None}
+use Rattle.std.specs.Prelude.{Option, Some as Read, None}
 use Rattle.words.specs.Items.{Item}
 use Rattle.words.specs.Items.Item.{Blank, Token, Refused}
 use Rattle.byte_output.specs.NumeralLaws.{numeral_short}
@@ -81,7 +81,7 @@ word_sized w n l h =
     (λ f. rw f (by_bool (all_digits w) (λ g. rw g (go (numeral_of w))) (λ g. rw g (l, h))))))
   where
     go : (v : Option ℕ) → Sized n (if_fits v (Token numeral_kind (length w)))
-    go (Some v) = (l, h)
+    go (Read v) = (l, h)
     go None = tt
 
 starts_short : (w s : List ℕ) → starts_with w s ≡ true → length w ≤ length s
