@@ -1,5 +1,5 @@
 -- What the functions of `clauses` ask of and owe to each other.
-use Rattle.std.specs.Prelude.{ℕ, suc, ◌+◌, ◌-◌, ◌*◌, ◌≤◌, ◌<◌, ◌≡◌, List, [], ◌∷◌, length}
+use Rattle.std.specs.Prelude.{ℕ, suc, ◌+◌, ◌-◌, ◌*◌, ◌≤◌, ◌<◌, ◌≡◌, Result, Ok, Err, List, [], ◌∷◌, length}
 use Rattle.source_text.specs.Parts.{part_of}
 use Rattle.term_parser.specs.Source.{one, many}
 use Rattle.term_parser.specs.Rows.{application_kind}
@@ -13,11 +13,10 @@ use Rattle.rules.specs.Rules.{entering}
 use Rattle.rules.specs.PatternLaws.{arities_of, InputsUpto}
 use Rattle.rules.specs.Promises.{Entering}
 use Rattle.rules.specs.declared.Title.{Title}
-use Rattle.rules.specs.declared.Entered.{Entered}
-use Rattle.rules.specs.declared.Entered.TheVariants.{Refused as Barred, Done as Entry}
+use Rattle.rules.specs.declared.Space.{Space}
+use Rattle.refusals.specs.declared.Refusal.{Refusal}
 use Rattle.clauses.specs.Clauses.{clause_of}
-use Rattle.clauses.specs.declared.Outcome.{Outcome}
-use Rattle.clauses.specs.declared.Outcome.TheVariants.{Refused, Done}
+use Rattle.clauses.specs.declared.EnteredRule.{EnteredRule}
 
 -- What `skip` owes: whatever n terms stand from the row p on, it answers the row behind them.
 pub record Skipped (rows : Rows) (p n r : ℕ) : Type 0 where
@@ -69,16 +68,16 @@ pub record ClauseAsked (text : List ℕ) (rows : Rows) (p n : ℕ) (symbols : Ro
   pub calls_lent : length rows + 32 ≤ length calls
 
 -- The rule's answer in it, and the row behind the clause.
-abbrev pub entered : Outcome → Entered
-entered (Refused e) = Barred e
-entered (Done next u room) = Entry u room
+abbrev pub entered : Result EnteredRule Refusal → Result Space Refusal
+entered (Err e) = Err e
+entered (Ok r) = Ok r.space
 
-abbrev pub NextIs : ℕ → Outcome → Type 0
-NextIs q (Refused e) = Unit {0}
-NextIs q (Done next u room) = next ≡ q
+abbrev pub NextIs : ℕ → Result EnteredRule Refusal → Type 0
+NextIs q (Err e) = Unit {0}
+NextIs q (Ok r) = r.next ≡ q
 
 -- What `clause` owes.
 pub record ClauseEntered (text : List ℕ) (rows : Rows) (p n : ℕ) (symbols : List Symbol) (title : Title) (w : List ℕ) (u room : ℕ) (rules : Rows) (number : ℕ)
-    (r : Outcome) (w' : List ℕ) (rules' : Rows) : Type 0 where
+    (r : Result EnteredRule Refusal) (w' : List ℕ) (rules' : Rows) : Type 0 where
   pub same : (ts : Written many) (q : ℕ) → parsed.Stands text rows p ts q → size ts ≡ n → (t : Written one) (q' : ℕ) → parsed.Stands text rows q t q' → (k : ℕ) → title.clause ≡ suc k
       → NextIs q' r × Entering text (arities_of symbols) title w u room rules number w' rules' (entering number (clause_of symbols (part_of text title.start title.size) k ts t room)) (entered r)

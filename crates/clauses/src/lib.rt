@@ -7,23 +7,17 @@ ghost use Rattle.std.specs.Prelude.{◌+◌, ◌-◌, ◌≤◌, ◌<◌, length
 ghost use Rattle.names.specs.Symbols.{symbols_of};
 ghost use Rattle.clauses.specs.Promises.{Skipped, HeadingAsked, Headed, ClauseAsked, ClauseEntered};
 
-use flattening::Flattened;
-use names::SymbolRow;
-use patterns::TermRow;
-use rules::{Entered, RuleRow, Title};
+use flattening::Place;
+use names::{SymbolRow, TermRow};
+use refusals::Refusal;
+use rules::{RuleRow, Space, Title};
 use term_parser::APPLICATION;
 
-// What came of a clause: the row behind it, the words used and the room for nodes left.
+// A rule that is entered: the row behind it, and the space left then.
 #[derive(Clone, Copy)]
-pub enum Outcome {
-    Refused {
-        number: u32,
-    },
-    Done {
-        next: usize,
-        used: usize,
-        room: usize,
-    },
+pub struct EnteredRule {
+    pub next: usize,
+    pub space: Space,
 }
 
 // The row behind n terms.
@@ -71,49 +65,42 @@ pub fn clause(
     symbols: &[SymbolRow],
     count: usize,
     words: &mut [u32],
-    used: usize,
-    room: usize,
+    space: Space,
     rules: &mut [RuleRow],
     number: usize,
     title: Title,
     out: &mut [TermRow],
     calls: &mut [TermRow],
-) -> Outcome
-    requires { ClauseAsked text.now rows.now at n symbols.now count words.old used room rules.old out.old calls.old }
-    ensures { ClauseEntered text.now rows.now at n (symbols_of text.now symbols.now count) title words.old used room rules.old number result words.new rules.new }
+) -> Result<EnteredRule, Refusal>
+    requires { ClauseAsked text.now rows.now at n symbols.now count words.old space.used space.room rules.old out.old calls.old }
+    ensures { ClauseEntered text.now rows.now at n (symbols_of text.now symbols.now count) title words.old space.used space.room rules.old number result words.new rules.new }
 {
     let right = heading(rows, at, n, title.start, title.size, out);
-    match flattening::flatten(
+    let from = Place {
+        next: right,
+        top: right - at + 1,
+        end: 0,
+        number: 0,
+    };
+    let flat = flattening::flatten(text, rows, symbols, count, out, calls, from)
+        .ok_or(Refusal::Full)?;
+    let left = rules::rule(
         text,
-        rows,
-        right,
-        symbols,
-        count,
-        out,
-        right - at + 1,
         calls,
         0,
+        flat.number,
+        out,
         0,
-    ) {
-        Flattened::Over => Outcome::Refused {
-            number: patterns::FULL,
-        },
-        Flattened::Done {
-            next,
-            top: _,
-            end: _,
-            number: k,
-        } => {
-            match rules::rule(
-                text, calls, 0, k, out, 0, symbols, count, words, used, room, rules, number, title,
-            ) {
-                Entered::Refused { number: e } => Outcome::Refused { number: e },
-                Entered::Done { used: u, room: m } => Outcome::Done {
-                    next: next,
-                    used: u,
-                    room: m,
-                },
-            }
-        }
-    }
+        symbols,
+        count,
+        words,
+        space,
+        rules,
+        number,
+        title,
+    )?;
+    Ok(EnteredRule {
+        next: flat.next,
+        space: left,
+    })
 }

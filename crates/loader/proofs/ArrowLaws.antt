@@ -15,7 +15,7 @@ use Rattle.names.specs.SearchLaws.{sorts_length}
 use Rattle.patterns.specs.Patterns.{when}
 use Rattle.loader.specs.Signature.{Numbers, unknown, numbers, prepend, numbers_of, last_of}
 use Rattle.loader.specs.Arrows.{names_at, Arrowing}
-use Rattle.loader.specs.declared.Arrow.TheVariants.{Unknown, Known}
+use Rattle.std.specs.Prelude.{Some, None}
 
 -- The name in a row.
 abbrev pub name_at : List ℕ → Rows → ℕ → Name
@@ -147,7 +147,7 @@ module _ (text : List ℕ) (rows : Rows) (at k : ℕ) (sorts : Rows) (many : ℕ
       subst (λ (z : List Name). Sofar S z (s + 1) inputs' (i + 1)) (sym (names_split text rows at i 1)) y
 
   -- one is unknown
-  pub one_unknown : {s i : ℕ} (inputs : List ℕ) → s ≡ sort_number S (name_at text rows (at + i)) → many ≤ s → i < k → Arrowing (numbers_of S (names_at text rows at k)) Unknown inputs k
+  pub one_unknown : {s i : ℕ} (inputs : List ℕ) → s ≡ sort_number S (name_at text rows (at + i)) → many ≤ s → i < k → Arrowing (numbers_of S (names_at text rows at k)) None inputs k
   unfolding names_at
   one_unknown {s} {i} inputs e l h =
       let n : length S ≡ many = sorts_length text sorts many lent in
@@ -156,10 +156,10 @@ module _ (text : List ℕ) (rows : Rows) (at k : ℕ) (sorts : Rows) (many : ℕ
       ap (λ (j : ℕ). numbers_of S (names_at text rows at j)) (sym q)
       ∙ ap (numbers_of S) (names_split text rows at i (suc (k - suc i)))
       ∙ numbers_unknown S (name_at text rows (at + i)) (names_at text rows at i) (names_at text rows (suc (at + i)) (k - suc i)) (omega arith) in
-      subst (λ (x : Numbers). Arrowing x Unknown inputs k) (sym a) refl
+      subst (λ (x : Numbers). Arrowing x None inputs k) (sym a) refl
 
   -- all are known
-  pub all_known_lem : {i last : ℕ} {inputs : List ℕ} → Sofar S (names_at text rows at i) last inputs i → i ≡ k → Arrowing (numbers_of S (names_at text rows at k)) (Known last) inputs k
+  pub all_known_lem : {i last : ℕ} {inputs : List ℕ} → Sofar S (names_at text rows at i) last inputs i → i ≡ k → Arrowing (numbers_of S (names_at text rows at k)) (Some last) inputs k
   all_known_lem {i} {last} {inputs} h q =
       let s : Sofar S (names_at text rows at k) last inputs k = subst (λ (j : ℕ). Sofar S (names_at text rows at j) last inputs j) q h in
-      subst (λ (x : Numbers). Arrowing x (Known last) inputs k) (sym s.all) (ap Known s.latest, s.written)
+      subst (λ (x : Numbers). Arrowing x (Some last) inputs k) (sym s.all) (ap Some s.latest, s.written)

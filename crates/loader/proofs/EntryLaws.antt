@@ -1,16 +1,25 @@
 -- Laws of entering sorts and symbols: one for each way out.
-use mathlib.Core.Path.{◌≡◌, refl, sym, ◌∙◌}
+use mathlib.Core.Path.{◌≡◌, refl, sym, ap, ◌∙◌}
 use mathlib.Core.Bool.{Bool, true, false, cond}
 use mathlib.Core.List.{List}
 use Prim.Native.Nat.{ℕ, ◌≤◌, ◌<◌}
 use lib.Dec.{ltb}
 use lib.ListN.{length}
 use borrow.Author.Tests.{lt-ltb, le-ltb}
-use Rattle.names.specs.Names.{Name}
+use Rattle.std.specs.Prelude.{Option, Some, None}
+use Rattle.std.specs.Option.{is_some}
+use Rattle.names.specs.Names.{Name, found}
 use Rattle.names.specs.Symbols.{Rows, Symbol, sorts_of, symbols_of, sort_number, symbol_number}
 use Rattle.names.specs.SearchLaws.{sorts_length}
 use Rattle.patterns.proofs.Terms.{symbols_length}
 use Rattle.loader.specs.Signature.{is_taken, sort_refusal, symbol_refusal}
+
+is_found : (n k : ℕ) → is_some (found n k) ≡ ltb k n
+is_found n k = go (ltb k n)
+  where
+    go : (t : Bool) → is_some (cond t (Some k) None) ≡ t
+    go true = refl
+    go false = refl
 
 stop : (t : Bool) (x y : ℕ) → t ≡ true → cond t x y ≡ x
 stop t x y e = rw e
@@ -26,12 +35,16 @@ module _ (text : List ℕ) (sorts : Rows) (many : ℕ) (symbols : Rows) (count :
   F = symbols_of text symbols count
 
   -- it is a sort
-  pub is_sort : {i : ℕ} → i ≡ sort_number S w → i < many → true ≡ is_taken S F w
-  is_sort {i} e l = rw (sorts_length text sorts many lent, ← e, lt-ltb i many l) refl
+  pub is_sort : {o : Option ℕ} → o ≡ found many (sort_number S w) → is_some o ≡ true → true ≡ is_taken S F w
+  is_sort d e =
+      let t : ltb (sort_number S w) many ≡ true = sym (is_found many (sort_number S w)) ∙ ap is_some (sym d) ∙ e in
+      rw (sorts_length text sorts many lent, t) refl
 
   -- it is none, so it depends on the symbols
-  pub no_sort : {i j : ℕ} → i ≡ sort_number S w → many ≤ i → j ≡ symbol_number F w → ltb j count ≡ is_taken S F w
-  no_sort {i} {j} e l d = rw (sorts_length text sorts many lent, symbols_length text symbols count also, ← e, ← d, le-ltb i many l) refl
+  pub no_sort : {o p : Option ℕ} → o ≡ found many (sort_number S w) → is_some o ≡ false → p ≡ found count (symbol_number F w) → is_some p ≡ is_taken S F w
+  no_sort d e g =
+      let t : ltb (sort_number S w) many ≡ false = sym (is_found many (sort_number S w)) ∙ ap is_some (sym d) ∙ e in
+      ap is_some g ∙ is_found count (symbol_number F w) ∙ rw (sorts_length text sorts many lent, symbols_length text symbols count also, t) refl
 
   module _ (taken : is_taken S F w ≡ true) where
     pub sort_taken : 17 ≡ sort_refusal S F w

@@ -15,8 +15,7 @@ use Rattle.loader.specs.Signature.{Numbers, unknown, numbers, prepend, numbers_o
 use Rattle.loader.specs.Arrows.{names_at, Arrowing}
 use Rattle.loader.specs.SymbolEntry.{inputs_of, output_of}
 use Rattle.loader.specs.Rows.{symbol_row}
-use Rattle.loader.specs.declared.Arrow.{Arrow}
-use Rattle.loader.specs.declared.Arrow.TheVariants.{Unknown, Known}
+use Rattle.std.specs.Prelude.{Option, Some, None}
 
 names_count : (text : List ℕ) (rows : Rows) (p k : ℕ) → length (names_at text rows p k) ≡ k
 unfolding names_at
@@ -44,7 +43,7 @@ arrow_count sorts text rows p k ns e =
     h₁ ∙ names_count text rows p k
 
 -- What an answer says of the numbers.
-pub arrow_unknown : (x : Numbers) (r : Arrow) (inputs : List ℕ) (k : ℕ) → Arrowing x r inputs k → r ≡ Unknown → x ≡ unknown
+pub arrow_unknown : (x : Numbers) (r : Option ℕ) (inputs : List ℕ) (k : ℕ) → Arrowing x r inputs k → r ≡ None → x ≡ unknown
 arrow_unknown unknown r inputs k h e = refl
 arrow_unknown (numbers ns) r inputs k h e = absurd (let a = h.0 in let z : ◌≡◌ {A = ℕ} 0 1 = cc in omega arith)
 
@@ -54,7 +53,7 @@ pub record Looked (x : Numbers) (last : ℕ) (inputs : List ℕ) (k : ℕ) : Typ
   pub last_is : last ≡ last_of found
   pub written : (n : ℕ) → n ≤ 16 → n ≤ k → take n inputs ≡ take n found
 
-pub arrow_known : (x : Numbers) (r : Arrow) (inputs : List ℕ) (k last : ℕ) → Arrowing x r inputs k → r ≡ Known last → Looked x last inputs k
+pub arrow_known : (x : Numbers) (r : Option ℕ) (inputs : List ℕ) (k last : ℕ) → Arrowing x r inputs k → r ≡ Some last → Looked x last inputs k
 arrow_known unknown r inputs k last h e = absurd (let z : ◌≡◌ {A = ℕ} 0 1 = cc in omega arith)
 arrow_known (numbers ns) r inputs k last h e = let a = h.0 in record { found = ns; is = refl; last_is = cc; written = h.1 }
 

@@ -1,5 +1,5 @@
 -- What the functions that enter rules ask and owe.
-use Rattle.std.specs.Prelude.{ℕ, ◌+◌, ◌*◌, ◌≤◌, ◌<◌, ◌≡◌, List, ◌∷◌, length}
+use Rattle.std.specs.Prelude.{ℕ, ◌+◌, ◌*◌, ◌≤◌, ◌<◌, ◌≡◌, Result, List, ◌∷◌, length}
 use Rattle.source_text.specs.Parts.{part_of}
 use Rattle.arena.specs.Cells.{WellFormed, cells}
 use Rattle.arena.specs.Copies.{pattern_room}
@@ -10,7 +10,8 @@ use Rattle.rules.specs.Rules.{rule_of, entering}
 use Rattle.rules.specs.PatternLaws.{arities_of, InputsUpto}
 use Rattle.rules.specs.Promises.{Entering}
 use Rattle.clauses.specs.Promises.{entered, NextIs}
-use Rattle.clauses.specs.declared.Outcome.{Outcome}
+use Rattle.clauses.specs.declared.EnteredRule.{EnteredRule}
+use Rattle.refusals.specs.declared.Refusal.{Refusal}
 use Rattle.loader.specs.Signature.{front_of, last_judgment}
 use Rattle.loader.specs.TermRows.{JudgmentsStand}
 
@@ -40,7 +41,7 @@ pub record RuleAsked (text : List ℕ) (rows : Rows) (p k : ℕ) (symbols : Rows
 
 -- What it owes: the last judgment is the conclusion, the others are the premises; the row behind them is answered.
 pub record RuleEntered (text : List ℕ) (rows : Rows) (p k start size : ℕ) (symbols : List Symbol) (w : List ℕ) (u room : ℕ) (rules : Rows) (number : ℕ)
-    (r : Outcome) (w' : List ℕ) (rules' : Rows) : Type 0 where
+    (r : Result EnteredRule Refusal) (w' : List ℕ) (rules' : Rows) : Type 0 where
   pub same : (j : Source one) (js : List (Source one)) (q : ℕ) → JudgmentsStand text rows p j js q → k ≡ length (j ∷ js)
       → NextIs q r × Entering text (arities_of symbols) (record { start = start; size = size; clause = 0 }) w u room rules number w' rules'
       (entering number (rule_of symbols (part_of text start size) (spelled text (all_of (front_of (j ∷ js)))) (spelled text (last_judgment j js)) room)) (entered r)

@@ -7,23 +7,17 @@ ghost use Rattle.std.specs.Prelude.{◌≡◌, [], ◌∷◌, ◌+◌, ◌-◌, 
 ghost use Rattle.source_text.specs.Parts.{part_of};
 ghost use Rattle.std.proofs.lemmas.List.Edits.{sets};
 ghost use Rattle.names.specs.Symbols.{column, row_at, sorts_of, symbols_of};
+ghost use Rattle.patterns.specs.Promises.{RefusedFor};
 ghost use Rattle.loader.specs.Signature.{is_taken, sort_refusal, symbol_refusal, numbers_of};
 ghost use Rattle.loader.specs.Rows.{symbol_row, entered};
 ghost use Rattle.loader.specs.Entering.{RuleAsked, RuleEntered};
 ghost use Rattle.loader.specs.Arrows.{names_at, Arrowing};
 ghost use Rattle.loader.specs.SymbolEntry.{SymbolEntered};
 
-use clauses::Outcome;
-use names::{SortRow, SymbolRow};
-use patterns::TermRow;
-use rules::{Entered, RuleRow, Title};
-
-// Why a declaration is refused (document 01, the table by place).
-pub const ALREADY_DECLARED: u32 = 17;
-
-pub const UNKNOWN_SORT: u32 = 18;
-
-pub const FULL: u32 = 28;
+use clauses::EnteredRule;
+use names::{SortRow, SymbolRow, TermRow};
+use refusals::Refusal;
+use rules::{RuleRow, Space, Title};
 
 // How many sorts, symbols and inputs there may be.
 const SORTS: usize = 256;
@@ -46,13 +40,13 @@ fn is_taken(
     ensures { result ≡ is_taken (sorts_of text.now sorts.now many) (symbols_of text.now symbols.now count) (part_of text.now start size) }
 {
     let w = names::part(text, start, size);
-    if names::find_sort(text, sorts, many, w) < many {
+    if names::find(text, &sorts[..many], w).is_some() {
         return true;
     }
-    names::find_symbol(text, symbols, count, w) < count
+    names::find(text, &symbols[..count], w).is_some()
 }
 
-// Enters the sort whose name stands at a place; answers what it is refused for, 0 for nothing.
+// Enters the sort whose name stands at a place.
 pub fn enter_sort(
     text: &[u8],
     sorts: &mut [SortRow],
@@ -61,23 +55,23 @@ pub fn enter_sort(
     count: usize,
     start: u32,
     size: u32,
-) -> u32
+) -> Result<(), Refusal>
     requires { (256 ≤ length sorts.old) × (many ≤ 256) × (count ≤ length symbols.now) }
-    ensures value { result ≡ sort_refusal (sorts_of text.now sorts.old many) (symbols_of text.now symbols.now count) (part_of text.now start size) }
-    ensures sorts_after { sorts.new ≡ entered result sorts.old many (start ∷ size ∷ []) }
+    ensures value { RefusedFor (sort_refusal (sorts_of text.now sorts.old many) (symbols_of text.now symbols.now count) (part_of text.now start size)) result }
+    ensures sorts_after { sorts.new ≡ entered (sort_refusal (sorts_of text.now sorts.old many) (symbols_of text.now symbols.now count) (part_of text.now start size)) sorts.old many (start ∷ size ∷ []) }
 {
     if is_taken(text, sorts, many, symbols, count, start, size) {
-        return ALREADY_DECLARED;
+        return Err(Refusal::AlreadyDeclared);
     }
     if many < SORTS {
         sorts[many] = [start, size];
-        return 0;
+        return Ok(());
     }
-    FULL
+    Err(Refusal::Full)
 }
 
-// What a symbol with k inputs, whose name stands at a place, is refused for; 0: nothing.
-pub fn symbol_refusal(
+// May a symbol with k inputs, whose name stands at a place, be entered?
+pub fn check_symbol(
     text: &[u8],
     sorts: &[SortRow],
     many: usize,
@@ -86,35 +80,31 @@ pub fn symbol_refusal(
     start: u32,
     size: u32,
     k: usize,
-) -> u32
+) -> Result<(), Refusal>
     requires { (many ≤ length sorts.now) × (count ≤ length symbols.now) }
-    ensures { result ≡ symbol_refusal (sorts_of text.now sorts.now many) (symbols_of text.now symbols.now count) (part_of text.now start size) k }
+    ensures { RefusedFor (symbol_refusal (sorts_of text.now sorts.now many) (symbols_of text.now symbols.now count) (part_of text.now start size) k) result }
 {
     if is_taken(text, sorts, many, symbols, count, start, size) {
-        return ALREADY_DECLARED;
+        return Err(Refusal::AlreadyDeclared);
     }
     if INPUTS < k {
-        return FULL;
+        return Err(Refusal::Full);
     }
     if count < SYMBOLS {
-        return 0;
+        return Ok(());
     }
-    FULL
+    Err(Refusal::Full)
 }
 
-// Writes the first n of some inputs into the row i.
-fn put_inputs(symbols: &mut [SymbolRow], i: usize, inputs: &[u32], n: usize)
-    requires { (i < length symbols.old) × (n ≤ 16) × (n ≤ length inputs.now) }
-    ensures { symbols.new ≡ set symbols.old i (sets (row_at symbols.old i) 8 (take n inputs.now)) }
+// Writes some inputs into the row i.
+fn put_inputs(symbols: &mut [SymbolRow], i: usize, inputs: &[u32])
+    requires { (i < length symbols.old) × (length inputs.now ≤ 16) }
+    ensures { symbols.new ≡ set symbols.old i (sets (row_at symbols.old i) 8 inputs.now) }
 {
-    let mut j = 0;
-    while j < n {
-        symbols[i][8 + j] = inputs[j];
-        j += 1;
-    }
+    symbols[i][8..8 + inputs.len()].copy_from_slice(inputs);
 }
 
-// Writes a symbol's row: its first n inputs stand in `inputs`.
+// Writes a symbol's row.
 pub fn put_symbol(
     symbols: &mut [SymbolRow],
     i: usize,
@@ -125,23 +115,16 @@ pub fn put_symbol(
     first: u32,
     clauses: u32,
     inputs: &[u32],
-    n: usize,
 )
-    requires { (i < length symbols.old) × (n ≤ 16) × (n ≤ length inputs.now) }
-    ensures { symbols.new ≡ set symbols.old i (symbol_row start size output function first clauses n (take n inputs.now)) }
+    requires { (i < length symbols.old) × (length inputs.now ≤ 16) }
+    ensures { symbols.new ≡ set symbols.old i (symbol_row start size output function first clauses (length inputs.now) inputs.now) }
 {
+    let n = inputs.len() as u32;
     symbols[i] = [
-        start, size, output, function, first, clauses, n as u32, 0, 0, 0, 0, 0, 0, 0, 0, 0, 0, 0,
-        0, 0, 0, 0, 0, 0,
+        start, size, output, function, first, clauses, n, 0, 0, 0, 0, 0, 0, 0, 0, 0, 0, 0, 0, 0, 0,
+        0, 0, 0,
     ];
-    put_inputs(symbols, i, inputs, n);
-}
-
-// What came of the sorts of an arrow: one is unknown; or the number of the last.
-#[derive(Clone, Copy)]
-pub enum Arrow {
-    Unknown,
-    Known { last: u32 },
+    put_inputs(symbols, i, inputs);
 }
 
 // Writes an input, if there is room for it.
@@ -153,7 +136,8 @@ fn put_input(inputs: &mut [u32], i: usize, v: u32)
     }
 }
 
-// Looks up the sorts whose names stand in k rows from a row on; the numbers of the first 16 go to `inputs`.
+// Looks up the sorts whose names stand in k rows from a row on; the numbers of the first 16 go to `inputs`, and that of the last is answered, if all are
+// known.
 pub fn find_arrow(
     text: &[u8],
     rows: &[TermRow],
@@ -162,36 +146,25 @@ pub fn find_arrow(
     sorts: &[SortRow],
     many: usize,
     inputs: &mut [u32],
-) -> Arrow
+) -> Option<u32>
     requires { (many ≤ length sorts.now) × (many ≤ 256) × (at + k ≤ length rows.now) × (length rows.now ≤ 65536) × (length inputs.old ≡ 16) }
     ensures { Arrowing (numbers_of (sorts_of text.now sorts.now many) (names_at text.now rows.now at k)) result inputs.new k }
 {
     let mut last = 0;
-    let mut i = 0;
-    while i < k {
-        let w = names::part(text, rows[at + i][1], rows[at + i][2]);
-        let s = names::find_sort(text, sorts, many, w);
-        if many <= s {
-            return Arrow::Unknown;
-        }
+    for i in 0..k {
+        let [_, start, size, _] = rows[at + i];
+        let s = names::find(text, &sorts[..many], names::part(text, start, size))?;
         last = s as u32 + 1;
         put_input(inputs, i, last);
-        i += 1;
     }
-    Arrow::Known { last }
+    Some(last)
 }
 
 // How many of k sorts are inputs: a constructor's last is its output.
 fn input_count(constructor: bool, k: usize) -> usize
     ensures { result ≡ cond constructor (k - 1) k }
 {
-    if constructor {
-        if k == 0 {
-            return 0;
-        }
-        return k - 1;
-    }
-    k
+    if constructor { k.saturating_sub(1) } else { k }
 }
 
 // The output of a symbol whose last sort has a number.
@@ -201,7 +174,7 @@ fn output(constructor: bool, last: u32) -> u32
     if constructor { last } else { 0 }
 }
 
-// Enters a symbol whose name stands in a row and whose k sorts stand in the rows behind it; answers what it is refused for, 0 for nothing.
+// Enters a symbol whose name stands in a row and whose k sorts stand in the rows behind it.
 pub fn enter_symbol(
     text: &[u8],
     rows: &[TermRow],
@@ -215,36 +188,28 @@ pub fn enter_symbol(
     many: usize,
     symbols: &mut [SymbolRow],
     count: usize,
-) -> u32
+) -> Result<(), Refusal>
     requires { (at + 1 + k ≤ length rows.now) × (length rows.now ≤ 65536) × (many ≤ length sorts.now) × (many ≤ 256) × (count ≤ 1024) × (1024 ≤ length symbols.old) }
     ensures { SymbolEntered text.now rows.now (at + 1) k (column (row_at rows.now at) 1) (column (row_at rows.now at) 2) constructor function first clauses sorts.now many symbols.old count result symbols.new }
 {
     let mut inputs = [0u32; 16];
-    match find_arrow(text, rows, at + 1, k, sorts, many, &mut inputs) {
-        Arrow::Unknown => UNKNOWN_SORT,
-        Arrow::Known { last } => {
-            let start = rows[at][1];
-            let size = rows[at][2];
-            let n = input_count(constructor, k);
-            let e = symbol_refusal(text, sorts, many, symbols, count, start, size, n);
-            if e != 0 {
-                return e;
-            }
-            put_symbol(
-                symbols,
-                count,
-                start,
-                size,
-                output(constructor, last),
-                function,
-                first,
-                clauses,
-                &inputs,
-                n,
-            );
-            0
-        }
-    }
+    let last = find_arrow(text, rows, at + 1, k, sorts, many, &mut inputs)
+        .ok_or(Refusal::UnknownSort)?;
+    let [_, start, size, _] = rows[at];
+    let n = input_count(constructor, k);
+    check_symbol(text, sorts, many, symbols, count, start, size, n)?;
+    put_symbol(
+        symbols,
+        count,
+        start,
+        size,
+        output(constructor, last),
+        function,
+        first,
+        clauses,
+        &inputs[..n],
+    );
+    Ok(())
 }
 
 // Enters a rule whose name stands at a place and whose k judgments stand from a row on, as the rule with a number.
@@ -258,30 +223,23 @@ pub fn enter_rule(
     symbols: &[SymbolRow],
     count: usize,
     words: &mut [u32],
-    used: usize,
-    room: usize,
+    space: Space,
     rules: &mut [RuleRow],
     number: usize,
-) -> Outcome
-    requires { RuleAsked text.now rows.now at k symbols.now count words.old used room rules.old }
-    ensures { RuleEntered text.now rows.now at k start size (symbols_of text.now symbols.now count) words.old used room rules.old number result words.new rules.new }
+) -> Result<EnteredRule, Refusal>
+    requires { RuleAsked text.now rows.now at k symbols.now count words.old space.used space.room rules.old }
+    ensures { RuleEntered text.now rows.now at k start size (symbols_of text.now symbols.now count) words.old space.used space.room rules.old number result words.new rules.new }
 {
     let n = k - 1;
     let here = clauses::skip(rows, at, n);
     let next = clauses::skip(rows, here, 1);
     let title = Title {
-        start: start,
-        size: size,
+        start,
+        size,
         clause: 0,
     };
-    match rules::rule(
-        text, rows, at, n, rows, here, symbols, count, words, used, room, rules, number, title,
-    ) {
-        Entered::Refused { number: e } => Outcome::Refused { number: e },
-        Entered::Done { used: u, room: m } => Outcome::Done {
-            next: next,
-            used: u,
-            room: m,
-        },
-    }
+    let left = rules::rule(
+        text, rows, at, n, rows, here, symbols, count, words, space, rules, number, title,
+    )?;
+    Ok(EnteredRule { next, space: left })
 }

@@ -2,6 +2,7 @@
 use mathlib.Core.Path.{refl}
 use Rattle.source_text.specs.Parts.{part_of}
 use Rattle.names.specs.Symbols.{symbols_of}
+use Rattle.patterns.specs.Refused.{handed_on, none_is}
 use Rattle.clauses.proofs.ClauseLaws.{seventeenth, clause_is, over_limit, prepared}
 use Rattle.clauses.proofs.clause.Goals as goal
 
@@ -19,7 +20,7 @@ rule-requires c =
     let t = S.right in
     let q' = S.end in
     let st' = S.stands in
-    let P = prepared (args.text.now) (heading.ensures) (pre.out_lent) (pre.later) (rw (c.in-Done.is) at (flatten.ensures)) ts q st sz t q' st' in
+    let P = prepared (args.text.now) (heading.ensures) (pre.out_lent) (pre.later) (rw c.in_ok-flat.ensures.ok_part at flatten.ensures) ts q st sz t q' st' in
     let p = pre in
     record {
       source = record { judgments = P.premises; behind = P.end; stand = P.stand; number = P.numbered; conclusion = _; end = P.top; stands = P.stands };
@@ -34,38 +35,41 @@ rule-requires c =
       rows = p.rules_lent;
     }
 
-pub returns-in-Over : goal.returns-in-Over
-returns-in-Over c =
+pub returns-in_err-flat : goal.returns-in_err-flat
+returns-in_err-flat c =
     let args = c.args in
     let heading = c.heading-right in
     let pre = c.requires in
     let flatten = c.flatten in
-    record {
-      same = λ ts q st sz t q' st' k ck. (tt, rw (seventeenth (symbols_of (args.text.now) (args.symbols.now) (args.count)) (part_of (args.text.now) (args.title.start) (args.title.size)) k ts t (args.room) (args.number) (over_limit (args.text.now) (heading.ensures) (pre.out_lent) (pre.later) (symbols_of (args.text.now) (args.symbols.now) (args.count)) _ (rw (c.in-Over.is) at (flatten.ensures)) ts q st sz t q' st')) refl);
-    }
+    rw (handed_on c.from_residual.result c.in_err-flat.field-0.0 c.from_residual.ensures.1, none_is c.flatten.result c.in_err-flat.ensures.ok_part c.in_err-flat.ensures.value)
+    (record {
+      same = λ ts q st sz t q' st' k ck. (tt, rw (seventeenth (symbols_of (args.text.now) (args.symbols.now) (args.count)) (part_of (args.text.now) (args.title.start) (args.title.size)) k ts t (args.space.room) (args.number) (over_limit (args.text.now) (heading.ensures) (pre.out_lent) (pre.later) (symbols_of (args.text.now) (args.symbols.now) (args.count)) _ (rw c.in_err-flat.ensures.ok_part at flatten.ensures) ts q st sz t q' st')) refl);
+    })
 
-pub returns-in-Refused : goal.returns-in-Refused
-returns-in-Refused c =
+pub returns-in_err-left : goal.returns-in_err-left
+returns-in_err-left c =
+    let args = c.args in
+    let heading = c.heading-right in
+    let pre = c.requires in
+    let flatten = c.flatten in
+    let rule = c.rule in
+    rw (handed_on c.from_residual-in_err-left.result c.in_err-left.field-0.0 c.from_residual-in_err-left.ensures.1)
+    (record {
+      same = λ ts q st sz t q' st' k ck. let P = prepared (args.text.now) (heading.ensures) (pre.out_lent) (pre.later) (rw c.in_ok-flat.ensures.ok_part at flatten.ensures) ts q st sz t q' st' in
+          let d = clause_is (symbols_of (args.text.now) (args.symbols.now) (args.count)) (args.text.now) (args.title.start) (args.title.size) (args.title.clause) k ck ts t (args.space.room) P.is in
+          (tt, rw d at (c.in_err-left.ensures.same P.premises P.end P.stand P.numbered _ P.top P.stands));
+    })
+
+pub returns : goal.returns
+returns c =
     let args = c.args in
     let heading = c.heading-right in
     let pre = c.requires in
     let flatten = c.flatten in
     let rule = c.rule in
     record {
-      same = λ ts q st sz t q' st' k ck. let P = prepared (args.text.now) (heading.ensures) (pre.out_lent) (pre.later) (rw (c.in-Done.is) at (flatten.ensures)) ts q st sz t q' st' in
-          let d = clause_is (symbols_of (args.text.now) (args.symbols.now) (args.count)) (args.text.now) (args.title.start) (args.title.size) (args.title.clause) k ck ts t (args.room) P.is in
-          (tt, rw d at (rw (c.in-Refused.is) at (rule.ensures.same P.premises P.end P.stand P.numbered _ P.top P.stands)));
+      same = λ ts q st sz t q' st' k ck. let P = prepared (args.text.now) (heading.ensures) (pre.out_lent) (pre.later) (rw c.in_ok-flat.ensures.ok_part at flatten.ensures) ts q st sz t q' st' in
+          let d = clause_is (symbols_of (args.text.now) (args.symbols.now) (args.count)) (args.text.now) (args.title.start) (args.title.size) (args.title.clause) k ck ts t (args.space.room) P.is in
+          (P.goes_on, rw d at (c.in_ok-left.ensures.same P.premises P.end P.stand P.numbered _ P.top P.stands));
     }
 
-pub returns-in-Done-rule : goal.returns-in-Done-rule
-returns-in-Done-rule c =
-    let args = c.args in
-    let heading = c.heading-right in
-    let pre = c.requires in
-    let flatten = c.flatten in
-    let rule = c.rule in
-    record {
-      same = λ ts q st sz t q' st' k ck. let P = prepared (args.text.now) (heading.ensures) (pre.out_lent) (pre.later) (rw (c.in-Done.is) at (flatten.ensures)) ts q st sz t q' st' in
-          let d = clause_is (symbols_of (args.text.now) (args.symbols.now) (args.count)) (args.text.now) (args.title.start) (args.title.size) (args.title.clause) k ck ts t (args.room) P.is in
-          (P.goes_on, rw d at (rw (c.in-Done-rule.is) at (rule.ensures.same P.premises P.end P.stand P.numbered _ P.top P.stands)));
-    }

@@ -1,5 +1,6 @@
 -- `enter_rule` meets its contract: the premises are passed over to find the conclusion.
 use Rattle.names.specs.Standing.{parsed_stands}
+use Rattle.patterns.specs.Refused.{handed_on}
 use Rattle.loader.proofs.JudgmentLaws.{premises_number, premises_few, conclusion_at, rule_ends}
 use Rattle.loader.proofs.enter_rule.Goals as goal
 
@@ -28,21 +29,23 @@ rule-requires c =
       rows = s.rules_lent;
     }
 
-pub returns-in-Refused : goal.returns-in-Refused
-returns-in-Refused c =
+pub returns-in_err-left : goal.returns-in_err-left
+returns-in_err-left c =
     let rule = c.rule in
     let args = c.args in
     let skip = c.skip-here in
-    record {
-      same = λ j js q st kn. (tt, rw (c.in-Refused.is) at (rule.ensures.same _ st.middle (parsed_stands (args.text.now) (args.rows.now) _ _ _ st.premises) (premises_number (args.text.now) (args.rows.now) (args.at) (args.k) j js q st kn) _ _ (parsed_stands (args.text.now) (args.rows.now) _ _ _ (conclusion_at (args.text.now) (args.rows.now) (args.at) (args.k) j js q st kn (skip.result) (skip.ensures)))));
-    }
+    rw (handed_on c.from_residual.result c.in_err-left.field-0.0 c.from_residual.ensures.1)
+    (record {
+      same = λ j js q st kn. (tt, (c.in_err-left.ensures.same _ st.middle (parsed_stands (args.text.now) (args.rows.now) _ _ _ st.premises) (premises_number (args.text.now) (args.rows.now) (args.at) (args.k) j js q st kn) _ _ (parsed_stands (args.text.now) (args.rows.now) _ _ _ (conclusion_at (args.text.now) (args.rows.now) (args.at) (args.k) j js q st kn (skip.result) (skip.ensures)))));
+    })
 
-pub returns-in-Done : goal.returns-in-Done
-returns-in-Done c =
+pub returns : goal.returns
+returns c =
     let args = c.args in
     let skip = c.skip-here in
     let skip2 = c.skip-next in
     let rule = c.rule in
     record {
-      same = λ j js q st kn. (rule_ends (args.text.now) (args.rows.now) (args.at) (args.k) j js q st kn (skip.result) (skip2.result) (skip.ensures) (skip2.ensures), rw (c.in-Done.is) at (rule.ensures.same _ st.middle (parsed_stands (args.text.now) (args.rows.now) _ _ _ st.premises) (premises_number (args.text.now) (args.rows.now) (args.at) (args.k) j js q st kn) _ _ (parsed_stands (args.text.now) (args.rows.now) _ _ _ (conclusion_at (args.text.now) (args.rows.now) (args.at) (args.k) j js q st kn (skip.result) (skip.ensures)))));
+      same = λ j js q st kn. (rule_ends (args.text.now) (args.rows.now) (args.at) (args.k) j js q st kn (skip.result) (skip2.result) (skip.ensures) (skip2.ensures), (c.in_ok-left.ensures.same _ st.middle (parsed_stands (args.text.now) (args.rows.now) _ _ _ st.premises) (premises_number (args.text.now) (args.rows.now) (args.at) (args.k) j js q st kn) _ _ (parsed_stands (args.text.now) (args.rows.now) _ _ _ (conclusion_at (args.text.now) (args.rows.now) (args.at) (args.k) j js q st kn (skip.result) (skip.ensures)))));
     }
+

@@ -11,9 +11,9 @@ returns-then-is_taken c =
     let pre = c.requires in
     let is-taken = c.is_taken in
     let if1 = c.if-is_taken in record {
-      value = sort_taken (args.text.now) (args.sorts.now) (args.many) (args.symbols.now) (args.count) (omega arith) (pre.2) (part_of (args.text.now) (args.start) (args.size)) (sym (is-taken.ensures)
-          ∙ if1.true);
-      sorts_after = refl;
+      value = (sort_taken (args.text.now) (args.sorts.now) (args.many) (args.symbols.now) (args.count) (omega arith) (pre.2) (part_of (args.text.now) (args.start) (args.size)) (sym (is-taken.ensures)
+          ∙ if1.true), omega arith);
+      sorts_after = rw (← sort_taken (args.text.now) (args.sorts.now) (args.many) (args.symbols.now) (args.count) (omega arith) (pre.2) (part_of (args.text.now) (args.start) (args.size)) (sym is-taken.ensures ∙ if1.true)) refl;
     }
 
 pub returns-then-many-lt-SORTS : goal.returns-then-many-lt-SORTS
@@ -25,7 +25,7 @@ returns-then-many-lt-SORTS c =
     let if2 = c.if-many-lt-SORTS in record {
       value = sort_new (args.text.now) (args.sorts.now) (args.many) (args.symbols.now) (args.count) (omega arith) (pre.2) (part_of (args.text.now) (args.start) (args.size)) (sym (is-taken.ensures)
           ∙ if1.false) if2.true;
-      sorts_after = refl;
+      sorts_after = rw (← sort_new (args.text.now) (args.sorts.now) (args.many) (args.symbols.now) (args.count) (omega arith) (pre.2) (part_of (args.text.now) (args.start) (args.size)) (sym is-taken.ensures ∙ if1.false) if2.true) refl;
     }
 
 pub returns : goal.returns
@@ -35,7 +35,7 @@ returns c =
     let is-taken = c.is_taken in
     let if1 = c.if-is_taken in
     let if2 = c.if-many-lt-SORTS in record {
-      value = sort_full (args.text.now) (args.sorts.now) (args.many) (args.symbols.now) (args.count) (omega arith) (pre.2) (part_of (args.text.now) (args.start) (args.size)) (sym (is-taken.ensures)
-          ∙ if1.false) if2.false;
-      sorts_after = refl;
+      value = (sort_full (args.text.now) (args.sorts.now) (args.many) (args.symbols.now) (args.count) (omega arith) (pre.2) (part_of (args.text.now) (args.start) (args.size)) (sym (is-taken.ensures)
+          ∙ if1.false) if2.false, omega arith);
+      sorts_after = rw (← sort_full (args.text.now) (args.sorts.now) (args.many) (args.symbols.now) (args.count) (omega arith) (pre.2) (part_of (args.text.now) (args.start) (args.size)) (sym is-taken.ensures ∙ if1.false) if2.false) refl;
     }

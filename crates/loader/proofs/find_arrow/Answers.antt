@@ -1,47 +1,39 @@
 -- `find_arrow` meets its contract. The loop's invariant: the numbers of the first i names are known, and written as far as there is room.
-use mathlib.Core.Path.{ap, ◌∙◌}
-use Prim.Native.Nat.{◌-◌}
-use Rattle.names.specs.Names.{Name}
-use Rattle.names.specs.Symbols.{sorts_of, sort_number}
-use Rattle.loader.proofs.ArrowLaws.{sofar_none, sofar_more, one_unknown, all_known_lem}
+use mathlib.Core.Path.{refl}
+use Prim.Native.Nat.{◌+◌}
+use Rattle.names.specs.SearchLaws.{sort_some, sort_none}
+use Rattle.loader.proofs.ArrowLaws.{name_at, sofar_none, sofar_more, one_unknown, all_known_lem}
 use native.Mathlib.Omega.{arith}
 use Rattle.loader.proofs.find_arrow.Goals as goal
 
 pub loop-i-init : goal.loop-i-init
-loop-i-init c =
-    let args = c.args in
-    let pre = c.requires in
-    (omega arith, sofar_none args.text.now args.rows.now args.at args.k args.sorts.now args.many pre.0 args.inputs.now pre.4)
+loop-i-init c = let a = c.args in sofar_none a.text.now a.rows.now a.at a.k a.sorts.now a.many c.requires.0 a.inputs.now c.requires.4
 
-pub returns-then-many-s : goal.returns-then-many-s
-returns-then-many-s c =
-    let args = c.args in
-    let pre = c.requires in
-    let find-sort = c.find_sort-s in
-    let part = c.part-w in
-    let if1 = c.if-many-s in
-    let loop-test = c.loop-i-test in
-    one_unknown args.text.now args.rows.now args.at args.k args.sorts.now args.many pre.0 _ (find-sort.ensures
-    ∙ ap (λ (x : Name). sort_number (sorts_of args.text.now args.sorts.now args.many) x) part.ensures) if1.true loop-test.true
+pub returns-in_err-s : goal.returns-in_err-s
+returns-in_err-s c =
+    let a = c.args in
+    let l = sort_none a.text.now a.sorts.now a.many c.requires.0 (name_at a.text.now a.rows.now (a.at + c.loop-i.i)) (rw c.part.ensures at c.in_err-s.ensures) in
+    rw c.from_residual.ensures (one_unknown a.text.now a.rows.now a.at a.k a.sorts.now a.many c.requires.0 _ refl l c.loop-i-test.true)
+
+pub overflow_cast-last : goal.overflow_cast-last
+overflow_cast-last c =
+    let a = c.args in
+    let (e, l) = sort_some a.text.now a.sorts.now a.many c.requires.0 (name_at a.text.now a.rows.now (a.at + c.loop-i.i)) c.in_ok-s.s (rw c.part.ensures at c.in_ok-s.ensures) in
+    omega arith
+
+pub overflow_add-last : goal.overflow_add-last
+overflow_add-last c =
+    let a = c.args in
+    let (e, l) = sort_some a.text.now a.sorts.now a.many c.requires.0 (name_at a.text.now a.rows.now (a.at + c.loop-i.i)) c.in_ok-s.s (rw c.part.ensures at c.in_ok-s.ensures) in
+    omega arith
 
 pub loop-i-preserved : goal.loop-i-preserved
 loop-i-preserved c =
-    let args = c.args in
-    let pre = c.requires in
-    let loop = c.loop-i in
-    let find-sort = c.find_sort-s in
-    let part = c.part-w in
-    let if1 = c.if-many-s in
-    let put-input = c.put_input in (
-      omega arith,
-      sofar_more args.text.now args.rows.now args.at args.k args.sorts.now args.many pre.0 loop.invariant.1 (find-sort.ensures
-          ∙ ap (λ (x : Name). sort_number (sorts_of args.text.now args.sorts.now args.many) x) part.ensures) if1.false put-input.ensures,
-    )
+    let a = c.args in
+    let (e, l) = sort_some a.text.now a.sorts.now a.many c.requires.0 (name_at a.text.now a.rows.now (a.at + c.loop-i.i)) c.in_ok-s.s (rw c.part.ensures at c.in_ok-s.ensures) in
+    sofar_more a.text.now a.rows.now a.at a.k a.sorts.now a.many c.requires.0 c.loop-i.invariant e l c.put_input.ensures
 
 pub returns : goal.returns
 returns c =
-    let args = c.args in
-    let pre = c.requires in
-    let loop = c.loop-i in
-    let loop-test = c.loop-i-test in
-    all_known_lem args.text.now args.rows.now args.at args.k args.sorts.now args.many pre.0 loop.invariant.1 (omega (arith, loop-test.false))
+    let a = c.args in
+    all_known_lem a.text.now a.rows.now a.at a.k a.sorts.now a.many c.requires.0 c.loop-i.invariant (omega (arith, c.loop-i-test.false, c.loop-i.auto.i-end))
