@@ -14,20 +14,10 @@ pub struct SessionCounts {
     pub words: u32,
 }
 
-// What `open` answers.
+// The verdict on a goal that is not refused, with the steps used in the last bound and the counts then, and for a proof the number of its
+// nodes. After a refusal the counts are those at entry.
 #[derive(Clone, Copy)]
-pub enum Opened {
-    Refused { number: u32 },
-    New,
-}
-
-// What `prove` answers: a refusal, after which the counts are those at entry; or a verdict with the steps used in the last bound and the
-// counts then, and for a proof the number of its nodes.
-#[derive(Clone, Copy)]
-pub enum Answer {
-    Refused {
-        number: u32,
-    },
+pub enum Verdict {
     Proved {
         steps: u32,
         nodes: u32,
