@@ -80,14 +80,14 @@ fn are_numbers(text: &[u8], used: u32, from: u32, rule: &RuleRow) -> bool
 }
 
 // Whether columns are zero.
-fn are_zeros(columns: &[u32]) -> bool
+pub fn are_zeros(columns: &[u32]) -> bool
     ensures { IsTrue result ↔ EachIndex columns.now (λ k. slice_index columns.now k ≡ 0) }
 {
     columns.iter().all(|column| *column == 0)
 }
 
-// Whether each of a rule's sorts is one that there is.
-fn are_sorts(columns: &[u32], sorts: u32) -> bool
+// Whether sorts are there, of which there are so many.
+pub fn are_sorts(columns: &[u32], sorts: u32) -> bool
     ensures { IsTrue result ↔ EachIndex columns.now (λ k. (0 < slice_index columns.now k) × (slice_index columns.now k ≤ sorts)) }
 {
     columns.iter().all(|sort| 0 < *sort && *sort <= sorts)
