@@ -14,15 +14,15 @@ use term_parser::tokens::{line, peek, put, sign};
 use term_parser::{PARENTHESES, Refusal, Step};
 use words::{BAR, CLOSE, COLON, DEFINES, DOUBLE_ARROW, NAME, OPEN};
 
-const SORT: u32 = 1;
+pub const SORT: u32 = 1;
 
-const CTOR: u32 = 2;
+pub const CTOR: u32 = 2;
 
-const PRED: u32 = 3;
+pub const PRED: u32 = 3;
 
-const RULE: u32 = 4;
+pub const RULE: u32 = 4;
 
-const DEF: u32 = 5;
+pub const DEF: u32 = 5;
 
 const THEOREM: u32 = 6;
 
@@ -32,7 +32,7 @@ const AUTO: u32 = 8;
 
 const INDUCTION: u32 = 9;
 
-const EVAL: u32 = 10;
+pub const EVAL: u32 = 10;
 
 const CHECK: u32 = 11;
 

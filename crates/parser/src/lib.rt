@@ -4,7 +4,7 @@
 // all inputs. `parse` serves `parse_text`: its refusal 1 goes by the number of tokens, not by the limits alone.
 #![tactic(auto)]
 
-mod declarations; // declarations
+pub mod declarations; // declarations
 
 ghost use Rattle.std.specs.Prelude.{◌≡◌};
 ghost use Rattle.parser.specs.Parser.{number_of, Parsing, ParsingText};
