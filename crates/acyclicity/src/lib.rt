@@ -7,13 +7,14 @@ ghost use Rattle.std.specs.Prelude.{◌≡◌, ◌+◌, ◌≤◌, length};
 ghost use Rattle.arena.specs.Cells.{cells};
 ghost use Rattle.arena.specs.Rows.{column};
 ghost use Rattle.acyclicity.specs.Contract.{Ready, Decided};
-ghost use Rattle.acyclicity.specs.Edges.{edge, Followable, Searchable, Searched, Cleared, Pairs};
+ghost use Rattle.acyclicity.specs.Edges.{edge, Followable, Searchable, Searched};
 
 // The mark of a reference from which all edges were followed, and which no cycle was found through. Any other mark is 0 where the search has not been,
 // else 1 + the number of edges followed: below this, since a node has at most 31 arguments.
 const CLOSED: u32 = 33;
 
 // The place that edge number `i` from a reference leads to.
+// Stays: a place is a number, 0 for none, as the rows of scratch hold it: what is read there is compared and written back as it is.
 fn edge_at(
     words: &[u32],
     bindings: &[[u32; 2]],
@@ -92,36 +93,6 @@ fn search(
     }
 }
 
-// Sets the rows from `from` on before `to` to zero.
-fn clear_rows(rows: &mut [[u32; 2]], from: u32, to: u32)
-    requires { (from ≤ to) × (to ≤ length rows.old) }
-    ensures { Cleared rows.old from to rows.new }
-{
-    let end = to as usize;
-    let mut i = from as usize;
-    while i < end {
-        rows[i] = [0, 0];
-        i += 1;
-    }
-}
-
-// A row of two numbers has two numbers.
-fn two(row: [u32; 2])
-    ensures { length row ≡ 2 }
-{}
-
-// Says of the rows before `end` what their type says, that each has two numbers; nothing is computed.
-fn are_pairs(rows: &[[u32; 2]], end: u32)
-    requires { end ≤ length rows.now }
-    ensures { Pairs rows.now end }
-{
-    let mut i = 0;
-    while i < end {
-        two(rows[i as usize]);
-        i += 1;
-    }
-}
-
 // Whether the stored bindings are acyclic: one search in depth through all that the variables lead to. `limit` is the room for variables. Scratch has a
 // row for each reference; it is zero before and after.
 pub fn is_acyclic(
@@ -135,9 +106,8 @@ pub fn is_acyclic(
     requires { Ready words.now bindings.now limit variables used scratch.old }
     ensures { Decided words.now bindings.now limit variables scratch.old result scratch.new }
 {
-    are_pairs(scratch, limit + used);
     let answer = search(words, bindings, limit, variables, used, scratch);
-    clear_rows(scratch, 0, variables);
-    clear_rows(scratch, limit, limit + used);
+    scratch[..variables as usize].fill([0, 0]);
+    scratch[limit as usize..(limit + used) as usize].fill([0, 0]);
     answer
 }

@@ -47,7 +47,7 @@ fn answer(
     if !form::are_words(words, ROOM, variables, used as usize) {
         return Found::NotInForm;
     }
-    if !form::are_bindings(words, bindings, ROOM, variables, used as usize) {
+    if !form::are_bindings(words, bindings, ROOM, variables, used) {
         return Found::NotInForm;
     }
     form::zero(scratch);
@@ -89,13 +89,11 @@ fn put_binding(bindings: &mut [[u32; 2]], variable: usize, word: u32) {
 
 // Binds each of the first `count` variables to the next one, 1,000,000 at most.
 fn bind_chain(bindings: &mut [[u32; 2]], count: u32) {
-    let mut i: u32 = 0;
-    while i < count {
+    for i in 0..count {
         if 1000000 < i {
             return;
         }
         put_binding(bindings, i as usize, i + 2);
-        i += 1;
     }
 }
 
@@ -115,14 +113,12 @@ fn put_pair(words: &mut [u32], at: usize, argument: u32) {
 // Writes a tower of nodes with two arguments, both the node below; those of the lowest are `leaf`. There are 20,000 levels at most.
 fn put_tower(words: &mut [u32], levels: u32, leaf: u32) {
     let mut below = leaf;
-    let mut i: u32 = 0;
-    while i < levels {
+    for i in 0..levels {
         if 20000 <= i {
             return;
         }
         put_pair(words, (3 * i) as usize, below);
         below = ROOM + 3 * i;
-        i += 1;
     }
 }
 

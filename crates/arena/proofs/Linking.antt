@@ -1,5 +1,7 @@
 -- Linking two references: the loop's invariant, its step, and its ways out.
 use Prim.Native.Nat.{ℕ, suc, ◌+◌, ◌-◌, ◌≤◌, ◌<◌}
+use Rattle.std.proofs.Common.{min, max}
+use Rattle.std.proofs.Math.Nat.{min-eq_left, min-eq_right, max-eq_left, max-eq_right, min-le_left, min-le_right}
 use native.Mathlib.Omega.{arith}
 use mathlib.Core.Path.{◌≡◌, refl, sym, ap, ◌∙◌, subst}
 use mathlib.Core.Bool.{Bool, true, false}
@@ -8,44 +10,19 @@ use mathlib.Core.List.{List}
 use lib.ListN.{length, get_or, set, length-set}
 use lib.Seq.{get_or-set_same, get_or-set_other}
 use borrow.Author.Count.{below_more}
-use Rattle.terms.specs.Numbers.{less_yes, less_no, by_less, by_same, true_false}
+use Rattle.terms.specs.Numbers.{by_less, by_same, true_false}
 use Rattle.terms.specs.Term.{Term}
 use Rattle.arena.specs.Cells.{cells}
-use Rattle.arena.specs.Links.{least, greatest, Descending, Agrees, Each, Joined, Linkable, Arguments}
+use Rattle.arena.specs.Links.{Descending, Agrees, Each, Joined, Linkable, Arguments}
 
--- The lesser is one of the two, and at most the other; likewise the greater.
-pub least_is : (P : ℕ → Type 0) (a b : ℕ) → (a < b → P a) → (b ≤ a → P b) → P (least a b)
-unfolding least
-least_is P a b f g = by_less a b (λ l e. rw e (f l)) (λ l e. rw e (g l))
+-- The lesser is one of the two; likewise the greater.
+pub least_is : (P : ℕ → Type 0) (a b : ℕ) → (a < b → P a) → (b ≤ a → P b) → P (min a b)
+least_is P a b f g = by_less a b (λ l _. let k : a ≤ b = omega arith in rw (min-eq_left k) (f l)) (λ l _. rw (min-eq_right l) (g l))
 
-pub least_low : (a b v : ℕ) → v ≡ least a b → v ≤ a
-least_low a b v e = rw e (least_is (λ x. x ≤ a) a b (λ l. omega arith) (λ l. l))
-
-pub least_high : (a b v : ℕ) → v ≡ least a b → v ≤ b
-least_high a b v e = rw e (least_is (λ x. x ≤ b) a b (λ l. omega arith) (λ l. omega arith))
-
-pub ordered : (P : ℕ → ℕ → Type 0) (a b : ℕ) → (a < b → P b a) → (b ≤ a → P a b) → P (greatest a b) (least a b)
-unfolding least greatest
-ordered P a b f g = by_less a b (λ l e. rw e (f l)) (λ l e. rw e (g l))
-
-pub least_first : (a b : ℕ) → a < b → a ≡ least a b
-unfolding least
-least_first a b l = rw (less_yes l)
-
-pub least_second : (a b : ℕ) → b ≤ a → b ≡ least a b
-unfolding least
-least_second a b l = rw (less_no l)
-
-pub greatest_first : (a b : ℕ) → b ≤ a → a ≡ greatest a b
-unfolding greatest
-greatest_first a b l = rw (less_no l)
-
-pub greatest_second : (a b : ℕ) → a < b → b ≡ greatest a b
-unfolding greatest
-greatest_second a b l = rw (less_yes l)
-
-pub order_sum : (p q x y : ℕ) → x ≡ greatest p q → y ≡ least p q → x + y ≡ p + q
-order_sum p q x y d e = rw (d, e) (ordered (λ x y. x + y ≡ p + q) p q (λ l. omega arith) (λ l. refl))
+pub ordered : (P : ℕ → ℕ → Type 0) (a b : ℕ) → (a < b → P b a) → (b ≤ a → P a b) → P (max a b) (min a b)
+ordered P a b f g = by_less a b
+    (λ l _. let k : a ≤ b = omega arith in rw (max-eq_right k, min-eq_left k) (f l))
+    (λ l _. rw (max-eq_left l, min-eq_right l) (g l))
 
 -- A link after one was set.
 pub set_other : (L : List ℕ) (h v i : ℕ) → i ≢ h → cells (set L h v) i ≡ cells L i
@@ -85,7 +62,7 @@ module _ (room : ℕ) (L₀ : List ℕ) (a b : ℕ) where
   }
 
   -- The greater and the lesser of the two.
-  pub link_order : (L : List ℕ) (p q x y : ℕ) → Linking L p q → (p ≡ q → ⊥) → x ≡ greatest p q → y ≡ least p q → Linking L x y × (y < x)
+  pub link_order : (L : List ℕ) (p q x y : ℕ) → Linking L p q → (p ≡ q → ⊥) → x ≡ max p q → y ≡ min p q → Linking L x y × (y < x)
   link_order L p q x y h n d e = rw (d, e) (ordered (λ x y. Linking L x y × (y < x)) p q (λ l. (link_swap L p q h, l)) (λ l. (h, (let k : q ≢ p = (λ e. n (sym e)) in omega arith))))
 
   pub link_in : (L : List ℕ) (p q : ℕ) → Linking L p q → Linkable room L₀ a b → p < room + length L
@@ -116,7 +93,7 @@ module _ (room : ℕ) (L₀ : List ℕ) (a b : ℕ) where
     no = λ _ g s u k. s p q m l (h.forth g u (k 0 (omega arith))).1;
   }
 
-  pub link_new : (L : List ℕ) (p q low low' : ℕ) → Linking L p q → q < p → room ≤ q → p < room + length L → cells L (p - room) ≡ 0 → low' ≡ least low (p - room)
+  pub link_new : (L : List ℕ) (p q low low' : ℕ) → Linking L p q → q < p → room ≤ q → p < room + length L → cells L (p - room) ≡ 0 → low' ≡ min low (p - room)
       → Joined room L₀ (set L (p - room) (q + 1)) 1 (λ _. a) (λ _. b) low low' true
   link_new L p q low low' h l m s z small =
       let j : room + (p - room) ≡ p = omega arith in
@@ -129,7 +106,7 @@ module _ (room : ℕ) (L₀ : List ℕ) (a b : ℕ) where
         };
         above = λ t k i u. let v = h.bound t (k 0 (omega arith)).0 (k 0 (omega arith)).1 in
             set_other L (p - room) (q + 1) i (λ e. omega arith) ∙ h.above t (k 0 (omega arith)).0 (k 0 (omega arith)).1 i u;
-        floor = λ k i u. let d = least_low low (p - room) low' small in let e = least_high low (p - room) low' small in
+        floor = λ k i u. let d = min-le_left low (p - room) in let e = min-le_right low (p - room) in
             set_other L (p - room) (q + 1) i (λ c. omega arith) ∙ h.floor low k i (omega arith);
         good = λ test u k. let v = h.good test u (k 0 (omega arith)).0 (k 0 (omega arith)).1 in
             λ i y e. set_link L (p - room) q i y s' e (λ c d. (rw (c, j) v.1, rw d at v.2)) (λ c d. v.0 i y d);
@@ -145,42 +122,42 @@ module _ (room : ℕ) (L₀ : List ℕ) (a b : ℕ) where
 
   -- The step: the link of the greater leads on, and is shortened where the lesser is below.
   pub link_next : (L : List ℕ) (p q y : ℕ) → Linking L p q → q < p → room ≤ q → p < room + length L → cells L (p - room) ≡ suc y
-      → Linking (set L (p - room) (least q y + 1)) y q
+      → Linking (set L (p - room) (min q y + 1)) y q
   link_next L p q y h l m s z =
       let j : room + (p - room) ≡ p = omega arith in
       let s' : p - room < length L = omega arith in
       let n₀ = h.form.node (p - room) y z in
       let b₀ = h.form.below (p - room) y z in
-      let low : room ≤ least q y = least_is (λ x. room ≤ x) q y (λ _. m) (λ _. n₀) in
-      let under : least q y < p = least_is (λ x. x < p) q y (λ _. l) (λ _. omega arith) in
+      let low : room ≤ min q y = least_is (λ x. room ≤ x) q y (λ _. m) (λ _. n₀) in
+      let under : min q y < p = least_is (λ x. x < p) q y (λ _. l) (λ _. omega arith) in
       record {
-        long = length-set L (p - room) (least q y + 1) ∙ h.long;
+        long = length-set L (p - room) (min q y + 1) ∙ h.long;
         form = record {
-          node = λ i x e. set_link L (p - room) (least q y) i x s' e (λ u v. omega arith) (λ u v. h.form.node i x v);
-          below = λ i x e. set_link L (p - room) (least q y) i x s' e (λ u v. omega arith) (λ u v. h.form.below i x v);
+          node = λ i x e. set_link L (p - room) (min q y) i x s' e (λ u v. omega arith) (λ u v. h.form.node i x v);
+          below = λ i x e. set_link L (p - room) (min q y) i x s' e (λ u v. omega arith) (λ u v. h.form.below i x v);
         };
         bound = λ t u v. let k = h.bound t u v in (omega arith, k.1);
-        above = λ t u v i w. let k = h.bound t u v in set_other L (p - room) (least q y + 1) i (λ e. omega arith) ∙ h.above t u v i w;
-        floor = λ t k i u. let c = h.floor t k in set_other L (p - room) (least q y + 1) i (λ e. let x : cells L (p - room) ≡ 0 = rw e at (c i u) in omega arith) ∙ c i u;
+        above = λ t u v i w. let k = h.bound t u v in set_other L (p - room) (min q y + 1) i (λ e. omega arith) ∙ h.above t u v i w;
+        floor = λ t k i u. let c = h.floor t k in set_other L (p - room) (min q y + 1) i (λ e. let x : cells L (p - room) ≡ 0 = rw e at (c i u) in omega arith) ∙ c i u;
         good = λ test e u v. let k = h.good test e u v in
             let ky = k.0 (p - room) y z in
-            let kl : test (least q y) ≡ true = least_is (λ x. test x ≡ true) q y (λ _. k.2) (λ _. ky.1) in
-            ((λ i x d. set_link L (p - room) (least q y) i x s' d (λ c f. (rw (c, j) k.1, rw f at kl)) (λ c f. k.0 i x f)), ky.1, k.2);
+            let kl : test (min q y) ≡ true = least_is (λ x. test x ≡ true) q y (λ _. k.2) (λ _. ky.1) in
+            ((λ i x d. set_link L (p - room) (min q y) i x s' d (λ c f. (rw (c, j) k.1, rw f at kl)) (λ c f. k.0 i x f)), ky.1, k.2);
         back = λ g u e.
-            let to : g p ≡ g (least q y) = rw j at (u (p - room) (least q y) (set_here L (p - room) (least q y + 1) s' ∙ (let d : least q y + 1 ≡ suc (least q y) = omega arith in d))) in
-            let at_y : g (least q y) ≡ g y = least_is (λ x. g x ≡ g y) q y (λ _. sym e) (λ _. refl) in
+            let to : g p ≡ g (min q y) = rw j at (u (p - room) (min q y) (set_here L (p - room) (min q y + 1) s' ∙ (let d : min q y + 1 ≡ suc (min q y) = omega arith in d))) in
+            let at_y : g (min q y) ≡ g y = least_is (λ x. g x ≡ g y) q y (λ _. sym e) (λ _. refl) in
             let old : Agrees room g (cells L) = (λ i x d. by_same i (p - room)
             (λ c _. let d' : cells L (p - room) ≡ suc x = rw c at d in let f : y ≡ x = omega arith in rw (c, j, ← f) (to ∙ at_y))
-            (λ n _. u i x (set_other L (p - room) (least q y + 1) i n ∙ d))) in
+            (λ n _. u i x (set_other L (p - room) (min q y + 1) i n ∙ d))) in
             h.back g old (to ∙ at_y ∙ e);
         forth = λ g u e.
             let k = h.forth g u e in
             let at_y : g p ≡ g y = rw j at (k.0 (p - room) y z) in
-            let to : g p ≡ g (least q y) = least_is (λ x. g p ≡ g x) q y (λ _. k.1) (λ _. at_y) in
-            ((λ i x d. set_link L (p - room) (least q y) i x s' d (λ c f. rw (c, j, ← f) to) (λ c f. k.0 i x f)), sym at_y ∙ k.1);
+            let to : g p ≡ g (min q y) = least_is (λ x. g p ≡ g x) q y (λ _. k.1) (λ _. at_y) in
+            ((λ i x d. set_link L (p - room) (min q y) i x s' d (λ c f. rw (c, j, ← f) to) (λ c f. k.0 i x f)), sym at_y ∙ k.1);
       }
 
-  pub link_step : (L : List ℕ) (p q n v : ℕ) → Linking L p q → q < p → room ≤ q → p < room + length L → cells L (p - room) ≡ n → (n ≡ 0 → ⊥) → v ≡ least q (n - 1)
+  pub link_step : (L : List ℕ) (p q n v : ℕ) → Linking L p q → q < p → room ≤ q → p < room + length L → cells L (p - room) ≡ n → (n ≡ 0 → ⊥) → v ≡ min q (n - 1)
       → Linking (set L (p - room) (v + 1)) (n - 1) q
   link_step L p q n v h l m s z o e = rw e (link_next L p q (n - 1) h l m s (let k : n ≢ 0 = o in omega arith))
 

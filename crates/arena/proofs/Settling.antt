@@ -5,13 +5,14 @@ use mathlib.Core.Path.{◌≡◌, refl, sym, ◌∙◌}
 use mathlib.Core.Bool.{Bool, true, false}
 use mathlib.Core.Logic.{◌⊎◌, inl, inr, ⊎_elim, ◌≢◌}
 use mathlib.Core.List.{List}
+use Rattle.std.proofs.Common.{max}
 use lib.ListN.{length, set, length-set}
 use lib.Seq.{ext_get_or}
 use Rattle.terms.specs.Numbers.{by_same, by_bool, true_false}
 use Rattle.arena.specs.Cells.{headers, cells, arity_of, denote, Reference, low_or_high, reference_up}
 use Rattle.arena.specs.Form.{is_argument}
 use Rattle.arena.specs.FormLaws.{argument_reference, reference_accepted}
-use Rattle.arena.specs.Links.{Descending, Agrees, Each, Joined, Linkable, Arguments, Comparable, Settled, greatest}
+use Rattle.arena.specs.Links.{Descending, Agrees, Each, Joined, Linkable, Arguments, Comparable, Settled}
 use Rattle.arena.specs.Equality.{Ready, Compared}
 use Rattle.arena.specs.EqualityLaws.{alike_same, alike_not, variable_apart, nodes_equal, equal_headers, equal_arguments}
 use Rattle.arena.proofs.Linking.{set_other, set_here, ordered}
@@ -216,14 +217,14 @@ module _ (room : ℕ) (w : List ℕ) (nv used a b : ℕ) where
     right = omega arith;
   }
 
-  pub ready_low : (L : List ℕ) (x : ℕ) → Ready room w L nv used a b → x ≡ greatest a b → x < headers
+  pub ready_low : (L : List ℕ) (x : ℕ) → Ready room w L nv used a b → x ≡ max a b → x < headers
   ready_low L x k e = let s = k.small in let p = reference_low a k.left in let q = reference_low b k.right in
       rw e (ordered (λ x y. x < headers) a b (λ l. omega arith) (λ l. omega arith))
 
-  pub pass_start : (L L' : List ℕ) (at low low' : ℕ) (r : Bool) → Ready room w L nv used a b → Joined room L L' 1 (λ _. a) (λ _. b) low low' r → at ≡ suc (greatest a b) - room
+  pub pass_start : (L L' : List ℕ) (at low low' : ℕ) (r : Bool) → Ready room w L nv used a b → Joined room L L' 1 (λ _. a) (λ _. b) low low' r → at ≡ suc (max a b) - room
       → Passing L' at low' r
   pass_start L L' at low low' r k j e =
-      let top : (a ≤ greatest a b) × (b ≤ greatest a b) = ordered (λ x y. (a ≤ x) × (b ≤ x)) a b (λ l. (omega arith, omega arith)) (λ l. (omega arith, l)) in
+      let top : (a ≤ max a b) × (b ≤ max a b) = ordered (λ x y. (a ≤ x) × (b ≤ x)) a b (λ l. (omega arith, omega arith)) (λ l. (omega arith, l)) in
       let n = j.long in
       let s = k.scratch in
       let p = reference_low a k.left in
@@ -242,7 +243,7 @@ module _ (room : ℕ) (w : List ℕ) (nv used a b : ℕ) where
           references = λ i z d. let v = refs i z d in (test_reference room w nv used (room + i) v.0, test_reference room w nv used z v.1);
         };
         within = rw e (ordered (λ x y. suc x - room ≤ used) a b (λ l. omega arith) (λ l. omega arith));
-        cleared = λ i l. j.above (suc (greatest a b)) (λ _ _. (omega arith, omega arith)) i (omega arith) ∙ k.zero_before i;
+        cleared = λ i l. j.above (suc (max a b)) (λ _ _. (omega arith, omega arith)) i (omega arith) ∙ k.zero_before i;
         floor = j.floor (λ i l. k.zero_before i);
         back = λ f u. (j.back f (denote room (cells w)) u).1 0 (omega arith);
         forth = λ f u. j.forth f (denote room (cells w)) none (λ _ _. u);

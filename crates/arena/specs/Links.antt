@@ -1,16 +1,8 @@
 -- Contracts of the functions inside `equal`, which compares stored terms without recursion. Two references have to denote the same term: the greater, a node, is linked to the lesser, and from the
 -- greatest address down each linked node passes the demand on to its arguments, which lie below it. A link is 0, or one more than a reference.
-use Rattle.std.specs.Prelude.{ℕ, suc, ◌+◌, ◌≤◌, ◌<◌, ◌≡◌, Bool, true, false, cond, ◌⊎◌, List, length}
-use Rattle.terms.specs.Numbers.{less}
+use Rattle.std.specs.Prelude.{ℕ, suc, ◌+◌, ◌≤◌, ◌<◌, ◌≡◌, Bool, true, false, ◌⊎◌, List, length}
 use Rattle.terms.specs.Term.{Term}
 use Rattle.arena.specs.Cells.{Cells, headers, cells, denote, Reference, WellFormed}
-
--- The lesser of two numbers, and the greater.
-unfoldable pub least : ℕ → ℕ → ℕ
-least a b = cond (less a b) a b
-
-unfoldable pub greatest : ℕ → ℕ → ℕ
-greatest a b = cond (less a b) b a
 
 -- Each link leads from a node to a node below it.
 pub record Descending (room : ℕ) (links : Cells) : Type 0 where

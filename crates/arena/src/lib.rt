@@ -19,7 +19,7 @@ ghost use Rattle.arena.specs.Equality.{Ready, Compared};
 pub use copies::moved_word;
 pub use form::{is_argument, is_header};
 pub use format::{HEADERS, INPUTS, PATTERN_ROOM, SYMBOL_STEP, TERM_ROOM};
-use links::{greatest, link, past, settle};
+use links::{link, past, settle};
 
 // Writes a node, its header and its arguments, from the address `used` on.
 pub fn push_node(words: &mut [u32], used: u32, header: u32, arguments: &[u32])
@@ -29,12 +29,7 @@ pub fn push_node(words: &mut [u32], used: u32, header: u32, arguments: &[u32])
 {
     let at = used as usize;
     words[at] = header;
-    let first = at + 1;
-    let mut i = 0;
-    while i < arguments.len() {
-        words[first + i] = arguments[i];
-        i += 1;
-    }
+    words[at + 1..at + 1 + arguments.len()].copy_from_slice(arguments);
 }
 
 // Copies a rule's words, `count` words of the pattern from the address `from` on, to the address `used`, with new variables from `counter` on.
@@ -57,10 +52,8 @@ pub fn inst(
     let at = used as usize;
     let first = PATTERN_ROOM + from;
     let base = room + used;
-    let mut i = 0;
-    while i < end {
+    for i in 0..end {
         words[at + i] = moved_word(pattern[start + i], places, counter, first, base);
-        i += 1;
     }
 }
 
@@ -77,10 +70,9 @@ pub fn check_words(
     requires { (from ≤ to) × (to ≤ length words.now) × (room + to ≤ headers) }
     ensures { result ≡ in_form words.now from to room variables arities.now }
 {
-    let mut at = from;
     let mut node = from;
     let mut left = 0;
-    while at < to {
+    for at in from..to {
         let word = words[at as usize];
         if left == 0 {
             if !is_header(arities, word) {
@@ -88,14 +80,12 @@ pub fn check_words(
             }
             node = at;
             left = word % SYMBOL_STEP;
-            at += 1;
             continue;
         }
         if !is_argument(words, from, room, variables, node, word) {
             return false;
         }
         left -= 1;
-        at += 1;
     }
     left == 0
 }
@@ -104,11 +94,8 @@ pub fn check_words(
 pub fn clear(words: &mut [u32], from: u32)
     ensures { words.new ≡ take from words.old ++ replicate (length words.old - from) 0 }
 {
-    let mut at = from as usize;
-    while at < words.len() {
-        words[at] = 0;
-        at += 1;
-    }
+    let start = words.len().min(from as usize);
+    words[start..].fill(0);
 }
 
 // Whether two references denote the same term, in one pass from the greater one's address down to the least that is linked; the links are zero before and after.
@@ -125,7 +112,7 @@ pub fn equal(
     requires { Ready room words.now links.old variables used a b }
     ensures { Compared room (cells words.now) links.old links.new a b result }
 {
-    let mut at = past(room, greatest(a, b));
+    let mut at = past(room, a.max(b));
     let first = link(links, room, a, b, at);
     let mut same = first.same;
     let mut low = first.low;

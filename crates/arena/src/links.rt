@@ -1,35 +1,16 @@
 // Links between nodes that have to denote the same term.
 ghost use Rattle.std.specs.Prelude.{◌≡◌, suc, ◌+◌, ◌-◌, ◌<◌};
 ghost use Rattle.arena.specs.Cells.{headers, cells};
-ghost use Rattle.arena.specs.Links.{least, greatest, Linkable, Arguments, Comparable, Joined, Settled};
+ghost use Rattle.arena.specs.Links.{Linkable, Arguments, Comparable, Joined, Settled};
 
 use super::format::SYMBOL_STEP;
 
 // Whether what was linked so far can be the same, and an address below which there are no links.
+// Stays: `low` is read where `same` is false too, since the links that are left have to be cleared.
 #[derive(Clone, Copy)]
 pub struct Linked {
     pub same: bool,
     pub low: u32,
-}
-
-// The lesser of two numbers.
-pub fn least(a: u32, b: u32) -> u32
-    ensures { result ≡ least a b }
-{
-    if a < b {
-        return a;
-    }
-    b
-}
-
-// The greater of two numbers.
-pub fn greatest(a: u32, b: u32) -> u32
-    ensures { result ≡ greatest a b }
-{
-    if a < b {
-        return b;
-    }
-    a
 }
 
 // Links two references, which have to denote the same term; not the same are a variable and any other reference.
@@ -41,13 +22,10 @@ pub fn link(links: &mut [u32], room: u32, a: u32, b: u32, low: u32) -> Linked
     let mut p = a;
     let mut q = b;
     while p != q {
-        let high = greatest(p, q);
-        let lower = least(p, q);
+        let high = p.max(q);
+        let lower = p.min(q);
         if lower < room {
-            return Linked {
-                same: false,
-                low: low,
-            };
+            return Linked { same: false, low };
         }
         let at = (high - room) as usize;
         let next = links[at];
@@ -55,18 +33,15 @@ pub fn link(links: &mut [u32], room: u32, a: u32, b: u32, low: u32) -> Linked
             links[at] = lower + 1;
             return Linked {
                 same: true,
-                low: least(low, high - room),
+                low: low.min(high - room),
             };
         }
         // The links of one class are shortened on the way, so that later ones take few steps.
-        links[at] = least(lower, next - 1) + 1;
+        links[at] = lower.min(next - 1) + 1;
         p = next - 1;
         q = lower;
     }
-    Linked {
-        same: true,
-        low: low,
-    }
+    Linked { same: true, low }
 }
 
 // Links the first `count` arguments of the nodes at the addresses a and b, each with its like.
@@ -87,14 +62,12 @@ pub fn link_arguments(
     let right = b as usize + 1;
     let end = count as usize;
     let mut floor = low;
-    let mut i = 0;
-    while i < end {
+    for i in 0..end {
         let step = link(links, room, words[left + i], words[right + i], floor);
         if !step.same {
             return step;
         }
         floor = step.low;
-        i += 1;
     }
     Linked {
         same: true,
@@ -121,10 +94,7 @@ pub fn settle(
     let i = at as usize;
     let next = links[i];
     if next == 0 {
-        return Linked {
-            same: same,
-            low: low,
-        };
+        return Linked { same, low };
     }
     links[i] = 0;
     if same {
@@ -134,10 +104,7 @@ pub fn settle(
             return link_arguments(words, links, room, at, other, header % SYMBOL_STEP, low);
         }
     }
-    Linked {
-        same: false,
-        low: low,
-    }
+    Linked { same: false, low }
 }
 
 // The number of addresses up to that of a reference, 0 for a variable.
@@ -146,8 +113,5 @@ pub fn past(room: u32, reference: u32) -> u32
     requires { reference < headers }
     ensures { result ≡ suc reference - room }
 {
-    if reference < room {
-        return 0;
-    }
-    reference - room + 1
+    (reference + 1).saturating_sub(room)
 }

@@ -3,6 +3,8 @@
 
 #![tactic(auto)]
 
+ghost use Rattle.std.specs.Prelude.{◌≤◌};
+
 // A term that was built: the first free address behind it, and its reference.
 #[derive(Clone, Copy)]
 struct Built {
@@ -10,64 +12,30 @@ struct Built {
     root: u32,
 }
 
-// A tower of unary nodes on a leaf, as far as there is room.
-fn tower(words: &mut [u32], at: u32, height: u32, leaf: u32) -> Built {
+// A tower of nodes with `arity` arguments on a leaf, all arguments of a node the one below, as far as there is room.
+fn tower(words: &mut [u32], at: u32, height: u32, leaf: u32, arity: u32) -> Built
+    requires { arity ≤ 2 }
+{
     let mut next = at;
     let mut root = leaf;
-    let mut i = 0;
-    while i < height {
+    for _ in 0..height {
         if next > 262144 {
-            return Built {
-                next: next,
-                root: root,
-            };
+            break;
         }
-        if (next as usize) + 2 > words.len() {
-            return Built {
-                next: next,
-                root: root,
-            };
-        }
-        let arguments = [root];
-        arena::push_node(words, next, 1048576 + 32 + 1, &arguments);
-        root = 64 + next;
-        next += 2;
-        i += 1;
-    }
-    Built {
-        next: next,
-        root: root,
-    }
-}
-
-// Binary nodes, each with the one below as both arguments, as far as there is room: a term of 2 to the height leaves.
-fn shared(words: &mut [u32], at: u32, height: u32, leaf: u32) -> Built {
-    let mut next = at;
-    let mut root = leaf;
-    let mut i = 0;
-    while i < height {
-        if next > 262144 {
-            return Built {
-                next: next,
-                root: root,
-            };
-        }
-        if (next as usize) + 3 > words.len() {
-            return Built {
-                next: next,
-                root: root,
-            };
+        if (next as usize) + 1 + (arity as usize) > words.len() {
+            break;
         }
         let arguments = [root, root];
-        arena::push_node(words, next, 1048576 + 64 + 2, &arguments);
+        arena::push_node(
+            words,
+            next,
+            1048576 + 33 * arity,
+            &arguments[..arity as usize],
+        );
         root = 64 + next;
-        next += 3;
-        i += 1;
+        next += 1 + arity;
     }
-    Built {
-        next: next,
-        root: root,
-    }
+    Built { next, root }
 }
 
 // Whether two references denote the same term, if the words and both are in form.
@@ -102,8 +70,8 @@ fn compare(words: &[u32], links: &mut [u32], used: u32, a: u32, b: u32) -> u8 {
 fn towers(m: u32, n: u32, leaf: u32) -> u8 {
     let mut words = [0u32; 262144];
     let mut links = [0u32; 262144];
-    let first = tower(&mut words, 0, m, 0);
-    let second = tower(&mut words, first.next, n, leaf);
+    let first = tower(&mut words, 0, m, 0, 1);
+    let second = tower(&mut words, first.next, n, leaf, 1);
     compare(&words, &mut links, second.next, first.root, second.root)
 }
 
@@ -111,29 +79,17 @@ fn towers(m: u32, n: u32, leaf: u32) -> u8 {
 fn twins(m: u32, n: u32, leaf: u32) -> u8 {
     let mut words = [0u32; 9000];
     let mut links = [0u32; 9000];
-    let first = shared(&mut words, 0, m, 0);
-    let second = shared(&mut words, first.next, n, leaf);
+    let first = tower(&mut words, 0, m, 0, 2);
+    let second = tower(&mut words, first.next, n, leaf, 2);
     compare(&words, &mut links, second.next, first.root, second.root)
 }
 
-// The word at a place, unless that is the place to be changed.
-fn pick(at: u32, place: u32, word: u32, old: u32) -> u32 {
-    if at == place {
-        return word;
-    }
-    old
-}
-
 // The words of a term with one word changed: whether they are in form.
-fn changed(place: u32, word: u32) -> u8 {
-    let words = [
-        pick(0, place, word, 1048576),
-        pick(1, place, word, 1048609),
-        pick(2, place, word, 64),
-        pick(3, place, word, 1048642),
-        pick(4, place, word, 65),
-        pick(5, place, word, 1),
-    ];
+fn changed(place: usize, word: u32) -> u8 {
+    let mut words = [1048576u32, 1048609, 64, 1048642, 65, 1];
+    if place < 6 {
+        words[place] = word;
+    }
     let arities = [0u32, 1, 2, 17];
     if arena::check_words(&words, 0, 6, 64, 2, &arities) {
         return b'f';

@@ -1,5 +1,5 @@
 -- The premises: what copying and undoing ask, and what came of them.
-use Rattle.std.specs.Prelude.{ℕ, ◌+◌, ◌-◌, ◌≤◌, ◌≡◌, refl, true, false, List, length}
+use Rattle.std.specs.Prelude.{ℕ, ◌+◌, ◌-◌, ◌≤◌, ◌≡◌, refl, true, false, Ok, Err, List, length}
 use Rattle.std.proofs.Common.{arith}
 use Rattle.std.proofs.lemmas.List.Edits.{sets}
 use Rattle.arena.specs.Cells.{headers}
@@ -13,6 +13,7 @@ use Rattle.attempts.specs.Promises.{BodyAsked, BodyTried}
 use Rattle.attempts.specs.Parts.{copyable, copied_kept, copied_past, copied_long, copied_held, copied_form, copied_grown, copied_reference, copied_denotes}
 use Rattle.attempts.specs.Heads.{allowed}
 use Rattle.attempts.specs.declared.Stored.{Stored}
+use Rattle.refusals.specs.declared.Refusal.TheVariants.{OverLimit}
 
 module _ {most limit : ℕ} {pattern places : List ℕ} {stored : Stored} {words : List ℕ} {rows : Rows} {counter used mark bound : ℕ}
     (asked : BodyAsked most limit pattern places stored words rows counter used mark bound) where
@@ -21,8 +22,8 @@ module _ {most limit : ℕ} {pattern places : List ℕ} {stored : Stored} {words
 
   -- The limits refuse the premises, and the bindings are undone.
   pub body_refused : {rows' : Rows} → over (within most limit) (counter + stored.variables) (used + stored.head + stored.body) ≡ true
-      → rows' ≡ undone rows mark (bound - mark) → BodyTried most limit pattern places stored words words rows rows' counter used mark bound false
-  body_refused e u = record { done = (e, u); kept = λ i l. refl; past = λ i l. refl; long = refl }
+      → rows' ≡ undone rows mark (bound - mark) → BodyTried most limit pattern places stored words words rows rows' counter used mark bound (Err OverLimit)
+  body_refused e u = record { limits = refl; done = (e, u); kept = λ i l. refl; past = λ i l. refl; long = refl }
 
   module _ (fits : over (within most limit) (counter + stored.variables) (used + stored.head + stored.body) ≡ false) where
     within_most : counter + stored.variables ≤ most
@@ -48,8 +49,9 @@ module _ {most limit : ℕ} {pattern places : List ℕ} {stored : Stored} {words
 
     -- The premises were copied.
     pub body_copied : {words' : List ℕ} → words' ≡ sets words (used + stored.head) (copied pattern stored.from stored.body places term_room (used + stored.head) counter)
-        → BodyTried most limit pattern places stored words words' rows rows counter used mark bound true
+        → BodyTried most limit pattern places stored words words' rows rows counter used mark bound (Ok tt)
     body_copied {words'} w = record {
+      limits = tt;
       done = (
         fits,
         record {

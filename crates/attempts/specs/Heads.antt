@@ -1,5 +1,5 @@
 -- The goal and the conclusion: what copying and `unify` ask, and what came of them.
-use Rattle.std.specs.Prelude.{ℕ, ◌+◌, ◌≤◌, ◌<◌, ◌≡◌, refl, Bool, true, false, ◌||◌, List, length}
+use Rattle.std.specs.Prelude.{ℕ, ◌+◌, ◌≤◌, ◌<◌, ◌≡◌, refl, Bool, true, false, ◌||◌, Option, Some, None, Ok, Err, is_some, unwrap_or, List, length}
 use Rattle.std.proofs.Common.{arith, sym, ap, ap₂, ◌∙◌, subst}
 use Rattle.std.proofs.lemmas.List.Edits.{sets}
 use Rattle.terms.specs.Numbers.{less, less_yes, less_no, by_less, or_false, or_left, true_false}
@@ -20,7 +20,7 @@ use Rattle.attempts.specs.Extending.{scratch_less}
 use Rattle.attempts.specs.Clashes.{Comparable, Clashes, clash_fails}
 use Rattle.attempts.specs.Parts.{copyable, copied_kept, copied_past, copied_long, copied_held, copied_form, copied_grown, copied_reference, copied_denotes, root_movable}
 use Rattle.attempts.specs.declared.Stored.{Stored}
-use Rattle.attempts.specs.declared.Meeting.TheVariants.{Refused, Apart, Unifies}
+use Rattle.refusals.specs.declared.Refusal.TheVariants.{OverLimit}
 
 not_less : (x y : ℕ) → less x y ≡ false → y ≤ x
 not_less x y e = by_less x y (λ l q. true_false q e) (λ l q. l)
@@ -41,8 +41,8 @@ module _ {most limit : ℕ} {pattern places : List ℕ} {stored : Stored} {words
     (asked : HeadAsked most limit pattern places stored words rows links marks stack counter used bound goal) where
   -- The limits refuse the conclusion, and nothing was done.
   pub head_refused : over (within most limit) (counter + stored.met) (used + stored.head) ≡ true
-      → HeadTried most limit pattern places stored words words rows rows links links marks marks stack stack counter used bound goal Refused
-  head_refused e = record { came = (e, refl); kept = λ i l. refl; past = λ i l. refl; long = refl; links_kept = refl; marks_kept = refl; stack_kept = refl }
+      → HeadTried most limit pattern places stored words words rows rows links links marks marks stack stack counter used bound goal (Err OverLimit)
+  head_refused e = record { limits = refl; came = (e, refl); kept = λ i l. refl; past = λ i l. refl; long = refl; links_kept = refl; marks_kept = refl; stack_kept = refl }
 
   -- The goal can be compared with the conclusion as it stands in the pattern.
   pub head_comparable : Comparable pattern words rows counter used bound goal stored.conclusion
@@ -126,8 +126,9 @@ module _ {most limit : ℕ} {pattern places : List ℕ} {stored : Stored} {words
           goal t answer) where
         -- They do not unify.
         pub head_apart : answer ≡ false
-            → HeadTried most limit pattern places stored words words' rows rows' links links' marks marks' stack stack' counter used bound goal Apart
+            → HeadTried most limit pattern places stored words words' rows rows' links links' marks marks' stack stack' counter used bound goal (Ok None)
         head_apart e = record {
+          limits = tt;
           came = (fits, same t found ∙ h.is ∙ ap (λ (a : Bool). outcome a (held term_room words' rows' bound')) e, (h.failed e).0);
           kept = kept;
           past = copied_past asked.part counter asked.state.form more few space small words' written;
@@ -139,8 +140,9 @@ module _ {most limit : ℕ} {pattern places : List ℕ} {stored : Stored} {words
 
         -- They unify.
         pub head_unifies : answer ≡ true
-            → HeadTried most limit pattern places stored words words' rows rows' links links' marks marks' stack stack' counter used bound goal (Unifies bound')
+            → HeadTried most limit pattern places stored words words' rows rows' links links' marks marks' stack stack' counter used bound goal (Ok (Some bound'))
         head_unifies e = record {
+          limits = tt;
           came = (
             fits,
             same t found ∙ h.is ∙ ap (λ (a : Bool). outcome a (held term_room words' rows' bound')) e,
@@ -158,10 +160,19 @@ module _ {most limit : ℕ} {pattern places : List ℕ} {stored : Stored} {words
           stack_kept = h.stack;
         }
 
+      -- How unification ended.
+      pub head_ended : {t : ℕ} (found : t ≡ copied_at places counter (stored.from + stored.body) used stored.conclusion) {rows' links' marks' stack' : Rows} (ended : Option ℕ)
+          → Unified term_room words' rows rows' links links' marks marks' stack stack' (counter + stored.met) (used + stored.head) bound (unwrap_or ended bound)
+          goal t (is_some ended)
+          → HeadTried most limit pattern places stored words words' rows rows' links links' marks marks' stack stack' counter used bound goal (Ok ended)
+      head_ended found None h = head_apart found h refl
+      head_ended found (Some n) h = head_unifies found h refl
+
     -- Their heads clash: nothing was copied.
     pub head_clashes : Clashes pattern words rows bound goal stored.conclusion
-        → HeadTried most limit pattern places stored words words rows rows links links marks marks stack stack counter used bound goal Apart
+        → HeadTried most limit pattern places stored words words rows rows links links marks marks stack stack counter used bound goal (Ok None)
     head_clashes k = record {
+      limits = tt;
       came = (
         fits,
         clash_fails (counter + stored.met) (held term_room words rows bound) (denote term_room (cells words) goal) (instance pattern places stored counter)

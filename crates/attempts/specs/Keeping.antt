@@ -1,5 +1,5 @@
 -- What stands through attempts: the terms of the words in use, and the bindings below a mark. Going back over several attempts is going back over each.
-use Rattle.std.specs.Prelude.{ℕ, ◌-◌, ◌≤◌, ◌≡◌, refl, List, length}
+use Rattle.std.specs.Prelude.{ℕ, ◌-◌, ◌≤◌, ◌≡◌, refl, Result, Ok, Err, List, length}
 use Rattle.std.proofs.Common.{arith, sym, ap, ◌∙◌, subst}
 use Rattle.arena.specs.Cells.{denote, Reference, Same, frame_denote, cells}
 use Rattle.arena.specs.Copies.{term_room}
@@ -14,7 +14,8 @@ use Rattle.attempts.specs.Promises.{State, Asked, Added, Attempted}
 use Rattle.attempts.specs.Extending.{held_older}
 use Rattle.attempts.specs.declared.Stored.{Stored}
 use Rattle.attempts.specs.declared.Tried.{Tried}
-use Rattle.attempts.specs.declared.Tried.TheVariants.{Exceeded, Missed, Entered}
+use Rattle.refusals.specs.declared.Refusal.{Refusal}
+use Rattle.attempts.specs.declared.Tried.TheVariants.{Missed, Entered}
 
 -- Bindings that were only added, behind words that stand, are the same below the mark.
 pub added_held : {N : ℕ} {w : List ℕ} {b b' : Rows} {variables used k k' : ℕ} → Form N w b variables used k → (w' : List ℕ) → Same N (cells w) (cells w') used
@@ -41,21 +42,21 @@ added_both {t} {t'} {t''} {a} {b} {c} g h =
 module _ {most limit : ℕ} {pattern premises places : List ℕ} {stored : Stored} {words words' : List ℕ} {rows rows' links links' marks marks' stack stack' : Rows}
     {counter used bound goal : ℕ} (asked : Asked most limit pattern premises places stored words rows links marks stack counter used bound goal) where
   -- An attempt changes no term that stood.
-  pub attempted_terms : {answer : Tried}
+  pub attempted_terms : {answer : Result Tried Refusal}
       → Attempted most limit pattern premises places stored words words' rows rows' links links' marks marks' stack stack' counter used bound goal answer
       → (r : ℕ) → Reference term_room (cells words) counter used r → denote term_room (cells words) r ≡ denote term_room (cells words') r
   attempted_terms h r ref = frame_denote term_room (cells words) counter used asked.state.form.words (cells words') h.kept r ref
 
   -- And no binding.
-  pub attempted_held : (answer : Tried)
+  pub attempted_held : (answer : Result Tried Refusal)
       → Attempted most limit pattern premises places stored words words' rows rows' links links' marks marks' stack stack' counter used bound goal answer
       → (j : ℕ) → j ≤ bound → held term_room words' rows' j ≡ held term_room words rows j
-  attempted_held Exceeded h j l = ap (λ (b : Rows). held term_room words' b j) h.left.same ∙ held_older asked.state.form words' h.kept j l
-  attempted_held (Missed c) h j l = ap (λ (b : Rows). held term_room words' b j) h.left.1.same ∙ held_older asked.state.form words' h.kept j l
-  attempted_held (Entered c n u) h j l = added_held asked.state.form words' h.kept h.left.added j l
+  attempted_held (Err e) h j l = ap (λ (b : Rows). held term_room words' b j) h.left.same ∙ held_older asked.state.form words' h.kept j l
+  attempted_held (Ok (Missed c)) h j l = ap (λ (b : Rows). held term_room words' b j) h.left.1.same ∙ held_older asked.state.form words' h.kept j l
+  attempted_held (Ok (Entered c n u)) h j l = added_held asked.state.form words' h.kept h.left.added j l
 
   -- In form, with as many rows, it is again a state of the search.
-  pub attempted_state : {answer : Tried} {counter' used' bound' : ℕ}
+  pub attempted_state : {answer : Result Tried Refusal} {counter' used' bound' : ℕ}
       → Attempted most limit pattern premises places stored words words' rows rows' links links' marks marks' stack stack' counter used bound goal answer
       → length rows' ≡ length rows → Form term_room words' rows' counter' used' bound' → State most limit words' rows' links' marks' stack' counter' used' bound'
   attempted_state h e form =

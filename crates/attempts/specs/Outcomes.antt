@@ -1,5 +1,5 @@
 -- The theory's attempt over the stored counts, in its four ways, and what each way out of an attempt leaves.
-use Rattle.std.specs.Prelude.{ℕ, ◌+◌, ◌≤◌, ◌≡◌, refl, Bool, true, false, List, get_or}
+use Rattle.std.specs.Prelude.{ℕ, ◌+◌, ◌≤◌, ◌≡◌, refl, Bool, true, false, Option, Some, None, Result, Ok, Err, List, get_or}
 use Rattle.std.proofs.Common.{arith, le_refl, sym, ◌∙◌, subst}
 use Rattle.std.proofs.Math.Path.{ap, ap₂}
 use Rattle.std.proofs.Math.ListN.{length}
@@ -22,9 +22,8 @@ use Rattle.attempts.specs.RuleLaws.{terms_moved, instance_head, instance_body, h
 use Rattle.attempts.specs.Extending.{form_back}
 use Rattle.attempts.specs.Heads.{allowed}
 use Rattle.attempts.specs.declared.Stored.{Stored}
-use Rattle.attempts.specs.declared.Tried.TheVariants.{Exceeded, Missed, Entered}
-use Rattle.attempts.specs.declared.Meeting.{Meeting}
-use Rattle.attempts.specs.declared.Meeting.TheVariants.{Refused, Apart, Unifies}
+use Rattle.attempts.specs.declared.Tried.TheVariants.{Missed, Entered}
+use Rattle.refusals.specs.declared.Refusal.{Refusal}
 
 guard_refuses : (b : Bool) (next : Unit {0} → Attempt) → b ≡ true → guard b next ≡ exceeded
 guard_refuses true next e = refl
@@ -127,14 +126,15 @@ module _ {most limit : ℕ} {pattern premises places : List ℕ} {stored : Store
       let f = form.low in let p = rule.head_part.low in
       (omega arith, omega arith, omega arith)
 
-  module _ {words' : List ℕ} {rows' links' marks' stack' : Rows} {answer : Meeting} (told : HeadTried most limit pattern places stored words words' rows rows' links links' marks marks' stack stack' counter used bound goal answer) where
+  module _ {words' : List ℕ} {rows' links' marks' stack' : Rows} {answer : Result (Option ℕ) Refusal} (told : HeadTried most limit pattern places stored words words' rows rows' links links' marks marks' stack stack' counter used bound goal answer) where
     -- The answer is known.
-    known : (a : Meeting) → answer ≡ a → HeadTried most limit pattern places stored words words' rows rows' links links' marks marks' stack stack' counter used bound goal a
-    known a e = subst (λ (a : Meeting). HeadTried most limit pattern places stored words words' rows rows' links links' marks marks' stack stack' counter used bound goal a) e told
+    known : (a : Result (Option ℕ) Refusal) → answer ≡ a → HeadTried most limit pattern places stored words words' rows rows' links links' marks marks' stack stack' counter used bound goal a
+    known a e = subst (λ (a : Result (Option ℕ) Refusal). HeadTried most limit pattern places stored words words' rows rows' links links' marks marks' stack stack' counter used bound goal a) e told
 
-    pub refused_way : answer ≡ Refused
-        → Attempted most limit pattern premises places stored words words' rows rows' links links' marks marks' stack stack' counter used bound goal Exceeded
-    refused_way e = let h = known Refused e in record {
+    pub refused_way : (x : Refusal) → answer ≡ Err x
+        → Attempted most limit pattern premises places stored words words' rows rows' links links' marks marks' stack stack' counter used bound goal (Err x)
+    refused_way x e = let h = known (Err x) e in record {
+      limits = h.limits;
       is = sym (head_exceeds rule most limit (held term_room words rows bound) (denote term_room (cells words) goal) used counter h.came.0);
       kept = h.kept;
       past = λ i l. h.past i (omega arith);
@@ -146,9 +146,10 @@ module _ {most limit : ℕ} {pattern premises places : List ℕ} {stored : Store
       stack_kept = h.stack_kept;
     }
 
-    pub missed_way : answer ≡ Apart
-        → Attempted most limit pattern premises places stored words words' rows rows' links links' marks marks' stack stack' counter used bound goal (Missed (counter + stored.met))
-    missed_way e = let h = known Apart e in record {
+    pub missed_way : answer ≡ Ok None
+        → Attempted most limit pattern premises places stored words words' rows rows' links links' marks marks' stack stack' counter used bound goal (Ok (Missed (counter + stored.met)))
+    missed_way e = let h = known (Ok None) e in record {
+      limits = tt;
       is = sym (misses rule most limit (held term_room words rows bound) (denote term_room (cells words) goal) used counter h.came.0 h.came.1);
       kept = h.kept;
       past = λ i l. h.past i (omega arith);
@@ -162,9 +163,9 @@ module _ {most limit : ℕ} {pattern premises places : List ℕ} {stored : Store
       stack_kept = h.stack_kept;
     }
 
-    module _ (n : ℕ) (e : answer ≡ Unifies n) (rows_long : length rows' ≡ length rows) where
-      h : HeadTried most limit pattern places stored words words' rows rows' links links' marks marks' stack stack' counter used bound goal (Unifies n)
-      h = known (Unifies n) e
+    module _ (n : ℕ) (e : answer ≡ Ok (Some n)) (rows_long : length rows' ≡ length rows) where
+      h : HeadTried most limit pattern places stored words words' rows rows' links links' marks marks' stack stack' counter used bound goal (Ok (Some n))
+      h = known (Ok (Some n)) e
 
       -- What `try_body` asks.
       pub body_asked : BodyAsked most limit pattern places stored words' rows' counter used bound n
@@ -189,10 +190,11 @@ module _ {most limit : ℕ} {pattern premises places : List ℕ} {stored : Store
           → (i : ℕ) → used + stored.head + stored.body ≤ i → cells words'' i ≡ cells words i
       past_both words'' k i l = k i l ∙ h.past i (omega arith)
 
-      module _ {words'' : List ℕ} {rows'' : Rows} {copied : Bool} (done : BodyTried most limit pattern places stored words' words'' rows' rows'' counter used bound n copied) where
-        pub exceeded_way : copied ≡ false
-            → Attempted most limit pattern premises places stored words words'' rows rows'' links links' marks marks' stack stack' counter used bound goal Exceeded
-        exceeded_way f = let k = subst (λ (a : Bool). BodyTried most limit pattern places stored words' words'' rows' rows'' counter used bound n a) f done in record {
+      module _ {words'' : List ℕ} {rows'' : Rows} {copied : Result (Unit {0}) Refusal} (done : BodyTried most limit pattern places stored words' words'' rows' rows'' counter used bound n copied) where
+        pub exceeded_way : (x : Refusal) → copied ≡ Err x
+            → Attempted most limit pattern premises places stored words words'' rows rows'' links links' marks marks' stack stack' counter used bound goal (Err x)
+        exceeded_way x f = let k = subst (λ (a : Result (Unit {0}) Refusal). BodyTried most limit pattern places stored words' words'' rows' rows'' counter used bound n a) f done in record {
+          limits = k.limits;
           is = sym (body_exceeds rule most limit (held term_room words rows bound) (denote term_room (cells words) goal) used counter
               (held term_room words' rows' n) h.came.0 h.came.1 k.done.0);
           kept = kept_both words'' k.kept;
@@ -205,10 +207,11 @@ module _ {most limit : ℕ} {pattern premises places : List ℕ} {stored : Store
           stack_kept = h.stack_kept;
         }
 
-        pub entered_way : copied ≡ true
+        pub entered_way : copied ≡ Ok tt
             → Attempted most limit pattern premises places stored words words'' rows rows'' links links' marks marks' stack stack' counter used bound goal
-            (Entered (counter + stored.variables) n (used + stored.head + stored.body))
-        entered_way f = let k = subst (λ (a : Bool). BodyTried most limit pattern places stored words' words'' rows' rows'' counter used bound n a) f done in record {
+            (Ok (Entered (counter + stored.variables) n (used + stored.head + stored.body)))
+        entered_way f = let k = subst (λ (a : Result (Unit {0}) Refusal). BodyTried most limit pattern places stored words' words'' rows' rows'' counter used bound n a) f done in record {
+          limits = tt;
           is = ap (λ (β : Bindings). entered β (counter + stored.variables) (used + stored.head + stored.body)) k.done.1.bindings
               ∙ sym (enters rule most limit (held term_room words rows bound) (denote term_room (cells words) goal) used counter
               (held term_room words' rows' n) h.came.0 h.came.1 k.done.0);

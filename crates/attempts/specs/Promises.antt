@@ -1,5 +1,5 @@
 -- What one attempt asks and leaves (document 01, "Search" and refusal 37), each contract a record with named parts.
-use Rattle.std.specs.Prelude.{ℕ, ◌+◌, ◌-◌, ◌≤◌, ◌<◌, ◌≡◌, Bool, true, false, ◌≢◌, List, map, get_or, length}
+use Rattle.std.specs.Prelude.{ℕ, ◌+◌, ◌-◌, ◌≤◌, ◌<◌, ◌≡◌, Bool, true, false, ◌≢◌, Option, Some, None, Result, Ok, Err, IfErr, List, map, get_or, length}
 use Rattle.terms.specs.Term.{Term, sub}
 use Rattle.terms.specs.Unification.{Outcome, fails, unified, unify}
 use Rattle.arena.specs.Cells.{headers, denote, Reference, Same, cells, terms_of}
@@ -15,9 +15,9 @@ use Rattle.resolution.specs.Search.{within, over, Attempt, exceeded, missed, ent
 use Rattle.attempts.specs.StoredRules.{pattern_of, rule_of, Part, Root, StoredRule, RuleInForm}
 use Rattle.attempts.specs.declared.Stored.{Stored}
 use Rattle.attempts.specs.declared.Tried.{Tried}
-use Rattle.attempts.specs.declared.Tried.TheVariants.{Exceeded, Missed, Entered}
-use Rattle.attempts.specs.declared.Meeting.{Meeting}
-use Rattle.attempts.specs.declared.Meeting.TheVariants.{Refused, Apart, Unifies}
+use Rattle.attempts.specs.declared.Tried.TheVariants.{Missed, Entered}
+use Rattle.refusals.specs.declared.Refusal.{Refusal}
+use Rattle.refusals.specs.declared.Refusal.TheVariants.{OverLimit}
 
 -- The state of a search, lent and in form: `counter` variables, `used` words and `bound` bindings; and there is room for what the
 -- limits allow, `most` variables and `limit` words. The encoding's room is a number of its own, the same for a whole session whatever
@@ -38,10 +38,10 @@ pub record Asked (most limit : ℕ) (pattern premises places : List ℕ) (stored
   pub refers : Reference term_room (cells words) counter used goal
 
 -- The theory's attempt for an answer, and the bindings that then stand.
-abbrev pub attempt_of : List ℕ → Rows → Tried → Attempt
-attempt_of words rows Exceeded = exceeded
-attempt_of words rows (Missed counter) = missed counter
-attempt_of words rows (Entered counter bound used) = entered (held term_room words rows bound) counter used
+abbrev pub attempt_of : List ℕ → Rows → Result Tried Refusal → Attempt
+attempt_of words rows (Err e) = exceeded
+attempt_of words rows (Ok (Missed counter)) = missed counter
+attempt_of words rows (Ok (Entered counter bound used)) = entered (held term_room words rows bound) counter used
 
 -- What a pattern's reference becomes, when the part from `from` on was copied to the address `used` with new variables from the counter on.
 abbrev pub copied_at : List ℕ → ℕ → ℕ → ℕ → ℕ → ℕ
@@ -83,22 +83,24 @@ pub record Inside (premises places : List ℕ) (stored : Stored) (R : Rule) (wor
   pub denoted : terms_of (denote term_room (cells words')) (map (premise_at places counter stored used) premises) ≡ body counter R
 
 -- What an answer leaves.
-abbrev pub Left : List ℕ → List ℕ → Stored → Rule → List ℕ → Rows → Rows → ℕ → ℕ → ℕ → Tried → Type 0
-Left premises places stored R words' rows rows' counter used bound Exceeded = Back words' rows rows' counter used bound
-Left premises places stored R words' rows rows' counter used bound (Missed counter') =
+abbrev pub Left : List ℕ → List ℕ → Stored → Rule → List ℕ → Rows → Rows → ℕ → ℕ → ℕ → Result Tried Refusal → Type 0
+Left premises places stored R words' rows rows' counter used bound (Err e) = Back words' rows rows' counter used bound
+Left premises places stored R words' rows rows' counter used bound (Ok (Missed counter')) =
     (counter ≤ counter') × Back words' rows rows' counter' used bound
-Left premises places stored R words' rows rows' counter used bound (Entered counter' bound' used') =
+Left premises places stored R words' rows rows' counter used bound (Ok (Entered counter' bound' used')) =
     Inside premises places stored R words' rows rows' counter used bound counter' used' bound'
 
 -- Are the words in form over a signature's arities, with the counts that an answer leaves?
-abbrev pub left_in_form : List ℕ → ℕ → ℕ → List ℕ → Tried → Bool
-left_in_form words counter used arities Exceeded = in_form words 0 used term_room counter arities
-left_in_form words counter used arities (Missed counter') = in_form words 0 used term_room counter' arities
-left_in_form words counter used arities (Entered counter' bound' used') = in_form words 0 used' term_room counter' arities
+abbrev pub left_in_form : List ℕ → ℕ → ℕ → List ℕ → Result Tried Refusal → Bool
+left_in_form words counter used arities (Err e) = in_form words 0 used term_room counter arities
+left_in_form words counter used arities (Ok (Missed counter')) = in_form words 0 used term_room counter' arities
+left_in_form words counter used arities (Ok (Entered counter' bound' used')) = in_form words 0 used' term_room counter' arities
 
 -- `try_rule` tried a rule with a goal.
 pub record Attempted (most limit : ℕ) (pattern premises places : List ℕ) (stored : Stored) (words words' : List ℕ)
-    (rows rows' links links' marks marks' stack stack' : Rows) (counter used bound goal : ℕ) (answer : Tried) : Type 0 where
+    (rows rows' links links' marks marks' stack stack' : Rows) (counter used bound goal : ℕ) (answer : Result Tried Refusal) : Type 0 where
+  -- the limits are the only refusal
+  pub limits : IfErr answer (λ e. e ≡ OverLimit)
   -- the answer is the theory's
   pub is : attempt_of words' rows' answer
       ≡ attempt (within most limit) (held term_room words rows bound) (denote term_room (cells words) goal) used counter
@@ -147,21 +149,22 @@ meeting pattern places stored words rows counter bound goal =
 
 -- What came of the goal and the conclusion: the limits refuse the conclusion; or it does not unify, and the rows are those at entry; or it
 -- does.
-abbrev pub Met : ℕ → ℕ → List ℕ → List ℕ → Stored → List ℕ → List ℕ → Rows → Rows → ℕ → ℕ → ℕ → ℕ → Meeting → Type 0
-Met most limit pattern places stored words words' rows rows' counter used bound goal Refused =
+abbrev pub Met : ℕ → ℕ → List ℕ → List ℕ → Stored → List ℕ → List ℕ → Rows → Rows → ℕ → ℕ → ℕ → ℕ → Result (Option ℕ) Refusal → Type 0
+Met most limit pattern places stored words words' rows rows' counter used bound goal (Err e) =
     (over (within most limit) (counter + stored.met) (used + stored.head) ≡ true) × (rows' ≡ rows)
-Met most limit pattern places stored words words' rows rows' counter used bound goal Apart =
+Met most limit pattern places stored words words' rows rows' counter used bound goal (Ok None) =
     (over (within most limit) (counter + stored.met) (used + stored.head) ≡ false)
     × (meeting pattern places stored words rows counter bound goal ≡ fails)
     × (rows' ≡ rows)
-Met most limit pattern places stored words words' rows rows' counter used bound goal (Unifies bound') =
+Met most limit pattern places stored words words' rows rows' counter used bound goal (Ok (Some bound')) =
     (over (within most limit) (counter + stored.met) (used + stored.head) ≡ false)
     × (meeting pattern places stored words rows counter bound goal ≡ unified (held term_room words' rows' bound'))
     × Joined pattern stored words words' rows rows' counter used bound bound'
 
 -- `try_head` copied the conclusion and unified the goal with it.
 pub record HeadTried (most limit : ℕ) (pattern places : List ℕ) (stored : Stored) (words words' : List ℕ)
-    (rows rows' links links' marks marks' stack stack' : Rows) (counter used bound goal : ℕ) (answer : Meeting) : Type 0 where
+    (rows rows' links links' marks marks' stack stack' : Rows) (counter used bound goal : ℕ) (answer : Result (Option ℕ) Refusal) : Type 0 where
+  pub limits : IfErr answer (λ e. e ≡ OverLimit)
   pub came : Met most limit pattern places stored words words' rows rows' counter used bound goal answer
   -- the words that were in use stand, and so do those past the conclusion's; there are as many
   pub kept : Same term_room (cells words) (cells words') used
@@ -203,17 +206,18 @@ pub record Copied (pattern places : List ℕ) (stored : Stored) (words words' : 
       (counter + stored.met) (counter + stored.variables)
 
 -- What came of the premises: they were copied, or the limits refuse them and the bindings are undone to the mark.
-abbrev pub Done : ℕ → ℕ → List ℕ → List ℕ → Stored → List ℕ → List ℕ → Rows → Rows → ℕ → ℕ → ℕ → ℕ → Bool → Type 0
-Done most limit pattern places stored words words' rows rows' counter used mark bound false =
+abbrev pub Done : ℕ → ℕ → List ℕ → List ℕ → Stored → List ℕ → List ℕ → Rows → Rows → ℕ → ℕ → ℕ → ℕ → Result (Unit {0}) Refusal → Type 0
+Done most limit pattern places stored words words' rows rows' counter used mark bound (Err e) =
     (over (within most limit) (counter + stored.variables) (used + stored.head + stored.body) ≡ true)
     × (rows' ≡ undone rows mark (bound - mark))
-Done most limit pattern places stored words words' rows rows' counter used mark bound true =
+Done most limit pattern places stored words words' rows rows' counter used mark bound (Ok u) =
     (over (within most limit) (counter + stored.variables) (used + stored.head + stored.body) ≡ false)
     × Copied pattern places stored words words' rows rows' counter used bound
 
--- `try_body` answered whether the premises were copied behind the conclusion.
+-- `try_body` copied the premises behind the conclusion, or refused them.
 pub record BodyTried (most limit : ℕ) (pattern places : List ℕ) (stored : Stored) (words words' : List ℕ) (rows rows' : Rows)
-    (counter used mark bound : ℕ) (answer : Bool) : Type 0 where
+    (counter used mark bound : ℕ) (answer : Result (Unit {0}) Refusal) : Type 0 where
+  pub limits : IfErr answer (λ e. e ≡ OverLimit)
   pub done : Done most limit pattern places stored words words' rows rows' counter used mark bound answer
   -- the words that were in use stand, and so do those past the premises'; there are as many
   pub kept : Same term_room (cells words) (cells words') (used + stored.head)

@@ -8,6 +8,7 @@ ghost use Rattle.attempts.specs.Promises.{Asked, Attempted, HeadAsked, HeadTried
 
 use arena::{PATTERN_ROOM, SYMBOL_STEP, TERM_ROOM, inst, moved_word};
 use bindings::{undo, walk};
+use refusals::Refusal;
 use unifier::unify;
 
 // A stored rule: where its words start among the pattern's, how many its conclusion takes and how many its premises before them, the reference of its
@@ -22,36 +23,20 @@ pub struct Stored {
     pub variables: u32,
 }
 
-// What came of the goal and a rule's conclusion.
-#[derive(Clone, Copy)]
-pub enum Meeting {
-    // The limits refuse the conclusion.
-    Refused,
-    // They do not unify.
-    Apart,
-    // They unify, with so many bindings.
-    Unifies(u32),
-}
-
-// What came of an attempt.
+// What came of an attempt that the limits allow.
 #[derive(Clone, Copy)]
 pub enum Tried {
-    // The limits refuse it.
-    Exceeded,
     // The conclusion does not unify; the counter has moved on.
-    Missed(u32),
+    Missed { counter: u32 },
     // The rule is entered, with the counter, the number of bindings and the words in use.
-    Entered(u32, u32, u32),
+    Entered { counter: u32, bound: u32, used: u32 },
 }
 
 // Whether so many variables and words are too many (document 01, refusal 37).
-fn exceeds(most: u32, limit: u32, variables: u32, words: u32) -> bool
+pub fn exceeds(most: u32, limit: u32, variables: u32, words: u32) -> bool
     ensures { result ≡ over (within most limit) variables words }
 {
-    if most < variables {
-        return true;
-    }
-    limit < words
+    most < variables || limit < words
 }
 
 // Whether two heads differ: where the bindings lead from a reference, and a pattern's, both nodes.
@@ -79,10 +64,7 @@ fn heads_differ(
     }
     let at = (end - TERM_ROOM) as usize;
     let from = (other - PATTERN_ROOM) as usize;
-    if words[at] == pattern[from] {
-        return false;
-    }
-    true
+    words[at] != pattern[from]
 }
 
 // Whether the goal and a conclusion clash by their heads or by those of their arguments. A rule that cannot serve is mostly found out here, before
@@ -114,8 +96,7 @@ pub fn clashes(
         return true;
     }
     let count = (header % SYMBOL_STEP) as usize;
-    let mut i = 0;
-    while i < count {
+    for i in 0..count {
         if heads_differ(
             pattern,
             words,
@@ -128,12 +109,12 @@ pub fn clashes(
         ) {
             return true;
         }
-        i += 1;
     }
     false
 }
 
-// Copies the conclusion behind the used words, if the limits allow it, and unifies the goal with it.
+// Copies the conclusion behind the used words, if the limits allow it, and unifies the goal with it; the answer is how many bindings there are then, where
+// they unify.
 fn try_head(
     pattern: &[u32],
     stored: Stored,
@@ -149,7 +130,7 @@ fn try_head(
     used: u32,
     bound: u32,
     goal: u32,
-) -> Meeting
+) -> Result<Option<u32>, Refusal>
     requires { HeadAsked most limit pattern.now places.now stored words.old bindings.old
         links.old marks.old stack.old counter used bound goal }
     ensures { HeadTried most limit pattern.now places.now stored words.old words.new
@@ -161,7 +142,7 @@ fn try_head(
     let variables = counter + stored.met;
     let top = used + count;
     if exceeds(most, limit, variables, top) {
-        return Meeting::Refused;
+        return Err(Refusal::OverLimit);
     }
     if clashes(
         pattern,
@@ -173,7 +154,7 @@ fn try_head(
         goal,
         stored.conclusion,
     ) {
-        return Meeting::Apart;
+        return Ok(None);
     }
     // Of two variables the first is bound: the goal's.
     let first = goal;
@@ -187,13 +168,9 @@ fn try_head(
     inst(
         pattern, from, count, places, words, TERM_ROOM, used, counter,
     );
-    let ended = unify(
+    Ok(unify(
         words, bindings, links, marks, stack, TERM_ROOM, variables, top, bound, first, second,
-    );
-    if ended.unified {
-        return Meeting::Unifies(ended.bound);
-    }
-    Meeting::Apart
+    ))
 }
 
 // Copies the premises behind the conclusion, if the limits allow it; else the bindings are undone to the mark.
@@ -209,7 +186,7 @@ fn try_body(
     used: u32,
     mark: u32,
     bound: u32,
-) -> bool
+) -> Result<(), Refusal>
     requires { BodyAsked most limit pattern.now places.now stored words.old bindings.old counter used mark bound }
     ensures { BodyTried most limit pattern.now places.now stored words.old words.new
         bindings.old bindings.new counter used mark bound result }
@@ -221,16 +198,16 @@ fn try_body(
     let end = behind + count;
     if exceeds(most, limit, variables, end) {
         undo(bindings, bound, mark);
-        return false;
+        return Err(Refusal::OverLimit);
     }
     inst(
         pattern, from, count, places, words, TERM_ROOM, behind, counter,
     );
-    true
+    Ok(())
 }
 
 // One attempt: the goal with a rule, under the first `bound` bindings, with new variables from the counter on; at most `most` variables and `limit`
-// words. The premises' references are named only in the contract: what they become is `premise_at`, which `arena::moved_word` computes.
+// words, and else it is refused. The premises' references are named only in the contract: what they become is `premise_at`, which `arena::moved_word` computes.
 pub fn try_rule(
     pattern: &[u32],
     stored: Stored,
@@ -247,7 +224,7 @@ pub fn try_rule(
     used: u32,
     bound: u32,
     goal: u32,
-) -> Tried
+) -> Result<Tried, Refusal>
     requires { Asked most limit pattern.now premises.now places.now stored words.old bindings.old
         links.old marks.old stack.old counter used bound goal }
     ensures { Attempted most limit pattern.now premises.now places.now stored
@@ -255,23 +232,21 @@ pub fn try_rule(
         stack.old stack.new counter used bound goal result }
 {
     let met = counter + stored.met;
-    match try_head(
+    let unified = try_head(
         pattern, stored, places, words, bindings, links, marks, stack, most, limit, counter, used,
         bound, goal,
-    ) {
-        Meeting::Refused => Tried::Exceeded,
-        Meeting::Apart => Tried::Missed(met),
-        Meeting::Unifies(n) => {
-            if try_body(
+    )?;
+    match unified {
+        None => Ok(Tried::Missed { counter: met }),
+        Some(n) => {
+            try_body(
                 pattern, stored, places, words, bindings, most, limit, counter, used, bound, n,
-            ) {
-                return Tried::Entered(
-                    counter + stored.variables,
-                    n,
-                    used + stored.head + stored.body,
-                );
-            }
-            Tried::Exceeded
+            )?;
+            Ok(Tried::Entered {
+                counter: counter + stored.variables,
+                bound: n,
+                used: used + stored.head + stored.body,
+            })
         }
     }
 }

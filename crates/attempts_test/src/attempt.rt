@@ -5,7 +5,9 @@ ghost use Rattle.std.specs.Prelude.{◌≡◌, true};
 
 use arena::{HEADERS, PATTERN_ROOM, TERM_ROOM};
 use attempts::{Stored, Tried};
+use refusals::Refusal;
 use samples::unification;
+use samples::unification::Fault;
 
 // The counts of a search, and a goal.
 #[derive(Clone, Copy)]
@@ -16,19 +18,6 @@ pub struct State {
     pub used: u32,
     pub bound: u32,
     pub goal: u32,
-}
-
-// What came of it.
-#[derive(Clone, Copy)]
-pub enum Came {
-    // The storage is not what the call asks.
-    NotReady,
-    // The scratch is not zero again.
-    ScratchLeft,
-    // As `try_rule` answers.
-    Exceeded,
-    Missed(u32),
-    Entered(u32, u32, u32),
 }
 
 // Whether storage has room for what the limits allow, and the scratch is zero.
@@ -55,13 +44,13 @@ fn has_room(
     if bindings.len() < most as usize {
         return false;
     }
-    if !checks::are_zero_pairs(links, (TERM_ROOM + limit) as usize) {
+    if !checks::are_zero(links, (TERM_ROOM + limit) as usize) {
         return false;
     }
-    if !checks::are_zero_pairs(marks, (TERM_ROOM + limit) as usize) {
+    if !checks::are_zero(marks, (TERM_ROOM + limit) as usize) {
         return false;
     }
-    checks::are_zero_triples(stack, limit as usize)
+    checks::are_zero(stack, limit as usize)
 }
 
 // Whether storage is what an attempt asks; the marks are left as they are.
@@ -82,7 +71,7 @@ fn is_state(
     if !checks::is_form(words, bindings, marks, counter, used, bound) {
         return false;
     }
-    if !checks::is_reference(words, counter, used, goal) {
+    if !bindings::is_reference(words, TERM_ROOM, counter, used, goal) {
         return false;
     }
     has_room(
@@ -96,7 +85,7 @@ fn is_state(
     )
 }
 
-// Tries the rule.
+// Tries the rule: as `try_rule` answers.
 pub fn attempt(
     words: &mut [u32],
     bindings: &mut [[u32; 2]],
@@ -104,9 +93,9 @@ pub fn attempt(
     marks: &mut [[u32; 2]],
     stack: &mut [[u32; 3]],
     state: State,
-) -> Came {
+) -> Result<Result<Tried, Refusal>, Fault> {
     if !is_state(words, bindings, links, marks, stack, state) {
-        return Came::NotReady;
+        return Err(Fault::NotReady);
     }
     let pattern = [
         1048642u32, 1, 0, 1048609, 0, 1048609, 1, 1048609, 69, 1048609, 71, 1048609, 73,
@@ -139,13 +128,9 @@ pub fn attempt(
         state.goal,
     );
     if !unification::is_clean(links, marks, stack) {
-        return Came::ScratchLeft;
+        return Err(Fault::ScratchLeft);
     }
-    match tried {
-        Tried::Exceeded => Came::Exceeded,
-        Tried::Missed(counter) => Came::Missed(counter),
-        Tried::Entered(counter, bound, used) => Came::Entered(counter, bound, used),
-    }
+    Ok(tried)
 }
 
 // What a premise's reference becomes by an attempt; 0 where no sum is sure to fit.

@@ -2,8 +2,10 @@
 #![tactic(auto)]
 
 use arena::TERM_ROOM;
-use attempt::{Came, State};
-use samples::unification::Case;
+use attempt::State;
+use attempts::Tried;
+use refusals::Refusal;
+use samples::unification::{Case, Fault};
 use samples::{build, report, rows, unification};
 
 mod attempt; // one attempt
@@ -26,7 +28,7 @@ fn put_goal(
     spare: u32,
 ) -> State {
     build::put_constants(words);
-    let used = build::put_tower(words, 2, 100000, TERM_ROOM);
+    let used = build::put_tower(words, 2, 100000, TERM_ROOM, 1);
     if 100000 < height {
         return no_state();
     }
@@ -74,25 +76,33 @@ fn report_attempt(
     marks: &mut [[u32; 2]],
     before: &[[u32; 2]],
     state: State,
-    came: Came,
+    came: Result<Result<Tried, Refusal>, Fault>,
 ) {
     match came {
-        Came::NotReady => {
+        Err(Fault::NotReady) => {
             report::text(b": not as the call asks");
         }
-        Came::ScratchLeft => {
+        Err(Fault::ScratchLeft) => {
             report::text(b": scratch is left");
         }
-        Came::Exceeded => {
+        Ok(Err(_)) => {
             report::text(b": exceeded");
             unification::compare(bindings, before);
         }
-        Came::Missed(counter) => {
+        Ok(Ok(Tried::Missed { counter })) => {
             report::text(b": missed, counter ");
             report::number(counter);
             unification::compare(bindings, before);
         }
-        Came::Entered(counter, bound, used) => {
+        Ok(
+            Ok(
+                Tried::Entered {
+                    counter,
+                    bound,
+                    used,
+                },
+            ),
+        ) => {
             report::text(b": entered, counter ");
             report::number(counter);
             report::text(b", words ");
@@ -116,7 +126,7 @@ fn try_rule(name: &[u8], most: u32, height: u32, spare: u32) {
     let mut bindings = [[0u32; 2]; 64];
     let state = put_goal(&mut words, &mut bindings, most, height, spare);
     let mut before = [[0u32; 2]; 64];
-    rows::put(&mut before, 0, rows::value(&bindings, 0), 0);
+    rows::put(&mut before, 0, rows::number(&bindings, 0, 0), 0);
     let mut links = [[0u32; 2]; REFERENCES];
     let mut marks = [[0u32; 2]; REFERENCES];
     let mut stack = [[0u32; 3]; WORDS];

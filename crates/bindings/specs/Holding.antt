@@ -1,6 +1,6 @@
 -- The bindings that storage holds: where its values lead is where the theory's `walk` leads, an entry more is a binding more, and the trail is no
 -- longer than there are variables.
-use Rattle.std.specs.Prelude.{ℕ, zero, suc, ◌-◌, ◌≤◌, ◌<◌, ◌≡◌, refl, false, ◌⊎◌, ◌≢◌, List}
+use Rattle.std.specs.Prelude.{ℕ, zero, suc, ◌-◌, ◌≤◌, ◌<◌, ◌≡◌, refl, false, ◌≢◌, List}
 use Rattle.std.proofs.Common.{arith, not-suc-le-zero, sym, ap, ap₂, ◌∙◌, subst, ⊎_elim}
 use Rattle.std.proofs.Math.Option.{none}
 use Rattle.terms.specs.Numbers.{by_same, some_none}

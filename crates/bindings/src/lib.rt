@@ -6,6 +6,7 @@
 #![tactic(auto)]
 
 pub use tables::{enter, undo};
+pub use trails::is_reference;
 
 mod tables; // a table with the list of its entries
 mod visits; // marks and the queue of the occurs check

@@ -1,21 +1,7 @@
 // A table with the list of its entries: rows of two numbers, the value by key and the keys in order.
-ghost use Rattle.std.specs.Prelude.{◌≡◌, ◌-◌, ◌<◌, length, get_or};
+ghost use Rattle.std.specs.Prelude.{◌≡◌, ◌-◌, ◌<◌, length};
 ghost use Rattle.bindings.specs.Tables.{valued, listed, undone};
 ghost use Rattle.bindings.specs.Promises.{Replaced, Entered, Undoable};
-
-// The first number of a row.
-fn first(row: [u32; 2]) -> u32
-    ensures { (result ≡ get_or row 0 0) × (length row ≡ 2) }
-{
-    row[0]
-}
-
-// The second number of a row.
-fn second(row: [u32; 2]) -> u32
-    ensures { (result ≡ get_or row 1 0) × (length row ≡ 2) }
-{
-    row[1]
-}
 
 // Sets the value of a key.
 fn set_value(t: &mut [[u32; 2]], key: u32, value: u32)
@@ -23,8 +9,7 @@ fn set_value(t: &mut [[u32; 2]], key: u32, value: u32)
     ensures { Replaced t.old t.new key 2 (valued t.old key value) }
 {
     let i = key as usize;
-    let row = t[i];
-    let old = second(row);
+    let [_, old] = t[i];
     t[i] = [value, old];
 }
 
@@ -34,8 +19,7 @@ fn set_listed(t: &mut [[u32; 2]], n: u32, key: u32)
     ensures { Replaced t.old t.new n 2 (listed t.old n key) }
 {
     let i = n as usize;
-    let row = t[i];
-    let old = first(row);
+    let [old, _] = t[i];
     t[i] = [old, key];
 }
 
@@ -53,10 +37,8 @@ pub fn undo(t: &mut [[u32; 2]], n: u32, mark: u32)
     requires { Undoable t.old n mark }
     ensures { t.new ≡ undone t.old mark (n - mark) }
 {
-    let mut i = n;
-    while mark < i {
-        i -= 1;
-        let key = second(t[i as usize]);
+    for i in (mark..n).rev() {
+        let [_, key] = t[i as usize];
         set_value(t, key, 0);
         set_listed(t, i, 0);
     }

@@ -7,6 +7,7 @@ ghost use Rattle.bindings.specs.Promises.{Free, Tells};
 ghost use Rattle.bindings.specs.Checking.{TrailEntered, GoodValue, TrailChecked};
 
 use super::tables::{enter, undo};
+use arena::HEADERS;
 
 // Enters the variables of the trail as marks, until one is out of use, or unbound, or entered already; answers how many.
 fn enter_trail(b: &[[u32; 2]], m: &mut [[u32; 2]], variables: u32, k: u32) -> u32
@@ -14,8 +15,7 @@ fn enter_trail(b: &[[u32; 2]], m: &mut [[u32; 2]], variables: u32, k: u32) -> u3
     requires fact_2 { Empty m.old }
     ensures { TrailEntered b.now m.old m.new variables k result }
 {
-    let mut i = 0;
-    while i < k {
+    for i in 0..k {
         let key = b[i as usize][1];
         if variables <= key {
             return i;
@@ -27,30 +27,23 @@ fn enter_trail(b: &[[u32; 2]], m: &mut [[u32; 2]], variables: u32, k: u32) -> u3
             return i;
         }
         enter(m, i, key, 1);
-        i += 1;
     }
-    i
+    k
 }
 
-// Whether r is a reference in form.
-fn in_form(w: &[u32], room: u32, variables: u32, used: u32, r: u32) -> bool
+// Whether a reference is in form: a variable in use, or a node whose address is before `used`.
+pub fn is_reference(w: &[u32], room: u32, variables: u32, used: u32, r: u32) -> bool
     requires { used ≤ length w.now }
     ensures { Tells result (Reference room (cells w.now) variables used r) }
 {
     if r < room {
-        if r < variables {
-            return true;
-        }
-        return false;
+        return r < variables;
     }
     let a = r - room;
     if used <= a {
         return false;
     }
-    if w[a as usize] < 1048576 {
-        return false;
-    }
-    true
+    w[a as usize] >= HEADERS
 }
 
 // Whether the value of v is 0 or in form.
@@ -76,7 +69,7 @@ fn good_value(
     if m[v][0] == 0 {
         return false;
     }
-    in_form(w, room, variables, used, value - 1)
+    is_reference(w, room, variables, used, value - 1)
 }
 
 // Whether all values are 0 or in form.
@@ -91,11 +84,8 @@ fn check_values(
     requires { (used ≤ length w.now) × (variables ≤ length m.now) }
     ensures { Tells result ((v : ℕ) → GoodValue room w.now b.now m.now variables used v) }
 {
-    let mut v = 0;
-    while v < b.len() {
-        if good_value(w, b, m, room, variables, used, v) {
-            v += 1;
-        } else {
+    for v in 0..b.len() {
+        if !good_value(w, b, m, room, variables, used, v) {
             return false;
         }
     }
@@ -106,14 +96,7 @@ fn check_values(
 pub fn check_rest(b: &[[u32; 2]], k: u32) -> bool
     ensures { Tells result ((i : ℕ) → k ≤ i → column 1 b.now i ≡ 0) }
 {
-    let mut i = k as usize;
-    while i < b.len() {
-        if b[i][1] != 0 {
-            return false;
-        }
-        i += 1;
-    }
-    true
+    b.iter().skip(k as usize).all(|row| row[1] == 0)
 }
 
 // Whether the first k entries of the trail are the bound variables, each once, and their values are in form.

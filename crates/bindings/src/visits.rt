@@ -7,6 +7,7 @@ ghost use Rattle.bindings.specs.Entries.{Entries};
 ghost use Rattle.bindings.specs.Search.{Grown, ArgumentOf};
 
 use super::tables::enter;
+use arena::SYMBOL_STEP;
 
 // Marks y and puts it at the queue's end, unless it is marked.
 pub fn visit(m: &mut [[u32; 2]], limit: u32, t: u32, y: u32) -> u32
@@ -30,10 +31,8 @@ fn visit_args(w: &[u32], m: &mut [[u32; 2]], limit: u32, a: usize, n: usize, t: 
     ensures { Grown limit (ArgumentOf w.now a n) m.old t m.new result }
 {
     let mut s = t;
-    let mut i = 0;
-    while i < n {
+    for i in 0..n {
         s = visit(m, limit, s, w[a + 1 + i]);
-        i += 1;
     }
     s
 }
@@ -64,6 +63,6 @@ pub fn visit_edges(
         return visit(m, room + used, t, value - 1);
     }
     let a = (r - room) as usize;
-    let n = (w[a] % 32) as usize;
+    let n = (w[a] % SYMBOL_STEP) as usize;
     visit_args(w, m, room + used, a, n, t)
 }

@@ -20,12 +20,8 @@ pub fn write_bytes(bytes: &[u8], out: &mut [u8], at: usize) -> usize
     requires { at + length bytes.now ≤ length out.old }
     ensures { Written out.old at bytes.now result out.new }
 {
-    let mut i = 0;
-    while i < bytes.len() {
-        out[at + i] = bytes[i];
-        i += 1;
-    }
-    at + i
+    out[at..at + bytes.len()].copy_from_slice(bytes);
+    at + bytes.len()
 }
 
 // Writes a number in decimal: the digits of its tenth, and then its last digit. A number of 32 bits has at most ten digits.
@@ -34,8 +30,8 @@ pub fn write_decimal(out: &mut [u8], at: usize, number: u32) -> usize
     ensures { Written out.old at (numeral number) result out.new }
 {
     if number < 10 {
-        return write_byte(out, at, (48 + number) as u8);
+        return write_byte(out, at, b'0' + number as u8);
     }
     let last = write_decimal(out, at, number / 10);
-    write_byte(out, last, (48 + number % 10) as u8)
+    write_byte(out, last, b'0' + (number % 10) as u8)
 }

@@ -1,12 +1,12 @@
 -- Rows with nothing but 0, and what the tests told together.
-use Prim.Native.Nat.{ℕ, zero, suc, ◌+◌, ◌≤◌, ◌<◌}
+use Prim.Native.Nat.{ℕ, ◌+◌, ◌≤◌, ◌<◌}
 use native.Mathlib.Omega.{arith}
 use mathlib.Core.Path.{◌≡◌, refl}
 use mathlib.Core.Bool.{Bool, false}
-use mathlib.Core.List.{List, [], ◌∷◌}
+use mathlib.Core.List.{List, []}
 use lib.Dec.{eqb}
 use lib.Bits.{bit_or, or_add_and, and_le_l, and_le_r}
-use lib.ListN.{get_or, length}
+use lib.ListN.{get_or, length, get_or-eq_default}
 use borrow.Author.Count.{below_more}
 use borrow.Author.Tests.{eqb-true, eq-eqb}
 use Rattle.arena.specs.Cells.{cells, Reference}
@@ -21,24 +21,6 @@ use Rattle.bindings.specs.Checking.{tells_no}
 use Rattle.checks.specs.ReadyLaws.{zeros_free}
 use Rattle.checks.specs.Ready.{ZeroRow, Joined, Zeros, Stored, Formed, FormTold, Ready, ReadyTold}
 
-pub zero_two : (row : List ℕ) → length row ≡ 2 → get_or row 0 0 ≡ 0 → get_or row 1 0 ≡ 0 → ZeroRow row
-zero_two [] n a b c = refl
-zero_two (x ∷ []) n a b c = absurd (omega arith)
-zero_two (x ∷ y ∷ []) n a b zero = a
-zero_two (x ∷ y ∷ []) n a b (suc zero) = b
-zero_two (x ∷ y ∷ []) n a b (suc (suc c)) = refl
-zero_two (x ∷ y ∷ z ∷ l) n a b c = absurd (omega arith)
-
-pub zero_three : (row : List ℕ) → length row ≡ 3 → get_or row 0 0 ≡ 0 → get_or row 1 0 ≡ 0 → get_or row 2 0 ≡ 0 → ZeroRow row
-zero_three [] n a b d c = refl
-zero_three (x ∷ []) n a b d c = absurd (omega arith)
-zero_three (x ∷ y ∷ []) n a b d c = absurd (omega arith)
-zero_three (x ∷ y ∷ z ∷ []) n a b d zero = a
-zero_three (x ∷ y ∷ z ∷ []) n a b d (suc zero) = b
-zero_three (x ∷ y ∷ z ∷ []) n a b d (suc (suc zero)) = d
-zero_three (x ∷ y ∷ z ∷ []) n a b d (suc (suc (suc c))) = refl
-zero_three (x ∷ y ∷ z ∷ u ∷ l) n a b d c = absurd (omega arith)
-
 -- Rows that are zero below their number are zero.
 pub empty_rows : (rows : Rows) (i : ℕ) → length rows ≤ i → ((k : ℕ) → k < i → ZeroRow (get_or rows k [])) → Empty rows
 empty_rows rows i l h c j = by_order j i (λ q. h j q c) (λ q. column_past rows c j (omega arith))
@@ -51,29 +33,28 @@ or_none a b e = let s = or_add_and a b in let l = and_le_l a b in let r = and_le
 or_both : (a b : ℕ) → a ≡ 0 → b ≡ 0 → bit_or a b ≡ 0
 or_both a b d e = let s = or_add_and a b in omega arith
 
-pub joined_two : (seen : ℕ) (row : List ℕ) → length row ≡ 2 → Joined seen row (bit_or (bit_or seen (get_or row 0 0)) (get_or row 1 0))
-joined_two seen row n =
-    let x : ℕ = get_or row 0 0 in
-    let y : ℕ = get_or row 1 0 in
-    record {
-      old = λ e. (or_none seen x (or_none (bit_or seen x) y e).0).0;
-      zero_row = λ e. zero_two row n (or_none seen x (or_none (bit_or seen x) y e).0).1 (or_none (bit_or seen x) y e).1;
-      back = λ e z. or_both (bit_or seen x) y (or_both seen x e (z 0)) (z 1);
-    }
+-- What was or-ed together of the first i numbers of a row.
+pub record Joining (seen : ℕ) (row : List ℕ) (i r : ℕ) : Type 0 where
+  pub old : r ≡ 0 → seen ≡ 0
+  pub zeros : r ≡ 0 → (k : ℕ) → k < i → get_or row k 0 ≡ 0
+  pub back : seen ≡ 0 → ((k : ℕ) → k < i → get_or row k 0 ≡ 0) → r ≡ 0
 
-pub joined_three : (seen : ℕ) (row : List ℕ) → length row ≡ 3
-    → Joined seen row (bit_or (bit_or (bit_or seen (get_or row 0 0)) (get_or row 1 0)) (get_or row 2 0))
-joined_three seen row n =
-    let x : ℕ = get_or row 0 0 in
-    let y : ℕ = get_or row 1 0 in
-    let v : ℕ = get_or row 2 0 in
-    let first : (e : bit_or (bit_or (bit_or seen x) y) v ≡ 0) → bit_or (bit_or seen x) y ≡ 0 = λ e. (or_none (bit_or (bit_or seen x) y) v e).0 in
-    record {
-      old = λ e. (or_none seen x (or_none (bit_or seen x) y (first e)).0).0;
-      zero_row = λ e. zero_three row n (or_none seen x (or_none (bit_or seen x) y (first e)).0).1 (or_none (bit_or seen x) y (first e)).1
-          (or_none (bit_or (bit_or seen x) y) v e).1;
-      back = λ e z. or_both (bit_or (bit_or seen x) y) v (or_both (bit_or seen x) y (or_both seen x e (z 0)) (z 1)) (z 2);
-    }
+pub joining_none : (seen : ℕ) (row : List ℕ) → Joining seen row 0 seen
+joining_none seen row = record { old = λ e. e; zeros = λ e k l. absurd (omega arith); back = λ e h. e }
+
+pub joining_more : {seen : ℕ} {row : List ℕ} {i r : ℕ} → Joining seen row i r → Joining seen row (i + 1) (bit_or r (get_or row i 0))
+joining_more {seen} {row} {i} {r} h = record {
+  old = λ e. h.old (or_none r (get_or row i 0) e).0;
+  zeros = λ e. below_more (λ k. get_or row k 0 ≡ 0) i (h.zeros (or_none r (get_or row i 0) e).0) (or_none r (get_or row i 0) e).1;
+  back = λ e g. or_both r (get_or row i 0) (h.back e (λ k l. g k (omega arith))) (g i (omega arith));
+}
+
+pub joining_all : {seen : ℕ} {row : List ℕ} {i r : ℕ} → length row ≤ i → Joining seen row i r → Joined seen row r
+joining_all {seen} {row} {i} {r} l h = record {
+  old = h.old;
+  zero_row = λ e c. by_order c i (λ q. h.zeros e c q) (λ q. get_or-eq_default row 0 (omega arith));
+  back = λ e z. h.back e (λ k q. z k);
+}
 
 -- What was or-ed together of the first i rows is 0 exactly where these are 0.
 pub record Seen (rows : Rows) (i seen : ℕ) : Type 0 where

@@ -7,8 +7,9 @@ mod zeros; // rows that are zero
 ghost use Rattle.checks.specs.Ready.{FormTold, ReadyTold};
 
 use arena::TERM_ROOM;
-pub use nodes::{are_terms, is_reference};
-pub use zeros::{are_zero_pairs, are_zero_triples};
+use bindings::is_reference;
+pub use nodes::are_terms;
+pub use zeros::are_zero;
 
 // Whether words and bindings are in form and the marks are zero; these are left as they are.
 pub fn is_form(
@@ -24,7 +25,7 @@ pub fn is_form(
     if !are_terms(words, variables, used) {
         return false;
     }
-    if !are_zero_pairs(marks, (TERM_ROOM + used) as usize) {
+    if !are_zero(marks, (TERM_ROOM + used) as usize) {
         return false;
     }
     bindings::check_bindings(words, bindings, marks, TERM_ROOM, variables, used, bound)
@@ -49,14 +50,14 @@ pub fn is_ready(
     if !is_form(words, bindings, marks, variables, used, bound) {
         return false;
     }
-    if !is_reference(words, variables, used, left) {
+    if !is_reference(words, TERM_ROOM, variables, used, left) {
         return false;
     }
-    if !is_reference(words, variables, used, right) {
+    if !is_reference(words, TERM_ROOM, variables, used, right) {
         return false;
     }
-    if !are_zero_pairs(links, (TERM_ROOM + used) as usize) {
+    if !are_zero(links, (TERM_ROOM + used) as usize) {
         return false;
     }
-    are_zero_triples(stack, used as usize)
+    are_zero(stack, used as usize)
 }

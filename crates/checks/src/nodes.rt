@@ -1,32 +1,12 @@
 // Whether words are terms in form.
 ghost use Rattle.std.specs.Prelude.{◌+◌, ◌<◌, ◌≤◌, length};
-ghost use Rattle.arena.specs.Cells.{cells, headers, Reference, WellFormed};
+ghost use Rattle.arena.specs.Cells.{cells, headers, WellFormed};
 ghost use Rattle.arena.specs.Copies.{term_room};
 ghost use Rattle.bindings.specs.Promises.{Tells};
 ghost use Rattle.checks.specs.Ready.{NodeFormed, Stored};
 
 use arena::{HEADERS, SYMBOL_STEP, TERM_ROOM};
-
-// Whether a reference is a variable in use, or a node whose address is before `end`.
-pub fn is_reference(words: &[u32], variables: u32, end: u32, reference: u32) -> bool
-    requires { end ≤ length words.now }
-    ensures { Tells result (Reference term_room (cells words.now) variables end reference) }
-{
-    if reference < TERM_ROOM {
-        if reference < variables {
-            return true;
-        }
-        return false;
-    }
-    let address = reference - TERM_ROOM;
-    if end <= address {
-        return false;
-    }
-    if words[address as usize] < HEADERS {
-        return false;
-    }
-    true
-}
+use bindings::is_reference;
 
 // Whether the word at an address is no header, or that of a node in form.
 fn is_node(words: &[u32], variables: u32, used: u32, address: u32) -> bool
@@ -41,13 +21,11 @@ fn is_node(words: &[u32], variables: u32, used: u32, address: u32) -> bool
     if used <= address + arity {
         return false;
     }
-    let mut i = 0;
-    while i < arity {
+    for i in 0..arity {
         let argument = words[(address + 1 + i) as usize];
-        if !is_reference(words, variables, address, argument) {
+        if !is_reference(words, TERM_ROOM, variables, address, argument) {
             return false;
         }
-        i += 1;
     }
     true
 }
@@ -57,12 +35,10 @@ fn are_nodes(words: &[u32], variables: u32, used: u32) -> bool
     requires { (used ≤ length words.now) × (used ≤ headers) }
     ensures { Tells result (WellFormed term_room (cells words.now) variables used) }
 {
-    let mut a = 0;
-    while a < used {
+    for a in 0..used {
         if !is_node(words, variables, used, a) {
             return false;
         }
-        a += 1;
     }
     true
 }

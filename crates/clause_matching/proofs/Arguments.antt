@@ -16,28 +16,31 @@ use Rattle.arena.specs.Copies.{pattern_room}
 use Rattle.arena.specs.Rows.{Rows}
 use Rattle.evaluation.specs.Matching.{Built, barred, built, if_built, instantiate_of}
 use Rattle.clause_matching.specs.Stored.{Value, Values, Holds, pattern_at, value_at}
-use Rattle.clause_matching.specs.Building.{InstantiateAsked, Stands, Tells, Instantiated, ArgumentsAsked, TellsAll, ArgumentsBuilt}
+use Rattle.clause_matching.specs.Building.{built_at, InstantiateAsked, Stands, Tells, Instantiated, ArgumentsAsked, TellsAll, ArgumentsBuilt}
 use Rattle.clause_matching.specs.declared.building.Built.{Built as Answer}
-use Rattle.clause_matching.specs.declared.building.Built.TheVariants.{At, Refused}
-use Rattle.clause_matching.proofs.Forming.{FormsKept, unbuilt_forms, built_forms}
+use Rattle.std.specs.Prelude.{Result, Ok, Err}
+use Rattle.refusals.specs.declared.Refusal.{Refusal}
+use Rattle.refusals.specs.Refusals.{number_of}
+use Rattle.clause_matching.proofs.Forming.{FormsKept, ok_is, unbuilt_arguments, built_arguments}
 use Rattle.clause_matching.proofs.BuildTurns.{holds_grown, args_more}
 
 -- What an answer says.
-pub refused_is : (o : Built single) (number : ℕ) (values values' : List ℕ) (used limit : ℕ) → Tells o (Refused number) values values' used limit → o ≡ barred number
-refused_is (barred e) number values values' used limit h = ap barred (let z : number ≡ e = cc in sym z)
-refused_is (built t u) number values values' used limit h = let e = h.1 in let w : ◌≡◌ {A = ℕ} 0 1 = cc in absurd (let z : ⊥ = omega arith in z)
+pub refused_is : (o : Built single) (refusal : Refusal) (values values' : List ℕ) (used limit : ℕ) → Tells o (Err refusal) values values' used limit
+    → o ≡ barred (number_of refusal)
+refused_is (barred e) refusal values values' used limit h = ap barred (sym h)
+refused_is (built t u) refusal values values' used limit h = let e = h.1 in absurd (let z : ⊥ = cc in z)
 
 pub record Found (o : Built single) (values values' : List ℕ) (used limit value used' : ℕ) : Type 0 where
   pub term : Term
   pub comes : o ≡ built term used'
   pub stands : Stands values used limit values' term value used'
 
-pub found : (o : Built single) (value used' : ℕ) (values values' : List ℕ) (used limit : ℕ) → Tells o (At value used') values values' used limit
+pub found : (o : Built single) (value used' : ℕ) (values values' : List ℕ) (used limit : ℕ) → Tells o (built_at value used') values values' used limit
     → Found o values values' used limit value used'
-found (barred e) value used' values values' used limit h = let w : ◌≡◌ {A = ℕ} 0 1 = cc in absurd (let z : ⊥ = omega arith in z)
+found (barred e) value used' values values' used limit h = absurd h
 found (built t u) value used' values values' used limit (v, e, s) =
-    let a : u ≡ used' = cc in
-    let b : v ≡ value = cc in
+    let a : u ≡ used' = ap (λ (b : Answer). b.used) (sym (ok_is e)) in
+    let b : v ≡ value = ap (λ (b : Answer). b.value) (sym (ok_is e)) in
     record {
       term = t;
       comes = ap (λ (x : ℕ). built t x) a;
@@ -97,7 +100,7 @@ module _ {pattern : List ℕ} {first count : ℕ} {environment values₀ : List 
   abbrev grown : (β : Bindings) → Holds environment values₀ used₀ β → Holds environment values spent β
   grown β b = holds_grown β h.asked.stored h.same h.grows b
 
-  pub turn_done : count ≤ k → ArgumentsBuilt pattern first count environment values₀ used₀ limit (At 0 spent) values slots
+  pub turn_done : count ≤ k → ArgumentsBuilt pattern first count environment values₀ used₀ limit (Ok spent) values slots
   unfolding instantiate_of
   turn_done l =
       let f = h.few in
@@ -108,7 +111,7 @@ module _ {pattern : List ℕ} {first count : ℕ} {environment values₀ : List 
             let w : built (append (args (denote 0 (cells values)) (cells slots) 0 k) nil) spent ≡ instantiate_of limit β (args (denote pattern_room (cells pattern)) (cells pattern) first count) used₀ =
             ap (λ (n : ℕ). if_built (instantiate_of limit β (args (denote pattern_room (cells pattern)) (cells pattern) (first + k) n) spent)
             (λ us v. built (append (args (denote 0 (cells values)) (cells slots) 0 k) us) v)) (sym z) ∙ h.comes β b in
-            subst (λ (o : Built several). TellsAll o (At 0 spent) values₀ values slots count used₀ limit) w (
+            subst (λ (o : Built several). TellsAll o (Ok spent) values₀ values slots count used₀ limit) w (
               refl,
               record {
                 stored = h.stored;
@@ -119,7 +122,7 @@ module _ {pattern : List ℕ} {first count : ℕ} {environment values₀ : List 
                 within = h.within;
               },
             );
-        forms = built_forms pattern 0 spent values₀ values used₀ h.forms;
+        forms = built_arguments pattern spent values₀ values used₀ h.forms;
         kept = h.kept;
       }
     where
@@ -161,27 +164,27 @@ module _ {pattern : List ℕ} {first count : ℕ} {environment values₀ : List 
         ∙ ap (λ (p : ℕ). if_built (instantiate_of limit β (pattern_at pattern here) spent)
         (λ t u. if_built (instantiate_of limit β (args (denote pattern_room (cells pattern)) (cells pattern) p (count - suc k)) u) (λ ts v. built (cons t ts) v))) e
 
-    module _ {r : Answer} {values' : List ℕ} (i : Instantiated pattern here environment values spent limit r values') where
-      pub turn_refused : (number : ℕ) → r ≡ Refused number → (slots' : List ℕ) → ArgumentsBuilt pattern first count environment values₀ used₀ limit (Refused number) values' slots'
-      turn_refused number q slots' = record {
+    module _ {r : Result Answer Refusal} {values' : List ℕ} (i : Instantiated pattern here environment values spent limit r values') where
+      pub turn_refused : (refusal : Refusal) → r ≡ Err refusal → (slots' : List ℕ) → ArgumentsBuilt pattern first count environment values₀ used₀ limit (Err refusal) values' slots'
+      turn_refused refusal q slots' = record {
         tells = λ β b.
-            let t : Tells (instantiate_of limit β (pattern_at pattern here) spent) (Refused number) values values' spent limit =
-            subst (λ (a : Answer). Tells (instantiate_of limit β (pattern_at pattern here) spent) a values values' spent limit) q (i.tells β (grown β b)) in
-            let o = refused_is (instantiate_of limit β (pattern_at pattern here) spent) number values values' spent limit t in
-            let w : barred number ≡ instantiate_of limit β (args (denote pattern_room (cells pattern)) (cells pattern) first count) used₀ =
+            let t : Tells (instantiate_of limit β (pattern_at pattern here) spent) (Err refusal) values values' spent limit =
+            subst (λ (a : Result Answer Refusal). Tells (instantiate_of limit β (pattern_at pattern here) spent) a values values' spent limit) q (i.tells β (grown β b)) in
+            let o = refused_is (instantiate_of limit β (pattern_at pattern here) spent) refusal values values' spent limit t in
+            let w : barred (number_of refusal) ≡ instantiate_of limit β (args (denote pattern_room (cells pattern)) (cells pattern) first count) used₀ =
             ap (λ (x : Built single). if_built (if_built x (λ t u. if_built (instantiate_of limit β later u) (λ ts v. built (cons t ts) v)))
             (λ us v. built (append (args (denote 0 (cells values)) (cells slots) 0 k) us) v)) (sym o)
             ∙ ap (λ (x : Built several). if_built x (λ us v. built (append (args (denote 0 (cells values)) (cells slots) 0 k) us) v)) (sym (first_left β))
             ∙ h.comes β b in
-            subst (λ (x : Built several). TellsAll x (Refused number) values₀ values' slots' count used₀ limit) w refl;
-        forms = unbuilt_forms pattern number values₀ values' used₀;
+            subst (λ (x : Built several). TellsAll x (Err refusal) values₀ values' slots' count used₀ limit) w refl;
+        forms = unbuilt_arguments pattern refusal values₀ values' used₀;
         kept = i.kept ∙ h.kept;
       }
 
-      module _ (value after : ℕ) (q : r ≡ At value after) where
+      module _ (value after : ℕ) (q : r ≡ built_at value after) where
         told : (β : Bindings) → Holds environment values₀ used₀ β → Found (instantiate_of limit β (pattern_at pattern here) spent) values values' spent limit value after
         told β b = found (instantiate_of limit β (pattern_at pattern here) spent) value after values values' spent limit
-            (subst (λ (a : Answer). Tells (instantiate_of limit β (pattern_at pattern here) spent) a values values' spent limit) q (i.tells β (grown β b)))
+            (subst (λ (a : Result Answer Refusal). Tells (instantiate_of limit β (pattern_at pattern here) spent) a values values' spent limit) q (i.tells β (grown β b)))
 
         abbrev put : List ℕ
         put = set slots k value

@@ -21,8 +21,9 @@ use Rattle.arena.specs.Rows.{Rows, column}
 use Rattle.resolution.specs.Search.{words}
 use Rattle.evaluation.specs.Matching.{Built, barred, built, if_built, build_node, value_of, instantiate_of}
 use Rattle.clause_matching.specs.Stored.{Value, Values, Valued, Holds, pattern_at, value_at}
-use Rattle.clause_matching.specs.Building.{rule_words, Pushed, InstantiateAsked, Tells, Instantiated}
-use Rattle.clause_matching.specs.declared.building.Built.TheVariants.{At, Refused}
+use Rattle.std.specs.Prelude.{Err}
+use Rattle.refusals.specs.declared.Refusal.TheVariants.{Unbound, OverLimit}
+use Rattle.clause_matching.specs.Building.{built_at, rule_words, Pushed, InstantiateAsked, Tells, Instantiated}
 use Rattle.clause_matching.proofs.Open.{args_count}
 use Rattle.clause_matching.proofs.Forming.{FormsKept, forms_same, pushed_form, unbuilt_forms, built_forms}
 use Rattle.clause_matching.proofs.Frames.{Frame, frame, carry, resume, carry_alone, carry_given, resume_next, resume_entered, resume_full, node_fits, node_over}
@@ -350,7 +351,7 @@ module _ {pattern : List ℕ} {reference : ℕ} {environment values₀ : List �
       unbound β none z k = refl
       unbound β (some t) z k = absurd (let a = k.0 in let y : ⊥ = omega arith in y)
 
-      pub variable_unbound : get_or environment next 0 ≡ 0 → Instantiated pattern reference environment values₀ used₀ limit (Refused 36) values
+      pub variable_unbound : get_or environment next 0 ≡ 0 → Instantiated pattern reference environment values₀ used₀ limit (Err Unbound) values
       unfolding instantiate_of
       variable_unbound z = record {
         tells = λ β k.
@@ -358,8 +359,8 @@ module _ {pattern : List ℕ} {reference : ℕ} {environment values₀ : List �
             ap (λ (o : Built single). if_built o (λ t u. carry limit β (frames_of pattern values stack depth) t u))
             (sym (ap (λ (p : Term). instantiate_of limit β p spent) is ∙ unbound β (lookup β next) z (k.valued next v)))
             ∙ here.comes β k in
-            subst (λ (o : Built single). Tells o (Refused 36) values₀ values used₀ limit) w refl;
-        forms = unbuilt_forms pattern 36 values₀ values used₀;
+            subst (λ (o : Built single). Tells o (Err Unbound) values₀ values used₀ limit) w refl;
+        forms = unbuilt_forms pattern Unbound values₀ values used₀;
         kept = h.kept;
       }
 
@@ -497,13 +498,13 @@ module _ {pattern : List ℕ} {reference : ℕ} {environment values₀ : List �
     abbrev there : Idle pattern reference environment values₀ used₀ limit values stack depth top spent
     there = subst (λ (b : Bool). Moment pattern reference environment values₀ used₀ limit b h.asked.size values stack depth top spent next) q h.moment
 
-    pub turn_done : depth ≡ 0 → Instantiated pattern reference environment values₀ used₀ limit (At (cells values limit) spent) values
+    pub turn_done : depth ≡ 0 → Instantiated pattern reference environment values₀ used₀ limit (built_at (cells values limit) spent) values
     turn_done z =
         let f : Finished pattern reference environment values₀ used₀ limit values top spent =
         subst (λ (n : ℕ). Idle pattern reference environment values₀ used₀ limit values stack n top spent) z there in
         let o = f.one in
         record {
-          tells = λ β k. subst (λ (b : Built single). Tells b (At (cells values limit) spent) values₀ values used₀ limit) (f.comes β k) (
+          tells = λ β k. subst (λ (b : Built single). Tells b (built_at (cells values limit) spent) values₀ values used₀ limit) (f.comes β k) (
             cells values limit,
             refl,
             record {
@@ -692,15 +693,15 @@ module _ {pattern : List ℕ} {reference : ℕ} {environment values₀ : List �
             ∙ ap₂ (λ (ts : Terms) (j : ℕ). resume limit β (symbol_at pattern stack last) (done_of values base j) ts (frames_of pattern values stack last) spent) (sym rest_none) (sym all_taken)
             ∙ going.comes β k
 
-        pub node_refused : limit - spent ≤ inputs → Instantiated pattern reference environment values₀ used₀ limit (Refused 37) values
+        pub node_refused : limit - spent ≤ inputs → Instantiated pattern reference environment values₀ used₀ limit (Err OverLimit) values
         node_refused l = record {
           tells = λ β k.
               let c = done_count in let w = h.within in
               let e : barred 37 ≡ instantiate_of limit β (pattern_at pattern reference) used₀ =
               ap (λ (b : Built single). if_built b (λ x y. carry limit β (frames_of pattern values stack last) x y))
               (sym (node_over limit (symbol_at pattern stack last) done spent (omega arith))) ∙ builds β k in
-              subst (λ (b : Built single). Tells b (Refused 37) values₀ values used₀ limit) e refl;
-          forms = unbuilt_forms pattern 37 values₀ values used₀;
+              subst (λ (b : Built single). Tells b (Err OverLimit) values₀ values used₀ limit) e refl;
+          forms = unbuilt_forms pattern OverLimit values₀ values used₀;
           kept = h.kept;
         }
 

@@ -5,8 +5,9 @@ use native.Mathlib.Omega.{arith}
 use native.Mathlib.Numerals.{add-one}
 use mathlib.Core.Path.{◌≡◌, refl, sym, ap, ap₂, ◌∙◌, subst}
 use mathlib.Core.Bool.{Bool, true, false}
-use mathlib.Core.List.{List, ◌++◌}
-use lib.ListN.{get_or, length, take, replicate}
+use mathlib.Core.List.{List}
+use lib.ListN.{get_or, length, replicate}
+use Rattle.std.specs.Prelude.{None, Some}
 use Rattle.terms.specs.Numbers.{by_same, by_less, less_no}
 use Rattle.terms.specs.Term.{Term, Terms}
 use Rattle.terms.specs.Bindings.{Bindings, start}
@@ -17,10 +18,9 @@ use Rattle.resolution.specs.Search.{words as words_in}
 use Rattle.evaluation.specs.Matching.{Fitted, misfit, fitted, if_fitted, bind_of}
 use Rattle.clause_matching.specs.Stored.{Holds, pattern_at, value_at}
 use Rattle.clause_matching.specs.Matching.{Says, Matched, BindAsked}
-use Rattle.clause_matching.specs.Choice.{Referable, pattern_from, patterns_from, ApartAsked, conclusion_in, values_of, fit_of, ConclusionIn, ClauseAsked, Fits, Chosen}
+use Rattle.clause_matching.specs.Choice.{Referable, pattern_from, patterns_from, ApartAsked, conclusion_in, values_of, fit_of, ConclusionIn, ClauseAsked, Chosen}
 use Rattle.clause_matching.specs.declared.choice.Pattern.{Pattern}
 use Rattle.clause_matching.specs.declared.choice.Pattern.TheVariants.{Variable, Node}
-use Rattle.clause_matching.specs.declared.choice.Clause.TheVariants.{At, Nowhere}
 use Rattle.clause_matching.proofs.BindTurns.{says_false, says_true}
 
 -- No clause before i fits.
@@ -40,25 +40,15 @@ pub record Reached (ps ts : Terms) (whole : Fitted) (environment words : List �
   pub comes : bind_of ps ts γ ≡ whole
 
 -- The first k patterns of the clause i fit.
-pub record Trying (rules : Rows) (pattern values words : List ℕ) (used : ℕ) (environment₀ links₀ : List ℕ) (stack₀ : Rows) (i₀ base : ℕ)
-    (environment links : List ℕ) (stack : Rows) (i k : ℕ) : Type 0 where
-  pub same : i ≡ i₀
+pub record Trying (rules : Rows) (pattern values words : List ℕ) (used : ℕ) (environment₀ links₀ : List ℕ) (stack₀ : Rows) (i base : ℕ)
+    (environment links : List ℕ) (stack : Rows) (k : ℕ) : Type 0 where
   pub kept : length environment ≡ length environment₀
   pub keeps : length stack ≡ length stack₀
   pub restored : links ≡ links₀
   pub few : k ≤ length values
-  pub starts : base ≡ suc (conclusion_in rules i₀ - pattern_room)
+  pub starts : base ≡ suc (conclusion_in rules i - pattern_room)
   pub reached : Reached (args (denote pattern_room (cells pattern)) (cells pattern) (base + k) (length values - k))
-      (args (denote 0 (cells words)) (cells values) k (length values - k)) (fit_of rules pattern values words i₀) environment words used
-
--- The loop over clauses is left: at the clause i, which fits, or behind all clauses.
-pub record Ended (rules : Rows) (pattern : List ℕ) (from end : ℕ) (values words : List ℕ) (used : ℕ) (environment₀ links₀ : List ℕ) (stack₀ : Rows)
-    (environment links : List ℕ) (stack : Rows) (i : ℕ) : Type 0 where
-  pub kept : length environment ≡ length environment₀
-  pub keeps : length stack ≡ length stack₀
-  pub restored : links ≡ links₀
-  pub found : i < end → Chosen rules pattern from end values words used environment₀ links₀ (At i) environment links
-  pub none_fits : end ≤ i → Chosen rules pattern from end values words used environment₀ links₀ Nowhere environment links
+      (args (denote 0 (cells words)) (cells values) k (length values - k)) (fit_of rules pattern values words i) environment words used
 
 pub choosing_start : {rules : Rows} {pattern : List ℕ} {from end : ℕ} {values words : List ℕ} {used : ℕ} {environment links : List ℕ} {stack : Rows}
     → ClauseAsked rules pattern from end values words used environment links stack
@@ -82,11 +72,11 @@ zero_length : (n : ℕ) → length (replicate {A = ℕ} n 0) ≡ n
 zero_length zero = refl
 zero_length (suc n) = ap suc (zero_length n)
 
-pub cleared_length : (environment environment' : List ℕ) → environment' ≡ take 0 environment ++ replicate (length environment - 0) 0 → length environment' ≡ length environment
-cleared_length environment environment' e = ap length e ∙ zero_length (length environment - 0) ∙ (let z : length environment - 0 ≡ length environment = omega arith in z)
+pub cleared_length : (environment environment' : List ℕ) → environment' ≡ replicate (length environment) 0 → length environment' ≡ length environment
+cleared_length environment environment' e = ap length e ∙ zero_length (length environment)
 
-cleared_holds : (environment environment' words : List ℕ) (used : ℕ) → environment' ≡ take 0 environment ++ replicate (length environment - 0) 0 → Holds environment' words used start
-cleared_holds environment environment' words used e = record { valued = λ x l. ap (λ (t : List ℕ). get_or t x 0) e ∙ zeros (length environment - 0) x }
+cleared_holds : (environment environment' words : List ℕ) (used : ℕ) → environment' ≡ replicate (length environment) 0 → Holds environment' words used start
+cleared_holds environment environment' words used e = record { valued = λ x l. ap (λ (t : List ℕ). get_or t x 0) e ∙ zeros (length environment) x }
 
 -- An argument takes no more words than its node.
 pub words_argument : (g : ℕ → Term) (w : Cells) (p n k : ℕ) → k < n → words_in (g (w (p + k))) ≤ words_in (args g w p n)
@@ -100,16 +90,8 @@ module _ {rules : Rows} {pattern : List ℕ} {from end : ℕ} {values words : Li
     {environment links : List ℕ} {stack : Rows} {i : ℕ}
     (h : Choosing rules pattern from end values words used environment₀ links₀ stack₀ environment links stack i) where
   -- The loop is left behind all clauses.
-  pub ended_behind : end ≤ i → {environment' links' : List ℕ} {stack' : Rows} {i' : ℕ}
-      → environment' ≡ environment → links' ≡ links → stack' ≡ stack → i' ≡ i
-      → Ended rules pattern from end values words used environment₀ links₀ stack₀ environment' links' stack' i'
-  ended_behind l e m s n = rw (e, m, s, n) (record {
-    kept = h.kept;
-    keeps = h.keeps;
-    restored = h.restored;
-    found = λ o. let z : ⊥ = omega arith in absurd z;
-    none_fits = λ o. record { chooses = λ j a b. h.missed j a (omega arith); kept = h.kept; restored = h.restored };
-  })
+  pub none_fits : end ≤ i → Chosen rules pattern from end values words used environment₀ links₀ None environment links
+  none_fits l = record { chooses = λ j a b. h.missed j a (omega arith); kept = h.kept; restored = h.restored }
 
   module _ (l : i < end) where
     abbrev conclusion : ConclusionIn pattern h.asked.size (conclusion_in rules i) (length values)
@@ -185,10 +167,9 @@ module _ {rules : Rows} {pattern : List ℕ} {from end : ℕ} {values words : Li
         }
 
     -- The clause is tried with a cleared environment.
-    pub trying_start : (environment' : List ℕ) (base : ℕ) → environment' ≡ take 0 environment ++ replicate (length environment - 0) 0 → base ≡ suc address
-        → Trying rules pattern values words used environment' links stack i base environment' links stack i 0
+    pub trying_start : (environment' : List ℕ) (base : ℕ) → environment' ≡ replicate (length environment) 0 → base ≡ suc address
+        → Trying rules pattern values words used environment' links stack i base environment' links stack 0
     trying_start environment' base e b = record {
-      same = refl;
       kept = refl;
       keeps = refl;
       restored = refl;
@@ -202,9 +183,10 @@ module _ {rules : Rows} {pattern : List ℕ} {from end : ℕ} {values words : Li
       };
     }
 
-    module _ {environment' : List ℕ} {base : ℕ} (long : length environment' ≡ length environment) {environment'' links'' : List ℕ} {stack'' : Rows} {i'' k : ℕ}
-        (t : Trying rules pattern values words used environment' links stack i base environment'' links'' stack'' i'' k) where
-      clause_fits : length values ≤ k → Chosen rules pattern from end values words used environment₀ links₀ (At i'') environment'' links''
+    module _ {environment' : List ℕ} {base : ℕ} (long : length environment' ≡ length environment) {environment'' links'' : List ℕ} {stack'' : Rows} {k : ℕ}
+        (t : Trying rules pattern values words used environment' links stack i base environment'' links'' stack'' k) where
+      -- The loop is left at the clause.
+      pub clause_fits : length values ≤ k → Chosen rules pattern from end values words used environment₀ links₀ (Some i) environment'' links''
       unfolding bind_of
       clause_fits m =
           let f = t.few in
@@ -213,24 +195,10 @@ module _ {rules : Rows} {pattern : List ℕ} {from end : ℕ} {values words : Li
           let c : fitted r.γ ≡ fit_of rules pattern values words i =
           ap (λ (n : ℕ). bind_of (args (denote pattern_room (cells pattern)) (cells pattern) (base + k) n) (args (denote 0 (cells words)) (cells values) k n) r.γ) (sym z) ∙ r.comes in
           record {
-            chooses = subst (λ (x : ℕ). (from ≤ x) × (x < end) × ((j : ℕ) → from ≤ j → j < x → fit_of rules pattern values words j ≡ misfit)
-                × Fits rules pattern values words used x environment'') (sym t.same)
-                (h.past, l, h.missed, record { β = r.γ; fits = sym c; holds = r.holds });
+            chooses = (h.past, l, h.missed, record { β = r.γ; fits = sym c; holds = r.holds });
             kept = t.kept ∙ long ∙ h.kept;
             restored = t.restored ∙ h.restored;
           }
-
-      -- The loop is left at the clause.
-      pub ended_at : length values ≤ k → {environment''' links''' : List ℕ} {stack''' : Rows} {i''' : ℕ}
-          → environment''' ≡ environment'' → links''' ≡ links'' → stack''' ≡ stack'' → i''' ≡ i''
-          → Ended rules pattern from end values words used environment₀ links₀ stack₀ environment''' links''' stack''' i'''
-      ended_at m e n s o = rw (e, n, s, o) (record {
-        kept = t.kept ∙ long ∙ h.kept;
-        keeps = t.keeps ∙ h.keeps;
-        restored = t.restored ∙ h.restored;
-        found = λ p. clause_fits m;
-        none_fits = λ p. let q = t.same in let z : ⊥ = omega arith in absurd z;
-      })
 
       module _ (m : k < length values) where
         abbrev head : ℕ
@@ -288,12 +256,11 @@ module _ {rules : Rows} {pattern : List ℕ} {from end : ℕ} {values words : Li
 
         module _ {r : Bool} {environment''' links''' : List ℕ} (b : Matched (pattern_at pattern head) words used (cells values k) environment'' links'' r environment''' links''')
             {stack''' : Rows} (size : length stack''' ≡ length stack'') where
-          pub choosing_next : r ≡ false → Choosing rules pattern from end values words used environment₀ links₀ stack₀ environment''' links''' stack''' (i'' + 1)
+          pub choosing_next : r ≡ false → Choosing rules pattern from end values words used environment₀ links₀ stack₀ environment''' links''' stack''' (i + 1)
           choosing_next q =
               let s : Says (bind_of (pattern_at pattern head) (value_at words (cells values k)) t.reached.γ) false environment''' words used = rw q at (b.says t.reached.γ t.reached.holds) in
               let o = says_false (bind_of (pattern_at pattern head) (value_at words (cells values k)) t.reached.γ) environment''' words used s in
               let f : fit_of rules pattern values words i ≡ misfit = sym first_pair ∙ ap (λ (x : Fitted). if_fitted x (λ δ. bind_of patterns_after values_after δ)) o in
-              let e = t.same in
               record {
                 asked = h.asked;
                 kept = b.kept ∙ t.kept ∙ long ∙ h.kept;
@@ -303,12 +270,11 @@ module _ {rules : Rows} {pattern : List ℕ} {from end : ℕ} {values words : Li
                 missed = λ j x y. by_same j i (λ p w. rw p f) (λ p w. h.missed j x (by_less j i (λ u v. u) (λ u v. absurd (p (omega arith)))));
               }
 
-          pub trying_next : r ≡ true → Trying rules pattern values words used environment' links stack i base environment''' links''' stack''' i'' (k + 1)
+          pub trying_next : r ≡ true → Trying rules pattern values words used environment' links stack i base environment''' links''' stack''' (k + 1)
           trying_next q =
               let s : Says (bind_of (pattern_at pattern head) (value_at words (cells values k)) t.reached.γ) true environment''' words used = rw q at (b.says t.reached.γ t.reached.holds) in
               let (δ, o, w) = says_true (bind_of (pattern_at pattern head) (value_at words (cells values k)) t.reached.γ) environment''' words used s in
               record {
-                same = t.same;
                 kept = b.kept ∙ t.kept;
                 keeps = size ∙ t.keeps;
                 restored = b.restored ∙ t.restored;

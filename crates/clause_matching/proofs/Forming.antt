@@ -13,8 +13,11 @@ use Rattle.arena.specs.Form.{is_header, is_argument, in_form}
 use Rattle.arena.specs.FormLaws.{reference_accepted}
 use Rattle.arena.specs.FormKept.{place, form_same, push_form}
 use Rattle.clause_matching.specs.Stored.{Value, Headed, Formed}
-use Rattle.clause_matching.specs.Building.{Pushed, BuiltFormed}
-use Rattle.clause_matching.specs.declared.building.Built.TheVariants.{At, Refused}
+use Rattle.std.specs.Prelude.{Result, Ok, Err, IsErrAnd}
+use Rattle.std.proofs.lemmas.Result.{err_from_is_err_and}
+use Rattle.refusals.specs.declared.Refusal.{Refusal}
+use Rattle.clause_matching.specs.declared.building.Built.{Built as Answer}
+use Rattle.clause_matching.specs.Building.{Pushed, BuiltFormed, ArgumentsFormed, built_at}
 
 -- Words in form over a pattern's symbols are so later, too.
 abbrev pub FormsKept : List ℕ → List ℕ → ℕ → List ℕ → ℕ → Type 0
@@ -71,13 +74,28 @@ module _ {values : List ℕ} {used header from count : ℕ} {values' : List ℕ}
       form_same written values' 0 (used + suc count) 0 0 0 arities (omega arith) (omega arith) (omega arith) (omega arith) written_same
       (rw n at f)
 
+pub ok_is : {A : Type 0} {a b : A} → ◌≡◌ {A = Result A Refusal} (Ok a) (Ok b) → a ≡ b
+ok_is e = cc
+
+-- What a `?` passes on.
+pub passed_on : {T : Type 0} {refusal : Refusal} (r : Result T Refusal) → IsErrAnd r (λ e. e ≡ refusal) → r ≡ Err refusal
+passed_on r h = let p = err_from_is_err_and r h in rw (p.1, p.2)
+
 -- What an answer says of the form: a refusal nothing, any other that it is kept.
-pub unbuilt_forms : (pattern : List ℕ) (number : ℕ) (values values' : List ℕ) (used : ℕ)
-    → BuiltFormed pattern (Refused number) values values' used
-unbuilt_forms pattern number values values' used arities d f value u e =
-    let w : ◌≡◌ {A = ℕ} 0 1 = cc in absurd (let z : ⊥ = omega arith in z)
+pub unbuilt_forms : (pattern : List ℕ) (refusal : Refusal) (values values' : List ℕ) (used : ℕ)
+    → BuiltFormed pattern (Err refusal) values values' used
+unbuilt_forms pattern refusal values values' used arities d f value u e = absurd (let z : ⊥ = cc in z)
 
 pub built_forms : (pattern : List ℕ) (value spent : ℕ) (values values' : List ℕ) (used : ℕ) → FormsKept pattern values used values' spent
-    → BuiltFormed pattern (At value spent) values values' used
+    → BuiltFormed pattern (built_at value spent) values values' used
 built_forms pattern value spent values values' used k arities d f v u e =
+    subst (λ (n : ℕ). Formed arities values' n) (ap (λ (b : Answer). b.used) (ok_is e)) (k arities d f)
+
+pub unbuilt_arguments : (pattern : List ℕ) (refusal : Refusal) (values values' : List ℕ) (used : ℕ)
+    → ArgumentsFormed pattern (Err refusal) values values' used
+unbuilt_arguments pattern refusal values values' used arities d f u e = absurd (let z : ⊥ = cc in z)
+
+pub built_arguments : (pattern : List ℕ) (spent : ℕ) (values values' : List ℕ) (used : ℕ) → FormsKept pattern values used values' spent
+    → ArgumentsFormed pattern (Ok spent) values values' used
+built_arguments pattern spent values values' used k arities d f u e =
     subst (λ (n : ℕ). Formed arities values' n) (let x : spent ≡ u = cc in x) (k arities d f)

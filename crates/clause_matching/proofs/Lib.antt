@@ -2,7 +2,6 @@
 pub mod Taking
 pub mod Open
 pub mod BindTurns
-pub mod Pushing
 pub mod Frames
 pub mod Forming
 pub mod BuildTurns

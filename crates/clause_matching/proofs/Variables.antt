@@ -15,9 +15,10 @@ use Rattle.arena.specs.Copies.{pattern_room}
 use Rattle.arena.specs.Rows.{Rows}
 use Rattle.evaluation.specs.Matching.{Built, value_of, instantiate_of}
 use Rattle.clause_matching.specs.Stored.{Valued, pattern_at}
-use Rattle.clause_matching.specs.Building.{InstantiateAsked, Tells, Instantiated}
+use Rattle.std.specs.Prelude.{Err}
+use Rattle.refusals.specs.declared.Refusal.TheVariants.{Unbound}
+use Rattle.clause_matching.specs.Building.{built_at, InstantiateAsked, Tells, Instantiated}
 use Rattle.clause_matching.specs.Matching.{Matched}
-use Rattle.clause_matching.specs.declared.building.Built.TheVariants.{At, Refused}
 use Rattle.clause_matching.proofs.Forming.{unbuilt_forms, built_forms}
 
 -- The pattern of such a reference.
@@ -31,12 +32,12 @@ module _ {pattern : List ℕ} {reference : ℕ} {environment values : List ℕ} 
 
   -- What building a variable comes to, by the number that the environment has for it.
   none_tells : (o : Option Term) → get_or environment reference 0 ≡ 0 → Valued values used (get_or environment reference 0) o
-      → Tells (value_of o used) (Refused 36) values values used limit
+      → Tells (value_of o used) (Err Unbound) values values used limit
   none_tells none z k = refl
   none_tells (some t) z k = absurd (let a = k.0 in let y : ⊥ = omega arith in y)
 
   value_tells : (o : Option Term) → get_or environment reference 0 ≢ 0 → Valued values used (get_or environment reference 0) o
-      → Tells (value_of o used) (At (get_or environment reference 0 - 1) used) values values used limit
+      → Tells (value_of o used) (built_at (get_or environment reference 0 - 1) used) values values used limit
   value_tells none n k = absurd (n k)
   value_tells (some t) n k = (
     get_or environment reference 0 - 1,
@@ -48,18 +49,18 @@ module _ {pattern : List ℕ} {reference : ℕ} {environment values : List ℕ} 
   unfolding instantiate_of
   built_is β = ap (λ (p : Term). instantiate_of limit β p used) (variable_is pattern reference v)
 
-  pub variable_unbound : get_or environment reference 0 ≡ 0 → Instantiated pattern reference environment values used limit (Refused 36) values
+  pub variable_unbound : get_or environment reference 0 ≡ 0 → Instantiated pattern reference environment values used limit (Err Unbound) values
   variable_unbound z = record {
-    tells = λ β k. subst (λ (b : Built single). Tells b (Refused 36) values values used limit) (sym (built_is β))
+    tells = λ β k. subst (λ (b : Built single). Tells b (Err Unbound) values values used limit) (sym (built_is β))
         (none_tells (lookup β reference) z (k.valued reference v));
-    forms = unbuilt_forms pattern 36 values values used;
+    forms = unbuilt_forms pattern Unbound values values used;
     kept = refl;
   }
 
   pub variable_value : get_or environment reference 0 ≢ 0
-      → Instantiated pattern reference environment values used limit (At (get_or environment reference 0 - 1) used) values
+      → Instantiated pattern reference environment values used limit (built_at (get_or environment reference 0 - 1) used) values
   variable_value n = record {
-    tells = λ β k. subst (λ (b : Built single). Tells b (At (get_or environment reference 0 - 1) used) values values used limit) (sym (built_is β))
+    tells = λ β k. subst (λ (b : Built single). Tells b (built_at (get_or environment reference 0 - 1) used) values values used limit) (sym (built_is β))
         (value_tells (lookup β reference) n (k.valued reference v));
     forms = built_forms pattern (get_or environment reference 0 - 1) used values values used (λ arities d f. f);
     kept = refl;

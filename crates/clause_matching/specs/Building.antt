@@ -1,5 +1,5 @@
 -- What building in storage asks and answers (document 01, "Evaluated terms"; `instantiate_of` of `evaluation`).
-use Rattle.std.specs.Prelude.{ℕ, suc, ◌+◌, ◌≤◌, ◌<◌, ◌≡◌, ◌≢◌, List, length}
+use Rattle.std.specs.Prelude.{ℕ, suc, ◌+◌, ◌≤◌, ◌<◌, ◌≡◌, ◌≢◌, List, length, Result, Ok, IsErrAnd}
 use Rattle.terms.specs.Term.{Term, Terms}
 use Rattle.terms.specs.Term.Kind.{one as single, many as several}
 use Rattle.terms.specs.Bindings.{Bindings}
@@ -8,8 +8,17 @@ use Rattle.arena.specs.Copies.{pattern_room}
 use Rattle.arena.specs.Rows.{Rows}
 use Rattle.evaluation.specs.Matching.{Built, barred, built, instantiate_of}
 use Rattle.clause_matching.specs.Stored.{Value, Values, PatternIn, Holds, Headed, Formed, value_at, pattern_at}
+use Rattle.refusals.specs.declared.Refusal.{Refusal}
+use Rattle.refusals.specs.Refusals.{number_of}
 use Rattle.clause_matching.specs.declared.building.Built.{Built as Answer}
-use Rattle.clause_matching.specs.declared.building.Built.TheVariants.{At, Refused}
+
+-- An answer is the refusal of a number.
+abbrev pub Refuses : {A : Type 0} → Result A Refusal → ℕ → Type 0
+Refuses r e = IsErrAnd r (λ refusal. number_of refusal ≡ e)
+
+-- It is a value, with the words then used.
+abbrev pub built_at : ℕ → ℕ → Result Answer Refusal
+built_at value used = Ok (record { value = value; used = used })
 
 -- The most words that a rule's terms take (document 01, refusal 28: 1,024 nodes).
 abbrev pub rule_words : ℕ
@@ -46,16 +55,16 @@ pub record Stands (values : List ℕ) (used limit : ℕ) (values' : List ℕ) (t
   pub within : used' ≤ limit
 
 -- An answer says what building comes to.
-abbrev pub Tells : Built single → Answer → List ℕ → List ℕ → ℕ → ℕ → Type 0
-Tells (barred e) r values values' used limit = r ≡ Refused e
-Tells (built t u) r values values' used limit = (value : ℕ) × (r ≡ At value u) × Stands values used limit values' t value u
+abbrev pub Tells : Built single → Result Answer Refusal → List ℕ → List ℕ → ℕ → ℕ → Type 0
+Tells (barred e) r values values' used limit = Refuses r e
+Tells (built t u) r values values' used limit = (value : ℕ) × (r ≡ built_at value u) × Stands values used limit values' t value u
 
 -- Words in form over a pattern's symbols stay so, where something is built from the pattern.
-abbrev pub BuiltFormed : List ℕ → Answer → List ℕ → List ℕ → ℕ → Type 0
+abbrev pub BuiltFormed : List ℕ → Result Answer Refusal → List ℕ → List ℕ → ℕ → Type 0
 BuiltFormed pattern r values values' used =
-    (arities : List ℕ) → Headed arities pattern → Formed arities values used → (value u : ℕ) → r ≡ At value u → Formed arities values' u
+    (arities : List ℕ) → Headed arities pattern → Formed arities values used → (value u : ℕ) → r ≡ built_at value u → Formed arities values' u
 
-pub record Instantiated (pattern : List ℕ) (reference : ℕ) (environment values : List ℕ) (used limit : ℕ) (r : Answer) (values' : List ℕ) : Type 0 where
+pub record Instantiated (pattern : List ℕ) (reference : ℕ) (environment values : List ℕ) (used limit : ℕ) (r : Result Answer Refusal) (values' : List ℕ) : Type 0 where
   pub tells : (β : Bindings) → Holds environment values used β → Tells (instantiate_of limit β (pattern_at pattern reference) used) r values values' used limit
   pub forms : BuiltFormed pattern r values values' used
   pub kept : length values' ≡ length values
@@ -83,12 +92,17 @@ pub record StandAll (values : List ℕ) (used limit : ℕ) (values' slots : List
   pub grows : used ≤ used'
   pub within : used' ≤ limit
 
-abbrev pub TellsAll : Built several → Answer → List ℕ → List ℕ → List ℕ → ℕ → ℕ → ℕ → Type 0
-TellsAll (barred e) r values values' slots count used limit = r ≡ Refused e
-TellsAll (built ts u) r values values' slots count used limit = (r ≡ At 0 u) × StandAll values used limit values' slots count ts u
+abbrev pub TellsAll : Built several → Result ℕ Refusal → List ℕ → List ℕ → List ℕ → ℕ → ℕ → ℕ → Type 0
+TellsAll (barred e) r values values' slots count used limit = Refuses r e
+TellsAll (built ts u) r values values' slots count used limit = (r ≡ Ok u) × StandAll values used limit values' slots count ts u
 
-pub record ArgumentsBuilt (pattern : List ℕ) (first count : ℕ) (environment values : List ℕ) (used limit : ℕ) (r : Answer) (values' slots : List ℕ) : Type 0 where
+-- Words in form over a pattern's symbols stay so, where all are built.
+abbrev pub ArgumentsFormed : List ℕ → Result ℕ Refusal → List ℕ → List ℕ → ℕ → Type 0
+ArgumentsFormed pattern r values values' used =
+    (arities : List ℕ) → Headed arities pattern → Formed arities values used → (u : ℕ) → r ≡ Ok u → Formed arities values' u
+
+pub record ArgumentsBuilt (pattern : List ℕ) (first count : ℕ) (environment values : List ℕ) (used limit : ℕ) (r : Result ℕ Refusal) (values' slots : List ℕ) : Type 0 where
   pub tells : (β : Bindings) → Holds environment values used β
       → TellsAll (instantiate_of limit β (args (denote pattern_room (cells pattern)) (cells pattern) first count) used) r values values' slots count used limit
-  pub forms : BuiltFormed pattern r values values' used
+  pub forms : ArgumentsFormed pattern r values values' used
   pub kept : length values' ≡ length values

@@ -1,5 +1,5 @@
 -- What the choice of a clause in storage asks and answers (document 01, "Evaluated terms"; `clauses_of` of `evaluation`).
-use Rattle.std.specs.Prelude.{ℕ, suc, ◌+◌, ◌-◌, ◌≤◌, ◌<◌, ◌≡◌, cond, List, length}
+use Rattle.std.specs.Prelude.{ℕ, suc, ◌+◌, ◌-◌, ◌≤◌, ◌<◌, ◌≡◌, cond, List, length, Option, None, Some}
 use Rattle.terms.specs.Numbers.{less}
 use Rattle.terms.specs.Term.{Terms}
 use Rattle.terms.specs.Bindings.{Bindings, start}
@@ -11,8 +11,6 @@ use Rattle.clause_matching.specs.Stored.{Value, Values, PatternIn, Holds, Links}
 use Rattle.clause_matching.specs.Building.{rule_words}
 use Rattle.clause_matching.specs.declared.choice.Pattern.{Pattern}
 use Rattle.clause_matching.specs.declared.choice.Pattern.TheVariants.{Variable, Node}
-use Rattle.clause_matching.specs.declared.choice.Clause.{Clause}
-use Rattle.clause_matching.specs.declared.choice.Clause.TheVariants.{At, Nowhere}
 
 -- A variable, or a node in the pattern's words.
 abbrev pub Referable : List ℕ → ℕ → Type 0
@@ -71,12 +69,12 @@ pub record Fits (rules : Rows) (pattern values words : List ℕ) (used i : ℕ) 
   pub holds : Holds environment words used β
 
 -- The first clause that fits; or none does.
-abbrev pub Chooses : Rows → List ℕ → ℕ → ℕ → List ℕ → List ℕ → ℕ → Clause → List ℕ → Type 0
-Chooses rules pattern from end values words used (At i) environment =
+abbrev pub Chooses : Rows → List ℕ → ℕ → ℕ → List ℕ → List ℕ → ℕ → Option ℕ → List ℕ → Type 0
+Chooses rules pattern from end values words used (Some i) environment =
     (from ≤ i) × (i < end) × ((j : ℕ) → from ≤ j → j < i → fit_of rules pattern values words j ≡ misfit) × Fits rules pattern values words used i environment
-Chooses rules pattern from end values words used Nowhere environment = (j : ℕ) → from ≤ j → j < end → fit_of rules pattern values words j ≡ misfit
+Chooses rules pattern from end values words used None environment = (j : ℕ) → from ≤ j → j < end → fit_of rules pattern values words j ≡ misfit
 
-pub record Chosen (rules : Rows) (pattern : List ℕ) (from end : ℕ) (values words : List ℕ) (used : ℕ) (environment links : List ℕ) (r : Clause)
+pub record Chosen (rules : Rows) (pattern : List ℕ) (from end : ℕ) (values words : List ℕ) (used : ℕ) (environment links : List ℕ) (r : Option ℕ)
     (environment' links' : List ℕ) : Type 0 where
   pub chooses : Chooses rules pattern from end values words used r environment'
   pub kept : length environment' ≡ length environment

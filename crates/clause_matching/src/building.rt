@@ -3,14 +3,14 @@ ghost use Rattle.std.specs.Prelude.{suc, ◌+◌, ◌≤◌, ◌<◌, length};
 ghost use Rattle.arena.specs.Copies.{pattern_room};
 ghost use Rattle.clause_matching.specs.Building.{Pushed, InstantiateAsked, Instantiated, ArgumentsAsked, ArgumentsBuilt};
 
-use super::refusals::{NO_WORDS, UNBOUND};
 use arena::{PATTERN_ROOM, SYMBOL_STEP};
+use refusals::Refusal;
 
-// What came of building: the value and the words then used.
+// A term that was built: its value, and the words then used.
 #[derive(Clone, Copy)]
-pub enum Built {
-    At { value: u32, used: u32 },
-    Refused { number: u32 },
+pub struct Built {
+    pub value: u32,
+    pub used: u32,
 }
 
 // Writes a node from the address `used` on, whose arguments stand from `from` on, and then its reference in the first one's place.
@@ -20,14 +20,8 @@ fn push_values(words: &mut [u32], used: u32, header: u32, from: u32, count: u32)
 {
     let at = used as usize;
     let source = from as usize;
-    let end = count as usize;
     words[at] = header;
-    let first = at + 1;
-    let mut i = 0;
-    while i < end {
-        words[first + i] = words[source + i];
-        i += 1;
-    }
+    words.copy_within(source..source + count as usize, at + 1);
     words[source] = used;
 }
 
@@ -40,7 +34,7 @@ fn instantiate_node(
     used: u32,
     limit: u32,
     stack: &mut [[u32; 3]],
-) -> Built
+) -> Result<Built, Refusal>
     requires { (pattern_room ≤ reference) × InstantiateAsked pattern.now reference environment.now words.old used limit stack.old }
     ensures { Instantiated pattern.now reference environment.now words.old used limit result words.new }
 {
@@ -62,7 +56,7 @@ fn instantiate_node(
             if next < PATTERN_ROOM {
                 let entry = environment[next as usize];
                 if entry == 0 {
-                    return Built::Refused { number: UNBOUND };
+                    return Err(Refusal::Unbound);
                 }
                 words[top as usize] = entry - 1;
                 top += 1;
@@ -72,7 +66,7 @@ fn instantiate_node(
             }
         } else {
             if limit - spent <= arity {
-                return Built::Refused { number: NO_WORDS };
+                return Err(Refusal::OverLimit);
             }
             push_values(words, spent, header, base, arity);
             top = base + 1;
@@ -80,10 +74,10 @@ fn instantiate_node(
             depth = row;
         }
     }
-    Built::At {
+    Ok(Built {
         value: words[limit as usize],
         used: spent,
-    }
+    })
 }
 
 // The pattern with the values of its variables put in: a variable's value stands already, a node is built.
@@ -95,24 +89,24 @@ pub fn instantiate(
     used: u32,
     limit: u32,
     stack: &mut [[u32; 3]],
-) -> Built
+) -> Result<Built, Refusal>
     requires { InstantiateAsked pattern.now reference environment.now words.old used limit stack.old }
     ensures { Instantiated pattern.now reference environment.now words.old used limit result words.new }
 {
     if reference < PATTERN_ROOM {
         let entry = environment[reference as usize];
         if entry == 0 {
-            return Built::Refused { number: UNBOUND };
+            return Err(Refusal::Unbound);
         }
-        return Built::At {
+        return Ok(Built {
             value: entry - 1,
-            used: used,
-        };
+            used,
+        });
     }
     instantiate_node(pattern, reference, environment, words, used, limit, stack)
 }
 
-// The arguments of a pattern's node, `count` of them from the address `first` on, built from left to right. Their references go to `values`.
+// The arguments of a pattern's node, `count` of them from the address `first` on, built from left to right: how many words are then used. Their references go to `values`.
 pub fn instantiate_arguments(
     pattern: &[u32],
     first: u32,
@@ -123,15 +117,14 @@ pub fn instantiate_arguments(
     limit: u32,
     stack: &mut [[u32; 3]],
     values: &mut [u32],
-) -> Built
+) -> Result<u32, Refusal>
     requires { ArgumentsAsked pattern.now first count environment.now words.old used limit stack.old values.old }
     ensures { ArgumentsBuilt pattern.now first count environment.now words.old used limit result words.new values.new }
 {
     let base = first as usize;
     let mut spent = used;
-    let mut k = 0;
-    while k < count {
-        match instantiate(
+    for k in 0..count {
+        let built = instantiate(
             pattern,
             pattern[base + k],
             environment,
@@ -139,17 +132,9 @@ pub fn instantiate_arguments(
             spent,
             limit,
             stack,
-        ) {
-            Built::Refused { number } => return Built::Refused { number: number },
-            Built::At { value, used: after } => {
-                values[k] = value;
-                spent = after;
-                k += 1;
-            }
-        }
+        )?;
+        values[k] = built.value;
+        spent = built.used;
     }
-    Built::At {
-        value: 0,
-        used: spent,
-    }
+    Ok(spent)
 }

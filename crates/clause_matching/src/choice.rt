@@ -31,13 +31,6 @@ pub fn pattern_at(pattern: &[u32], reference: u32) -> Pattern
     }
 }
 
-// The first clause that fits, by its rule's number.
-#[derive(Clone, Copy)]
-pub enum Clause {
-    At { rule: usize },
-    Nowhere,
-}
-
 // Is the first pattern, whose reference stands at an address, a node of another symbol than the first value? Then the patterns do not fit.
 fn is_apart(pattern: &[u32], base: usize, words: &[u32], values: &[u32]) -> bool
     requires { ApartAsked pattern.now base words.now values.now }
@@ -51,13 +44,10 @@ fn is_apart(pattern: &[u32], base: usize, words: &[u32], values: &[u32]) -> bool
     if reference < PATTERN_ROOM {
         return false;
     }
-    if pattern[(reference - PATTERN_ROOM) as usize] != words[values[0] as usize] {
-        return true;
-    }
-    false
+    pattern[(reference - PATTERN_ROOM) as usize] != words[values[0] as usize]
 }
 
-// The first of the rules from `from` up to `end` whose conclusion fits the values; the environment then holds those of its variables.
+// The first of the rules from `from` up to `end` whose conclusion fits the values, by its number; the environment then holds those of its variables.
 pub fn find_clause(
     rules: &[RuleRow],
     pattern: &[u32],
@@ -69,23 +59,20 @@ pub fn find_clause(
     environment: &mut [u32],
     links: &mut [u32],
     stack: &mut [[u32; 3]],
-) -> Clause
+) -> Option<usize>
     requires { ClauseAsked rules.now pattern.now from end values.now words.now used environment.old links.old stack.old }
     ensures { Chosen rules.now pattern.now from end values.now words.now used environment.old links.old result environment.new links.new }
 {
-    let mut i = from;
-    'clauses: while i < end {
+    'clauses: for i in from..end {
         let Pattern::Node { header: _, first } = pattern_at(pattern, rules[i][5]) else {
-            return Clause::Nowhere;
+            return None;
         };
         let base = first as usize;
         if is_apart(pattern, base, words, values) {
-            i += 1;
             continue 'clauses;
         }
-        arena::clear(environment, 0);
-        let mut k = 0;
-        while k < values.len() {
+        environment.fill(0);
+        for k in 0..values.len() {
             if !bind(
                 pattern,
                 pattern[base + k],
@@ -96,16 +83,10 @@ pub fn find_clause(
                 links,
                 stack,
             ) {
-                i += 1;
                 continue 'clauses;
             }
-            k += 1;
         }
-        break 'clauses;
+        return Some(i);
     }
-    // The loop is left before the end only at a clause that fits.
-    if i < end {
-        return Clause::At { rule: i };
-    }
-    Clause::Nowhere
+    None
 }

@@ -4,15 +4,10 @@
 // All functions here serve the crates above: they ask for patterns, values and environments in storage (specs/Stored.antt).
 #![tactic(auto)]
 
-mod refusals; // document 01's numbers, of the crates above too
 mod matching; // patterns against values
 mod building; // values from patterns
 mod choice; // the clause that fits values
 
 pub use building::{Built, instantiate, instantiate_arguments};
-pub use choice::{Clause, Pattern, find_clause, pattern_at};
+pub use choice::{Pattern, find_clause, pattern_at};
 pub use matching::bind;
-pub use refusals::{
-    INCONSISTENT, MAX_CALLS, MAX_DEPTH, NO_CLAUSE, NO_EXPRESSION, NO_WORDS, NOT_GROUND, NOT_LISTED,
-    TOO_DEEP, TOO_MANY_CALLS, UNBOUND, WRONG_SORT,
-};

@@ -12,9 +12,10 @@ ghost use Rattle.declarations.specs.Steps.{name_at, GoesTo, sort_progress, Symbo
 
 use clauses::EnteredRule;
 use names::{SortRow, SymbolRow, TermRow};
-use parser::declarations::{CTOR, DEF, EVAL, PRED, RULE, SORT};
+
 use refusals::Refusal;
 use rules::{RuleRow, Space, Title};
+use words::{CTOR, DEF, EVAL, PRED, RULE, SORT};
 
 // How many sorts, symbols and rules there are, how many words are in use, and how many nodes are left.
 #[derive(Clone, Copy)]

@@ -2,7 +2,7 @@
 use Prim.Native.Nat.{ℕ, zero, suc, ◌-◌, ◌≤◌, ◌<◌}
 use native.Mathlib.Omega.{arith}
 use Rattle.std.proofs.Math.Nat.{le_refl}
-use Rattle.std.specs.Prelude.{◌≡◌, true, length, get_or}
+use Rattle.std.specs.Prelude.{◌≡◌, true, length, get_or, ◌≢◌, Result, Ok, Err}
 use Rattle.std.proofs.Math.Path.{refl, ap, ap₂, sym, subst}
 use Rattle.std.proofs.Common.{◌∙◌}
 use Rattle.std.proofs.Math.Bool.{false}
@@ -15,6 +15,8 @@ use Rattle.bindings.specs.Tables.{undone}
 use Rattle.bindings.specs.Holding.{form_undoable}
 use Rattle.bindings.specs.Stored.{held}
 use Rattle.terms.specs.Bindings.{Bindings}
+use Rattle.refusals.specs.declared.Refusal.{Refusal}
+use Rattle.refusals.specs.declared.Refusal.TheVariants.{OverLimit}
 use Rattle.resolution.specs.Rules.{leaf}
 use Rattle.resolution.specs.Search.{goal, failed, found, tries}
 use Rattle.resolution.specs.Machine.{search}
@@ -25,7 +27,7 @@ use Rattle.attempts.specs.Extending.{held_kept, form_back}
 use Rattle.tree_rows.specs.Trees.{tree_row}
 use Rattle.search_machine.specs.State.{term, rules_from, frame_at, entries, top, Start, Well, limits, Holds, Proving, Ending, Refusing}
 use Rattle.search_machine.specs.Moves.{to_start}
-use Rattle.search_machine.specs.Promises.{Ready, Searched}
+use Rattle.search_machine.specs.Promises.{Ready, Stopped, Searched}
 use Rattle.search_machine.specs.Carry.{term_kept, refers_kept}
 use Rattle.search_machine.specs.Ways.{case_at}
 use Rattle.search_machine.specs.declared.Allowed.{Allowed}
@@ -38,27 +40,36 @@ use Rattle.deepening.specs.Bounds.{Asking, bounded_of, Extended, Bounded, Wiped,
 use Rattle.deepening.specs.ClearingLaws.{cleared_back, cleared_from_lem, kept_part}
 use Rattle.deepening.specs.TreeLaws.{tree_length, tree_behind, tree_row_lem, rows_listed, rows_nodes}
 use Rattle.deepening.specs.declared.bound.Came.{Came}
-use Rattle.deepening.specs.declared.bound.Came.TheVariants.{Exceeded, Found, Failed}
+use Rattle.deepening.specs.declared.bound.Came.TheVariants.{Found, Failed}
+
+-- A machine that has stopped neither with a proof nor with nothing left to try was refused.
+pub refused_else : (k : Mode) → Stopped k → k ≢ Proved → k ≢ Over → k ≡ Refused
+refused_else Enter h p o = absurd h
+refused_else Try h p o = absurd h
+refused_else Fail h p o = absurd h
+refused_else Proved h p o = absurd (p refl)
+refused_else Over h p o = absurd (o refl)
+refused_else Refused h p o = refl
 
 -- The ways out of `leave`.
 module _ {F F' : Rows} {W W' : List ℕ} {T T' : Rows} {m : Machine} {d t u : ℕ} where
-  left_at : (r : Came) (k : Mode) → m.mode ≡ k → Leaves F F' W W' T T' m d t u r k → Left F F' W W' T T' m d t u r
+  left_at : (r : Result Came Refusal) (k : Mode) → m.mode ≡ k → Leaves F F' W W' T T' m d t u r k → Left F F' W W' T T' m d t u r
   left_at r k e l = record { is = subst (λ (k : Mode). Leaves F F' W W' T T' m d t u r k) (sym e) l }
 
   pub left_proved : {F₁ : Rows} → m.mode ≡ Proved → F₁ ≡ tree_rows d F m.frames → T' ≡ T → Cleared 0 0 W W' m.used m.top
       → Cleared [] zero_row F₁ F' m.frames m.high → Left F F' W W' T T' m d t u
-      (Found m.frames m.steps m.counter m.bound m.used)
+      (Ok (Found m.frames m.steps m.counter m.bound m.used))
   left_proved e f b w r =
-      left_at (Found m.frames m.steps m.counter m.bound m.used) Proved e
+      left_at (Ok (Found m.frames m.steps m.counter m.bound m.used)) Proved e
       (refl, b, record { words = w; frames = subst (λ (B : Rows). Cleared [] zero_row B F' m.frames m.high) f r })
 
   pub left_over : m.mode ≡ Over → T' ≡ T → Cleared 0 0 W W' u m.top → Cleared [] zero_row F F' 0 m.high
-      → Left F F' W W' T T' m d t u (Failed m.steps m.cut m.counter)
-  left_over e b w r = left_at (Failed m.steps m.cut m.counter) Over e (refl, b, record { words = w; frames = r })
+      → Left F F' W W' T T' m d t u (Ok (Failed m.steps m.cut m.counter))
+  left_over e b w r = left_at (Ok (Failed m.steps m.cut m.counter)) Over e (refl, b, record { words = w; frames = r })
 
   pub left_refused : m.mode ≡ Refused → T' ≡ undone T t (m.bound - t) → Cleared 0 0 W W' u m.top → Cleared [] zero_row F F' 0 m.high
-      → Left F F' W W' T T' m d t u Exceeded
-  left_refused e b w r = left_at Exceeded Refused e (refl, b, record { words = w; frames = r })
+      → Left F F' W W' T T' m d t u (Err OverLimit)
+  left_refused e b w r = left_at (Err OverLimit) Refused e (refl, b, record { words = w; frames = r })
 
 -- Other words that agree below those in use, and as many.
 well_kept : {a : Allowed} {W W' : List ℕ} {T : Rows} {c t u : ℕ} → Well a W T c t u → Same term_room (cells W) (cells W') u
@@ -84,7 +95,7 @@ entries_words D F W W' (suc n) h =
 module _ {a : Allowed} {P : List ℕ} {R F : Rows} {W : List ℕ} {T L M S : Rows} {g s c t u : ℕ}
     (asking : Asking a P R F W T L M S g s c t u) (d : ℕ) where
   -- With no step at all, and with a goal that is cut off.
-  pub bound_out : s ≡ 0 → Bounded a P R F F W W T T L L M M S S g d s c t u (Failed 0 false c)
+  pub bound_out : s ≡ 0 → Bounded a P R F F W W T T L L M M S S g d s c t u (Ok (Failed 0 false c))
   bound_out e = record {
     says = λ text. (
       subst (λ (s : ℕ). failed 0 false c ≡ bounded_of a text P R W T g d s c t u) (sym e) refl,
@@ -97,7 +108,7 @@ module _ {a : Allowed} {P : List ℕ} {R F : Rows} {W : List ℕ} {T L M S : Row
     stack = refl;
   }
 
-  pub bound_cut : 0 < s → d ≡ 0 → Bounded a P R F F W W T T L L M M S S g d s c t u (Failed (s - 1) true c)
+  pub bound_cut : 0 < s → d ≡ 0 → Bounded a P R F F W W T T L L M M S S g d s c t u (Ok (Failed (s - 1) true c))
   unfolding search
   bound_cut ls e = record {
     says = λ text. (
@@ -222,10 +233,11 @@ module _ {a : Allowed} {P : List ℕ} {R F : Rows} {W : List ℕ} {T L M S : Row
 
         module _ {F'' : Rows} {W'' : List ℕ} {T'' : Rows} where
           bound_refused : m.mode ≡ Refused → T'' ≡ undone T' t (m.bound - t) → Wiped F' F'' W' W'' m u 0
-              → Bounded a P R F F'' W W'' T T'' L L' M M' S S' g d s c t u Exceeded
+              → Bounded a P R F F'' W W'' T T'' L L' M M' S S' g d s c t u (Err OverLimit)
           unfolding start
           bound_refused e un w = record {
             says = λ text. (
+              refl,
               (refusing e text).value,
               record {
                 frames = frames_back w;
@@ -239,7 +251,7 @@ module _ {a : Allowed} {P : List ℕ} {R F : Rows} {W : List ℕ} {T L M S : Row
           }
 
           bound_failed : m.mode ≡ Over → T'' ≡ T' → Wiped F' F'' W' W'' m u 0
-              → Bounded a P R F F'' W W'' T T'' L L' M M' S S' g d s c t u (Failed m.steps m.cut m.counter)
+              → Bounded a P R F F'' W W'' T T'' L L' M M' S S' g d s c t u (Ok (Failed m.steps m.cut m.counter))
           unfolding start
           bound_failed e same w =
               let at : (text : List ℕ) → Ending a P R F' W' T' (start text []) (bounded_of a text P R W T g d s c t u) m = λ text. case_at
@@ -319,7 +331,7 @@ module _ {a : Allowed} {P : List ℕ} {R F : Rows} {W : List ℕ} {T L M S : Row
                 }
 
             bound_found : Bounded a P R F F'' W W'' T T'' L L' M M' S S' g d s c t u
-                (Found m.frames m.steps m.counter m.bound m.used)
+                (Ok (Found m.frames m.steps m.counter m.bound m.used))
             unfolding start
             bound_found = record {
               says = λ text. record {
@@ -344,17 +356,23 @@ module _ {a : Allowed} {P : List ℕ} {R F : Rows} {W : List ℕ} {T L M S : Row
             }
 
           -- What `leave` leaves is what the bound comes to.
-          left_by : (r : Came) (k : Mode) → m.mode ≡ k → Leaves F' F'' W' W'' T' T'' m d t u r k
+          left_by : (r : Result Came Refusal) (k : Mode) → m.mode ≡ k → Leaves F' F'' W' W'' T' T'' m d t u r k
               → Bounded a P R F F'' W W'' T T'' L L' M M' S S' g d s c t u r
-          left_by r Proved e l = subst (λ (r : Came). Bounded a P R F F'' W W'' T T'' L L' M M' S S' g d s c t u r) (sym l.0)
+          left_by r Proved e l = subst (λ (r : Result Came Refusal). Bounded a P R F F'' W W'' T T'' L L' M M' S S' g d s c t u r) (sym l.0)
               (bound_found e l.1 l.2)
-          left_by r Over e l = subst (λ (r : Came). Bounded a P R F F'' W W'' T T'' L L' M M' S S' g d s c t u r) (sym l.0)
+          left_by r Over e l = subst (λ (r : Result Came Refusal). Bounded a P R F F'' W W'' T T'' L L' M M' S S' g d s c t u r) (sym l.0)
               (bound_failed e l.1 l.2)
-          left_by r Refused e l = subst (λ (r : Came). Bounded a P R F F'' W W'' T T'' L L' M M' S S' g d s c t u r) (sym l.0)
+          left_by r Refused e l = subst (λ (r : Result Came Refusal). Bounded a P R F F'' W W'' T T'' L L' M M' S S' g d s c t u r) (sym l.0)
               (bound_refused e l.1 l.2)
           left_by r Enter e l = absurd l
           left_by r Try e l = absurd l
           left_by r Fail e l = absurd l
 
-          pub bound_left : {r : Came} → Left F' F'' W' W'' T' T'' m d t u r → Bounded a P R F F'' W W'' T T'' L L' M M' S S' g d s c t u r
+          pub bound_left : {r : Result Came Refusal} → Left F' F'' W' W'' T' T'' m d t u r → Bounded a P R F F'' W W'' T T'' L L' M M' S S' g d s c t u r
           bound_left {r} l = left_by r m.mode refl l.is
+
+-- The scratch stands.
+pub bounded_on : {a : Allowed} {P : List ℕ} {R F F' : Rows} {W W' : List ℕ} {T T' L L' L'' M M' M'' S S' S'' : Rows} {g d s c t u : ℕ}
+    {r : Result Came Refusal} → L'' ≡ L' → M'' ≡ M' → S'' ≡ S' → Bounded a P R F F' W W' T T' L L' M M' S S' g d s c t u r
+    → Bounded a P R F F' W W' T T' L L'' M M'' S S'' g d s c t u r
+bounded_on l m s h = record { says = h.says; links = l ∙ h.links; marks = m ∙ h.marks; stack = s ∙ h.stack }

@@ -1,6 +1,6 @@
 -- What one depth bound, and the bounds in turn, ask and leave: the answers are the theory's `bounded` and `prove`, for the rules by any
 -- names. What is lent comes with zero past what is in use, and goes back so.
-use Rattle.std.specs.Prelude.{ℕ, zero, suc, ◌-◌, ◌≤◌, ◌<◌, ◌≡◌, Bool, true, false, List, [], length, take}
+use Rattle.std.specs.Prelude.{ℕ, zero, suc, ◌-◌, ◌≤◌, ◌<◌, ◌≡◌, Bool, true, false, List, [], length, take, Result as Outcome, Ok, Err}
 use Rattle.terms.specs.Term.{one, many}
 use Rattle.arena.specs.Copies.{term_room}
 use Rattle.arena.specs.Form.{in_form}
@@ -9,6 +9,9 @@ use Rattle.bindings.specs.Tables.{undone}
 use Rattle.bindings.specs.Stored.{held}
 use Rattle.bindings.specs.Promises.{Undoable}
 use Rattle.unifier.specs.Promises.{Scratch}
+use Rattle.refusals.specs.Refusals.{number_of}
+use Rattle.refusals.specs.declared.Refusal.{Refusal}
+use Rattle.refusals.specs.declared.Refusal.TheVariants.{OverLimit}
 use Rattle.resolution.specs.Rules.{Tree, leaf, ◌◂◌}
 use Rattle.resolution.specs.Search.{within, Result, refused, found, failed, bounded, Verdict, refusal, proved, nothing, undecided, prove}
 use Rattle.resolution.specs.Preorder.{preorder, flat}
@@ -23,9 +26,9 @@ use Rattle.search_machine.specs.declared.Mode.TheVariants.{Enter, Try, Fail, Pro
 use Rattle.deepening.specs.Clearing.{zero_row, Cleared, ClearFrom}
 use Rattle.deepening.specs.Trees.{tree_rows, Nodes}
 use Rattle.deepening.specs.declared.bound.Came.{Came}
-use Rattle.deepening.specs.declared.bound.Came.TheVariants.{Exceeded, Found, Failed}
+use Rattle.deepening.specs.declared.bound.Came.TheVariants.{Found, Failed}
 use Rattle.deepening.specs.declared.Answer.{Answer}
-use Rattle.deepening.specs.declared.Answer.TheVariants.{Refused, Proved, Nothing, Undecided}
+use Rattle.deepening.specs.declared.Answer.TheVariants.{Proved, Nothing, Undecided}
 
 -- The goal g with s steps, in a session with c variables, t bindings and u words: signature and session are in form, there is a frame for
 -- each step, and words past those in use, frames and scratch are zero.
@@ -85,14 +88,14 @@ pub record Counted (a : Allowed) (W : List ℕ) (T : Rows) (c t u c' : ℕ) : Ty
   pub well : Well a W T c' t u
 
 -- What an answer says of the theory's result.
-abbrev pub Says : Allowed → List ℕ → Rows → Rows → Rows → List ℕ → List ℕ → Rows → Rows → ℕ → ℕ → ℕ → ℕ → Result → Came → Type 0
-Says a P R F F' W W' T T' s c t u o Exceeded = (refused ≡ o) × Unchanged F F' W W' T T'
-Says a P R F F' W W' T T' s c t u o (Found n b c' t' u') = Shown a P R F F' W W' T T' s c t u o n b c' t' u'
-Says a P R F F' W W' T T' s c t u o (Failed b cut c') = (failed b cut c' ≡ o) × (b ≤ s) × Counted a W T c t u c' × Unchanged F F' W W' T T'
+abbrev pub Says : Allowed → List ℕ → Rows → Rows → Rows → List ℕ → List ℕ → Rows → Rows → ℕ → ℕ → ℕ → ℕ → Result → Outcome Came Refusal → Type 0
+Says a P R F F' W W' T T' s c t u o (Err e) = (number_of e ≡ 37) × (refused ≡ o) × Unchanged F F' W W' T T'
+Says a P R F F' W W' T T' s c t u o (Ok (Found n b c' t' u')) = Shown a P R F F' W W' T T' s c t u o n b c' t' u'
+Says a P R F F' W W' T T' s c t u o (Ok (Failed b cut c')) = (failed b cut c' ≡ o) × (b ≤ s) × Counted a W T c t u c' × Unchanged F F' W W' T T'
 
 -- `at_bound` searched at the depth bound d; the scratch is as it was.
 pub record Bounded (a : Allowed) (P : List ℕ) (R F F' : Rows) (W W' : List ℕ) (T T' L L' M M' S S' : Rows) (g d s c t u : ℕ)
-    (r : Came) : Type 0 where
+    (r : Outcome Came Refusal) : Type 0 where
   pub says : (text : List ℕ) → Says a P R F F' W W' T T' s c t u (bounded_of a text P R W T g d s c t u) r
   pub links : L' ≡ L
   pub marks : M' ≡ M
@@ -104,17 +107,17 @@ pub record Wiped (F F' : Rows) (W W' : List ℕ) (m : Machine) (u n : ℕ) : Typ
   pub frames : Cleared [] zero_row F F' n m.high
 
 -- What `leave` leaves, by the mode in which the machine has stopped; t and u are the bindings and words at the start.
-abbrev pub Leaves : Rows → Rows → List ℕ → List ℕ → Rows → Rows → Machine → ℕ → ℕ → ℕ → Came → Mode → Type 0
+abbrev pub Leaves : Rows → Rows → List ℕ → List ℕ → Rows → Rows → Machine → ℕ → ℕ → ℕ → Outcome Came Refusal → Mode → Type 0
 Leaves F F' W W' T T' m d t u r Done =
-    (r ≡ Found m.frames m.steps m.counter m.bound m.used) × (T' ≡ T) × Wiped (tree_rows d F m.frames) F' W W' m m.used
+    (r ≡ Ok (Found m.frames m.steps m.counter m.bound m.used)) × (T' ≡ T) × Wiped (tree_rows d F m.frames) F' W W' m m.used
     m.frames
-Leaves F F' W W' T T' m d t u r Over = (r ≡ Failed m.steps m.cut m.counter) × (T' ≡ T) × Wiped F F' W W' m u 0
-Leaves F F' W W' T T' m d t u r Exceeding = (r ≡ Exceeded) × (T' ≡ undone T t (m.bound - t)) × Wiped F F' W W' m u 0
+Leaves F F' W W' T T' m d t u r Over = (r ≡ Ok (Failed m.steps m.cut m.counter)) × (T' ≡ T) × Wiped F F' W W' m u 0
+Leaves F F' W W' T T' m d t u r Exceeding = (r ≡ Err OverLimit) × (T' ≡ undone T t (m.bound - t)) × Wiped F F' W W' m u 0
 Leaves F F' W W' T T' m d t u r Enter = ⊥
 Leaves F F' W W' T T' m d t u r Try = ⊥
 Leaves F F' W W' T T' m d t u r Fail = ⊥
 
-pub record Left (F F' : Rows) (W W' : List ℕ) (T T' : Rows) (m : Machine) (d t u : ℕ) (r : Came) : Type 0 where
+pub record Left (F F' : Rows) (W W' : List ℕ) (T T' : Rows) (m : Machine) (d t u : ℕ) (r : Outcome Came Refusal) : Type 0 where
   pub is : Leaves F F' W W' T T' m d t u r m.mode
 
 -- The machine has stopped; refused, its bindings can be taken back.
@@ -148,15 +151,15 @@ pub record Proven (a : Allowed) (P : List ℕ) (R F F' : Rows) (W W' : List ℕ)
   pub frames_clear : ClearFrom zero_row F' n
 
 -- What an answer says of the theory's verdict.
-abbrev pub Answers : Allowed → List ℕ → Rows → Rows → Rows → List ℕ → List ℕ → Rows → Rows → ℕ → ℕ → ℕ → Verdict → Answer → Type 0
-Answers a P R F F' W W' T T' c t u v Refused = (refusal 37 ≡ v) × Unchanged F F' W W' T T'
-Answers a P R F F' W W' T T' c t u v (Proved n k c' t' u') = Proven a P R F F' W W' T T' c t u v n k c' t' u'
-Answers a P R F F' W W' T T' c t u v (Nothing k c') = (nothing k c' ≡ v) × Counted a W T c t u c' × Unchanged F F' W W' T T'
-Answers a P R F F' W W' T T' c t u v (Undecided k c') = (undecided k c' ≡ v) × Counted a W T c t u c' × Unchanged F F' W W' T T'
+abbrev pub Answers : Allowed → List ℕ → Rows → Rows → Rows → List ℕ → List ℕ → Rows → Rows → ℕ → ℕ → ℕ → Verdict → Outcome Answer Refusal → Type 0
+Answers a P R F F' W W' T T' c t u v (Err e) = (number_of e ≡ 37) × (refusal 37 ≡ v) × Unchanged F F' W W' T T'
+Answers a P R F F' W W' T T' c t u v (Ok (Proved n k c' t' u')) = Proven a P R F F' W W' T T' c t u v n k c' t' u'
+Answers a P R F F' W W' T T' c t u v (Ok (Nothing k c')) = (nothing k c' ≡ v) × Counted a W T c t u c' × Unchanged F F' W W' T T'
+Answers a P R F F' W W' T T' c t u v (Ok (Undecided k c')) = (undecided k c' ≡ v) × Counted a W T c t u c' × Unchanged F F' W W' T T'
 
 -- `prove` answered the goal; the scratch is as it was.
 pub record Deepened (a : Allowed) (P : List ℕ) (R F F' : Rows) (W W' : List ℕ) (T T' L L' M M' S S' : Rows) (g largest s c t u : ℕ)
-    (r : Answer) : Type 0 where
+    (r : Outcome Answer Refusal) : Type 0 where
   pub answers : (text : List ℕ) → Answers a P R F F' W W' T T' c t u (prove_of a text P R W T g largest s c t u) r
   pub links : L' ≡ L
   pub marks : M' ≡ M

@@ -1,5 +1,5 @@
 -- Laws of clearing: one element more, and what a list is of which all that was written is cleared.
-use Rattle.std.specs.Prelude.{ℕ, zero, suc, ◌+◌, ◌-◌, ◌≤◌, ◌<◌, ◌≡◌, refl, List, length, get_or, set, take, drop, replicate}
+use Rattle.std.specs.Prelude.{ℕ, zero, suc, ◌+◌, ◌-◌, ◌≤◌, ◌<◌, ◌≡◌, refl, List, length, get_or, set, take, drop, replicate, min, max}
 use Rattle.std.proofs.Common.{arith, sym, ap, ◌∙◌, length-set, length-drop, get_or-set_same, get_or-set_other, get_or-take, get_or-drop, length-take-le, ext_get_or}
 use Rattle.std.proofs.lemmas.List.{length-replicate}
 use Rattle.terms.specs.Numbers.{by_same, by_less}
@@ -27,27 +27,15 @@ cleared_next {A} {d} {z} {l} {l'} {from} {to} h le = record {
   behind = λ i p. get_or-set_other l' to i z d (λ e. omega arith) ∙ h.behind i (omega arith);
 }
 
--- Up to the number, or to the end of the list.
-pub cleared_stop : {A : Type 0} {d z : A} {l l' : List A} {from at : ℕ} (to : ℕ) → Cleared d z l l' from at → at ≤ from + (to - from)
-    → to ≤ at
-    → Cleared d z l l' from to
-cleared_stop {from = from} to h le lt = record {
+-- Up to a number, as far as there are elements.
+pub cleared_all : {A : Type 0} {d z : A} {l l' : List A} {from at : ℕ} (to : ℕ) → Cleared d z l l' from at
+    → at ≤ max from (min (length l) to) → min (length l) to ≤ at → Cleared d z l l' from to
+cleared_all {from = from} to h le lt = record {
   long = h.long;
   before = h.before;
   between = λ i p q r. h.between i p (omega arith) r;
   behind = λ i p. by_less i from (λ x e. h.before i x) (λ x e. h.behind i (omega arith));
 }
-
-pub cleared_end : {A : Type 0} {d z : A} {l l' : List A} {from at : ℕ} (to : ℕ) → Cleared d z l l' from at → length l' ≤ at → at ≤ to
-    → Cleared d z l l' from to
-cleared_end to h le lt =
-    let n = h.long in
-    record {
-      long = h.long;
-      before = h.before;
-      between = λ i p q r. h.between i p (omega arith) r;
-      behind = λ i p. h.behind i (omega arith);
-    }
 
 -- A list that is z from a place on, by its elements.
 replicate_at : {A : Type 0} (d z : A) (n i : ℕ) → i < n → get_or (replicate n z) i d ≡ z

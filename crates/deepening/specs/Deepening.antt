@@ -1,5 +1,5 @@
 -- The bounds in turn: what the loop keeps, and its ways out.
-use Rattle.std.specs.Prelude.{ℕ, zero, suc, ◌+◌, ◌-◌, ◌≤◌, ◌<◌, ◌≡◌, refl, Bool, true, false, not, cond, ◌≢◌, List, [], ◌∷◌, length}
+use Rattle.std.specs.Prelude.{ℕ, zero, suc, ◌+◌, ◌-◌, ◌≤◌, ◌<◌, ◌≡◌, refl, Bool, true, false, not, cond, ◌≢◌, List, [], ◌∷◌, length, Result as Outcome, Ok, Err}
 use Rattle.std.proofs.Common.{arith, le_refl, ap, sym, ◌∙◌, subst}
 use Rattle.terms.specs.Numbers.{less_yes, less_no, true_false}
 use Rattle.terms.specs.Term.{many}
@@ -9,6 +9,7 @@ use Rattle.arena.specs.Form.{in_form}
 use Rattle.arena.specs.FormKept.{form_same}
 use Rattle.arena.specs.Rows.{Rows}
 use Rattle.bindings.specs.Stored.{held}
+use Rattle.refusals.specs.declared.Refusal.{Refusal}
 use Rattle.resolution.specs.Rules.{Tree}
 use Rattle.resolution.specs.Search.{within, Result, refused, found, failed, Verdict, settle, bounds_from, bounds, deepen, nothing}
 use Rattle.resolution.specs.Search.{proved}
@@ -21,8 +22,8 @@ use Rattle.deepening.specs.Bounds.{Asking, bounded_of, Unchanged, Extended, Show
 use Rattle.deepening.specs.Bounds.{Deepened}
 use Rattle.deepening.specs.TreeLaws.{entries_count, lists_all}
 use Rattle.deepening.specs.declared.bound.Came.{Came}
-use Rattle.deepening.specs.declared.bound.Came.TheVariants.{Exceeded, Found, Failed}
-use Rattle.deepening.specs.declared.Answer.TheVariants.{Refused, Proved, Nothing, Undecided}
+use Rattle.deepening.specs.declared.bound.Came.TheVariants.{Found, Failed}
+use Rattle.deepening.specs.declared.Answer.TheVariants.{Proved, Nothing, Undecided}
 
 -- A failure that does not settle the goal, and one that does.
 settle_open : (s b : ℕ) (cut : Bool) (c : ℕ) (next : ℕ → ℕ → Verdict) → settled b cut ≡ false
@@ -124,7 +125,7 @@ module _ {a : Allowed} {P : List ℕ} {R F₀ F : Rows} {W₀ W : List ℕ} {T�
   deepening_asking = asking_same h.unchanged h.links h.marks h.stack (asking_later h.start h.counted)
 
   -- No bound is left.
-  pub deepening_over : largest < d → Deepened a P R F₀ F W₀ W T₀ T L₀ L M₀ M S₀ S g largest s c t u (Undecided k c')
+  pub deepening_over : largest < d → Deepened a P R F₀ F W₀ W T₀ T L₀ L M₀ M S₀ S g largest s c t u (Ok (Undecided k c'))
   deepening_over l = record {
     answers = λ text. (
       ap (λ (ds : List ℕ). deepen (within a.variables a.words) (rules_from text P R 0 a.rules) s u (held term_room W₀ T₀ t)
@@ -138,7 +139,7 @@ module _ {a : Allowed} {P : List ℕ} {R F₀ F : Rows} {W₀ W : List ℕ} {T�
     stack = h.stack;
   }
 
-  module _ (ld : d ≤ largest) {F' : Rows} {W' : List ℕ} {T' L' M' S' : Rows} {r : Came}
+  module _ (ld : d ≤ largest) {F' : Rows} {W' : List ℕ} {T' L' M' S' : Rows} {r : Outcome Came Refusal}
       (came : Bounded a P R F F' W W' T T' L L' M M' S S' g d s c' t u r) where
     -- The bound started from the buffers at entry.
     from_entry : Bounded a P R F₀ F' W₀ W' T₀ T' L₀ L' M₀ M' S₀ S' g d s c' t u r
@@ -164,21 +165,22 @@ module _ {a : Allowed} {P : List ℕ} {R F₀ F : Rows} {W₀ W : List ℕ} {T�
         (sym (bounds_next h.fuel d largest ld h.enough))
         ∙ h.is text
 
-    known : (q : Came) → r ≡ q → (text : List ℕ) → Says a P R F₀ F' W₀ W' T₀ T' s c' t u (bounded_of a text P R W₀ T₀ g d s c' t u) q
+    known : (q : Outcome Came Refusal) → r ≡ q → (text : List ℕ) → Says a P R F₀ F' W₀ W' T₀ T' s c' t u (bounded_of a text P R W₀ T₀ g d s c' t u) q
     known q e text =
-        subst (λ (q : Came). Says a P R F₀ F' W₀ W' T₀ T' s c' t u (bounded_of a text P R W₀ T₀ g d s c' t u) q) e (from_entry.says text)
+        subst (λ (q : Outcome Came Refusal). Says a P R F₀ F' W₀ W' T₀ T' s c' t u (bounded_of a text P R W₀ T₀ g d s c' t u) q) e (from_entry.says text)
 
-    pub deepening_refused : r ≡ Exceeded → Deepened a P R F₀ F' W₀ W' T₀ T' L₀ L' M₀ M' S₀ S' g largest s c t u Refused
-    deepening_refused e = record {
-      answers = λ text. (value text refused (known Exceeded e text).0, (known Exceeded e text).1);
+    pub deepening_refused : (o : Refusal) → r ≡ Err o
+        → Deepened a P R F₀ F' W₀ W' T₀ T' L₀ L' M₀ M' S₀ S' g largest s c t u (Err o)
+    deepening_refused o e = record {
+      answers = λ text. let k = known (Err o) e text in (k.0, value text refused k.1, k.2);
       links = from_entry.links;
       marks = from_entry.marks;
       stack = from_entry.stack;
     }
 
-    module _ (n b c₁ t₁ u₁ : ℕ) (e : r ≡ Found n b c₁ t₁ u₁) where
+    module _ (n b c₁ t₁ u₁ : ℕ) (e : r ≡ Ok (Found n b c₁ t₁ u₁)) where
       shown : (text : List ℕ) → Shown a P R F₀ F' W₀ W' T₀ T' s c' t u (bounded_of a text P R W₀ T₀ g d s c' t u) n b c₁ t₁ u₁
-      shown text = known (Found n b c₁ t₁ u₁) e text
+      shown text = known (Ok (Found n b c₁ t₁ u₁)) e text
 
       pub found_left : b ≤ s
       found_left = (shown []).left
@@ -215,7 +217,7 @@ module _ {a : Allowed} {P : List ℕ} {R F₀ F : Rows} {W₀ W : List ℕ} {T�
               let lw = h.start.well.form.lent_words in
               form_same W₀ W₀ 0 u term_room c c' arities (omega arith) lw lw h.counted.later (λ i l. refl) f
 
-      pub deepening_proved : Deepened a P R F₀ F' W₀ W' T₀ T' L₀ L' M₀ M' S₀ S' g largest s c t u (Proved n (s - b) c₁ t₁ u₁)
+      pub deepening_proved : Deepened a P R F₀ F' W₀ W' T₀ T' L₀ L' M₀ M' S₀ S' g largest s c t u (Ok (Proved n (s - b) c₁ t₁ u₁))
       deepening_proved = record {
         answers = λ text.
             let x = shown text in
@@ -235,9 +237,9 @@ module _ {a : Allowed} {P : List ℕ} {R F₀ F : Rows} {W₀ W : List ℕ} {T�
         stack = from_entry.stack;
       }
 
-    module _ (b : ℕ) (cut : Bool) (c₁ : ℕ) (e : r ≡ Failed b cut c₁) where
-      fails : (text : List ℕ) → Says a P R F₀ F' W₀ W' T₀ T' s c' t u (bounded_of a text P R W₀ T₀ g d s c' t u) (Failed b cut c₁)
-      fails text = known (Failed b cut c₁) e text
+    module _ (b : ℕ) (cut : Bool) (c₁ : ℕ) (e : r ≡ Ok (Failed b cut c₁)) where
+      fails : (text : List ℕ) → Says a P R F₀ F' W₀ W' T₀ T' s c' t u (bounded_of a text P R W₀ T₀ g d s c' t u) (Ok (Failed b cut c₁))
+      fails text = known (Ok (Failed b cut c₁)) e text
 
       pub failed_left : b ≤ s
       failed_left = (fails []).1
@@ -246,7 +248,7 @@ module _ {a : Allowed} {P : List ℕ} {R F₀ F : Rows} {W₀ W : List ℕ} {T�
       counted_on = let l = (fails []).2.later in let m = h.counted.later in record { later = omega arith; well = (fails []).2.well }
 
       pub deepening_nothing : settled b cut ≡ true → Deepened a P R F₀ F' W₀ W' T₀ T' L₀ L' M₀ M' S₀ S' g largest s c t u
-          (Nothing (s - b) c₁)
+          (Ok (Nothing (s - b) c₁))
       deepening_nothing q = record {
         answers = λ text. (sym (settle_done s b cut c₁ _ q) ∙ value text (failed b cut c₁) (fails text).0, counted_on, (fails text).3);
         links = from_entry.links;

@@ -2,6 +2,7 @@
 pub mod Clearing
 pub mod Trees
 pub mod Bounds
+pub mod Groups
 -- Laws, in the order in which they are needed:
 pub mod ClearingLaws
 pub mod TreeLaws

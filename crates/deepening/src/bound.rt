@@ -1,97 +1,107 @@
 // The search at one depth bound.
-ghost use Rattle.std.specs.Prelude.{◌≡◌};
-ghost use Rattle.deepening.specs.Bounds.{Asking, Bounded, Leaving, Left};
+ghost use Rattle.search_machine.specs.Groups.{IsLent};
+ghost use Rattle.deepening.specs.Bounds.{Leaving};
+ghost use Rattle.deepening.specs.Groups.{AskingIn, BoundedIn, LeftIn};
 
-use super::clearing::{clear_rows, clear_words};
+use super::Question;
+use super::clearing::clear;
 use super::trees::write_tree;
 use bindings::undo;
-use rules::RuleRow;
-use search_machine::{Allowed, Machine, Mode, at_start, run};
+use refusals::Refusal;
+use search_machine::{Machine, Mode, Program, Store, run};
 
-// What came of one depth bound.
+// What came of one depth bound that the limits allow.
+// Stays: no case is an error, and a `Result` in a `Result` would be no plainer.
 #[derive(Clone, Copy)]
 pub enum Came {
-    // The limits refuse it.
-    Exceeded,
     // A proof: the number of its applications, steps left, and variables, bindings and words in use.
-    Found(u32, u32, u32, u32, u32),
+    Found {
+        applications: u32,
+        left: u32,
+        counter: u32,
+        bound: u32,
+        used: u32,
+    },
     // None: steps left, whether a goal was cut off, and variables in use.
-    Failed(u32, bool, u32),
+    Failed {
+        left: u32,
+        cut: bool,
+        counter: u32,
+    },
 }
 
-// The end of a bound: a proof's frames become its rows, and what else was written is cleared; without a proof that is all. `bound` and
-// `used` are the bindings and words at the start.
-fn leave(
-    words: &mut [u32],
-    bindings: &mut [[u32; 2]],
-    frames: &mut [[u32; 8]],
-    m: Machine,
-    depth: u32,
-    bound: u32,
-    used: u32,
-) -> Came
-    requires { Leaving bindings.old m bound }
-    ensures { Left frames.old frames.new words.old words.new
-        bindings.old bindings.new m depth bound used result }
+// The end of a bound: a proof's frames become its rows, and what else was written is cleared; without a proof that is all.
+fn leave(store: &mut Store, m: Machine, question: Question, depth: u32) -> Result<Came, Refusal>
+    requires { Leaving store.old.bindings.now m question.bound }
+    ensures left { LeftIn store.old store.new m question depth result }
+    ensures lent { IsLent store.old store.new }
 {
-    let mode = m.mode;
-    match mode {
+    match m.mode {
         Mode::Proved => {
-            write_tree(frames, m.frames, depth);
-            clear_words(words, m.used, m.top);
-            clear_rows(frames, m.frames, m.high);
-            Came::Found(m.frames, m.steps, m.counter, m.bound, m.used)
+            write_tree(store.frames, m.frames, depth);
+            clear(store.words, m.used, m.top, 0);
+            clear(store.frames, m.frames, m.high, [0; 8]);
+            Ok(Came::Found {
+                applications: m.frames,
+                left: m.steps,
+                counter: m.counter,
+                bound: m.bound,
+                used: m.used,
+            })
         }
         Mode::Over => {
-            clear_words(words, used, m.top);
-            clear_rows(frames, 0, m.high);
-            Came::Failed(m.steps, m.cut, m.counter)
+            clear(store.words, question.used, m.top, 0);
+            clear(store.frames, 0, m.high, [0; 8]);
+            Ok(Came::Failed {
+                left: m.steps,
+                cut: m.cut,
+                counter: m.counter,
+            })
         }
-        Mode::Refused => {
-            undo(bindings, m.bound, bound);
-            clear_words(words, used, m.top);
-            clear_rows(frames, 0, m.high);
-            Came::Exceeded
+        _ => {
+            undo(store.bindings, m.bound, question.bound);
+            clear(store.words, question.used, m.top, 0);
+            clear(store.frames, 0, m.high, [0; 8]);
+            Err(Refusal::OverLimit)
         }
-        Mode::Enter => Came::Exceeded,
-        Mode::Try => Came::Exceeded,
-        Mode::Fail => Came::Exceeded,
     }
 }
 
 // One depth bound.
 pub fn at_bound(
-    rules: &[RuleRow],
-    pattern: &[u32],
-    allowed: Allowed,
-    words: &mut [u32],
-    bindings: &mut [[u32; 2]],
-    links: &mut [[u32; 2]],
-    marks: &mut [[u32; 2]],
-    stack: &mut [[u32; 3]],
-    frames: &mut [[u32; 8]],
-    goal: u32,
+    program: Program,
+    store: &mut Store,
+    question: Question,
     depth: u32,
-    steps: u32,
-    counter: u32,
-    bound: u32,
-    used: u32,
-) -> Came
-    requires { Asking allowed pattern.now rules.now frames.old words.old bindings.old links.old marks.old stack.old
-        goal steps counter bound used }
-    ensures { Bounded allowed pattern.now rules.now frames.old frames.new
-        words.old words.new bindings.old bindings.new links.old links.new
-        marks.old marks.new stack.old stack.new goal depth steps counter bound used result }
+) -> Result<Came, Refusal>
+    requires { AskingIn program store.old question }
+    ensures bounded { BoundedIn program.entry store.old store.new question depth result }
+    ensures lent { IsLent store.old store.new }
 {
+    let steps = question.steps;
+    let counter = question.counter;
     if steps == 0 {
-        return Came::Failed(0, false, counter);
+        return Ok(Came::Failed {
+            left: 0,
+            cut: false,
+            counter,
+        });
     }
     if depth == 0 {
-        return Came::Failed(steps - 1, true, counter);
+        return Ok(Came::Failed {
+            left: steps - 1,
+            cut: true,
+            counter,
+        });
     }
-    let first = at_start(goal, depth - 1, steps - 1, counter, bound, used);
-    let m = run(
-        rules, pattern, allowed, words, bindings, links, marks, stack, frames, first,
+    let first = Machine::at_start(
+        question.goal,
+        depth - 1,
+        steps - 1,
+        counter,
+        question.bound,
+        question.used,
     );
-    leave(words, bindings, frames, m, depth, bound, used)
+    let m = run(program, store, first);
+    leave(store, m, question, depth)
 }

@@ -1,33 +1,12 @@
-// What was written is cleared: words and rows up to a number, as far as there are any.
-ghost use Rattle.std.specs.Prelude.{[]};
-ghost use Rattle.deepening.specs.Clearing.{zero_row, Cleared};
+// What was written is cleared.
+ghost use Rattle.deepening.specs.Clearing.{Cleared};
 
-// Words.
-pub fn clear_words(words: &mut [u32], from: u32, to: u32)
-    ensures { Cleared 0 0 words.old words.new from to }
+// Sets the items from one place up to another to zero, as far as there are any.
+pub fn clear<T: Copy>(items: &mut [T], from: u32, to: u32, zero: T)
+    ensures { (past : T) → Cleared past zero items.old items.new from to }
 {
-    let mut at = from as usize;
-    let end = to as usize;
-    while at < end {
-        if at >= words.len() {
-            return;
-        }
-        words[at] = 0;
-        at += 1;
-    }
-}
-
-// Rows.
-pub fn clear_rows(rows: &mut [[u32; 8]], from: u32, to: u32)
-    ensures { Cleared [] zero_row rows.old rows.new from to }
-{
-    let mut at = from as usize;
-    let end = to as usize;
-    while at < end {
-        if at >= rows.len() {
-            return;
-        }
-        rows[at] = [0u32; 8];
-        at += 1;
+    let end = items.len().min(to as usize);
+    for i in from as usize..end {
+        items[i] = zero;
     }
 }

@@ -10,82 +10,105 @@ mod clearing; // what was written is cleared
 mod trees; // the proof that the frames are
 
 ghost use Rattle.std.specs.Prelude.{◌≡◌, ◌≤◌};
-ghost use Rattle.deepening.specs.Bounds.{Asking, settled, Deepened};
+ghost use Rattle.search_machine.specs.Groups.{IsLent};
+ghost use Rattle.deepening.specs.Bounds.{settled};
+ghost use Rattle.deepening.specs.Groups.{AskingIn, DeepenedIn};
 
 use bound::{Came, at_bound};
-use rules::RuleRow;
-use search_machine::Allowed;
+use refusals::Refusal;
+use search_machine::{Program, Store};
 
-// The answer to a goal.
+// A goal that is asked: its reference, the steps that the search may use, and the variables, bindings and words of the session.
+#[derive(Clone, Copy)]
+pub struct Question {
+    pub goal: u32,
+    pub steps: u32,
+    pub counter: u32,
+    pub bound: u32,
+    pub used: u32,
+}
+
+// The answer to a goal that the limits allow.
 #[derive(Clone, Copy)]
 pub enum Answer {
-    // The limits refuse it (document 01, refusal 37).
-    Refused,
     // Proved: the number of the proof's applications, steps used, and variables, bindings and words in use.
-    Proved(u32, u32, u32, u32, u32),
+    Proved {
+        applications: u32,
+        steps: u32,
+        counter: u32,
+        bound: u32,
+        used: u32,
+    },
     // No proof, or undecided: steps used, and variables in use.
-    Nothing(u32, u32),
-    Undecided(u32, u32),
+    Nothing {
+        steps: u32,
+        counter: u32,
+    },
+    Undecided {
+        steps: u32,
+        counter: u32,
+    },
 }
 
 // Whether a failure settles the goal: steps are left and nothing was cut off.
 fn is_settled(left: u32, cut: bool) -> bool
     ensures { result ≡ settled left cut }
 {
-    if left == 0 {
-        return false;
-    }
-    !cut
+    left != 0 && !cut
 }
 
 // The bounds in turn. With a proof the first rows are its tree's, without one every buffer is as it was.
 pub fn prove(
-    rules: &[RuleRow],
-    pattern: &[u32],
-    allowed: Allowed,
-    words: &mut [u32],
-    bindings: &mut [[u32; 2]],
-    links: &mut [[u32; 2]],
-    marks: &mut [[u32; 2]],
-    stack: &mut [[u32; 3]],
-    frames: &mut [[u32; 8]],
-    goal: u32,
+    program: Program,
+    store: &mut Store,
+    question: Question,
     largest: u32,
-    steps: u32,
-    counter: u32,
-    bound: u32,
-    used: u32,
-) -> Answer
-    requires fact_1 { Asking allowed pattern.now rules.now frames.old words.old bindings.old links.old marks.old stack.old
-        goal steps counter bound used }
-    requires fact_2 { largest ≤ 128 }
-    ensures { Deepened allowed pattern.now rules.now frames.old frames.new
-        words.old words.new bindings.old bindings.new links.old links.new
-        marks.old marks.new stack.old stack.new goal largest steps counter bound used result }
+) -> Result<Answer, Refusal>
+    requires asking { AskingIn program store.old question }
+    requires depth { largest ≤ 128 }
+    ensures deepened { DeepenedIn program.entry store.old store.new question largest result }
+    ensures lent { IsLent store.old store.new }
 {
-    let mut depth: u32 = 4;
-    let mut taken: u32 = 0;
-    let mut met = counter;
+    let mut depth = 4;
+    let mut taken = 0;
+    let mut met = question.counter;
     while depth <= largest {
-        match at_bound(
-            rules, pattern, allowed, words, bindings, links, marks, stack, frames, goal, depth,
-            steps, met, bound, used,
-        ) {
-            Came::Exceeded => {
-                return Answer::Refused;
+        let asked = Question {
+            counter: met,
+            ..question
+        };
+        let came = at_bound(program, store, asked, depth)?;
+        match came {
+            Came::Found {
+                applications,
+                left,
+                counter,
+                bound,
+                used,
+            } => {
+                return Ok(Answer::Proved {
+                    applications,
+                    steps: question.steps - left,
+                    counter,
+                    bound,
+                    used,
+                });
             }
-            Came::Found(count, left, variables, entries, top) => {
-                return Answer::Proved(count, steps - left, variables, entries, top);
-            }
-            Came::Failed(left, cut, variables) => {
+            Came::Failed { left, cut, counter } => {
+                taken = question.steps - left;
                 if is_settled(left, cut) {
-                    return Answer::Nothing(steps - left, variables);
+                    return Ok(Answer::Nothing {
+                        steps: taken,
+                        counter,
+                    });
                 }
-                taken = steps - left;
-                met = variables;
-                depth = depth + depth;
+                met = counter;
+                depth += depth;
             }
         }
     }
-    Answer::Undecided(taken, met)
+    Ok(Answer::Undecided {
+        steps: taken,
+        counter: met,
+    })
 }

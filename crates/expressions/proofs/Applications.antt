@@ -20,16 +20,17 @@ use Rattle.evaluation.specs.Matching.{Built, barred, built, build_node}
 use Rattle.evaluation.specs.Calls.{Spent, Called, refused, returned, call_of}
 use Rattle.evaluation.specs.Expressions.{Evaluated, failed, evaluated, misuse, behind, around, apply_of}
 use Rattle.clause_matching.specs.Choice.{values_of}
-use Rattle.function_calls.specs.Calls.{TreesListed, Answers, CallAsked, CallAnswered}
+use Rattle.function_calls.specs.Calls.{outcome, TreesListed, Answers, CallAsked, CallAnswered}
+use Rattle.std.specs.Prelude.{Result, Err}
+use Rattle.refusals.specs.declared.Refusal.{Refusal}
+use Rattle.clause_matching.specs.Building.{built_at}
 use Rattle.clause_matching.specs.declared.building.Built.{Built as Made}
-use Rattle.clause_matching.specs.declared.building.Built.TheVariants.{At, Refused as Barred}
 use Rattle.function_calls.specs.declared.calls.Outcome.{Outcome}
-use Rattle.function_calls.specs.declared.calls.Outcome.TheVariants.{Value as Answer, Refused}
 use Rattle.expressions.specs.Nodes.{BuildAsked, BuildAnswered}
 use Rattle.expressions.specs.Applying.{Tables, ApplyAsked, Concludes, ApplyAnswered}
 use Rattle.forward_calls.proofs.Tables.{symbols_length, output_at, function_at, arity_at_lem}
 use Rattle.expressions.proofs.Forming.{arity_within, arity_known, denied_worth, made_worth, used_worth}
-use Rattle.expressions.proofs.Building.{built_at, built_barred}
+use Rattle.expressions.proofs.Building.{built_is, built_barred}
 
 and_no : (a : Bool) → (a && false) ≡ false
 and_no true = refl
@@ -49,8 +50,8 @@ module _ (text : List ℕ) (symbols : Rows) (count i k : ℕ) (h : count ≤ len
   in_numbers : misuse (symbol_at (symbols_of text symbols count) i) k ≡ cond (eqb mark 0 && eqb out 0) 32 (cond (eqb k wanted) 0 21)
   in_numbers = rw (function_at text symbols count h i l, output_at text symbols count h i l, arity_at_lem text symbols count h i l)
 
-  pub misuse_predicate : mark ≡ 0 → out ≡ 0 → 32 ≡ misuse (symbol_at (symbols_of text symbols count) i) k
-  misuse_predicate a b = sym (in_numbers ∙ rw (eq-eqb mark 0 a, eq-eqb out 0 b))
+  pub misuse_predicate : mark ≡ 0 → out ≡ 0 → misuse (symbol_at (symbols_of text symbols count) i) k ≡ 32
+  misuse_predicate a b = in_numbers ∙ rw (eq-eqb mark 0 a, eq-eqb out 0 b)
 
   pub no_function : (mark ≡ 0 → ⊥) → (eqb mark 0 && eqb out 0) ≡ false
   no_function a = rw (ne_eqb mark 0 a)
@@ -59,11 +60,11 @@ module _ (text : List ℕ) (symbols : Rows) (count i k : ℕ) (h : count ≤ len
   no_predicate a = rw (ne_eqb out 0 a) (and_no (eqb mark 0))
 
   module _ (e : (eqb mark 0 && eqb out 0) ≡ false) where
-    pub misuse_count : (wanted ≡ k → ⊥) → 21 ≡ misuse (symbol_at (symbols_of text symbols count) i) k
-    misuse_count d = sym (in_numbers ∙ rw (e, ne_eqb k wanted (λ q. d (sym q))))
+    pub misuse_count : (wanted ≡ k → ⊥) → misuse (symbol_at (symbols_of text symbols count) i) k ≡ 21
+    misuse_count d = in_numbers ∙ rw (e, ne_eqb k wanted (λ q. d (sym q)))
 
-    pub misuse_none : wanted ≡ k → 0 ≡ misuse (symbol_at (symbols_of text symbols count) i) k
-    misuse_none d = sym (in_numbers ∙ rw (e, eq-eqb k wanted (sym d)))
+    pub misuse_none : wanted ≡ k → misuse (symbol_at (symbols_of text symbols count) i) k ≡ 0
+    misuse_none d = in_numbers ∙ rw (e, eq-eqb k wanted (sym d))
 
 -- Trees in front of those of a value.
 abbrev pub prefixed : Tree several → Evaluated one → Evaluated one
@@ -96,7 +97,7 @@ apply_prefixed limit S rules i depth vs ps c =
     (build_node limit i vs c.words)
 
 -- What a call answers, as an expression.
-call_concludes : (r : Outcome) (words : List ℕ) (trees : Rows) (words' : List ℕ) (trees' : Rows) (used limit calls : ℕ) (o : Called)
+call_concludes : (r : Result Outcome Refusal) (words : List ℕ) (trees : Rows) (words' : List ℕ) (trees' : Rows) (used limit calls : ℕ) (o : Called)
     → Answers o r words trees words' trees' used limit calls 1 → Concludes (behind leaf o) r words trees words' trees' used limit calls
 call_concludes r words trees words' trees' used limit calls (refused e) h = h
 call_concludes r words trees words' trees' used limit calls (returned v p c) (x, e, s, t) =
@@ -137,7 +138,7 @@ module _ {symbol_rows rule_rows : Rows} {pattern : List ℕ} {i : ℕ} {values :
           spent = omega arith;
         }
 
-    pub called : {r : Outcome} {words' links' : List ℕ} {trees' : Rows}
+    pub called : {r : Result Outcome Refusal} {words' links' : List ℕ} {trees' : Rows}
         → CallAnswered symbol_rows rule_rows pattern i values (depth + 1) 1 calls used limit words links trees r words' links' trees'
         → ApplyAnswered symbol_rows rule_rows pattern i values depth calls used limit words links trees r words' links' trees'
     called {r} {words'} {links'} {trees'} g = record {
@@ -174,8 +175,8 @@ module _ {symbol_rows rule_rows : Rows} {pattern : List ℕ} {i : ℕ} {values :
           room = omega arith;
         }
 
-    module _ {made : Made} {words' : List ℕ} (g : BuildAnswered words used limit i values made words') where
-      abbrev Says : Outcome → Type 0
+    module _ {made : Result Made Refusal} {words' : List ℕ} (g : BuildAnswered words used limit i values made words') where
+      abbrev Says : Result Outcome Refusal → Type 0
       Says r = ApplyAnswered symbol_rows rule_rows pattern i values depth calls used limit words links trees r words' links trees
 
       node_is : (text : List ℕ) (count size : ℕ) (rules : List Rule) → Tables text symbol_rows count rule_rows pattern size rules → i < count
@@ -190,11 +191,11 @@ module _ {symbol_rows rule_rows : Rows} {pattern : List ℕ} {i : ℕ} {values :
           let a = arity_known text symbol_rows count T.lent i l in let b = h.arguments in let m = T.marks i l in
           omega (arith, f)
 
-      pub not_built : {m : ℕ} → made ≡ Barred m → Says (Refused m)
-      not_built {m} q = record {
+      pub not_built : {x : Refusal} → made ≡ Err x → Says (Err x)
+      not_built {x} q = record {
         says = λ text count size rules T l.
             let b = built_barred words words' used limit (build_node limit i (values_of words values) used) g.tells q in
-            subst (λ (x : Evaluated one). Concludes x (Refused m) words trees words' trees used limit calls)
+            subst (λ (o : Evaluated one). Concludes o (Err x) words trees words' trees used limit calls)
             (sym (node_is text count size rules T l ∙ ap (around leaf calls) b)) refl;
         forms = λ text count size rules T l d e v c u w. denied_worth w;
         spends = λ v c u w. denied_worth w;
@@ -202,18 +203,18 @@ module _ {symbol_rows rule_rows : Rows} {pattern : List ℕ} {i : ℕ} {values :
         restored = refl;
       }
 
-      pub is_built : {value after : ℕ} → made ≡ At value after → Says (Answer value calls after)
+      pub is_built : {value after : ℕ} → made ≡ built_at value after → Says (outcome value calls after)
       is_built {value} {after} q = record {
         says = λ text count size rules T l.
-            let (t, b, s) = built_at (build_node limit i (values_of words values) used) g.tells q in
-            subst (λ (x : Evaluated one). Concludes x (Answer value calls after) words trees words' trees used limit calls)
+            let (t, b, s) = built_is (build_node limit i (values_of words values) used) g.tells q in
+            subst (λ (x : Evaluated one). Concludes x (outcome value calls after) words trees words' trees used limit calls)
             (sym (node_is text count size rules T l ∙ ap (around leaf calls) b))
             (value, refl, s, none_listed trees words' (record { calls = calls; words = after }));
         forms = λ text count size rules T l d e v c u w.
             rw (used_worth w) (g.forms (arities_of (symbols_of text symbol_rows count)) (arity_within text symbol_rows count T.lent i l)
             (own text count size rules T l) e value after q);
         spends = λ v c u w.
-            let (t, b, s) = built_at (build_node limit i (values_of words values) used) g.tells q in
+            let (t, b, s) = built_is (build_node limit i (values_of words values) used) g.tells q in
             let g = s.grows in let m = made_worth w in let n = used_worth w in omega arith;
         kept = g.kept;
         restored = refl;

@@ -13,12 +13,15 @@ use Rattle.arena.specs.Cells.{headers, Cells, cells, args, denote}
 use Rattle.arena.specs.NodeLaws.{HeaderOf, header_of, args_list, push_frame, push_formed, push_reference, push_denotes}
 use Rattle.evaluation.specs.Matching.{Built, barred, built, build_node}
 use Rattle.clause_matching.specs.Stored.{Formed, value_at}
-use Rattle.clause_matching.specs.Building.{Tells, Stands}
+use Rattle.clause_matching.specs.Building.{built_at, Tells, Stands}
 use Rattle.clause_matching.specs.Choice.{values_of}
 use Rattle.clause_matching.specs.declared.building.Built.{Built as Answer}
-use Rattle.clause_matching.specs.declared.building.Built.TheVariants.{At, Refused}
+use Rattle.std.specs.Prelude.{Result, Err}
+use Rattle.refusals.specs.declared.Refusal.{Refusal}
+use Rattle.refusals.specs.Refusals.{number_of}
+use Rattle.refusals.specs.declared.Refusal.TheVariants.{OverLimit}
 use Rattle.expressions.specs.Nodes.{BuildAsked, BuildAnswered}
-use Rattle.expressions.proofs.Forming.{node_formed, barred_at, used_at}
+use Rattle.expressions.proofs.Forming.{node_formed, barred_at, value_at_lem, used_at}
 
 pub count_args : (g : ℕ → Term) (w : Cells) (p n : ℕ) → count (args g w p n) ≡ n
 count_args g w p zero = refl
@@ -31,9 +34,9 @@ module _ {words : List ℕ} {used limit symbol : ℕ} {values : List ℕ} (h : B
   counted : count (values_of words values) ≡ size
   counted = count_args (denote 0 (cells words)) (cells values) 0 size
 
-  pub build_refused : limit - used ≤ size → BuildAnswered words used limit symbol values (Refused 37) words
+  pub build_refused : limit - used ≤ size → BuildAnswered words used limit symbol values (Err OverLimit) words
   build_refused l = record {
-    tells = subst (λ (b : Built _). Tells b (Refused 37) words words used limit) (sym over) refl;
+    tells = subst (λ (b : Built _). Tells b (Err OverLimit) words words used limit) (sym over) refl;
     forms = λ arities k o f value u q. barred_at q;
     kept = refl;
   }
@@ -69,10 +72,10 @@ module _ {words : List ℕ} {used limit symbol : ℕ} {values : List ℕ} (h : B
         rw o at (push_denotes 0 words 0 used header values h.stored.formed room small is_header_lem.high is_header_lem.arity h.roots)
         ∙ ap₂ app is_header_lem.symbol (sym (args_list 0 (denote 0 (cells words)) (cells values) 0 values (λ i k. let j : 0 + i ≡ i = omega arith in rw j)))
 
-    pub build_done : {now : List ℕ} → now ≡ words' → BuildAnswered words used limit symbol values (At used (used + 1 + size)) now
+    pub build_done : {now : List ℕ} → now ≡ words' → BuildAnswered words used limit symbol values (built_at used (used + 1 + size)) now
     build_done {now} e = record {
-      tells = subst (λ (x : List ℕ). Tells (build_node limit symbol (values_of words values) used) (At used (used + 1 + size)) words x used limit) (sym e)
-          (subst (λ (b : Built _). Tells b (At used (used + 1 + size)) words words' used limit) (sym fits) (used, refl, stands));
+      tells = subst (λ (x : List ℕ). Tells (build_node limit symbol (values_of words values) used) (built_at used (used + 1 + size)) words x used limit) (sym e)
+          (subst (λ (b : Built _). Tells b (built_at used (used + 1 + size)) words words' used limit) (sym fits) (used, refl, stands));
       forms = λ arities k o f value u q. rw (used_at q, e) (formed arities k o f);
       kept = ap length e ∙ size_kept;
     }
@@ -106,17 +109,17 @@ module _ {words : List ℕ} {used limit symbol : ℕ} {values : List ℕ} (h : B
             }
 
 -- What an answer says.
-pub built_at : {W W' : List ℕ} {u limit : ℕ} {r : Answer} (b : Built _) {value after : ℕ} → Tells b r W W' u limit → r ≡ At value after
+pub built_is : {W W' : List ℕ} {u limit : ℕ} {r : Result Answer Refusal} (b : Built _) {value after : ℕ} → Tells b r W W' u limit → r ≡ built_at value after
     → (t : Term) × (b ≡ built t after) × Stands W u limit W' t value after
-built_at (barred e) h q = absurd (let p : ◌≡◌ {A = ℕ} 0 1 = cc in let z : ⊥ = omega arith in z)
-built_at {W} {W'} {u} {limit} {r} (built t n) {value} {after} (v, p, s) q =
-    let a : v ≡ value = cc in
-    let b : n ≡ after = cc in
+built_is (barred e) h q = absurd (rw q at h)
+built_is {W} {W'} {u} {limit} {r} (built t n) {value} {after} (v, p, s) q =
+    let a : v ≡ value = value_at_lem (sym q ∙ p) in
+    let b : n ≡ after = used_at (sym q ∙ p) in
     (t, ap (built t) b, rw (a, b) at s)
 
-pub built_barred : (W W' : List ℕ) (u limit : ℕ) {r : Answer} (b : Built _) {m : ℕ} → Tells b r W W' u limit → r ≡ Refused m → b ≡ barred m
-built_barred W W' u limit (barred e) {m} h q = let a : e ≡ m = cc in ap barred a
-built_barred W W' u limit (built t n) (v, p, s) q = absurd (let p : ◌≡◌ {A = ℕ} 0 1 = cc in let z : ⊥ = omega arith in z)
+pub built_barred : (W W' : List ℕ) (u limit : ℕ) {r : Result Answer Refusal} (b : Built _) {x : Refusal} → Tells b r W W' u limit → r ≡ Err x → b ≡ barred (number_of x)
+built_barred W W' u limit (barred e) {x} h q = ap barred (sym (rw q at h))
+built_barred W W' u limit (built t n) (v, p, s) q = absurd (let z : ⊥ = cc in z)
 
 pub node_is : (limit f : ℕ) (ts : Terms) (used : ℕ) {t : Term} {u : ℕ} → build_node limit f ts used ≡ built t u → t ≡ app f ts
 node_is limit f ts used {t} {u} e = by_bool (ltb limit (used + suc (count ts)))

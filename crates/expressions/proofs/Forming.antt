@@ -1,7 +1,7 @@
 -- Words in form: what a node asks of its symbol; and answers by their constructors, so that a refused one says nothing of its words.
 use Prim.Native.Nat.{ℕ, suc, ◌+◌, ◌*◌, ◌≤◌, ◌<◌}
 use native.Mathlib.Omega.{arith}
-use mathlib.Core.Path.{◌≡◌, ◌∙◌}
+use mathlib.Core.Path.{◌≡◌, sym, ap, ◌∙◌}
 use mathlib.Core.Bool.{true}
 use mathlib.Core.List.{List, ◌∷◌}
 use lib.ListN.{length, get_or, length-map, get_or-map}
@@ -15,9 +15,15 @@ use Rattle.arena.specs.FormKept.{place, push_form}
 use Rattle.names.specs.Symbols.{Rows, Symbol, column, row_at, symbols_of, no_symbol}
 use Rattle.rules.specs.PatternLaws.{arities_of}
 use Rattle.clause_matching.specs.Stored.{Value, Formed}
-use Rattle.clause_matching.specs.declared.building.Built.TheVariants.{At, Refused as Barred}
-use Rattle.function_calls.specs.declared.calls.Outcome.TheVariants.{Value as Worth, Refused as Denied}
-use Rattle.expressions.specs.declared.written.Expressed.TheVariants.{Value as Answer, Refused}
+use Rattle.std.specs.Prelude.{Err}
+use Rattle.refusals.specs.declared.Refusal.{Refusal}
+use Rattle.clause_matching.specs.declared.building.Built.{Built}
+use Rattle.clause_matching.specs.Building.{built_at}
+use Rattle.clause_matching.proofs.Forming.{ok_is}
+use Rattle.function_calls.specs.declared.calls.Outcome.{Outcome}
+use Rattle.function_calls.specs.Calls.{outcome}
+use Rattle.expressions.specs.declared.written.Expressed.{Expressed}
+use Rattle.expressions.specs.Terms.{expressed}
 use Rattle.forward_calls.proofs.Tables.{symbols_length, arity_at_lem}
 
 -- The arity of a symbol of a table.
@@ -52,27 +58,39 @@ node_formed words used symbol values arities room roots few known own formed =
     (λ i l. reference_accepted (place words 0 0 0) used (get_or values i 0) (roots i l) (λ v. omega arith))
 
 -- Refused answers.
-pub barred_at : {P : Type 0} {m value u : ℕ} → Barred m ≡ At value u → P
-barred_at e = absurd (let x : ◌≡◌ {A = ℕ} 0 1 = cc in let z : ⊥ = omega arith in z)
+pub barred_at : {P : Type 0} {x : Refusal} {value u : ℕ} → Err x ≡ built_at value u → P
+barred_at e = absurd (let z : ⊥ = cc in z)
 
-pub denied_worth : {P : Type 0} {m value calls u : ℕ} → Denied m ≡ Worth value calls u → P
-denied_worth e = absurd (let x : ◌≡◌ {A = ℕ} 0 1 = cc in let z : ⊥ = omega arith in z)
+pub denied_worth : {P : Type 0} {x : Refusal} {value calls u : ℕ} → Err x ≡ outcome value calls u → P
+denied_worth e = absurd (let z : ⊥ = cc in z)
 
-pub refused_answer : {P : Type 0} {m value next calls u : ℕ} → Refused m ≡ Answer value next calls u → P
-refused_answer e = absurd (let x : ◌≡◌ {A = ℕ} 0 1 = cc in let z : ⊥ = omega arith in z)
+pub refused_answer : {P : Type 0} {x : Refusal} {value next calls u : ℕ} → Err x ≡ expressed value next calls u → P
+refused_answer e = absurd (let z : ⊥ = cc in z)
 
 -- The calls made and the words used by an answer.
-pub made_worth : {v c u value calls used : ℕ} → Worth value calls used ≡ Worth v c u → c ≡ calls
-made_worth e = cc
+pub made_worth : {v c u value calls used : ℕ} → outcome value calls used ≡ outcome v c u → c ≡ calls
+made_worth e = ap (λ (o : Outcome). o.calls) (sym (ok_is e))
 
-pub made_answer : {v n c u value next calls used : ℕ} → Answer value next calls used ≡ Answer v n c u → c ≡ calls
-made_answer e = cc
+pub made_answer : {v n c u value next calls used : ℕ} → expressed value next calls used ≡ expressed v n c u → c ≡ calls
+made_answer e = ap (λ (o : Expressed). o.calls) (sym (ok_is e))
 
-pub used_at : {v u value used : ℕ} → At value used ≡ At v u → u ≡ used
-used_at e = cc
+pub value_at_lem : {v u value used : ℕ} → built_at value used ≡ built_at v u → v ≡ value
+value_at_lem e = ap (λ (o : Built). o.value) (sym (ok_is e))
 
-pub used_worth : {v c u value calls used : ℕ} → Worth value calls used ≡ Worth v c u → u ≡ used
-used_worth e = cc
+pub used_at : {v u value used : ℕ} → built_at value used ≡ built_at v u → u ≡ used
+used_at e = ap (λ (o : Built). o.used) (sym (ok_is e))
 
-pub used_answer : {v n c u value next calls used : ℕ} → Answer value next calls used ≡ Answer v n c u → u ≡ used
-used_answer e = cc
+pub value_worth : {v c u value calls used : ℕ} → outcome value calls used ≡ outcome v c u → v ≡ value
+value_worth e = ap (λ (o : Outcome). o.value) (sym (ok_is e))
+
+pub used_worth : {v c u value calls used : ℕ} → outcome value calls used ≡ outcome v c u → u ≡ used
+used_worth e = ap (λ (o : Outcome). o.used) (sym (ok_is e))
+
+pub value_answer : {v n c u value next calls used : ℕ} → expressed value next calls used ≡ expressed v n c u → v ≡ value
+value_answer e = ap (λ (o : Expressed). o.value) (sym (ok_is e))
+
+pub next_answer : {v n c u value next calls used : ℕ} → expressed value next calls used ≡ expressed v n c u → n ≡ next
+next_answer e = ap (λ (o : Expressed). o.next) (sym (ok_is e))
+
+pub used_answer : {v n c u value next calls used : ℕ} → expressed value next calls used ≡ expressed v n c u → u ≡ used
+used_answer e = ap (λ (o : Expressed). o.used) (sym (ok_is e))

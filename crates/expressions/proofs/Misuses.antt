@@ -7,11 +7,15 @@ use mathlib.Core.List.{List}
 use lib.Dec.{eqb, ltb}
 use lib.ListN.{length}
 use borrow.Author.Tests.{eq-eqb, ne_eqb, lt-ltb, le-ltb, eqb-true, ltb-false, not-false}
+use Rattle.std.specs.Prelude.{Result, Ok, Err}
+use Rattle.refusals.specs.declared.Refusal.{Refusal}
+use Rattle.refusals.specs.Refusals.{number_of}
 use Rattle.terms.specs.Numbers.{by_less}
 use Rattle.names.specs.Symbols.{Rows, column, row_at, symbols_of}
 use Rattle.resolution.specs.Rules.{Rule}
 use Rattle.evaluation.specs.Expressions.{numeral_misuse}
 use Rattle.forward_calls.proofs.Tables.{arity_at_lem}
+use Rattle.expressions.specs.Nodes.{Finds}
 
 -- In numbers: y has a inputs, z has b.
 abbrev pub refusal_of : ℕ → ℕ → ℕ → ℕ → ℕ
@@ -43,6 +47,13 @@ module _ (text : List ℕ) (symbols : Rows) (count y z n depth : ℕ) (h : (coun
 
       pub misuse_none : b ≡ 0 → 0 ≡ numeral_misuse limit (symbols_of text symbols count) rules y z n depth
       misuse_none e = let d = h.3 in sym (misuse_is ∙ rw (no_test a n one, le-ltb 128 (depth + n) (omega arith), eq-eqb b 0 e))
+
+-- What is found, by the answer.
+pub found_wrong : {A : Type 0} {r : Result A Refusal} {x : Refusal} {e : ℕ} → Finds r e → r ≡ Err x → (number_of x ≡ e) × (0 < e)
+found_wrong h q = rw q at h
+
+pub found_nothing : {A : Type 0} {r : Result A Refusal} {a : A} {e : ℕ} → Finds r e → r ≡ Ok a → e ≡ 0
+found_nothing h q = rw q at h
 
 -- Nothing is refused: then y has one input if there is one, it is not too deep, and z has none.
 zero_tests : (s t u : Bool) → ◌≡◌ {A = ℕ} 0 (cond s 21 (cond t 29 (cond u 0 21))) → (s ≡ false) × (t ≡ false) × (u ≡ true)

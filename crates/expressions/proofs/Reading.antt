@@ -19,16 +19,19 @@ use Rattle.tree_rows.specs.Trees.{Lists}
 use Rattle.evaluation.specs.Matching.{Built, barred, built}
 use Rattle.evaluation.specs.Calls.{Spent}
 use Rattle.evaluation.specs.Expressions.{Evaluated, failed, evaluated, misuse, unless, around, with_symbol, numeral_misuse, tower_of, numeral_of, apply_of, expression_of}
+use Rattle.std.specs.Prelude.{Result, Err}
+use Rattle.refusals.specs.declared.Refusal.{Refusal}
+use Rattle.refusals.specs.Refusals.{number_of}
+use Rattle.refusals.specs.declared.Refusal.TheVariants.{TooDeep, NotGround, UnknownSymbol}
+use Rattle.clause_matching.specs.Building.{built_at}
 use Rattle.clause_matching.specs.declared.building.Built.{Built as Made}
-use Rattle.clause_matching.specs.declared.building.Built.TheVariants.{At, Refused as Barred}
 use Rattle.expressions.specs.Numerals.{NumeralAsked, Gives, NumeralAnswered}
 use Rattle.expressions.specs.Applying.{Tables}
-use Rattle.expressions.specs.Terms.{ExpressionAsked, Evaluates, ExpressionAnswered, ApplicationAsked, ApplicationAnswered}
+use Rattle.expressions.specs.Terms.{expressed, ExpressionAsked, Evaluates, ExpressionAnswered, ApplicationAsked, ApplicationAnswered}
 use Rattle.expressions.specs.declared.written.Expressed.{Expressed}
-use Rattle.expressions.specs.declared.written.Expressed.TheVariants.{Value as Answer, Refused}
 use Rattle.forward_calls.proofs.Tables.{symbols_length, function_at, arity_at_lem}
 use Rattle.forward_calls.proofs.Heads.{Head, head_of, row_within, number_row, meta_row}
-use Rattle.expressions.proofs.Forming.{refused_answer, made_answer, used_answer}
+use Rattle.expressions.proofs.Forming.{value_at_lem, used_at, refused_answer, made_answer, used_answer}
 
 -- A numeral makes no calls.
 abbrev Treeless : Evaluated one → Type 0
@@ -58,23 +61,23 @@ numeral_treeless limit S rules v depth c =
     either_treeless (is_ctor S zero_name && is_ctor S succ_name) (unless e (λ _. o))
     (unless_treeless e o (around_treeless c.calls (tower_of limit S rules y z v c.words)))
 
-module _ (q : ℕ) (words : List ℕ) (trees : Rows) (words' : List ℕ) (used limit calls : ℕ) {r : Made} where
-  gives_refused : (o : Evaluated one) {m : ℕ} → Gives o calls r words words' used limit → r ≡ Barred m
-      → Evaluates o q (Refused m) words trees words' trees used limit calls
-  gives_refused (failed e) {m} h p = let a : m ≡ e = cc in ap Refused a
-  gives_refused (evaluated v ps c) (value, e, s, k) p = absurd (let x : ◌≡◌ {A = ℕ} 0 1 = cc in let z : ⊥ = omega arith in z)
+module _ (q : ℕ) (words : List ℕ) (trees : Rows) (words' : List ℕ) (used limit calls : ℕ) {r : Result Made Refusal} where
+  gives_refused : (o : Evaluated one) {x : Refusal} → Gives o calls r words words' used limit → r ≡ Err x
+      → Evaluates o q (Err x) words trees words' trees used limit calls
+  gives_refused (failed e) {x} h p = rw p at h
+  gives_refused (evaluated v ps c) (value, e, s, k) p = absurd (let z : ⊥ = cc in z)
 
-  gives_more : (o : Evaluated one) {value after : ℕ} → Gives o calls r words words' used limit → r ≡ At value after → used ≤ after
-  gives_more (failed e) h p = absurd (let x : ◌≡◌ {A = ℕ} 0 1 = cc in let z : ⊥ = omega arith in z)
-  gives_more (evaluated v ps c) {value} {after} (x, e, s, k) p = let a : after ≡ c.words = cc in let g = s.grows in omega arith
+  gives_more : (o : Evaluated one) {value after : ℕ} → Gives o calls r words words' used limit → r ≡ built_at value after → used ≤ after
+  gives_more (failed e) h p = absurd (rw p at h)
+  gives_more (evaluated v ps c) {value} {after} (x, e, s, k) p = let a : c.words ≡ after = used_at (sym p ∙ e) in let g = s.grows in omega arith
 
-  gives_at : (o : Evaluated one) {value after : ℕ} → Treeless o → Gives o calls r words words' used limit → r ≡ At value after
-      → Evaluates o q (Answer value q calls after) words trees words' trees used limit calls
+  gives_at : (o : Evaluated one) {value after : ℕ} → Treeless o → Gives o calls r words words' used limit → r ≡ built_at value after
+      → Evaluates o q (expressed value q calls after) words trees words' trees used limit calls
   unfolding Lists
-  gives_at (failed e) n h p = absurd (let x : ◌≡◌ {A = ℕ} 0 1 = cc in let z : ⊥ = omega arith in z)
+  gives_at (failed e) n h p = absurd (rw p at h)
   gives_at (evaluated v ps c) {value} {after} n (x, e, s, k) p =
-      let a : value ≡ x = cc in
-      let b : after ≡ c.words = cc in
+      let a : value ≡ x = sym (value_at_lem (sym p ∙ e)) in
+      let b : after ≡ c.words = sym (used_at (sym p ∙ e)) in
       let l : Lists 0 0 words' c.words trees calls 1 ps c.calls =
       subst (λ (y : Tree several). Lists 0 0 words' c.words trees calls 1 y c.calls) (sym n) k in
       (x, rw (a, b, k), s, record { lists = l; before = λ j y. refl })
@@ -101,7 +104,7 @@ module _ {text : List ℕ} {rows : Rows} {at : ℕ} {symbol_rows : Rows} {count 
   abbrev S : List Symbol
   S = symbols_of text symbol_rows count
 
-  abbrev Says : Expressed → List ℕ → List ℕ → Rows → Type 0
+  abbrev Says : Result Expressed Refusal → List ℕ → List ℕ → Rows → Type 0
   Says r words' links' trees' =
       ExpressionAnswered text rows at symbol_rows count rule_rows pattern depth calls used limit words links trees r words' links' trees'
 
@@ -114,10 +117,10 @@ module _ {text : List ℕ} {rows : Rows} {at : ℕ} {symbol_rows : Rows} {count 
   pub inside : at < length rows
   inside = row_within text rows at h.next h.term h.stands
 
-  fails : {m : ℕ} → ((wide : ℕ) (rules : List Rule) → Tables text symbol_rows count rule_rows pattern wide rules → (t : Written one) (q : ℕ) → standing.Stands text rows at t q
-      → (sorts : List ℕ) → expression_of limit S rules t sorts depth counts ≡ failed m) → Says (Refused m) words links trees
-  fails {m} k = record {
-    says = λ wide rules T t q s sorts. subst (λ (x : Evaluated one). Evaluates x q (Refused m) words trees words trees used limit calls)
+  fails : {x : Refusal} → ((wide : ℕ) (rules : List Rule) → Tables text symbol_rows count rule_rows pattern wide rules → (t : Written one) (q : ℕ) → standing.Stands text rows at t q
+      → (sorts : List ℕ) → expression_of limit S rules t sorts depth counts ≡ failed (number_of x)) → Says (Err x) words links trees
+  fails {x} k = record {
+    says = λ wide rules T t q s sorts. subst (λ (o : Evaluated one). Evaluates o q (Err x) words trees words trees used limit calls)
         (sym (k wide rules T t q s sorts)) refl;
     forms = λ d f v n c u w. refused_answer w;
     spends = λ v n c u w. refused_answer w;
@@ -125,7 +128,7 @@ module _ {text : List ℕ} {rows : Rows} {at : ℕ} {symbol_rows : Rows} {count 
     restored = refl;
   }
 
-  pub too_deep : 128 < depth → Says (Refused 29) words links trees
+  pub too_deep : 128 < depth → Says (Err TooDeep) words links trees
   too_deep l = fails (λ wide rules T t q s sorts. deep_fails limit S rules t sorts depth counts l)
 
   module _ (l : depth ≤ 128) where
@@ -143,22 +146,22 @@ module _ {text : List ℕ} {rows : Rows} {at : ℕ} {symbol_rows : Rows} {count 
       room = omega arith;
     }
 
-    module _ (k : kind ≡ 14) {r : Made} {words' : List ℕ} (g : NumeralAnswered text symbol_rows count (column (row_at rows at) 3) depth words used limit r words') where
+    module _ (k : kind ≡ 14) {r : Result Made Refusal} {words' : List ℕ} (g : NumeralAnswered text symbol_rows count (column (row_at rows at) 3) depth words used limit r words') where
       numeral_is : (limit : ℕ) (rules : List Rule) (v : ℕ) (sorts : List ℕ) → expression_of limit S rules (number v) sorts depth counts ≡ numeral_of limit S rules v depth counts
       unfolding expression_of
       numeral_is limit rules v sorts = rw shallow
 
-      number_grows : {value after : ℕ} → r ≡ At value after → used ≤ after
+      number_grows : {value after : ℕ} → r ≡ built_at value after → used ≤ after
       number_grows p =
           let (v, e, c, n) = number_row text rows at h.next h.term h.stands k in
           gives_more h.next words trees words' used limit calls (numeral_of limit S h.rules v depth counts)
           (g.says v c h.rules calls) p
 
-      pub number_refused : {m : ℕ} → r ≡ Barred m → Says (Refused m) words' links trees
-      number_refused {m} p = record {
+      pub number_refused : {x : Refusal} → r ≡ Err x → Says (Err x) words' links trees
+      number_refused {x} p = record {
         says = λ wide rules T t q s sorts.
             let (v, e, c, n) = number_row text rows at q t s k in
-            subst (λ (x : Evaluated one). Evaluates x q (Refused m) words trees words' trees used limit calls)
+            subst (λ (o : Evaluated one). Evaluates o q (Err x) words trees words' trees used limit calls)
             (sym (ap (λ (u : Written one). expression_of limit S rules u sorts depth counts) e ∙ numeral_is limit rules v sorts))
             (gives_refused q words trees words' used limit calls (numeral_of limit S rules v depth counts) (g.says v c rules calls) p);
         forms = λ d f v n c u w. refused_answer w;
@@ -167,13 +170,13 @@ module _ {text : List ℕ} {rows : Rows} {at : ℕ} {symbol_rows : Rows} {count 
         restored = refl;
       }
 
-      pub number_built : {value after : ℕ} → r ≡ At value after → Says (Answer value (at + 1) calls after) words' links trees
+      pub number_built : {value after : ℕ} → r ≡ built_at value after → Says (expressed value (at + 1) calls after) words' links trees
       number_built {value} {after} p = record {
         says = λ wide rules T t q s sorts.
             let (v, e, c, n) = number_row text rows at q t s k in
             subst (λ (y : ℕ). Evaluates (expression_of limit S rules t sorts depth counts) q
-            (Answer value y calls after) words trees words' trees used limit calls) n
-            (subst (λ (x : Evaluated one). Evaluates x q (Answer value q calls after) words trees words' trees used limit calls)
+            (expressed value y calls after) words trees words' trees used limit calls) n
+            (subst (λ (x : Evaluated one). Evaluates x q (expressed value q calls after) words trees words' trees used limit calls)
             (sym (ap (λ (u : Written one). expression_of limit S rules u sorts depth counts) e ∙ numeral_is limit rules v sorts))
             (gives_at q words trees words' used limit calls (numeral_of limit S rules v depth counts)
             (numeral_treeless limit S rules v depth counts) (g.says v c rules calls) p));
@@ -183,7 +186,7 @@ module _ {text : List ℕ} {rows : Rows} {at : ℕ} {symbol_rows : Rows} {count 
         restored = refl;
       }
 
-    pub of_meta : kind ≡ 13 → Says (Refused 31) words links trees
+    pub of_meta : kind ≡ 13 → Says (Err NotGround) words links trees
     unfolding expression_of
     of_meta k = fails (λ wide rules T t q s sorts. let (w, e) = meta_row text rows at q t s k in
         ap (λ (u : Written one). expression_of limit S rules u sorts depth counts) e ∙ rw shallow)
@@ -198,7 +201,7 @@ module _ {text : List ℕ} {rows : Rows} {at : ℕ} {symbol_rows : Rows} {count 
       numbered : {t : Written one} {q : ℕ} (d : Head text rows at t q) → symbol_number S d.name ≡ i
       numbered d = sym (found ∙ ap (symbol_number S) d.spells)
 
-      pub of_unknown : count ≤ i → Says (Refused 20) words links trees
+      pub of_unknown : count ≤ i → Says (Err UnknownSymbol) words links trees
       of_unknown b = fails (λ wide rules T t q s sorts. opened rules t q s sorts
           ∙ rw (numbered (head_of text rows at q t s n m), symbols_length text symbol_rows count h.tables.lent, le-ltb i count b))
 
@@ -216,9 +219,9 @@ module _ {text : List ℕ} {rows : Rows} {at : ℕ} {symbol_rows : Rows} {count 
               let w : misuse (symbol_at S i) k ≡ e = sym (v text) in
               opened rules t q s sorts ∙ rw (numbered d, symbols_length text symbol_rows count h.tables.lent, lt-ltb i count b, z, w)
 
-          pub of_misuse : (e ≡ 0 → ⊥) → Says (Refused e) words links trees
-          of_misuse d = fails (λ wide rules T t q s sorts. known rules t q s sorts
-              ∙ unless_some e (λ _. apply_of limit S rules i depth (expression_of limit S rules (head_of text rows at q t s n m).parts (symbol_at S i).inputs (suc depth) counts)) d)
+          pub of_misuse : {x : Refusal} → number_of x ≡ e → (e ≡ 0 → ⊥) → Says (Err x) words links trees
+          of_misuse p d = fails (λ wide rules T t q s sorts. known rules t q s sorts
+              ∙ unless_some e (λ _. apply_of limit S rules i depth (expression_of limit S rules (head_of text rows at q t s n m).parts (symbol_at S i).inputs (suc depth) counts)) d ∙ ap failed (sym p))
 
           module _ (z : e ≡ 0) where
             counted : k + column (row_at symbol_rows i) 3 ≡ column (row_at symbol_rows i) 6
@@ -250,7 +253,7 @@ module _ {text : List ℕ} {rows : Rows} {at : ℕ} {symbol_rows : Rows} {count 
                   spent = h.spent;
                 }
 
-            pub applied_to : {r : Expressed} {words' links' : List ℕ} {trees' : Rows}
+            pub applied_to : {r : Result Expressed Refusal} {words' links' : List ℕ} {trees' : Rows}
                 → ApplicationAnswered text rows (at + 1) k symbol_rows count i rule_rows pattern depth calls used limit words links trees r words' links' trees'
                 → Says r words' links' trees'
             applied_to {r} {words'} {links'} {trees'} g = record {

@@ -16,14 +16,16 @@ use Rattle.rules.specs.PatternLaws.{arities_of}
 use Rattle.evaluation.specs.Matching.{Built, barred, built, build_node}
 use Rattle.evaluation.specs.Expressions.{sort_in, tower_of}
 use Rattle.clause_matching.specs.Stored.{Formed, value_at}
-use Rattle.clause_matching.specs.Building.{Tells, Stands}
+use Rattle.clause_matching.specs.Building.{built_at, Tells, Stands}
 use Rattle.clause_matching.specs.declared.building.Built.{Built as Answer}
-use Rattle.clause_matching.specs.declared.building.Built.TheVariants.{At, Refused}
+use Rattle.std.specs.Prelude.{Result, Err}
+use Rattle.refusals.specs.declared.Refusal.{Refusal}
+use Rattle.refusals.specs.Refusals.{number_of}
 use Rattle.expressions.specs.Nodes.{BuildAsked, BuildAnswered}
 use Rattle.expressions.specs.Numerals.{TowerAsked, TowerAnswered}
 use Rattle.forward_calls.proofs.Tables.{output_at, inputs_at_lem}
 use Rattle.expressions.proofs.Forming.{arity_within, arity_known, barred_at, used_at}
-use Rattle.expressions.proofs.Building.{built_at, built_barred, node_is, stands_on}
+use Rattle.expressions.proofs.Building.{built_is, built_barred, node_is, stands_on}
 
 -- A refusal on the way up is the whole's.
 barred_up : (limit : ℕ) (symbols : List Symbol) (rules : List Rule) (y z k used e n : ℕ) → tower_of limit symbols rules y z k used ≡ barred e
@@ -71,27 +73,27 @@ module _ {symbols : Rows} {count y z n : ℕ} {words : List ℕ} {used limit : �
         room = h.working.room;
       }
 
-  module _ {r : Answer} {none words' : List ℕ} (e : none ≡ []) (g : BuildAnswered words used limit z none r words') where
+  module _ {r : Result Answer Refusal} {none words' : List ℕ} (e : none ≡ []) (g : BuildAnswered words used limit z none r words') where
     tells : Tells (build_node limit z nil used) r words words' used limit
     tells = rw e at g.tells
 
-    pub first_refused : {m : ℕ} → r ≡ Refused m → TowerAnswered symbols count y z n words used limit (Refused m) words'
+    pub first_refused : {x : Refusal} → r ≡ Err x → TowerAnswered symbols count y z n words used limit (Err x) words'
     unfolding tower_of
-    first_refused {m} q = record {
+    first_refused {x} q = record {
       tells = λ text rules.
           let a : 0 + n ≡ n = omega arith in
-          let u = barred_up limit (symbols_of text symbols count) rules y z 0 used m n (built_barred words words' used limit (build_node limit z nil used) tells q) in
-          subst (λ (b : Built _). Tells b (Refused m) words words' used limit) (sym (rw a at u)) refl;
+          let u = barred_up limit (symbols_of text symbols count) rules y z 0 used (number_of x) n (built_barred words words' used limit (build_node limit z nil used) tells q) in
+          subst (λ (b : Built _). Tells b (Err x) words words' used limit) (sym (rw a at u)) refl;
       forms = λ text f value u e. barred_at e;
       kept = g.kept;
     }
 
-    module _ {value after : ℕ} (q : r ≡ At value after) where
+    module _ {value after : ℕ} (q : r ≡ built_at value after) where
       pub turn_start : {sort want : ℕ} → sort ≡ column (row_at symbols z) 2 → want ≡ column (row_at symbols y) 8
           → Turn symbols count y z n used limit want words' after words' value sort after 0
       unfolding tower_of
       turn_start {sort} {want} o w =
-          let (t, b, s) = built_at (build_node limit z nil used) tells q in
+          let (t, b, s) = built_is (build_node limit z nil used) tells q in
           let i = node_is limit z nil used b in
           record {
             fixed = record {
@@ -121,25 +123,25 @@ module _ {symbols : Rows} {count y z n : ℕ} {words : List ℕ} {used limit : �
           (arity_known text symbols count l z h.inner ∙ h.nullary ∙ sym (ap length e)) f value after q
 
       -- What the turns come to.
-      pub tower_refused : {m k : ℕ} → ((text : List ℕ) (rules : List Rule) → tower_of limit (symbols_of text symbols count) rules y z k used ≡ barred m) → k ≤ n
-          → {now : List ℕ} → length now ≡ length words' → TowerAnswered symbols count y z n words used limit (Refused m) now
-      tower_refused {m} {k} u l {now} s = record {
+      pub tower_refused : {x : Refusal} {k : ℕ} → ((text : List ℕ) (rules : List Rule) → tower_of limit (symbols_of text symbols count) rules y z k used ≡ barred (number_of x)) → k ≤ n
+          → {now : List ℕ} → length now ≡ length words' → TowerAnswered symbols count y z n words used limit (Err x) now
+      tower_refused {x} {k} u l {now} s = record {
         tells = λ text rules.
             let a : k + (n - k) ≡ n = omega arith in
-            let v = barred_up limit (symbols_of text symbols count) rules y z k used m (n - k) (u text rules) in
-            subst (λ (b : Built _). Tells b (Refused m) words now used limit) (sym (rw a at v)) refl;
+            let v = barred_up limit (symbols_of text symbols count) rules y z k used (number_of x) (n - k) (u text rules) in
+            subst (λ (b : Built _). Tells b (Err x) words now used limit) (sym (rw a at v)) refl;
         forms = λ text f value u e. barred_at e;
         kept = s ∙ g.kept;
       }
 
       pub tower_done : {want top sort spent k : ℕ} {now : List ℕ} → Turn symbols count y z n used limit want words' after now top sort spent k → n ≤ k
-          → TowerAnswered symbols count y z n words used limit (At top spent) now
+          → TowerAnswered symbols count y z n words used limit (built_at top spent) now
       tower_done {want} {top} {sort} {spent} {k} {now} t l =
-          let (_, b, s) = built_at (build_node limit z nil used) tells q in
+          let (_, b, s) = built_is (build_node limit z nil used) tells q in
           let m = t.most in
           let e : k ≡ n = omega arith in
           record {
-            tells = λ text rules. subst (λ (b : Built _). Tells b (At top spent) words now used limit) (sym (rw e at (t.comes text rules))) (top, refl, stands_on s t.stands);
+            tells = λ text rules. subst (λ (b : Built _). Tells b (built_at top spent) words now used limit) (sym (rw e at (t.comes text rules))) (top, refl, stands_on s t.stands);
             forms = λ text f value u w. rw (used_at w) (t.forms text (first_formed text f));
             kept = t.kept ∙ g.kept;
           }
@@ -174,14 +176,14 @@ module _ {symbols : Rows} {count y z n used limit want : ℕ} {words₀ : List �
     unfolding tower_of
     stepped text rules = rw (h.comes text rules, h.sorted text, wanted text, eq-eqb sort want e, h.stands.is)
 
-    module _ {r : Answer} {words' : List ℕ} (g : BuildAnswered words spent limit y (top ∷ []) r words') where
-      pub next_refused : {m : ℕ} → r ≡ Refused m → (text : List ℕ) (rules : List Rule) → tower_of limit (symbols_of text symbols count) rules y z (suc k) used ≡ barred m
+    module _ {r : Result Answer Refusal} {words' : List ℕ} (g : BuildAnswered words spent limit y (top ∷ []) r words') where
+      pub next_refused : {x : Refusal} → r ≡ Err x → (text : List ℕ) (rules : List Rule) → tower_of limit (symbols_of text symbols count) rules y z (suc k) used ≡ barred (number_of x)
       next_refused q text rules = stepped text rules ∙ built_barred words words' spent limit (build_node limit y (cons (value_at words top) nil) spent) g.tells q
 
-      pub turn_next : {value after : ℕ} → r ≡ At value after → {sort' : ℕ} → sort' ≡ column (row_at symbols y) 2
+      pub turn_next : {value after : ℕ} → r ≡ built_at value after → {sort' : ℕ} → sort' ≡ column (row_at symbols y) 2
           → Turn symbols count y z n used limit want words₀ spent₀ words' value sort' after (k + 1)
       turn_next {value} {after} q {sort'} o =
-          let (t, b, s) = built_at (build_node limit y (cons (value_at words top) nil) spent) g.tells q in
+          let (t, b, s) = built_is (build_node limit y (cons (value_at words top) nil) spent) g.tells q in
           let i = node_is limit y (cons (value_at words top) nil) spent b in
           let f = h.fixed in
           record {

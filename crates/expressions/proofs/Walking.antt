@@ -25,15 +25,17 @@ use Rattle.evaluation.specs.Expressions.{Evaluated, failed, evaluated, if_evalua
 use Rattle.clause_matching.specs.Stored.{Value, Values, Headed, Formed, value_at}
 use Rattle.clause_matching.specs.Building.{Stands}
 use Rattle.clause_matching.specs.Choice.{values_of}
-use Rattle.function_calls.specs.Calls.{Working, TreesListed}
+use Rattle.function_calls.specs.Calls.{outcome, Working, TreesListed}
 use Rattle.function_calls.specs.declared.calls.Outcome.{Outcome}
-use Rattle.function_calls.specs.declared.calls.Outcome.TheVariants.{Value as Worth, Refused as Denied}
+use Rattle.std.specs.Prelude.{Result, Err}
+use Rattle.refusals.specs.declared.Refusal.{Refusal}
+use Rattle.refusals.specs.Refusals.{number_of}
+use Rattle.refusals.specs.declared.Refusal.TheVariants.{WrongSort}
 use Rattle.expressions.specs.Applying.{Tables, ApplyAsked, Concludes, ApplyAnswered}
-use Rattle.expressions.specs.Terms.{ExpressionAsked, Evaluates, ExpressionAnswered, ApplicationAsked, ApplicationAnswered}
+use Rattle.expressions.specs.Terms.{expressed, ExpressionAsked, Evaluates, ExpressionAnswered, ApplicationAsked, ApplicationAnswered}
 use Rattle.expressions.specs.declared.written.Expressed.{Expressed}
-use Rattle.expressions.specs.declared.written.Expressed.TheVariants.{Value as Answer, Refused}
 use Rattle.forward_calls.proofs.Tables.{inputs_at_lem}
-use Rattle.expressions.proofs.Forming.{refused_answer, made_answer, used_answer}
+use Rattle.expressions.proofs.Forming.{made_worth, value_worth, used_worth, refused_answer, value_answer, next_answer, made_answer, used_answer}
 use Rattle.expressions.proofs.Applications.{prefixed, joined_nothing, apply_prefixed, none_listed}
 
 -- Values and trees in front of others.
@@ -97,26 +99,26 @@ pub record Worked (W : List ℕ) (T : Rows) (u limit m : ℕ) (W' : List ℕ) (T
   pub stands : Stands W u limit W' term value used
   pub listed : TreesListed T m 1 W' T' own (record { calls = calls; words = used })
 
-module _ (q : ℕ) (W : List ℕ) (T : Rows) (W' : List ℕ) (T' : Rows) (u limit m : ℕ) {r : Expressed} where
-  worked : (o : Evaluated one) {value next calls used : ℕ} → Evaluates o q r W T W' T' u limit m → r ≡ Answer value next calls used
+module _ (q : ℕ) (W : List ℕ) (T : Rows) (W' : List ℕ) (T' : Rows) (u limit m : ℕ) {r : Result Expressed Refusal} where
+  worked : (o : Evaluated one) {value next calls used : ℕ} → Evaluates o q r W T W' T' u limit m → r ≡ expressed value next calls used
       → Worked W T u limit m W' T' o q value next calls used
-  worked (failed e) h p = absurd (let x : ◌≡◌ {A = ℕ} 0 1 = cc in let z : ⊥ = omega arith in z)
+  worked (failed e) h p = absurd (rw p at h)
   worked (evaluated v ps c) {value} {next} {calls} {used} (x, e, s, t) p =
-      let a : x ≡ value = cc in
-      let b : c.words ≡ used = cc in
-      let d : c.calls ≡ calls = cc in
+      let a : x ≡ value = value_answer (sym p ∙ e) in
+      let b : c.words ≡ used = used_answer (sym p ∙ e) in
+      let d : c.calls ≡ calls = made_answer (sym p ∙ e) in
       record {
         term = v;
         own = ps;
         is = ap₂ (λ (y z : ℕ). evaluated v ps (record { calls = y; words = z })) d b;
-        behind = cc;
+        behind = sym (next_answer (sym p ∙ e));
         stands = rw (a, b) at s;
         listed = record { lists = rw (b, d) at t.lists; before = t.before };
       }
 
-  stopped : (o : Evaluated one) {n : ℕ} → Evaluates o q r W T W' T' u limit m → r ≡ Refused n → o ≡ failed n
-  stopped (failed e) {n} h p = let a : e ≡ n = cc in ap failed a
-  stopped (evaluated v ps c) (x, e, s, t) p = absurd (let x : ◌≡◌ {A = ℕ} 0 1 = cc in let z : ⊥ = omega arith in z)
+  stopped : (o : Evaluated one) {x : Refusal} → Evaluates o q r W T W' T' u limit m → r ≡ Err x → o ≡ failed (number_of x)
+  stopped (failed e) {x} h p = ap failed (sym (rw p at h))
+  stopped (evaluated v ps c) (x, e, s, t) p = absurd (let z : ⊥ = cc in z)
 
 -- The first of several terms.
 pub record Split (text : List ℕ) (rows : Rows) (p q : ℕ) (ts : Written many) : Type 0 where
@@ -285,13 +287,13 @@ values_more words words' values spent k value v s e roots l is =
 module _ {text : List ℕ} {rows : Rows} {at arguments : ℕ} {symbol_rows : Rows} {count i : ℕ} {rule_rows : Rows} {pattern : List ℕ} {depth calls₀ used₀ limit : ℕ}
     {words₀ links₀ : List ℕ} {trees₀ stack₀ : Rows} {words links : List ℕ} {trees stack : Rows} {values : List ℕ} {k p made spent : ℕ}
     (h : Turn text rows at arguments symbol_rows count i rule_rows pattern depth calls₀ used₀ limit words₀ links₀ trees₀ stack₀ words links trees stack values k p made spent)
-    (l : k < arguments) {r : Expressed} {words' links' : List ℕ} {trees' : Rows}
+    (l : k < arguments) {r : Result Expressed Refusal} {words' links' : List ℕ} {trees' : Rows}
     (g : ExpressionAnswered text rows p symbol_rows count rule_rows pattern
     (depth + 1) made spent limit words links trees r words' links' trees') where
   abbrev T₀ : List Symbol
   T₀ = symbols_of text symbol_rows count
 
-  abbrev Ends : Expressed → Type 0
+  abbrev Ends : Result Expressed Refusal → Type 0
   Ends r = ApplicationAnswered text rows at arguments symbol_rows count i rule_rows pattern depth calls₀ used₀ limit words₀ links₀ trees₀ r words' links' trees'
 
   module _ (wide : ℕ) (rules : List Rule) (T : Tables text symbol_rows count rule_rows pattern wide rules) (ts : Written many) (q : ℕ) (s : standing.Stands text rows at ts q)
@@ -320,12 +322,12 @@ module _ {text : List ℕ} {rows : Rows} {at arguments : ℕ} {symbol_rows : Row
     whole_is o e = L.comes ∙ ap (extend (args (denote 0 (cells words)) (cells values) 0 k) L.earlier)
         (ap (λ (x : Written many). expression_of limit T₀ rules x sorts (suc depth) spending) N.is ∙ e)
 
-    whole_fails : {m : ℕ} → r ≡ Refused m → whole ≡ failed m
-    whole_fails {m} e = whole_is (failed m) (more_fails limit T₀ rules N.term N.others sorts (suc depth) spending
+    whole_fails : {x : Refusal} → r ≡ Err x → whole ≡ failed (number_of x)
+    whole_fails {x} e = whole_is (failed (number_of x)) (more_fails limit T₀ rules N.term N.others sorts (suc depth) spending
         (stopped N.middle words trees words' trees' spent limit made
         (expression_of limit T₀ rules N.term [] (suc depth) spending) told e))
 
-    module _ {value after calls used : ℕ} (e : r ≡ Answer value after calls used) where
+    module _ {value after calls used : ℕ} (e : r ≡ expressed value after calls used) where
       abbrev W : Worked words trees spent limit made words' trees' (expression_of limit T₀ rules N.term [] (suc depth) spending)
           N.middle value after calls used
       W = worked N.middle words trees words' trees' spent limit made
@@ -369,11 +371,11 @@ module _ {text : List ℕ} {rows : Rows} {at arguments : ℕ} {symbol_rows : Row
                 (expression_of limit T₀ rules N.others w (suc depth) (record { calls = calls; words = used }))) (sym b) d;
           }
 
-  ends_failed : {m : ℕ} → ((wide : ℕ) (rules : List Rule) (T : Tables text symbol_rows count rule_rows pattern wide rules) (ts : Written many) (q : ℕ) (s : standing.Stands text rows at ts q)
-      (z : size ts ≡ arguments) → whole wide rules T ts q s z ≡ failed m) → Ends (Refused m)
-  ends_failed {m} f = record {
-    says = λ wide rules T ts q s z. subst (λ (x : Evaluated many). Evaluates (apply_of limit T₀ rules i depth x) q
-        (Refused m) words₀ trees₀ words' trees' used₀ limit calls₀)
+  ends_failed : {x : Refusal} → ((wide : ℕ) (rules : List Rule) (T : Tables text symbol_rows count rule_rows pattern wide rules) (ts : Written many) (q : ℕ) (s : standing.Stands text rows at ts q)
+      (z : size ts ≡ arguments) → whole wide rules T ts q s z ≡ failed (number_of x)) → Ends (Err x)
+  ends_failed {x} f = record {
+    says = λ wide rules T ts q s z. subst (λ (o : Evaluated many). Evaluates (apply_of limit T₀ rules i depth o) q
+        (Err x) words₀ trees₀ words' trees' used₀ limit calls₀)
         (sym (f wide rules T ts q s z)) refl;
     forms = λ d f v n c u w. refused_answer w;
     spends = λ v n c u w. refused_answer w;
@@ -381,10 +383,10 @@ module _ {text : List ℕ} {rows : Rows} {at arguments : ℕ} {symbol_rows : Row
     restored = g.restored ∙ h.restored;
   }
 
-  pub argument_refused : {m : ℕ} → r ≡ Refused m → Ends (Refused m)
+  pub argument_refused : {x : Refusal} → r ≡ Err x → Ends (Err x)
   argument_refused e = ends_failed (λ wide rules T ts q s z. whole_fails wide rules T ts q s z e)
 
-  module _ {value after calls used : ℕ} (e : r ≡ Answer value after calls used) where
+  module _ {value after calls used : ℕ} (e : r ≡ expressed value after calls used) where
     -- As in the asked: the value's facts.
     mine : (t : Term) × Stands words spent limit words' t value used
     mine = let a = h.asked in let w = W a.wide a.rules a.tables a.terms a.next a.stands a.many e in (w.term, w.stands)
@@ -397,7 +399,7 @@ module _ {text : List ℕ} {rows : Rows} {at arguments : ℕ} {symbol_rows : Row
         (omega arith, b, omega arith)
 
     module _ {sort : ℕ} (o : (text : List ℕ) → sort ≡ (symbol_at (symbols_of text symbol_rows count) (symbol_of (cells words' value))).output) where
-      pub wrong_sort : (sort ≡ column (row_at symbol_rows i) (8 + k) → ⊥) → Ends (Refused 33)
+      pub wrong_sort : (sort ≡ column (row_at symbol_rows i) (8 + k) → ⊥) → Ends (Err WrongSort)
       wrong_sort x = ends_failed (λ wide rules T ts q s z. whole_wrong wide rules T ts q s z e (λ y. x (o text ∙ y)))
 
       pub turn_next : sort ≡ column (row_at symbol_rows i) (8 + k) → {stack' : Rows} → length trees' ≡ length trees
@@ -427,24 +429,23 @@ module _ {text : List ℕ} {rows : Rows} {at arguments : ℕ} {symbol_rows : Row
           }
 
 -- All arguments are there.
-concluded_refused : (W : List ℕ) (T : Rows) (W' : List ℕ) (T' : Rows) (u limit calls : ℕ) {r : Outcome} (o : Evaluated one) {m : ℕ}
+concluded_refused : (W : List ℕ) (T : Rows) (W' : List ℕ) (T' : Rows) (u limit calls : ℕ) {r : Result Outcome Refusal} (o : Evaluated one) {x : Refusal}
     → Concludes o r W T W' T' u limit calls
-    → r ≡ Denied m → o ≡ failed m
-concluded_refused W T W' T' u limit calls (failed e) {m} h p = let a : e ≡ m = cc in ap failed a
-concluded_refused W T W' T' u limit calls (evaluated v ps c) (x, e, s, t) p = absurd
-    (let x : ◌≡◌ {A = ℕ} 0 1 = cc in let z : ⊥ = omega arith in z)
+    → r ≡ Err x → o ≡ failed (number_of x)
+concluded_refused W T W' T' u limit calls (failed e) {x} h p = ap failed (sym (rw p at h))
+concluded_refused W T W' T' u limit calls (evaluated v ps c) (x, e, s, t) p = absurd (let z : ⊥ = cc in z)
 
 module _ (q : ℕ) (W₀ : List ℕ) (T₀ : Rows) (W : List ℕ) (T : Rows) (W' : List ℕ) (T' : Rows) (u₀ limit calls₀ : ℕ) (b : Spent)
     (ps : Tree several) where
-  concluded_at : {r : Outcome} (o : Evaluated one) {value calls used : ℕ} → Values W b.words → Same 0 (cells W₀) (cells W) u₀
+  concluded_at : {r : Result Outcome Refusal} (o : Evaluated one) {value calls used : ℕ} → Values W b.words → Same 0 (cells W₀) (cells W) u₀
       → u₀ ≤ b.words
-      → TreesListed T₀ calls₀ 1 W T ps b → Concludes o r W T W' T' b.words limit b.calls → r ≡ Worth value calls used
-      → Evaluates (prefixed ps o) q (Answer value q calls used) W₀ T₀ W' T' u₀ limit calls₀
-  concluded_at (failed e) a k l t h p = absurd (let x : ◌≡◌ {A = ℕ} 0 1 = cc in let z : ⊥ = omega arith in z)
+      → TreesListed T₀ calls₀ 1 W T ps b → Concludes o r W T W' T' b.words limit b.calls → r ≡ outcome value calls used
+      → Evaluates (prefixed ps o) q (expressed value q calls used) W₀ T₀ W' T' u₀ limit calls₀
+  concluded_at (failed e) a k l t h p = absurd (rw p at h)
   concluded_at (evaluated v qs c) {value} {calls} {used} a k l t (x, e, s, y) p =
-      let m : value ≡ x = cc in
-      let d : used ≡ c.words = cc in
-      let f : calls ≡ c.calls = cc in (
+      let m : value ≡ x = sym (value_worth (sym p ∙ e)) in
+      let d : used ≡ c.words = sym (used_worth (sym p ∙ e)) in
+      let f : calls ≡ c.calls = sym (made_worth (sym p ∙ e)) in (
         x,
         rw (m, d, f),
         record {
@@ -515,7 +516,7 @@ module _ {text : List ℕ} {rows : Rows} {at arguments : ℕ} {symbol_rows : Row
             (append_nothing _ ∙ sym values_are) (joined_nothing L.earlier));
       }
 
-  module _ {r : Outcome} {words' links' : List ℕ} {trees' : Rows}
+  module _ {r : Result Outcome Refusal} {words' links' : List ℕ} {trees' : Rows}
       (g : ApplyAnswered symbol_rows rule_rows pattern i given depth made spent limit words links trees r words' links' trees') where
     abbrev tables : List Symbol
     tables = symbols_of text symbol_rows count
@@ -526,7 +527,7 @@ module _ {text : List ℕ} {rows : Rows} {at arguments : ℕ} {symbol_rows : Row
     abbrev applied : List Rule → Evaluated one
     applied rules = apply_of limit tables rules i depth (evaluated (values_of words given) leaf counts)
 
-    abbrev Answers : Expressed → Type 0
+    abbrev Answers : Result Expressed Refusal → Type 0
     Answers r = ApplicationAnswered text rows at arguments symbol_rows count i rule_rows pattern depth calls₀ used₀ limit words₀ links₀ trees₀ r words' links' trees'
 
     applied_is : (rules : List Rule) (ts : Written many) (q : ℕ) (D : Ready rules ts q)
@@ -536,14 +537,14 @@ module _ {text : List ℕ} {rows : Rows} {at arguments : ℕ} {symbol_rows : Row
     applied_is rules ts q D = ap (apply_of limit tables rules i depth) D.comes
         ∙ apply_prefixed limit tables rules i depth (values_of words given) D.earlier counts
 
-    pub apply_refused : {m : ℕ} → r ≡ Denied m → Answers (Refused m)
-    apply_refused {m} e = record {
+    pub apply_refused : {x : Refusal} → r ≡ Err x → Answers (Err x)
+    apply_refused {x} e = record {
       says = λ wide rules T ts q s z.
           let D = done wide rules T ts q s z in
-          let f : applied rules ≡ failed m =
+          let f : applied rules ≡ failed (number_of x) =
           concluded_refused words trees words' trees' spent limit made (applied rules)
           (g.says text count wide rules T h.asked.known) e in
-          subst (λ (x : Evaluated one). Evaluates x q (Refused m) words₀ trees₀ words' trees' used₀ limit calls₀)
+          subst (λ (o : Evaluated one). Evaluates o q (Err x) words₀ trees₀ words' trees' used₀ limit calls₀)
           (sym (applied_is rules ts q D ∙ ap (prefixed D.earlier) f)) refl;
       forms = λ d f v n c u w. refused_answer w;
       spends = λ v n c u w. refused_answer w;
@@ -551,17 +552,17 @@ module _ {text : List ℕ} {rows : Rows} {at arguments : ℕ} {symbol_rows : Row
       restored = g.restored ∙ h.restored;
     }
 
-    pub apply_done : {value calls used : ℕ} → r ≡ Worth value calls used → Answers (Answer value p calls used)
+    pub apply_done : {value calls used : ℕ} → r ≡ outcome value calls used → Answers (expressed value p calls used)
     apply_done {value} {calls} {used} e = record {
       says = λ wide rules T ts q s z.
           let D = done wide rules T ts q s z in
           let f = concluded_at q words₀ trees₀ words trees words' trees' used₀ limit calls₀ counts D.earlier (applied rules)
           h.stored h.same h.grows D.listed
           (g.says text count wide rules T h.asked.known) e in
-          subst (λ (x : Evaluated one). Evaluates x q (Answer value p calls used) words₀ trees₀ words' trees' used₀ limit calls₀)
+          subst (λ (x : Evaluated one). Evaluates x q (expressed value p calls used) words₀ trees₀ words' trees' used₀ limit calls₀)
           (sym (applied_is rules ts q D))
           (subst (λ (x : ℕ). Evaluates (prefixed D.earlier (applied rules)) q
-          (Answer value x calls used) words₀ trees₀ words' trees' used₀ limit calls₀)
+          (expressed value x calls used) words₀ trees₀ words' trees' used₀ limit calls₀)
           (sym D.behind) f);
       forms = λ d f v n c u w.
           let a = h.asked in

@@ -1,30 +1,34 @@
 // A symbol on the values of its arguments.
-ghost use Rattle.std.specs.Prelude.{◌≡◌, List, ℕ, ◌≤◌, ◌<◌, length};
+ghost use Rattle.std.specs.Prelude.{List, ℕ, ◌≤◌, ◌<◌, length};
 ghost use Rattle.names.specs.Symbols.{symbol_at, symbols_of, column, row_at};
-ghost use Rattle.evaluation.specs.Expressions.{misuse as misuseOf};
+ghost use Rattle.evaluation.specs.Expressions.{misuse};
+ghost use Rattle.expressions.specs.Nodes.{Finds};
 ghost use Rattle.expressions.specs.Applying.{ApplyAsked, ApplyAnswered};
 
 use super::nodes::build;
-use function_calls::{Built, NO_EXPRESSION, Outcome, TreeRow, call};
+use function_calls::{Outcome, TreeRow, call};
 use names::SymbolRow;
-use patterns::ARGUMENT_COUNT;
+use refusals::Refusal;
 use rules::RuleRow;
 
-// What a symbol on so many arguments is refused for; 0: nothing.
-pub fn misuse(symbols: &[SymbolRow], count: usize, i: usize, arguments: usize) -> u32
+// What a symbol on so many arguments is refused for, if it is.
+pub fn check_use(
+    symbols: &[SymbolRow],
+    count: usize,
+    i: usize,
+    arguments: usize,
+) -> Result<(), Refusal>
     requires { (count ≤ length symbols.now) × (i < count) × (column (row_at symbols.now i) 3 ≤ 1) × (column (row_at symbols.now i) 3 ≤ column (row_at symbols.now i) 6) × (column (row_at symbols.now i) 6 ≤ 16) }
-    ensures { (text : List ℕ) → result ≡ misuseOf (symbol_at (symbols_of text symbols.now count) i) arguments }
+    ensures { (text : List ℕ) → Finds result (misuse (symbol_at (symbols_of text symbols.now count) i) arguments) }
 {
-    if symbols[i][3] == 0 {
-        if symbols[i][2] == 0 {
-            return NO_EXPRESSION;
-        }
+    if symbols[i][3] == 0 && symbols[i][2] == 0 {
+        return Err(Refusal::NoExpression);
     }
     let wanted = symbols[i][6] - symbols[i][3];
     if wanted as usize != arguments {
-        return ARGUMENT_COUNT;
+        return Err(Refusal::ArgumentCount);
     }
-    0
+    Ok(())
 }
 
 // A constructor is built, a function called at the next depth.
@@ -42,7 +46,7 @@ pub fn apply(
     links: &mut [u32],
     trees: &mut [TreeRow],
     stack: &mut [[u32; 3]],
-) -> Outcome
+) -> Result<Outcome, Refusal>
     requires { ApplyAsked symbols.now rules.now pattern.now i values.now depth calls used limit
         words.old links.old trees.old stack.old }
     ensures { ApplyAnswered symbols.now rules.now pattern.now i values.now depth calls used limit
@@ -66,12 +70,10 @@ pub fn apply(
             stack,
         );
     }
-    match build(words, used, limit, i, values) {
-        Built::Refused { number } => Outcome::Refused { number: number },
-        Built::At { value, used: after } => Outcome::Value {
-            value: value,
-            calls: calls,
-            used: after,
-        },
-    }
+    let built = build(words, used, limit, i, values)?;
+    Ok(Outcome {
+        value: built.value,
+        calls,
+        used: built.used,
+    })
 }

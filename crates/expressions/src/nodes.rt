@@ -5,8 +5,9 @@ ghost use Rattle.names.specs.Symbols.{symbol_at, symbols_of};
 ghost use Rattle.expressions.specs.Nodes.{BuildAsked, BuildAnswered};
 
 use arena::{HEADERS, SYMBOL_STEP};
-use function_calls::{Built, NO_WORDS};
+use function_calls::Built;
 use names::SymbolRow;
+use refusals::Refusal;
 
 // The sort of a value by its header: the output of its symbol.
 pub fn sort_of(symbols: &[SymbolRow], count: usize, header: u32) -> u32
@@ -21,18 +22,24 @@ pub fn sort_of(symbols: &[SymbolRow], count: usize, header: u32) -> u32
 }
 
 // A node of a symbol on values.
-pub fn build(words: &mut [u32], used: u32, limit: u32, symbol: usize, values: &[u32]) -> Built
+pub fn build(
+    words: &mut [u32],
+    used: u32,
+    limit: u32,
+    symbol: usize,
+    values: &[u32],
+) -> Result<Built, Refusal>
     requires { BuildAsked words.old used limit symbol values.now }
     ensures { BuildAnswered words.old used limit symbol values.now result words.new }
 {
     let count = values.len() as u32;
     if limit - used <= count {
-        return Built::Refused { number: NO_WORDS };
+        return Err(Refusal::OverLimit);
     }
     let header = HEADERS + SYMBOL_STEP * (symbol as u32) + count;
     arena::push_node(words, used, header, values);
-    Built::At {
+    Ok(Built {
         value: used,
         used: used + 1 + count,
-    }
+    })
 }

@@ -1,34 +1,22 @@
 // Written terms: the Rust's `Evaluator::expression`.
-ghost use Rattle.std.specs.Prelude.{◌≡◌};
 ghost use Rattle.expressions.specs.Terms.{ExpressionAsked, ExpressionAnswered, ApplicationAsked, ApplicationAnswered};
 
-use super::applying::{apply, misuse};
+use super::applying::{apply, check_use};
 use super::nodes::sort_of;
 use super::numerals::numeral;
-use function_calls::{Built, MAX_DEPTH, NOT_GROUND, Outcome, TOO_DEEP, TreeRow, WRONG_SORT};
+use function_calls::{MAX_DEPTH, TreeRow};
 use names::SymbolRow;
-use patterns::{TermRow, UNKNOWN_SYMBOL};
+use patterns::TermRow;
+use refusals::Refusal;
 use rules::RuleRow;
 
-// What came of a term: its value, the row behind it, the calls made and the words used then.
+// A term that has a value: the value, the row behind the term, the calls made and the words used then.
 #[derive(Clone, Copy)]
-pub enum Expressed {
-    Value {
-        value: u32,
-        next: usize,
-        calls: u32,
-        used: u32,
-    },
-    Refused {
-        number: u32,
-    },
-}
-
-// A word as a number of the machine.
-fn wide(x: u32) -> usize
-    ensures { result ≡ x }
-{
-    x as usize
+pub struct Expressed {
+    pub value: u32,
+    pub next: usize,
+    pub calls: u32,
+    pub used: u32,
 }
 
 // A symbol on the arguments whose rows start at a place, each at the next depth; the sort of each is tested at once.
@@ -51,7 +39,7 @@ fn application(
     links: &mut [u32],
     trees: &mut [TreeRow],
     stack: &mut [[u32; 3]],
-) -> Expressed
+) -> Result<Expressed, Refusal>
     requires { ApplicationAsked text.now rows.now at arguments symbols.now count i rules.now pattern.now depth calls used limit
         words.old links.old trees.old stack.old }
     ensures { ApplicationAnswered text.now rows.now at arguments symbols.now count i
@@ -59,12 +47,11 @@ fn application(
         words.old links.old trees.old result words.new links.new trees.new }
 {
     let mut values = [0u32; 16];
-    let mut k = 0;
     let mut p = at;
     let mut made = calls;
     let mut spent = used;
-    while k < arguments {
-        match expression(
+    for k in 0..arguments {
+        let argument = expression(
             text,
             rows,
             p,
@@ -80,26 +67,16 @@ fn application(
             links,
             trees,
             stack,
-        ) {
-            Expressed::Refused { number } => return Expressed::Refused { number: number },
-            Expressed::Value {
-                value,
-                next,
-                calls: after,
-                used: then,
-            } => {
-                if sort_of(symbols, count, words[value as usize]) != symbols[i][8 + k] {
-                    return Expressed::Refused { number: WRONG_SORT };
-                }
-                values[k] = value;
-                p = next;
-                made = after;
-                spent = then;
-                k += 1;
-            }
+        )?;
+        if sort_of(symbols, count, words[argument.value as usize]) != symbols[i][8 + k] {
+            return Err(Refusal::WrongSort);
         }
+        values[k] = argument.value;
+        p = argument.next;
+        made = argument.calls;
+        spent = argument.used;
     }
-    match apply(
+    let outcome = apply(
         symbols,
         rules,
         pattern,
@@ -113,19 +90,13 @@ fn application(
         links,
         trees,
         stack,
-    ) {
-        Outcome::Refused { number } => Expressed::Refused { number: number },
-        Outcome::Value {
-            value,
-            calls: after,
-            used: then,
-        } => Expressed::Value {
-            value: value,
-            next: p,
-            calls: after,
-            used: then,
-        },
-    }
+    )?;
+    Ok(Expressed {
+        value: outcome.value,
+        next: p,
+        calls: outcome.calls,
+        used: outcome.used,
+    })
 }
 
 // The value of the term whose rows start at a place, at a depth.
@@ -146,7 +117,7 @@ pub fn expression(
     links: &mut [u32],
     trees: &mut [TreeRow],
     stack: &mut [[u32; 3]],
-) -> Expressed
+) -> Result<Expressed, Refusal>
     requires { ExpressionAsked text.now rows.now at symbols.now count rules.now pattern.now depth calls used limit
         words.old links.old trees.old stack.old }
     ensures { ExpressionAnswered text.now rows.now at symbols.now count
@@ -154,36 +125,27 @@ pub fn expression(
         words.old links.old trees.old result words.new links.new trees.new }
 {
     if MAX_DEPTH < depth {
-        return Expressed::Refused { number: TOO_DEEP };
+        return Err(Refusal::TooDeep);
     }
     let kind = rows[at][0];
     if kind == words::NUMERAL {
-        match numeral(text, symbols, count, rows[at][3], depth, words, used, limit) {
-            Built::Refused { number } => return Expressed::Refused { number: number },
-            Built::At { value, used: after } => {
-                return Expressed::Value {
-                    value: value,
-                    next: at + 1,
-                    calls: calls,
-                    used: after,
-                };
-            }
-        }
+        let built = numeral(text, symbols, count, rows[at][3], depth, words, used, limit)?;
+        return Ok(Expressed {
+            value: built.value,
+            next: at + 1,
+            calls,
+            used: built.used,
+        });
     }
     if kind == words::METAVARIABLE {
-        return Expressed::Refused { number: NOT_GROUND };
+        return Err(Refusal::NotGround);
     }
     let i = names::symbol_of(text, symbols, count, kind, rows[at][1], rows[at][2]);
     if count <= i {
-        return Expressed::Refused {
-            number: UNKNOWN_SYMBOL,
-        };
+        return Err(Refusal::UnknownSymbol);
     }
-    let arguments = wide(rows[at][3]);
-    let e = misuse(symbols, count, i, arguments);
-    if e != 0 {
-        return Expressed::Refused { number: e };
-    }
+    let arguments = rows[at][3] as usize;
+    check_use(symbols, count, i, arguments)?;
     application(
         text,
         rows,

@@ -4,7 +4,8 @@ use native.Mathlib.Omega.{arith}
 use mathlib.Core.Path.{◌≡◌, refl, sym, ap, ◌∙◌, subst}
 use mathlib.Core.Bool.{Bool, true, false, ◌&&◌}
 use mathlib.Core.List.{List, []}
-use lib.ListN.{length, get_or}
+use lib.ListN.{length, get_or, take, drop}
+use Rattle.std.proofs.lemmas.List.{get_or-drop, take_rest}
 use Rattle.term_parser.specs.Source.{Arity, one, many}
 use Rattle.term_parser.specs.Rows.{Rows}
 use Rattle.term_parser.specs.Standing.{Written, number, meta, called, applied, nil, cons, size, Stands}
@@ -127,6 +128,10 @@ module _ (text : List ℕ) (rows : Rows) (whole : Written one) (q i : ℕ) where
     comes = ground_append us ts;
   }
 
+-- The row i of the rows from a place on.
+pub row_behind : (rows : Rows) (at i k : ℕ) → get_or (get_or (take (length rows - at) (drop at rows)) i []) k 0 ≡ get_or (get_or rows (at + i) []) k 0
+row_behind rows at i k = rw (take_rest rows at, get_or-drop at rows i []) refl
+
 none_left : (ts : Written many) → size ts ≡ 0 → true ≡ is_ground ts
 unfolding size is_ground
 none_left nil e = refl
@@ -178,3 +183,19 @@ module _ {text : List ℕ} {rows : Rows} {at left i : ℕ} (h : Turn text rows a
       all = λ t q s. let m = h.all t q s in let c = m.counted in let b = leaf_first text rows t q i m.terms (omega arith) m.stands a d in
           record { terms = b.terms; counted = (let e = b.counted in omega arith); stands = b.stands; comes = b.comes ∙ m.comes };
     }
+
+-- The column k of the row i of the rows from a place on.
+abbrev behind : Rows → ℕ → ℕ → ℕ → ℕ
+behind rows at i k = get_or (get_or (take (length rows - at) (drop at rows)) i []) k 0
+
+-- The same at such a row.
+module _ {text : List ℕ} {rows : Rows} {at left left' : ℕ} (i : ℕ) (h : Turn text rows at left (at + i)) (l : 0 < left) where
+  pub turn_application_behind : behind rows at i 0 ≡ 24 → left' ≡ left - 1 + behind rows at i 3 → Turn text rows at left' (at + i + 1)
+  turn_application_behind k e =
+      subst (λ (n : ℕ). Turn text rows at n (at + i + 1)) (ap (λ (n : ℕ). left - 1 + n) (sym (row_behind rows at i 3)) ∙ sym e)
+      (turn_application h l (sym (row_behind rows at i 0) ∙ k))
+
+  pub turn_leaf_behind : (behind rows at i 0 ≡ 13 → ⊥) → (behind rows at i 0 ≡ 24 → ⊥) → left' ≡ left - 1 → Turn text rows at left' (at + i + 1)
+  turn_leaf_behind m a e =
+      subst (λ (n : ℕ). Turn text rows at n (at + i + 1)) (sym e)
+      (turn_leaf h l (λ k. m (row_behind rows at i 0 ∙ k)) (λ k. a (row_behind rows at i 0 ∙ k)))

@@ -14,21 +14,19 @@ pub fn is_ground(text: &[u8], rows: &[TermRow], at: usize) -> bool
     requires { GroundAsked text.now rows.now at }
     ensures { GroundAnswered text.now rows.now at result }
 {
-    // How many terms are still to be seen from row i on.
+    // How many terms are still to be seen from the row on; there is one at least.
     let mut left: usize = 1;
-    let mut i = at;
-    while 0 < left {
-        let kind = rows[i][0];
-        if kind == words::METAVARIABLE {
+    for row in &rows[at..] {
+        if row[0] == words::METAVARIABLE {
             return false;
         }
-        if kind == term_parser::APPLICATION {
-            left = left - 1 + rows[i][3] as usize;
-            i += 1;
-            continue;
-        }
         left -= 1;
-        i += 1;
+        if row[0] == term_parser::APPLICATION {
+            left += row[3] as usize;
+        }
+        if left == 0 {
+            return true;
+        }
     }
     true
 }

@@ -17,10 +17,10 @@ use Rattle.evaluation.specs.Matching.{Fitted, misfit, fitted, bind_of}
 use Rattle.evaluation.specs.Calls.{Spent, Called, refused, premises_of, concluded, patterns_of, taken_or, tried, clauses_of, call_of}
 use Rattle.clause_matching.specs.Choice.{values_of, fit_of, ClauseAsked, Chosen, Chooses}
 use Rattle.function_calls.specs.Calls.{ClauseIn, Program, Answers, CallAsked, CallAnswered, FollowAsked, Followed}
-use Rattle.clause_matching.specs.declared.choice.Clause.{Clause}
-use Rattle.clause_matching.specs.declared.choice.Clause.TheVariants.{At, Nowhere}
 use Rattle.function_calls.specs.declared.calls.Outcome.{Outcome}
-use Rattle.function_calls.specs.declared.calls.Outcome.TheVariants.{Refused}
+use Rattle.std.specs.Prelude.{Result, Err, Option as Optional, None, Some}
+use Rattle.refusals.specs.declared.Refusal.{Refusal}
+use Rattle.refusals.specs.declared.Refusal.TheVariants.{TooDeep, TooManyCalls, NoClause}
 use Rattle.function_calls.proofs.Forming.{refused_forms, refused_spent}
 use Rattle.function_calls.proofs.Premising.{front_args}
 
@@ -80,16 +80,16 @@ module _ {symbol_rows rule_rows : Rows} {pattern : List ℕ} {symbol : ℕ} {val
 
   pub too_deep : 128 < depth
       → CallAnswered symbol_rows rule_rows pattern symbol values depth height calls used limit words links trees
-      (Refused 29) words links trees
+      (Err TooDeep) words links trees
   unfolding call_of
   too_deep l = record {
     says = λ size symbols rules P k i.
         let z : 129 - depth ≡ 0 = omega arith in
         subst (λ (n : ℕ). Answers (call_of limit symbols rules n symbol (values_of words values) (record { calls = calls; words = used }))
-        (Refused 29) words trees words trees used limit calls height)
+        (Err TooDeep) words trees words trees used limit calls height)
         (sym z) refl;
-    forms = refused_forms pattern 29 words words used;
-    spends = refused_spent 29 calls used;
+    forms = refused_forms pattern TooDeep words words used;
+    spends = refused_spent TooDeep calls used;
     kept = refl;
     restored = refl;
   }
@@ -100,15 +100,15 @@ module _ {symbol_rows rule_rows : Rows} {pattern : List ℕ} {symbol : ℕ} {val
 
     pub too_many : 10000 ≤ calls
         → CallAnswered symbol_rows rule_rows pattern symbol values depth height calls used limit words links trees
-        (Refused 30) words links trees
+        (Err TooManyCalls) words links trees
     unfolding call_of
     too_many m = record {
       says = λ size symbols rules P k i.
           subst (λ (n : ℕ). Answers (call_of limit symbols rules n symbol (values_of words values) (record { calls = calls; words = used }))
-          (Refused 30) words trees words trees used limit calls height)
+          (Err TooManyCalls) words trees words trees used limit calls height)
           (sym is_suc) (rw (le-ltb calls 10000 m) refl);
-      forms = refused_forms pattern 30 words words used;
-      spends = refused_spent 30 calls used;
+      forms = refused_forms pattern TooManyCalls words words used;
+      spends = refused_spent TooManyCalls calls used;
       kept = refl;
       restored = refl;
     }
@@ -150,28 +150,28 @@ module _ {symbol_rows rule_rows : Rows} {pattern : List ℕ} {symbol : ℕ} {val
           let (R, e, cl) = P.clause symbol j (length values) k i a b in
           (R, e, ap (λ (ps : Terms). bind_of ps (values_of words values) start) (patterns_are cl) ∙ f)
 
-      module _ {environment : List ℕ} {clause : Clause} {environment' links' : List ℕ}
+      module _ {environment : List ℕ} {clause : Optional ℕ} {environment' links' : List ℕ}
           (c : Chosen rule_rows pattern from end values words used environment links clause environment' links') where
-        pub no_clause : clause ≡ Nowhere
+        pub no_clause : clause ≡ None
             → CallAnswered symbol_rows rule_rows pattern symbol values depth height calls used limit words links trees
-            (Refused 34) words links' trees
+            (Err NoClause) words links' trees
         no_clause q =
-            let ch : Chooses rule_rows pattern from end values words used Nowhere environment' =
-            subst (λ (x : Clause). Chooses rule_rows pattern from end values words used x environment') q c.chooses in
+            let ch : Chooses rule_rows pattern from end values words used None environment' =
+            subst (λ (x : Optional ℕ). Chooses rule_rows pattern from end values words used x environment') q c.chooses in
             record {
               says = λ size symbols rules P k i.
-                  subst (λ (y : Called). Answers y (Refused 34) words trees words trees used limit calls height)
+                  subst (λ (y : Called). Answers y (Err NoClause) words trees words trees used limit calls height)
                   (sym (tries size symbols rules P k
                   ∙ none_left limit symbols rules (calling symbols rules) (values_of words values) counted (column row 5) from (λ j a b. missing size symbols rules P k i j a b (ch j a b)))) refl;
-              forms = refused_forms pattern 34 words words used;
-              spends = refused_spent 34 calls used;
+              forms = refused_forms pattern NoClause words words used;
+              spends = refused_spent NoClause calls used;
               kept = refl;
               restored = c.restored;
             }
 
-        module _ (rule : ℕ) (q : clause ≡ At rule) where
-          abbrev chosen : Chooses rule_rows pattern from end values words used (At rule) environment'
-          chosen = subst (λ (x : Clause). Chooses rule_rows pattern from end values words used x environment') q c.chooses
+        module _ (rule : ℕ) (q : clause ≡ Some rule) where
+          abbrev chosen : Chooses rule_rows pattern from end values words used (Some rule) environment'
+          chosen = subst (λ (x : Optional ℕ). Chooses rule_rows pattern from end values words used x environment') q c.chooses
 
           pub follow_asked : 64 ≤ length environment → (stack' : Rows) → length stack' ≡ length stack
               → FollowAsked symbol_rows rule_rows pattern rule depth height calls used limit environment' words links' trees stack'
@@ -204,7 +204,7 @@ module _ {symbol_rows rule_rows : Rows} {pattern : List ℕ} {symbol : ℕ} {val
                 spent = h.spent;
               }
 
-          pub followed : {r : Outcome} {words'' links'' : List ℕ} {trees'' : Rows}
+          pub followed : {r : Result Outcome Refusal} {words'' links'' : List ℕ} {trees'' : Rows}
               → Followed symbol_rows rule_rows pattern rule depth height calls used limit environment' words links' trees
               r words'' links'' trees''
               → CallAnswered symbol_rows rule_rows pattern symbol values depth height calls used limit words links trees

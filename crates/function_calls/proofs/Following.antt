@@ -21,17 +21,18 @@ use Rattle.evaluation.specs.Calls.{Spent, Called, refused, returned, Walked, sto
 use Rattle.evaluation.specs.CallLaws.{Growing}
 use Rattle.evaluation.proofs.CallLaws.{instantiate_grows}
 use Rattle.clause_matching.specs.Stored.{Value, Values, Holds, pattern_at, value_at}
-use Rattle.clause_matching.specs.Building.{InstantiateAsked, Tells, Instantiated}
+use Rattle.clause_matching.specs.Building.{built_at, InstantiateAsked, Tells, Instantiated}
 use Rattle.clause_matching.specs.Choice.{Referable, pattern_from, ConclusionIn}
-use Rattle.function_calls.specs.Calls.{PremiseIn, ClauseIn, Program, Working, TreesListed, Answers, FollowAsked, Followed, Steps, PremiseAsked, PremiseAnswered}
+use Rattle.function_calls.specs.Calls.{outcome, PremiseIn, ClauseIn, Program, Working, TreesListed, Answers, FollowAsked, Followed, Steps, PremiseAsked, PremiseAnswered}
+use Rattle.std.specs.Prelude.{Result, Err}
+use Rattle.refusals.specs.declared.Refusal.{Refusal}
+use Rattle.refusals.specs.Refusals.{number_of}
 use Rattle.clause_matching.specs.declared.building.Built.{Built as Reply}
-use Rattle.clause_matching.specs.declared.building.Built.TheVariants.{At, Refused as Unbuilt}
 use Rattle.clause_matching.specs.declared.choice.Pattern.{Pattern}
 use Rattle.clause_matching.specs.declared.choice.Pattern.TheVariants.{Variable, Node}
 use Rattle.function_calls.specs.declared.calls.Outcome.{Outcome}
-use Rattle.function_calls.specs.declared.calls.Outcome.TheVariants.{Value as Answer, Refused}
 use Rattle.clause_matching.proofs.Open.{args_count}
-use Rattle.clause_matching.proofs.Forming.{FormsKept}
+use Rattle.clause_matching.proofs.Forming.{FormsKept, ok_is}
 use Rattle.function_calls.proofs.Forming.{refused_forms, answer_forms, refused_spent, answer_spent}
 use Rattle.clause_matching.proofs.Arguments.{refused_is, Found, found}
 use Rattle.function_calls.proofs.Listing.{listed_none, listed_more, listed_node}
@@ -269,7 +270,7 @@ module _ {symbol_rows rule_rows : Rows} {pattern : List ℕ} {rule depth height 
       }
 
       -- The premise is done.
-      module _ {answer : Outcome} {environment' words' links' : List ℕ} {trees' : Rows}
+      module _ {answer : Result Outcome Refusal} {environment' words' links' : List ℕ} {trees' : Rows}
           (p : PremiseAnswered symbol_rows rule_rows pattern header first depth height made spent limit environment words links trees
           answer environment' words' links' trees') where
         abbrev later : Terms
@@ -291,32 +292,32 @@ module _ {symbol_rows rule_rows : Rows} {pattern : List ℕ} {rule depth height 
             premises_of limit (call_of limit symbols rules (128 - depth)) (cons (pattern_at pattern reference) nil) γ
             (record { calls = made; words = spent })
 
-        abbrev Said : Walked → Outcome → Type 0
+        abbrev Said : Walked → Result Outcome Refusal → Type 0
         Said o r = Steps o r words trees words' environment' trees' spent limit made height
 
-        stops : (o : Walked) (number : ℕ) → Said o (Refused number) → o ≡ stopped number
-        stops (stopped e) number s = ap stopped (let z : number ≡ e = cc in sym z)
-        stops (walked γ ps c) number s = let x = s.is in let w : ◌≡◌ {A = ℕ} 0 1 = cc in absurd (let z : ⊥ = omega arith in z)
+        stops : (o : Walked) (refusal : Refusal) → Said o (Err refusal) → o ≡ stopped (number_of refusal)
+        stops (stopped e) refusal s = ap stopped (sym s)
+        stops (walked γ ps c) refusal s = let x = s.is in absurd (let z : ⊥ = cc in z)
 
-        pub premise_refused : (number : ℕ) → answer ≡ Refused number
+        pub premise_refused : (refusal : Refusal) → answer ≡ Err refusal
             → Followed symbol_rows rule_rows pattern rule depth height calls used limit environment₀ words₀ links₀ trees₀
-            (Refused number) words' links' trees'
-        premise_refused number a = record {
+            (Err refusal) words' links' trees'
+        premise_refused refusal a = record {
           says = λ size symbols rules P n R cl β b. (
               let call : ℕ → Terms → Spent → Called = call_of limit symbols rules (128 - depth) in
               let x = h.reached size symbols rules P n R cl β b in
               let one : Walked = step symbols rules x.γ in
-              let s : Said one (Refused number) =
-              subst (λ (y : Outcome). Said one y) a
+              let s : Said one (Err refusal) =
+              subst (λ (y : Result Outcome Refusal). Said one y) a
               (p.says size symbols rules P reference (cl.premises j l) header_is first_is x.γ x.holds) in
-              let o = stops one number s in
-              let w : stopped number ≡ premises_of limit call R.premises β (record { calls = suc calls; words = used }) =
+              let o = stops one refusal s in
+              let w : stopped (number_of refusal) ≡ premises_of limit call R.premises β (record { calls = suc calls; words = used }) =
               ap (λ (y : Walked). prefixed x.branches (then_premises y (λ δ d. premises_of limit call later δ d))) (sym o)
               ∙ ap (prefixed x.branches) (sym (split limit call x.γ (record { calls = made; words = spent }))) ∙ x.comes in
-              subst (λ (y : Walked). Answers (concluded limit rule R.conclusion y) (Refused number) words₀ trees₀ words' trees'
+              subst (λ (y : Walked). Answers (concluded limit rule R.conclusion y) (Err refusal) words₀ trees₀ words' trees'
               used limit calls height) w refl);
-          forms = refused_forms pattern number words₀ words' used;
-          spends = refused_spent number calls used;
+          forms = refused_forms pattern refusal words₀ words' used;
+          spends = refused_spent refusal calls used;
           kept = p.kept ∙ h.kept;
           restored = p.restored ∙ h.restored;
         }
@@ -332,12 +333,11 @@ module _ {symbol_rows rule_rows : Rows} {pattern : List ℕ} {rule depth height 
           pub within : then ≤ limit
           pub listed : TreesListed trees made (suc height) words' trees' branches (record { calls = after; words = then })
 
-        steps : (o : Walked) (value after then : ℕ) → Said o (Answer value after then) → Stepping o after then
-        steps (stopped e) value after then s = let w : ◌≡◌ {A = ℕ} 0 1 = cc in absurd (let z : ⊥ = omega arith in z)
+        steps : (o : Walked) (value after then : ℕ) → Said o (outcome value after then) → Stepping o after then
+        steps (stopped e) value after then s = absurd s
         steps (walked γ ps c) value after then s =
-            let x = s.is in
-            let a : c.calls ≡ after = cc in
-            let b : c.words ≡ then = cc in
+            let a : c.calls ≡ after = ap (λ (o : Outcome). o.calls) (sym (ok_is s.is)) in
+            let b : c.words ≡ then = ap (λ (o : Outcome). o.used) (sym (ok_is s.is)) in
             let e : c ≡ spent_of after then = ap₂ spent_of a b in
             record {
               γ = γ;
@@ -351,13 +351,13 @@ module _ {symbol_rows rule_rows : Rows} {pattern : List ℕ} {rule depth height 
               listed = subst (λ (m : Spent). TreesListed trees made (suc height) words' trees' ps m) e s.listed;
             }
 
-        module _ (value after then : ℕ) (a : answer ≡ Answer value after then) where
+        module _ (value after then : ℕ) (a : answer ≡ outcome value after then) where
           stepped : (size : ℕ) (symbols : List Symbol) (rules : List Rule) → Program symbol_rows rule_rows pattern size symbols rules
               → PremiseIn symbols pattern size reference → (γ : Bindings) → Holds environment words spent γ
               → Stepping (step symbols rules γ) after then
           stepped size symbols rules P q γ b =
               steps (step symbols rules γ) value after then
-              (subst (λ (y : Outcome). Said (step symbols rules γ) y) a (p.says size symbols rules P reference q header_is first_is γ b))
+              (subst (λ (y : Result Outcome Refusal). Said (step symbols rules γ) y) a (p.says size symbols rules P reference q header_is first_is γ b))
 
           pub turn_next : (stack' : Rows) → length trees' ≡ length trees → length stack' ≡ length stack
               → Turn symbol_rows rule_rows pattern rule depth height calls used limit environment₀ words₀ links₀ trees₀ stack₀
@@ -427,31 +427,31 @@ module _ {symbol_rows rule_rows : Rows} {pattern : List ℕ} {rule depth height 
         x.γ (record { calls = made; words = spent }))) (sym z)
         ∙ x.comes
 
-    module _ {answer : Reply} {words' : List ℕ} (i : Instantiated pattern (column row 5) environment words spent limit answer words') where
-      pub conclusion_refused : (number : ℕ) → answer ≡ Unbuilt number
+    module _ {answer : Result Reply Refusal} {words' : List ℕ} (i : Instantiated pattern (column row 5) environment words spent limit answer words') where
+      pub conclusion_refused : (refusal : Refusal) → answer ≡ Err refusal
           → Followed symbol_rows rule_rows pattern rule depth height calls used limit environment₀ words₀ links₀ trees₀
-          (Refused number) words' links trees
-      conclusion_refused number a = record {
+          (Err refusal) words' links trees
+      conclusion_refused refusal a = record {
         says = λ size symbols rules P n R cl β b. (
             let call : ℕ → Terms → Spent → Called = call_of limit symbols rules (128 - depth) in
             let x = h.reached size symbols rules P n R cl β b in
-            let s = subst (λ (y : Reply). Tells (instantiate_of limit x.γ (pattern_at pattern (column row 5)) spent) y words words' spent limit) a (i.tells x.γ x.holds) in
-            let o = refused_is (instantiate_of limit x.γ (pattern_at pattern (column row 5)) spent) number words words' spent limit s in
-            let w : refused number ≡ concluded limit rule R.conclusion (premises_of limit call R.premises β (record { calls = suc calls; words = used })) =
+            let s = subst (λ (y : Result Reply Refusal). Tells (instantiate_of limit x.γ (pattern_at pattern (column row 5)) spent) y words words' spent limit) a (i.tells x.γ x.holds) in
+            let o = refused_is (instantiate_of limit x.γ (pattern_at pattern (column row 5)) spent) refusal words words' spent limit s in
+            let w : refused (number_of refusal) ≡ concluded limit rule R.conclusion (premises_of limit call R.premises β (record { calls = suc calls; words = used })) =
             ap (concluded_by rule (joined x.branches leaf) made) (sym o)
             ∙ ap (λ (t : Term). concluded_by rule (joined x.branches leaf) made (instantiate_of limit x.γ t spent)) cl.concludes
             ∙ ap (concluded limit rule R.conclusion) (walked_all limit call _ x) in
-            subst (λ (y : Called). Answers y (Refused number) words₀ trees₀ words' trees used limit calls height) w refl);
-        forms = refused_forms pattern number words₀ words' used;
-        spends = refused_spent number calls used;
+            subst (λ (y : Called). Answers y (Err refusal) words₀ trees₀ words' trees used limit calls height) w refl);
+        forms = refused_forms pattern refusal words₀ words' used;
+        spends = refused_spent refusal calls used;
         kept = i.kept ∙ h.kept;
         restored = h.restored;
       }
 
-      module _ (value then : ℕ) (a : answer ≡ At value then) where
+      module _ (value then : ℕ) (a : answer ≡ built_at value then) where
         told : (γ : Bindings) → Holds environment words spent γ → Found (instantiate_of limit γ (pattern_at pattern (column row 5)) spent) words words' spent limit value then
         told γ b = found (instantiate_of limit γ (pattern_at pattern (column row 5)) spent) value then words words' spent limit
-            (subst (λ (y : Reply). Tells (instantiate_of limit γ (pattern_at pattern (column row 5)) spent) y words words' spent limit) a (i.tells γ b))
+            (subst (λ (y : Result Reply Refusal). Tells (instantiate_of limit γ (pattern_at pattern (column row 5)) spent) y words words' spent limit) a (i.tells γ b))
 
         abbrev header : ℕ
         header = cells words' value
@@ -517,7 +517,7 @@ module _ {symbol_rows rule_rows : Rows} {pattern : List ℕ} {rule depth height 
         written = set trees calls (tree_row height rule value)
 
         pub conclusion_built : Followed symbol_rows rule_rows pattern rule depth height calls used limit environment₀ words₀ links₀ trees₀
-            (Answer result made then) words' links written
+            (outcome result made then) words' links written
         conclusion_built = record {
           says = λ size symbols rules P n R cl β b. (
               let call : ℕ → Terms → Spent → Called = call_of limit symbols rules (128 - depth) in
@@ -532,7 +532,7 @@ module _ {symbol_rows rule_rows : Rows} {pattern : List ℕ} {rule depth height 
               ∙ ap (concluded_by rule (joined x.branches leaf) made) (sym f.comes)
               ∙ ap (λ (t : Term). concluded_by rule (joined x.branches leaf) made (instantiate_of limit x.γ t spent)) cl.concludes
               ∙ ap (concluded limit rule R.conclusion) (walked_all limit call _ x) in
-              subst (λ (y : Called). Answers y (Answer result made then) words₀ trees₀ words' written used limit calls height) w (
+              subst (λ (y : Called). Answers y (outcome result made then) words₀ trees₀ words' written used limit calls height) w (
                 result,
                 refl,
                 record {

@@ -2,26 +2,29 @@
 -- its calls have two words each.
 use Prim.Native.Nat.{ℕ, ◌+◌, ◌*◌, ◌≤◌}
 use native.Mathlib.Omega.{arith}
-use mathlib.Core.Path.{◌≡◌, subst}
+use mathlib.Core.Path.{◌≡◌, ap, subst}
 use mathlib.Core.List.{List}
 use Rattle.clause_matching.specs.Stored.{Formed}
-use Rattle.clause_matching.proofs.Forming.{FormsKept}
-use Rattle.function_calls.specs.Calls.{CallFormed, CallSpent}
-use Rattle.function_calls.specs.declared.calls.Outcome.TheVariants.{Value as Answer, Refused}
+use Rattle.clause_matching.proofs.Forming.{FormsKept, ok_is}
+use Rattle.function_calls.specs.Calls.{outcome, CallFormed, CallSpent}
+use Rattle.std.specs.Prelude.{Err}
+use Rattle.refusals.specs.declared.Refusal.{Refusal}
+use Rattle.function_calls.specs.declared.calls.Outcome.{Outcome}
 
-pub refused_forms : (pattern : List ℕ) (number : ℕ) (words words' : List ℕ) (used : ℕ)
-    → CallFormed pattern (Refused number) words words' used
-refused_forms pattern number words words' used arities d f value calls u e =
-    let w : ◌≡◌ {A = ℕ} 0 1 = cc in absurd (let z : ⊥ = omega arith in z)
+pub refused_forms : (pattern : List ℕ) (refusal : Refusal) (words words' : List ℕ) (used : ℕ)
+    → CallFormed pattern (Err refusal) words words' used
+refused_forms pattern refusal words words' used arities d f value calls u e = absurd (let z : ⊥ = cc in z)
 
 pub answer_forms : (pattern : List ℕ) (value calls spent : ℕ) (words words' : List ℕ) (used : ℕ) → FormsKept pattern words used words' spent
-    → CallFormed pattern (Answer value calls spent) words words' used
+    → CallFormed pattern (outcome value calls spent) words words' used
 answer_forms pattern value calls spent words words' used k arities d f v m u e =
-    subst (λ (n : ℕ). Formed arities words' n) (let x : spent ≡ u = cc in x) (k arities d f)
+    subst (λ (n : ℕ). Formed arities words' n) (ap (λ (o : Outcome). o.used) (ok_is e)) (k arities d f)
 
-pub refused_spent : (number calls used : ℕ) → CallSpent (Refused number) calls used
-refused_spent number calls used value made u e = let w : ◌≡◌ {A = ℕ} 0 1 = cc in absurd (let z : ⊥ = omega arith in z)
+pub refused_spent : (refusal : Refusal) (calls used : ℕ) → CallSpent (Err refusal) calls used
+refused_spent refusal calls used value made u e = absurd (let z : ⊥ = cc in z)
 
-pub answer_spent : (value made spent calls used : ℕ) → 2 * made + used ≤ 2 * calls + spent → CallSpent (Answer value made spent) calls used
+pub answer_spent : (value made spent calls used : ℕ) → 2 * made + used ≤ 2 * calls + spent → CallSpent (outcome value made spent) calls used
 answer_spent value made spent calls used l v m u e =
-    let x : made ≡ m = cc in let y : spent ≡ u = cc in let z : 2 * m + used ≤ 2 * calls + u = omega arith in z
+    let x : made ≡ m = ap (λ (o : Outcome). o.calls) (ok_is e) in
+    let y : spent ≡ u = ap (λ (o : Outcome). o.used) (ok_is e) in
+    omega arith

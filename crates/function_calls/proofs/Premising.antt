@@ -21,12 +21,14 @@ use Rattle.clause_matching.specs.Stored.{Value, PatternIn, Holds, pattern_at, va
 use Rattle.clause_matching.specs.Matching.{Says, Matched, BindAsked}
 use Rattle.clause_matching.specs.Building.{rule_words, Stands, ArgumentsAsked, StandAll, TellsAll, ArgumentsBuilt}
 use Rattle.clause_matching.specs.Choice.{values_of}
-use Rattle.function_calls.specs.Calls.{PremiseIn, Program, TreesListed, Answers, CallAsked, CallAnswered, Steps, PremiseAsked, PremiseAnswered}
-use Rattle.clause_matching.specs.declared.building.Built.{Built as Reply}
-use Rattle.clause_matching.specs.declared.building.Built.TheVariants.{At, Refused as Unbuilt}
+use Rattle.function_calls.specs.Calls.{outcome, PremiseIn, Program, TreesListed, Answers, CallAsked, CallAnswered, Steps, PremiseAsked, PremiseAnswered}
+use Rattle.std.specs.Prelude.{Result, Ok, Err}
+use Rattle.refusals.specs.declared.Refusal.{Refusal}
+use Rattle.refusals.specs.Refusals.{number_of}
 use Rattle.function_calls.specs.declared.calls.Outcome.{Outcome}
-use Rattle.function_calls.specs.declared.calls.Outcome.TheVariants.{Value as Answer, Refused}
+use Rattle.refusals.specs.declared.Refusal.TheVariants.{Inconsistent}
 use Rattle.function_calls.proofs.Forming.{refused_forms, answer_forms, refused_spent, answer_spent}
+use Rattle.clause_matching.proofs.Forming.{ok_is}
 use Rattle.clause_matching.proofs.BuildTurns.{holds_grown}
 use Rattle.clause_matching.proofs.BindTurns.{says_false, says_true}
 use Rattle.clause_matching.proofs.Choosing.{words_argument}
@@ -42,19 +44,20 @@ last_args g w p zero = let e : p ≡ p + 0 = omega arith in ap (λ (k : ℕ). g 
 last_args g w p (suc n) = let e : suc p + n ≡ p + suc n = omega arith in last_args g w (suc p) n ∙ ap (λ (k : ℕ). g (w k)) e
 
 -- What answers say.
-all_refused : (o : Built several) (number : ℕ) (values values' slots : List ℕ) (count used limit : ℕ) → TellsAll o (Unbuilt number) values values' slots count used limit → o ≡ barred number
-all_refused (barred e) number values values' slots count used limit h = ap barred (let z : number ≡ e = cc in sym z)
-all_refused (built ts u) number values values' slots count used limit h = let e = h.0 in let w : ◌≡◌ {A = ℕ} 0 1 = cc in absurd (let z : ⊥ = omega arith in z)
+all_refused : (o : Built several) (refusal : Refusal) (values values' slots : List ℕ) (count used limit : ℕ) → TellsAll o (Err refusal) values values' slots count used limit
+    → o ≡ barred (number_of refusal)
+all_refused (barred e) refusal values values' slots count used limit h = ap barred (sym h)
+all_refused (built ts u) refusal values values' slots count used limit h = let e = h.0 in absurd (let z : ⊥ = cc in z)
 
 record FoundAll (o : Built several) (values values' slots : List ℕ) (count used limit used' : ℕ) : Type 0 where
   pub terms : Terms
   pub comes : o ≡ built terms used'
   pub stand : StandAll values used limit values' slots count terms used'
 
-all_found : (o : Built several) (value used' : ℕ) (values values' slots : List ℕ) (count used limit : ℕ) → TellsAll o (At value used') values values' slots count used limit
+all_found : (o : Built several) (used' : ℕ) (values values' slots : List ℕ) (count used limit : ℕ) → TellsAll o (Ok used') values values' slots count used limit
     → FoundAll o values values' slots count used limit used'
-all_found (barred e) value used' values values' slots count used limit h = let w : ◌≡◌ {A = ℕ} 0 1 = cc in absurd (let z : ⊥ = omega arith in z)
-all_found (built ts u) value used' values values' slots count used limit (e, s) =
+all_found (barred e) used' values values' slots count used limit h = absurd h
+all_found (built ts u) used' values values' slots count used limit (e, s) =
     let a : u ≡ used' = cc in
     record { terms = ts; comes = ap (λ (x : ℕ). built ts x) a; stand = subst (λ (x : ℕ). StandAll values used limit values' slots count ts x) a s }
 
@@ -63,10 +66,10 @@ spent_of calls words = record { calls = calls; words = words }
 
 -- What a call of a function says, with the calls before it and its height.
 module _ (words : List ℕ) (trees : Rows) (words' : List ℕ) (trees' : Rows) (used limit before height : ℕ) where
-  pub call_refused : (o : Called) (number : ℕ) → Answers o (Refused number) words trees words' trees' used limit before height
-      → o ≡ refused number
-  call_refused (refused e) number h = ap refused (let z : number ≡ e = cc in sym z)
-  call_refused (returned v p c) number h = let e = h.1 in let w : ◌≡◌ {A = ℕ} 0 1 = cc in absurd (let z : ⊥ = omega arith in z)
+  pub call_refused : (o : Called) (refusal : Refusal) → Answers o (Err refusal) words trees words' trees' used limit before height
+      → o ≡ refused (number_of refusal)
+  call_refused (refused e) refusal h = ap refused (sym h)
+  call_refused (returned v p c) refusal h = let e = h.1 in absurd (let z : ⊥ = cc in z)
 
   pub record Returned (o : Called) (value calls used' : ℕ) : Type 0 where
     pub result : Term
@@ -76,12 +79,12 @@ module _ (words : List ℕ) (trees : Rows) (words' : List ℕ) (trees' : Rows) (
     pub listed : TreesListed trees before height words' trees' tree (record { calls = calls; words = used' })
 
   pub call_returned : (o : Called) (value calls used' : ℕ)
-      → Answers o (Answer value calls used') words trees words' trees' used limit before height → Returned o value calls used'
-  call_returned (refused e) value calls used' h = let w : ◌≡◌ {A = ℕ} 0 1 = cc in absurd (let z : ⊥ = omega arith in z)
+      → Answers o (outcome value calls used') words trees words' trees' used limit before height → Returned o value calls used'
+  call_returned (refused e) value calls used' h = absurd h
   call_returned (returned v p c) value calls used' (x, e, s, t) =
-      let a : c.words ≡ used' = cc in
-      let b : x ≡ value = cc in
-      let d : c.calls ≡ calls = cc in
+      let a : c.words ≡ used' = ap (λ (o : Outcome). o.used) (sym (ok_is e)) in
+      let b : x ≡ value = ap (λ (o : Outcome). o.value) (sym (ok_is e)) in
+      let d : c.calls ≡ calls = ap (λ (o : Outcome). o.calls) (sym (ok_is e)) in
       let spent : c ≡ spent_of calls used' = ap₂ spent_of d a in
       record {
         result = v;
@@ -176,12 +179,12 @@ module _ (limit : ℕ) (pattern : List ℕ) (call : ℕ → Terms → Spent → 
   abbrev now : Walked
   now = step_at limit pattern call header first count β calls used
 
-  arguments_stop : (number : ℕ) (words' environment' slots : List ℕ) (trees' : Rows)
-      → TellsAll (instantiate_of limit β (args (denote pattern_room (cells pattern)) (cells pattern) first count) used) (Unbuilt number) words words' slots count used limit
-      → Steps now (Refused number) words trees words' environment' trees' used limit calls height
-  arguments_stop number words' environment' slots trees' t =
-      let o = all_refused (instantiate_of limit β (args (denote pattern_room (cells pattern)) (cells pattern) first count) used) number words words' slots count used limit t in
-      subst (λ (x : Walked). Steps x (Refused number) words trees words' environment' trees' used limit calls height)
+  arguments_stop : (refusal : Refusal) (words' environment' slots : List ℕ) (trees' : Rows)
+      → TellsAll (instantiate_of limit β (args (denote pattern_room (cells pattern)) (cells pattern) first count) used) (Err refusal) words words' slots count used limit
+      → Steps now (Err refusal) words trees words' environment' trees' used limit calls height
+  arguments_stop refusal words' environment' slots trees' t =
+      let o = all_refused (instantiate_of limit β (args (denote pattern_room (cells pattern)) (cells pattern) first count) used) refusal words words' slots count used limit t in
+      subst (λ (x : Walked). Steps x (Err refusal) words trees words' environment' trees' used limit calls height)
       (ap (λ (b : Built several). if_arguments b (λ vs u. if_called (call (symbol_of header) vs (record { calls = calls; words = u }))
       (λ v p d. if_result (bind_of (pattern_at pattern (cells pattern (first + count))) v β) (λ γ. walked γ (p ◂ leaf) d)))) (sym o)) refl
 
@@ -198,12 +201,12 @@ module _ (limit : ℕ) (pattern : List ℕ) (call : ℕ → Terms → Spent → 
         ∙ ap (λ (vs : Terms). if_called (call (symbol_of header) vs (record { calls = calls; words = before }))
         (λ v p d. if_result (bind_of (pattern_at pattern (cells pattern (first + count))) v β) (λ γ. walked γ (p ◂ leaf) d))) (sym (values_taken words₁ slots count room ∙ f.stand.are))
 
-    call_stop : (number : ℕ) (words₂ environment' : List ℕ) (trees₂ : Rows)
-        → Answers called (Refused number) words₁ trees words₂ trees₂ before limit calls (suc height)
-        → Steps now (Refused number) words trees words₂ environment' trees₂ used limit calls height
-    call_stop number words₂ environment' trees₂ a =
-        let o = call_refused words₁ trees words₂ trees₂ before limit calls (suc height) called number a in
-        subst (λ (x : Walked). Steps x (Refused number) words trees words₂ environment' trees₂ used limit calls height)
+    call_stop : (refusal : Refusal) (words₂ environment' : List ℕ) (trees₂ : Rows)
+        → Answers called (Err refusal) words₁ trees words₂ trees₂ before limit calls (suc height)
+        → Steps now (Err refusal) words trees words₂ environment' trees₂ used limit calls height
+    call_stop refusal words₂ environment' trees₂ a =
+        let o = call_refused words₁ trees words₂ trees₂ before limit calls (suc height) called refusal a in
+        subst (λ (x : Walked). Steps x (Err refusal) words trees words₂ environment' trees₂ used limit calls height)
         (ap (λ (b : Called). if_called b (λ v p d. if_result (bind_of (pattern_at pattern (cells pattern (first + count))) v β) (λ γ. walked γ (p ◂ leaf) d))) (sym o) ∙ sym now_called) refl
 
     -- The call is made.
@@ -216,18 +219,18 @@ module _ (limit : ℕ) (pattern : List ℕ) (call : ℕ → Terms → Spent → 
           ∙ ap (λ (v : Term). if_result (bind_of (pattern_at pattern (cells pattern (first + count))) v β) (λ γ. walked γ (r.tree ◂ leaf) (record { calls = made; words = after }))) (sym r.stands.is)
 
       result_stop : (environment' : List ℕ) → Says (bind_of (pattern_at pattern (cells pattern (first + count))) (value_at words₂ value) β) false environment' words₂ after
-          → Steps now (Refused 35) words trees words₂ environment' trees₂ used limit calls height
+          → Steps now (Err Inconsistent) words trees words₂ environment' trees₂ used limit calls height
       result_stop environment' s =
           let o = says_false (bind_of (pattern_at pattern (cells pattern (first + count))) (value_at words₂ value) β) environment' words₂ after s in
-          subst (λ (x : Walked). Steps x (Refused 35) words trees words₂ environment' trees₂ used limit calls height)
+          subst (λ (x : Walked). Steps x (Err Inconsistent) words trees words₂ environment' trees₂ used limit calls height)
           (ap (λ (b : Fitted). if_result b (λ γ. walked γ (r.tree ◂ leaf) (record { calls = made; words = after }))) (sym o) ∙ sym now_result) refl
 
       result_fits : (environment' : List ℕ) → Says (bind_of (pattern_at pattern (cells pattern (first + count))) (value_at words₂ value) β) true environment' words₂ after
-          → Steps now (Answer value made after) words trees words₂ environment' trees₂ used limit calls height
+          → Steps now (outcome value made after) words trees words₂ environment' trees₂ used limit calls height
       result_fits environment' s =
           let (γ, o, w) = says_true (bind_of (pattern_at pattern (cells pattern (first + count))) (value_at words₂ value) β) environment' words₂ after s in
           let g = f.stand.grows in let g' = r.stands.grows in
-          subst (λ (x : Walked). Steps x (Answer value made after) words trees words₂ environment' trees₂ used limit calls height)
+          subst (λ (x : Walked). Steps x (outcome value made after) words trees words₂ environment' trees₂ used limit calls height)
           (ap (λ (b : Fitted). if_result b (λ γ. walked γ (r.tree ◂ leaf) (record { calls = made; words = after }))) (sym o) ∙ sym now_result)
           (record {
             value = value;
@@ -295,31 +298,31 @@ module _ {symbol_rows rule_rows : Rows} {pattern : List ℕ} {header first depth
       (rw hd p.known, omega arith)
 
   -- The arguments were tried.
-  module _ {answer : Reply} {words₁ slots : List ℕ} (a : ArgumentsBuilt pattern first count environment words used limit answer words₁ slots) where
-    pub arguments_refused : (number : ℕ) → answer ≡ Unbuilt number
+  module _ {answer : Result ℕ Refusal} {words₁ slots : List ℕ} (a : ArgumentsBuilt pattern first count environment words used limit answer words₁ slots) where
+    pub arguments_refused : (refusal : Refusal) → answer ≡ Err refusal
         → PremiseAnswered symbol_rows rule_rows pattern header first depth height calls used limit environment words links trees
-        (Refused number) environment words₁ links trees
-    arguments_refused number q = record {
+        (Err refusal) environment words₁ links trees
+    arguments_refused refusal q = record {
       says = λ size symbols rules P reference p hd ft β b.
-          subst (λ (x : Walked). Steps x (Refused number) words trees words₁ environment trees used limit calls height)
+          subst (λ (x : Walked). Steps x (Err refusal) words trees words₁ environment trees used limit calls height)
           (sym (step_at_lem p limit (call_of limit symbols rules (128 - depth)) header first count β calls used hd ft refl))
           (arguments_stop limit pattern (call_of limit symbols rules (128 - depth)) header first count β calls used environment words
-          trees height number words₁ environment slots trees
-          (subst (λ (x : Reply). TellsAll (instantiate_of limit β (args (denote pattern_room (cells pattern)) (cells pattern) first count) used) x words words₁ slots count used limit) q (a.tells β b)));
-      forms = refused_forms pattern number words words₁ used;
-      spends = refused_spent number calls used;
+          trees height refusal words₁ environment slots trees
+          (subst (λ (x : Result ℕ Refusal). TellsAll (instantiate_of limit β (args (denote pattern_room (cells pattern)) (cells pattern) first count) used) x words words₁ slots count used limit) q (a.tells β b)));
+      forms = refused_forms pattern refusal words words₁ used;
+      spends = refused_spent refusal calls used;
       kept = a.kept;
       keeps = refl;
       restored = refl;
     }
 
     -- They are built.
-    module _ (none before : ℕ) (q : answer ≡ At none before) (n : length slots ≡ 16) where
+    module _ (before : ℕ) (q : answer ≡ Ok before) (n : length slots ≡ 16) where
       found_arguments : (β : Bindings) → Holds environment words used β
           → FoundAll (instantiate_of limit β (args (denote pattern_room (cells pattern)) (cells pattern) first count) used) words words₁ slots count used limit before
       found_arguments β b =
-          all_found (instantiate_of limit β (args (denote pattern_room (cells pattern)) (cells pattern) first count) used) none before words words₁ slots count used limit
-          (subst (λ (x : Reply). TellsAll (instantiate_of limit β (args (denote pattern_room (cells pattern)) (cells pattern) first count) used) x words words₁ slots count used limit) q (a.tells β b))
+          all_found (instantiate_of limit β (args (denote pattern_room (cells pattern)) (cells pattern) first count) used) before words words₁ slots count used limit
+          (subst (λ (x : Result ℕ Refusal). TellsAll (instantiate_of limit β (args (denote pattern_room (cells pattern)) (cells pattern) first count) used) x words words₁ slots count used limit) q (a.tells β b))
 
       abbrev room : count ≤ length slots
       room = let s = sizes in let x = s.few in omega arith
@@ -361,7 +364,7 @@ module _ {symbol_rows rule_rows : Rows} {pattern : List ℕ} {header first depth
           }
 
       -- The call was made.
-      module _ {answer₂ : Outcome} {words₂ links₂ : List ℕ} {trees₂ : Rows}
+      module _ {answer₂ : Result Outcome Refusal} {words₂ links₂ : List ℕ} {trees₂ : Rows}
           (c : CallAnswered symbol_rows rule_rows pattern (symbol_of header) (take count slots) (depth + 1) (height + 1) calls before limit
           words₁ links trees answer₂ words₂ links₂ trees₂) where
         abbrev call_of_lem : List Symbol → List Rule → Called
@@ -380,31 +383,31 @@ module _ {symbol_rows rule_rows : Rows} {pattern : List ℕ} {header first depth
             (record { calls = calls; words = before })) answer₂ words₁ trees words₂ trees₂ before limit calls (height + 1)) e
             (c.says size symbols rules P x y))
 
-        pub call_failed : (number : ℕ) → answer₂ ≡ Refused number
+        pub call_failed : (refusal : Refusal) → answer₂ ≡ Err refusal
             → PremiseAnswered symbol_rows rule_rows pattern header first depth height calls used limit environment words links trees
-            (Refused number) environment words₂ links₂ trees₂
-        call_failed number q₂ = record {
+            (Err refusal) environment words₂ links₂ trees₂
+        call_failed refusal q₂ = record {
           says = λ size symbols rules P reference p hd ft β b.
-              subst (λ (x : Walked). Steps x (Refused number) words trees words₂ environment trees₂ used limit calls height)
+              subst (λ (x : Walked). Steps x (Err refusal) words trees words₂ environment trees₂ used limit calls height)
               (sym (step_at_lem p limit (call_of limit symbols rules (128 - depth)) header first count β calls used hd ft refl))
               (call_stop limit pattern (call_of limit symbols rules (128 - depth)) header first count β calls used environment words
-              trees height words₁ slots before room (found_arguments β b) number words₂ environment trees₂
-              (subst (λ (x : Outcome). Answers (call_of_lem symbols rules) x words₁ trees words₂ trees₂ before limit calls (suc height)) q₂
+              trees height words₁ slots before room (found_arguments β b) refusal words₂ environment trees₂
+              (subst (λ (x : Result Outcome Refusal). Answers (call_of_lem symbols rules) x words₁ trees words₂ trees₂ before limit calls (suc height)) q₂
               (said size symbols rules P reference p hd)));
-          forms = refused_forms pattern number words words₂ used;
-          spends = refused_spent number calls used;
+          forms = refused_forms pattern refusal words words₂ used;
+          spends = refused_spent refusal calls used;
           kept = c.kept ∙ a.kept;
           keeps = refl;
           restored = c.restored;
         }
 
-        module _ (value made after : ℕ) (q₂ : answer₂ ≡ Answer value made after) where
+        module _ (value made after : ℕ) (q₂ : answer₂ ≡ outcome value made after) where
           found_call : (size : ℕ) (symbols : List Symbol) (rules : List Rule) → Program symbol_rows rule_rows pattern size symbols rules → (reference : ℕ)
               → PremiseIn symbols pattern size reference → header ≡ cells pattern (reference - pattern_room)
               → Returned words₁ trees words₂ trees₂ before limit calls (suc height) (call_of_lem symbols rules) value made after
           found_call size symbols rules P reference p hd =
               call_returned words₁ trees words₂ trees₂ before limit calls (suc height) (call_of_lem symbols rules) value made after
-              (subst (λ (x : Outcome). Answers (call_of_lem symbols rules) x words₁ trees words₂ trees₂ before limit calls (suc height)) q₂
+              (subst (λ (x : Result Outcome Refusal). Answers (call_of_lem symbols rules) x words₁ trees words₂ trees₂ before limit calls (suc height)) q₂
               (said size symbols rules P reference p hd))
 
           abbrev returns : Returned words₁ trees words₂ trees₂ before limit calls (suc height)
@@ -449,16 +452,16 @@ module _ {symbol_rows rule_rows : Rows} {pattern : List ℕ} {header first depth
               (b : Matched (pattern_at pattern (cells pattern (first + count))) words₂ after value environment links₂ fits environment' links') where
             pub result_failed : fits ≡ false
                 → PremiseAnswered symbol_rows rule_rows pattern header first depth height calls used limit environment words links trees
-                (Refused 35) environment' words₂ links' trees₂
+                (Err Inconsistent) environment' words₂ links' trees₂
             result_failed e = record {
               says = λ size symbols rules P reference p hd ft β k.
-                  subst (λ (x : Walked). Steps x (Refused 35) words trees words₂ environment' trees₂ used limit calls height)
+                  subst (λ (x : Walked). Steps x (Err Inconsistent) words trees words₂ environment' trees₂ used limit calls height)
                   (sym (step_at_lem p limit (call_of limit symbols rules (128 - depth)) header first count β calls used hd ft refl))
                   (result_stop limit pattern (call_of limit symbols rules (128 - depth)) header first count β calls used environment words
                   trees height words₁ slots before room (found_arguments β k) words₂ trees₂ value made after
                   (found_call size symbols rules P reference p hd) environment' (rw e at (b.says β (grown β k))));
-              forms = refused_forms pattern 35 words words₂ used;
-              spends = refused_spent 35 calls used;
+              forms = refused_forms pattern Inconsistent words words₂ used;
+              spends = refused_spent Inconsistent calls used;
               kept = c.kept ∙ a.kept;
               keeps = b.kept;
               restored = b.restored ∙ c.restored;
@@ -466,16 +469,16 @@ module _ {symbol_rows rule_rows : Rows} {pattern : List ℕ} {header first depth
 
             pub result_fitted : fits ≡ true
                 → PremiseAnswered symbol_rows rule_rows pattern header first depth height calls used limit environment words links trees
-                (Answer value made after) environment' words₂ links' trees₂
+                (outcome value made after) environment' words₂ links' trees₂
             result_fitted e = record {
               says = λ size symbols rules P reference p hd ft β k.
-                  subst (λ (x : Walked). Steps x (Answer value made after) words trees words₂ environment' trees₂ used limit calls height)
+                  subst (λ (x : Walked). Steps x (outcome value made after) words trees words₂ environment' trees₂ used limit calls height)
                   (sym (step_at_lem p limit (call_of limit symbols rules (128 - depth)) header first count β calls used hd ft refl))
                   (result_fits limit pattern (call_of limit symbols rules (128 - depth)) header first count β calls used environment words
                   trees height words₁ slots before room (found_arguments β k) words₂ trees₂ value made after
                   (found_call size symbols rules P reference p hd) environment' (rw e at (b.says β (grown β k))));
               forms = answer_forms pattern value made after words words₂ used
-                  (λ arities d f. c.forms arities d (a.forms arities d f none before q) value made after q₂);
+                  (λ arities d f. c.forms arities d (a.forms arities d f before q) value made after q₂);
               spends = answer_spent value made after calls used
                   (let d = c.spends value made after q₂ in let g = stand.stand.grows in omega arith);
               kept = c.kept ∙ a.kept;

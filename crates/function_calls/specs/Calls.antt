@@ -1,5 +1,5 @@
 -- What calls in storage ask and answer (document 01, "Evaluated terms"; `call_of` of `evaluation`).
-use Rattle.std.specs.Prelude.{ℕ, suc, ◌+◌, ◌-◌, ◌*◌, ◌/◌, ◌≤◌, ◌<◌, min, ◌≡◌, List, length}
+use Rattle.std.specs.Prelude.{ℕ, suc, ◌+◌, ◌-◌, ◌*◌, ◌/◌, ◌≤◌, ◌<◌, min, ◌≡◌, List, length, Result, Ok}
 use Rattle.std.proofs.Math.Option.{some}
 use Rattle.terms.specs.Term.{Kind, nil, cons}
 use Rattle.terms.specs.Term.Kind.{many as several}
@@ -12,10 +12,14 @@ use Rattle.tree_rows.specs.Trees.{Lists}
 use Rattle.evaluation.specs.Calls.{Spent, Called, refused, returned, Walked, stopped, walked, max_calls, premises_of, concluded, call_of}
 use Rattle.evaluation.specs.Expressions.{max_depth}
 use Rattle.clause_matching.specs.Stored.{Value, Values, PatternIn, Holds, Links, Headed, Formed, pattern_at}
-use Rattle.clause_matching.specs.Building.{rule_words, Stands}
+use Rattle.clause_matching.specs.Building.{Refuses, rule_words, Stands}
 use Rattle.clause_matching.specs.Choice.{ConclusionIn, values_of}
+use Rattle.refusals.specs.declared.Refusal.{Refusal}
 use Rattle.function_calls.specs.declared.calls.Outcome.{Outcome}
-use Rattle.function_calls.specs.declared.calls.Outcome.TheVariants.{Value as Answer, Refused}
+
+-- A value, with the calls made and the words used then.
+abbrev pub outcome : ℕ → ℕ → ℕ → Result Outcome Refusal
+outcome value calls used = Ok (record { value = value; calls = calls; used = used })
 
 -- A premise in storage: a node of a function, with all its inputs.
 pub record PremiseIn (symbols : List Symbol) (pattern : List ℕ) (size reference : ℕ) : Type 0 where
@@ -68,19 +72,19 @@ pub record TreesListed {s : Kind} (trees : Rows) (calls height : ℕ) (words' : 
   pub before : (j : ℕ) → j < calls → row_at trees' j ≡ row_at trees j
 
 -- An answer says what a call comes to: the value among the words, and a row for each call that was made.
-abbrev pub Answers : Called → Outcome → List ℕ → Rows → List ℕ → Rows → ℕ → ℕ → ℕ → ℕ → Type 0
-Answers (refused e) r words trees words' trees' used limit calls height = r ≡ Refused e
+abbrev pub Answers : Called → Result Outcome Refusal → List ℕ → Rows → List ℕ → Rows → ℕ → ℕ → ℕ → ℕ → Type 0
+Answers (refused e) r words trees words' trees' used limit calls height = Refuses r e
 Answers (returned v p c) r words trees words' trees' used limit calls height =
-    (value : ℕ) × (r ≡ Answer value c.calls c.words) × Stands words used limit words' v value c.words × TreesListed trees calls height words' trees' p c
+    (value : ℕ) × (r ≡ outcome value c.calls c.words) × Stands words used limit words' v value c.words × TreesListed trees calls height words' trees' p c
 
 -- Words in form over a pattern's symbols stay so, where a call returns.
-abbrev pub CallFormed : List ℕ → Outcome → List ℕ → List ℕ → ℕ → Type 0
+abbrev pub CallFormed : List ℕ → Result Outcome Refusal → List ℕ → List ℕ → ℕ → Type 0
 CallFormed pattern r words words' used =
-    (arities : List ℕ) → Headed arities pattern → Formed arities words used → (value calls u : ℕ) → r ≡ Answer value calls u → Formed arities words' u
+    (arities : List ℕ) → Headed arities pattern → Formed arities words used → (value calls u : ℕ) → r ≡ outcome value calls u → Formed arities words' u
 
 -- Where a call returns, each call that was made in it has taken two words at least.
-abbrev pub CallSpent : Outcome → ℕ → ℕ → Type 0
-CallSpent r calls used = (value calls' used' : ℕ) → r ≡ Answer value calls' used' → 2 * calls' + used ≤ 2 * calls + used'
+abbrev pub CallSpent : Result Outcome Refusal → ℕ → ℕ → Type 0
+CallSpent r calls used = (value calls' used' : ℕ) → r ≡ outcome value calls' used' → 2 * calls' + used ≤ 2 * calls + used'
 
 pub record CallAsked (symbol_rows rule_rows : Rows) (pattern : List ℕ) (symbol : ℕ) (values : List ℕ) (depth height calls used limit : ℕ)
     (words links : List ℕ) (trees stack : Rows) : Type 0 where
@@ -98,7 +102,7 @@ pub record CallAsked (symbol_rows rule_rows : Rows) (pattern : List ℕ) (symbol
   pub spent : 2 * suc calls ≤ used + 2 * depth
 
 pub record CallAnswered (symbol_rows rule_rows : Rows) (pattern : List ℕ) (symbol : ℕ) (values : List ℕ) (depth height calls used limit : ℕ)
-    (words links : List ℕ) (trees : Rows) (r : Outcome) (words' links' : List ℕ) (trees' : Rows) : Type 0 where
+    (words links : List ℕ) (trees : Rows) (r : Result Outcome Refusal) (words' links' : List ℕ) (trees' : Rows) : Type 0 where
   pub says : (size : ℕ) (symbols : List Symbol) (rules : List Rule) → Program symbol_rows rule_rows pattern size symbols rules → symbol < length symbols
       → suc (length values) ≡ length (symbol_at symbols symbol).inputs
       → Answers (call_of limit symbols rules (129 - depth) symbol (values_of words values) (record { calls = calls; words = used }))
@@ -128,7 +132,7 @@ pub record FollowAsked (symbol_rows rule_rows : Rows) (pattern : List ℕ) (rule
   pub spent : 2 * suc calls ≤ used + 2 * depth
 
 pub record Followed (symbol_rows rule_rows : Rows) (pattern : List ℕ) (rule depth height calls used limit : ℕ) (environment words links : List ℕ) (trees : Rows)
-    (r : Outcome) (words' links' : List ℕ) (trees' : Rows) : Type 0 where
+    (r : Result Outcome Refusal) (words' links' : List ℕ) (trees' : Rows) : Type 0 where
   pub says : (size : ℕ) (symbols : List Symbol) (rules : List Rule) → Program symbol_rows rule_rows pattern size symbols rules
       → (n : ℕ) (R : Rule) → ClauseIn symbols pattern size (row_at rule_rows rule) n R → (β : Bindings) → Holds environment words used β
       → Answers (concluded limit rule R.conclusion
@@ -141,9 +145,9 @@ pub record Followed (symbol_rows rule_rows : Rows) (pattern : List ℕ) (rule de
 
 -- An answer says what a premise comes to: its call's rows stand one level below.
 pub record Stepped (words : List ℕ) (trees : Rows) (used limit calls height : ℕ) (words' environment' : List ℕ) (trees' : Rows) (γ : Bindings) (ps : Tree several)
-    (c : Spent) (r : Outcome) : Type 0 where
+    (c : Spent) (r : Result Outcome Refusal) : Type 0 where
   pub value : ℕ
-  pub is : r ≡ Answer value c.calls c.words
+  pub is : r ≡ outcome value c.calls c.words
   pub stored : Values words' c.words
   pub holds : Holds environment' words' c.words γ
   pub same : Same 0 (cells words) (cells words') used
@@ -151,8 +155,8 @@ pub record Stepped (words : List ℕ) (trees : Rows) (used limit calls height : 
   pub within : c.words ≤ limit
   pub listed : TreesListed trees calls (suc height) words' trees' ps c
 
-abbrev pub Steps : Walked → Outcome → List ℕ → Rows → List ℕ → List ℕ → Rows → ℕ → ℕ → ℕ → ℕ → Type 0
-Steps (stopped e) r words trees words' environment' trees' used limit calls height = r ≡ Refused e
+abbrev pub Steps : Walked → Result Outcome Refusal → List ℕ → Rows → List ℕ → List ℕ → Rows → ℕ → ℕ → ℕ → ℕ → Type 0
+Steps (stopped e) r words trees words' environment' trees' used limit calls height = Refuses r e
 Steps (walked γ ps c) r words trees words' environment' trees' used limit calls height =
     Stepped words trees used limit calls height words' environment' trees' γ ps c r
 
@@ -175,7 +179,7 @@ pub record PremiseAsked (symbol_rows rule_rows : Rows) (pattern : List ℕ) (hea
   pub spent : 2 * calls ≤ used + 2 * depth
 
 pub record PremiseAnswered (symbol_rows rule_rows : Rows) (pattern : List ℕ) (header first depth height calls used limit : ℕ) (environment words links : List ℕ)
-    (trees : Rows) (r : Outcome) (environment' words' links' : List ℕ) (trees' : Rows) : Type 0 where
+    (trees : Rows) (r : Result Outcome Refusal) (environment' words' links' : List ℕ) (trees' : Rows) : Type 0 where
   pub says : (size : ℕ) (symbols : List Symbol) (rules : List Rule) → Program symbol_rows rule_rows pattern size symbols rules
       → (reference : ℕ) → PremiseIn symbols pattern size reference → header ≡ cells pattern (reference - pattern_room) → first ≡ suc (reference - pattern_room)
       → (β : Bindings) → Holds environment words used β

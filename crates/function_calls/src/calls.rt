@@ -2,21 +2,26 @@
 ghost use Rattle.function_calls.specs.Calls.{CallAsked, CallAnswered, FollowAsked, Followed, PremiseAsked, PremiseAnswered};
 
 use arena::{HEADERS, SYMBOL_STEP};
-use clause_matching::{
-    Built, Clause, INCONSISTENT, MAX_CALLS, MAX_DEPTH, NO_CLAUSE, NOT_LISTED, Pattern, TOO_DEEP,
-    TOO_MANY_CALLS, bind, find_clause, instantiate, instantiate_arguments, pattern_at,
-};
+use clause_matching::{Pattern, bind, find_clause, instantiate, instantiate_arguments, pattern_at};
 use names::SymbolRow;
+use refusals::Refusal;
 use rules::RuleRow;
+
+// The deepest expression or call.
+pub const MAX_DEPTH: u32 = 128;
+
+// The most calls of one evaluation.
+pub const MAX_CALLS: u32 = 10000;
 
 // A node of a tree: height, kind (0: a rule), rule, reference of the goal; the others are zero.
 pub type TreeRow = [u32; 8];
 
-// What came of a call: its value, with the calls made and the words used then.
+// The outcome of a call: its value, with the calls made and the words used then.
 #[derive(Clone, Copy)]
-pub enum Outcome {
-    Value { value: u32, calls: u32, used: u32 },
-    Refused { number: u32 },
+pub struct Outcome {
+    pub value: u32,
+    pub calls: u32,
+    pub used: u32,
 }
 
 // One premise of a clause, a node by its header and the address of its first argument: its call, whose value has to fit its last argument.
@@ -37,7 +42,7 @@ fn premise(
     links: &mut [u32],
     trees: &mut [TreeRow],
     stack: &mut [[u32; 3]],
-) -> Outcome
+) -> Result<Outcome, Refusal>
     requires { PremiseAsked symbols.now rules.now pattern.now header first depth height calls used limit
         environment.old words.old links.old trees.old stack.old }
     ensures { PremiseAnswered symbols.now rules.now pattern.now header first depth height calls used limit
@@ -46,7 +51,7 @@ fn premise(
 {
     let count = (header % SYMBOL_STEP - 1) as usize;
     let mut values = [0u32; 16];
-    match instantiate_arguments(
+    let before = instantiate_arguments(
         pattern,
         first,
         count,
@@ -56,59 +61,38 @@ fn premise(
         limit,
         stack,
         &mut values,
+    )?;
+    let symbol = ((header - HEADERS) / SYMBOL_STEP) as usize;
+    let outcome = call(
+        symbols,
+        rules,
+        pattern,
+        symbol,
+        &values[..count],
+        depth + 1,
+        height + 1,
+        calls,
+        before,
+        limit,
+        words,
+        links,
+        trees,
+        stack,
+    )?;
+    let last = pattern[first as usize + count];
+    if !bind(
+        pattern,
+        last,
+        words,
+        outcome.used,
+        outcome.value,
+        environment,
+        links,
+        stack,
     ) {
-        Built::Refused { number } => Outcome::Refused { number: number },
-        Built::At {
-            value: _,
-            used: before,
-        } => {
-            let symbol = ((header - HEADERS) / SYMBOL_STEP) as usize;
-            match call(
-                symbols,
-                rules,
-                pattern,
-                symbol,
-                &values[..count],
-                depth + 1,
-                height + 1,
-                calls,
-                before,
-                limit,
-                words,
-                links,
-                trees,
-                stack,
-            ) {
-                Outcome::Refused { number } => Outcome::Refused { number: number },
-                Outcome::Value {
-                    value,
-                    calls: made,
-                    used: after,
-                } => {
-                    let last = pattern[first as usize + count];
-                    if bind(
-                        pattern,
-                        last,
-                        words,
-                        after,
-                        value,
-                        environment,
-                        links,
-                        stack,
-                    ) {
-                        return Outcome::Value {
-                            value: value,
-                            calls: made,
-                            used: after,
-                        };
-                    }
-                    Outcome::Refused {
-                        number: INCONSISTENT,
-                    }
-                }
-            }
-        }
+        return Err(Refusal::Inconsistent);
     }
+    Ok(outcome)
 }
 
 // The clause that was taken: its premises in order, and then its conclusion, whose last argument is the value.
@@ -128,7 +112,7 @@ fn follow(
     links: &mut [u32],
     trees: &mut [TreeRow],
     stack: &mut [[u32; 3]],
-) -> Outcome
+) -> Result<Outcome, Refusal>
     requires { FollowAsked symbols.now rules.now pattern.now rule depth height calls used limit
         environment.old words.old links.old trees.old stack.old }
     ensures { Followed symbols.now rules.now pattern.now rule depth height calls used limit
@@ -137,13 +121,11 @@ fn follow(
 {
     let mut made = calls + 1;
     let mut spent = used;
-    let mut j = 0;
-    let premises = rules[rule][4] as usize;
-    while j < premises {
+    for j in 0..rules[rule][4] as usize {
         let Pattern::Node { header, first } = pattern_at(pattern, rules[rule][10 + j]) else {
-            return Outcome::Refused { number: NOT_LISTED };
+            return Err(Refusal::Storage);
         };
-        match premise(
+        let outcome = premise(
             symbols,
             rules,
             pattern,
@@ -159,20 +141,11 @@ fn follow(
             links,
             trees,
             stack,
-        ) {
-            Outcome::Refused { number } => return Outcome::Refused { number: number },
-            Outcome::Value {
-                value: _,
-                calls: after,
-                used: then,
-            } => {
-                made = after;
-                spent = then;
-                j += 1;
-            }
-        }
+        )?;
+        made = outcome.calls;
+        spent = outcome.used;
     }
-    match instantiate(
+    let built = instantiate(
         pattern,
         rules[rule][5],
         environment,
@@ -180,18 +153,14 @@ fn follow(
         spent,
         limit,
         stack,
-    ) {
-        Built::Refused { number } => Outcome::Refused { number: number },
-        Built::At { value, used: then } => {
-            trees[calls as usize] = [height, 0, rule as u32, value, 0, 0, 0, 0];
-            let header = words[value as usize];
-            Outcome::Value {
-                value: words[(value + header % SYMBOL_STEP) as usize],
-                calls: made,
-                used: then,
-            }
-        }
-    }
+    )?;
+    trees[calls as usize] = [height, 0, rule as u32, built.value, 0, 0, 0, 0];
+    let header = words[built.value as usize];
+    Ok(Outcome {
+        value: words[(built.value + header % SYMBOL_STEP) as usize],
+        calls: made,
+        used: built.used,
+    })
 }
 
 // A call of the function `symbol` on values.
@@ -211,24 +180,22 @@ pub fn call(
     links: &mut [u32],
     trees: &mut [TreeRow],
     stack: &mut [[u32; 3]],
-) -> Outcome
+) -> Result<Outcome, Refusal>
     requires { CallAsked symbols.now rules.now pattern.now symbol values.now depth height calls used limit
         words.old links.old trees.old stack.old }
     ensures { CallAnswered symbols.now rules.now pattern.now symbol values.now depth height calls used limit
         words.old links.old trees.old result words.new links.new trees.new }
 {
     if MAX_DEPTH < depth {
-        return Outcome::Refused { number: TOO_DEEP };
+        return Err(Refusal::TooDeep);
     }
     if MAX_CALLS <= calls {
-        return Outcome::Refused {
-            number: TOO_MANY_CALLS,
-        };
+        return Err(Refusal::TooManyCalls);
     }
     let from = symbols[symbol][4] as usize;
     let end = from + symbols[symbol][5] as usize;
     let mut environment = [0u32; 64];
-    let Clause::At { rule } = find_clause(
+    let Some(rule) = find_clause(
         rules,
         pattern,
         from,
@@ -240,7 +207,7 @@ pub fn call(
         links,
         stack,
     ) else {
-        return Outcome::Refused { number: NO_CLAUSE };
+        return Err(Refusal::NoClause);
     };
     follow(
         symbols,

@@ -5,8 +5,5 @@
 
 mod calls; // calls of functions
 
-pub use calls::{Outcome, TreeRow, call};
-pub use clause_matching::{
-    Built, MAX_CALLS, MAX_DEPTH, NO_EXPRESSION, NO_WORDS, NOT_GROUND, NOT_LISTED, TOO_DEEP,
-    WRONG_SORT,
-};
+pub use calls::{MAX_CALLS, MAX_DEPTH, Outcome, TreeRow, call};
+pub use clause_matching::Built;

@@ -4,14 +4,13 @@ use Rattle.std.proofs.lemmas.List.Edits.{sets}
 use Rattle.words.specs.Names.{name_kind, metavariable_kind, numeral_kind}
 use Rattle.words.specs.Tokens.{Reading}
 use Rattle.words.specs.Tokens.Reading.{tokens, refused}
-use Rattle.words.specs.Refusals.{number_of}
+use Rattle.refusals.specs.Refusals.{number_of}
 use Rattle.source_text.specs.Parts.{part_of}
 use Rattle.words.specs.Lexer.{capped_of, lex_of, lex_rows}
 use Rattle.words.specs.declared.Limits.{Limits}
-use Rattle.words.specs.declared.Refusal.TheVariants.{Storage}
+use Rattle.refusals.specs.declared.Refusal.TheVariants.{Storage}
 use Rattle.byte_output.specs.Output.{numeral}
-use Rattle.listing.specs.declared.Listed.{Listed}
-use Rattle.listing.specs.declared.Listed.TheVariants.{Bytes, TooShort}
+use Rattle.std.specs.Prelude.{Option, Some, None}
 
 -- A token's kind between spaces: ` keyword `, ` name `, ` metavariable `, ` numeral `, ` sign `.
 abbrev pub keyword_word : List ℕ
@@ -82,8 +81,8 @@ abbrev pub is_short : Limits → List ℕ → Bool
 is_short limits out = ltb (length out) (listing_size limits)
 
 -- The answer: how many bytes the listing has; a buffer that is too short is refused.
-abbrev pub listed_answer : List ℕ → Limits → List (List ℕ) → List ℕ → Listed
-listed_answer text limits rows out = cond (is_short limits out) TooShort (Bytes (length (listing_of text limits (length rows))))
+abbrev pub listed_answer : List ℕ → Limits → List (List ℕ) → List ℕ → Option ℕ
+listed_answer text limits rows out = cond (is_short limits out) None (Some (length (listing_of text limits (length rows))))
 
 -- The buffer then: it starts with the listing, and the rest is as it was.
 abbrev pub listed_buffer : List ℕ → Limits → List (List ℕ) → List ℕ → List ℕ
@@ -94,7 +93,7 @@ abbrev pub listed_rows : List ℕ → Limits → List (List ℕ) → List ℕ �
 listed_rows text limits rows out = cond (is_short limits out) rows (lex_rows text limits rows)
 
 -- The promise of `write_listing`.
-pub record ListingWritten (text : List ℕ) (limits : Limits) (rows rows' : List (List ℕ)) (out out' : List ℕ) (r : Listed) : Type 0 where
+pub record ListingWritten (text : List ℕ) (limits : Limits) (rows rows' : List (List ℕ)) (out out' : List ℕ) (r : Option ℕ) : Type 0 where
   pub answer : r ≡ listed_answer text limits rows out
   pub buffer : out' ≡ listed_buffer text limits rows out
   pub tokens : rows' ≡ listed_rows text limits rows out

@@ -10,16 +10,14 @@ use Rattle.terms.specs.Numbers.{by_bool}
 use Rattle.words.specs.Names.{name_kind, metavariable_kind, numeral_kind}
 use Rattle.words.specs.Tokens.{Reading}
 use Rattle.words.specs.Tokens.Reading.{tokens, refused}
-use Rattle.words.specs.Refusals.{number_of}
+use Rattle.refusals.specs.Refusals.{number_of}
 use Rattle.source_text.specs.Parts.{part_of}
 use Rattle.words.specs.Lexer.{capped_of, zero_row, lex_of, answer_of, rows_of, count_of, lex_answer, lex_rows}
 use Rattle.words.specs.declared.Limits.{Limits}
-use Rattle.words.specs.declared.Lexed.{Lexed}
-use Rattle.words.specs.declared.Lexed.TheVariants.{Tokens, Refused}
-use Rattle.words.specs.declared.Refusal.{Refusal}
+use Rattle.std.specs.Prelude.{Some, None, Result, Ok, Err}
+use Rattle.refusals.specs.declared.Rejection.{Rejection}
 use Rattle.byte_output.specs.Output.{numeral, Written}
 use Rattle.listing.specs.Listing.{keyword_word, sign_word, kind_word, line_word, line_end, token_line, token_lines, refused_line, reading_lines, listing_of, listing_size, ListingWritten}
-use Rattle.listing.specs.declared.Listed.TheVariants.{Bytes, TooShort}
 
 -- The words of kinds.
 pub kind_keyword : (kind : ℕ) → kind < name_kind → kind_word kind ≡ keyword_word
@@ -85,9 +83,9 @@ module _ (text : List ℕ) where
       omega arith
 
 -- The lines of an answer of `lex` with the rows that it left.
-abbrev answer_lines : List ℕ → Lexed → List (List ℕ) → List ℕ
-answer_lines text (Tokens n) rows = token_lines text (take n rows)
-answer_lines text (Refused r line) rows = refused_line (number_of r) line
+abbrev answer_lines : List ℕ → Result ℕ Rejection → List (List ℕ) → List ℕ
+answer_lines text (Ok n) rows = token_lines text (take n rows)
+answer_lines text (Err e) rows = refused_line (number_of e.refusal) e.line
 
 module _ (text : List ℕ) (limits : Limits) (rows : List (List ℕ)) where
   reading_lines_lem : (m : ℕ) (r : Reading) → answer_lines text (answer_of r) (rows_of m r) ≡ reading_lines text r
@@ -110,18 +108,18 @@ module _ (text : List ℕ) (limits : Limits) (rows : List (List ℕ)) where
 
   module _ {rows' : List (List ℕ)} (left : rows' ≡ lex_rows text limits rows) where
     -- The tokens that `lex` counts are the listed ones.
-    pub tokens_listed : {n : ℕ} → Tokens n ≡ lex_answer text limits rows → token_lines text (take n rows') ≡ listing_of text limits (length rows)
-    tokens_listed e = ap (λ (a : Lexed). answer_lines text a rows') e ∙ ap (answer_lines text (lex_answer text limits rows)) left ∙ answer_lines_lem
+    pub tokens_listed : {n : ℕ} → Ok n ≡ lex_answer text limits rows → token_lines text (take n rows') ≡ listing_of text limits (length rows)
+    tokens_listed e = ap (λ (a : Result ℕ Rejection). answer_lines text a rows') e ∙ ap (answer_lines text (lex_answer text limits rows)) left ∙ answer_lines_lem
 
-    pub tokens_counted : {n : ℕ} → Tokens n ≡ lex_answer text limits rows → n ≤ length rows'
+    pub tokens_counted : {n : ℕ} → Ok n ≡ lex_answer text limits rows → n ≤ length rows'
     tokens_counted e = let a = ap count_of e in let b = ap length left in let c = answer_count in omega arith
 
-    pub refusal_listed : {r : Refusal} {line : ℕ} → Refused r line ≡ lex_answer text limits rows → refused_line (number_of r) line ≡ listing_of text limits (length rows)
-    refusal_listed e = ap (λ (a : Lexed). answer_lines text a rows') e ∙ ap (answer_lines text (lex_answer text limits rows)) left ∙ answer_lines_lem
+    pub refusal_listed : {e : Rejection} → Err e ≡ lex_answer text limits rows → refused_line (number_of e.refusal) e.line ≡ listing_of text limits (length rows)
+    refusal_listed e = ap (λ (a : Result ℕ Rejection). answer_lines text a rows') e ∙ ap (answer_lines text (lex_answer text limits rows)) left ∙ answer_lines_lem
 
 -- The two ways out of `write_listing`.
 module _ (text : List ℕ) (limits : Limits) (rows : List (List ℕ)) (out : List ℕ) where
-  pub listing_refused : length out < listing_size limits → ListingWritten text limits rows rows out out TooShort
+  pub listing_refused : length out < listing_size limits → ListingWritten text limits rows rows out out None
   listing_refused h = record {
     answer = rw (lt-ltb (length out) (listing_size limits) h);
     buffer = rw (lt-ltb (length out) (listing_size limits) h);
@@ -130,12 +128,12 @@ module _ (text : List ℕ) (limits : Limits) (rows : List (List ℕ)) (out : Lis
 
   pub listing_done : {rows' : List (List ℕ)} {next : ℕ} {out' : List ℕ} → listing_size limits ≤ length out
       → Written out 0 (listing_of text limits (length rows)) next out' → rows' ≡ lex_rows text limits rows
-      → ListingWritten text limits rows rows' out out' (Bytes next)
+      → ListingWritten text limits rows rows' out out' (Some next)
   listing_done {next = next} h w e =
       let p = w.place in
       let n : next ≡ length (listing_of text limits (length rows)) = omega arith in
       record {
-        answer = rw (le-ltb (length out) (listing_size limits) h) (ap Bytes n);
+        answer = rw (le-ltb (length out) (listing_size limits) h) (ap Some n);
         buffer = rw (le-ltb (length out) (listing_size limits) h) w.buffer;
         tokens = rw (le-ltb (length out) (listing_size limits) h) e;
       }

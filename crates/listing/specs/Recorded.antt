@@ -1,5 +1,5 @@
 -- Recorded lists of texts: for each text a line `LENGTH LIMIT ROWS`, then LENGTH bytes, then a line end.
-use Rattle.std.specs.Prelude.{ℕ, zero, suc, ◌+◌, ◌*◌, ◌-◌, min, cond, List, ltb, get_or, length}
+use Rattle.std.specs.Prelude.{Option, Some, None, ℕ, zero, suc, ◌+◌, ◌*◌, ◌-◌, min, cond, List, ltb, get_or, length}
 use Rattle.source_text.specs.Bytes.{within}
 use Rattle.listing.specs.declared.recorded.Decimal.{Decimal}
 use Rattle.listing.specs.declared.recorded.Recorded.{Recorded}
@@ -15,6 +15,10 @@ end_of list = min (length list) largest
 -- The digit at a place, or 10.
 abbrev pub digit_at : List ℕ → ℕ → ℕ
 digit_at list at = cond (within 48 57 (get_or list at 0)) (get_or list at 0 - 48) 10
+
+-- Such a digit, if it is one.
+abbrev pub read_digit : ℕ → Option ℕ
+read_digit d = cond (ltb 9 d) None (Some d)
 
 -- The number at a place, where the digits before it make this value: saturated, with at most k digits more, and the place past the byte
 -- that ends it.

@@ -1,21 +1,19 @@
 -- Laws of recorded lists: a digit by its byte, a number digit by digit, and a text by the three numbers of its line.
 use Prim.Native.Nat.{ℕ, zero, suc, ◌+◌, ◌*◌, ◌-◌, ◌≤◌, ◌<◌, min}
-use Rattle.std.proofs.Common.{arith, sym, ap₂, ◌∙◌, lt-ltb, le-ltb, le-leb}
-use Rattle.std.specs.Prelude.{◌≡◌, List, [], ◌∷◌, get_or, length}
+use Rattle.std.proofs.Common.{arith, sym, ap₂, ◌∙◌, lt-ltb, le-ltb, ltb-true, ltb-false}
+use Rattle.terms.specs.Numbers.{by_bool}
+use Rattle.source_text.specs.Bytes.{within}
+use Rattle.std.specs.Prelude.{Some, None, true, false, ltb, ◌≡◌, List, [], ◌∷◌, get_or, length}
 use Rattle.std.proofs.Math.Path.{refl, ap}
-use Rattle.std.proofs.lemmas.Bool.{lt-leb}
-use Rattle.listing.specs.Recorded.{largest, digit_at, decimal_from, decimal_at, recorded_by, recorded_at}
+use Rattle.listing.specs.Recorded.{largest, digit_at, read_digit, decimal_from, decimal_at, recorded_by, recorded_at}
 use Rattle.listing.specs.declared.recorded.Decimal.{Decimal}
 
 module _ (list : List ℕ) (at : ℕ) where
-  pub digit_low : get_or list at 0 < 48 → digit_at list at ≡ 10
-  digit_low h = rw (lt-leb 48 (get_or list at 0) h)
+  pub digit_none : within 48 57 (get_or list at 0) ≡ false → digit_at list at ≡ 10
+  digit_none e = rw e refl
 
-  pub digit_high : 57 < get_or list at 0 → digit_at list at ≡ 10
-  digit_high h = let l : 48 ≤ get_or list at 0 = omega arith in rw (le-leb 48 (get_or list at 0) l, lt-leb (get_or list at 0) 57 h)
-
-  pub digit_is : 48 ≤ get_or list at 0 → get_or list at 0 ≤ 57 → digit_at list at ≡ get_or list at 0 - 48
-  digit_is l h = rw (le-leb 48 (get_or list at 0) l, le-leb (get_or list at 0) 57 h)
+  pub digit_is : within 48 57 (get_or list at 0) ≡ true → digit_at list at ≡ get_or list at 0 - 48
+  digit_is e = rw e refl
 
 past : (list : List ℕ) (at : ℕ) → length list ≤ at → get_or list at 0 ≡ 0
 past [] at h = refl
@@ -23,7 +21,17 @@ past (c ∷ list) zero h = absurd (omega arith)
 past (c ∷ list) (suc at) h = past list at (omega arith)
 
 pub digit_past : (list : List ℕ) (at : ℕ) → length list ≤ at → digit_at list at ≡ 10
-digit_past list at h = let e = past list at h in digit_low list at (omega arith)
+digit_past list at h = let e = past list at h in rw e refl
+
+-- A digit is read where it is below 10.
+pub read_none : (d : ℕ) → read_digit d ≡ None → 9 < d
+read_none d e = by_bool (ltb 9 d) (λ f. ltb-true 9 d f) (λ f. let g : Some d ≡ None = rw f at e in absurd (let z : ◌≡◌ {A = ℕ} 0 1 = cc in omega arith))
+
+pub read_some : (d c : ℕ) → read_digit d ≡ Some c → (d ≡ c) × (d ≤ 9)
+read_some d c e = by_bool (ltb 9 d) (λ f. let g : None ≡ Some c = rw f at e in absurd (let z : ◌≡◌ {A = ℕ} 0 1 = cc in omega arith)) (λ f. let g : Some d ≡ Some c = rw f at e in (cc, ltb-false 9 d f))
+
+pub read_small : (d : ℕ) → d < 10 → Some d ≡ read_digit d
+read_small d h = rw (le-ltb 9 d (omega arith)) refl
 
 module _ (list : List ℕ) where
   -- No digit ends a number, and so does the most digits.

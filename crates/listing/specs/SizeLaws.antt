@@ -17,14 +17,13 @@ use Rattle.words.specs.Signs.{Sign, signs, sign_among, sign_item}
 use Rattle.words.specs.Tokens.{Reading, is_word, word_of, item_of, and_then, read_item, item_length, read_after, read_lines, outside_line}
 use Rattle.words.specs.Tokens.Reading.{tokens, refused}
 use Rattle.source_text.specs.Utf8.{is_utf8}
-use Rattle.words.specs.Refusals.{number_of}
+use Rattle.refusals.specs.Refusals.{number_of}
 use Rattle.source_text.specs.Parts.{part_of}
 use Rattle.words.specs.Lexer.{capped_of, in_domain, lex_of}
 use Rattle.words.specs.declared.Limits.{Limits}
-use Rattle.source_text.specs.declared.NumeralValue.{NumeralValue}
-use Rattle.source_text.specs.declared.NumeralValue.TheVariants.{Fits, TooLarge}
-use Rattle.words.specs.declared.tokens.Item.{Item}
-use Rattle.words.specs.declared.tokens.Item.TheVariants.{Blank, Token, Refused}
+use Rattle.std.specs.Prelude.{Option, Some as Read, None}
+use Rattle.words.specs.Items.{Item}
+use Rattle.words.specs.Items.Item.{Blank, Token, Refused}
 use Rattle.byte_output.specs.NumeralLaws.{numeral_short}
 use Rattle.listing.specs.Listing.{kind_word, token_line, token_lines, refused_line, reading_lines, listing_of, listing_size}
 use Rattle.listing.specs.ListingLaws.{line_length, refused_length}
@@ -81,9 +80,9 @@ word_sized w n l h =
     (λ e. rw e (by_bool (eqb (get_or w 0 0) 63) (λ f. rw f (l, h))
     (λ f. rw f (by_bool (all_digits w) (λ g. rw g (go (numeral_of w))) (λ g. rw g (l, h))))))
   where
-    go : (v : NumeralValue) → Sized n (if_fits v (Token numeral_kind (length w)))
-    go (Fits v) = (l, h)
-    go TooLarge = tt
+    go : (v : Option ℕ) → Sized n (if_fits v (Token numeral_kind (length w)))
+    go (Read v) = (l, h)
+    go None = tt
 
 starts_short : (w s : List ℕ) → starts_with w s ≡ true → length w ≤ length s
 unfolding starts_with

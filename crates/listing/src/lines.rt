@@ -1,9 +1,11 @@
 // The line of a token, and of a refused text.
 ghost use Rattle.std.specs.Prelude.{◌+◌, ◌≤◌, length};
 ghost use Rattle.byte_output.specs.Output.{Written};
+ghost use Rattle.refusals.specs.Refusals.{number_of};
 ghost use Rattle.listing.specs.Listing.{kind_word, token_line, refused_line};
 
 use byte_output::{write_byte, write_bytes, write_decimal};
+use refusals::Rejection;
 use words::Row;
 
 // Writes a token's kind between spaces.
@@ -39,13 +41,13 @@ pub fn write_token(text: &[u8], row: Row, out: &mut [u8], at: usize) -> usize
 }
 
 // Writes the line `refused N line L`.
-pub fn write_refused_line(number: u32, line: u32, out: &mut [u8], at: usize) -> usize
-    requires { at + length (refused_line number line) ≤ length out.old }
-    ensures { Written out.old at (refused_line number line) result out.new }
+pub fn write_refused_line(rejection: Rejection, out: &mut [u8], at: usize) -> usize
+    requires { at + length (refused_line (number_of rejection.refusal) rejection.line) ≤ length out.old }
+    ensures { Written out.old at (refused_line (number_of rejection.refusal) rejection.line) result out.new }
 {
     let digits = write_bytes(b"refused ", out, at);
-    let word = write_decimal(out, digits, number);
+    let word = write_decimal(out, digits, u32::from(rejection.refusal));
     let last = write_bytes(b" line ", out, word);
-    let end = write_decimal(out, last, line);
+    let end = write_decimal(out, last, rejection.line);
     write_byte(out, end, b'\n')
 }

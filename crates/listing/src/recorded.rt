@@ -1,8 +1,8 @@
 // Recorded lists of texts, which the replaying programs read.
 //
 // A list has for each text a line `LENGTH LIMIT ROWS`, then LENGTH bytes, then a line end. A line may have more numbers; they are read one by one.
-ghost use Rattle.std.specs.Prelude.{◌≡◌, ◌+◌, ◌^◌, ◌≤◌, ◌<◌, min};
-ghost use Rattle.listing.specs.Recorded.{end_of, digit_at, decimal_at, recorded_at};
+ghost use Rattle.std.specs.Prelude.{◌≡◌, ◌+◌, ◌^◌, ◌≤◌, ◌<◌, IfSome};
+ghost use Rattle.listing.specs.Recorded.{end_of, digit_at, read_digit, decimal_at, recorded_at};
 
 use crate::STDOUT_FILENO;
 use words::Limits;
@@ -27,14 +27,14 @@ pub struct Decimal {
 // Larger numbers count as this one, and so do places past it, so that sums of places fit.
 const LARGEST: u32 = 0x10_0000;
 
+// The most digits that are read.
+const DIGITS: usize = 20;
+
 // Where a list ends.
 pub fn end(list: &[u8]) -> usize
     ensures { result ≡ end_of list.now }
 {
-    if list.len() < LARGEST as usize {
-        return list.len();
-    }
-    LARGEST as usize
+    list.len().min(LARGEST as usize)
 }
 
 // The decimal number at a place: at most 20 digits are read.
@@ -44,46 +44,34 @@ pub fn read_decimal(list: &[u8], at: usize) -> Decimal
     ensures near { (at < result.next) × (result.next ≤ at + 21) × (result.value ≤ 1048576) }
 {
     let mut value: u32 = 0;
-    let mut i = 0;
-    while i < 20 {
-        let c = digit(list, at + i);
-        if 9 < c {
+    for i in 0..DIGITS {
+        let Some(d) = digit(list, at + i) else {
             return Decimal {
                 value,
                 next: at + i + 1,
             };
-        }
-        value = least(value * 10 + c, LARGEST);
-        i += 1;
+        };
+        value = (value * 10 + d).min(LARGEST);
     }
     Decimal {
         value,
-        next: at + i + 1,
+        next: at + DIGITS + 1,
     }
 }
 
-// The digit at a place, or 10.
-fn digit(list: &[u8], at: usize) -> u32
-    ensures is { result ≡ digit_at list.now at }
-    ensures small { result ≤ 10 }
+// The digit at a place, if there is one.
+fn digit(list: &[u8], at: usize) -> Option<u32>
+    ensures is { result ≡ read_digit (digit_at list.now at) }
+    ensures small { IfSome result (λ d. d < 10) }
 {
     if list.len() <= at {
-        return 10;
+        return None;
     }
     let c = list[at];
-    if c < b'0' {
-        return 10;
+    if !c.is_ascii_digit() {
+        return None;
     }
-    if b'9' < c {
-        return 10;
-    }
-    (c - b'0') as u32
-}
-
-fn least(a: u32, b: u32) -> u32
-    ensures { result ≡ min a b }
-{
-    if a < b { a } else { b }
+    Some(u32::from(c - b'0'))
 }
 
 // The text whose line is at a place. Only its bytes are limited: no other limit matters before the search.

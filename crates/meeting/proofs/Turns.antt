@@ -18,7 +18,8 @@ use Rattle.resolution.specs.Search.{words}
 use Rattle.meeting.specs.Places.{Records, Given}
 use Rattle.meeting.specs.PlaceLaws.{variables_few, given_kept, records_met}
 use Rattle.meeting.specs.Contract.{term_of, Ready, Walked}
-use Rattle.meeting.specs.declared.Met.TheVariants.{Places}
+use Rattle.std.specs.Prelude.{Some}
+use Rattle.meeting.specs.declared.Met.{Met}
 use Rattle.meeting.proofs.Pending.{unmet, pending, turns, one, words_append, met_append, args_count, unmet_put, turns_put}
 
 -- n references in use, from the address p on.
@@ -92,7 +93,7 @@ module _ {pattern : List ℕ} {reference used : ℕ} {table₀ : List ℕ} {coun
     -- It is a variable.
     module _ (v : next < pattern_room) where
       pub turn_variable : (given' : ℕ) (table' : List ℕ) → Given table next given given' table'
-          → Turn pattern reference used table₀ count most stack₀ table' stack given' spent depth next false
+          → Turn pattern reference used table₀ count most stack₀ table' stack given' spent depth 0 false
       turn_variable given' table' g =
           let is : term_of pattern next ≡ var next = denote_variable pattern_room (cells pattern) next v in
           let s : spent + words (cons (term_of pattern next) (unmet (cells pattern) stack depth)) ≡ words (term_of pattern reference) = here.spends in
@@ -163,7 +164,7 @@ module _ {pattern : List ℕ} {reference used : ℕ} {table₀ : List ℕ} {coun
             let e : turns entered (suc depth) ≡ 2 * arity + 1 + turns stack depth = turns_put stack depth (address + 1) arity free_row in
             rw (q, add-one depth) (omega arith)
 
-        pub turn_enter : Turn pattern reference used table₀ count most stack₀ table entered given (spent + (arity + 1)) (depth + 1) next false
+        pub turn_enter : Turn pattern reference used table₀ count most stack₀ table entered given (spent + (arity + 1)) (depth + 1) 0 false
         turn_enter = record {
           ready = h.ready;
           kept = h.kept;
@@ -191,7 +192,7 @@ module _ {pattern : List ℕ} {reference used : ℕ} {table₀ : List ℕ} {coun
     abbrev there : Turn pattern reference used table₀ count most stack₀ table stack given spent depth next false
     there = subst (λ (b : Bool). Turn pattern reference used table₀ count most stack₀ table stack given spent depth next b) q h
 
-    pub turn_done : depth ≡ 0 → Walked pattern reference table₀ count most (Places given spent) table
+    pub turn_done : depth ≡ 0 → Walked pattern reference table₀ count most (Some (record { places = given; words = spent })) table
     turn_done z =
         let s : spent + words (unmet (cells pattern) stack depth) ≡ words (term_of pattern reference) = there.spends in
         let s₀ : spent + 0 ≡ words (term_of pattern reference) = rw z at s in
@@ -202,7 +203,7 @@ module _ {pattern : List ℕ} {reference used : ℕ} {table₀ : List ℕ} {coun
         let c₀ : r.f ≡ met (term_of pattern reference) e = rw z at c in rw c₀ at r.records in
         record {
           exceeded = λ l. let z : ⊥ = omega arith in absurd z;
-          answered = λ l e k. ap₂ Places (all e k).counted (omega arith);
+          answered = λ l e k. ap₂ (λ (places words : ℕ). let m : Met = record { places = places; words = words } in Some m) (all e k).counted (omega arith);
           recorded = λ l e k. let r = all e k in record { variables = r.variables; placed = r.placed; counted = refl };
           kept = h.kept;
         }

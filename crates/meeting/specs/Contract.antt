@@ -1,6 +1,6 @@
 -- What the walk through a stored pattern is given and what it answers (the Rust's `inst`, which meets variables from left to right; document 01, refusal
 -- 37, which counts words). Nodes may be shared, so a term can take many more words than are stored: the walk stops past the most words allowed.
-use Rattle.std.specs.Prelude.{ℕ, ◌+◌, ◌≤◌, ◌<◌, ◌≡◌, List, length}
+use Rattle.std.specs.Prelude.{ℕ, ◌+◌, ◌≤◌, ◌<◌, ◌≡◌, Option, Some, None, List, length}
 use Rattle.terms.specs.Term.{Term}
 use Rattle.arena.specs.Cells.{headers, cells, denote, Reference, WellFormed}
 use Rattle.arena.specs.Copies.{pattern_room}
@@ -9,7 +9,6 @@ use Rattle.resolution.specs.Fresh.{met}
 use Rattle.resolution.specs.Search.{words}
 use Rattle.meeting.specs.Places.{Records}
 use Rattle.meeting.specs.declared.Met.{Met}
-use Rattle.meeting.specs.declared.Met.TheVariants.{Places, Over}
 
 -- The term of a pattern's reference.
 abbrev pub term_of : List ℕ → ℕ → Term
@@ -30,12 +29,12 @@ pub record Ready (pattern : List ℕ) (reference used : ℕ) (table : List ℕ) 
   pub room : most ≤ length stack
 
 -- What the walk ensures.
-pub record Walked (pattern : List ℕ) (reference : ℕ) (table : List ℕ) (count most : ℕ) (answer : Met) (table' : List ℕ) : Type 0 where
+pub record Walked (pattern : List ℕ) (reference : ℕ) (table : List ℕ) (count most : ℕ) (answer : Option Met) (table' : List ℕ) : Type 0 where
   -- A term of too many words is told.
-  pub exceeded : most < words (term_of pattern reference) → answer ≡ Over
+  pub exceeded : most < words (term_of pattern reference) → answer ≡ None
   -- Else the term's variables are met behind those met before, and its words are counted.
   pub answered : words (term_of pattern reference) ≤ most → (e : List ℕ) → Records e table count
-      → answer ≡ Places (length (met (term_of pattern reference) e)) (words (term_of pattern reference))
+      → answer ≡ Some (record { places = length (met (term_of pattern reference) e); words = words (term_of pattern reference) })
   pub recorded : words (term_of pattern reference) ≤ most → (e : List ℕ) → Records e table count
       → Records (met (term_of pattern reference) e) table' (length (met (term_of pattern reference) e))
   -- The table keeps its length.

@@ -9,13 +9,11 @@ ghost use Rattle.meeting.specs.Contract.{Ready, Walked};
 
 use arena::{PATTERN_ROOM, SYMBOL_STEP};
 
-// What came of a walk.
+// A term whose variables were met: how many variables have places now, and how many words the term takes.
 #[derive(Clone, Copy)]
-pub enum Met {
-    // So many variables have places now, and the term takes so many words.
-    Places(u32, u32),
-    // The term takes more words than allowed.
-    Over,
+pub struct Met {
+    pub places: u32,
+    pub words: u32,
 }
 
 // Gives the variable x the next place if it has none; answers how many variables have places then.
@@ -31,8 +29,8 @@ fn place_variable(places: &mut [u32], x: u32, count: u32) -> u32
     count + 1
 }
 
-// Meets the variables of a pattern's term from left to right. The first `count` places are given; the term may take `most` words, and the stack has a row
-// for each of them, since a node takes at least one.
+// Meets the variables of a pattern's term from left to right; none if the term takes more than `most` words. The first `count` places are given, and the
+// stack has a row for each word, since a node takes at least one.
 pub fn meet(
     words: &[u32],
     reference: u32,
@@ -41,44 +39,47 @@ pub fn meet(
     count: u32,
     most: u32,
     stack: &mut [[u32; 2]],
-) -> Met
+) -> Option<Met>
     requires { Ready words.now reference used places.old count most stack.old }
     ensures { Walked words.now reference places.old count most result places.new }
 {
-    // A row of the stack is an open node: the address of its next argument, and how many arguments are left. `next` is to be met if `waiting`.
+    // A row of the stack is an open node: the address of its next argument, and how many arguments are left. `waiting` is the reference to be met next.
     let mut given = count;
     let mut spent = 0;
     let mut depth: usize = 0;
-    let mut next = reference;
-    let mut waiting = true;
+    let mut waiting = Some(reference);
     loop {
-        if waiting {
-            waiting = false;
-            if next < PATTERN_ROOM {
-                given = place_variable(places, next, given);
-            } else {
-                let address = next - PATTERN_ROOM;
-                let arity = words[address as usize] % SYMBOL_STEP;
-                if most - spent <= arity {
-                    return Met::Over;
+        match waiting {
+            Some(next) => {
+                waiting = None;
+                if next < PATTERN_ROOM {
+                    given = place_variable(places, next, given);
+                } else {
+                    let address = next - PATTERN_ROOM;
+                    let arity = words[address as usize] % SYMBOL_STEP;
+                    if most - spent <= arity {
+                        return None;
+                    }
+                    spent += arity + 1;
+                    stack[depth] = [address + 1, arity];
+                    depth += 1;
                 }
-                spent += arity + 1;
-                stack[depth] = [address + 1, arity];
-                depth += 1;
             }
-        } else {
-            if depth == 0 {
-                return Met::Places(given, spent);
-            }
-            let row = depth - 1;
-            let at = stack[row][0];
-            let left = stack[row][1];
-            if left == 0 {
-                depth -= 1;
-            } else {
-                stack[row] = [at + 1, left - 1];
-                next = words[at as usize];
-                waiting = true;
+            None => {
+                if depth == 0 {
+                    return Some(Met {
+                        places: given,
+                        words: spent,
+                    });
+                }
+                let row = depth - 1;
+                let [at, left] = stack[row];
+                if left == 0 {
+                    depth -= 1;
+                } else {
+                    stack[row] = [at + 1, left - 1];
+                    waiting = Some(words[at as usize]);
+                }
             }
         }
     }
@@ -89,12 +90,10 @@ pub fn is_in_order(places: &[u32], count: u32) -> bool
     requires { count ≤ length places.now }
     ensures { result ≡ in_order places.now count }
 {
-    let mut x = 0;
-    while x < count {
+    for x in 0..count {
         if places[x as usize] != x {
             return false;
         }
-        x += 1;
     }
     true
 }

@@ -1,6 +1,6 @@
 -- The ways out of `pred`, `theorem` and `declaration`.
 use mathlib.Core.Path.{◌≡◌, refl, sym, ap, ap₂, ◌∙◌}
-use mathlib.Core.Logic.{◌⊎◌, inl, inr, ◌≢◌}
+use mathlib.Core.Logic.{◌⊎◌, inl, inr}
 use mathlib.Core.List.{List, [], ◌∷◌, ◌++◌, append_assoc}
 use Prim.Native.Nat.{ℕ, zero, suc, ◌+◌, ◌-◌, ◌≤◌, ◌<◌}
 use native.Mathlib.Omega.{arith}
@@ -11,16 +11,16 @@ use lib.Seq.{drop-cons, take-set-lt, set_at, get_or_at, get_or-take, take_at, ta
 use Rattle.source_text.specs.Bytes.{same_bytes}
 use Rattle.source_text.specs.Parts.{part_of}
 use Rattle.words.specs.Names.{name_kind}
-use Rattle.term_parser.specs.declared.Refusal.{Refusal}
-use Rattle.term_parser.specs.declared.Refusal.TheVariants.{OtherKeyword, DeclarationExpected}
+use Rattle.refusals.specs.declared.Refusal.{Refusal}
+use Rattle.refusals.specs.declared.Refusal.TheVariants.{OtherKeyword, DeclarationExpected}
 use Rattle.term_parser.specs.declared.Token.{Token}
-use Rattle.term_parser.specs.declared.Step.{Step}
-use Rattle.term_parser.specs.declared.Step.TheVariants.{Refused}
+use Rattle.term_parser.specs.Steps.{Step}
+use Rattle.term_parser.specs.Steps.Step.{Refused}
 use Rattle.term_parser.specs.Source.{Place, place, Source, one}
 use Rattle.parser.specs.Source.{Binders, Tactic, Declaration, theorem}
 use Rattle.term_parser.specs.Parsing.{Tokens, token_of, line_of, last_line, Parsed, parsed, absent, refused, plus, follow, continued, behind, repeat}
 use Rattle.term_parser.specs.Lists.{separated}
-use Rattle.parser.specs.Declarations.{prop_name, ends_in_prop, sort_of, ctor_of, pred_of, rule_of, def_of, theorem_of, eval_of, check_of, body_of, declaration_of}
+use Rattle.parser.specs.Declarations.{prop_name, ends_in_prop, sort_of, ctor_of, pred_of, rule_of, def_of, theorem_of, asked, asked_of, body_of, declaration_of}
 use Rattle.term_parser.specs.Rows.{Rows, row, rows_of, rows_of_all, name_rows}
 use Rattle.parser.specs.Rows.{binders_rows, tactic_rows, declaration_rows, declared_rows, numbered}
 use Rattle.term_parser.specs.Promises.{on, no as stop, told, Answers, Room}
@@ -171,8 +171,13 @@ theorem_rows line n bs js t {b} {j} {e} x y z =
     ∙ ap₂ (λ v w. (6 ∷ line ∷ b ∷ j ∷ []) ∷ (v ∷ w)) (ap (row name_kind n) (sym z) ∙ sym (numbered_row n e)) (sym (append_assoc (rows_of_all binders_rows bs) _ _))
 
 -- What is not less than i and not i is greater.
-pub up : (k i : ℕ) → i ≤ k → k ≢ i → i + 1 ≤ k
-up k i h n = omega arith
+-- A number between others.
+either_of : (k i : ℕ) → i ≤ k → k < i + 2 → (k ≡ i) ⊎ (k ≡ i + 1)
+either_of k i a b = go (dec_lt k (i + 1))
+  where
+    go : Dec (k < i + 1) → (k ≡ i) ⊎ (k ≡ i + 1)
+    go (yes c) = inl (omega arith)
+    go (no c) = inr (omega arith)
 
 -- What a keyword's number starts.
 module _ (text : List ℕ) (last : ℕ) (ts us : Tokens) where
@@ -200,13 +205,13 @@ module _ (text : List ℕ) (last : ℕ) (ts us : Tokens) where
   unfolding body_of
   starts_theorem k e = rw e
 
-  pub starts_eval : (k : ℕ) → k ≡ 10 → body_of text last k ts us ≡ eval_of text last us
+  asks : (k : ℕ) → (k ≡ 10) ⊎ (k ≡ 11) → body_of text last k ts us ≡ asked_of text last k us
   unfolding body_of
-  starts_eval k e = rw e
+  asks k (inl e) = rw e refl
+  asks k (inr e) = rw e refl
 
-  pub starts_check : (k : ℕ) → k ≡ 11 → body_of text last k ts us ≡ check_of text last us
-  unfolding body_of
-  starts_check k e = rw e
+  pub starts_asked : (k : ℕ) → 9 < k → k < 12 → body_of text last k ts us ≡ asked_of text last k us
+  starts_asked k a b = asks k (either_of k 10 a b)
 
   starts_other : (k : ℕ) → (k ≡ 7) ⊎ ((k ≡ 8) ⊎ (k ≡ 9)) → body_of text last k ts us ≡ refused OtherKeyword (line_of last us)
   unfolding body_of
@@ -215,12 +220,11 @@ module _ (text : List ℕ) (last : ℕ) (ts us : Tokens) where
   starts_other k (inr (inr e)) = rw e
 
   pub starts_nothing : (k : ℕ) → 6 < k → k < 10 → body_of text last k ts us ≡ refused OtherKeyword (line_of last us)
-  starts_nothing k a b = starts_other k (go (dec_lt k 8) (dec_lt k 9))
+  starts_nothing k a b = starts_other k (go (dec_lt k 8))
     where
-      go : Dec (k < 8) → Dec (k < 9) → (k ≡ 7) ⊎ ((k ≡ 8) ⊎ (k ≡ 9))
-      go (yes c) d = inl (omega arith)
-      go (no c) (yes d) = inr (inl (omega arith))
-      go (no c) (no d) = inr (inr (omega arith))
+      go : Dec (k < 8) → (k ≡ 7) ⊎ ((k ≡ 8) ⊎ (k ≡ 9))
+      go (yes c) = inl (omega arith)
+      go (no c) = inr (either_of k 8 (omega arith) b)
 
   pub no_keyword : (k : ℕ) → (k ≡ 0) ⊎ (11 < k) → body_of text last k ts us ≡ refused DeclarationExpected (line_of last ts)
   unfolding body_of
@@ -238,6 +242,19 @@ module _ (text : List ℕ) (last : ℕ) (ts us : Tokens) where
     ne_eqb k 10 (λ e. omega arith),
     ne_eqb k 11 (λ e. omega arith),
   )
+
+-- The row of an evaluation or a check.
+pub asked_rows : (number k : ℕ) (t : Source one) → (k ≡ 10) ⊎ (k ≡ 11) → declaration_rows number (asked k t) ≡ (k ∷ number ∷ 0 ∷ 0 ∷ []) ∷ rows_of t
+asked_rows number k t (inl e) = rw e refl
+asked_rows number k t (inr e) = rw e refl
+
+-- A body that is refused.
+pub barred : {D : Type 0} (rowsD : D → Rows) {x : Parsed D} {v : Refusal} {l : ℕ} {ts : Tokens} {p u : ℕ} {before out : Rows} → x ≡ refused v l → Answers 1 rowsD (plus 1 x) ts p u before (Refused v l) out
+barred rowsD {p = p} {u = u} {before = before} e = record {
+  is = sym (ap (λ y. told rowsD p (take u before) (plus 1 y)) e);
+  within = tt;
+  still = λ z. no_path cc;
+}
 
 -- A declaration with its line.
 with_line : (line p : ℕ) (before : Rows) (us : Tokens) (x : Parsed Declaration)
@@ -265,13 +282,6 @@ module _ (text : List ℕ) (ts : Tokens) (p : ℕ) (here : p < length ts) {t : T
         ∙ sym (ap (told declared_rows p (take u before)) (declaration_is ∙ ap (λ y. plus 1 (follow y (drop (p + 1) ts) (λ d vs. parsed (record { line = t.line; declaration = d }) 0))) e));
     within = h.within;
     still = h.still;
-  }
-
-  pub undeclared : {v : Refusal} {l l' u : ℕ} {before out : Rows} → body_at ≡ refused v l → l' ≡ l → Answers 1 declared_rows (declaration_of text (last_line ts) (drop p ts)) ts p u before (Refused v l') out
-  undeclared {v} {u = u} {before = before} e f = record {
-    is = ap (stop v) f ∙ sym (ap (told declared_rows p (take u before)) (declaration_is ∙ ap (λ y. plus 1 (follow y (drop (p + 1) ts) (λ d vs. parsed (record { line = t.line; declaration = d }) 0))) e));
-    within = tt;
-    still = λ z. no_path cc;
   }
 
 -- The end of all declarations.

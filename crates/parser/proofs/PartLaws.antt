@@ -1,17 +1,17 @@
 -- Laws of what is read part by part behind a row that is written at the end: clauses, binders and declarations.
 use mathlib.Core.Path.{◌≡◌, refl, sym, ap, ap₂, ◌∙◌, subst}
 use mathlib.Core.List.{List, [], ◌∷◌, ◌++◌, append_assoc, append-nil}
-use Prim.Native.Nat.{ℕ, ◌+◌, ◌-◌, ◌≤◌, ◌<◌}
+use Prim.Native.Nat.{ℕ, ◌+◌, ◌≤◌, ◌<◌}
 use native.Mathlib.Nat.{add-zero}
 use native.Mathlib.Numerals.{add-one}
 use native.Mathlib.Omega.{arith}
 use lib.ListN.{length, take, drop, set, get_or}
 use lib.Seq.{take-suc, take-set-lt, set_at, length-take-le, drop-drop}
-use Rattle.term_parser.specs.declared.Step.{Step}
-use Rattle.term_parser.specs.declared.Step.TheVariants.{At, Refused}
+use Rattle.term_parser.specs.Steps.{Step}
+use Rattle.term_parser.specs.Steps.Step.{At, Refused}
 use borrow.Author.Tests.{eq-eqb, ne_eqb}
 use Rattle.words.specs.Names.{name_kind}
-use Rattle.term_parser.specs.declared.Refusal.TheVariants.{NameExpected}
+use Rattle.refusals.specs.declared.Refusal.TheVariants.{NameExpected}
 use Rattle.term_parser.specs.Source.{Place}
 use Rattle.term_parser.specs.Grammar.{name_of}
 use Rattle.term_parser.proofs.TokenLaws.{token_there}

@@ -9,9 +9,9 @@ use lib.Dec.{eqb}
 use mathlib.Core.Bool.{◌&&◌}
 use lib.ListN.{length, take, drop}
 use lib.Seq.{drop-drop}
-use Rattle.term_parser.specs.declared.Refusal.TheVariants.{ByForm}
-use Rattle.term_parser.specs.declared.Step.{Step}
-use Rattle.term_parser.specs.declared.Step.TheVariants.{At, Absent, Refused}
+use Rattle.refusals.specs.declared.Refusal.TheVariants.{ByForm}
+use Rattle.term_parser.specs.Steps.{Step}
+use Rattle.term_parser.specs.Steps.Step.{At, Absent, Refused}
 use Rattle.term_parser.specs.Source.{Place}
 use Rattle.parser.specs.Source.{Tactic, auto, induction}
 use Rattle.term_parser.specs.Parsing.{Tokens, when, kind_of, line_of, last_line, Parsed, parsed, absent, refused, plus, follow}

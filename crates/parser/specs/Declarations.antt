@@ -1,11 +1,11 @@
 -- The Rust's `Parser`: declarations, and its `parse`.
-use Rattle.std.specs.Prelude.{ℕ, ◌-◌, Bool, false, ◌&&◌, List, [], ◌∷◌, eqb, length, take, drop, get_or}
+use Rattle.std.specs.Prelude.{ℕ, ◌-◌, Bool, false, cond, ◌&&◌, List, [], ◌∷◌, eqb, length, take, drop, get_or}
 use Rattle.source_text.specs.Bytes.{same_bytes}
 use Rattle.source_text.specs.Parts.{part_of}
-use Rattle.term_parser.specs.Source.{Place, place}
+use Rattle.term_parser.specs.Source.{Place, place, Source, one}
 use Rattle.term_parser.specs.Parsing.{Tokens, kind_of, line_of, last_line, when, Parsed, parsed, absent, refused, plus, follow, sign_of, behind, repeat}
 use Rattle.term_parser.specs.Lists.{name, title_of, arrows_of, names_of, term, app, judgments_of, patterns_of}
-use Rattle.term_parser.specs.declared.Refusal.TheVariants.{DeclarationExpected, NoProp, ByForm, OtherKeyword}
+use Rattle.refusals.specs.declared.Refusal.TheVariants.{DeclarationExpected, NoProp, ByForm, OtherKeyword}
 use Rattle.parser.specs.Source.{Clause, Binders, Tactic, auto, induction, Declaration, sort, ctor, pred, rule, def, theorem, eval, check}
 
 abbrev pub prop_name : List ℕ
@@ -53,6 +53,9 @@ module _ (last : ℕ) where
   abbrev pub ctor_of : Tokens → Parsed Declaration
   ctor_of ts = follow (title_of last ts) ts (λ n us. follow (arrows_of last us) us (λ ss vs. parsed (ctor n ss) 0))
 
+abbrev pub asked : ℕ → Source one → Declaration
+asked kind t = cond (eqb kind 10) (eval t) (check t)
+
 module _ (text : List ℕ) (last : ℕ) where
   -- `| p, p => t`
   abbrev pub behind_bar : Tokens → Parsed Clause
@@ -83,6 +86,10 @@ module _ (text : List ℕ) (last : ℕ) where
       (λ _ ws. follow (judgments_of text last ws) ws
       (λ js xs. follow (tactic_of last xs) xs
       (λ t ys. parsed (theorem n bs js t) 0)))))
+
+  -- `#eval t` or `#check t`, by the keyword's number
+  abbrev pub asked_of : ℕ → Tokens → Parsed Declaration
+  asked_of kind ts = follow (term text last ts) ts (λ t us. parsed (asked kind t) 0)
 
   abbrev pub eval_of : Tokens → Parsed Declaration
   eval_of ts = follow (term text last ts) ts (λ t us. parsed (eval t) 0)

@@ -1,40 +1,23 @@
 // Declarations.
-ghost use Rattle.std.specs.Prelude.{◌≡◌, [], ◌+◌, ◌≤◌, ◌<◌, length, drop, get_or, set};
+ghost use Rattle.std.specs.Prelude.{◌≡◌, ◌⊎◌, [], ◌+◌, ◌≤◌, ◌<◌, length, drop, get_or, set};
 ghost use Rattle.source_text.specs.Bytes.{same_bytes};
 ghost use Rattle.source_text.specs.Parts.{part_of};
 ghost use Rattle.term_parser.specs.Parsing.{last_line, repeat, plus};
 ghost use Rattle.parser.specs.Rows.{clause_rows, binders_rows, tactic_rows, declaration_rows, declared_rows, numbered};
-ghost use Rattle.parser.specs.Declarations.{prop_name, binders_of, tactic_of, sort_of, ctor_of, clause_of, pred_of, rule_of, def_of, theorem_of, eval_of, check_of, declaration_of, parse_of};
+ghost use Rattle.parser.specs.Declarations.{prop_name, binders_of, tactic_of, sort_of, ctor_of, clause_of, pred_of, rule_of, def_of, theorem_of, asked_of, body_of, declaration_of, parse_of};
+ghost use Rattle.term_parser.specs.Steps.{step, maybe_step};
 ghost use Rattle.term_parser.specs.Promises.{Room, Answers, Lists};
 
 use super::{BINDERS, CLAUSE};
+use refusals::{Refusal, Rejection};
 use term_parser::lists::{arrows, judgments, name, names, patterns, title};
 use term_parser::terms::{app, term};
-use term_parser::tokens::{line, peek, put, sign};
-use term_parser::{PARENTHESES, Refusal, Step};
-use words::{BAR, CLOSE, COLON, DEFINES, DOUBLE_ARROW, NAME, OPEN};
-
-pub const SORT: u32 = 1;
-
-pub const CTOR: u32 = 2;
-
-pub const PRED: u32 = 3;
-
-pub const RULE: u32 = 4;
-
-pub const DEF: u32 = 5;
-
-const THEOREM: u32 = 6;
-
-const BY: u32 = 7;
-
-const AUTO: u32 = 8;
-
-const INDUCTION: u32 = 9;
-
-pub const EVAL: u32 = 10;
-
-const CHECK: u32 = 11;
+use term_parser::tokens::{peek, put, rejection, sign};
+use term_parser::{PARENTHESES, Read};
+use words::{
+    AUTO, BAR, BY, CHECK, CLOSE, COLON, CTOR, DEF, DEFINES, DOUBLE_ARROW, EVAL, INDUCTION, NAME,
+    OPEN, PRED, RULE, SORT, THEOREM,
+};
 
 // `| p, p => t`
 pub fn clause(
@@ -43,27 +26,18 @@ pub fn clause(
     at: usize,
     out: &mut [[u32; 4]],
     used: usize,
-) -> Step
+) -> Result<Option<Read>, Rejection>
     requires { Room tokens.now at used out.old }
-    ensures { Answers 1 clause_rows (clause_of text.now (last_line tokens.now) (drop at tokens.now)) tokens.now at used out.old result out.new }
+    ensures { Answers 1 clause_rows (clause_of text.now (last_line tokens.now) (drop at tokens.now)) tokens.now at used out.old (maybe_step result) out.new }
 {
     if peek(tokens, at).kind != BAR {
-        return Step::Absent;
+        return Ok(None);
     }
-    let list = patterns(text, tokens, at + 1, out, used + 1);
-    let Step::At(p, u, n) = list else {
-        return list;
-    };
-    let arrow = sign(tokens, DOUBLE_ARROW, p, u);
-    let Step::At(q, v, _) = arrow else {
-        return arrow;
-    };
-    let body = app(text, tokens, q, PARENTHESES, out, v);
-    let Step::At(next, k, _) = body else {
-        return body;
-    };
-    put(out, used, [CLAUSE, 0, 0, n]);
-    Step::At(next, k, 1)
+    let list = patterns(text, tokens, at + 1, out, used + 1)?;
+    let arrow = sign(tokens, DOUBLE_ARROW, list.at, list.used)?;
+    let body = app(text, tokens, arrow.at, PARENTHESES, out, arrow.used)?;
+    put(out, used, [CLAUSE, 0, 0, list.count]);
+    Ok(Some(Read { count: 1, ..body }))
 }
 
 // The clauses from a place on.
@@ -73,134 +47,137 @@ pub fn clauses(
     at: usize,
     out: &mut [[u32; 4]],
     used: usize,
-) -> Step
+) -> Result<Read, Rejection>
     requires { Room tokens.now at used out.old }
-    ensures { Lists 0 clause_rows (repeat (clause_of text.now (last_line tokens.now)) (drop at tokens.now) 0 0 []) tokens.now at used out.old result out.new }
+    ensures { Lists 0 clause_rows (repeat (clause_of text.now (last_line tokens.now)) (drop at tokens.now) 0 0 []) tokens.now at used out.old (step result) out.new }
 {
     let mut p = at;
     let mut u = used;
-    let mut n: u32 = 0;
-    loop {
-        match clause(text, tokens, p, out, u) {
-            Step::At(q, v, _) => {
-                p = q;
-                u = v;
-                n += 1;
-            }
-            Step::Absent => {
-                return Step::At(p, u, n);
-            }
-            Step::Refused(refusal, number) => {
-                return Step::Refused(refusal, number);
-            }
-        }
+    let mut n = 0;
+    while let Some(more) = clause(text, tokens, p, out, u)? {
+        p = more.at;
+        u = more.used;
+        n += 1;
     }
+    Ok(Read {
+        at: p,
+        used: u,
+        count: n,
+    })
 }
 
 // `(x y z : S)`
-pub fn binders(tokens: &[[u32; 4]], at: usize, out: &mut [[u32; 4]], used: usize) -> Step
+pub fn binders(
+    tokens: &[[u32; 4]],
+    at: usize,
+    out: &mut [[u32; 4]],
+    used: usize,
+) -> Result<Option<Read>, Rejection>
     requires { Room tokens.now at used out.old }
-    ensures { Answers 1 binders_rows (binders_of (last_line tokens.now) (drop at tokens.now)) tokens.now at used out.old result out.new }
+    ensures { Answers 1 binders_rows (binders_of (last_line tokens.now) (drop at tokens.now)) tokens.now at used out.old (maybe_step result) out.new }
 {
     if peek(tokens, at).kind != OPEN {
-        return Step::Absent;
+        return Ok(None);
     }
-    let bound = names(tokens, at + 1, out, used + 1);
-    let Step::At(p, u, n) = bound else {
-        return bound;
-    };
-    let colon = sign(tokens, COLON, p, u);
-    let Step::At(q, v, _) = colon else {
-        return colon;
-    };
-    let t = peek(tokens, q);
+    let bound = names(tokens, at + 1, out, used + 1)?;
+    let colon = sign(tokens, COLON, bound.at, bound.used)?;
+    let t = peek(tokens, colon.at);
     if t.kind != NAME {
-        return Step::Refused(Refusal::NameExpected, line(tokens, q));
+        return Err(rejection(Refusal::NameExpected, tokens, colon.at));
     }
-    let close = sign(tokens, CLOSE, q + 1, v);
-    let Step::At(next, k, _) = close else {
-        return close;
-    };
-    put(out, used, [BINDERS, t.start, t.length, n]);
-    Step::At(next, k, 1)
+    let close = sign(tokens, CLOSE, colon.at + 1, colon.used)?;
+    put(out, used, [BINDERS, t.start, t.length, bound.count]);
+    Ok(Some(Read { count: 1, ..close }))
 }
 
 // The binders from a place on.
-pub fn all_binders(tokens: &[[u32; 4]], at: usize, out: &mut [[u32; 4]], used: usize) -> Step
+pub fn all_binders(
+    tokens: &[[u32; 4]],
+    at: usize,
+    out: &mut [[u32; 4]],
+    used: usize,
+) -> Result<Read, Rejection>
     requires { Room tokens.now at used out.old }
-    ensures { Lists 0 binders_rows (repeat (binders_of (last_line tokens.now)) (drop at tokens.now) 0 0 []) tokens.now at used out.old result out.new }
+    ensures { Lists 0 binders_rows (repeat (binders_of (last_line tokens.now)) (drop at tokens.now) 0 0 []) tokens.now at used out.old (step result) out.new }
 {
     let mut p = at;
     let mut u = used;
-    let mut n: u32 = 0;
-    loop {
-        match binders(tokens, p, out, u) {
-            Step::At(q, v, _) => {
-                p = q;
-                u = v;
-                n += 1;
-            }
-            Step::Absent => {
-                return Step::At(p, u, n);
-            }
-            Step::Refused(refusal, number) => {
-                return Step::Refused(refusal, number);
-            }
-        }
+    let mut n = 0;
+    while let Some(more) = binders(tokens, p, out, u)? {
+        p = more.at;
+        u = more.used;
+        n += 1;
     }
+    Ok(Read {
+        at: p,
+        used: u,
+        count: n,
+    })
 }
 
 // `:= by auto`, `:= by induction x`, or nothing
-pub fn tactic(tokens: &[[u32; 4]], at: usize, out: &mut [[u32; 4]], used: usize) -> Step
+pub fn tactic(
+    tokens: &[[u32; 4]],
+    at: usize,
+    out: &mut [[u32; 4]],
+    used: usize,
+) -> Result<Read, Rejection>
     requires { Room tokens.now at used out.old }
-    ensures { Answers 0 tactic_rows (tactic_of (last_line tokens.now) (drop at tokens.now)) tokens.now at used out.old result out.new }
+    ensures { Answers 0 tactic_rows (tactic_of (last_line tokens.now) (drop at tokens.now)) tokens.now at used out.old (step result) out.new }
 {
     if peek(tokens, at).kind != DEFINES {
-        return Step::At(at, used, 0);
+        return Ok(Read { at, used, count: 0 });
     }
     if peek(tokens, at + 1).kind != BY {
-        return Step::Refused(Refusal::ByForm, line(tokens, at + 1));
+        return Err(rejection(Refusal::ByForm, tokens, at + 1));
     }
     let k = peek(tokens, at + 2).kind;
     if k == AUTO {
-        return Step::At(at + 3, used, 0);
+        return Ok(Read {
+            at: at + 3,
+            used,
+            count: 0,
+        });
     }
     if k == INDUCTION {
         return name(tokens, at + 3, out, used);
     }
-    Step::Refused(Refusal::ByForm, line(tokens, at + 1))
+    Err(rejection(Refusal::ByForm, tokens, at + 1))
 }
 
 // `sort n`, from its keyword on, as each declaration below.
-pub fn sort(tokens: &[[u32; 4]], at: usize, out: &mut [[u32; 4]], used: usize, number: u32) -> Step
+pub fn sort(
+    tokens: &[[u32; 4]],
+    at: usize,
+    out: &mut [[u32; 4]],
+    used: usize,
+    number: u32,
+) -> Result<Read, Rejection>
     requires fact_1 { Room tokens.now at used out.old }
     requires fact_2 { at < length tokens.now }
-    ensures { Answers 1 (declaration_rows number) (plus 1 (sort_of (last_line tokens.now) (drop (at + 1) tokens.now))) tokens.now at used out.old result out.new }
+    ensures { Answers 1 (declaration_rows number) (plus 1 (sort_of (last_line tokens.now) (drop (at + 1) tokens.now))) tokens.now at used out.old (step result) out.new }
 {
-    let n = name(tokens, at + 1, out, used + 1);
-    let Step::At(next, k, _) = n else {
-        return n;
-    };
+    let n = name(tokens, at + 1, out, used + 1)?;
     put(out, used, [SORT, number, 0, 0]);
-    Step::At(next, k, 1)
+    Ok(Read { count: 1, ..n })
 }
 
 // `ctor n : A → B`
-pub fn ctor(tokens: &[[u32; 4]], at: usize, out: &mut [[u32; 4]], used: usize, number: u32) -> Step
+pub fn ctor(
+    tokens: &[[u32; 4]],
+    at: usize,
+    out: &mut [[u32; 4]],
+    used: usize,
+    number: u32,
+) -> Result<Read, Rejection>
     requires fact_1 { Room tokens.now at used out.old }
     requires fact_2 { at < length tokens.now }
-    ensures { Answers 1 (declaration_rows number) (plus 1 (ctor_of (last_line tokens.now) (drop (at + 1) tokens.now))) tokens.now at used out.old result out.new }
+    ensures { Answers 1 (declaration_rows number) (plus 1 (ctor_of (last_line tokens.now) (drop (at + 1) tokens.now))) tokens.now at used out.old (step result) out.new }
 {
-    let n = title(tokens, at + 1, out, used + 1);
-    let Step::At(p, u, _) = n else {
-        return n;
-    };
-    let sorts = arrows(tokens, p, out, u);
-    let Step::At(next, k, count) = sorts else {
-        return sorts;
-    };
-    put(out, used, [CTOR, number, count, 0]);
-    Step::At(next, k, 1)
+    let n = title(tokens, at + 1, out, used + 1)?;
+    let sorts = arrows(tokens, n.at, out, n.used)?;
+    put(out, used, [CTOR, number, sorts.count, 0]);
+    Ok(Read { count: 1, ..sorts })
 }
 
 // Is a name's row that of `Prop`?
@@ -219,25 +196,23 @@ pub fn pred(
     out: &mut [[u32; 4]],
     used: usize,
     number: u32,
-) -> Step
+) -> Result<Read, Rejection>
     requires fact_1 { Room tokens.now at used out.old }
     requires fact_2 { at < length tokens.now }
-    ensures { Answers 1 (declaration_rows number) (plus 1 (pred_of text.now (last_line tokens.now) (drop (at + 1) tokens.now))) tokens.now at used out.old result out.new }
+    ensures { Answers 1 (declaration_rows number) (plus 1 (pred_of text.now (last_line tokens.now) (drop (at + 1) tokens.now))) tokens.now at used out.old (step result) out.new }
 {
-    let n = title(tokens, at + 1, out, used + 1);
-    let Step::At(p, u, _) = n else {
-        return n;
-    };
-    let sorts = arrows(tokens, p, out, u);
-    let Step::At(next, k, count) = sorts else {
-        return sorts;
-    };
-    let row = out[k - 1];
+    let n = title(tokens, at + 1, out, used + 1)?;
+    let sorts = arrows(tokens, n.at, out, n.used)?;
+    let row = out[sorts.used - 1];
     if is_prop(text, row) {
-        put(out, used, [PRED, number, count - 1, 0]);
-        return Step::At(next, k - 1, 1);
+        put(out, used, [PRED, number, sorts.count - 1, 0]);
+        return Ok(Read {
+            at: sorts.at,
+            used: sorts.used - 1,
+            count: 1,
+        });
     }
-    Step::Refused(Refusal::NoProp, line(tokens, next))
+    Err(rejection(Refusal::NoProp, tokens, sorts.at))
 }
 
 // `rule n : J → J`
@@ -248,21 +223,15 @@ pub fn rule(
     out: &mut [[u32; 4]],
     used: usize,
     number: u32,
-) -> Step
+) -> Result<Read, Rejection>
     requires fact_1 { Room tokens.now at used out.old }
     requires fact_2 { at < length tokens.now }
-    ensures { Answers 1 (declaration_rows number) (plus 1 (rule_of text.now (last_line tokens.now) (drop (at + 1) tokens.now))) tokens.now at used out.old result out.new }
+    ensures { Answers 1 (declaration_rows number) (plus 1 (rule_of text.now (last_line tokens.now) (drop (at + 1) tokens.now))) tokens.now at used out.old (step result) out.new }
 {
-    let n = title(tokens, at + 1, out, used + 1);
-    let Step::At(p, u, _) = n else {
-        return n;
-    };
-    let terms = judgments(text, tokens, p, out, u);
-    let Step::At(next, k, count) = terms else {
-        return terms;
-    };
-    put(out, used, [RULE, number, count, 0]);
-    Step::At(next, k, 1)
+    let n = title(tokens, at + 1, out, used + 1)?;
+    let terms = judgments(text, tokens, n.at, out, n.used)?;
+    put(out, used, [RULE, number, terms.count, 0]);
+    Ok(Read { count: 1, ..terms })
 }
 
 // `def n : A → B`, and its clauses
@@ -273,25 +242,16 @@ pub fn def(
     out: &mut [[u32; 4]],
     used: usize,
     number: u32,
-) -> Step
+) -> Result<Read, Rejection>
     requires fact_1 { Room tokens.now at used out.old }
     requires fact_2 { at < length tokens.now }
-    ensures { Answers 1 (declaration_rows number) (plus 1 (def_of text.now (last_line tokens.now) (drop (at + 1) tokens.now))) tokens.now at used out.old result out.new }
+    ensures { Answers 1 (declaration_rows number) (plus 1 (def_of text.now (last_line tokens.now) (drop (at + 1) tokens.now))) tokens.now at used out.old (step result) out.new }
 {
-    let n = title(tokens, at + 1, out, used + 1);
-    let Step::At(p, u, _) = n else {
-        return n;
-    };
-    let sorts = arrows(tokens, p, out, u);
-    let Step::At(q, v, inputs) = sorts else {
-        return sorts;
-    };
-    let all = clauses(text, tokens, q, out, v);
-    let Step::At(next, k, count) = all else {
-        return all;
-    };
-    put(out, used, [DEF, number, inputs, count]);
-    Step::At(next, k, 1)
+    let n = title(tokens, at + 1, out, used + 1)?;
+    let sorts = arrows(tokens, n.at, out, n.used)?;
+    let all = clauses(text, tokens, sorts.at, out, sorts.used)?;
+    put(out, used, [DEF, number, sorts.count, all.count]);
+    Ok(Read { count: 1, ..all })
 }
 
 // Puts a number at the end of a row.
@@ -311,130 +271,107 @@ pub fn theorem(
     out: &mut [[u32; 4]],
     used: usize,
     number: u32,
-) -> Step
+) -> Result<Read, Rejection>
     requires fact_1 { Room tokens.now at used out.old }
     requires fact_2 { at < length tokens.now }
-    ensures { Answers 1 (declaration_rows number) (plus 1 (theorem_of text.now (last_line tokens.now) (drop (at + 1) tokens.now))) tokens.now at used out.old result out.new }
+    ensures { Answers 1 (declaration_rows number) (plus 1 (theorem_of text.now (last_line tokens.now) (drop (at + 1) tokens.now))) tokens.now at used out.old (step result) out.new }
 {
-    let n = name(tokens, at + 1, out, used + 1);
-    let Step::At(p, u, _) = n else {
-        return n;
-    };
-    let bound = all_binders(tokens, p, out, u);
-    let Step::At(q, v, groups) = bound else {
-        return bound;
-    };
-    let colon = sign(tokens, COLON, q, v);
-    let Step::At(s, w, _) = colon else {
-        return colon;
-    };
-    let terms = judgments(text, tokens, s, out, w);
-    let Step::At(e, x, count) = terms else {
-        return terms;
-    };
-    let proof = tactic(tokens, e, out, x);
-    let Step::At(next, k, _) = proof else {
-        return proof;
-    };
-    mark(out, used + 1, (k - x) as u32);
-    put(out, used, [THEOREM, number, groups, count]);
-    Step::At(next, k, 1)
+    let n = name(tokens, at + 1, out, used + 1)?;
+    let bound = all_binders(tokens, n.at, out, n.used)?;
+    let colon = sign(tokens, COLON, bound.at, bound.used)?;
+    let terms = judgments(text, tokens, colon.at, out, colon.used)?;
+    let proof = tactic(tokens, terms.at, out, terms.used)?;
+    mark(out, used + 1, (proof.used - terms.used) as u32);
+    put(out, used, [THEOREM, number, bound.count, terms.count]);
+    Ok(Read { count: 1, ..proof })
 }
 
-// `#eval t`
-pub fn eval(
+// `#eval t` or `#check t`: the keyword's number says which.
+pub fn asked(
     text: &[u8],
     tokens: &[[u32; 4]],
     at: usize,
     out: &mut [[u32; 4]],
     used: usize,
+    kind: u32,
     number: u32,
-) -> Step
+) -> Result<Read, Rejection>
     requires fact_1 { Room tokens.now at used out.old }
     requires fact_2 { at < length tokens.now }
-    ensures { Answers 1 (declaration_rows number) (plus 1 (eval_of text.now (last_line tokens.now) (drop (at + 1) tokens.now))) tokens.now at used out.old result out.new }
+    requires kinds { (kind ≡ EVAL) ⊎ (kind ≡ CHECK) }
+    ensures { Answers 1 (declaration_rows number) (plus 1 (asked_of text.now (last_line tokens.now) kind (drop (at + 1) tokens.now))) tokens.now at used out.old (step result) out.new }
 {
-    let t = term(text, tokens, at + 1, PARENTHESES, out, used + 1);
-    let Step::At(next, k, _) = t else {
-        return t;
-    };
-    put(out, used, [EVAL, number, 0, 0]);
-    Step::At(next, k, 1)
+    let t = term(text, tokens, at + 1, PARENTHESES, out, used + 1)?;
+    put(out, used, [kind, number, 0, 0]);
+    Ok(Read { count: 1, ..t })
 }
 
-// `#check t`
-pub fn check(
+// What a keyword starts, from the keyword on: its number says which declaration.
+pub fn body(
     text: &[u8],
     tokens: &[[u32; 4]],
     at: usize,
     out: &mut [[u32; 4]],
     used: usize,
+    kind: u32,
     number: u32,
-) -> Step
+) -> Result<Read, Rejection>
     requires fact_1 { Room tokens.now at used out.old }
     requires fact_2 { at < length tokens.now }
-    ensures { Answers 1 (declaration_rows number) (plus 1 (check_of text.now (last_line tokens.now) (drop (at + 1) tokens.now))) tokens.now at used out.old result out.new }
+    ensures { Answers 1 (declaration_rows number) (plus 1 (body_of text.now (last_line tokens.now) kind (drop at tokens.now) (drop (at + 1) tokens.now)))
+        tokens.now at used out.old (step result) out.new }
 {
-    let t = term(text, tokens, at + 1, PARENTHESES, out, used + 1);
-    let Step::At(next, k, _) = t else {
-        return t;
-    };
-    put(out, used, [CHECK, number, 0, 0]);
-    Step::At(next, k, 1)
+    match kind {
+        SORT => sort(tokens, at, out, used, number),
+        CTOR => ctor(tokens, at, out, used, number),
+        PRED => pred(text, tokens, at, out, used, number),
+        RULE => rule(text, tokens, at, out, used, number),
+        DEF => def(text, tokens, at, out, used, number),
+        THEOREM => theorem(text, tokens, at, out, used, number),
+        BY | AUTO | INDUCTION => Err(rejection(Refusal::OtherKeyword, tokens, at + 1)),
+        EVAL | CHECK => asked(text, tokens, at, out, used, kind, number),
+        _ => Err(rejection(Refusal::DeclarationExpected, tokens, at)),
+    }
 }
 
-// A declaration, if there are tokens left: the keyword's number says which.
+// A declaration, if there are tokens left.
 pub fn declaration(
     text: &[u8],
     tokens: &[[u32; 4]],
     at: usize,
     out: &mut [[u32; 4]],
     used: usize,
-) -> Step
+) -> Result<Option<Read>, Rejection>
     requires { Room tokens.now at used out.old }
-    ensures { Answers 1 declared_rows (declaration_of text.now (last_line tokens.now) (drop at tokens.now)) tokens.now at used out.old result out.new }
+    ensures { Answers 1 declared_rows (declaration_of text.now (last_line tokens.now) (drop at tokens.now)) tokens.now at used out.old (maybe_step result) out.new }
 {
     if at == tokens.len() {
-        return Step::Absent;
+        return Ok(None);
     }
     let t = peek(tokens, at);
-    let number = t.line;
-    let kind = t.kind;
-    match kind {
-        1 => sort(tokens, at, out, used, number),
-        2 => ctor(tokens, at, out, used, number),
-        3 => pred(text, tokens, at, out, used, number),
-        4 => rule(text, tokens, at, out, used, number),
-        5 => def(text, tokens, at, out, used, number),
-        6 => theorem(text, tokens, at, out, used, number),
-        7 | 8 | 9 => Step::Refused(Refusal::OtherKeyword, line(tokens, at + 1)),
-        10 => eval(text, tokens, at, out, used, number),
-        11 => check(text, tokens, at, out, used, number),
-        _ => Step::Refused(Refusal::DeclarationExpected, number),
-    }
+    Ok(Some(body(text, tokens, at, out, used, t.kind, t.line)?))
 }
 
 // All declarations.
-pub fn declarations(text: &[u8], tokens: &[[u32; 4]], out: &mut [[u32; 4]]) -> Step
+pub fn declarations(
+    text: &[u8],
+    tokens: &[[u32; 4]],
+    out: &mut [[u32; 4]],
+) -> Result<Read, Rejection>
     requires { (length tokens.now ≤ length out.old) × (length tokens.now ≤ 65536) }
-    ensures { Lists 0 declared_rows (parse_of text.now tokens.now) tokens.now 0 0 out.old result out.new }
+    ensures { Lists 0 declared_rows (parse_of text.now tokens.now) tokens.now 0 0 out.old (step result) out.new }
 {
     let mut p = 0;
     let mut u = 0;
-    let mut n: u32 = 0;
-    loop {
-        match declaration(text, tokens, p, out, u) {
-            Step::At(q, v, _) => {
-                p = q;
-                u = v;
-                n += 1;
-            }
-            Step::Absent => {
-                return Step::At(p, u, n);
-            }
-            Step::Refused(refusal, number) => {
-                return Step::Refused(refusal, number);
-            }
-        }
+    let mut n = 0;
+    while let Some(more) = declaration(text, tokens, p, out, u)? {
+        p = more.at;
+        u = more.used;
+        n += 1;
     }
+    Ok(Read {
+        at: p,
+        used: u,
+        count: n,
+    })
 }

@@ -1,4 +1,5 @@
 -- The laws that several proofs cite.
+pub mod PartLaws
 pub mod PremiseLaws
 pub mod TableLaws
 pub mod LyingLaws

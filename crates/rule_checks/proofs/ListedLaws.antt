@@ -19,7 +19,7 @@ use Rattle.rules.specs.CountLaws.{all_count, all_met, all_below}
 use Rattle.rules.specs.StoredRows.{heads_in}
 use Rattle.rule_checks.specs.RuleForm.{rule_in, RuleListed, RuleCheckable, RuleChecked}
 use Rattle.rule_checks.specs.Steps.{Numbers, Columns, place_from, Roots, Parts, Walkable, TermAsked, OrderAsked, premises_of, conclusion_of, InOrder, InPlaces}
-use Rattle.rule_checks.specs.declared.Verdict.TheVariants.{Bad, Good}
+use Rattle.std.specs.Prelude.{Some, None}
 use Rattle.rule_checks.proofs.LyingLaws.{part_formed, part_lying}
 
 -- A premise takes no more words than all.
@@ -47,7 +47,7 @@ module _ {pattern : List ℕ} {u m end : ℕ} {row : List ℕ} (w : Walkable pat
 module _ (text arities pattern : List ℕ) (sorts used : ℕ) (row : List ℕ) (u : ℕ) where
   -- Answers
 
-  pub checked_bad : ((next : ℕ) → RuleListed text arities pattern sorts used row u next → ⊥) → RuleChecked text arities pattern sorts used row u Bad
+  pub checked_bad : ((next : ℕ) → RuleListed text arities pattern sorts used row u next → ⊥) → RuleChecked text arities pattern sorts used row u None
   checked_bad f = record { sound = λ next q. absurd (let z : ◌≡◌ {A = ℕ} 0 1 = cc in omega arith); complete = λ next l. absurd (f next l) }
 
   -- A rule that is listed
@@ -188,9 +188,9 @@ module _ (text arities pattern : List ℕ) (sorts used : ℕ) (row : List ℕ) (
               within = n.within;
             }
 
-        pub checked_good : Columns sorts row → RuleChecked text arities pattern sorts used row u (Good (u + column row 7 + column row 8))
+        pub checked_good : Columns sorts row → RuleChecked text arities pattern sorts used row u (Some (u + column row 7 + column row 8))
         checked_good c =
             record {
               sound = λ next e. let s : u + column row 7 + column row 8 ≡ next = cc in rw s at (rule_listed c);
-              complete = λ next l. ap Good l.kept.to;
+              complete = λ next l. ap Some l.kept.to;
             }

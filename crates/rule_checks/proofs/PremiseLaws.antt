@@ -10,12 +10,12 @@ use Rattle.resolution.specs.Fresh.{met, met_back}
 use Rattle.resolution.specs.Search.{words}
 use Rattle.names.specs.Symbols.{column, columns}
 use Rattle.rule_checks.specs.Steps.{Walked}
-use Rattle.rule_checks.specs.declared.Outcome.TheVariants.{Differs, Fits}
+use Rattle.std.specs.Prelude.{Some, None}
 
 -- Answers
 
 -- A term of other words than it is to take.
-pub walked_differs : {k : Kind} (t : Syn k) {size : ℕ} {table : List ℕ} {count : ℕ} {table' : List ℕ} → (words t ≡ size → ⊥) → Walked t size table count Differs table'
+pub walked_differs : {k : Kind} (t : Syn k) {size : ℕ} {table : List ℕ} {count : ℕ} {table' : List ℕ} → (words t ≡ size → ⊥) → Walked t size table count None table'
 walked_differs t d =
     record {
       other = λ q. d;
@@ -25,7 +25,7 @@ walked_differs t d =
 
 -- A term of the words that it is to take.
 pub walked_fits : {k : Kind} (t : Syn k) {size : ℕ} {table : List ℕ} {count : ℕ} {table' : List ℕ} {n : ℕ} → words t ≡ size
-    → ((e : List ℕ) → Records e table count → Records (met t e) table' n) → Walked t size table count (Fits n) table'
+    → ((e : List ℕ) → Records e table count → Records (met t e) table' n) → Walked t size table count (Some n) table'
 walked_fits t {size} {table} {count} {table'} {n} d h =
     record {
       other = λ q. absurd (let z : ◌≡◌ {A = ℕ} 0 1 = cc in omega arith);

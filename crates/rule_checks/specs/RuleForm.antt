@@ -1,5 +1,5 @@
 -- The form of one stored rule (document 01, refusal 1; docs/STORAGE.md, "A rule's row"), for a row and words of any contents.
-use Rattle.std.specs.Prelude.{ℕ, ◌+◌, ◌≤◌, ◌<◌, ◌≡◌, List, [], length}
+use Rattle.std.specs.Prelude.{ℕ, ◌+◌, ◌≤◌, ◌<◌, ◌≡◌, List, [], length, Option, Some}
 use Rattle.arena.specs.Cells.{WellFormed, cells, terms_of}
 use Rattle.arena.specs.Copies.{pattern_room}
 use Rattle.meeting.specs.Contract.{term_of}
@@ -9,8 +9,6 @@ use Rattle.resolution.specs.Fresh.{met}
 use Rattle.names.specs.NamePlaces.{NamePlace}
 use Rattle.names.specs.Symbols.{column, columns}
 use Rattle.rules.specs.StoredRows.{titled, heads_in, Kept}
-use Rattle.rule_checks.specs.declared.Verdict.{Verdict}
-use Rattle.rule_checks.specs.declared.Verdict.TheVariants.{Good}
 
 -- The rule that a row and the words denote.
 abbrev pub rule_in : List ℕ → List ℕ → List ℕ → Rule
@@ -49,6 +47,6 @@ pub record RuleCheckable (words : List ℕ) (used u : ℕ) : Type 0 where
   pub before : WellFormed pattern_room (cells words) pattern_room u
 
 -- What it answers: the end of the rule's words, exactly where the row and the words are in form.
-pub record RuleChecked (text arities words : List ℕ) (sorts used : ℕ) (row : List ℕ) (u : ℕ) (r : Verdict) : Type 0 where
-  pub sound : (next : ℕ) → r ≡ Good next → RuleListed text arities words sorts used row u next
-  pub complete : (next : ℕ) → RuleListed text arities words sorts used row u next → r ≡ Good next
+pub record RuleChecked (text arities words : List ℕ) (sorts used : ℕ) (row : List ℕ) (u : ℕ) (r : Option ℕ) : Type 0 where
+  pub sound : (next : ℕ) → r ≡ Some next → RuleListed text arities words sorts used row u next
+  pub complete : (next : ℕ) → RuleListed text arities words sorts used row u next → r ≡ Some next

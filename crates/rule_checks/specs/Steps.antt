@@ -1,6 +1,6 @@
 -- The steps of the test of a stored rule, and what each tells: the numbers of the row, its columns, the parts of the words, and the two orders in which
 -- the rule's variables are met.
-use Rattle.std.specs.Prelude.{ℕ, ◌+◌, ◌≤◌, ◌<◌, ◌≡◌, ◌≢◌, true, List, [], length, get_or}
+use Rattle.std.specs.Prelude.{ℕ, ◌+◌, ◌≤◌, ◌<◌, ◌≡◌, ◌≢◌, true, List, [], length, get_or, Option, Some, None}
 use Rattle.terms.specs.Term.{Kind, Syn, Term, Terms, mem}
 use Rattle.arena.specs.Cells.{headers, Reference, WellFormed, cells, terms_of}
 use Rattle.arena.specs.Copies.{pattern_room}
@@ -13,8 +13,6 @@ use Rattle.resolution.specs.Search.{words}
 use Rattle.names.specs.Symbols.{column}
 use Rattle.rules.specs.StoredRows.{heads_in}
 use Rattle.rule_checks.specs.RuleForm.{RuleNamed}
-use Rattle.rule_checks.specs.declared.Outcome.{Outcome}
-use Rattle.rule_checks.specs.declared.Outcome.TheVariants.{Differs, Fits}
 
 -- The row
 
@@ -99,14 +97,18 @@ abbrev pub conclusion_of : List ℕ → List ℕ → Term
 conclusion_of words row = term_of words (column row 5)
 
 -- A walk through t, which is to take `size` words: it takes others, or its variables are met behind those met before.
-pub record Walked {k : Kind} (t : Syn k) (size : ℕ) (table : List ℕ) (count : ℕ) (r : Outcome) (table' : List ℕ) : Type 0 where
-  pub other : r ≡ Differs → words t ≢ size
-  pub fits : (n : ℕ) → r ≡ Fits n → words t ≡ size
-  pub records : (n : ℕ) → r ≡ Fits n → (e : List ℕ) → Records e table count → Records (met t e) table' n
+pub record Walked {k : Kind} (t : Syn k) (size : ℕ) (table : List ℕ) (count : ℕ) (r : Option ℕ) (table' : List ℕ) : Type 0 where
+  pub other : r ≡ None → words t ≢ size
+  pub fits : (n : ℕ) → r ≡ Some n → words t ≡ size
+  pub records : (n : ℕ) → r ≡ Some n → (e : List ℕ) → Records e table count → Records (met t e) table' n
 
--- Each variable among the words from a place up to another has a place in the table,
+-- A word that is a variable has a place in the table,
+abbrev pub PlacedWord : List ℕ → ℕ → Type 0
+PlacedWord table word = word < pattern_room → get_or table word 0 ≢ pattern_room
+
+-- each variable among the words from a place up to another has one,
 abbrev pub Placed : List ℕ → ℕ → ℕ → List ℕ → Type 0
-Placed words from to table = (a : ℕ) → from ≤ a → a < to → get_or words a 0 < pattern_room → get_or table (get_or words a 0) 0 ≢ pattern_room
+Placed words from to table = (a : ℕ) → from ≤ a → a < to → PlacedWord table (get_or words a 0)
 
 -- or is one of the term's.
 abbrev pub Listed : {k : Kind} → List ℕ → ℕ → ℕ → Syn k → Type 0

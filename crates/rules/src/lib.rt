@@ -116,8 +116,8 @@ fn walk(
     ensures { (e : List ℕ) → Records e places.old count → Records (met (term_of words.now reference) e) places.new result }
 {
     match meeting::meet(words, reference, used, places, count, most, stack) {
-        meeting::Met::Places(given, _) => given,
-        meeting::Met::Over => count,
+        Some(walked) => walked.places,
+        None => count,
     }
 }
 

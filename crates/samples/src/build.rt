@@ -1,7 +1,8 @@
 // Words of terms: two constants, and towers of nodes on a leaf.
-ghost use Rattle.std.specs.Prelude.{◌≡◌, set};
+ghost use Rattle.std.specs.Prelude.{◌≡◌, ◌≤◌, set};
+ghost use Rattle.arena.specs.Form.{inputs};
 
-use arena::TERM_ROOM;
+use arena::{HEADERS, SYMBOL_STEP, TERM_ROOM};
 
 // Headers: of two constants, and of symbols with one argument and with two.
 pub const CONSTANT: u32 = 0x10_0000;
@@ -33,39 +34,22 @@ pub fn put_constants(words: &mut [u32])
     put(words, 1, OTHER);
 }
 
-// Writes a tower of nodes with one argument, from an address on; the address behind it.
-pub fn put_tower(words: &mut [u32], at: u32, height: u32, leaf: u32) -> u32 {
+// Writes a tower of nodes with `arity` arguments, all arguments of a node the one below, from an address on; the address behind it.
+pub fn put_tower(words: &mut [u32], at: u32, height: u32, leaf: u32, arity: u32) -> u32
+    requires { arity ≤ inputs }
+{
     let mut next = at;
     let mut below = leaf;
-    let mut i = 0;
-    while i < height {
+    for _ in 0..height {
         if MOST < next {
-            return next;
+            break;
         }
-        put(words, next, UNARY);
-        put(words, next + 1, below);
-        below = TERM_ROOM + next;
-        next += 2;
-        i += 1;
-    }
-    next
-}
-
-// Writes nodes with two arguments, each with the one below as both, from an address on; the address behind them.
-pub fn put_shared(words: &mut [u32], at: u32, height: u32, leaf: u32) -> u32 {
-    let mut next = at;
-    let mut below = leaf;
-    let mut i = 0;
-    while i < height {
-        if MOST < next {
-            return next;
+        put(words, next, HEADERS + (SYMBOL_STEP + 1) * arity);
+        for i in 0..arity {
+            put(words, next + 1 + i, below);
         }
-        put(words, next, BINARY);
-        put(words, next + 1, below);
-        put(words, next + 2, below);
         below = TERM_ROOM + next;
-        next += 3;
-        i += 1;
+        next += 1 + arity;
     }
     next
 }

@@ -16,10 +16,9 @@ pub fn number(n: u32) {
 
 // Writes the bindings at the positions from `from` up to `to` of the trail, each as a variable and the reference that it is bound to.
 pub fn bindings(table: &[[u32; 2]], from: u32, to: u32) {
-    let mut i = from;
-    while i < to {
-        let variable = rows::listed(table, i);
-        let value = rows::value(table, variable);
+    for i in from..to {
+        let variable = rows::number(table, 1, i);
+        let value = rows::number(table, 0, variable);
         text(b", ");
         number(variable);
         text(b" is ");
@@ -28,6 +27,5 @@ pub fn bindings(table: &[[u32; 2]], from: u32, to: u32) {
             return;
         }
         number(value - 1);
-        i += 1;
     }
 }

@@ -15,32 +15,29 @@ pub struct Case {
     pub right: u32,
 }
 
-// What came of it.
+// Why a call has no answer.
 #[derive(Clone, Copy)]
-pub enum Found {
+pub enum Fault {
     // The storage is not what the call asks.
     NotReady,
     // The scratch is not zero again.
     ScratchLeft,
-    // Yes, with so many bindings.
-    Yes(u32),
-    No,
 }
 
 // Whether all scratch is zero.
 pub fn is_clean(links: &[[u32; 2]], marks: &[[u32; 2]], stack: &[[u32; 3]]) -> bool
     ensures { Tells result (Clean links.now marks.now stack.now) }
 {
-    if !checks::are_zero_pairs(links, 0) {
+    if !checks::are_zero(links, 0) {
         return false;
     }
-    if !checks::are_zero_pairs(marks, 0) {
+    if !checks::are_zero(marks, 0) {
         return false;
     }
-    checks::are_zero_triples(stack, 0)
+    checks::are_zero(stack, 0)
 }
 
-// Whether the two references unify.
+// Whether the two references unify: how many bindings there are then.
 pub fn solve(
     words: &[u32],
     bindings: &mut [[u32; 2]],
@@ -48,7 +45,7 @@ pub fn solve(
     marks: &mut [[u32; 2]],
     stack: &mut [[u32; 3]],
     case: Case,
-) -> Found {
+) -> Result<Option<u32>, Fault> {
     let variables = case.variables;
     let used = case.used;
     let bound = case.bound;
@@ -57,72 +54,73 @@ pub fn solve(
     if !checks::is_ready(
         words, bindings, links, marks, stack, variables, used, bound, left, right,
     ) {
-        return Found::NotReady;
+        return Err(Fault::NotReady);
     }
     let ended = unifier::unify(
         words, bindings, links, marks, stack, TERM_ROOM, variables, used, bound, left, right,
     );
     if !is_clean(links, marks, stack) {
-        return Found::ScratchLeft;
+        return Err(Fault::ScratchLeft);
     }
-    if ended.unified {
-        return Found::Yes(ended.bound);
-    }
-    Found::No
+    Ok(ended)
 }
 
 // Whether the variable `left` occurs in what `right` denotes.
-pub fn ask(words: &[u32], bindings: &[[u32; 2]], marks: &mut [[u32; 2]], case: Case) -> Found {
+pub fn ask(
+    words: &[u32],
+    bindings: &[[u32; 2]],
+    marks: &mut [[u32; 2]],
+    case: Case,
+) -> Result<bool, Fault> {
     let variables = case.variables;
     let used = case.used;
     let bound = case.bound;
     let x = case.left;
     let r = case.right;
     if !checks::is_form(words, bindings, marks, variables, used, bound) {
-        return Found::NotReady;
+        return Err(Fault::NotReady);
     }
-    if !checks::is_reference(words, variables, used, r) {
-        return Found::NotReady;
+    if !bindings::is_reference(words, TERM_ROOM, variables, used, r) {
+        return Err(Fault::NotReady);
     }
     if variables <= x {
-        return Found::NotReady;
+        return Err(Fault::NotReady);
     }
     if bindings[x as usize][0] != 0 {
-        return Found::NotReady;
+        return Err(Fault::NotReady);
     }
     let answer = bindings::occurs(
         words, bindings, marks, TERM_ROOM, variables, used, bound, x, r,
     );
-    if !checks::are_zero_pairs(marks, 0) {
-        return Found::ScratchLeft;
+    if !checks::are_zero(marks, 0) {
+        return Err(Fault::ScratchLeft);
     }
-    if answer {
-        return Found::Yes(bound);
-    }
-    Found::No
+    Ok(answer)
 }
 
 // Whether rows are bindings in form.
-pub fn check(words: &[u32], bindings: &[[u32; 2]], marks: &mut [[u32; 2]], case: Case) -> Found {
+pub fn check(
+    words: &[u32],
+    bindings: &[[u32; 2]],
+    marks: &mut [[u32; 2]],
+    case: Case,
+) -> Result<bool, Fault> {
     let variables = case.variables;
     let used = case.used;
     let bound = case.bound;
     if !checks::are_terms(words, variables, used) {
-        return Found::NotReady;
+        return Err(Fault::NotReady);
     }
-    if !checks::are_zero_pairs(marks, (TERM_ROOM + used) as usize) {
-        return Found::NotReady;
+    if !checks::are_zero(marks, (TERM_ROOM + used) as usize) {
+        return Err(Fault::NotReady);
     }
     let answer = bindings::check_bindings(
         words, bindings, marks, TERM_ROOM, variables, used, bound,
     );
-    if !checks::are_zero_pairs(marks, 0) {
-        return Found::ScratchLeft;
+    if !checks::are_zero(marks, 0) {
+        return Err(Fault::ScratchLeft);
     }
-    if answer {
-        return Found::Yes(bound);
-    }
-    Found::No
+    Ok(answer)
 }
 
 // Takes back the bindings from the mark on, where all of them are in form.
@@ -143,7 +141,7 @@ pub fn take_back(
         return false;
     }
     bindings::undo(bindings, bound, mark);
-    checks::are_zero_pairs(marks, 0)
+    checks::are_zero(marks, 0)
 }
 
 // Writes the new bindings, takes them back, and says so if that does not give the rows that stood before.

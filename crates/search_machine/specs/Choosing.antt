@@ -1,6 +1,6 @@
 -- Passing over rules by arithmetic: what the functions ask and leave. The header that a goal leads to is read once; a rule whose conclusion
 -- has another one, or clashes with the goal by the heads of arguments, is passed over as its attempt would, and nothing is written.
-use Rattle.std.specs.Prelude.{ℕ, ◌-◌, ◌≤◌, ◌<◌, ◌≡◌, ◌≢◌, List, length}
+use Rattle.std.specs.Prelude.{ℕ, ◌-◌, ◌≤◌, ◌<◌, ◌≡◌, ◌≢◌, List, length, Option, Some, IfSome}
 use Rattle.arena.specs.Cells.{headers, Reference, cells}
 use Rattle.arena.specs.Copies.{pattern_room, term_room}
 use Rattle.arena.specs.Rows.{Rows}
@@ -22,9 +22,9 @@ pub record Goal (W : List ℕ) (T : Rows) (v u t g : ℕ) : Type 0 where
   pub form : Form term_room W T v u t
   pub refers : Reference term_room (cells W) v u g
 
--- The goal leads to a node with the header h, so that a pattern's node with another header clashes with it; or h is 0, which tells nothing.
+-- The goal leads to a node with the header h, so that a pattern's node with another header clashes with it.
 pub record Heads (W : List ℕ) (T : Rows) (v u t g h : ℕ) : Type 0 where
-  pub clash : (P : List ℕ) (s : ℕ) → Comparable P W T v u t g s → pattern_room ≤ s → h ≢ 0 → cells P (s - pattern_room) ≢ h
+  pub clash : (P : List ℕ) (s : ℕ) → Comparable P W T v u t g s → pattern_room ≤ s → cells P (s - pattern_room) ≢ h
       → Clashes P W T t g s
 
 -- A rule's row is there, and so is the header of its conclusion.
@@ -34,15 +34,16 @@ pub record Readable (R : Rows) (P : List ℕ) (r : ℕ) : Type 0 where
   pub low : pattern_room ≤ column (row_at R r) 5 → column (row_at R r) 5 ≤ headers
 
 -- The conclusion of a rule is a node with another header.
-pub record Differs (R : Rows) (P : List ℕ) (h r : ℕ) : Type 0 where
-  pub some : h ≢ 0
+pub record Differs (R : Rows) (P : List ℕ) (h : Option ℕ) (r : ℕ) : Type 0 where
+  pub header : ℕ
+  pub known : h ≡ Some header
   pub node : pattern_room ≤ column (row_at R r) 5
-  pub other : cells P (column (row_at R r) 5 - pattern_room) ≢ h
+  pub other : cells P (column (row_at R r) 5 - pattern_room) ≢ header
 
--- What is known of a goal with the header h where a rule is judged.
-pub record Judged (R : Rows) (P : List ℕ) (W : List ℕ) (T : Rows) (m : Machine) (h r : ℕ) : Type 0 where
+-- What is known of a goal, which may lead to the header h, where a rule is judged.
+pub record Judged (R : Rows) (P : List ℕ) (W : List ℕ) (T : Rows) (m : Machine) (h : Option ℕ) (r : ℕ) : Type 0 where
   pub readable : Readable R P r
-  pub heads : Heads W T m.counter m.used m.bound m.goal h
+  pub heads : IfSome h (Heads W T m.counter m.used m.bound m.goal)
   pub comparable : Comparable P W T m.counter m.used m.bound m.goal (column (row_at R r) 5)
 
 -- The machine is about to try a rule; frames and scratch are not looked at.

@@ -1,5 +1,6 @@
 -- Rules that are passed over: each is an attempt whose conclusion clashes with the goal, or that the limits refuse.
-use Rattle.std.specs.Prelude.{ℕ, ◌+◌, ◌-◌, ◌*◌, ◌≤◌, ◌<◌, ◌≡◌, refl, true, false, List, length}
+use Rattle.std.specs.Prelude.{ℕ, ◌+◌, ◌-◌, ◌*◌, ◌≤◌, ◌<◌, ◌≡◌, refl, true, false, ◌≢◌, List, length, Option, Some, IfSome, Ok, Err}
+use Rattle.refusals.specs.declared.Refusal.TheVariants.{OverLimit}
 use Rattle.std.proofs.Common.{arith, ap, sym, subst}
 use Rattle.arena.specs.Cells.{headers, cells}
 use Rattle.arena.specs.Copies.{term_room}
@@ -12,12 +13,12 @@ use Rattle.attempts.specs.RuleLaws.{variables_le}
 use Rattle.attempts.specs.Clashes.{Comparable, Clashes, heads_clash}
 use Rattle.attempts.specs.Heads.{head_refused, head_comparable, head_clashes}
 use Rattle.attempts.specs.Outcomes.{head_asked, refused_way, missed_way}
-use Rattle.attempts.specs.declared.Tried.TheVariants.{Exceeded, Missed}
+use Rattle.attempts.specs.declared.Tried.TheVariants.{Missed}
 use Rattle.search_machine.specs.Storage.{RowAsked, RowTried}
 use Rattle.search_machine.specs.State.{Start, Holds, Trying}
 use Rattle.search_machine.specs.Moves.{to_fail, to_stop, to_rule, current, measure}
 use Rattle.search_machine.specs.Promises.{Ready, Stepped, Choice}
-use Rattle.search_machine.specs.Choosing.{Goal, Heads, Readable, Judged, Choosing, Passing, Onward, Chosen}
+use Rattle.search_machine.specs.Choosing.{Goal, Heads, Readable, Differs, Judged, Choosing, Passing, Onward, Chosen}
 use Rattle.search_machine.specs.Falls.{falls_mode, falls_not}
 use Rattle.search_machine.specs.Attempts.{row_asked}
 use Rattle.search_machine.specs.Tries.{tried_none, tried_refused, tried_missed}
@@ -25,24 +26,28 @@ use Rattle.search_machine.specs.Ways.{case_at, holds_on}
 use Rattle.search_machine.specs.declared.Allowed.{Allowed}
 use Rattle.search_machine.specs.declared.Machine.{Machine}
 use Rattle.search_machine.specs.declared.Mode.{Mode}
-use Rattle.search_machine.specs.declared.Mode.TheVariants.{Try, Refused}
+use Rattle.search_machine.specs.declared.Mode.TheVariants.{Enter, Try, Fail, Proved, Over, Refused}
 
 -- The goal's header
-
--- The goal leads to a variable.
-pub heads_nothing : {W : List ℕ} {T : Rows} {v u t g : ℕ} → Heads W T v u t g 0
-heads_nothing = record { clash = λ P s h n z d. absurd (z refl) }
 
 module _ {W : List ℕ} {T : Rows} {v u t g q : ℕ} (walked : Walked term_room W T v u t g q) (node : term_room ≤ q) where
   -- It leads to a node.
   pub heads_node : Heads W T v u t g (cells W (q - term_room))
-  heads_node = record { clash = λ P s h n z d. heads_clash h walked node n (λ e. d (sym e)) }
+  heads_node = record { clash = λ P s h n d. heads_clash h walked node n (λ e. d (sym e)) }
 
   -- The node is there.
   pub node_in : Goal W T v u t g → q - term_room < length W
   node_in h = let n = walked.in_form.node node in let b = h.form.lent_words in omega arith
 
 -- One rule
+
+-- A conclusion with another header than the goal's clashes with it.
+pub judged_differs : {R : Rows} {P W : List ℕ} {T : Rows} {m : Machine} {h : Option ℕ} {r : ℕ} → Judged R P W T m h r → Differs R P h r
+    → Clashes P W T m.bound m.goal (column (row_at R r) 5)
+judged_differs {W = W} {T = T} {m = m} judged differs =
+    let heads : IfSome (Some differs.header) (Heads W T m.counter m.used m.bound m.goal) =
+    subst (λ (h : Option ℕ). IfSome h (Heads W T m.counter m.used m.bound m.goal)) differs.known judged.heads in
+    heads.clash _ _ judged.comparable differs.node differs.other
 
 module _ {most limit : ℕ} {P : List ℕ} {R : Rows} {W : List ℕ} {T L M S : Rows} {c u t g r : ℕ}
     (asked : RowAsked most limit P R W T L M S c u t g r) where
@@ -71,13 +76,13 @@ module _ {most limit : ℕ} {P : List ℕ} {R : Rows} {W : List ℕ} {T L M S : 
 
   -- The limits refuse it.
   row_over : over (within most limit) (c + column (row_at R r) 9) (u + column (row_at R r) 8) ≡ true
-      → RowTried most limit P R W W T T L L M M S S c u t g r Exceeded
-  row_over e = refused_way asked.asked (head_refused (head_asked asked.asked) e) refl
+      → RowTried most limit P R W W T T L L M M S S c u t g r (Err OverLimit)
+  row_over e = refused_way asked.asked (head_refused (head_asked asked.asked) e) OverLimit refl
 
   -- Its conclusion clashes with the goal.
   row_passed : over (within most limit) (c + column (row_at R r) 9) (u + column (row_at R r) 8) ≡ false
       → Clashes P W T t g (column (row_at R r) 5)
-      → RowTried most limit P R W W T T L L M M S S c u t g r (Missed (c + column (row_at R r) 9))
+      → RowTried most limit P R W W T T L L M M S S c u t g r (Ok (Missed (c + column (row_at R r) 9)))
   row_passed e k = missed_way asked.asked (head_clashes (head_asked asked.asked) e k) refl
 
 -- The loop
@@ -98,7 +103,7 @@ module _ {a : Allowed} {P : List ℕ} {R : Rows} {W : List ℕ} {T : Rows} {m : 
       let h = at_start choosing.frames choosing.start choosing.result choosing.holds in
       record { form = h.well.form; refers = h.refers }
 
-  pub choosing_judged : {h : ℕ} → Heads W T m.counter m.used m.bound m.goal h → (r : ℕ) → r < a.rules → Judged R P W T m h r
+  pub choosing_judged : {h : Option ℕ} → IfSome h (Heads W T m.counter m.used m.bound m.goal) → (r : ℕ) → r < a.rules → Judged R P W T m h r
   choosing_judged heads r l = record { readable = row_readable (asked_at r l); heads = heads; comparable = row_comparable (asked_at r l) }
 
   trying_same : (F : Rows) (z : Start) (o : Result) → Trying a P R F W T z o m
@@ -170,7 +175,7 @@ module _ {a : Allowed} {P : List ℕ} {R : Rows} {W : List ℕ} {T : Rows} {m : 
         → Chosen a P R W T m (to_stop (to_rule m r c m.top) Refused m.steps)
     passing_over l e = record {
       keeps = λ F z o h. holds_on (passing.keeps F z o h) (omega arith) (omega arith) (omega arith) refl refl (λ i q. refl)
-          (tried_refused a P R F W T z o (to_rule m r c m.top) (trying F z o h) l (asked_now l) (row_over (asked_now l) e));
+          (tried_refused a P R F W T z o (to_rule m r c m.top) (trying F z o h) l (asked_now l) OverLimit (row_over (asked_now l) e));
       goes = λ F. let q = at_try in falls_mode a.rules F m (to_stop (to_rule m r c m.top) Refused m.steps) refl refl (omega arith);
     }
 
@@ -204,19 +209,34 @@ module _ {a : Allowed} {P : List ℕ} {R : Rows} {W : List ℕ} {T : Rows} {m : 
       );
     }
 
-    -- None is left.
-    pub passing_end : (a.rules ≤ r) → Chosen a P R W T m (to_fail (to_rule m r c m.top) m.steps m.cut)
-    passing_end l = record {
+    none_left : r ≡ a.rules → Chosen a P R W T m (to_fail (to_rule m r c m.top) m.steps m.cut)
+    none_left l = record {
       keeps = λ F z o h. holds_on (passing.keeps F z o h) (omega arith) (omega arith) (omega arith) refl refl (λ i q. refl)
-          (tried_none a P R F W T z o (to_rule m r c m.top) (trying F z o h) (let k = passing.known in omega arith));
+          (tried_none a P R F W T z o (to_rule m r c m.top) (trying F z o h) l);
       goes = λ F. let q = at_try in falls_mode a.rules F m (to_fail (to_rule m r c m.top) m.steps m.cut) refl refl (omega arith);
     }
+
+    -- None is left.
+    pub passing_end : a.rules ≤ r → Chosen a P R W T m (to_fail (to_rule m a.rules c m.top) m.steps m.cut)
+    passing_end l =
+        let e : r ≡ a.rules = let k = passing.known in omega arith in
+        subst (λ (k : ℕ). Chosen a P R W T m (to_fail (to_rule m k c m.top) m.steps m.cut)) e (none_left e)
 
 pub chosen_as : {a : Allowed} {P : List ℕ} {R : Rows} {W : List ℕ} {T : Rows} {m r m' : Machine} → r ≡ m' → Chosen a P R W T m m'
     → Chosen a P R W T m r
 chosen_as {a} {P} {R} {W} {T} {m} e h = subst (λ (r : Machine). Chosen a P R W T m r) (sym e) h
 
 -- A step after it
+
+-- Where no rule has to be tried, there is less to do.
+onward_less : (a : Allowed) (R : Rows) (m m' : Machine) (k : Mode) → k ≢ Try → Onward a R m m' k → (F : Rows)
+    → measure a.rules F m' < measure a.rules F m
+onward_less a R m m' Try e h F = absurd (e refl)
+onward_less a R m m' Enter e h F = h F
+onward_less a R m m' Fail e h F = h F
+onward_less a R m m' Proved e h F = h F
+onward_less a R m m' Over e h F = h F
+onward_less a R m m' Refused e h F = h F
 
 module _ {a : Allowed} {P : List ℕ} {R F : Rows} {W : List ℕ} {T L M S : Rows} {m : Machine} (ready : Ready a P R F W T L M S m)
     (e : m.mode ≡ Try) where
@@ -262,11 +282,10 @@ module _ {a : Allowed} {P : List ℕ} {R F : Rows} {W : List ℕ} {T L M S : Row
     }
 
     -- There is none.
-    pub chosen_stops : (k : Mode) → n.mode ≡ k → (Onward a R m n k → measure a.rules F n < measure a.rules F m)
-        → Stepped a P R F F W W T T L L M M S S m n
-    chosen_stops k q f = record {
+    pub chosen_stops : n.mode ≢ Try → Stepped a P R F F W W T T L L M M S S m n
+    chosen_stops e = record {
       keeps = λ z o h. chosen.keeps F z o h;
-      falls = f (goes_at k q);
+      falls = onward_less a R m n n.mode e chosen.goes F;
       links = refl;
       marks = refl;
       stack = refl;

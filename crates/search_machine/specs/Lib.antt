@@ -3,6 +3,7 @@ pub mod Storage
 pub mod State
 pub mod Moves
 pub mod Promises
+pub mod Groups
 pub mod Choosing
 -- Laws, in the order in which they are needed:
 pub mod Parts

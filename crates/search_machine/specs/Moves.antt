@@ -9,142 +9,51 @@ use Rattle.search_machine.specs.declared.frames.Frame.{Frame}
 
 -- On at a place.
 abbrev pub to_place : Machine → ℕ → ℕ → ℕ → Machine
-to_place m parent place steps =
-    record {
-      mode = Enter;
-      parent = parent;
-      place = place;
-      frames = m.frames;
-      steps = steps;
-      cut = m.cut;
-      counter = m.counter;
-      bound = m.bound;
-      used = m.used;
-      goal = m.goal;
-      depth = m.depth;
-      rule = m.rule;
-      top = m.top;
-      high = m.high;
-    }
+to_place m parent place steps = record m { mode = Enter; parent = parent; place = place; steps = steps }
 
 -- The place failed.
 abbrev pub to_fail : Machine → ℕ → Bool → Machine
-to_fail m steps cut =
-    record {
-      mode = Fail;
-      parent = m.parent;
-      place = m.place;
-      frames = m.frames;
-      steps = steps;
-      cut = cut;
-      counter = m.counter;
-      bound = m.bound;
-      used = m.used;
-      goal = m.goal;
-      depth = m.depth;
-      rule = m.rule;
-      top = m.top;
-      high = m.high;
-    }
+to_fail m steps cut = record m { mode = Fail; steps = steps; cut = cut }
 
 -- Stopped.
 abbrev pub to_stop : Machine → Mode → ℕ → Machine
-to_stop m mode steps =
-    record {
-      mode = mode;
-      parent = m.parent;
-      place = m.place;
-      frames = m.frames;
-      steps = steps;
-      cut = m.cut;
-      counter = m.counter;
-      bound = m.bound;
-      used = m.used;
-      goal = m.goal;
-      depth = m.depth;
-      rule = m.rule;
-      top = m.top;
-      high = m.high;
-    }
+to_stop m mode steps = record m { mode = mode; steps = steps }
 
 -- On with a goal, from the first rule on.
 abbrev pub to_goal : Machine → ℕ → ℕ → ℕ → Machine
-to_goal m goal depth steps =
-    record {
-      mode = Try;
-      parent = m.parent;
-      place = m.place;
-      frames = m.frames;
-      steps = steps;
-      cut = m.cut;
-      counter = m.counter;
-      bound = m.bound;
-      used = m.used;
-      goal = goal;
-      depth = depth;
-      rule = 0;
-      top = m.top;
-      high = m.high;
-    }
+to_goal m goal depth steps = record m { mode = Try; steps = steps; goal = goal; depth = depth; rule = 0 }
 
 -- The same goal with a rule, from a counter on, where words were written below `top`.
 abbrev pub to_rule : Machine → ℕ → ℕ → ℕ → Machine
-to_rule m rule counter top =
-    record {
-      mode = Try;
-      parent = m.parent;
-      place = m.place;
-      frames = m.frames;
-      steps = m.steps;
-      cut = m.cut;
-      counter = counter;
-      bound = m.bound;
-      used = m.used;
-      goal = m.goal;
-      depth = m.depth;
-      rule = rule;
-      top = top;
-      high = m.high;
-    }
+to_rule m rule counter top = record m { mode = Try; counter = counter; rule = rule; top = top }
 
 -- Into an application, where rows were written below `high`.
 abbrev pub to_body : Machine → ℕ → ℕ → ℕ → ℕ → Machine
 to_body m counter bound used high =
-    record {
+    record m {
       mode = Enter;
       parent = m.frames + 1;
       place = 0;
       frames = m.frames + 1;
-      steps = m.steps;
-      cut = m.cut;
       counter = counter;
       bound = bound;
       used = used;
-      goal = m.goal;
-      depth = m.depth;
-      rule = m.rule;
-      top = m.top;
       high = high;
     }
 
 -- Back to the goal of an application, with the rule behind its own.
 abbrev pub to_retry : Machine → Frame → Machine
 to_retry m x =
-    record {
+    record m {
       mode = Try;
       parent = x.parent;
       place = x.place;
       frames = m.frames - 1;
-      steps = m.steps;
-      cut = m.cut;
-      counter = m.counter;
       bound = x.bound;
       used = x.used;
       goal = x.goal;
       depth = x.depth;
       rule = x.rule + 1;
-      top = m.top;
-      high = m.high;
     }
 
 -- The first state: a goal, the depth that its premises get, and steps, variables, bindings and words.

@@ -9,8 +9,7 @@ use Rattle.names.specs.Symbols.{column, columns, row_at}
 use Rattle.rules.specs.StoredRows.{heads_in, places_in, stored_in}
 use Rattle.attempts.specs.Promises.{Asked, Attempted}
 use Rattle.attempts.specs.declared.Stored.{Stored}
-use Rattle.attempts.specs.declared.Tried.{Tried}
-use Rattle.search_machine.specs.Storage.{RowAsked, RowTried, PremiseAsked}
+use Rattle.search_machine.specs.Storage.{RowAsked, RowTried, PremiseAsked, Attempt}
 use Rattle.search_machine.specs.State.{premise_ref}
 use Rattle.search_machine.specs.declared.frames.Frame.{Frame}
 
@@ -45,7 +44,7 @@ module _ {most limit : ℕ} {pattern : List ℕ} {rules : Rows} {words : List �
         (subst (λ (p : List ℕ). Asked most limit pattern p (places_in (row_at rules r))
         (stored_in (row_at rules r)) words rows links marks stack counter used bound goal) (sym heads_lent) asked.asked))
 
-    pub parts_tried : {words' : List ℕ} {rows' links' marks' stack' : Rows} {answer : Tried}
+    pub parts_tried : {words' : List ℕ} {rows' links' marks' stack' : Rows} {answer : Attempt}
         → Attempted most limit pattern (take (10 + column (row_at rules r) 4 - 10) (drop 10 (row_at rules r)))
         (take (90 + column (row_at rules r) 3 - 90) (drop 90
         (row_at rules r))) stored words words' rows rows' links links' marks marks' stack stack' counter used bound goal answer

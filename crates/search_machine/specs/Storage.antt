@@ -1,5 +1,6 @@
 -- The rules of a signature as an attempt takes them from their rows (docs/STORAGE.md, "A rule's row").
-use Rattle.std.specs.Prelude.{ℕ, ◌+◌, ◌≤◌, ◌<◌, ◌≡◌, List, length, get_or}
+use Rattle.std.specs.Prelude.{ℕ, ◌+◌, ◌≤◌, ◌<◌, ◌≡◌, List, length, get_or, Result}
+use Rattle.refusals.specs.declared.Refusal.{Refusal}
 use Rattle.arena.specs.Cells.{headers}
 use Rattle.arena.specs.Copies.{pattern_room, term_room, Movable}
 use Rattle.arena.specs.Rows.{Rows}
@@ -19,9 +20,13 @@ pub record RowAsked (most limit : ℕ) (pattern : List ℕ) (rules : Rows) (word
   pub asked : Asked most limit pattern (heads_in (row_at rules r)) (places_in (row_at rules r))
       (stored_in (row_at rules r)) words rows links marks stack counter used bound goal
 
+-- What an attempt answers.
+abbrev pub Attempt : Type 0
+Attempt = Result Tried Refusal
+
 -- What it leaves is what `try_rule` leaves.
 abbrev pub RowTried : ℕ → ℕ → List ℕ → Rows → List ℕ → List ℕ → Rows → Rows → Rows → Rows → Rows → Rows → Rows → Rows → ℕ → ℕ → ℕ → ℕ → ℕ
-    → Tried → Type 0
+    → Attempt → Type 0
 RowTried most limit pattern rules words words' rows rows' links links' marks marks' stack stack' counter used bound goal r answer =
     Attempted most limit pattern (heads_in (row_at rules r)) (places_in (row_at rules r))
     (stored_in (row_at rules r)) words words' rows rows' links links' marks marks' stack stack' counter used bound goal answer

@@ -1,5 +1,6 @@
 -- One rule for a goal: the ways out, each keeping what the state means.
-use Rattle.std.specs.Prelude.{ℕ, suc, ◌+◌, ◌-◌, ◌≤◌, ◌<◌, ◌≡◌, refl, List, [], ◌∷◌, ◌++◌, length, set}
+use Rattle.std.specs.Prelude.{ℕ, suc, ◌+◌, ◌-◌, ◌≤◌, ◌<◌, ◌≡◌, refl, List, [], ◌∷◌, ◌++◌, length, set, Ok, Err}
+use Rattle.refusals.specs.declared.Refusal.{Refusal}
 use Rattle.std.proofs.Common.{arith, le_refl, ap, ap₂, sym, ◌∙◌, subst, get_or-set_same, get_or-set_other}
 use Rattle.terms.specs.Term.{Term, Terms, count}
 use Rattle.arena.specs.Copies.{term_room}
@@ -16,7 +17,7 @@ use Rattle.resolution.proofs.Machine.{try_exceeded, try_missed, try_entered}
 use Rattle.resolution.specs.Preorder.{Entry, entry, builds, made, made_enter, fits_enter}
 use Rattle.attempts.specs.Promises.{Added}
 use Rattle.attempts.specs.Extending.{held_kept, form_back}
-use Rattle.attempts.specs.declared.Tried.TheVariants.{Exceeded, Missed, Entered}
+use Rattle.attempts.specs.declared.Tried.TheVariants.{Missed, Entered}
 use Rattle.search_machine.specs.Storage.{RowAsked, RowTried}
 use Rattle.search_machine.specs.State.{term, Refers, span, rule_at, rules_from, arity, frame_of, row_of, frame_at}
 use Rattle.search_machine.specs.State.{premise_ref, pending, Place, inside, entries, Start, limits, all_rules}
@@ -65,10 +66,10 @@ module _ (a : Allowed) (P : List ℕ) (R F : Rows) (W : List ℕ) (T : Rows) (z 
 
   module _ {L M S : Rows} {W' : List ℕ} {T' L' M' S' : Rows} (lr : m.rule < a.rules)
       (asked : RowAsked a.variables a.words P R W T L M S m.counter m.used m.bound m.goal m.rule) where
-    pub tried_refused : RowTried a.variables a.words P R W W' T T' L L' M M' S S' m.counter m.used m.bound m.goal
-        m.rule Exceeded
+    pub tried_refused : (e : Refusal) → RowTried a.variables a.words P R W W' T T' L L' M M' S S' m.counter m.used m.bound m.goal
+        m.rule (Err e)
         → Refusing a P R F W' T' z o (to_stop m Refused m.steps)
-    tried_refused t =
+    tried_refused e t =
         let b = stack_above a P R F z W T m.frames m.counter m.bound m.used h.branches h.stack in
         let l = t.long in
         let lw = h.well.lent_words in
@@ -96,7 +97,7 @@ module _ (a : Allowed) (P : List ℕ) (R F : Rows) (W : List ℕ) (T : Rows) (z 
         }
 
     module _ (c' : ℕ) (t : RowTried a.variables a.words P R W W' T T' L L' M M' S S' m.counter m.used m.bound m.goal
-        m.rule (Missed c')) where
+        m.rule (Ok (Missed c'))) where
       missed_form : Form term_room W' T c' m.used m.bound
       missed_form = subst (λ (B : Rows). Form term_room W' B c' m.used m.bound) t.left.1.same t.left.1.form
 
@@ -149,7 +150,7 @@ module _ (a : Allowed) (P : List ℕ) (R F : Rows) (W : List ℕ) (T : Rows) (z 
 
     module _ (c' t' u' high : ℕ) (ln : m.frames < length F)
         (t : RowTried a.variables a.words P R W W' T T' L L' M M' S S' m.counter m.used m.bound m.goal m.rule
-        (Entered c' t' u')) where
+        (Ok (Entered c' t' u'))) where
       abbrev F' : Rows
       F' = set F m.frames (row_of (frame_for m))
 

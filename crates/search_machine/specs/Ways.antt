@@ -1,10 +1,10 @@
 -- The ways out of the machine's functions, as the contracts have them.
 use Prim.Native.Nat.{ℕ, suc, ◌+◌, ◌-◌, ◌*◌, ◌≤◌, ◌<◌}
+use Rattle.refusals.specs.declared.Refusal.{Refusal}
 use native.Mathlib.Omega.{arith}
-use Rattle.std.specs.Prelude.{◌≡◌, Bool, true, false, ◌≢◌, List, [], length, get_or, set}
+use Rattle.std.specs.Prelude.{◌≡◌, true, ◌≢◌, List, [], length, get_or, set, Ok, Err}
 use Rattle.std.proofs.Math.Path.{refl, ap}
 use Rattle.std.proofs.Common.{sym, ◌∙◌, subst, length-set, get_or-set_other}
-use Rattle.terms.specs.Numbers.{true_false}
 use Rattle.arena.specs.Cells.{cells}
 use Rattle.arena.specs.Copies.{term_room}
 use Rattle.arena.specs.Rows.{Rows}
@@ -12,12 +12,11 @@ use Rattle.bindings.specs.Tables.{undone}
 use Rattle.bindings.specs.Promises.{Undoable}
 use Rattle.unifier.specs.Promises.{Scratch}
 use Rattle.resolution.specs.Search.{Result}
-use Rattle.attempts.specs.declared.Tried.{Tried}
-use Rattle.attempts.specs.declared.Tried.TheVariants.{Exceeded, Missed, Entered}
-use Rattle.search_machine.specs.Storage.{RowAsked, RowTried, PremiseAsked}
+use Rattle.attempts.specs.declared.Tried.TheVariants.{Missed, Entered}
+use Rattle.search_machine.specs.Storage.{RowAsked, RowTried, PremiseAsked, Attempt}
 use Rattle.search_machine.specs.State.{arity, premise_ref, frame_at, row_of, Start, Holds, Case, Entering, Trying, Failing}
 use Rattle.search_machine.specs.Moves.{to_place, to_fail, to_stop, to_goal, to_rule, to_body, to_retry, frame_for, weights, current, measure}
-use Rattle.search_machine.specs.Promises.{Ready, Stepped, Moved, Seen, Returned, Known, Choice, Live, Stopped, Searched}
+use Rattle.search_machine.specs.Promises.{Ready, Stepped, Moved, Seen, Returned, Known, Choice, Stopped, Searched}
 use Rattle.search_machine.specs.Falls.{weights_same, weights_top, falls_step, falls_mode}
 use Rattle.search_machine.specs.Entries.{entry_out, entry_proof, entry_small, entry_built, entry_cut, entry_asked, entry_goal}
 use Rattle.search_machine.specs.Attempts.{row_asked}
@@ -155,33 +154,33 @@ module _ {a : Allowed} {P : List ℕ} {R F : Rows} {W : List ℕ} {T L M S : Row
   pub ready_asked : RowAsked a.variables a.words P R W T L M S m.counter m.used m.bound m.goal m.rule
   ready_asked = row_asked ready.holds.rules ready_case.well ready.scratch ready_case.refers ready_rule
 
-  module _ {W' : List ℕ} {T' L' M' S' : Rows} {answer : Tried}
+  module _ {W' : List ℕ} {T' L' M' S' : Rows} {answer : Attempt}
       (t : RowTried a.variables a.words P R W W' T T' L L' M M' S S' m.counter m.used m.bound m.goal
       m.rule answer) where
-    known : (k : Tried) → answer ≡ k
+    known : (k : Attempt) → answer ≡ k
         → RowTried a.variables a.words P R W W' T T' L L' M M' S S' m.counter m.used m.bound m.goal m.rule k
     known k q =
-        subst (λ (k : Tried). RowTried a.variables a.words P R W W' T T' L L' M M' S S' m.counter m.used m.bound m.goal
+        subst (λ (k : Attempt). RowTried a.variables a.words P R W W' T T' L L' M M' S S' m.counter m.used m.bound m.goal
         m.rule k) q t
 
     -- The words from the top on stand.
     past : (i : ℕ) → m.top ≤ i → cells W' i ≡ cells W i
     past i l = let r = choice.reach in t.past i (omega arith)
 
-    pub step_refused : answer ≡ Exceeded → Stepped a P R F F W W' T T' L L' M M' S S' m (to_stop m Refused m.steps)
-    step_refused q = record {
+    pub step_refused : (e : Refusal) → answer ≡ Err e → Stepped a P R F F W W' T T' L L' M M' S S' m (to_stop m Refused m.steps)
+    step_refused e q = record {
       keeps = λ z o h. holds_on h (omega arith) (omega arith) (omega arith) refl t.long past
-          (tried_refused a P R F W T z o m (case_at h trying) ready_rule ready_asked (known Exceeded q));
+          (tried_refused a P R F W T z o m (case_at h trying) ready_rule ready_asked e (known (Err e) q));
       falls = let c = at_try in falls_mode a.rules F m (to_stop m Refused m.steps) refl refl (omega arith);
       links = t.links_kept;
       marks = t.marks_kept;
       stack = t.stack_kept;
     }
 
-    pub step_missed : (c' : ℕ) → answer ≡ Missed c' → Stepped a P R F F W W' T T' L L' M M' S S' m (to_rule m (m.rule + 1) c' m.top)
+    pub step_missed : (c' : ℕ) → answer ≡ Ok (Missed c') → Stepped a P R F F W W' T T' L L' M M' S S' m (to_rule m (m.rule + 1) c' m.top)
     step_missed c' q = record {
-      keeps = λ z o h. holds_on h (omega arith) (known (Missed c') q).left.0 (omega arith) refl t.long past
-          (tried_missed a P R F W T z o m (case_at h trying) ready_rule ready_asked c' (known (Missed c') q));
+      keeps = λ z o h. holds_on h (omega arith) (known (Ok (Missed c')) q).left.0 (omega arith) refl t.long past
+          (tried_missed a P R F W T z o m (case_at h trying) ready_rule ready_asked c' (known (Ok (Missed c')) q));
       falls = let c = at_try in let l = ready_rule in falls_mode a.rules F m (to_rule m (m.rule + 1) c' m.top) refl refl
           (omega arith);
       links = t.links_kept;
@@ -189,7 +188,7 @@ module _ {a : Allowed} {P : List ℕ} {R F : Rows} {W : List ℕ} {T L M S : Row
       stack = t.stack_kept;
     }
 
-    module _ (c' t' u' high : ℕ) (q : answer ≡ Entered c' t' u') (above : m.high ≤ high) (new : m.frames + 1 ≤ high) where
+    module _ (c' t' u' high : ℕ) (q : answer ≡ Ok (Entered c' t' u')) (above : m.high ≤ high) (new : m.frames + 1 ≤ high) where
       abbrev F' : Rows
       F' = set F m.frames (row_of (frame_for m))
 
@@ -212,11 +211,11 @@ module _ {a : Allowed} {P : List ℕ} {R F : Rows} {W : List ℕ} {T L M S : Row
       step_entered = record {
         keeps = λ z o h. record {
           case = tried_entered a P R F W T z o m (case_at h trying) ready_rule ready_asked c' t' u' high lent_frames
-              (known (Entered c' t' u') q);
+              (known (Ok (Entered c' t' u')) q);
           rules = h.rules;
           frames = let l = h.frames in let s = length-set F m.frames (row_of (frame_for m)) in omega arith;
           left = h.left;
-          later = let c = h.later in let l = (known (Entered c' t' u') q).left.later in omega arith;
+          later = let c = h.later in let l = (known (Ok (Entered c' t' u')) q).left.later in omega arith;
           words_past = λ i l. past i l ∙ h.words_past i l;
           frames_past = λ i l. rows_past i l ∙ h.frames_past i (omega arith);
           words_long = t.long ∙ h.words_long;
@@ -278,8 +277,18 @@ module _ {a : Allowed} {P : List ℕ} {R F : Rows} {W : List ℕ} {T L M S : Row
   pub moved_stepped : {m' : Machine} → Moved a R F m m' → Stepped a P R F F W W T T L L M M S S m m'
   moved_stepped h = record { keeps = λ z o k. h.keeps P W T z o k; falls = h.falls; links = refl; marks = refl; stack = refl }
 
-  pub returned_stepped : {T' : Rows} {m' : Machine} → Returned a F T T' m m' → Stepped a P R F F W W T T' L L M M S S m m'
-  returned_stepped h = record { keeps = λ z o k. h.keeps P R W z o k; falls = h.falls; links = refl; marks = refl; stack = refl }
+  pub returned_stepped : {F' : Rows} {W' : List ℕ} {T' L' M' S' : Rows} {m' : Machine} → Returned a F T T' m m' → W' ≡ W → L' ≡ L
+      → M' ≡ M → S' ≡ S → F' ≡ F → Stepped a P R F F' W W' T T' L L' M M' S S' m m'
+  returned_stepped {W' = W'} {T' = T'} {L' = L'} {M' = M'} {S' = S'} {m' = m'} h ew el em es ef =
+      subst (λ (B : Rows). Stepped a P R F B W W' T T' L L' M M' S S' m m') (sym ef)
+      (subst (λ (B : List ℕ). Stepped a P R F F W B T T' L L' M M' S S' m m') (sym ew)
+      (record { keeps = λ z o k. h.keeps P R W z o k; falls = h.falls; links = el; marks = em; stack = es }))
+
+  -- The frames are as they were.
+  pub framed_stepped : {F' : Rows} {W' : List ℕ} {T' L' M' S' : Rows} {m' : Machine} → F' ≡ F
+      → Stepped a P R F F W W' T T' L L' M M' S S' m m' → Stepped a P R F F' W W' T T' L L' M M' S S' m m'
+  framed_stepped {W' = W'} {T' = T'} {L' = L'} {M' = M'} {S' = S'} {m' = m'} e h =
+      subst (λ (B : Rows). Stepped a P R F B W W' T T' L L' M M' S S' m m') (sym e) h
 
   pub ready_seen : Ready a P R F W T L M S m → m.mode ≡ Enter → Seen a R F m
   ready_seen r e = record { mode = e; pattern = P; words = W; rows = T; start = r.start; result = r.result; holds = r.holds }
@@ -287,23 +296,13 @@ module _ {a : Allowed} {P : List ℕ} {R F : Rows} {W : List ℕ} {T L M S : Row
   pub ready_known : Ready a P R F W T L M S m → m.mode ≡ Fail → Known a F T m
   ready_known r e = record { mode = e; pattern = P; rules = R; words = W; start = r.start; result = r.result; holds = r.holds }
 
--- The answers of `is_live`.
-pub live_goes : (k : Mode) → Live k → (◌≡◌ {A = Bool} true true → Live k) × (◌≡◌ {A = Bool} true false → Stopped k)
-live_goes k l = (λ _. l, λ q. true_false {b = true} refl q)
-
-pub live_stops : (k : Mode) → Stopped k → (◌≡◌ {A = Bool} false true → Live k) × (◌≡◌ {A = Bool} false false → Stopped k)
-live_stops k l = (λ q. true_false {b = false} q refl, λ _. l)
-
--- The loop's invariant: what the state means is what the first one meant, and the storage has its size.
+-- The loop's invariant: what the state means is what the first one meant.
 pub record Going (a : Allowed) (P : List ℕ) (R F₀ F : Rows) (W₀ W : List ℕ) (T₀ T L₀ L M₀ M S₀ S : Rows) (m₀ m : Machine) : Type 0 where
   pub ready : Ready a P R F W T L M S m
   pub keeps : (z : Start) (o : Result) → Holds a P R F₀ W₀ T₀ z o m₀ → Holds a P R F W T z o m
   pub links : L ≡ L₀
   pub marks : M ≡ M₀
   pub stack : S ≡ S₀
-  pub words_long : length W ≡ length W₀
-  pub rows_long : length T ≡ length T₀
-  pub frames_long : length F ≡ length F₀
 
 module _ {a : Allowed} {P : List ℕ} {R F₀ : Rows} {W₀ : List ℕ} {T₀ L₀ M₀ S₀ : Rows} {m₀ : Machine} where
   pub going_start : Ready a P R F₀ W₀ T₀ L₀ M₀ S₀ m₀ → Going a P R F₀ F₀ W₀ W₀ T₀ T₀ L₀ L₀ M₀ M₀ S₀ S₀ m₀ m₀
@@ -313,15 +312,12 @@ module _ {a : Allowed} {P : List ℕ} {R F₀ : Rows} {W₀ : List ℕ} {T₀ L�
     links = refl;
     marks = refl;
     stack = refl;
-    words_long = refl;
-    rows_long = refl;
-    frames_long = refl;
   }
 
   module _ {F : Rows} {W : List ℕ} {T L M S : Rows} {m : Machine} (g : Going a P R F₀ F W₀ W T₀ T L₀ L M₀ M S₀ S m₀ m) where
     pub going_on : {F' : Rows} {W' : List ℕ} {T' L' M' S' : Rows} {m' : Machine} → Stepped a P R F F' W W' T T' L L' M M' S S' m m'
-        → length W' ≡ length W → length T' ≡ length T → length F' ≡ length F → Going a P R F₀ F' W₀ W' T₀ T' L₀ L' M₀ M' S₀ S' m₀ m'
-    going_on {L' = L'} {M' = M'} {S' = S'} s x y w = record {
+        → Going a P R F₀ F' W₀ W' T₀ T' L₀ L' M₀ M' S₀ S' m₀ m'
+    going_on {L' = L'} {M' = M'} {S' = S'} s = record {
       ready = record {
         start = g.ready.start;
         result = g.ready.result;
@@ -335,9 +331,6 @@ module _ {a : Allowed} {P : List ℕ} {R F₀ : Rows} {W₀ : List ℕ} {T₀ L�
       links = s.links ∙ g.links;
       marks = s.marks ∙ g.marks;
       stack = s.stack ∙ g.stack;
-      words_long = x ∙ g.words_long;
-      rows_long = y ∙ g.rows_long;
-      frames_long = w ∙ g.frames_long;
     }
 
     pub going_stops : Stopped m.mode → Searched a P R F₀ F W₀ W T₀ T L₀ L M₀ M S₀ S m₀ m

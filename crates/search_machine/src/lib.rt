@@ -12,16 +12,15 @@ mod moves; // the machine's next states
 mod stored; // what an attempt reads in a rule's row
 
 ghost use Rattle.std.specs.Prelude.{◌≡◌, true, false};
-ghost use Rattle.search_machine.specs.Promises.{Ready, Stepped, Moved, Returned, Seen, Known, Choice, Live, Stopped, Searched};
+ghost use Rattle.search_machine.specs.Promises.{Moved, Seen, Known, Choice, Live, Stopped};
+ghost use Rattle.search_machine.specs.State.{frame_at};
+ghost use Rattle.search_machine.specs.Groups.{ReadyIn, SteppedIn, ReturnedIn, SearchedIn, IsLent};
 ghost use Rattle.search_machine.specs.declared.Mode.TheVariants.{Enter, Try, Fail};
 
 use attempts::Tried;
 use bindings::undo;
-use candidates::{larger, next_candidate};
-use frames::put_frame;
-pub use frames::{Frame, frame_at};
-pub use moves::at_start;
-use moves::{at_body, at_fail, at_goal, at_place, at_retry, at_rule, at_stop, frame_for};
+use candidates::next_candidate;
+pub use frames::{Frame, frame_at, put_row};
 use rules::RuleRow;
 use stored::{arity_of, premise, try_stored};
 
@@ -32,6 +31,34 @@ pub struct Allowed {
     pub words: u32,
     pub frames: u32,
     pub rules: u32,
+}
+
+// What a search reads: the rules of a signature, the words of their patterns, and what it may use.
+#[derive(Clone, Copy)]
+pub struct Program<'a> {
+    pub rules: &'a [RuleRow],
+    pub pattern: &'a [u32],
+    pub allowed: Allowed,
+}
+
+// What a search writes: the session's words and bindings, the scratch of unification, and a row for each rule that is entered.
+#[derive(Drop)]
+pub struct Store<'a> {
+    pub words: &'a mut [u32],
+    pub bindings: &'a mut [[u32; 2]],
+    pub links: &'a mut [[u32; 2]],
+    pub marks: &'a mut [[u32; 2]],
+    pub stack: &'a mut [[u32; 3]],
+    pub frames: &'a mut [[u32; 8]],
+}
+
+impl Store<'_> {
+    // The frame at a number; past the end all is 0.
+    fn frame(&self, at: u32) -> Frame
+        ensures { result ≡ frame_at self.now.frames.now at }
+    {
+        frame_at(self.frames, at)
+    }
 }
 
 // What the machine is about to do.
@@ -49,11 +76,22 @@ pub enum Mode {
     Refused,
 }
 
+impl Mode {
+    // Whether the machine goes on.
+    fn is_live(self) -> bool
+        ensures live { result ≡ true → Live self }
+        ensures stopped { result ≡ false → Stopped self }
+    {
+        matches!(self, Mode::Enter | Mode::Try | Mode::Fail)
+    }
+}
+
 // The machine's state beside its storage.
 #[derive(Clone, Copy)]
 pub struct Machine {
     pub mode: Mode,
     // The place: the application, counted from 1, and the number of its premise; application 0 is the top.
+    // Stays: a row of a frame, which C callers lend, holds the application as such a number.
     pub parent: u32,
     pub place: u32,
     // How many applications there are.
@@ -75,202 +113,107 @@ pub struct Machine {
 }
 
 // With no step left the place fails; otherwise one is used.
-fn enter(rules: &[RuleRow], allowed: Allowed, frames: &[[u32; 8]], m: Machine) -> Machine
-    requires { Seen allowed rules.now frames.now m }
-    ensures { Moved allowed rules.now frames.now m result }
+fn enter(program: Program, store: &Store, m: Machine) -> Machine
+    requires { Seen program.allowed program.rules.now store.now.frames.now m }
+    ensures { Moved program.entry.allowed program.entry.rules.now store.now.frames.now m result }
 {
     let steps = m.steps;
     let parent = m.parent;
     let place = m.place;
     if steps == 0 {
-        return at_fail(m, 0, m.cut);
+        return m.at_fail(0, m.cut);
     }
     if parent == 0 {
-        return at_stop(m, Mode::Proved, steps - 1);
+        return m.at_stop(Mode::Proved, steps - 1);
     }
-    let x = frame_at(frames, parent - 1);
-    if place == arity_of(rules, x.rule) {
-        return at_place(m, x.parent, x.place + 1, steps - 1);
+    let x = store.frame(parent - 1);
+    if place == arity_of(program.rules, x.rule) {
+        return m.at_place(x.parent, x.place + 1, steps - 1);
     }
     if x.depth == 0 {
-        return at_fail(m, steps - 1, true);
+        return m.at_fail(steps - 1, true);
     }
-    let goal = premise(rules, x, place);
-    at_goal(m, goal, x.depth - 1, steps - 1)
+    let goal = premise(program.rules, x, place);
+    m.at_goal(goal, x.depth - 1, steps - 1)
 }
 
 // One attempt with the rule that was chosen for the goal.
-fn attempt(
-    rules: &[RuleRow],
-    pattern: &[u32],
-    allowed: Allowed,
-    words: &mut [u32],
-    bindings: &mut [[u32; 2]],
-    links: &mut [[u32; 2]],
-    marks: &mut [[u32; 2]],
-    stack: &mut [[u32; 3]],
-    frames: &mut [[u32; 8]],
-    m: Machine,
-) -> Machine
-    requires fact_1 { Ready allowed pattern.now rules.now frames.old words.old bindings.old links.old marks.old stack.old m }
-    requires fact_2 { Choice allowed rules.now m }
-    ensures { Stepped allowed pattern.now rules.now frames.old frames.new
-        words.old words.new bindings.old bindings.new links.old links.new
-        marks.old marks.new stack.old stack.new m result }
+fn attempt(program: Program, store: &mut Store, m: Machine) -> Machine
+    requires ready { ReadyIn program store.old m }
+    requires choice { Choice program.allowed program.rules.now m }
+    ensures stepped { SteppedIn program.entry store.old store.new m result }
+    ensures lent { IsLent store.old store.new }
 {
-    match try_stored(
-        rules,
-        pattern,
-        words,
-        bindings,
-        links,
-        marks,
-        stack,
-        allowed.variables,
-        allowed.words,
-        m.counter,
-        m.used,
-        m.bound,
-        m.goal,
-        m.rule,
-    ) {
-        Tried::Exceeded => at_stop(m, Mode::Refused, m.steps),
-        Tried::Missed(counter) => at_rule(m, m.rule + 1, counter, m.top),
-        Tried::Entered(counter, bound, used) => {
-            let x = frame_for(m);
-            put_frame(frames, m.frames, x);
-            let high = larger(m.high, m.frames + 1);
-            at_body(m, counter, bound, used, high)
+    match try_stored(program, store, m) {
+        Err(_) => m.at_stop(Mode::Refused, m.steps),
+        Ok(Tried::Missed { counter }) => m.at_rule(m.rule + 1, counter, m.top),
+        Ok(
+            Tried::Entered {
+                counter,
+                bound,
+                used,
+            },
+        ) => {
+            put_row(store.frames, m.frames, m.frame().into());
+            let high = m.high.max(m.frames + 1);
+            m.at_body(counter, bound, used, high)
         }
     }
 }
 
 // The next rule for the goal: those before it clash with it.
-fn next_rule(
-    rules: &[RuleRow],
-    pattern: &[u32],
-    allowed: Allowed,
-    words: &mut [u32],
-    bindings: &mut [[u32; 2]],
-    links: &mut [[u32; 2]],
-    marks: &mut [[u32; 2]],
-    stack: &mut [[u32; 3]],
-    frames: &mut [[u32; 8]],
-    m: Machine,
-) -> Machine
-    requires fact_1 { Ready allowed pattern.now rules.now frames.old words.old bindings.old links.old marks.old stack.old m }
-    requires fact_2 { m.mode ≡ Try }
-    ensures { Stepped allowed pattern.now rules.now frames.old frames.new
-        words.old words.new bindings.old bindings.new links.old links.new
-        marks.old marks.new stack.old stack.new m result }
+fn next_rule(program: Program, store: &mut Store, m: Machine) -> Machine
+    requires ready { ReadyIn program store.old m }
+    requires mode { m.mode ≡ Try }
+    ensures stepped { SteppedIn program.entry store.old store.new m result }
+    ensures lent { IsLent store.old store.new }
 {
-    let n = next_candidate(rules, pattern, allowed, words, bindings, m);
-    let mode = n.mode;
-    match mode {
-        Mode::Try => attempt(
-            rules, pattern, allowed, words, bindings, links, marks, stack, frames, n,
-        ),
-        Mode::Enter => n,
-        Mode::Fail => n,
-        Mode::Proved => n,
-        Mode::Over => n,
-        Mode::Refused => n,
+    let n = next_candidate(program, store, m);
+    match n.mode {
+        Mode::Try => attempt(program, store, n),
+        _ => n,
     }
 }
 
 // Back to the newest application's goal, for its next rule.
-fn back(allowed: Allowed, bindings: &mut [[u32; 2]], frames: &[[u32; 8]], m: Machine) -> Machine
-    requires { Known allowed frames.now bindings.old m }
-    ensures { Returned allowed frames.now bindings.old bindings.new m result }
+fn back(allowed: Allowed, store: &mut Store, m: Machine) -> Machine
+    requires { Known allowed store.old.frames.now store.old.bindings.now m }
+    ensures returned { ReturnedIn allowed store.old store.new m result }
+    ensures lent { IsLent store.old store.new }
 {
     let count = m.frames;
     if count == 0 {
-        return at_stop(m, Mode::Over, m.steps);
+        return m.at_stop(Mode::Over, m.steps);
     }
-    let x = frame_at(frames, count - 1);
-    undo(bindings, m.bound, x.bound);
-    at_retry(m, x)
+    let x = store.frame(count - 1);
+    undo(store.bindings, m.bound, x.bound);
+    m.at_retry(x)
 }
 
 // One step of the machine.
-fn step(
-    rules: &[RuleRow],
-    pattern: &[u32],
-    allowed: Allowed,
-    words: &mut [u32],
-    bindings: &mut [[u32; 2]],
-    links: &mut [[u32; 2]],
-    marks: &mut [[u32; 2]],
-    stack: &mut [[u32; 3]],
-    frames: &mut [[u32; 8]],
-    m: Machine,
-) -> Machine
-    requires fact_1 { Ready allowed pattern.now rules.now frames.old words.old bindings.old links.old marks.old
-        stack.old m }
-    requires fact_2 { Live m.mode }
-    ensures { Stepped allowed pattern.now rules.now frames.old frames.new
-        words.old words.new
-        bindings.old bindings.new links.old links.new marks.old marks.new
-        stack.old stack.new m result }
+fn step(program: Program, store: &mut Store, m: Machine) -> Machine
+    requires ready { ReadyIn program store.old m }
+    requires live { Live m.mode }
+    ensures stepped { SteppedIn program.entry store.old store.new m result }
+    ensures lent { IsLent store.old store.new }
 {
-    let mode = m.mode;
-    match mode {
-        Mode::Enter => enter(rules, allowed, frames, m),
-        Mode::Try => next_rule(
-            rules, pattern, allowed, words, bindings, links, marks, stack, frames, m,
-        ),
-        Mode::Fail => back(allowed, bindings, frames, m),
-        Mode::Proved => m,
-        Mode::Over => m,
-        Mode::Refused => m,
-    }
-}
-
-// Whether a mode is one of the three that go on.
-fn is_live(mode: Mode) -> bool
-    ensures live { result ≡ true → Live mode }
-    ensures stopped { result ≡ false → Stopped mode }
-{
-    match mode {
-        Mode::Enter => true,
-        Mode::Try => true,
-        Mode::Fail => true,
-        Mode::Proved => false,
-        Mode::Over => false,
-        Mode::Refused => false,
+    match m.mode {
+        Mode::Enter => enter(program, store, m),
+        Mode::Try => next_rule(program, store, m),
+        Mode::Fail => back(program.allowed, store, m),
+        Mode::Proved | Mode::Over | Mode::Refused => m,
     }
 }
 
 // The search: from a state to one that has stopped.
-pub fn run(
-    rules: &[RuleRow],
-    pattern: &[u32],
-    allowed: Allowed,
-    words: &mut [u32],
-    bindings: &mut [[u32; 2]],
-    links: &mut [[u32; 2]],
-    marks: &mut [[u32; 2]],
-    stack: &mut [[u32; 3]],
-    frames: &mut [[u32; 8]],
-    first: Machine,
-) -> Machine
-    requires { Ready allowed pattern.now rules.now frames.old words.old bindings.old links.old marks.old
-        stack.old first }
-    ensures { Searched allowed pattern.now rules.now frames.old frames.new
-        words.old words.new
-        bindings.old bindings.new links.old links.new marks.old marks.new
-        stack.old stack.new first result }
+pub fn run(program: Program, store: &mut Store, first: Machine) -> Machine
+    requires { ReadyIn program store.old first }
+    ensures searched { SearchedIn program.entry store.old store.new first result }
+    ensures lent { IsLent store.old store.new }
 {
     let mut m = first;
-    loop {
-        let mode = m.mode;
-        let go = is_live(mode);
-        if go {
-            m = step(
-                rules, pattern, allowed, words, bindings, links, marks, stack, frames, m,
-            );
-        } else {
-            return m;
-        }
+    while m.mode.is_live() {
+        m = step(program, store, m);
     }
+    m
 }

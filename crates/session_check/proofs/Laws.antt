@@ -1,16 +1,13 @@
 -- Laws of the parts of a session's form: lengths, names, words, and all together.
-use Prim.Native.Nat.{ℕ, ◌+◌, ◌-◌, ◌≤◌, ◌<◌}
+use Prim.Native.Nat.{ℕ, ◌≤◌, ◌<◌}
 use native.Mathlib.Omega.{arith}
 use mathlib.Core.Path.{◌≡◌, refl, sym, ap, ◌∙◌}
-use mathlib.Core.Bool.{Bool, true, false, not}
+use mathlib.Core.Bool.{Bool, false, not}
 use mathlib.Core.Logic.{inl, inr}
 use mathlib.Core.List.{List, [], map}
-use lib.Dec.{ltb}
 use lib.ListN.{length, get_or, take}
-use borrow.Author.Count.{below_more}
-use borrow.Author.Tests.{not-false, lt-ltb, le-ltb}
+use borrow.Author.Tests.{not-false}
 use Rattle.words.specs.declared.Limits.{Limits}
-use Rattle.terms.specs.Numbers.{by_less, true_false}
 use Rattle.arena.specs.Cells.{cells, WellFormed}
 use Rattle.arena.specs.Copies.{term_room}
 use Rattle.arena.specs.Form.{in_form}
@@ -19,59 +16,17 @@ use Rattle.bindings.specs.Promises.{Tells, BindingsChecked}
 use Rattle.bindings.specs.Checking.{tells_no}
 use Rattle.unifier.specs.Promises.{Scratch}
 use Rattle.names.specs.Names.{Distinct, name_in}
-use Rattle.names.specs.NamePlaces.{NamePlace}
 use Rattle.names.specs.Symbols.{Rows, column, row_at, sort_of, sorts_of, symbols_of}
 use Rattle.names.specs.SearchLaws.{table_length, table_at, get_d_any}
 use Rattle.rules.specs.PatternLaws.{arities_of}
 use Rattle.signature.proofs.Laws.{same}
-use Rattle.sessions.specs.Storage.{SessionStore, Workspace, NameFormed, is_short, too_short}
+use Rattle.signature.proofs.UsedLaws.{used_length, row_used, used_each, each_used}
+use Rattle.sessions.specs.Storage.{SessionStore, Workspace, NameFormed, too_short}
 use Rattle.sessions.specs.OpeningLaws.{enough_lent}
 use Rattle.sessions.specs.declared.SessionCounts.{SessionCounts}
-use Rattle.session_check.specs.Parts.{SessionCounted, NameKind, NameNumbersFormed, NamesFormed, Rising, place_of, word_in}
+use Rattle.session_check.specs.Parts.{SessionCounted, NameKind, NamesFormed, Rising, place_of, word_in}
 use Rattle.session_check.specs.Parts.{PlacesDistinct}
 use Rattle.session_check.specs.Parts.{NamesListed, SessionReady, SessionChecked}
-
--- Lengths: a buffer that is too short, one law for each.
-module _ (variables most names words bindings links marks stack : ℕ) where
-  abbrev short : Bool
-  short = is_short variables most names words bindings links marks stack
-
-  pub short_names : names < 64 → true ≡ short
-  short_names l = rw (lt-ltb names 64 l) refl
-
-  module _ (a : 64 ≤ names) where
-    pub short_words : words < most → true ≡ short
-    short_words l = rw (le-ltb names 64 a, lt-ltb words most l) refl
-
-    module _ (b : most ≤ words) where
-      pub short_bindings : bindings < variables → true ≡ short
-      short_bindings l = rw (le-ltb names 64 a, le-ltb words most b, lt-ltb bindings variables l) refl
-
-      module _ (c : variables ≤ bindings) where
-        pub short_links : links < term_room + most → true ≡ short
-        short_links l =
-            rw (le-ltb names 64 a, le-ltb words most b, le-ltb bindings variables c, lt-ltb links (term_room + most) l) refl
-
-        module _ (d : term_room + most ≤ links) where
-          pub short_marks : marks < term_room + most → true ≡ short
-          short_marks l =
-              rw (
-                le-ltb names 64 a,
-                le-ltb words most b,
-                le-ltb bindings variables c,
-                le-ltb links (term_room + most) d,
-                lt-ltb marks (term_room + most) l,
-              ) refl
-
-          pub short_stack : term_room + most ≤ marks → ltb stack most ≡ short
-          short_stack e =
-              rw (
-                le-ltb names 64 a,
-                le-ltb words most b,
-                le-ltb bindings variables c,
-                le-ltb links (term_room + most) d,
-                le-ltb marks (term_room + most) e,
-              ) refl
 
 -- Where none is too short, the rows of the names are there.
 pub names_there : (limits : Limits) (b : SessionStore) (s : Workspace) (n : ℕ) → too_short limits b s ≡ false → n ≤ 64
@@ -79,23 +34,6 @@ pub names_there : (limits : Limits) (b : SessionStore) (s : Workspace) (n : ℕ)
 names_there limits b s n e f = let l = (enough_lent limits b s e).names in omega arith
 
 -- Names
-
--- A row is in form, part by part.
-module _ (text : List ℕ) (sorts variables : ℕ) (row : List ℕ) where
-  pub row_formed : NameKind (column row 0) → NamePlace text (column row 1) (column row 2)
-      → NameNumbersFormed (column row 3) (column row 4) sorts variables → NameFormed text sorts variables row
-  row_formed k p n = record { kind = k; place = p; sorted = n.sorted; sort = n.known; variable = n.made }
-
-  pub row_numbers : NameFormed text sorts variables row → NameNumbersFormed (column row 3) (column row 4) sorts variables
-  row_numbers h = record { sorted = h.sorted; known = h.sort; made = h.variable }
-
--- The variables of one row more rise.
-pub rising_next : (rows : Rows) (i : ℕ) → 1 ≤ i → Rising rows i → column (row_at rows (i - 1)) 4 < column (row_at rows i) 4
-    → Rising rows (i + 1)
-rising_next rows i o h l a b m n =
-    below_more (λ j. a < j → column (row_at rows a) 4 < column (row_at rows j) 4) i (λ j k m. h a j m k)
-    (λ m. by_less a (i - 1) (λ p q. let r = h a (i - 1) p (omega arith) in omega arith) (λ p q. let e : a ≡ i - 1 = omega arith in rw e l))
-    b n m
 
 -- The words at the places that were written are those of the names.
 module _ (text : List ℕ) (names places : Rows) (n : ℕ) (long : n ≤ length places) (put : (i : ℕ) → i < n
@@ -148,22 +86,30 @@ words_formed arities words n r c is e =
 
 -- All together
 
+-- The first n rows, lent as a part of the table.
+module _ {text : List ℕ} {sorts variables : ℕ} (rows : Rows) (n : ℕ) (lent : n ≤ length rows) where
+  pub names_used : NamesListed text sorts variables rows n → NamesListed text sorts variables (take n rows) (length (take n rows))
+  names_used g =
+      let e = used_length rows n lent in
+      record {
+        named = used_each rows n lent (NameFormed text sorts variables) g.named;
+        distinct = λ i j l m. let a : i < n = omega arith in let b : j < n = omega arith in rw (row_used rows n lent i a, row_used rows n lent j b) (g.distinct i j l b);
+        rising = λ i j l m. let a : i < n = omega arith in let b : j < n = omega arith in rw (row_used rows n lent i a, row_used rows n lent j b) (g.rising i j l b);
+      }
+
+  pub names_listed : NamesListed text sorts variables (take n rows) (length (take n rows)) → NamesListed text sorts variables rows n
+  names_listed g =
+      let e = used_length rows n lent in
+      record {
+        named = each_used rows n lent (NameFormed text sorts variables) g.named;
+        distinct = λ i j l m. rw (row_used rows n lent i (omega arith), row_used rows n lent j m) at (g.distinct i j l (omega arith));
+        rising = λ i j l m. rw (row_used rows n lent i (omega arith), row_used rows n lent j m) at (g.rising i j l (omega arith));
+      }
+
 module _ {text : List ℕ} {limits : Limits} {sorts : ℕ} {symbols : Rows} {m : ℕ} {b : SessionStore} {s : Workspace} {n : SessionCounts} where
   pub told_no : {marks' : Rows} → marks' ≡ s.marks → (SessionReady text limits sorts symbols m b s n → ⊥)
       → SessionChecked text limits sorts symbols m b s n marks' false
   told_no k h = record { tells = tells_no h; kept = k }
-
-  pub ready_lent : too_short limits b s ≡ true → SessionReady text limits sorts symbols m b s n → ⊥
-  ready_lent e h = true_false {P = ⊥} e h.lent
-
-  pub ready_counted : SessionReady text limits sorts symbols m b s n → SessionCounted n (length b.words)
-  ready_counted h = record {
-    few_names = h.session.few_names;
-    few_variables = h.session.few_variables;
-    few_bound = h.session.few_bound;
-    few_words = h.session.few_words;
-    words_lent = h.session.form.lent_words;
-  }
 
   pub ready_names : SessionReady text limits sorts symbols m b s n → NamesListed text sorts n.variables b.names n.names
   ready_names h = record { named = h.session.named; distinct = h.session.distinct; rising = h.session.rising }

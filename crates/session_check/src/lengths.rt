@@ -28,22 +28,12 @@ fn is_short_by(
     requires { most ≤ 262144 }
     ensures { result ≡ is_short variables most names words bindings links marks stack }
 {
-    if names < NAMES as usize {
-        return true;
-    }
-    if words < most {
-        return true;
-    }
-    if bindings < variables {
-        return true;
-    }
-    if links < TERM_ROOM as usize + most {
-        return true;
-    }
-    if marks < TERM_ROOM as usize + most {
-        return true;
-    }
-    stack < most
+    names < NAMES as usize
+        || words < most
+        || bindings < variables
+        || links < TERM_ROOM as usize + most
+        || marks < TERM_ROOM as usize + most
+        || stack < most
 }
 
 // Are buffers of these lengths shorter than the limits ask?
@@ -75,17 +65,9 @@ pub fn is_short(
 pub fn is_counted(counts: sessions::SessionCounts, lent: usize) -> bool
     ensures { Tells result (SessionCounted counts lent) }
 {
-    if NAMES < counts.names {
-        return false;
-    }
-    if VARIABLES < counts.variables {
-        return false;
-    }
-    if counts.variables < counts.bound {
-        return false;
-    }
-    if WORDS < counts.words {
-        return false;
-    }
-    counts.words as usize <= lent
+    counts.names <= NAMES
+        && counts.variables <= VARIABLES
+        && counts.bound <= counts.variables
+        && counts.words <= WORDS
+        && counts.words as usize <= lent
 }

@@ -10,6 +10,7 @@ mod nodes; // words over the signature's arities
 mod scratch; // scratch that is zero
 
 ghost use Rattle.std.specs.Prelude.{◌≤◌, length};
+ghost use Rattle.sessions.specs.Storage.{part_in};
 ghost use Rattle.session_check.specs.Parts.{SessionChecked};
 
 use arena::TERM_ROOM;
@@ -18,32 +19,31 @@ pub use lengths::is_short;
 use naming::are_names_listed;
 use nodes::are_words_formed;
 use scratch::is_scratch_zero;
+use sessions::StoredSession;
+use signature::StoredSignature;
 
 // Is a session's storage in form, lent as the limits ask, with zero scratch? Every entry point that is lent one asks this before it
 // writes. The marks are left as they are.
 pub fn check_session(
     text: &[u8],
     limits: words::Limits,
-    loaded: signature::Counts,
-    symbols: &[names::SymbolRow],
-    names: &[sessions::NameRow],
-    words: &[u32],
-    bindings: &[[u32; 2]],
+    signature: StoredSignature,
+    session: StoredSession,
     links: &[[u32; 2]],
     marks: &mut [[u32; 2]],
     stack: &[[u32; 3]],
-    counts: sessions::SessionCounts,
 ) -> bool
-    requires { (loaded.symbols ≤ 1024) × (loaded.symbols ≤ length symbols.now) }
-    ensures { SessionChecked text.now limits loaded.sorts symbols.now loaded.symbols
-        (record { names = names.now; words = words.now; bindings = bindings.now })
-        (record { links = links.now; marks = marks.old; stack = stack.now }) counts marks.new result }
+    requires { (signature.counts.symbols ≤ 1024) × (signature.counts.symbols ≤ length signature.symbols.now) }
+    ensures { SessionChecked text.now limits signature.entry.counts.sorts signature.entry.symbols.now signature.entry.counts.symbols
+        (part_in session.entry) (record { links = links.now; marks = marks.old; stack = stack.now }) session.entry.counts marks.new result }
 {
+    let counts = session.counts;
+    let words = session.words;
     if is_short(
         limits,
-        names.len(),
+        session.names.len(),
         words.len(),
-        bindings.len(),
+        session.bindings.len(),
         links.len(),
         marks.len(),
         stack.len(),
@@ -53,22 +53,12 @@ pub fn check_session(
     if !is_counted(counts, words.len()) {
         return false;
     }
-    if !are_names_listed(
-        text,
-        names,
-        counts.names as usize,
-        loaded.sorts,
-        counts.variables,
-    ) {
+    let names = &session.names[..counts.names as usize];
+    if !are_names_listed(text, names, signature.counts.sorts, counts.variables) {
         return false;
     }
-    if !are_words_formed(
-        symbols,
-        loaded.symbols as usize,
-        words,
-        counts.words,
-        counts.variables,
-    ) {
+    let symbols = &signature.symbols[..signature.counts.symbols as usize];
+    if !are_words_formed(symbols, words, counts.words, counts.variables) {
         return false;
     }
     if !is_scratch_zero(links, marks, stack, counts.words) {
@@ -76,7 +66,7 @@ pub fn check_session(
     }
     bindings::check_bindings(
         words,
-        bindings,
+        session.bindings,
         marks,
         TERM_ROOM,
         counts.variables,

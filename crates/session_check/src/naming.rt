@@ -15,108 +15,80 @@ const MOST: usize = 64;
 fn is_name_kind(kind: u32) -> bool
     ensures { Tells result (NameKind kind) }
 {
-    if kind == words::NAME {
-        return true;
-    }
-    kind == words::METAVARIABLE
+    kind == words::NAME || kind == words::METAVARIABLE
 }
 
 // Are a name's sort and variable in form?
 fn are_numbers_formed(sort: u32, variable: u32, sorts: u32, variables: u32) -> bool
     ensures { Tells result (NameNumbersFormed sort variable sorts variables) }
 {
-    if sort == 0 {
-        return false;
-    }
-    if sorts < sort {
-        return false;
-    }
-    variable < variables
+    sort != 0 && sort <= sorts && variable < variables
 }
 
-// Is the row of name i in form?
-fn is_name_formed(text: &[u8], names: &[NameRow], i: usize, sorts: u32, variables: u32) -> bool
-    requires { i < length names.now }
-    ensures { Tells result (NameFormed text.now sorts variables (row_at names.now i)) }
+// Is a name's row in form?
+fn is_name_formed(text: &[u8], row: &NameRow, sorts: u32, variables: u32) -> bool
+    ensures { Tells result (NameFormed text.now sorts variables row.now) }
 {
-    if !is_name_kind(names[i][0]) {
-        return false;
-    }
-    if !rule_checks::is_name(text, names[i][1], names[i][2]) {
-        return false;
-    }
-    are_numbers_formed(names[i][3], names[i][4], sorts, variables)
+    is_name_kind(row[0])
+        && rule_checks::is_name(text, row[1], row[2])
+        && are_numbers_formed(row[3], row[4], sorts, variables)
 }
 
-// Are the rows of the first n names in form?
-fn are_names_formed(text: &[u8], names: &[NameRow], n: usize, sorts: u32, variables: u32) -> bool
-    requires { n ≤ length names.now }
-    ensures { Tells result (NamesFormed text.now sorts variables names.now n) }
+// Are the rows of names in form?
+fn are_names_formed(text: &[u8], names: &[NameRow], sorts: u32, variables: u32) -> bool
+    ensures { Tells result (NamesFormed text.now sorts variables names.now (length names.now)) }
 {
-    let mut i = 0;
-    while i < n {
-        if !is_name_formed(text, names, i, sorts, variables) {
+    for row in names {
+        if !is_name_formed(text, row, sorts, variables) {
             return false;
         }
-        i += 1;
     }
     true
 }
 
-// Do the variables of the first n names rise?
-fn are_rising(names: &[NameRow], n: usize) -> bool
-    requires { n ≤ length names.now }
-    ensures { Tells result (Rising names.now n) }
+// Do the variables of names rise?
+fn are_rising(names: &[NameRow]) -> bool
+    ensures { Tells result (Rising names.now (length names.now)) }
 {
-    let mut i = 1;
-    while i < n {
+    for i in 1..names.len() {
         if names[i][4] <= names[i - 1][4] {
             return false;
         }
-        i += 1;
     }
     true
 }
 
-// Writes the places of n names.
-fn put_places(names: &[NameRow], n: usize, places: &mut [SortRow])
-    requires { (n ≤ length names.now) × (n ≤ length places.old) }
-    ensures { (i : ℕ) → i < n → row_at places.new i ≡ place_of (row_at names.now i) }
+// Writes the places of names.
+fn put_places(names: &[NameRow], places: &mut [SortRow])
+    requires { length names.now ≤ length places.old }
+    ensures { (i : ℕ) → i < length names.now → row_at places.new i ≡ place_of (row_at names.now i) }
 {
-    let mut i = 0;
-    while i < n {
-        places[i] = [names[i][1], names[i][2]];
-        i += 1;
+    for (i, row) in names.iter().enumerate() {
+        places[i] = [row[1], row[2]];
     }
 }
 
-// Do the words of n names all differ? Their places are sorted by their words.
-fn are_places_distinct(text: &[u8], names: &[NameRow], n: usize) -> bool
-    requires { (n ≤ length names.now) × (n ≤ 64) }
-    ensures { Tells result (PlacesDistinct text.now names.now n) }
+// Do the words of names all differ? Their places are sorted by their words.
+fn are_places_distinct(text: &[u8], names: &[NameRow]) -> bool
+    requires { length names.now ≤ 64 }
+    ensures { Tells result (PlacesDistinct text.now names.now (length names.now)) }
 {
     let mut places = [[0u32; 2]; MOST];
     let mut spare = [[0u32; 2]; MOST];
-    put_places(names, n, &mut places);
-    distinct::are_distinct(text, &mut places, &mut spare, n)
+    put_places(names, &mut places);
+    distinct::are_distinct(text, &mut places, &mut spare, names.len())
 }
 
-// Are n names in form, all different, with variables that rise?
-pub fn are_names_listed(
-    text: &[u8],
-    names: &[NameRow],
-    n: usize,
-    sorts: u32,
-    variables: u32,
-) -> bool
-    requires { (n ≤ length names.now) × (n ≤ 64) }
-    ensures { Tells result (NamesListed text.now sorts variables names.now n) }
+// Are names in form, all different, with variables that rise?
+pub fn are_names_listed(text: &[u8], names: &[NameRow], sorts: u32, variables: u32) -> bool
+    requires { length names.now ≤ 64 }
+    ensures { Tells result (NamesListed text.now sorts variables names.now (length names.now)) }
 {
-    if !are_names_formed(text, names, n, sorts, variables) {
+    if !are_names_formed(text, names, sorts, variables) {
         return false;
     }
-    if !are_rising(names, n) {
+    if !are_rising(names) {
         return false;
     }
-    are_places_distinct(text, names, n)
+    are_places_distinct(text, names)
 }

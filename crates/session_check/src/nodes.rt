@@ -12,18 +12,19 @@ use names::SymbolRow;
 const SYMBOLS: usize = 1024;
 
 // Are the words in use nodes of these symbols, with arguments that there are? A text gives the symbols names, which do not matter here.
-pub fn are_words_formed(
-    symbols: &[SymbolRow],
-    m: usize,
-    words: &[u32],
-    used: u32,
-    variables: u32,
-) -> bool
-    requires { (m ≤ 1024) × (m ≤ length symbols.now) × (used ≤ length words.now) × (used ≤ 262144) }
+pub fn are_words_formed(symbols: &[SymbolRow], words: &[u32], used: u32, variables: u32) -> bool
+    requires { (length symbols.now ≤ 1024) × (used ≤ length words.now) × (used ≤ 262144) }
     ensures { (text : List ℕ)
-        → result ≡ in_form words.now 0 used term_room variables (arities_of (symbols_of text symbols.now m)) }
+        → result ≡ in_form words.now 0 used term_room variables (arities_of (symbols_of text symbols.now (length symbols.now))) }
 {
     let mut arities = [0u32; SYMBOLS];
-    signature::put_arities(symbols, m, &mut arities);
-    arena::check_words(words, 0, used, TERM_ROOM, variables, &arities[0..m])
+    signature::put_arities(symbols, &mut arities);
+    arena::check_words(
+        words,
+        0,
+        used,
+        TERM_ROOM,
+        variables,
+        &arities[..symbols.len()],
+    )
 }

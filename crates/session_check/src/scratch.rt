@@ -18,11 +18,7 @@ pub fn is_scratch_zero(
     ensures { Tells result (Scratch term_room used links.now marks.now stack.now) }
 {
     let references = (TERM_ROOM + used) as usize;
-    if !are_zero_pairs(links, references) {
-        return false;
-    }
-    if !are_zero_pairs(marks, references) {
-        return false;
-    }
-    are_zero_triples(stack, used as usize)
+    are_zero_pairs(links, references)
+        && are_zero_pairs(marks, references)
+        && are_zero_triples(stack, used as usize)
 }

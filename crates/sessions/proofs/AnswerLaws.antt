@@ -19,8 +19,7 @@ use Rattle.tree_rows.specs.Trees.{Lists, entries_from}
 use Rattle.tree_rows.proofs.TreeLaws.{lists_grown, lists_preorder}
 use Rattle.sessions.specs.Promises.{answer_of, answer_told, verdict_told, IsRefused, IsProved, IsNothing, BindingsLeft}
 use Rattle.sessions.specs.declared.SessionCounts.{SessionCounts}
-use Rattle.sessions.specs.declared.Answer.{Answer}
-use Rattle.sessions.specs.declared.Answer.TheVariants.{Refused, Nothing}
+use Rattle.sessions.specs.Answers.{Answer, Refused, Nothing}
 
 -- What each verdict's answer says
 module _ (n : SessionCounts) (names : ℕ) where

@@ -19,8 +19,7 @@ use Rattle.sessions.specs.Promises.{ProveLeaves, Unwritten, Proving, IsRefused, 
 use Rattle.sessions.proofs.RefusalLaws.{one_or_not, answer_not_one}
 use Rattle.sessions.proofs.AnswerLaws.{listing_is}
 use Rattle.sessions.specs.declared.SessionCounts.{SessionCounts}
-use Rattle.sessions.specs.declared.Answer.{Answer}
-use Rattle.sessions.specs.declared.Answer.TheVariants.{Refused, Proved}
+use Rattle.sessions.specs.Answers.{Answer, Refused, Proved}
 use Rattle.sessions.specs.ContractLaws.{Alike}
 
 -- What is the same in front and zero behind is one list.

@@ -39,9 +39,8 @@ use Rattle.sessions.proofs.RefusalLaws.{answer_not_one, one_or_not}
 use Rattle.sessions.proofs.AnswerLaws.{decided_of, shown_of, proved_of, excluded_of, nothing_of, none_of, unproved_of}
 use Rattle.sessions.proofs.AnswerLaws.{refused_unproved, entered_names, listing_stays}
 use Rattle.sessions.specs.declared.SessionCounts.{SessionCounts}
-use Rattle.sessions.specs.declared.Opened.TheVariants.{New}
-use Rattle.sessions.specs.declared.Answer.{Answer}
-use Rattle.sessions.specs.declared.Answer.TheVariants.{Refused, Proved}
+use Rattle.std.specs.Prelude.{Ok}
+use Rattle.sessions.specs.Answers.{Answer, Refused, Proved}
 use Rattle.sessions.specs.Demand3.{Call, CallClaim, CallClaims, Calls, GoalClaim, ProofStands, Repeated, SameGoal, Shared, SharedWith, StoredClaims, StoredDemand3, end_counts, end_session, end_store, end_text, left_by, names_left}
 
 -- The proof
@@ -410,6 +409,6 @@ demand_3_stored sg text b n cs signature session calls =
 
 -- So of any list of calls in a session that `open` left.
 pub demand_3_opened : (sg : SignatureStore) (text : List ℕ) (limits : Limits) (b b' : SessionStore) (s s' : Workspace) (cs : List Call)
-    → SignatureListed text sg → Opening limits b s New b' s' → Calls sg text b' no_counts cs → StoredClaims sg text b' no_counts cs
+    → SignatureListed text sg → Opening limits b s (Ok tt) b' s' → Calls sg text b' no_counts cs → StoredClaims sg text b' no_counts cs
 demand_3_opened sg text limits b b' s s' cs signature opened calls =
     demand_3_stored sg text b' no_counts cs signature (opened_in limits b b' s s' opened text sg) calls

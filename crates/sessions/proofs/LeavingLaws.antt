@@ -24,8 +24,7 @@ use Rattle.sessions.specs.Leaving.{texts_of, NamesFit, NewRows, NamesKept, Sessi
 use Rattle.sessions.specs.StoreLaws.{names_length}
 use Rattle.sessions.proofs.KeepingLaws.{bound_count, listed_distinct, made_listed, made_names, unproved_made, unproved_bindings}
 use Rattle.sessions.specs.declared.SessionCounts.{SessionCounts}
-use Rattle.sessions.specs.declared.Answer.{Answer}
-use Rattle.sessions.specs.declared.Answer.TheVariants.{Refused, Proved, Nothing, Undecided}
+use Rattle.sessions.specs.Answers.{Answer, Refused, Proved, Nothing, Undecided}
 
 pub continued_cleared : {A : Type 0} (z : A) (u : ℕ) (l : List A) → u ≤ length l → Continued z u u l (cleared_from z u l)
 continued_cleared {A} z u l h =

@@ -15,8 +15,7 @@ use Rattle.sessions.specs.Goals.{WrittenTerm, goal_compiled}
 use Rattle.sessions.specs.Promises.{Asked, query_of, answer_to, answer_of}
 use Rattle.sessions.proofs.GoalLaws.{goal_refusals}
 use Rattle.sessions.specs.declared.SessionCounts.{SessionCounts}
-use Rattle.sessions.specs.declared.Answer.{Answer}
-use Rattle.sessions.specs.declared.Answer.TheVariants.{Refused, Proved, Nothing, Undecided}
+use Rattle.sessions.specs.Answers.{Answer, Refused, Proved, Nothing, Undecided}
 
 -- An answer is 1, or it is not.
 pub one_or_not : (a : Answer) → (a ≡ Refused 1) ⊎ (a ≡ Refused 1 → ⊥)

@@ -8,7 +8,7 @@ use Rattle.sessions.specs.Storage.{session_of}
 use Rattle.sessions.specs.Promises.{Given, counts_after}
 use Rattle.sessions.specs.Promises.{IsRefused, IsProved}
 use Rattle.sessions.specs.declared.SessionCounts.{SessionCounts}
-use Rattle.sessions.specs.declared.Answer.TheVariants.{Proved}
+use Rattle.sessions.specs.Answers.{Proved}
 
 -- Two outcomes of one call, alike in all that is fixed.
 pub record Alike (text : List ℕ) (n : SessionCounts) (g g' : Given) : Type 0 where

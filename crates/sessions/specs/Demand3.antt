@@ -9,7 +9,6 @@ use Rattle.terms.specs.Term.{one, var, Term, sub}
 use Rattle.terms.specs.Bindings.{full, res, Extends}
 use Rattle.arena.specs.Copies.{term_room}
 use Rattle.resolution.specs.Rules.{Rule, Tree, root, put_in, Derivation}
-use Rattle.resolution.specs.Search.{proved}
 use Rattle.resolution.specs.Session.{Named, Session, too_much, goal_of}
 use Rattle.resolution.specs.Verdicts.{Excluded}
 use Rattle.resolution.specs.Preorder.{preorder}
@@ -24,8 +23,7 @@ use Rattle.sessions.specs.Goals.{WrittenTerm, goal_in, goal_compiled}
 use Rattle.sessions.specs.Promises.{Asked, Given, ProveReady, allowance_of, answer_to, answer_of, counts_after}
 use Rattle.sessions.specs.Promises.{IsRefused, IsProved, IsNothing, Unwritten, Proving}
 use Rattle.sessions.specs.declared.SessionCounts.{SessionCounts}
-use Rattle.sessions.specs.declared.Answer.{Answer}
-use Rattle.sessions.specs.declared.Answer.TheVariants.{Refused, Proved, Nothing}
+use Rattle.sessions.specs.Answers.{Answer, Refused, Proved, Nothing}
 
 -- A list of calls
 -- A call, with what it answered and left.

@@ -5,7 +5,6 @@ use Prim.Native.Nat.{◌≤◌}
 use Rattle.std.specs.Prelude.{◌≡◌, map}
 use Rattle.terms.specs.Term.{nil}
 use Rattle.term_parser.specs.Source.{Arity}
-use Rattle.names.specs.Names.{Name}
 use Rattle.patterns.specs.Patterns.{Out, bad, good}
 use Rattle.rules.specs.Rules.{Ruled, barred, ruled}
 use Rattle.resolution.specs.Session.{Compiled, refuses, compiles}

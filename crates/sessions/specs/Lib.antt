@@ -1,6 +1,7 @@
 -- Sessions, in reading order. Definitions:
 pub mod Storage
 pub mod Goals
+pub mod Answers
 pub mod Promises
 -- Laws, in the order in which they are needed:
 pub mod GoalLaws

@@ -18,7 +18,7 @@ use Rattle.term_check.specs.TermRows.{TermAt}
 use Rattle.sessions.specs.Storage.{SessionStore, Workspace, names_in, session_of, SessionListed, SessionIn, too_short}
 use Rattle.sessions.specs.Storage.{zero_name, zero_triple, zero_store, zero_space, no_counts}
 use Rattle.sessions.specs.Promises.{Opening, Asked, ProveReady}
-use Rattle.sessions.specs.declared.Opened.TheVariants.{New}
+use Rattle.std.specs.Prelude.{Ok}
 
 -- A new session
 
@@ -116,21 +116,21 @@ zero_scratch limits b s h = record {
 -- What `open` leaves
 
 -- A session was opened, so nothing was too short, and zero is left.
-opened_zero : (limits : Limits) (b b' : SessionStore) (s s' : Workspace) → Opening limits b s New b' s'
+opened_zero : (limits : Limits) (b b' : SessionStore) (s s' : Workspace) → Opening limits b s (Ok tt) b' s'
     → (too_short limits b s ≡ false) × (b' ≡ zero_store b) × (s' ≡ zero_space s)
 opened_zero limits b b' s s' o = by_bool (too_short limits b s)
     (λ e. absurd (let q = (o.short e).0 in let z : ◌≡◌ {A = ℕ} 0 1 = cc in omega arith))
     (λ e. (e, (o.enough e).1, (o.enough e).2))
 
 -- It is as long as the limits ask,
-pub opened_lent : (limits : Limits) (b b' : SessionStore) (s s' : Workspace) → Opening limits b s New b' s' → too_short limits b' s' ≡ false
+pub opened_lent : (limits : Limits) (b b' : SessionStore) (s s' : Workspace) → Opening limits b s (Ok tt) b' s' → too_short limits b' s' ≡ false
 opened_lent limits b b' s s' o =
     let z = opened_zero limits b b' s s' o in
     subst (λ (x : SessionStore). too_short limits x s' ≡ false) (sym z.1)
     (subst (λ (x : Workspace). too_short limits (zero_store b) x ≡ false) (sym z.2) (zero_lent limits b s ∙ z.0))
 
 -- it is a session in form over any signature,
-pub opened_in : (limits : Limits) (b b' : SessionStore) (s s' : Workspace) → Opening limits b s New b' s'
+pub opened_in : (limits : Limits) (b b' : SessionStore) (s s' : Workspace) → Opening limits b s (Ok tt) b' s'
     → (text : List ℕ) (sg : SignatureStore)
     → SessionIn text sg b' no_counts
 opened_in limits b b' s s' o text sg =
@@ -139,7 +139,7 @@ opened_in limits b b' s s' o text sg =
 
 -- and a goal in form can be asked first thing, with any limits that the buffers are long enough for.
 pub opened_ready : (sg : SignatureStore) (k : Asked) (limits : Limits) (b b' : SessionStore) (s : Workspace) (next : ℕ)
-    → SignatureListed k.text sg → Opening limits b s New b' k.space → too_short k.limits b' k.space ≡ false
+    → SignatureListed k.text sg → Opening limits b s (Ok tt) b' k.space → too_short k.limits b' k.space ≡ false
     → (capped_of k.limits).steps ≤ length k.proof → TermAt k.text k.rows k.at next → ProveReady sg k b' no_counts
 opened_ready sg k limits b b' s next signature o enough steps goal =
     let space : k.space ≡ zero_space s = (opened_zero limits b b' s k.space o).2 in

@@ -1,5 +1,5 @@
 -- What `open` and `prove` promise (document 01, "Search" and "The table by place"): answer and lent storage, on all inputs.
-use Rattle.std.specs.Prelude.{ℕ, suc, ◌-◌, ◌≤◌, ◌≡◌, true, false, cond, List, [], ◌∷◌, length, take, drop, replicate}
+use Rattle.std.specs.Prelude.{ℕ, suc, ◌-◌, ◌≤◌, ◌≡◌, true, false, cond, List, [], ◌∷◌, length, take, drop, replicate, Result, Ok, Err}
 use Rattle.source_text.specs.Answers.{Told, answers, refuses}
 use Rattle.words.specs.Lexer.{capped_of}
 use Rattle.words.specs.declared.Limits.{Limits}
@@ -20,23 +20,23 @@ use Rattle.signature.specs.Storage.{SignatureStore, symbols_in, rules_in, Signat
 use Rattle.sessions.specs.Storage.{SessionStore, Workspace, session_of, SessionIn, too_short, zero_name, zero_tree, zero_store, zero_space}
 use Rattle.sessions.specs.Goals.{WrittenTerm, goal_in, goal_compiled}
 use Rattle.sessions.specs.declared.SessionCounts.{SessionCounts}
-use Rattle.sessions.specs.declared.Opened.{Opened}
-use Rattle.sessions.specs.declared.Opened.TheVariants.{Refused as Unopened, New}
-use Rattle.sessions.specs.declared.Answer.{Answer}
-use Rattle.sessions.specs.declared.Answer.TheVariants.{Refused, Proved, Nothing, Undecided}
+use Rattle.refusals.specs.Refusals.{number_of}
+use Rattle.refusals.specs.declared.Refusal.{Refusal}
+use Rattle.refusals.specs.declared.Refusal.TheVariants.{Storage}
+use Rattle.sessions.specs.Answers.{Answer, Refused, Proved, Nothing, Undecided}
 
 -- Opening a session
 
 -- The answer by the paper's numbers: a refusal, or nothing to report.
-abbrev pub opened_told : Opened → Told
-opened_told (Unopened e) = refuses e 0
-opened_told New = answers []
+abbrev pub opened_told : Result (Unit {0}) Refusal → Told
+opened_told (Err e) = refuses (number_of e) 0
+opened_told (Ok x) = answers []
 
 -- `open`: a buffer that is too short gives 1, and nothing is written; else a new session, and zero throughout.
-pub record Opening (limits : Limits) (b : SessionStore) (s : Workspace) (r : Opened) (b' : SessionStore) (s' : Workspace) : Type 0 where
+pub record Opening (limits : Limits) (b : SessionStore) (s : Workspace) (r : Result (Unit {0}) Refusal) (b' : SessionStore) (s' : Workspace) : Type 0 where
   pub told : opened_told r ≡ cond (too_short limits b s) (refuses 1 0) (answers [])
-  pub short : too_short limits b s ≡ true → (r ≡ Unopened 1) × (b' ≡ b) × (s' ≡ s)
-  pub enough : too_short limits b s ≡ false → (r ≡ New) × (b' ≡ zero_store b) × (s' ≡ zero_space s)
+  pub short : too_short limits b s ≡ true → (r ≡ Err Storage) × (b' ≡ b) × (s' ≡ s)
+  pub enough : too_short limits b s ≡ false → (r ≡ Ok tt) × (b' ≡ zero_store b) × (s' ≡ zero_space s)
 
 -- Proving a goal
 

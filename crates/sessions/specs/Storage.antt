@@ -15,6 +15,7 @@ use Rattle.rules.specs.PatternLaws.{arities_of}
 use Rattle.signature.specs.Storage.{SignatureStore, symbols_in}
 use Rattle.load_storage.specs.Storage.{zero_pair}
 use Rattle.sessions.specs.declared.SessionCounts.{SessionCounts}
+use Rattle.sessions.specs.declared.StoredSession.{StoredSession}
 
 -- The session's part: rows of names, words, and rows of bindings with their trail. Its terms have room for 65,536 variables, whatever the
 -- limits of a call: so the words, bindings and proofs that one call leaves mean the same in every later one.
@@ -22,6 +23,10 @@ pub record SessionStore : Type 0 where
   pub names : Rows
   pub words : List ℕ
   pub bindings : Rows
+
+-- What a struct of references to it holds.
+abbrev pub part_in : StoredSession → SessionStore
+part_in s = record { names = s.names.now; words = s.words.now; bindings = s.bindings.now }
 
 -- Scratch, zero before and after each call: links and marks by reference, and a stack.
 pub record Workspace : Type 0 where

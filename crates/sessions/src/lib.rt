@@ -14,20 +14,27 @@ pub struct SessionCounts {
     pub words: u32,
 }
 
-// What `open` answers.
-#[derive(Clone, Copy)]
-pub enum Opened {
-    Refused { number: u32 },
-    New,
+// A session in storage: the rows of its names, its words, its bindings with their trail, and how much of each is in use.
+pub struct Session<'a> {
+    pub names: &'a mut [NameRow],
+    pub words: &'a mut [u32],
+    pub bindings: &'a mut [[u32; 2]],
+    pub counts: SessionCounts,
 }
 
-// What `prove` answers: a refusal, after which the counts are those at entry; or a verdict with the steps used in the last bound and the
-// counts then, and for a proof the number of its nodes.
+// The same, to be read only.
 #[derive(Clone, Copy)]
-pub enum Answer {
-    Refused {
-        number: u32,
-    },
+pub struct StoredSession<'a> {
+    pub names: &'a [NameRow],
+    pub words: &'a [u32],
+    pub bindings: &'a [[u32; 2]],
+    pub counts: SessionCounts,
+}
+
+// The verdict on a goal that is not refused, with the steps used in the last bound and the counts then, and for a proof the number of its
+// nodes. After a refusal the counts are those at entry.
+#[derive(Clone, Copy)]
+pub enum Verdict {
     Proved {
         steps: u32,
         nodes: u32,

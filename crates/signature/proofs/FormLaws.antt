@@ -3,7 +3,7 @@ use Prim.Native.Nat.{ℕ, ◌≤◌}
 use native.Mathlib.Omega.{arith}
 use mathlib.Core.Bool.{Bool}
 use mathlib.Core.List.{List}
-use lib.ListN.{length}
+use lib.ListN.{length, take}
 use Rattle.names.specs.Names.{Distinct}
 use Rattle.names.specs.NamePlaces.{NamePlace}
 use Rattle.names.specs.Symbols.{Rows, column, sorts_of, symbols_of}
@@ -13,6 +13,7 @@ use Rattle.loader.specs.Legal.{names_of}
 use Rattle.signature.specs.Form.{SymbolFormed, Listed, Checked}
 use Rattle.signature.specs.Parts.{Lent, Counted, SortsNamed, NumbersFormed, MarkFormed, ClausesFormed, InputsFormed, SymbolsFormed, RulesListed, ClausesAsked, ClausesListed}
 use Rattle.signature.specs.StoreLaws.{row_kept}
+use Rattle.signature.proofs.UsedLaws.{used_asked}
 
 -- A symbol's row.
 module _ (text : List ℕ) (sorts rules : ℕ) (row : List ℕ) where
@@ -81,15 +82,11 @@ module _ {sorts symbols rules : Rows} {words : List ℕ} {n m k u : ℕ} (lent :
         clauses_formed = clauses;
       }
 
-  -- What the test of the clauses asks.
-  pub clauses_asked : {text arities : List ℕ} → SymbolsFormed text n k symbols m → RulesListed text arities words n rules k u → ClausesAsked symbols rules m k
+  -- What the test of the clauses asks of the rows in use.
+  pub clauses_asked : {text arities : List ℕ} → SymbolsFormed text n k symbols m → RulesListed text arities words n rules k u → ClausesAsked (take m symbols) (take k rules)
   clauses_asked {text} {arities} formed kept =
-      record {
-        symbols_lent = symbols_there_lem;
-        rules_lent = rules_there_lem;
-        within = λ i l. (formed i l).clauses;
-        premises = λ r l. (row_kept text arities words rules k u r rules_there_lem kept.kept l).2.premises;
-      }
+      used_asked text words symbols rules m k symbols_there_lem rules_there_lem (λ i l. (formed i l).clauses)
+      (λ r l. (row_kept text arities words rules k u r rules_there_lem kept.kept l).2.premises)
 
 module _ {text : List ℕ} {sorts symbols rules : Rows} {words : List ℕ} {n m k u : ℕ} where
   pub checked : {r : Bool} → Tells r (Listed text sorts symbols rules words n m k u) → Checked text sorts symbols rules words n m k u r

@@ -1,5 +1,6 @@
 -- The laws that several proofs cite.
 pub mod Laws
+pub mod UsedLaws
 pub mod NameLaws
 pub mod FormLaws
 pub mod RuleLaws

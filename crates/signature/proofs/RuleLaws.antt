@@ -16,8 +16,7 @@ use Rattle.patterns.proofs.Terms.{symbols_length, symbol_at_lem}
 use Rattle.rules.specs.StoredRows.{Kept}
 use Rattle.rules.specs.PatternLaws.{arities_of}
 use Rattle.rule_checks.specs.RuleForm.{rule_in, RuleFormed, RuleListed}
-use Rattle.rule_checks.specs.declared.Verdict.{Verdict}
-use Rattle.rule_checks.specs.declared.Verdict.TheVariants.{Bad, Good}
+use Rattle.std.specs.Prelude.{Option, Some, None}
 use Rattle.loader.specs.Holding.{RulesKept, rules_up, rules_more}
 use Rattle.signature.specs.Form.{rules_of}
 use Rattle.signature.specs.Parts.{RulesListed}
@@ -100,7 +99,7 @@ none_formed words = record { fits = λ a l. absurd (omega arith); arguments = λ
 pub next_formed : {text arities words row : List ℕ} {sorts used u u' : ℕ} → RuleListed text arities words sorts used row u u' → WellFormed pattern_room (cells words) pattern_room u'
 next_formed h = h.kept.lying.conclusion.formed
 
-pub bad_good : {v : Verdict} {u : ℕ} → v ≡ Good u → v ≡ Bad → ⊥
+pub bad_good : {v : Option ℕ} {u : ℕ} → v ≡ Some u → v ≡ None → ⊥
 bad_good g b = let z : ◌≡◌ {A = ℕ} 0 1 = cc in omega arith
 
 -- The column of the numbers of inputs.

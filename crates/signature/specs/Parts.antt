@@ -25,10 +25,9 @@ pub record Counted (words : List ℕ) (n m k u : ℕ) : Type 0 where
 abbrev pub SortsNamed : List ℕ → Rows → ℕ → Type 0
 SortsNamed text sorts n = (i : ℕ) → i < n → NamePlace text (column (row_at sorts i) 0) (column (row_at sorts i) 1)
 
--- The places of the names of m symbols stand behind the first n places, which are kept.
-pub record SymbolsPut (symbols : Rows) (m : ℕ) (before after : Rows) (n : ℕ) : Type 0 where
-  pub below : (i : ℕ) → i < n → row_at after i ≡ row_at before i
-  pub here : (i : ℕ) → i < m → row_at after (n + i) ≡ column (row_at symbols i) 0 ∷ column (row_at symbols i) 1 ∷ []
+-- The place of a symbol's name.
+abbrev pub place_in : List ℕ → List ℕ
+place_in row = column row 0 ∷ column row 1 ∷ []
 
 -- A symbol's output, number of inputs and free column,
 pub record NumbersFormed (sorts o inputs f : ℕ) : Type 0 where
@@ -65,12 +64,10 @@ pub record RulesListed (text arities words : List ℕ) (sorts : ℕ) (rules : Ro
   pub kept : RulesKept text arities words rules 0 (rules_of text words rules k) 0 u
   pub formed : (i : ℕ) → i < k → RuleFormed text words sorts (row_at rules i)
 
--- What the test of the clauses asks: rows of m symbols and k rules, clauses that are among the rules, and at most 16 premises in each rule.
-pub record ClausesAsked (symbols rules : Rows) (m k : ℕ) : Type 0 where
-  pub symbols_lent : m ≤ length symbols
-  pub rules_lent : k ≤ length rules
-  pub within : (i : ℕ) → i < m → column (row_at symbols i) 4 + column (row_at symbols i) 5 ≤ k
-  pub premises : (r : ℕ) → r < k → column (row_at rules r) 4 ≤ 16
+-- What the test of the clauses asks: clauses that are among the rules, and at most 16 premises in each rule.
+pub record ClausesAsked (symbols rules : Rows) : Type 0 where
+  pub within : (i : ℕ) → i < length symbols → column (row_at symbols i) 4 + column (row_at symbols i) 5 ≤ length rules
+  pub premises : (r : ℕ) → r < length rules → column (row_at rules r) 4 ≤ 16
 
 -- The clauses of the symbol i are in form,
 abbrev pub ClausesOf : List ℕ → Rows → ℕ → Rows → List ℕ → ℕ → Type 0

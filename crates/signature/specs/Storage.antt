@@ -1,10 +1,10 @@
 -- What a signature is stored in: the rows and words that a caller lends, with how many of each are in use, and the signature that they denote.
-use Rattle.std.specs.Prelude.{ℕ, ◌+◌, List, [], ◌∷◌}
+use Rattle.std.specs.Prelude.{ℕ, ◌+◌, Bool, List, [], ◌∷◌}
 use Rattle.resolution.specs.Rules.{Rule}
 use Rattle.names.specs.Symbols.{Rows, Symbol, sorts_of, symbols_of}
 use Rattle.rules.specs.PatternLaws.{nodes}
 use Rattle.loader.specs.Signature.{Signature}
-use Rattle.signature.specs.Form.{rules_of, Listed}
+use Rattle.signature.specs.Form.{rules_of, Listed, Checked}
 use Rattle.signature.specs.declared.Counts.{Counts}
 use Rattle.signature.specs.declared.StoredSignature.{StoredSignature}
 
@@ -45,3 +45,8 @@ signature_of text sg =
 abbrev pub SignatureListed : List ℕ → SignatureStore → Type 0
 SignatureListed text sg =
     Listed text sg.sorts sg.symbols sg.rules sg.words sg.counts.sorts sg.counts.symbols sg.counts.rules sg.counts.words
+
+-- What `check_signature` answers of it.
+abbrev pub SignatureChecked : List ℕ → SignatureStore → Bool → Type 0
+SignatureChecked text sg r =
+    Checked text sg.sorts sg.symbols sg.rules sg.words sg.counts.sorts sg.counts.symbols sg.counts.rules sg.counts.words r

@@ -45,93 +45,67 @@ fn is_node_of(words: &[u32], reference: u32, i: u32) -> bool
     symbol_at(words, (reference - ROOM) as usize) == i
 }
 
-// Is the term of a reference a call of one of m symbols?
-fn is_call(words: &[u32], reference: u32, symbols: &[SymbolRow], m: usize) -> bool
-    requires { m ≤ length symbols.now }
-    ensures { (text : List ℕ) → Tells result (Calls (symbols_of text symbols.now m)
+// Is the term of a reference a call of one of the symbols?
+fn is_call(words: &[u32], reference: u32, symbols: &[SymbolRow]) -> bool
+    ensures { (text : List ℕ) → Tells result (Calls (symbols_of text symbols.now (length symbols.now))
         (term_of words.now reference)) }
 {
     if reference < ROOM {
         return false;
     }
-    let f = symbol_at(words, (reference - ROOM) as usize) as usize;
-    if m <= f {
-        return false;
+    match symbols.get(symbol_at(words, (reference - ROOM) as usize) as usize) {
+        Some(symbol) => symbol[3] == 1,
+        None => false,
     }
-    symbols[f][3] == 1
 }
 
-// Are all premises of row r calls?
-fn are_calls(words: &[u32], rules: &[RuleRow], r: usize, symbols: &[SymbolRow], m: usize) -> bool
-    requires { (r < length rules.now) × (column (row_at rules.now r) 4 ≤ 16) × (m ≤ length symbols.now) }
-    ensures { (text : List ℕ) → Tells result (Calls (symbols_of text symbols.now m)
-        (terms_of (term_of words.now) (heads_in (row_at rules.now r)))) }
+// Are all premises of a rule calls?
+fn are_calls(words: &[u32], rule: &RuleRow, symbols: &[SymbolRow]) -> bool
+    requires { column rule.now 4 ≤ 16 }
+    ensures { (text : List ℕ) → Tells result (Calls (symbols_of text symbols.now (length symbols.now))
+        (terms_of (term_of words.now) (heads_in rule.now))) }
 {
-    let n = rules[r][4] as usize;
-    let mut k = 0;
-    while k < n {
-        if !is_call(words, rules[r][10 + k], symbols, m) {
+    for reference in &rule[10..10 + rule[4] as usize] {
+        if !is_call(words, *reference, symbols) {
             return false;
         }
-        k += 1;
     }
     true
 }
 
-// Is row r a clause in form of the symbol i?
-fn is_clause(
-    words: &[u32],
-    rules: &[RuleRow],
-    r: usize,
-    symbols: &[SymbolRow],
-    m: usize,
-    i: u32,
-) -> bool
-    requires { (r < length rules.now) × (column (row_at rules.now r) 4 ≤ 16) × (m ≤ length symbols.now) }
-    ensures { (text : List ℕ) → Tells result (ClauseFormed (symbols_of text symbols.now m) i
-        (rule_in text words.now (row_at rules.now r))) }
+// Is a rule a clause in form of the symbol i?
+fn is_clause(words: &[u32], rule: &RuleRow, symbols: &[SymbolRow], i: u32) -> bool
+    requires { column rule.now 4 ≤ 16 }
+    ensures { (text : List ℕ) → Tells result (ClauseFormed (symbols_of text symbols.now (length symbols.now)) i
+        (rule_in text words.now rule.now)) }
 {
-    if !is_node_of(words, rules[r][5], i) {
-        return false;
-    }
-    are_calls(words, rules, r, symbols, m)
+    is_node_of(words, rule[5], i) && are_calls(words, rule, symbols)
 }
 
 // Are all clauses of the symbol i in form?
-fn are_clauses_of(
-    words: &[u32],
-    rules: &[RuleRow],
-    k: usize,
-    symbols: &[SymbolRow],
-    m: usize,
-    i: u32,
-) -> bool
-    requires { ClausesAsked symbols.now rules.now m k × (i < m) }
-    ensures { (text : List ℕ) → Tells result (ClausesOf text symbols.now m rules.now words.now i) }
+fn are_clauses_of(words: &[u32], rules: &[RuleRow], symbols: &[SymbolRow], i: u32) -> bool
+    requires { ClausesAsked symbols.now rules.now × (i < length symbols.now) }
+    ensures { (text : List ℕ) → Tells result (ClausesOf text symbols.now (length symbols.now) rules.now words.now i) }
 {
     let first = symbols[i as usize][4] as usize;
     let n = symbols[i as usize][5] as usize;
-    let mut j = 0;
-    while j < n {
-        if !is_clause(words, rules, first + j, symbols, m, i) {
+    for rule in &rules[first..first + n] {
+        if !is_clause(words, rule, symbols, i) {
             return false;
         }
-        j += 1;
     }
     true
 }
 
-// Are the clauses of all m symbols in form? Clauses of two functions cannot be the same rule, so each rule is read once.
-pub fn are_listed(words: &[u32], rules: &[RuleRow], k: usize, symbols: &[SymbolRow], m: u32) -> bool
-    requires { ClausesAsked symbols.now rules.now m k }
-    ensures { (text : List ℕ) → Tells result (ClausesListed text symbols.now m rules.now words.now) }
+// Are the clauses of all symbols in form? Clauses of two functions cannot be the same rule, so each rule is read once.
+pub fn are_listed(words: &[u32], rules: &[RuleRow], symbols: &[SymbolRow]) -> bool
+    requires { ClausesAsked symbols.now rules.now × (length symbols.now ≤ 1024) }
+    ensures { (text : List ℕ) → Tells result (ClausesListed text symbols.now (length symbols.now) rules.now words.now) }
 {
-    let mut i = 0;
-    while i < m {
-        if !are_clauses_of(words, rules, k, symbols, m as usize, i) {
+    for i in 0..symbols.len() as u32 {
+        if !are_clauses_of(words, rules, symbols, i) {
             return false;
         }
-        i += 1;
     }
     true
 }

@@ -9,13 +9,13 @@ ghost use Rattle.names.specs.Symbols.{column, row_at, sorts_of, symbols_of};
 ghost use Rattle.unifier.specs.Promises.{Tells};
 ghost use Rattle.rules.specs.PatternLaws.{arities_of};
 ghost use Rattle.loader.specs.Legal.{names_of};
-ghost use Rattle.signature.specs.Form.{SymbolFormed, Checked};
-ghost use Rattle.signature.specs.Parts.{Lent, Counted, SortsNamed, SymbolsPut, NumbersFormed, MarkFormed, ClausesFormed, InputFormed, InputsFormed, SymbolsFormed, RulesListed};
+ghost use Rattle.signature.specs.Form.{SymbolFormed};
+ghost use Rattle.signature.specs.Parts.{Lent, Counted, SortsNamed, place_in, NumbersFormed, MarkFormed, ClausesFormed, InputsFormed, SymbolsFormed, RulesListed};
+ghost use Rattle.signature.specs.Storage.{store_of, SignatureChecked};
 
 mod functions;
 
 use names::{SortRow, SymbolRow};
-use rule_checks::Verdict;
 use rules::RuleRow;
 
 // How many sorts, symbols and rules there may be, and inputs of a symbol.
@@ -56,91 +56,58 @@ pub struct StoredSignature<'a> {
 }
 
 // Are as many rows lent as there may be?
-fn is_lent(sorts: &[SortRow], symbols: &[SymbolRow], rules: &[RuleRow]) -> bool
-    ensures { Tells result (Lent sorts.now symbols.now rules.now) }
+fn is_lent(signature: StoredSignature) -> bool
+    ensures { Tells result (Lent signature.entry.sorts.now signature.entry.symbols.now signature.entry.rules.now) }
 {
-    if sorts.len() < SORTS {
-        return false;
-    }
-    if symbols.len() < SYMBOLS {
-        return false;
-    }
-    RULES <= rules.len()
+    SORTS <= signature.sorts.len()
+        && SYMBOLS <= signature.symbols.len()
+        && RULES <= signature.rules.len()
 }
 
 // Are the counts within the limits and the words lent?
 fn is_counted(words: &[u32], counts: Counts) -> bool
     ensures { Tells result (Counted words.now counts.sorts counts.symbols counts.rules counts.words) }
 {
-    if SORTS < counts.sorts as usize {
-        return false;
-    }
-    if SYMBOLS < counts.symbols as usize {
-        return false;
-    }
-    if RULES < counts.rules as usize {
-        return false;
-    }
-    if WORDS < counts.words as usize {
-        return false;
-    }
-    counts.words as usize <= words.len()
+    counts.sorts as usize <= SORTS
+        && counts.symbols as usize <= SYMBOLS
+        && counts.rules as usize <= RULES
+        && counts.words as usize <= WORDS
+        && counts.words as usize <= words.len()
 }
 
-// Do the names of the first n sorts have places in the text?
-fn are_sorts_named(text: &[u8], sorts: &[SortRow], n: usize) -> bool
-    requires { n ≤ length sorts.now }
-    ensures { Tells result (SortsNamed text.now sorts.now n) }
+// Do the names of sorts have places in the text?
+fn are_sorts_named(text: &[u8], sorts: &[SortRow]) -> bool
+    ensures { Tells result (SortsNamed text.now sorts.now (length sorts.now)) }
 {
-    let mut i = 0;
-    while i < n {
-        if !rule_checks::is_name(text, sorts[i][0], sorts[i][1]) {
+    for row in sorts {
+        if !rule_checks::is_name(text, row[0], row[1]) {
             return false;
         }
-        i += 1;
     }
     true
 }
 
-// Writes the places of the names of n sorts.
-fn put_sorts(sorts: &[SortRow], n: usize, places: &mut [SortRow])
-    requires { (n ≤ length sorts.now) × (n ≤ length places.old) }
-    ensures { (i : ℕ) → i < n → row_at places.new i ≡ row_at sorts.now i }
+// Writes the places of the names of symbols.
+fn put_symbols(symbols: &[SymbolRow], places: &mut [SortRow])
+    requires { length symbols.now ≤ length places.old }
+    ensures { (i : ℕ) → i < length symbols.now → row_at places.new i ≡ place_in (row_at symbols.now i) }
 {
-    let mut i = 0;
-    while i < n {
-        places[i] = sorts[i];
-        i += 1;
-    }
-}
-
-// Writes those of m symbols behind the first n places.
-fn put_symbols(symbols: &[SymbolRow], m: usize, places: &mut [SortRow], n: usize)
-    requires { (m ≤ length symbols.now) × (n + m ≤ length places.old) }
-    ensures { SymbolsPut symbols.now m places.old places.new n }
-{
-    let mut i = 0;
-    while i < m {
-        places[n + i] = [symbols[i][0], symbols[i][1]];
-        i += 1;
+    for (i, row) in symbols.iter().enumerate() {
+        places[i] = [row[0], row[1]];
     }
 }
 
 // Does no name serve twice among sorts and symbols? Their places are sorted by their names: for k names at most k times log2 k comparisons, each at most as long as the shorter name.
-fn are_names_distinct(
-    text: &[u8],
-    sorts: &[SortRow],
-    n: usize,
-    symbols: &[SymbolRow],
-    m: usize,
-) -> bool
-    requires { (n ≤ length sorts.now) × (m ≤ length symbols.now) × (n ≤ 256) × (m ≤ 1024) }
-    ensures { Tells result (Distinct (names_of (sorts_of text.now sorts.now n) (symbols_of text.now symbols.now m))) }
+fn are_names_distinct(text: &[u8], sorts: &[SortRow], symbols: &[SymbolRow]) -> bool
+    requires { (length sorts.now ≤ 256) × (length symbols.now ≤ 1024) }
+    ensures { Tells result (Distinct (names_of (sorts_of text.now sorts.now (length sorts.now)) (symbols_of text.now symbols.now (length symbols.now)))) }
 {
     let mut places = [[0u32; 2]; NAMES];
     let mut spare = [[0u32; 2]; NAMES];
-    put_sorts(sorts, n, &mut places);
-    put_symbols(symbols, m, &mut places, n);
+    let n = sorts.len();
+    let m = symbols.len();
+    places[..n].copy_from_slice(sorts);
+    put_symbols(symbols, &mut places[n..n + m]);
     distinct::are_distinct(text, &mut places, &mut spare, n + m)
 }
 
@@ -148,206 +115,143 @@ fn are_names_distinct(
 fn are_numbers_formed(sorts: u32, output: u32, inputs: u32, free: u32) -> bool
     ensures { Tells result (NumbersFormed sorts output inputs free) }
 {
-    if sorts < output {
-        return false;
-    }
-    if INPUTS < inputs as usize {
-        return false;
-    }
-    free == 0
+    output <= sorts && inputs as usize <= INPUTS && free == 0
 }
 
 // A function has no output, and its last input is its result; only a function has clauses.
 fn is_mark_formed(output: u32, mark: u32, clauses: u32, inputs: u32) -> bool
     ensures { Tells result (MarkFormed output mark clauses inputs) }
 {
-    if mark == 0 {
-        return clauses == 0;
+    match mark {
+        0 => clauses == 0,
+        1 => output == 0 && 0 < inputs,
+        _ => false,
     }
-    if mark != 1 {
-        return false;
-    }
-    if output != 0 {
-        return false;
-    }
-    0 < inputs
 }
 
 // Are the clauses rules that there are, and is the first number zero without clauses?
 fn are_clauses_formed(first: u32, clauses: u32, rules: u32) -> bool
     ensures { Tells result (ClausesFormed first clauses rules) }
 {
-    if (rules as usize) < first as usize + clauses as usize {
-        return false;
-    }
-    if clauses != 0 {
-        return true;
-    }
-    first == 0
+    first as usize + clauses as usize <= rules as usize && (clauses != 0 || first == 0)
 }
 
-// Is the column j of the inputs, of which n are used, a sort, or zero past them?
-fn is_input_formed(sorts: u32, n: u32, j: usize, input: u32) -> bool
-    ensures { Tells result (InputFormed sorts n j input) }
+// Is each input of a symbol's row a sort, and each column past them zero?
+fn are_inputs_formed(sorts: u32, row: &SymbolRow) -> bool
+    requires { column row.now 6 ≤ 16 }
+    ensures { Tells result (InputsFormed sorts row.now) }
 {
-    if n as usize <= j {
-        return input == 0;
-    }
-    if input == 0 {
-        return false;
-    }
-    input <= sorts
+    let n = row[6] as usize;
+    rule_checks::are_sorts(&row[8..8 + n], sorts) && rule_checks::are_zeros(&row[8 + n..24])
 }
 
-// Are all columns of the inputs of symbol i in form?
-fn are_inputs_formed(sorts: u32, symbols: &[SymbolRow], i: usize) -> bool
-    requires { i < length symbols.now }
-    ensures { Tells result (InputsFormed sorts (row_at symbols.now i)) }
+// Is a symbol's row in form, where there are so many sorts and rules?
+fn is_symbol_formed(text: &[u8], sorts: u32, rules: u32, row: &SymbolRow) -> bool
+    ensures { Tells result (SymbolFormed text.now sorts rules row.now) }
 {
-    let mut j = 0;
-    while j < INPUTS {
-        if !is_input_formed(sorts, symbols[i][6], j, symbols[i][8 + j]) {
+    if !rule_checks::is_name(text, row[0], row[1]) {
+        return false;
+    }
+    if !are_numbers_formed(sorts, row[2], row[6], row[7]) {
+        return false;
+    }
+    if !is_mark_formed(row[2], row[3], row[5], row[6]) {
+        return false;
+    }
+    if !are_clauses_formed(row[4], row[5], rules) {
+        return false;
+    }
+    are_inputs_formed(sorts, row)
+}
+
+// Are the rows of symbols in form?
+fn are_symbols_formed(text: &[u8], sorts: u32, rules: u32, symbols: &[SymbolRow]) -> bool
+    ensures { Tells result (SymbolsFormed text.now sorts rules symbols.now (length symbols.now)) }
+{
+    for row in symbols {
+        if !is_symbol_formed(text, sorts, rules, row) {
             return false;
         }
-        j += 1;
     }
     true
 }
 
-// Is the row of symbol i in form?
-fn is_symbol_formed(text: &[u8], sorts: u32, rules: u32, symbols: &[SymbolRow], i: usize) -> bool
-    requires { i < length symbols.now }
-    ensures { Tells result (SymbolFormed text.now sorts rules (row_at symbols.now i)) }
+// Writes the number of inputs of each symbol.
+pub fn put_arities(symbols: &[SymbolRow], arities: &mut [u32])
+    requires { length symbols.now ≤ length arities.old }
+    ensures { (i : ℕ) → i < length symbols.now → get_or arities.new i 0 ≡ column (row_at symbols.now i) 6 }
 {
-    if !rule_checks::is_name(text, symbols[i][0], symbols[i][1]) {
-        return false;
-    }
-    if !are_numbers_formed(sorts, symbols[i][2], symbols[i][6], symbols[i][7]) {
-        return false;
-    }
-    if !is_mark_formed(symbols[i][2], symbols[i][3], symbols[i][5], symbols[i][6]) {
-        return false;
-    }
-    if !are_clauses_formed(symbols[i][4], symbols[i][5], rules) {
-        return false;
-    }
-    are_inputs_formed(sorts, symbols, i)
-}
-
-// Are the rows of the first m symbols in form?
-fn are_symbols_formed(text: &[u8], sorts: u32, rules: u32, symbols: &[SymbolRow], m: usize) -> bool
-    requires { m ≤ length symbols.now }
-    ensures { Tells result (SymbolsFormed text.now sorts rules symbols.now m) }
-{
-    let mut i = 0;
-    while i < m {
-        if !is_symbol_formed(text, sorts, rules, symbols, i) {
-            return false;
-        }
-        i += 1;
-    }
-    true
-}
-
-// Writes the number of inputs of each of m symbols.
-pub fn put_arities(symbols: &[SymbolRow], m: usize, arities: &mut [u32])
-    requires { (m ≤ length symbols.now) × (m ≤ length arities.old) }
-    ensures { (i : ℕ) → i < m → get_or arities.new i 0 ≡ column (row_at symbols.now i) 6 }
-{
-    let mut i = 0;
-    while i < m {
-        arities[i] = symbols[i][6];
-        i += 1;
+    for (i, row) in symbols.iter().enumerate() {
+        arities[i] = row[6];
     }
 }
 
-// Are the first k rules in form, one behind the other in the words in use, and do they end where these end? The stack is scratch.
+// Are the rules in form, one behind the other in the words in use, and do they end where these end? The stack is scratch.
 fn are_rules_listed(
     text: &[u8],
     arities: &[u32],
-    words: &[u32],
-    used: u32,
-    sorts: u32,
-    rules: &[RuleRow],
-    k: usize,
+    signature: StoredSignature,
     stack: &mut [[u32; 2]],
 ) -> bool
-    requires { (used ≤ length words.now) × (used ≤ 65536) × (k ≤ length rules.now) × (2048 ≤ length stack.old) }
-    ensures { Tells result (RulesListed text.now arities.now words.now sorts rules.now k used) }
+    requires { (signature.counts.words ≤ length signature.words.now) × (signature.counts.words ≤ 65536) × (signature.counts.rules ≤ length signature.rules.now) × (2048 ≤ length stack.old) }
+    ensures { Tells result (RulesListed text.now arities.now signature.entry.words.now signature.entry.counts.sorts signature.entry.rules.now signature.entry.counts.rules signature.entry.counts.words) }
 {
+    let counts = signature.counts;
     let mut at = 0;
-    let mut i = 0;
-    while i < k {
-        let verdict = rule_checks::check_rule(
-            text, arities, words, used, at, sorts, rules, i, stack,
-        );
-        let Verdict::Good { next } = verdict else {
+    for rule in &signature.rules[..counts.rules as usize] {
+        let Some(next) = rule_checks::check_rule(
+            text,
+            arities,
+            signature.words,
+            counts.words,
+            at,
+            counts.sorts,
+            rule,
+            stack,
+        ) else {
             return false;
         };
         at = next;
-        i += 1;
     }
-    at == used
+    at == counts.words
 }
 
 // Are all rules so over the symbols that are stored?
-fn are_rules_of(
-    text: &[u8],
-    symbols: &[SymbolRow],
-    rules: &[RuleRow],
-    words: &[u32],
-    counts: Counts,
-) -> bool
-    requires { (counts.symbols ≤ 1024) × (counts.symbols ≤ length symbols.now) × (counts.words ≤ length words.now) × (counts.words ≤ 65536) × (counts.rules ≤ length rules.now) }
-    ensures { Tells result (RulesListed text.now (arities_of (symbols_of text.now symbols.now counts.symbols)) words.now counts.sorts rules.now counts.rules counts.words) }
+fn are_rules_of(text: &[u8], symbols: &[SymbolRow], signature: StoredSignature) -> bool
+    requires { (length symbols.now ≤ 1024) × (signature.counts.words ≤ length signature.words.now) × (signature.counts.words ≤ 65536) × (signature.counts.rules ≤ length signature.rules.now) }
+    ensures { Tells result (RulesListed text.now (arities_of (symbols_of text.now symbols.now (length symbols.now))) signature.entry.words.now signature.entry.counts.sorts signature.entry.rules.now signature.entry.counts.rules signature.entry.counts.words) }
 {
-    let m = counts.symbols as usize;
-    let k = counts.rules as usize;
     let mut arities = [0u32; SYMBOLS];
-    put_arities(symbols, m, &mut arities);
+    put_arities(symbols, &mut arities);
     let mut stack = [[0u32; 2]; RULE_WORDS];
-    are_rules_listed(
-        text,
-        &arities[0..m],
-        words,
-        counts.words,
-        counts.sorts,
-        rules,
-        k,
-        &mut stack,
-    )
+    are_rules_listed(text, &arities[..symbols.len()], signature, &mut stack)
 }
 
 // Is the stored signature in the listed form? Every entry point that is lent one asks this first.
-pub fn check_signature(
-    text: &[u8],
-    sorts: &[SortRow],
-    symbols: &[SymbolRow],
-    rules: &[RuleRow],
-    words: &[u32],
-    counts: Counts,
-) -> bool
-    ensures { Checked text.now sorts.now symbols.now rules.now words.now counts.sorts counts.symbols counts.rules counts.words result }
+pub fn check_signature(text: &[u8], signature: StoredSignature) -> bool
+    ensures { SignatureChecked text.now (store_of signature.entry) result }
 {
-    if !is_lent(sorts, symbols, rules) {
+    let counts = signature.counts;
+    if !is_lent(signature) {
         return false;
     }
-    if !is_counted(words, counts) {
+    if !is_counted(signature.words, counts) {
         return false;
     }
-    let n = counts.sorts as usize;
-    let m = counts.symbols as usize;
-    if !are_sorts_named(text, sorts, n) {
+    let sorts = &signature.sorts[..counts.sorts as usize];
+    let symbols = &signature.symbols[..counts.symbols as usize];
+    let rules = &signature.rules[..counts.rules as usize];
+    if !are_sorts_named(text, sorts) {
         return false;
     }
-    if !are_names_distinct(text, sorts, n, symbols, m) {
+    if !are_names_distinct(text, sorts, symbols) {
         return false;
     }
-    if !are_symbols_formed(text, counts.sorts, counts.rules, symbols, m) {
+    if !are_symbols_formed(text, counts.sorts, counts.rules, symbols) {
         return false;
     }
-    if !are_rules_of(text, symbols, rules, words, counts) {
+    if !are_rules_of(text, symbols, signature) {
         return false;
     }
-    functions::are_listed(words, rules, counts.rules as usize, symbols, counts.symbols)
+    functions::are_listed(signature.words, rules, symbols)
 }

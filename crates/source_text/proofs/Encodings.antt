@@ -11,10 +11,13 @@ use lib.Seq.{drop-cons, drop-drop}
 use lib.Dec.{T, eqb, ltb, eqb→eq}
 use borrow.Author.Tests.{eq-eqb, ne_eqb, le-leb, lt-leb, lt-ltb, le-ltb}
 use Rattle.source_text.specs.Bytes.{within, starts_with}
-use Rattle.source_text.specs.Utf8.{lead_of, asks, tails_of, character_length, utf8_after}
-use Rattle.source_text.specs.Characters.{arrow, character_of, outside_after, class_of, classes_from, class_table}
+use Rattle.source_text.specs.Utf8.{starting, positive, lead_of, asks, tails_of, character_length, utf8_after}
+use Rattle.source_text.specs.Characters.{Classed, class_number, class_numbers, arrow, character_of, outside_after, class_of, classes_from, class_table}
 use Rattle.source_text.specs.declared.utf8.Lead.{Lead}
-use Rattle.source_text.specs.declared.characters.Character.{Character}
+use Rattle.source_text.specs.declared.characters.Class.{Class}
+use Rattle.source_text.specs.declared.characters.Class.TheVariants.{Stray, Blank, Letter, Digit, Sign, Outside}
+use Rattle.std.specs.Prelude.{Some, None, unwrap_or}
+use Rattle.std.specs.Bool.{then_some}
 use Rattle.source_text.proofs.Table.{both, both_left, both_right, every, at}
 use Rattle.source_text.proofs.Scans.{by_bool, and_right, prefix_fits}
 
@@ -46,6 +49,15 @@ lead_range lo n l t a h k =
     let b : a - lo < length (zeros n) = simp length-replicate (omega arith) in
     lead_eq (lead_of a) l (rw e at (at (asks_all lo l) (zeros n) t (a - lo) b))
 
+pub starting_none : (l : Lead) → starting l ≡ None → l.length ≡ 0
+starting_none l e = by_bool (eqb l.length 0) (λ z. eqb→eq _ _ (rw z tt)) (λ z. absurd (let f : Some l ≡ None = rw z at e in let y : ◌≡◌ {A = ℕ} 0 1 = cc in omega arith))
+
+pub starting_some : (l m : Lead) → starting l ≡ Some m → (m ≡ l) × (0 < m.length)
+starting_some l m e =
+    by_bool (eqb l.length 0)
+    (λ z. absurd (let f : None ≡ Some m = rw z at e in let y : ◌≡◌ {A = ℕ} 0 1 = cc in omega arith))
+    (λ z. let f : Some l ≡ Some m = rw z at e in let g : l ≡ m = cc in let k : l.length ≡ 0 → ⊥ = λ q. (let y : ◌≡◌ {A = ℕ} 0 1 = grind (arith, eq-eqb _ _ q) in omega arith) in (sym g, rw (← g) (omega arith)))
+
 -- Tails, at place i of s.
 module _ (s : List ℕ) (i n low high : ℕ) where
   pub tails_short : length s ≤ i → 0 < n → tails_of n low high (drop i s) ≡ false
@@ -75,6 +87,31 @@ unfolding tails_of
 tails_fit zero low high s e = omega arith
 tails_fit (suc n) low high [] e = absurd (let z : ◌≡◌ {A = ℕ} 0 1 = cc in omega arith)
 tails_fit (suc n) low high (c ∷ s) e = let h : n ≤ length s = tails_fit n 0x80 0xBF s (and_right (within low high c) (tails_of n 0x80 0xBF s) e) in omega arith
+
+pub tails_long : (n low high : ℕ) (s : List ℕ) → length s < n → tails_of n low high s ≡ false
+tails_long n low high s h = by_bool (tails_of n low high s) (λ e. absurd (let f : n ≤ length s = tails_fit n low high s e in omega arith)) (λ e. e)
+
+-- A length, if there is one.
+pub positive_none : (n : ℕ) → positive n ≡ None → n ≡ 0
+positive_none zero e = refl
+positive_none (suc n) e = absurd (let y : ◌≡◌ {A = ℕ} 0 1 = cc in omega arith)
+
+pub positive_some : (n m : ℕ) → positive n ≡ Some m → (m ≡ n) × (0 < m)
+positive_some zero m e = absurd (let y : ◌≡◌ {A = ℕ} 0 1 = cc in omega arith)
+positive_some (suc n) m e = let f : suc n ≡ m = cc in (sym f, omega arith)
+
+pub positive_is : (n m : ℕ) → 0 < m → n ≡ m → Some m ≡ positive n
+positive_is n zero h e = absurd (omega arith)
+positive_is n (suc m) h e = rw e refl
+
+pub positive_or : (n : ℕ) → unwrap_or (positive n) 0 ≡ n
+positive_or zero = refl
+positive_or (suc n) = refl
+
+pub positive_if : (t : Bool) (n : ℕ) → 0 < n → then_some t n ≡ positive (cond t n 0)
+positive_if true zero h = absurd (omega arith)
+positive_if true (suc n) h = refl
+positive_if false n h = refl
 
 -- A character at place i of s.
 module _ (s : List ℕ) (i : ℕ) where
@@ -136,9 +173,15 @@ classes_at zero c k h = absurd (omega arith)
 classes_at (suc n) c zero h = simp add-zero
 classes_at (suc n) c (suc k) h = let e : suc c + k ≡ c + suc k = omega arith in classes_at n (suc c) k (omega arith) ∙ ap class_of e
 
-pub class_at : (classes : List ℕ) (c : ℕ) → classes ≡ class_table → c < 128 → get_or classes c 0 ≡ class_of c
+number_at : (classes : List Class) (c : ℕ) (d : Class) → c < length classes → class_number (get_or classes c d) ≡ get_or (class_numbers classes) c 0
+unfolding class_numbers
+number_at [] c d h = absurd (omega arith)
+number_at (k ∷ classes) zero d h = refl
+number_at (k ∷ classes) (suc c) d h = number_at classes c d (omega arith)
+
+pub class_at : (classes : List Class) (c : ℕ) (d : Class) → c < length classes → class_numbers classes ≡ class_table → c < 128 → class_number (get_or classes c d) ≡ class_of c
 unfolding class_table
-class_at classes c e h = let z : 0 + c ≡ c = omega arith in ap (λ l. get_or l c 0) e ∙ classes_at 128 0 c h ∙ ap class_of z
+class_at classes c d k e h = let z : 0 + c ≡ c = omega arith in number_at classes c d k ∙ ap (λ l. get_or l c 0) e ∙ classes_at 128 0 c h ∙ ap class_of z
 
 -- The character test at place i of s.
 pub character_past : (s : List ℕ) (i : ℕ) → length s ≤ i → character_of (drop i s) ≡ record { class = 0; length = 0 }
@@ -156,6 +199,14 @@ module _ (s : List ℕ) (i : ℕ) (h : i < length s) where
     where
       wide : (l t : List ℕ) (c : ℕ) → l ≡ c ∷ t → ltb c 128 ≡ false → character_of l ≡ cond (starts_with arrow l) (record { class = 4; length = 3 }) (record { class = 5; length = character_length l })
       wide l t c e f = rw e (simp f)
+
+pub outside_number : (k : Class) → (k ≡ Outside → ⊥) → class_number k ≡ 5 → ⊥
+outside_number Stray n e = omega arith
+outside_number Blank n e = omega arith
+outside_number Letter n e = omega arith
+outside_number Digit n e = omega arith
+outside_number Sign n e = omega arith
+outside_number Outside n e = n refl
 
 pub outside_skip : (s : List ℕ) (k : ℕ) → outside_after s k ≡ outside_after (drop k s) 0
 unfolding outside_after
@@ -177,7 +228,7 @@ inside (c ∷ s) h n =
     (λ e. simp e (omega arith, omega arith))
     (λ e. by_bool (starts_with arrow (c ∷ s)) (λ f. simp (e, f) (omega arith, omega (arith, prefix_fits arrow (c ∷ s) f))) (λ f. absurd (n (simp (e, f)))))
 
-module _ (s : List ℕ) (i : ℕ) (c : Character) (h : i < length s) (e : c ≡ character_of (drop i s)) where
+module _ (s : List ℕ) (i : ℕ) (c : Classed) (h : i < length s) (e : c ≡ character_of (drop i s)) where
   pub inside_at : (c.class ≡ 5 → ⊥) → (0 < c.length) × (i + c.length ≤ length s)
   inside_at n =
       let p : 0 < length (drop i s) = simp length-drop (omega arith) in

@@ -1,6 +1,6 @@
 -- Laws of prefixes, of equality byte by byte, of `up_to` and of `lines`, at a place of a list.
 use mathlib.Core.Path.{◌≡◌, refl, sym, ap, ap₂, ◌∙◌}
-use mathlib.Core.Bool.{Bool, true, false, ◌&&◌, ◌||◌, and-true, and-false}
+use mathlib.Core.Bool.{Bool, true, false, ◌&&◌, ◌||◌, and-true}
 use mathlib.Core.List.{List, [], ◌∷◌}
 use Prim.Native.Nat.{ℕ, zero, suc, ◌+◌, ◌-◌, ◌≤◌, ◌<◌}
 use native.Mathlib.Numerals.{add-one}
@@ -9,6 +9,7 @@ use lib.ListN.{length, get_or, take, drop, length-drop, drop_of_length-le}
 use lib.Seq.{drop-cons, drop-drop, length-take-le}
 use lib.Dec.{eqb}
 use borrow.Author.Tests.{eq-eqb, ne_eqb, eqb-true}
+use Rattle.std.specs.List.{starts_with as begins}
 use Rattle.source_text.specs.Bytes.{starts_with, same_bytes, up_to}
 use Rattle.source_text.specs.ByteLaws.{same_is}
 use Rattle.source_text.specs.Lines.{lines, line_of, code_of, ends_code}
@@ -28,25 +29,12 @@ module _ (v w : List ℕ) where
   pub same_before : (i : ℕ) → i < length v → i < length w → get_or v i 0 ≡ get_or w i 0 → drop (suc i) v ≡ drop (suc i) w → drop i v ≡ drop i w
   same_before i hv hw e h = rw (drop-cons v i 0 hv, drop-cons w i 0 hw) (ap₂ (λ a l. a ∷ l) e h)
 
--- A prefix w of s, from place i of w and place j of s on.
-pub prefix_short : (w s : List ℕ) → length s < length w → starts_with w s ≡ false
+-- The library's test of a prefix.
+pub prefix_is : (w s : List ℕ) → begins eqb s w ≡ starts_with w s
 unfolding starts_with
-prefix_short [] s h = absurd (omega arith)
-prefix_short (a ∷ w) [] h = refl
-prefix_short (a ∷ w) (c ∷ s) h = simp (prefix_short w s (omega arith)) (and-false (eqb c a))
-
-module _ (w s : List ℕ) (i j : ℕ) (hw : i < length w) (hs : j < length s) where
-  pub prefix_next : get_or s j 0 ≡ get_or w i 0 → starts_with (drop i w) (drop j s) ≡ starts_with (drop (i + 1) w) (drop (j + 1) s)
-  unfolding starts_with
-  prefix_next e = simp (drop-cons w i 0 hw, drop-cons s j 0 hs, add-one, eq-eqb _ _ e)
-
-  pub prefix_not : (get_or s j 0 ≡ get_or w i 0 → ⊥) → starts_with (drop i w) (drop j s) ≡ false
-  unfolding starts_with
-  prefix_not e = simp (drop-cons w i 0 hw, drop-cons s j 0 hs, ne_eqb _ _ e)
-
-pub prefix_end : (w s : List ℕ) (i : ℕ) → length w ≤ i → starts_with (drop i w) s ≡ true
-unfolding starts_with
-prefix_end w s i h = simp (drop_of_length-le w h)
+prefix_is [] s = refl
+prefix_is (a ∷ w) [] = refl
+prefix_is (a ∷ w) (c ∷ s) = by_bool (eqb a c) (λ e. let f : a ≡ c = eqb-true a c e in rw f (simp (prefix_is w s))) (λ e. simp (e, ne_eqb c a (λ f. let g : eqb a c ≡ true = eq-eqb a c (sym f) in absurd (let z : ◌≡◌ {A = ℕ} 0 1 = cc in omega arith))))
 
 pub and_left : (x y : Bool) → (x && y) ≡ true → x ≡ true
 and_left true y h = refl

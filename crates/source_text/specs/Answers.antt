@@ -1,8 +1,6 @@
 -- Document 01, The forms we expect: of each answer that is an enum, the paper's number and values for each case; here of `numeral`.
-use Rattle.std.specs.Prelude.{cond, List, [], ◌∷◌, ℕ}
+use Rattle.std.specs.Prelude.{cond, Option, Some, None, List, [], ◌∷◌, ℕ}
 use Rattle.source_text.specs.Numerals.{value_from, is_numeral}
-use Rattle.source_text.specs.declared.NumeralValue.{NumeralValue}
-use Rattle.source_text.specs.declared.NumeralValue.TheVariants.{Fits, TooLarge}
 
 -- What is answered: a refusal's number, 0 for none, and its line; and the numbers that the answer gives otherwise.
 pub record Told : Type 0 where
@@ -19,9 +17,9 @@ abbrev pub refuses : ℕ → ℕ → Told
 refuses e line = record { number = e; line = line; counts = [] }
 
 -- What `numeral` answers: the value, or 5; a word alone has no line.
-abbrev pub numeral_told : NumeralValue → Told
-numeral_told (Fits v) = answers (v ∷ [])
-numeral_told TooLarge = refuses 5 0
+abbrev pub numeral_told : Option ℕ → Told
+numeral_told (Some v) = answers (v ∷ [])
+numeral_told None = refuses 5 0
 
 -- The same of what the definitions come to.
 abbrev pub value_told : List ℕ → Told

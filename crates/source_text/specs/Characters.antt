@@ -2,6 +2,8 @@
 use Rattle.std.specs.Prelude.{Bool, false, cond, ◌||◌, List, [], ◌∷◌, ℕ, zero, suc, ◌-◌, eqb, ltb}
 use Rattle.source_text.specs.Bytes.{within, one_of, starts_with}
 use Rattle.source_text.specs.Utf8.{character_length}
+use Rattle.source_text.specs.declared.characters.Class.{Class}
+use Rattle.source_text.specs.declared.characters.Class.TheVariants.{Stray, Blank, Letter, Digit, Sign, Outside}
 use Rattle.source_text.specs.declared.characters.Character.{Character}
 
 -- The classes: none, blank, letter, digit, start of a sign, and outside the domain.
@@ -22,6 +24,27 @@ sign = 4
 
 abbrev pub outside : ℕ
 outside = 5
+
+-- The number of a class, and the numbers of a table of classes.
+abbrev pub class_number : Class → ℕ
+class_number Stray = none
+class_number Blank = blank
+class_number Letter = letter
+class_number Digit = digit
+class_number Sign = sign
+class_number Outside = outside
+
+unfoldable pub class_numbers : List Class → List ℕ
+class_numbers [] = []
+class_numbers (c ∷ cs) = class_number c ∷ class_numbers cs
+
+-- A character: its class and its length in bytes.
+pub record Classed : Type 0 where
+  pub class : ℕ
+  pub length : ℕ
+
+abbrev pub classed_of : Character → Classed
+classed_of c = record { class = class_number c.class; length = c.length }
 
 -- Codes 9 to 13 and 32 are blank; letters, digits and _ . ' # ? make words; ( ) : , | = - start signs.
 unfoldable pub class_of : ℕ → ℕ
@@ -44,7 +67,7 @@ abbrev pub arrow : List ℕ
 arrow = 0xE2 ∷ 0x86 ∷ 0x92 ∷ []
 
 -- The class and the length of the character at the start of s.
-unfoldable pub character_of : List ℕ → Character
+unfoldable pub character_of : List ℕ → Classed
 character_of [] = record { class = none; length = 0 }
 character_of (c ∷ s) =
     cond (ltb c 128) (record { class = class_of c; length = 1 })

@@ -1,8 +1,6 @@
 -- Document 01, Words: all digits make an unsigned 64-bit numeral.
-use Rattle.std.specs.Prelude.{Bool, true, cond, ◌&&◌, List, [], ◌∷◌, ℕ, ◌+◌, ◌-◌, ◌*◌, ◌^◌, ltb, length}
+use Rattle.std.specs.Prelude.{Bool, true, Option, Some, None, cond, ◌&&◌, List, [], ◌∷◌, ℕ, ◌+◌, ◌-◌, ◌*◌, ◌^◌, ltb, length}
 use Rattle.source_text.specs.Bytes.{within}
-use Rattle.source_text.specs.declared.NumeralValue.{NumeralValue}
-use Rattle.source_text.specs.declared.NumeralValue.TheVariants.{Fits, TooLarge}
 
 unfoldable pub all_digits : List ℕ → Bool
 all_digits [] = true
@@ -18,5 +16,5 @@ abbrev pub is_numeral : List ℕ → Bool
 is_numeral w = ltb 0 (length w) && (all_digits w && ltb (value_from 0 w) (2 ^ 64))
 
 -- The value of such a word; any other has none.
-unfoldable pub numeral_of : List ℕ → NumeralValue
-numeral_of w = cond (is_numeral w) (Fits (value_from 0 w)) TooLarge
+unfoldable pub numeral_of : List ℕ → Option ℕ
+numeral_of w = cond (is_numeral w) (Some (value_from 0 w)) None

@@ -1,7 +1,7 @@
 -- UTF-8, from RFC 3629, section 4: a text is a sequence of characters, each of one of the nine forms
 --   00-7F | C2-DF tail | E0 A0-BF tail | E1-EC 2tail | ED 80-9F tail | EE-EF 2tail | F0 90-BF 2tail | F1-F3 3tail | F4 80-8F 2tail
 -- where a tail is 80-BF.
-use Rattle.std.specs.Prelude.{Bool, true, false, cond, ◌&&◌, List, [], ◌∷◌, ℕ, zero, suc, ◌-◌, ltb}
+use Rattle.std.specs.Prelude.{Bool, true, Option, Some, None, eqb, false, cond, ◌&&◌, List, [], ◌∷◌, ℕ, zero, suc, ◌-◌, ltb}
 use Rattle.source_text.specs.Bytes.{within}
 use Rattle.source_text.specs.declared.utf8.Lead.{Lead}
 
@@ -35,6 +35,15 @@ form_of (f ∷ fs) a = cond (within f.from f.to a) f.lead (form_of fs a)
 
 unfoldable pub lead_of : ℕ → Lead
 lead_of a = form_of forms a
+
+-- What a first byte asks, if a form starts with it.
+abbrev pub starting : Lead → Option Lead
+starting l = cond (eqb l.length 0) None (Some l)
+
+-- A length, if there is a character.
+abbrev pub positive : ℕ → Option ℕ
+positive zero = None
+positive (suc n) = Some (suc n)
 
 -- n bytes, the first from low to high and the others tails.
 unfoldable pub tails_of : ℕ → ℕ → ℕ → List ℕ → Bool

@@ -6,13 +6,11 @@ ghost use Rattle.source_text.specs.Bytes.{same_bytes, starts_with};
 pub fn byte(text: &[u8], at: usize) -> u8
     ensures { result ≡ get_or text.now at 0 }
 {
-    if at < text.len() {
-        return text[at];
-    }
-    0
+    text.get(at).copied().unwrap_or(0)
 }
 
 // Are two words the same, byte by byte? Names in a text differ at their ends more often than at their beginnings, so the last bytes come first.
+// Stays: the order is for speed, and the library's `==` begins at the first bytes.
 pub fn same(v: &[u8], w: &[u8]) -> bool
     ensures { result ≡ same_bytes v.now w.now }
 {
@@ -34,15 +32,5 @@ pub fn starts_with(text: &[u8], at: usize, w: &[u8]) -> bool
     requires { at ≤ length text.now }
     ensures { result ≡ starts_with w.now (drop at text.now) }
 {
-    if text.len() - at < w.len() {
-        return false;
-    }
-    let mut i = 0;
-    while i < w.len() {
-        if text[at + i] != w[i] {
-            return false;
-        }
-        i += 1;
-    }
-    true
+    text[at..].starts_with(w)
 }

@@ -1,155 +1,156 @@
 // The character test: the class and the byte length of the character at a place.
 ghost use Rattle.std.specs.Prelude.{◌≡◌, ◌<◌, length, drop};
-ghost use Rattle.source_text.specs.Characters.{class_of, class_table, character_of, has_outside};
+ghost use Rattle.source_text.specs.Characters.{class_number, class_numbers, classed_of, class_of, class_table, character_of, has_outside};
 
 use super::bytes::starts_with;
 use super::utf8::character_length;
 
 // The classes of characters.
-pub const NONE: u8 = 0;
+#[derive(Clone, Copy, Debug, PartialEq, Eq)]
+pub enum Class {
+    // No token has such a character.
+    Stray,
+    Blank,
+    Letter,
+    Digit,
+    // The start of a sign.
+    Sign,
+    // Outside the domain.
+    Outside,
+}
 
-pub const BLANK: u8 = 1;
-
-pub const LETTER: u8 = 2;
-
-pub const DIGIT: u8 = 3;
-
-pub const SIGN: u8 = 4;
-
-pub const OUTSIDE: u8 = 5;
-
-pub type Classes = [u8; 128];
+pub type Classes = [Class; 128];
 
 // The class of each of the 128 ASCII codes.
 const CLASS: Classes = [
-    NONE, // 0
-    NONE, // 1
-    NONE, // 2
-    NONE, // 3
-    NONE, // 4
-    NONE, // 5
-    NONE, // 6
-    NONE, // 7
-    NONE, // 8
-    BLANK, // 9
-    BLANK, // 10
-    BLANK, // 11
-    BLANK, // 12
-    BLANK, // 13
-    NONE, // 14
-    NONE, // 15
-    NONE, // 16
-    NONE, // 17
-    NONE, // 18
-    NONE, // 19
-    NONE, // 20
-    NONE, // 21
-    NONE, // 22
-    NONE, // 23
-    NONE, // 24
-    NONE, // 25
-    NONE, // 26
-    NONE, // 27
-    NONE, // 28
-    NONE, // 29
-    NONE, // 30
-    NONE, // 31
-    BLANK, // 32
-    NONE, // !
-    NONE, // "
-    LETTER, // #
-    NONE, // $
-    NONE, // %
-    NONE, // &
-    LETTER, // '
-    SIGN, // (
-    SIGN, // )
-    NONE, // *
-    NONE, // +
-    SIGN, // ,
-    SIGN, // -
-    LETTER, // .
-    NONE, // /
-    DIGIT, // 0
-    DIGIT, // 1
-    DIGIT, // 2
-    DIGIT, // 3
-    DIGIT, // 4
-    DIGIT, // 5
-    DIGIT, // 6
-    DIGIT, // 7
-    DIGIT, // 8
-    DIGIT, // 9
-    SIGN, // :
-    NONE, // ;
-    NONE, // <
-    SIGN, // =
-    NONE, // >
-    LETTER, // ?
-    NONE, // @
-    LETTER, // A
-    LETTER, // B
-    LETTER, // C
-    LETTER, // D
-    LETTER, // E
-    LETTER, // F
-    LETTER, // G
-    LETTER, // H
-    LETTER, // I
-    LETTER, // J
-    LETTER, // K
-    LETTER, // L
-    LETTER, // M
-    LETTER, // N
-    LETTER, // O
-    LETTER, // P
-    LETTER, // Q
-    LETTER, // R
-    LETTER, // S
-    LETTER, // T
-    LETTER, // U
-    LETTER, // V
-    LETTER, // W
-    LETTER, // X
-    LETTER, // Y
-    LETTER, // Z
-    NONE, // [
-    NONE, // \
-    NONE, // ]
-    NONE, // ^
-    LETTER, // _
-    NONE, // `
-    LETTER, // a
-    LETTER, // b
-    LETTER, // c
-    LETTER, // d
-    LETTER, // e
-    LETTER, // f
-    LETTER, // g
-    LETTER, // h
-    LETTER, // i
-    LETTER, // j
-    LETTER, // k
-    LETTER, // l
-    LETTER, // m
-    LETTER, // n
-    LETTER, // o
-    LETTER, // p
-    LETTER, // q
-    LETTER, // r
-    LETTER, // s
-    LETTER, // t
-    LETTER, // u
-    LETTER, // v
-    LETTER, // w
-    LETTER, // x
-    LETTER, // y
-    LETTER, // z
-    NONE, // {
-    SIGN, // |
-    NONE, // }
-    NONE, // ~
-    NONE, // 127
+    Class::Stray, // 0
+    Class::Stray, // 1
+    Class::Stray, // 2
+    Class::Stray, // 3
+    Class::Stray, // 4
+    Class::Stray, // 5
+    Class::Stray, // 6
+    Class::Stray, // 7
+    Class::Stray, // 8
+    Class::Blank, // 9
+    Class::Blank, // 10
+    Class::Blank, // 11
+    Class::Blank, // 12
+    Class::Blank, // 13
+    Class::Stray, // 14
+    Class::Stray, // 15
+    Class::Stray, // 16
+    Class::Stray, // 17
+    Class::Stray, // 18
+    Class::Stray, // 19
+    Class::Stray, // 20
+    Class::Stray, // 21
+    Class::Stray, // 22
+    Class::Stray, // 23
+    Class::Stray, // 24
+    Class::Stray, // 25
+    Class::Stray, // 26
+    Class::Stray, // 27
+    Class::Stray, // 28
+    Class::Stray, // 29
+    Class::Stray, // 30
+    Class::Stray, // 31
+    Class::Blank, // 32
+    Class::Stray, // !
+    Class::Stray, // "
+    Class::Letter, // #
+    Class::Stray, // $
+    Class::Stray, // %
+    Class::Stray, // &
+    Class::Letter, // '
+    Class::Sign, // (
+    Class::Sign, // )
+    Class::Stray, // *
+    Class::Stray, // +
+    Class::Sign, // ,
+    Class::Sign, // -
+    Class::Letter, // .
+    Class::Stray, // /
+    Class::Digit, // 0
+    Class::Digit, // 1
+    Class::Digit, // 2
+    Class::Digit, // 3
+    Class::Digit, // 4
+    Class::Digit, // 5
+    Class::Digit, // 6
+    Class::Digit, // 7
+    Class::Digit, // 8
+    Class::Digit, // 9
+    Class::Sign, // :
+    Class::Stray, // ;
+    Class::Stray, // <
+    Class::Sign, // =
+    Class::Stray, // >
+    Class::Letter, // ?
+    Class::Stray, // @
+    Class::Letter, // A
+    Class::Letter, // B
+    Class::Letter, // C
+    Class::Letter, // D
+    Class::Letter, // E
+    Class::Letter, // F
+    Class::Letter, // G
+    Class::Letter, // H
+    Class::Letter, // I
+    Class::Letter, // J
+    Class::Letter, // K
+    Class::Letter, // L
+    Class::Letter, // M
+    Class::Letter, // N
+    Class::Letter, // O
+    Class::Letter, // P
+    Class::Letter, // Q
+    Class::Letter, // R
+    Class::Letter, // S
+    Class::Letter, // T
+    Class::Letter, // U
+    Class::Letter, // V
+    Class::Letter, // W
+    Class::Letter, // X
+    Class::Letter, // Y
+    Class::Letter, // Z
+    Class::Stray, // [
+    Class::Stray, // \
+    Class::Stray, // ]
+    Class::Stray, // ^
+    Class::Letter, // _
+    Class::Stray, // `
+    Class::Letter, // a
+    Class::Letter, // b
+    Class::Letter, // c
+    Class::Letter, // d
+    Class::Letter, // e
+    Class::Letter, // f
+    Class::Letter, // g
+    Class::Letter, // h
+    Class::Letter, // i
+    Class::Letter, // j
+    Class::Letter, // k
+    Class::Letter, // l
+    Class::Letter, // m
+    Class::Letter, // n
+    Class::Letter, // o
+    Class::Letter, // p
+    Class::Letter, // q
+    Class::Letter, // r
+    Class::Letter, // s
+    Class::Letter, // t
+    Class::Letter, // u
+    Class::Letter, // v
+    Class::Letter, // w
+    Class::Letter, // x
+    Class::Letter, // y
+    Class::Letter, // z
+    Class::Stray, // {
+    Class::Sign, // |
+    Class::Stray, // }
+    Class::Stray, // ~
+    Class::Stray, // 127
 ];
 
 // → in UTF-8.
@@ -157,33 +158,33 @@ pub const UNICODE_ARROW: [u8; 3] = [0xE2, 0x86, 0x92];
 
 // The class table, for the loops that read it.
 pub fn class_table() -> Classes
-    ensures { result ≡ class_table }
+    ensures { class_numbers result ≡ class_table }
 {
     CLASS
 }
 
 #[derive(Clone, Copy)]
 pub struct Character {
-    pub class: u8,
+    pub class: Class,
     pub length: usize,
 }
 
 // The class of an ASCII code. The table is lent, since a constant is laid out anew wherever it is named.
-fn class_of(classes: &Classes, c: u8) -> u8
-    requires { (classes.now ≡ class_table) × (c < 128) }
-    ensures { result ≡ class_of c }
+fn class_of(classes: &Classes, c: u8) -> Class
+    requires { (class_numbers classes.now ≡ class_table) × (c < 128) }
+    ensures { class_number result ≡ class_of c }
 {
     classes[c as usize]
 }
 
 // The character at a place of a text; past the end, no class and no length.
 pub fn character_at(classes: &Classes, text: &[u8], at: usize) -> Character
-    requires { classes.now ≡ class_table }
-    ensures { result ≡ character_of (drop at text.now) }
+    requires { class_numbers classes.now ≡ class_table }
+    ensures { classed_of result ≡ character_of (drop at text.now) }
 {
     if text.len() <= at {
         return Character {
-            class: NONE,
+            class: Class::Stray,
             length: 0,
         };
     }
@@ -196,25 +197,25 @@ pub fn character_at(classes: &Classes, text: &[u8], at: usize) -> Character
     }
     if starts_with(text, at, &UNICODE_ARROW) {
         return Character {
-            class: SIGN,
+            class: Class::Sign,
             length: 3,
         };
     }
     Character {
-        class: OUTSIDE,
-        length: character_length(text, at),
+        class: Class::Outside,
+        length: character_length(text, at).unwrap_or(0),
     }
 }
 
 // Has a line a character outside the domain?
 pub fn has_outside(classes: &Classes, line: &[u8]) -> bool
-    requires { classes.now ≡ class_table }
+    requires { class_numbers classes.now ≡ class_table }
     ensures { result ≡ has_outside line.now }
 {
     let mut at = 0;
     while at < line.len() {
         let c = character_at(classes, line, at);
-        if c.class == OUTSIDE {
+        if let Class::Outside = c.class {
             return true;
         }
         at += c.length;

@@ -15,13 +15,6 @@ ghost use Rattle.source_text.specs.Parts.{part_of, NumeralRead};
 
 use numerals::value;
 
-// What `numeral` answers: the value, or 5.
-#[derive(Clone, Copy)]
-pub enum NumeralValue {
-    Fits(u64),
-    TooLarge,
-}
-
 // A word of a text, whole: the part of `length` bytes from `start` on. A place outside the text gives the empty part.
 pub fn word<'a>(text: &'a [u8], start: usize, length: usize) -> &'a [u8]
     ensures { result.now ≡ part_of text.now start length }
@@ -34,8 +27,8 @@ pub fn word<'a>(text: &'a [u8], start: usize, length: usize) -> &'a [u8]
     &text[0..0]
 }
 
-// The value of the numeral at a place of a text.
-pub fn numeral(text: &[u8], start: usize, length: usize) -> NumeralValue
+// The value of the numeral at a place of a text; none where it is too large, the refusal 5.
+pub fn numeral(text: &[u8], start: usize, length: usize) -> Option<u64>
     ensures { NumeralRead text.now start length result }
 {
     value(word(text, start, length))

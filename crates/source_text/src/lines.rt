@@ -11,14 +11,12 @@ pub fn line_end(text: &[u8], at: usize) -> usize
     requires { at ≤ length text.now }
     ensures { result ≡ at + length (line_of (drop at text.now)) }
 {
-    let mut i = at;
-    while i < text.len() {
+    for i in at..text.len() {
         if text[i] == LINE_FEED {
             return i;
         }
-        i += 1;
     }
-    i
+    text.len()
 }
 
 // Does the code of a line end at a place, at a line feed or at `--`?
@@ -26,14 +24,11 @@ fn ends_code(text: &[u8], at: usize) -> bool
     requires { at < length text.now }
     ensures { result ≡ ends_code (drop at text.now) }
 {
-    let c = text[at];
-    if c == LINE_FEED {
-        return true;
+    match text[at] {
+        LINE_FEED => true,
+        b'-' => byte(text, at + 1) == b'-',
+        _ => false,
     }
-    if c != b'-' {
-        return false;
-    }
-    byte(text, at + 1) == b'-'
 }
 
 // The end of the code of the line that starts at a place: its first `--`, or its end.
@@ -41,12 +36,10 @@ pub fn code_end(text: &[u8], at: usize) -> usize
     requires { at ≤ length text.now }
     ensures { result ≡ at + length (code_of (line_of (drop at text.now))) }
 {
-    let mut i = at;
-    while i < text.len() {
+    for i in at..text.len() {
         if ends_code(text, i) {
             return i;
         }
-        i += 1;
     }
-    i
+    text.len()
 }

@@ -1,8 +1,8 @@
 // UTF-8 as RFC 3629 has it.
 ghost use Rattle.std.specs.Prelude.{◌≡◌, ◌+◌, ◌<◌, length, drop};
-ghost use Rattle.source_text.specs.Utf8.{lead_of, tails_of, character_length, is_utf8};
+ghost use Rattle.source_text.specs.Utf8.{starting, positive, lead_of, tails_of, character_length, is_utf8};
 
-// What a first byte asks of its character: the length in bytes (0: no character), and the range of the second byte.
+// What a first byte asks of its character: the length in bytes, and the range of the second byte.
 #[derive(Clone, Copy)]
 pub struct Lead {
     pub length: usize,
@@ -10,91 +10,50 @@ pub struct Lead {
     pub high: u8,
 }
 
-fn lead_of(a: u8) -> Lead
-    ensures { result ≡ lead_of a }
+// What a first byte asks, if a character starts with it.
+fn lead_of(a: u8) -> Option<Lead>
+    ensures { result ≡ starting (lead_of a) }
 {
-    if a < 0x80 {
-        return asks(1, 0x80, 0xBF);
-    }
-    if a < 0xC2 {
-        return asks(0, 0x80, 0xBF);
-    }
-    if a < 0xE0 {
-        return asks(2, 0x80, 0xBF);
-    }
-    if a < 0xE1 {
-        return asks(3, 0xA0, 0xBF);
-    }
-    if a < 0xED {
-        return asks(3, 0x80, 0xBF);
-    }
-    if a < 0xEE {
-        return asks(3, 0x80, 0x9F);
-    }
-    if a < 0xF0 {
-        return asks(3, 0x80, 0xBF);
-    }
-    if a < 0xF1 {
-        return asks(4, 0x90, 0xBF);
-    }
-    if a < 0xF4 {
-        return asks(4, 0x80, 0xBF);
-    }
-    if a < 0xF5 {
-        return asks(4, 0x80, 0x8F);
-    }
-    asks(0, 0x80, 0xBF)
-}
-
-fn asks(length: usize, low: u8, high: u8) -> Lead
-    ensures { result ≡ Rattle.source_text.specs.Utf8.asks length low high }
-{
-    Lead { length, low, high }
+    let (length, low, high) = match a {
+        0x00..=0x7F => (1, 0x80, 0xBF),
+        0xC2..=0xDF => (2, 0x80, 0xBF),
+        0xE0 => (3, 0xA0, 0xBF),
+        0xE1..=0xEC => (3, 0x80, 0xBF),
+        0xED => (3, 0x80, 0x9F),
+        0xEE..=0xEF => (3, 0x80, 0xBF),
+        0xF0 => (4, 0x90, 0xBF),
+        0xF1..=0xF3 => (4, 0x80, 0xBF),
+        0xF4 => (4, 0x80, 0x8F),
+        _ => return None,
+    };
+    Some(Lead { length, low, high })
 }
 
 // Are the next `count` bytes tails, the first from low to high?
-fn tails(text: &[u8], at: usize, count: usize, low: u8, high: u8) -> bool
-    ensures { result ≡ tails_of count low high (drop at text.now) }
+fn tails(rest: &[u8], count: usize, low: u8, high: u8) -> bool
+    ensures { result ≡ tails_of count low high rest.now }
 {
-    let mut i = at;
-    let mut left = count;
+    let Some(tails) = rest.get(..count) else {
+        return false;
+    };
     let mut from = low;
     let mut to = high;
-    while 0 < left {
-        if text.len() <= i {
-            return false;
-        }
-        let c = text[i];
-        if c < from {
-            return false;
-        }
-        if to < c {
+    for c in tails {
+        if *c < from || to < *c {
             return false;
         }
         from = 0x80;
         to = 0xBF;
-        i += 1;
-        left -= 1;
     }
     true
 }
 
-// The length of the character at a place, 0 where there is none.
-pub fn character_length(text: &[u8], at: usize) -> usize
-    ensures { result ≡ character_length (drop at text.now) }
+// The length of the character at a place, if there is one.
+pub fn character_length(text: &[u8], at: usize) -> Option<usize>
+    ensures { result ≡ positive (character_length (drop at text.now)) }
 {
-    if text.len() <= at {
-        return 0;
-    }
-    let l = lead_of(text[at]);
-    let length = l.length;
-    if length == 0 {
-        return 0;
-    }
-    if tails(text, at + 1, length - 1, l.low, l.high) {
-        return length;
-    }
-    0
+    let lead = lead_of(*text.get(at)?)?;
+    tails(&text[at + 1..], lead.length - 1, lead.low, lead.high).then_some(lead.length)
 }
 
 // Is the text UTF-8?
@@ -103,10 +62,9 @@ pub fn is_utf8(text: &[u8]) -> bool
 {
     let mut at = 0;
     while at < text.len() {
-        let length = character_length(text, at);
-        if length == 0 {
+        let Some(length) = character_length(text, at) else {
             return false;
-        }
+        };
         at += length;
     }
     true

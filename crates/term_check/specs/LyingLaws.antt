@@ -10,15 +10,13 @@ use borrow.Author.Tests.{ltb-true, lt-ltb, leb-true, le-leb, eqb-true, eq-eqb, e
 use Rattle.source_text.proofs.Scans.{by_bool}
 use Rattle.source_text.specs.ByteLaws.{and_left, and_right}
 use Rattle.source_text.specs.Numerals.{numeral_of}
-use Rattle.source_text.specs.declared.NumeralValue.{NumeralValue}
-use Rattle.source_text.specs.declared.NumeralValue.TheVariants.{Fits, TooLarge}
+use Rattle.std.specs.Prelude.{Option, Some, None}
 use Rattle.term_parser.specs.Source.{place, one, many, Source, numeral, metavariable, name, application, none, more, count}
 use Rattle.term_parser.specs.Rows.{Rows, rows_of}
 use Rattle.term_parser.specs.Depth.{depth}
 use Rattle.names.specs.NamePlaces.{NamePlace}
 use Rattle.term_check.specs.TermRows.{Worded, Lies}
 use Rattle.term_check.specs.Walk.{is_word_place, is_held, takes, column, word_in, top_of}
-use Rattle.term_check.specs.declared.Top.TheVariants.{Takes, NoTerm}
 
 -- Rows one after the other
 
@@ -117,7 +115,7 @@ unfolding count
 none_is none e = refl
 none_is (more t ts) e = absurd (omega arith)
 
-no_term : {A : Type 0} {k : ℕ} → NoTerm ≡ Takes k → A
+no_term : {A : Type 0} {k : ℕ} → None ≡ Some k → A
 no_term e = absurd (let z : ◌≡◌ {A = ℕ} 0 1 = cc in omega arith)
 
 -- A term whose first row this is, and whose arguments are ts.
@@ -140,22 +138,22 @@ module _ (text row : List ℕ) (long : length row ≡ 4) (ts : Source many) (fin
       }
 
   module _ (w : NamePlace text (column row 1) (column row 2)) where
-    of_numeral : (v : NumeralValue) → numeral_of (word_in text row) ≡ v → column row 0 ≡ 14 → cond (is_held v (column row 3)) (Takes 0) NoTerm ≡ Takes (count ts) → Topmost text row ts
+    of_numeral : (v : Option ℕ) → numeral_of (word_in text row) ≡ v → column row 0 ≡ 14 → cond (is_held v (column row 3)) (Some 0) None ≡ Some (count ts) → Topmost text row ts
     unfolding rows_of depth
-    of_numeral (Fits v) f a e =
+    of_numeral (Some v) f a e =
         by_bool (eqb (column row 3) (min v 4294967295))
-        (λ h. let g : Takes 0 ≡ Takes (count ts) = rw h at e in
+        (λ h. let g : Some 0 ≡ Some (count ts) = rw h at e in
         let z : count ts ≡ 0 = cc in
         leaf (numeral (place (column row 1) (column row 2)) v) z
         (ap (λ (r : List ℕ). r ∷ []) (sym (row_is row 14 (min v 4294967295) long a (eqb-true _ _ h)))) (w, f) refl)
         (λ h. no_term (rw h at e))
-    of_numeral TooLarge f a e = no_term e
+    of_numeral None f a e = no_term e
 
-    of_application : column row 0 ≡ 24 → cond (eqb (column row 3) 0) NoTerm (Takes (column row 3)) ≡ Takes (count ts) → Topmost text row ts
+    of_application : column row 0 ≡ 24 → cond (eqb (column row 3) 0) None (Some (column row 3)) ≡ Some (count ts) → Topmost text row ts
     unfolding rows_of depth
     of_application a e =
         by_bool (eqb (column row 3) 0) (λ h. no_term (rw h at e))
-        (λ h. let g : Takes (column row 3) ≡ Takes (count ts) = rw h at e in
+        (λ h. let g : Some (column row 3) ≡ Some (count ts) = rw h at e in
         let n : column row 3 ≡ count ts = cc in
         let o = eqb-false (column row 3) 0 h in
         let some : 0 < count ts = omega arith in
@@ -166,28 +164,28 @@ module _ (text row : List ℕ) (long : length row ≡ 4) (ts : Source many) (fin
           deep = refl;
         })
 
-    of_word : cond (eqb (column row 3) 0) (cond (eqb (column row 0) 13 || eqb (column row 0) 12) (Takes 0) NoTerm) NoTerm ≡ Takes (count ts) → Topmost text row ts
+    of_word : cond (eqb (column row 3) 0) (cond (eqb (column row 0) 13 || eqb (column row 0) 12) (Some 0) None) None ≡ Some (count ts) → Topmost text row ts
     unfolding rows_of depth
     of_word e =
         by_bool (eqb (column row 3) 0)
         (λ h. by_bool (eqb (column row 0) 13)
-        (λ a. let g : Takes 0 ≡ Takes (count ts) = rw (h, a) at e in
+        (λ a. let g : Some 0 ≡ Some (count ts) = rw (h, a) at e in
         let z : count ts ≡ 0 = cc in
         leaf (metavariable (place (column row 1) (column row 2))) z (ap (λ (r : List ℕ). r ∷ []) (sym (row_is row 13 0 long (eqb-true _ _ a) (eqb-true _ _ h)))) w refl)
         (λ a. by_bool (eqb (column row 0) 12)
-        (λ b. let g : Takes 0 ≡ Takes (count ts) = rw (h, a, b) at e in
+        (λ b. let g : Some 0 ≡ Some (count ts) = rw (h, a, b) at e in
         let z : count ts ≡ 0 = cc in
         leaf (name (place (column row 1) (column row 2))) z (ap (λ (r : List ℕ). r ∷ []) (sym (row_is row 12 0 long (eqb-true _ _ b) (eqb-true _ _ h)))) w refl)
         (λ b. no_term (rw (h, a, b) at e))))
         (λ h. no_term (rw h at e))
 
   -- The row and the arguments that it takes make a term.
-  pub made : top_of text row ≡ Takes (count ts) → Topmost text row ts
+  pub made : top_of text row ≡ Some (count ts) → Topmost text row ts
   unfolding top_of
   made e =
       by_bool (is_word_place text (column row 1) (column row 2))
       (λ w. let place_is = word_is text (column row 1) (column row 2) w in
-      let f : takes (column row 0) (column row 3) (is_held (numeral_of (word_in text row)) (column row 3)) ≡ Takes (count ts) = rw w at e in
+      let f : takes (column row 0) (column row 3) (is_held (numeral_of (word_in text row)) (column row 3)) ≡ Some (count ts) = rw w at e in
       by_bool (eqb (column row 0) 14)
       (λ a. of_numeral place_is (numeral_of (word_in text row)) refl (eqb-true _ _ a) (rw a at f))
       (λ a. by_bool (eqb (column row 0) 24)
@@ -199,7 +197,7 @@ module _ (text row : List ℕ) (long : length row ≡ 4) (ts : Source many) (fin
 pub record Split (text : List ℕ) (t : Source one) : Type 0 where
   pub row : List ℕ
   pub terms : Source many
-  pub takes : top_of text row ≡ Takes (count terms)
+  pub takes : top_of text row ≡ Some (count terms)
   pub worded : Worded text terms
   pub rows : rows_of t ≡ row ∷ rows_of terms
   pub deep : depth t ≡ 1 + depth terms

@@ -14,14 +14,14 @@ use Rattle.words.specs.Tokens.Reading.{tokens, refused as unread}
 use Rattle.source_text.specs.Parts.{part_of}
 use Rattle.words.specs.Lexer.{capped_of, lex_of, zero_row}
 use Rattle.words.specs.declared.Limits.{Limits}
-use Rattle.source_text.specs.declared.NumeralValue.TheVariants.{Fits}
+use Rattle.std.specs.Prelude.{Some}
 use Rattle.term_parser.specs.Source.{Source, one, many, numeral, metavariable, name as called, application, none, more, count, all_of, extend}
 use Rattle.term_parser.specs.Parsing.{Tokens, kind_of, line_of, last_line, Parsed, parsed, absent, refused, plus, follow, required, sign_of, repeat}
 use Rattle.term_parser.specs.Grammar.{value, applied, equated, atom_of, app_of, term_of, parenthesis}
 use Rattle.term_parser.specs.Rows.{Rows, rows_of, rows_of_all}
 use Rattle.term_parser.specs.Lists.{name, title_of, arrows_of, term, judgments_of}
 use Rattle.term_parser.specs.ReaderLaws.{Each, Comes, plus_comes, past_comes, required_comes, when_comes, repeat_each}
-use Rattle.term_parser.specs.declared.Refusal.TheVariants.{TermExpected}
+use Rattle.refusals.specs.declared.Refusal.TheVariants.{TermExpected}
 use Rattle.parser.specs.Source.{Declaration, sort, ctor, pred, rule, def, theorem, eval, check}
 use Rattle.parser.specs.Declarations.{ends_in_prop, Declared, binders_of, tactic_of, clause_of, sort_of, ctor_of, pred_of, rule_of, def_of, theorem_of, eval_of, check_of, body_of, declaration_of, parse_of}
 use Rattle.parser.specs.Rows.{declared_rows}
@@ -98,7 +98,7 @@ module _ (text : List ℕ) where
 
   -- A numeral's token has the value that the parser takes.
   token_value : (t : List ℕ) → TokenWhole text t → get_or t 0 0 ≡ 14
-      → numeral_of (part_of text (get_or t 1 0) (get_or t 2 0)) ≡ Fits (value (numeral_of (part_of text (get_or t 1 0) (get_or t 2 0))))
+      → numeral_of (part_of text (get_or t 1 0) (get_or t 2 0)) ≡ Some (value (numeral_of (part_of text (get_or t 1 0) (get_or t 2 0))))
   token_value t h e = let (v, _, q) = h.reads.numeral e in rw q refl
 
   module _ (last : ℕ) where

@@ -4,7 +4,7 @@ use Rattle.std.proofs.Common.{arith, ap, ap₂, ◌∙◌, subst, append_assoc, 
 use Rattle.std.proofs.Math.Path.{sym}
 use Rattle.source_text.specs.Numerals.{numeral_of}
 use Rattle.source_text.specs.Parts.{part_of}
-use Rattle.source_text.specs.declared.NumeralValue.TheVariants.{Fits}
+use Rattle.std.specs.Prelude.{Some}
 use Rattle.term_parser.specs.Source.{place, Arity, one, many, Source, numeral, metavariable, name, application, none, more, count}
 use Rattle.term_parser.specs.Rows.{Rows, rows_of}
 use Rattle.term_parser.specs.Standing.{Written, number, meta, called, applied, nil, cons, size, spelled, Stands, stands}
@@ -77,7 +77,7 @@ unfolding rows_of width
 rows_one text (numeral (place a m) v) (numeral (place b k) w) r s x y i e =
     let f : a ≡ b = cc in
     let g : m ≡ k = cc in
-    let h : Fits v ≡ Fits w = sym x.1 ∙ ap₂ (λ (j l : ℕ). numeral_of (part_of text j l)) f g ∙ y.1 in
+    let h : Some v ≡ Some w = sym x.1 ∙ ap₂ (λ (j l : ℕ). numeral_of (part_of text j l)) f g ∙ y.1 in
     let z : v ≡ w = cc in
     (ap₂ numeral (ap₂ place f g) z, cc)
 rows_one text (metavariable (place a m)) (metavariable (place b k)) r s x y i e =

@@ -3,14 +3,12 @@
 use Rattle.std.specs.Prelude.{ℕ, ◌+◌, ◌≤◌, ◌<◌, ◌≡◌, List, [], ◌∷◌, ◌++◌, length, drop}
 use Rattle.source_text.specs.Numerals.{numeral_of}
 use Rattle.source_text.specs.Answers.{Told, answers, refuses}
-use Rattle.source_text.specs.declared.NumeralValue.TheVariants.{Fits}
 use Rattle.term_parser.specs.Source.{Place, place, Arity, one, Source, numeral, metavariable, name, application, none, more, count}
 use Rattle.term_parser.specs.Rows.{Rows, rows_of}
 use Rattle.term_parser.specs.Depth.{depth}
 use Rattle.term_parser.specs.Standing.{bytes_at}
 use Rattle.names.specs.NamePlaces.{NamePlace}
-use Rattle.term_check.specs.declared.TermChecked.{TermChecked}
-use Rattle.term_check.specs.declared.TermChecked.TheVariants.{Ends, NoTerm}
+use Rattle.std.specs.Prelude.{Option, Some, None}
 
 -- A word has a name's place: inside the text, of 1 to 64 bytes.
 abbrev pub Word : List ℕ → Place → Type 0
@@ -18,7 +16,7 @@ Word text (place start n) = NamePlace text start n
 
 -- Each word of a term, or of several, has such a place; a numeral has the value that is read there; an application has arguments.
 abbrev pub Worded : {n : Arity} → List ℕ → Source n → Type 0
-Worded text (numeral p v) = Word text p × (numeral_of (bytes_at text p) ≡ Fits v)
+Worded text (numeral p v) = Word text p × (numeral_of (bytes_at text p) ≡ Some v)
 Worded text (metavariable p) = Word text p
 Worded text (name p) = Word text p
 Worded text (application p ts) = Word text p × (0 < count ts) × Worded text ts
@@ -38,13 +36,13 @@ pub record TermAt (text : List ℕ) (rows : Rows) (p q : ℕ) : Type 0 where
   pub shallow : depth term ≤ 131
 
 -- What `check_term` answers, by the paper's numbers: where the term ends, or 1.
-abbrev pub checked_told : TermChecked → Told
-checked_told (Ends q) = answers (q ∷ [])
-checked_told NoTerm = refuses 1 0
+abbrev pub checked_told : Option ℕ → Told
+checked_told (Some q) = answers (q ∷ [])
+checked_told None = refuses 1 0
 
 -- The promise of `check_term`: it answers where such a term ends, exactly if there is one.
-pub record Checking (text : List ℕ) (rows : Rows) (at : ℕ) (r : TermChecked) : Type 0 where
-  pub sound : (q : ℕ) → r ≡ Ends q → TermAt text rows at q
-  pub complete : (q : ℕ) → TermAt text rows at q → r ≡ Ends q
+pub record Checking (text : List ℕ) (rows : Rows) (at : ℕ) (r : Option ℕ) : Type 0 where
+  pub sound : (q : ℕ) → r ≡ Some q → TermAt text rows at q
+  pub complete : (q : ℕ) → TermAt text rows at q → r ≡ Some q
   pub told : (q : ℕ) → TermAt text rows at q → checked_told r ≡ answers (q ∷ [])
   pub barred : ((q : ℕ) → TermAt text rows at q → ⊥) → checked_told r ≡ refuses 1 0

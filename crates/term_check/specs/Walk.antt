@@ -3,14 +3,11 @@ use Rattle.std.specs.Prelude.{ℕ, zero, suc, ◌+◌, ◌≤◌, min, ◌≡◌
 use Rattle.words.specs.Names.{name_kind, metavariable_kind, numeral_kind}
 use Rattle.source_text.specs.Numerals.{numeral_of}
 use Rattle.source_text.specs.Parts.{part_of}
-use Rattle.source_text.specs.declared.NumeralValue.{NumeralValue}
-use Rattle.source_text.specs.declared.NumeralValue.TheVariants.{Fits, TooLarge}
+use Rattle.std.specs.Prelude.{Option, Some, None}
 use Rattle.term_parser.specs.Source.{Source, many, count}
 use Rattle.term_parser.specs.Rows.{Rows, application_kind}
 use Rattle.term_parser.specs.Depth.{depth}
 use Rattle.term_check.specs.TermRows.{Worded, Lies, TermAt}
-use Rattle.term_check.specs.declared.Top.{Top}
-use Rattle.term_check.specs.declared.Top.TheVariants.{Takes, NoTerm}
 
 -- One row
 
@@ -19,16 +16,16 @@ abbrev pub is_word_place : List ℕ → ℕ → ℕ → Bool
 is_word_place text start n = ltb 0 n && (leb n 64 && leb (start + n) (length text))
 
 -- Does a row hold the value of its numeral, 2^32 - 1 for a larger one?
-abbrev pub is_held : NumeralValue → ℕ → Bool
-is_held (Fits v) k = eqb k (min v 4294967295)
-is_held TooLarge k = false
+abbrev pub is_held : Option ℕ → ℕ → Bool
+is_held (Some v) k = eqb k (min v 4294967295)
+is_held None k = false
 
 -- How many arguments the term takes whose first row has this kind and this number.
-abbrev pub takes : ℕ → ℕ → Bool → Top
+abbrev pub takes : ℕ → ℕ → Bool → Option ℕ
 takes kind n held =
-    cond (eqb kind numeral_kind) (cond held (Takes 0) NoTerm)
-    (cond (eqb kind application_kind) (cond (eqb n 0) NoTerm (Takes n))
-    (cond (eqb n 0) (cond (eqb kind metavariable_kind || eqb kind name_kind) (Takes 0) NoTerm) NoTerm))
+    cond (eqb kind numeral_kind) (cond held (Some 0) None)
+    (cond (eqb kind application_kind) (cond (eqb n 0) None (Some n))
+    (cond (eqb n 0) (cond (eqb kind metavariable_kind || eqb kind name_kind) (Some 0) None) None))
 
 abbrev pub column : List ℕ → ℕ → ℕ
 column row j = get_or row j 0
@@ -37,14 +34,14 @@ abbrev pub word_in : List ℕ → List ℕ → List ℕ
 word_in text row = part_of text (column row 1) (column row 2)
 
 -- How many arguments the term takes whose first row this is, if it is one.
-unfoldable pub top_of : List ℕ → List ℕ → Top
+unfoldable pub top_of : List ℕ → List ℕ → Option ℕ
 top_of text row =
     cond (is_word_place text (column row 1) (column row 2))
     (takes (column row 0) (column row 3) (is_held (numeral_of (word_in text row)) (column row 3)))
-    NoTerm
+    None
 
 -- `top_of`, of a row of four numbers.
-pub record Topped (text row : List ℕ) (r : Top) : Type 0 where
+pub record Topped (text row : List ℕ) (r : Option ℕ) : Type 0 where
   pub long : length row ≡ 4
   pub is : r ≡ top_of text row
 

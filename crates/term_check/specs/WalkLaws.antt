@@ -13,12 +13,11 @@ use Rattle.term_parser.specs.Depth.{depth}
 use Rattle.term_check.specs.TermRows.{Worded, Lies, TermAt, checked_told, Checking}
 use Rattle.term_check.specs.Walk.{top_of, Topped, Coming, pending, Iff, Walking}
 use Rattle.term_check.specs.LyingLaws.{lies_none, none_ends, lies_join, middle, lies_first, lies_rest, lies_under, top_inside, top_row, lies_over, none_is, made, split}
-use Rattle.term_check.specs.declared.Top.TheVariants.{Takes, NoTerm}
-use Rattle.term_check.specs.declared.TermChecked.TheVariants.{Ends, NoTerm as Nothing}
+use Rattle.std.specs.Prelude.{Some, None}
 
 -- Ways out
 
-pub checked_none : (text : List ℕ) (rows : Rows) (at : ℕ) → ((q : ℕ) → TermAt text rows at q → ⊥) → Checking text rows at Nothing
+pub checked_none : (text : List ℕ) (rows : Rows) (at : ℕ) → ((q : ℕ) → TermAt text rows at q → ⊥) → Checking text rows at None
 checked_none text rows at never =
     record {
       sound = λ q e. absurd (let z : ◌≡◌ {A = ℕ} 0 1 = cc in omega arith);
@@ -46,7 +45,7 @@ module _ (text : List ℕ) (rows : Rows) (q : ℕ) where
   record Next (k : ℕ) (ks : List ℕ) (p : ℕ) : Type 0 where
     pub number : ℕ
     pub inside : p < length rows
-    pub takes : top_of text (get_or rows p []) ≡ Takes number
+    pub takes : top_of text (get_or rows p []) ≡ Some number
     pub low : length ks < 131
     pub coming : Coming text rows q (number ∷ k ∷ ks) (p + 1)
 
@@ -72,13 +71,13 @@ module _ (text : List ℕ) (rows : Rows) (q : ℕ) where
             );
           }
 
-  next_back : (n k : ℕ) (ks : List ℕ) (p : ℕ) → p < length rows → length (get_or rows p []) ≡ 4 → top_of text (get_or rows p []) ≡ Takes n
+  next_back : (n k : ℕ) (ks : List ℕ) (p : ℕ) → p < length rows → length (get_or rows p []) ≡ 4 → top_of text (get_or rows p []) ≡ Some n
       → Coming text rows q (n ∷ k ∷ ks) (p + 1) → Coming text rows q (suc k ∷ ks) p
   unfolding count depth
   next_back n k ks p b long h c =
       let a = c.1 in
       let r = c.2.1 in
-      let e : top_of text (get_or rows p []) ≡ Takes (count a.terms) = h ∙ ap Takes (sym a.number) in
+      let e : top_of text (get_or rows p []) ≡ Some (count a.terms) = h ∙ ap Some (sym a.number) in
       let x = made text (get_or rows p []) long a.terms a.worded e in
       let d = x.deep in
       let s = a.shallow in
@@ -143,15 +142,15 @@ module _ {text : List ℕ} {rows : Rows} {at : ℕ} {left : List ℕ} {d p : ℕ
   To q ks = Coming text rows q ks p
 
   -- At the end nothing is to come.
-  pub walk_ends : d ≡ 0 → Checking text rows at (Ends p)
+  pub walk_ends : d ≡ 0 → Checking text rows at (Some p)
   unfolding pending
   walk_ends e =
       let here : (q : ℕ) → TermAt text rows at q → p ≡ q = λ q t. subst (λ (i : ℕ). To q (pending left i)) e ((h.same q).to t) in
       let there : (q : ℕ) → p ≡ q → TermAt text rows at q = λ q z. (h.same q).from (subst (λ (i : ℕ). To q (pending left i)) (sym e) z) in
       record {
         sound = λ q f. there q (let z : p ≡ q = cc in z);
-        complete = λ q t. ap Ends (here q t);
-        told = λ q t. ap (λ (i : ℕ). checked_told (Ends i)) (here q t);
+        complete = λ q t. ap Some (here q t);
+        told = λ q t. ap (λ (i : ℕ). checked_told (Some i)) (here q t);
         barred = λ never. absurd (never p (there p refl));
       }
 
@@ -179,22 +178,22 @@ module _ {text : List ℕ} {rows : Rows} {at : ℕ} {left : List ℕ} {d p : ℕ
     next q t = next_is text rows q (k - 1) (pending left (d - 1)) p (subst (To q) top ((h.same q).to t))
 
     -- The rows end too early.
-    pub walk_short : length rows ≤ p → Checking text rows at Nothing
+    pub walk_short : length rows ≤ p → Checking text rows at None
     walk_short b = checked_none text rows at (λ q t. let x = (next q t).inside in omega arith)
 
     -- The term is too deep.
-    pub walk_deep : 132 ≤ d → Checking text rows at Nothing
+    pub walk_deep : 132 ≤ d → Checking text rows at None
     walk_deep b = checked_none text rows at (λ q t. let x = (next q t).low in let n = pending_length left (d - 1) in omega arith)
 
     -- The next row is no term's.
-    pub walk_bad : Topped text (get_or rows p []) NoTerm → Checking text rows at Nothing
+    pub walk_bad : Topped text (get_or rows p []) None → Checking text rows at None
     walk_bad s = checked_none text rows at (λ q t. let x = (next q t).takes in
         let y = s.is in
         let z : ◌≡◌ {A = ℕ} 0 1 = cc in
         omega arith)
 
     -- The next row is a term's.
-    pub walk_down : (n : ℕ) → p < length rows → Topped text (get_or rows p []) (Takes n) → d < 132 → d < length left
+    pub walk_down : (n : ℕ) → p < length rows → Topped text (get_or rows p []) (Some n) → d < 132 → d < length left
         → Walking text rows at (set (set left (d - 1) (k - 1)) d n) (d + 1) (p + 1)
     unfolding pending
     walk_down n inside s b m =

@@ -8,12 +8,12 @@ use borrow.Author.Tests.{eq-eqb, ne_eqb}
 use lib.Dec.{eqb}
 use lib.ListN.{length, take, drop, set}
 use lib.Seq.{drop-drop}
-use Rattle.term_parser.specs.declared.Refusal.{Refusal}
-use Rattle.term_parser.specs.declared.Step.{Step}
-use Rattle.term_parser.specs.declared.Step.TheVariants.{At, Absent, Refused}
+use Rattle.refusals.specs.declared.Refusal.{Refusal}
+use Rattle.term_parser.specs.Steps.{Step}
+use Rattle.term_parser.specs.Steps.Step.{At, Absent, Refused}
 use Rattle.term_parser.specs.Parsing.{Tokens, token_of, kind_of, place_of, line_of, last_line, sign_of, Parsed, parsed, absent, refused, plus, follow, behind, repeat}
 use Rattle.words.specs.Names.{name_kind}
-use Rattle.term_parser.specs.declared.Refusal.TheVariants.{NameExpected}
+use Rattle.refusals.specs.declared.Refusal.TheVariants.{NameExpected}
 use Rattle.term_parser.specs.declared.Token.{Token}
 use Rattle.term_parser.specs.Grammar.{name_of}
 use Rattle.term_parser.specs.Lists.{separated, unless, title_of, names_of, patterns_of}

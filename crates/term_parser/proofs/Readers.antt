@@ -1,18 +1,19 @@
 -- Laws of readers one after the other, and of the steps that they answer.
 use mathlib.Core.Path.{◌≡◌, refl, sym, ap, ap₂, ◌∙◌, subst}
-use mathlib.Core.Logic.{⊎_elim}
 use mathlib.Core.List.{List, [], ◌∷◌, ◌++◌, append_assoc, append-nil}
 use Prim.Native.Nat.{ℕ, zero, suc, ◌+◌, ◌-◌, ◌≤◌, ◌<◌}
 use native.Mathlib.Omega.{arith}
 use lib.ListN.{length, take, drop, length-append, length-drop}
 use lib.Seq.{drop-drop}
-use borrow.Enum.Refused.{Among, opened}
-use denote.Enum.Declared.{tag_of}
-use Rattle.term_parser.specs.contracts.Step.{the_type}
-use Rattle.term_parser.specs.declared.Refusal.{Refusal}
-use Rattle.term_parser.specs.declared.Refusal.TheVariants.{TermExpected, SignExpected}
-use Rattle.term_parser.specs.declared.Step.{Step}
-use Rattle.term_parser.specs.declared.Step.TheVariants.{At, Absent, Refused}
+use Rattle.std.specs.Prelude.{Option, Result, Err}
+use Rattle.std.specs.Result.{IsErrAnd}
+use Rattle.std.proofs.lemmas.Result.{err_from_is_err_and}
+use Rattle.refusals.specs.declared.Rejection.{Rejection}
+use Rattle.term_parser.specs.declared.Read.{Read}
+use Rattle.refusals.specs.declared.Refusal.{Refusal}
+use Rattle.refusals.specs.declared.Refusal.TheVariants.{TermExpected, SignExpected}
+use Rattle.term_parser.specs.Steps.{Step, step, maybe_step}
+use Rattle.term_parser.specs.Steps.Step.{At, Absent, Refused}
 use mathlib.Core.Bool.{Bool, true, false}
 use lib.Dec.{eqb}
 use Rattle.term_parser.specs.Parsing.{Tokens, kind_of, line_of, when, Parsed, parsed, absent, refused, plus, follow, required, continued, repeat, sign_of}
@@ -34,10 +35,21 @@ Stopped (At next used n) = ⊥
 Stopped Absent = Unit {0}
 Stopped (Refused r line) = Unit {0}
 
-pub stopped : (r : Step) → Among (1 ∷ 2 ∷ []) (tag_of the_type r) → Stopped r
-stopped (At next used n) h = ⊎_elim no_path (λ z. absurd (let w : ◌≡◌ {A = ℕ} 0 2 = z in omega arith)) (opened h)
-stopped Absent h = tt
-stopped (Refused r line) h = tt
+-- An answer that is a refusal, and one that hands it on.
+pub stopped_err : (r : Result Read Rejection) {f : Rejection} → r ≡ Err f → Stopped (step r)
+stopped_err r e = rw e tt
+
+pub stopped_maybe : (r : Result (Option Read) Rejection) {f : Rejection} → r ≡ Err f → Stopped (maybe_step r)
+stopped_maybe r e = rw e tt
+
+pub exits : (r s : Result Read Rejection) {f : Rejection} → r ≡ Err f → IsErrAnd s (λ y. y ≡ f) → step s ≡ step r
+exits r s {f} e h = let p = err_from_is_err_and s h in ap step (p.1 ∙ ap Err p.2 ∙ sym e)
+
+pub exits_maybe : (r : Result Read Rejection) (s : Result (Option Read) Rejection) {f : Rejection} → r ≡ Err f → IsErrAnd s (λ y. y ≡ f) → maybe_step s ≡ step r
+exits_maybe r s {f} e h = let p = err_from_is_err_and s h in ap maybe_step (p.1 ∙ ap Err p.2) ∙ sym (ap step e)
+
+pub maybe_exits : (r : Result (Option Read) Rejection) (s : Result Read Rejection) {f : Rejection} → r ≡ Err f → IsErrAnd s (λ y. y ≡ f) → step s ≡ maybe_step r
+maybe_exits r s {f} e h = let p = err_from_is_err_and s h in ap step (p.1 ∙ ap Err p.2) ∙ sym (ap maybe_step e)
 
 -- What a reader read that went on to the place `next`.
 pub record Got {A : Type 0} (rows : A → Rows) (p : ℕ) (before : Rows) (x : Parsed A) (next : ℕ) (after : Rows) : Type 0 where

@@ -11,13 +11,13 @@ use lib.Dec.{eqb}
 use lib.ListN.{length, get_or, take, drop, set, length-append, length-take}
 use lib.Seq.{drop-drop, take-suc-set, take-set-lt, set_at, get_or_at, get_or-take, length-take-le}
 use Rattle.words.specs.Names.{name_kind, metavariable_kind, numeral_kind}
-use Rattle.term_parser.specs.declared.Refusal.{Refusal}
-use Rattle.term_parser.specs.declared.Refusal.TheVariants.{ParenthesisLimit, TermExpected}
+use Rattle.refusals.specs.declared.Refusal.{Refusal}
+use Rattle.refusals.specs.declared.Refusal.TheVariants.{ParenthesisLimit, TermExpected}
 use Rattle.source_text.specs.Numerals.{numeral_of}
 use Rattle.source_text.specs.Parts.{part_of}
 use Rattle.term_parser.specs.declared.Token.{Token}
-use Rattle.term_parser.specs.declared.Step.{Step}
-use Rattle.term_parser.specs.declared.Step.TheVariants.{At, Absent, Refused}
+use Rattle.term_parser.specs.Steps.{Step}
+use Rattle.term_parser.specs.Steps.Step.{At, Absent, Refused}
 use Rattle.term_parser.specs.Source.{place, one, many, Source, numeral, metavariable, name, application, none, more, all_of, extend, count}
 use Rattle.term_parser.specs.Parsing.{Tokens, token_of, kind_of, place_of, line_of, last_line, when, Parsed, parsed, absent, refused, plus, follow, required, repeat, sign_of}
 use Rattle.term_parser.specs.Grammar.{value, value_at, applied, equated, atom_of, app_of, term_of, parenthesis}
@@ -517,8 +517,8 @@ module _ (text : List ℕ) (ts : Tokens) (left : ℕ) where
       then_is = ap (told rows_of p (take u before)) (term_is p) ∙ goes_on h e rows_of equation (take u before)
 
       -- no sign behind it,
-      pub term_plain : kind_of (drop q ts) ≢ 23 → Answers 1 rows_of (term_at (drop p ts)) ts p u before (At q k 1) out
-      term_plain n = firmly 1 rows_of (term_at (drop p ts)) ts p u before (At q k 1) out (firm_term (drop p ts))
+      pub term_plain : kind_of (drop q ts) ≢ 23 → Answers 1 rows_of (term_at (drop p ts)) ts p u before (At q k i) out
+      term_plain n = firmly 1 rows_of (term_at (drop p ts)) ts p u before (At q k i) out (firm_term (drop p ts))
           (ap₂ on (sym (add-zero q)) (got h e).written ∙ sym (then_is ∙ ap (told rows_of q (take u before)) (not_equals n))) (moved h e)
         where
           not_equals : kind_of (drop q ts) ≢ 23 → equation (got h e).item (drop q ts) ≡ parsed (got h e).item 0

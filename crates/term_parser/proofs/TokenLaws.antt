@@ -1,5 +1,5 @@
 -- Laws of the tokens at a place.
-use mathlib.Core.Path.{◌≡◌, sym, ap, ◌∙◌}
+use mathlib.Core.Path.{◌≡◌, refl, sym, ap, ◌∙◌}
 use mathlib.Core.List.{[]}
 use Prim.Native.Nat.{ℕ, ◌-◌, ◌≤◌, ◌<◌}
 use native.Mathlib.Omega.{arith, by_contra}
@@ -7,7 +7,9 @@ use native.Mathlib.Decide.{dec_lt}
 use lib.ListN.{length, get_or, drop, drop_of_length-le}
 use lib.Seq.{drop-cons}
 use borrow.Author.Tests.{eq-eqb, ne_eqb}
-use Rattle.term_parser.specs.declared.Refusal.TheVariants.{SignExpected}
+use Rattle.refusals.specs.declared.Refusal.TheVariants.{SignExpected}
+use Rattle.std.specs.Prelude.{Option, Some, None, unwrap_or, min}
+use Rattle.term_parser.specs.Grammar.{value}
 use Rattle.term_parser.specs.Parsing.{Tokens, token_of, kind_of, line_of, last_line, parsed, refused, sign_of}
 
 module _ (ts : Tokens) (p : ℕ) where
@@ -34,6 +36,11 @@ module _ (ts : Tokens) (p : ℕ) where
       go : Dec (p < length ts) → p < length ts
       go (yes l) = l
       go (no l) = absurd (let e : kind_of (drop p ts) ≡ 0 = ap (λ t. t.kind) (token_out (by_contra (length ts) p l)) in omega arith)
+
+-- the value of a numeral, 2^32 - 1 for a larger one
+pub saturates : (v : Option ℕ) → min (unwrap_or v 18446744073709551615) 4294967295 ≡ min (value v) 4294967295
+saturates (Some v) = refl
+saturates None = refl
 
 -- a sign that is there, and one that is not
 module _ (last kind : ℕ) (us : Tokens) where

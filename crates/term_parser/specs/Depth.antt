@@ -9,7 +9,7 @@ use Rattle.term_parser.specs.Parsing.{Tokens, kind_of, line_of, Parsed, parsed, 
 use Rattle.term_parser.specs.Grammar.{applied, equated, atom_of, app_of, term_of, parenthesis}
 use Rattle.term_parser.specs.Lists.{term, app}
 use Rattle.term_parser.specs.ReaderLaws.{Each, Comes, comes_parsed, plus_comes, follow_comes, past_comes, required_comes, when_comes, repeat_comes}
-use Rattle.term_parser.specs.declared.Refusal.TheVariants.{TermExpected}
+use Rattle.refusals.specs.declared.Refusal.TheVariants.{TermExpected}
 
 -- A numeral, a metavariable and a name are 1 deep; an application is one deeper than the deepest of its terms. Several terms are as deep as the deepest of
 -- them, and none is 0.

@@ -1,18 +1,17 @@
 -- The Rust's `Parser`: terms. Parentheses may be open 64 deep.
-use Rattle.std.specs.Prelude.{ℕ, zero, suc, ◌^◌, List, [], ◌∷◌, eqb, length, drop}
+use Rattle.std.specs.Prelude.{ℕ, zero, suc, ◌^◌, List, [], ◌∷◌, eqb, drop}
 use Rattle.words.specs.Names.{name_kind, metavariable_kind, numeral_kind}
 use Rattle.source_text.specs.Numerals.{numeral_of}
 use Rattle.source_text.specs.Parts.{part_of}
-use Rattle.source_text.specs.declared.NumeralValue.{NumeralValue}
-use Rattle.source_text.specs.declared.NumeralValue.TheVariants.{Fits, TooLarge}
+use Rattle.std.specs.Prelude.{Option, Some, None}
 use Rattle.term_parser.specs.Source.{Place, Source, one, numeral, metavariable, name, application, none, more, all_of, extend}
 use Rattle.term_parser.specs.Parsing.{Tokens, token_of, kind_of, place_of, line_of, when, Parsed, parsed, absent, refused, plus, follow, required, sign_of, repeat}
-use Rattle.term_parser.specs.declared.Refusal.TheVariants.{ParenthesisLimit, NameExpected, TermExpected, OnlyNames, LeftOfEquals}
+use Rattle.refusals.specs.declared.Refusal.TheVariants.{ParenthesisLimit, NameExpected, TermExpected, OnlyNames, LeftOfEquals}
 
 -- The value of a numeral. A word that is none counts as 2^64.
-abbrev pub value : NumeralValue → ℕ
-value (Fits v) = v
-value TooLarge = 2 ^ 64
+abbrev pub value : Option ℕ → ℕ
+value (Some v) = v
+value None = 2 ^ 64
 
 abbrev pub value_at : List ℕ → Tokens → ℕ
 value_at text ts = value (numeral_of (part_of text (token_of ts).start (token_of ts).length))

@@ -1,6 +1,7 @@
 -- What the contracts of `term_parser` cite, in reading order.
 pub mod Source
 pub mod Parsing
+pub mod Steps
 pub mod Grammar
 pub mod Lists
 pub mod Rows

@@ -1,8 +1,8 @@
 -- Reading tokens from the left: what a reader comes to, and readers one after the other.
 use Rattle.std.specs.Prelude.{ℕ, zero, suc, ◌+◌, ◌-◌, Bool, true, false, List, [], ◌∷◌, ◌++◌, eqb, length, drop, get_or}
 use Rattle.term_parser.specs.Source.{Place, place}
-use Rattle.term_parser.specs.declared.Refusal.{Refusal}
-use Rattle.term_parser.specs.declared.Refusal.TheVariants.{SignExpected}
+use Rattle.refusals.specs.declared.Refusal.{Refusal}
+use Rattle.refusals.specs.declared.Refusal.TheVariants.{SignExpected}
 use Rattle.term_parser.specs.declared.Token.{Token}
 
 -- Token rows: kind, start, length, line.

@@ -5,10 +5,10 @@ use Rattle.term_parser.specs.Parsing.{Tokens, line_of, last_line, Parsed, parsed
 use Rattle.term_parser.specs.Grammar.{parenthesis}
 use Rattle.term_parser.specs.Rows.{Rows, application_kind, rows_of_all}
 use Rattle.words.specs.Names.{name_kind}
-use Rattle.term_parser.specs.declared.Refusal.{Refusal}
-use Rattle.term_parser.specs.declared.Refusal.TheVariants.{OnlyNames, LeftOfEquals}
-use Rattle.term_parser.specs.declared.Step.{Step}
-use Rattle.term_parser.specs.declared.Step.TheVariants.{At, Absent, Refused}
+use Rattle.refusals.specs.declared.Refusal.{Refusal}
+use Rattle.refusals.specs.declared.Refusal.TheVariants.{OnlyNames, LeftOfEquals}
+use Rattle.term_parser.specs.Steps.{Step}
+use Rattle.term_parser.specs.Steps.Step.{At, Absent, Refused}
 
 -- What a step and the rows then at hand come to: the place of the next token and the rows up to now, or nothing, or a refusal.
 pub data Shown : Type 0 where

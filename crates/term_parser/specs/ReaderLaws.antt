@@ -2,7 +2,7 @@
 use Rattle.std.specs.Prelude.{ℕ, zero, suc, ◌+◌, ◌-◌, ◌≡◌, Bool, true, false, List, [], ◌∷◌, ◌++◌, eqb, drop}
 use Rattle.term_parser.specs.Parsing.{Tokens, kind_of, when, Parsed, parsed, absent, refused, plus, follow, required, behind, continued, repeat}
 use Rattle.term_parser.specs.Lists.{separated}
-use Rattle.term_parser.specs.declared.Refusal.{Refusal}
+use Rattle.refusals.specs.declared.Refusal.{Refusal}
 
 -- P holds of each of a list.
 abbrev pub Each : {A : Type 0} → (A → Type 0) → List A → Type 0

@@ -22,39 +22,10 @@ pub struct Token {
     pub line: u32,
 }
 
-// Why a text is refused.
+// Where a reader stands: the place of the next token, how many rows there are, and how many items it read.
 #[derive(Clone, Copy)]
-pub enum Refusal {
-    // 1: the lent rows are fewer than the tokens, or than the limit on the text's bytes; or there are over 65,536 tokens.
-    Storage,
-    // 2 to 6: the text cannot be read.
-    Text(words::Refusal),
-    // 7: a 65th parenthesis would be open.
-    ParenthesisLimit,
-    // 8: a sign was expected.
-    SignExpected,
-    // 9: a name was expected.
-    NameExpected,
-    // 10: a term was expected.
-    TermExpected,
-    // 11: only a name can be applied.
-    OnlyNames,
-    // 12: the left of `=` is neither a name nor an application.
-    LeftOfEquals,
-    // 13: a declaration was expected.
-    DeclarationExpected,
-    // 14: a predicate's type does not end in `Prop`.
-    NoProp,
-    // 15: `by auto` or `by induction x` was expected.
-    ByForm,
-    // 16: another keyword where a declaration starts.
-    OtherKeyword,
-}
-
-// What a reader answers: the next place, how many rows there are, and how many items it read; that there is no such item; or the refusal and its line.
-#[derive(Clone, Copy)]
-pub enum Step {
-    At(usize, usize, u32),
-    Absent,
-    Refused(Refusal, u32),
+pub struct Read {
+    pub at: usize,
+    pub used: usize,
+    pub count: u32,
 }

@@ -4,83 +4,98 @@ ghost use Rattle.term_parser.specs.Parsing.{last_line};
 ghost use Rattle.term_parser.specs.Grammar.{name_of};
 ghost use Rattle.term_parser.specs.Rows.{rows_of, name_rows};
 ghost use Rattle.term_parser.specs.Lists.{arrows_of, names_of, title_of, separated, app, judgments_of, patterns_of};
+ghost use Rattle.term_parser.specs.Steps.{step};
 ghost use Rattle.term_parser.specs.Promises.{Room, Answers, Lists};
 
 use super::terms::{app, term};
-use super::tokens::{line, peek, push, sign};
-use super::{PARENTHESES, Refusal, Step};
+use super::tokens::{peek, push, rejection, sign};
+use super::{PARENTHESES, Read};
+use refusals::{Refusal, Rejection};
 use words::{ARROW, COLON, COMMA, DOUBLE_ARROW, NAME};
 
 // A name that must be there.
-pub fn name(tokens: &[[u32; 4]], at: usize, out: &mut [[u32; 4]], used: usize) -> Step
+pub fn name(
+    tokens: &[[u32; 4]],
+    at: usize,
+    out: &mut [[u32; 4]],
+    used: usize,
+) -> Result<Read, Rejection>
     requires { Room tokens.now at used out.old }
-    ensures { Answers 1 name_rows (name_of (last_line tokens.now) (drop at tokens.now)) tokens.now at used out.old result out.new }
+    ensures { Answers 1 name_rows (name_of (last_line tokens.now) (drop at tokens.now)) tokens.now at used out.old (step result) out.new }
 {
     let t = peek(tokens, at);
     if t.kind == NAME {
-        return push(out, used, at, [NAME, t.start, t.length, 0]);
+        return Ok(push(out, used, at, [NAME, t.start, t.length, 0]));
     }
-    Step::Refused(Refusal::NameExpected, line(tokens, at))
+    Err(rejection(Refusal::NameExpected, tokens, at))
 }
 
 // `n :`
-pub fn title(tokens: &[[u32; 4]], at: usize, out: &mut [[u32; 4]], used: usize) -> Step
+pub fn title(
+    tokens: &[[u32; 4]],
+    at: usize,
+    out: &mut [[u32; 4]],
+    used: usize,
+) -> Result<Read, Rejection>
     requires { Room tokens.now at used out.old }
-    ensures { Answers 2 name_rows (title_of (last_line tokens.now) (drop at tokens.now)) tokens.now at used out.old result out.new }
+    ensures { Answers 2 name_rows (title_of (last_line tokens.now) (drop at tokens.now)) tokens.now at used out.old (step result) out.new }
 {
-    let n = name(tokens, at, out, used);
-    let Step::At(p, u, _) = n else {
-        return n;
-    };
-    sign(tokens, COLON, p, u)
+    let n = name(tokens, at, out, used)?;
+    sign(tokens, COLON, n.at, n.used)
 }
 
 // `A → B → C`
-pub fn arrows(tokens: &[[u32; 4]], at: usize, out: &mut [[u32; 4]], used: usize) -> Step
+pub fn arrows(
+    tokens: &[[u32; 4]],
+    at: usize,
+    out: &mut [[u32; 4]],
+    used: usize,
+) -> Result<Read, Rejection>
     requires { Room tokens.now at used out.old }
-    ensures { Lists 1 name_rows (arrows_of (last_line tokens.now) (drop at tokens.now)) tokens.now at used out.old result out.new }
+    ensures { Lists 1 name_rows (arrows_of (last_line tokens.now) (drop at tokens.now)) tokens.now at used out.old (step result) out.new }
 {
-    let first = name(tokens, at, out, used);
-    let Step::At(next, k, _) = first else {
-        return first;
-    };
-    let mut p = next;
-    let mut u = k;
-    let mut n: u32 = 1;
+    let first = name(tokens, at, out, used)?;
+    let mut p = first.at;
+    let mut u = first.used;
+    let mut n = 1;
     while peek(tokens, p).kind == ARROW {
-        let more = name(tokens, p + 1, out, u);
-        let Step::At(q, v, _) = more else {
-            return more;
-        };
-        p = q;
-        u = v;
+        let more = name(tokens, p + 1, out, u)?;
+        p = more.at;
+        u = more.used;
         n += 1;
     }
-    Step::At(p, u, n)
+    Ok(Read {
+        at: p,
+        used: u,
+        count: n,
+    })
 }
 
 // `x y z`, up to a colon
-pub fn names(tokens: &[[u32; 4]], at: usize, out: &mut [[u32; 4]], used: usize) -> Step
+pub fn names(
+    tokens: &[[u32; 4]],
+    at: usize,
+    out: &mut [[u32; 4]],
+    used: usize,
+) -> Result<Read, Rejection>
     requires { Room tokens.now at used out.old }
-    ensures { Lists 1 name_rows (names_of (last_line tokens.now) (drop at tokens.now)) tokens.now at used out.old result out.new }
+    ensures { Lists 1 name_rows (names_of (last_line tokens.now) (drop at tokens.now)) tokens.now at used out.old (step result) out.new }
 {
-    let first = name(tokens, at, out, used);
-    let Step::At(next, k, _) = first else {
-        return first;
-    };
-    let mut p = next;
-    let mut u = k;
-    let mut n: u32 = 1;
+    let first = name(tokens, at, out, used)?;
+    let mut p = first.at;
+    let mut u = first.used;
+    let mut n = 1;
     while peek(tokens, p).kind != COLON {
-        let more = name(tokens, p, out, u);
-        let Step::At(q, v, _) = more else {
-            return more;
-        };
-        p = q;
-        u = v;
+        let more = name(tokens, p, out, u)?;
+        p = more.at;
+        u = more.used;
         n += 1;
     }
-    Step::At(p, u, n)
+    Ok(Read {
+        at: p,
+        used: u,
+        count: n,
+    })
 }
 
 // `J → J → J`
@@ -90,27 +105,25 @@ pub fn judgments(
     at: usize,
     out: &mut [[u32; 4]],
     used: usize,
-) -> Step
+) -> Result<Read, Rejection>
     requires { Room tokens.now at used out.old }
-    ensures { Lists 1 rows_of (judgments_of text.now (last_line tokens.now) (drop at tokens.now)) tokens.now at used out.old result out.new }
+    ensures { Lists 1 rows_of (judgments_of text.now (last_line tokens.now) (drop at tokens.now)) tokens.now at used out.old (step result) out.new }
 {
-    let first = term(text, tokens, at, PARENTHESES, out, used);
-    let Step::At(next, k, _) = first else {
-        return first;
-    };
-    let mut p = next;
-    let mut u = k;
-    let mut n: u32 = 1;
+    let first = term(text, tokens, at, PARENTHESES, out, used)?;
+    let mut p = first.at;
+    let mut u = first.used;
+    let mut n = 1;
     while peek(tokens, p).kind == ARROW {
-        let more = term(text, tokens, p + 1, PARENTHESES, out, u);
-        let Step::At(q, v, _) = more else {
-            return more;
-        };
-        p = q;
-        u = v;
+        let more = term(text, tokens, p + 1, PARENTHESES, out, u)?;
+        p = more.at;
+        u = more.used;
         n += 1;
     }
-    Step::At(p, u, n)
+    Ok(Read {
+        at: p,
+        used: u,
+        count: n,
+    })
 }
 
 // `p, p, p`
@@ -120,27 +133,25 @@ pub fn some_patterns(
     at: usize,
     out: &mut [[u32; 4]],
     used: usize,
-) -> Step
+) -> Result<Read, Rejection>
     requires { Room tokens.now at used out.old }
-    ensures { Lists 1 rows_of (separated 21 (app text.now (last_line tokens.now)) (drop at tokens.now)) tokens.now at used out.old result out.new }
+    ensures { Lists 1 rows_of (separated 21 (app text.now (last_line tokens.now)) (drop at tokens.now)) tokens.now at used out.old (step result) out.new }
 {
-    let first = app(text, tokens, at, PARENTHESES, out, used);
-    let Step::At(next, k, _) = first else {
-        return first;
-    };
-    let mut p = next;
-    let mut u = k;
-    let mut n: u32 = 1;
+    let first = app(text, tokens, at, PARENTHESES, out, used)?;
+    let mut p = first.at;
+    let mut u = first.used;
+    let mut n = 1;
     while peek(tokens, p).kind == COMMA {
-        let more = app(text, tokens, p + 1, PARENTHESES, out, u);
-        let Step::At(q, v, _) = more else {
-            return more;
-        };
-        p = q;
-        u = v;
+        let more = app(text, tokens, p + 1, PARENTHESES, out, u)?;
+        p = more.at;
+        u = more.used;
         n += 1;
     }
-    Step::At(p, u, n)
+    Ok(Read {
+        at: p,
+        used: u,
+        count: n,
+    })
 }
 
 // `p, p, p`, or nothing before `=>`
@@ -150,12 +161,12 @@ pub fn patterns(
     at: usize,
     out: &mut [[u32; 4]],
     used: usize,
-) -> Step
+) -> Result<Read, Rejection>
     requires { Room tokens.now at used out.old }
-    ensures { Lists 0 rows_of (patterns_of text.now (last_line tokens.now) (drop at tokens.now)) tokens.now at used out.old result out.new }
+    ensures { Lists 0 rows_of (patterns_of text.now (last_line tokens.now) (drop at tokens.now)) tokens.now at used out.old (step result) out.new }
 {
     if peek(tokens, at).kind == DOUBLE_ARROW {
-        return Step::At(at, used, 0);
+        return Ok(Read { at, used, count: 0 });
     }
     some_patterns(text, tokens, at, out, used)
 }

@@ -3,10 +3,12 @@ ghost use Rattle.std.specs.Prelude.{◌≡◌, [], ◌<◌, length, drop, get_or
 ghost use Rattle.term_parser.specs.Parsing.{last_line};
 ghost use Rattle.term_parser.specs.Grammar.{atom_of, app_of, term_of};
 ghost use Rattle.term_parser.specs.Rows.{application_kind, rows_of};
+ghost use Rattle.term_parser.specs.Steps.{step, maybe_step};
 ghost use Rattle.term_parser.specs.Promises.{Room, Answers, Applying, Equating, inside, kind_at};
 
-use super::tokens::{line, peek, push, saturated, sign};
-use super::{APPLICATION, Refusal, Step};
+use super::tokens::{peek, push, rejection, saturated, sign};
+use super::{APPLICATION, Read};
+use refusals::{Refusal, Rejection};
 use words::{CLOSE, EQUALS, METAVARIABLE, NAME, NUMERAL, OPEN};
 
 // The term whose rows start at `root`, applied to the terms behind it, of which there are `more`; the next token is at `at`.
@@ -17,19 +19,19 @@ pub fn apply(
     root: usize,
     used: usize,
     more: u32,
-) -> Step
+) -> Result<Read, Rejection>
     requires { root < length out.old }
-    ensures { Applying tokens.now at out.old root used more result out.new }
+    ensures { Applying tokens.now at out.old root used more (step result) out.new }
 {
     if more == 0 {
-        return Step::At(at, used, 1);
+        return Ok(Read { at, used, count: 1 });
     }
     let row = out[root];
     if row[0] == NAME {
         out[root] = [APPLICATION, row[1], row[2], more];
-        return Step::At(at, used, 1);
+        return Ok(Read { at, used, count: 1 });
     }
-    Step::Refused(Refusal::OnlyNames, line(tokens, at))
+    Err(rejection(Refusal::OnlyNames, tokens, at))
 }
 
 // The term whose rows start at `root`, with the term behind it as its last argument; the next token is at `at`.
@@ -39,21 +41,21 @@ pub fn equate(
     out: &mut [[u32; 4]],
     root: usize,
     used: usize,
-) -> Step
+) -> Result<Read, Rejection>
     requires fact_1 { root < length out.old }
     requires fact_2 { (kind_at out.old root ≡ application_kind → get_or (get_or out.old root []) 3 0 < 65536) }
-    ensures { Equating tokens.now at out.old root used result out.new }
+    ensures { Equating tokens.now at out.old root used (step result) out.new }
 {
     let row = out[root];
     if row[0] == NAME {
         out[root] = [APPLICATION, row[1], row[2], 1];
-        return Step::At(at, used, 1);
+        return Ok(Read { at, used, count: 1 });
     }
     if row[0] == APPLICATION {
         out[root] = [APPLICATION, row[1], row[2], row[3] + 1];
-        return Step::At(at, used, 1);
+        return Ok(Read { at, used, count: 1 });
     }
-    Step::Refused(Refusal::LeftOfEquals, line(tokens, at))
+    Err(rejection(Refusal::LeftOfEquals, tokens, at))
 }
 
 // A name, a metavariable, a numeral, or a term in parentheses, of which `left` more may be open.
@@ -65,34 +67,31 @@ pub fn atom(
     left: u32,
     out: &mut [[u32; 4]],
     used: usize,
-) -> Step
+) -> Result<Option<Read>, Rejection>
     requires { Room tokens.now at used out.old }
     ensures { Answers 1 rows_of (atom_of text.now (last_line tokens.now) (inside text.now tokens.now left) (drop at tokens.now))
-        tokens.now at used out.old result out.new }
+        tokens.now at used out.old (maybe_step result) out.new }
 {
     let t = peek(tokens, at);
     if t.kind == NAME {
-        return push(out, used, at, [NAME, t.start, t.length, 0]);
+        return Ok(Some(push(out, used, at, [NAME, t.start, t.length, 0])));
     }
     if t.kind == METAVARIABLE {
-        return push(out, used, at, [METAVARIABLE, t.start, t.length, 0]);
+        return Ok(Some(push(out, used, at, [METAVARIABLE, t.start, t.length, 0])));
     }
     if t.kind == NUMERAL {
         let value = saturated(text, t.start, t.length);
-        return push(out, used, at, [NUMERAL, t.start, t.length, value]);
+        return Ok(Some(push(out, used, at, [NUMERAL, t.start, t.length, value])));
     }
     if t.kind == OPEN {
         let inside = at + 1;
         if left == 0 {
-            return Step::Refused(Refusal::ParenthesisLimit, line(tokens, at));
+            return Err(rejection(Refusal::ParenthesisLimit, tokens, at));
         }
-        let r = term(text, tokens, inside, left - 1, out, used);
-        let Step::At(next, k, _) = r else {
-            return r;
-        };
-        return sign(tokens, CLOSE, next, k);
+        let inner = term(text, tokens, inside, left - 1, out, used)?;
+        return Ok(Some(sign(tokens, CLOSE, inner.at, inner.used)?));
     }
-    Step::Absent
+    Ok(None)
 }
 
 // A term applied to terms by juxtaposition: the first atom takes those behind it.
@@ -104,32 +103,23 @@ pub fn app(
     left: u32,
     out: &mut [[u32; 4]],
     used: usize,
-) -> Step
+) -> Result<Read, Rejection>
     requires { Room tokens.now at used out.old }
     ensures { Answers 1 rows_of (app_of text.now (last_line tokens.now) (inside text.now tokens.now left) (drop at tokens.now))
-        tokens.now at used out.old result out.new }
+        tokens.now at used out.old (step result) out.new }
 {
     let mut p = at;
     let mut u = used;
-    let mut n: u32 = 0;
-    loop {
-        match atom(text, tokens, p, left, out, u) {
-            Step::At(q, v, _) => {
-                p = q;
-                u = v;
-                n += 1;
-            }
-            Step::Absent => {
-                if n == 0 {
-                    return Step::Refused(Refusal::TermExpected, line(tokens, p));
-                }
-                return apply(tokens, p, out, used, u, n - 1);
-            }
-            Step::Refused(refusal, number) => {
-                return Step::Refused(refusal, number);
-            }
-        }
+    let mut n = 0;
+    while let Some(more) = atom(text, tokens, p, left, out, u)? {
+        p = more.at;
+        u = more.used;
+        n += 1;
     }
+    if n == 0 {
+        return Err(rejection(Refusal::TermExpected, tokens, p));
+    }
+    apply(tokens, p, out, used, u, n - 1)
 }
 
 // A judgment: `f args`, or `f args = result`.
@@ -141,21 +131,15 @@ pub fn term(
     left: u32,
     out: &mut [[u32; 4]],
     used: usize,
-) -> Step
+) -> Result<Read, Rejection>
     requires { Room tokens.now at used out.old }
     ensures { Answers 1 rows_of (term_of text.now (last_line tokens.now) (inside text.now tokens.now left) (drop at tokens.now))
-        tokens.now at used out.old result out.new }
+        tokens.now at used out.old (step result) out.new }
 {
-    let first = app(text, tokens, at, left, out, used);
-    let Step::At(next, k, _) = first else {
-        return first;
-    };
-    if peek(tokens, next).kind != EQUALS {
-        return Step::At(next, k, 1);
+    let first = app(text, tokens, at, left, out, used)?;
+    if peek(tokens, first.at).kind != EQUALS {
+        return Ok(first);
     }
-    let second = app(text, tokens, next + 1, left, out, k);
-    let Step::At(end, n, _) = second else {
-        return second;
-    };
-    equate(tokens, end, out, used, n)
+    let second = app(text, tokens, first.at + 1, left, out, first.used)?;
+    equate(tokens, second.at, out, used, second.used)
 }

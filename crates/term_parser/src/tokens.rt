@@ -4,11 +4,11 @@ ghost use Rattle.source_text.specs.Numerals.{numeral_of};
 ghost use Rattle.source_text.specs.Parts.{part_of};
 ghost use Rattle.term_parser.specs.Parsing.{token_of, line_of, last_line, sign_of};
 ghost use Rattle.term_parser.specs.Grammar.{value};
-ghost use Rattle.term_parser.specs.declared.Step.TheVariants.{At};
+ghost use Rattle.term_parser.specs.Steps.{step, rejection_at};
 ghost use Rattle.term_parser.specs.Promises.{Signed};
 
-use super::{Refusal, Step, Token};
-use words::NumeralValue;
+use super::{Read, Token};
+use refusals::{Refusal, Rejection};
 
 // The token at a place; past the end all its numbers are 0. No other function reads the list.
 pub fn peek(tokens: &[[u32; 4]], at: usize) -> Token
@@ -47,19 +47,31 @@ pub fn line(tokens: &[[u32; 4]], at: usize) -> u32
 pub fn saturated(text: &[u8], start: u32, length: u32) -> u32
     ensures { result ≡ min (value (numeral_of (part_of text.now start length))) 4294967295 }
 {
-    match words::numeral(text, start as usize, length as usize) {
-        NumeralValue::Fits(v) => if v < 4294967295 { v as u32 } else { 4294967295 },
-        NumeralValue::TooLarge => 4294967295,
+    let value = words::numeral(text, start as usize, length as usize);
+    value.unwrap_or(u64::MAX).min(u64::from(u32::MAX)) as u32
+}
+
+// The refusal of the token at a place.
+pub fn rejection(refusal: Refusal, tokens: &[[u32; 4]], at: usize) -> Rejection
+    ensures { result ≡ rejection_at refusal tokens.now at }
+{
+    Rejection {
+        refusal,
+        line: line(tokens, at),
     }
 }
 
 // Writes a row for the token at a place, and takes it.
-pub fn push(out: &mut [[u32; 4]], used: usize, at: usize, row: [u32; 4]) -> Step
+pub fn push(out: &mut [[u32; 4]], used: usize, at: usize, row: [u32; 4]) -> Read
     requires { (used < length out.old) × (used < 65536) × (at < 65536) }
-    ensures { (result ≡ At (at + 1) (used + 1) 1) × (out.new ≡ set out.old used row) }
+    ensures { (result ≡ record { at = at + 1; used = used + 1; count = 1 }) × (out.new ≡ set out.old used row) }
 {
     out[used] = row;
-    Step::At(at + 1, used + 1, 1)
+    Read {
+        at: at + 1,
+        used: used + 1,
+        count: 1,
+    }
 }
 
 // Writes a row.
@@ -71,13 +83,17 @@ pub fn put(out: &mut [[u32; 4]], at: usize, row: [u32; 4])
 }
 
 // A sign that must be there.
-pub fn sign(tokens: &[[u32; 4]], kind: u32, at: usize, used: usize) -> Step
+pub fn sign(tokens: &[[u32; 4]], kind: u32, at: usize, used: usize) -> Result<Read, Rejection>
     requires fact_1 { length tokens.now ≤ 65536 }
     requires fact_2 { 0 < kind }
-    ensures { Signed (sign_of (last_line tokens.now) kind (drop at tokens.now)) tokens.now at used result }
+    ensures { Signed (sign_of (last_line tokens.now) kind (drop at tokens.now)) tokens.now at used (step result) }
 {
     if peek(tokens, at).kind == kind {
-        return Step::At(at + 1, used, 1);
+        return Ok(Read {
+            at: at + 1,
+            used,
+            count: 1,
+        });
     }
-    Step::Refused(Refusal::SignExpected, line(tokens, at))
+    Err(rejection(Refusal::SignExpected, tokens, at))
 }

@@ -1,6 +1,8 @@
 -- What `unify` does after its loop: the stack cleared, the links undone, and without success the bindings undone.
-use Rattle.std.specs.Prelude.{ℕ, zero, suc, ◌+◌, ◌-◌, ◌≤◌, ◌<◌, ◌≡◌, refl, Bool, true, false, List, [], ◌∷◌, get_or, length, set}
-use Rattle.std.proofs.Common.{arith, not-suc-le-zero, le_refl, sym, ap, ◌∙◌, subst, length-set, get_or-set_same, get_or-set_other, ext_get_or}
+use Rattle.std.specs.Prelude.{ℕ, zero, suc, ◌+◌, ◌-◌, ◌≤◌, ◌<◌, ◌≡◌, refl, Bool, true, false, List, [], ◌∷◌, ◌++◌, get_or, length, set, drop, replicate}
+use Rattle.std.proofs.Common.{arith, not-suc-le-zero, le_refl, sym, ap, ◌∙◌, subst, length-set, length-append, length-drop, get_or-drop, get_or-set_same, get_or-set_other, ext_get_or}
+use Rattle.std.proofs.Math.ListN.{get_or-append, length-replicate, get_or-replicate}
+use Rattle.std.proofs.lemmas.List.{get_or-append_right}
 use Rattle.terms.specs.Numbers.{true_false}
 use Rattle.arena.specs.Rows.{Rows, column}
 use Rattle.bindings.specs.Tables.{undone}
@@ -35,23 +37,24 @@ stack_back : {s₀ s : Rows} {d : ℕ} → StackedFrom s₀ s d → d ≤ length
 stack_back {s₀} {s} {d} h l = ext_get_or [] (cleared s d) s₀ (cleared_long s d ∙ h.long)
     (λ i _. by_order i d (λ p. cleared_at s d i (let e = h.long in omega arith) p ∙ sym (h.zero i p)) (λ p. cleared_off s d i p ∙ h.above i p))
 
--- The loop of `clear`.
-pub record Clearing (s₀ : Rows) (d : ℕ) (s : Rows) (i : ℕ) : Type 0 where
-  pub long : length s ≡ length s₀
-  pub within : i ≤ length s₀
-  pub is : cleared s i ≡ cleared s₀ d
+-- A row of three numbers is those three.
+pub triple_is : (row : List ℕ) → length row ≡ 3 → row ≡ get_or row 0 0 ∷ get_or row 1 0 ∷ get_or row 2 0 ∷ []
+triple_is [] e = absurd (omega arith)
+triple_is (x ∷ []) e = absurd (omega arith)
+triple_is (x ∷ y ∷ []) e = absurd (omega arith)
+triple_is (x ∷ y ∷ z ∷ []) e = refl
+triple_is (x ∷ y ∷ z ∷ u ∷ l) e = absurd (omega arith)
 
-pub clear_step : {s₀ s : Rows} {d i : ℕ} → Clearing s₀ d s i → 0 < i → Clearing s₀ d (set s (i - 1) (0 ∷ 0 ∷ 0 ∷ [])) (i - 1)
-unfolding cleared
-clear_step {s₀} {s} {d} {i} h l = let e : i ≡ suc (i - 1) = omega arith in let w = h.within in record {
-  long = length-set s (i - 1) _ ∙ h.long;
-  within = omega arith;
-  is = sym (ap (cleared s) e) ∙ h.is;
-}
-
-pub clear_end : {s₀ s : Rows} {d i : ℕ} → Clearing s₀ d s i → i ≤ 0 → s ≡ cleared s₀ d
-unfolding cleared
-clear_end {s₀} {s} {d} {i} h l = let e : i ≡ 0 = omega arith in sym (ap (cleared s) e) ∙ h.is
+-- Zero rows in place of the first d.
+pub cleared_front : (s zeros : Rows) (d k : ℕ) → d ≤ length s → k ≡ d → zeros ≡ replicate k (0 ∷ 0 ∷ 0 ∷ []) → zeros ++ drop d s ≡ cleared s d
+cleared_front s zeros d k l q e =
+    let n : length zeros ≡ d = ap length e ∙ (length-replicate k _ ∙ q) in
+    ext_get_or [] (zeros ++ drop d s) (cleared s d)
+    (length-append zeros (drop d s) ∙ (let a = length-drop d s in let b = cleared_long s d in omega arith))
+    (λ j _. by_order j d
+    (λ p. get_or-append zeros (drop d s) [] j (omega arith) ∙ ap (λ (z : Rows). get_or z j []) e ∙ get_or-replicate k j _ [] (omega arith) ∙ sym (cleared_at s d j l p))
+    (λ p. get_or-append_right zeros (drop d s) d j [] n p ∙ get_or-drop d s (j - d) [] ∙ ap (λ (i : ℕ). get_or s i []) (let g : d + (j - d) ≡ j = omega arith in g)
+    ∙ sym (cleared_off s d j p)))
 
 module _ {N : ℕ} {w : List ℕ} {b₀ b l₀ l m₀ m s₀ s : Rows} {variables used k r t : ℕ} {answer : Bool} {n c d : ℕ} (h : Equated N w b₀ b l₀ l m₀ m s₀ s variables used k r t answer n c d) where
   pub links_undoable : N + used ≤ length l₀ → Undoable l c 0

@@ -8,8 +8,8 @@ ghost use Rattle.unifier.specs.Equating.{Equated};
 
 use super::links::{find, link};
 use super::nodes::{argument, arity};
-use super::stack::{pair_at, put_pair};
-use super::{Decision, Ending, Pair};
+use super::{Decision, Ending};
+use arena::SYMBOL_STEP;
 use bindings::{enter, occurs, walk};
 
 // What is to be done with x and y.
@@ -54,7 +54,7 @@ fn decide(
         return Decision::Clash;
     }
     // Constants have no arguments to be made equal, so two with one header need no links.
-    if header % 32 == 0 {
+    if header % SYMBOL_STEP == 0 {
         return Decision::Same;
     }
     if find(links, p) == find(links, q) {
@@ -83,84 +83,57 @@ pub fn equate(
     ensures { Equated room w.now b.old b.new links.old links.new m.old m.new
         s.old s.new variables used k r t result.equal result.bound result.linked result.open }
 {
-    let mut x = r;
-    let mut y = t;
     let mut d = 0;
     let mut n = k;
     let mut c = 0;
-    let mut pending = true;
+    let mut pending = Some((r, t));
     loop {
-        if pending {
-            match decide(w, b, links, m, room, variables, used, n, x, y) {
-                Decision::Same => {
-                    pending = false;
+        match pending {
+            Some((x, y)) => {
+                pending = None;
+                match decide(w, b, links, m, room, variables, used, n, x, y) {
+                    Decision::Same => {}
+                    Decision::Bind(v, z) => {
+                        enter(b, n, v, z + 1);
+                        n += 1;
+                    }
+                    Decision::Open(p, q) => {
+                        s[d as usize] = [p, q, 0];
+                        d += 1;
+                    }
+                    Decision::Clash => {
+                        return Ending {
+                            equal: false,
+                            bound: n,
+                            linked: c,
+                            open: d,
+                        };
+                    }
                 }
-                Decision::Bind(v, z) => {
-                    enter(b, n, v, z + 1);
-                    n += 1;
-                    pending = false;
-                }
-                Decision::Open(p, q) => {
-                    put_pair(
-                        s,
-                        d,
-                        Pair {
-                            left: p,
-                            right: q,
-                            taken: 0,
-                        },
-                    );
-                    d += 1;
-                    pending = false;
-                }
-                Decision::Clash => {
+            }
+            None => {
+                if d == 0 {
                     return Ending {
-                        equal: false,
+                        equal: true,
                         bound: n,
                         linked: c,
                         open: d,
                     };
                 }
-            }
-        } else {
-            if d == 0 {
-                return Ending {
-                    equal: true,
-                    bound: n,
-                    linked: c,
-                    open: d,
-                };
-            }
-            let f = pair_at(s, d - 1);
-            let left = f.left;
-            let right = f.right;
-            let taken = f.taken;
-            if taken < arity(w, room, left) {
-                put_pair(
-                    s,
-                    d - 1,
-                    Pair {
-                        left: left,
-                        right: right,
-                        taken: taken + 1,
-                    },
-                );
-                x = argument(w, room, left, taken);
-                y = argument(w, room, right, taken);
-                pending = true;
-            } else {
-                link(links, c, left, right);
-                c += 1;
-                put_pair(
-                    s,
-                    d - 1,
-                    Pair {
-                        left: 0,
-                        right: 0,
-                        taken: 0,
-                    },
-                );
-                d -= 1;
+                let last = (d - 1) as usize;
+                let [left, right, taken] = s[last];
+                if taken < arity(w, room, left) {
+                    s[last] = [left, right, taken + 1];
+                    pending = Some((
+                        argument(w, room, left, taken),
+                        argument(w, room, right, taken),
+                    ));
+                } else {
+                    link(links, c, left, right);
+                    c += 1;
+                    s[last] = [0, 0, 0];
+                    d -= 1;
+                }
             }
         }
     }

@@ -10,7 +10,7 @@ mod nodes; // the parts of a node
 mod stack; // the stack of open pairs
 mod equations; // one decision, and the loop of unification
 
-ghost use Rattle.std.specs.Prelude.{◌≡◌};
+ghost use Rattle.std.specs.Prelude.{◌≡◌, is_some, unwrap_or};
 ghost use Rattle.arena.specs.Cells.{cells, Reference};
 ghost use Rattle.bindings.specs.Stored.{Form};
 ghost use Rattle.unifier.specs.Promises.{Scratch, Unified};
@@ -33,14 +33,7 @@ pub enum Decision {
     Clash,
 }
 
-// Two nodes whose arguments are being made equal, and how many of them were taken.
-#[derive(Clone, Copy)]
-pub struct Pair {
-    pub left: u32,
-    pub right: u32,
-    pub taken: u32,
-}
-
+// Stays: `unify` needs the counts where the terms are not equal too, to undo what was entered.
 // How the loop of `unify` ended: whether the terms are equal, and how many bindings, links and open pairs there are.
 #[derive(Clone, Copy)]
 pub struct Ending {
@@ -50,24 +43,19 @@ pub struct Ending {
     pub open: u32,
 }
 
-// Whether two terms were unified, and how many bindings there are.
-#[derive(Clone, Copy)]
-pub struct Ended {
-    pub unified: bool,
-    pub bound: u32,
-}
-
-// How unification ended, as one number for programs in other languages: how many variables are bound, and 2^31 more where the terms unify.
-pub fn packed(ended: Ended) -> u64
-    ensures { result ≡ packed_unify ended.unified ended.bound }
+// How unification ended, as one number for programs in other languages: how many variables are bound, and 2^31 more where the terms unify. `before` is how
+// many were bound before, as they are again where the terms do not unify.
+pub fn packed(ended: Option<u32>, before: u32) -> u64
+    ensures { result ≡ packed_unify (is_some ended) (unwrap_or ended before) }
 {
-    if ended.unified {
-        return 0x8000_0000 + (ended.bound as u64);
+    match ended {
+        Some(bound) => 0x8000_0000 + (bound as u64),
+        None => before as u64,
     }
-    ended.bound as u64
 }
 
-// Unifies what r and t denote under the first k bindings; without success the bindings are undone to k, and the scratch is left as it was.
+// Unifies what r and t denote under the first k bindings; the answer is how many bindings there are then. Without success the bindings are undone to k. The
+// scratch is left as it was.
 pub fn unify(
     w: &[u32],
     b: &mut [[u32; 2]],
@@ -80,29 +68,19 @@ pub fn unify(
     k: u32,
     r: u32,
     t: u32,
-) -> Ended
+) -> Option<u32>
     requires fact_1 { Form room w.now b.old variables used k }
     requires fact_2 { (Reference room (cells w.now) variables used r) × (Reference room (cells w.now) variables used t) }
     requires fact_3 { Scratch room used links.old m.old s.old }
     ensures { Unified room w.now b.old b.new links.old links.new m.old m.new
-        s.old s.new variables used k result.bound r t result.unified }
+        s.old s.new variables used k (unwrap_or result k) r t (is_some result) }
 {
     let e = equate(w, b, links, m, s, room, variables, used, k, r, t);
-    let equal = e.equal;
-    let n = e.bound;
-    let c = e.linked;
-    let d = e.open;
-    undo(links, c, 0);
-    clear(s, d);
-    if equal {
-        return Ended {
-            unified: true,
-            bound: n,
-        };
+    undo(links, e.linked, 0);
+    clear(s, e.open);
+    if e.equal {
+        return Some(e.bound);
     }
-    undo(b, n, k);
-    Ended {
-        unified: false,
-        bound: k,
-    }
+    undo(b, e.bound, k);
+    None
 }

@@ -2,6 +2,8 @@
 ghost use Rattle.std.specs.Prelude.{◌≡◌, suc, ◌+◌, ◌-◌, ◌<◌, ◌≤◌};
 ghost use Rattle.arena.specs.Cells.{cells, headers, arity_of};
 
+use arena::SYMBOL_STEP;
+
 // The number of arguments of the node r.
 pub fn arity(w: &[u32], room: u32, r: u32) -> u32
     requires { room ≤ r }
@@ -9,7 +11,7 @@ pub fn arity(w: &[u32], room: u32, r: u32) -> u32
 {
     let a = (r - room) as usize;
     if a < w.len() {
-        return w[a] % 32;
+        return w[a] % SYMBOL_STEP;
     }
     0
 }

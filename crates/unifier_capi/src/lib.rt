@@ -31,5 +31,5 @@ pub extern "C" fn horn_unify_unchecked(
     let ended = unifier::unify(
         words, bindings, links, marks, stack, TERM_ROOM, variables, used, bound, left, right,
     );
-    unifier::packed(ended)
+    unifier::packed(ended, bound)
 }

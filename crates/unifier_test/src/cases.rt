@@ -1,6 +1,6 @@
 // The cases: each builds its storage, runs one call, and writes a line.
 use arena::TERM_ROOM;
-use samples::unification::{Case, Found};
+use samples::unification::{Case, Fault};
 use samples::{build, report, rows, unification};
 
 // The variables in use in most cases.
@@ -29,12 +29,9 @@ pub struct Towers {
 // The first free address behind the towers.
 fn put_towers(words: &mut [u32], towers: Towers) -> u32 {
     build::put_constants(words);
-    if towers.shared {
-        let next = build::put_shared(words, 2, towers.first, towers.first_leaf);
-        return build::put_shared(words, next, towers.second, towers.second_leaf);
-    }
-    let next = build::put_tower(words, 2, towers.first, towers.first_leaf);
-    build::put_tower(words, next, towers.second, towers.second_leaf)
+    let arity = if towers.shared { 2 } else { 1 };
+    let next = build::put_tower(words, 2, towers.first, towers.first_leaf, arity);
+    build::put_tower(words, next, towers.second, towers.second_leaf, arity)
 }
 
 // Builds the towers, and the pairs where they are wanted; one binding stands already, of variable 60 to a constant.
@@ -81,21 +78,21 @@ fn report_unify(
     marks: &mut [[u32; 2]],
     before: &[[u32; 2]],
     case: Case,
-    found: Found,
+    found: Result<Option<u32>, Fault>,
 ) {
     match found {
-        Found::NotReady => {
+        Err(Fault::NotReady) => {
             report::text(b": not as the call asks\n");
         }
-        Found::ScratchLeft => {
+        Err(Fault::ScratchLeft) => {
             report::text(b": scratch is left\n");
         }
-        Found::No => {
+        Ok(None) => {
             report::text(b": do not unify");
             unification::compare(bindings, before);
             report::text(b"\n");
         }
-        Found::Yes(bound) => {
+        Ok(Some(bound)) => {
             report::text(b": unify");
             let after = Case {
                 variables: case.variables,
@@ -134,18 +131,18 @@ pub fn unify(name: &[u8], towers: Towers) {
 }
 
 // Writes the line of a question that has only yes and no for an answer.
-fn report_answer(found: Found, yes: &[u8], no: &[u8]) {
+fn report_answer(found: Result<bool, Fault>, yes: &[u8], no: &[u8]) {
     match found {
-        Found::NotReady => {
+        Err(Fault::NotReady) => {
             report::text(b": not as the call asks\n");
         }
-        Found::ScratchLeft => {
+        Err(Fault::ScratchLeft) => {
             report::text(b": scratch is left\n");
         }
-        Found::Yes(_) => {
+        Ok(true) => {
             report::text(yes);
         }
-        Found::No => {
+        Ok(false) => {
             report::text(no);
         }
     }

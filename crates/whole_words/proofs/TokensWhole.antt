@@ -15,8 +15,8 @@ use Rattle.words.specs.Tokens.Reading.{tokens, refused}
 use Rattle.source_text.specs.Utf8.{is_utf8}
 use Rattle.source_text.specs.Parts.{part_of}
 use Rattle.words.specs.Lexer.{in_domain, lex_of}
-use Rattle.words.specs.declared.tokens.Item.{Item}
-use Rattle.words.specs.declared.tokens.Item.TheVariants.{Blank, Token, Refused}
+use Rattle.words.specs.Items.{Item}
+use Rattle.words.specs.Items.Item.{Blank, Token, Refused}
 use Rattle.term_parser.specs.ReaderLaws.{Each, each_append}
 use Rattle.whole_words.specs.Words.{is_word_byte, TokenWhole, InToken, Accounted, commented, taken, TokensWhole}
 use Rattle.whole_words.specs.WordLaws.{Fit, Good, item_good}

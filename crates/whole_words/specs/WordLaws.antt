@@ -11,12 +11,11 @@ use Rattle.words.specs.Names.{numeral_kind, keywords, number_among, keyword_of, 
 use Rattle.source_text.specs.Numerals.{all_digits, numeral_of}
 use Rattle.words.specs.Signs.{Sign, entry, signs, sign_among, sign_item}
 use Rattle.words.specs.Tokens.{is_word, word_of, item_of}
-use Rattle.source_text.specs.declared.NumeralValue.{NumeralValue}
-use Rattle.source_text.specs.declared.NumeralValue.TheVariants.{Fits, TooLarge}
-use Rattle.words.specs.declared.Refusal.{Refusal}
-use Rattle.words.specs.declared.Refusal.TheVariants.{WordTooLong}
-use Rattle.words.specs.declared.tokens.Item.{Item}
-use Rattle.words.specs.declared.tokens.Item.TheVariants.{Blank, Token, Refused}
+use Rattle.std.specs.Prelude.{Option, Some, None}
+use Rattle.refusals.specs.declared.Refusal.{Refusal}
+use Rattle.refusals.specs.declared.Refusal.TheVariants.{WordTooLong}
+use Rattle.words.specs.Items.{Item}
+use Rattle.words.specs.Items.Item.{Blank, Token, Refused}
 use Rattle.whole_words.specs.Words.{is_word_byte, ReadAs}
 
 -- The bytes of words are those of the lexer's table.
@@ -179,7 +178,7 @@ metavariable_read w e =
       sign = λ h. absurd (omega arith);
     }
 
-numeral_read : (w : List ℕ) (v : ℕ) → all_digits w ≡ true → numeral_of w ≡ Fits v → ReadAs 14 w
+numeral_read : (w : List ℕ) (v : ℕ) → all_digits w ≡ true → numeral_of w ≡ Some v → ReadAs 14 w
 numeral_read w v d e =
     record {
       lowest = omega arith;
@@ -224,10 +223,10 @@ word_read w =
     made : (kind : ℕ) → ltb 64 (length w) ≡ false → kind ≤ 14 → ReadAs kind w → WordRead w kind (length w)
     made kind e l r = record { whole = refl; short = ltb-false 64 (length w) e; low = l; reads = r }
 
-    fitted : (v : NumeralValue) → ltb 64 (length w) ≡ false → all_digits w ≡ true → numeral_of w ≡ v
+    fitted : (v : Option ℕ) → ltb 64 (length w) ≡ false → all_digits w ≡ true → numeral_of w ≡ v
         → Holds (WordRead w) (if_fits v (Token numeral_kind (length w)))
-    fitted (Fits v) e g q = made 14 e (omega arith) (numeral_read w v g q)
-    fitted TooLarge e g q = tt
+    fitted (Some v) e g q = made 14 e (omega arith) (numeral_read w v g q)
+    fitted None e g q = tt
 
 -- Signs
 
@@ -401,9 +400,9 @@ word_token w q =
     never_token : {k m : ℕ} → Token k m ≡ Blank → ⊥
     never_token z = let y : ◌≡◌ {A = ℕ} 0 1 = cc in omega arith
 
-    fitted : (v : NumeralValue) → if_fits v (Token numeral_kind (length w)) ≡ Blank → ⊥
-    fitted (Fits v) z = never_token z
-    fitted TooLarge z = never z
+    fitted : (v : Option ℕ) → if_fits v (Token numeral_kind (length w)) ≡ Blank → ⊥
+    fitted (Some v) z = never_token z
+    fitted None z = never z
 
 sign_token : (xs : List Sign) (s : List ℕ) → sign_among xs s ≡ Blank → ⊥
 unfolding sign_among

@@ -6,7 +6,7 @@ use Rattle.words.specs.Names.{keywords}
 use Rattle.source_text.specs.Numerals.{all_digits, numeral_of}
 use Rattle.words.specs.Signs.{entry, signs}
 use Rattle.source_text.specs.Parts.{part_of}
-use Rattle.source_text.specs.declared.NumeralValue.TheVariants.{Fits}
+use Rattle.std.specs.Prelude.{Some}
 use Rattle.term_parser.specs.ReaderLaws.{Each}
 
 -- Does a byte make words? The letters A to Z and a to z, the digits, and _ . ' # ? do; no other byte does.
@@ -57,7 +57,7 @@ pub record ReadAs (kind : ℕ) (w : List ℕ) : Type 0 where
   -- 13, a metavariable: with a `?` in front.
   pub metavariable : kind ≡ 13 → get_or w 0 0 ≡ 63
   -- 14, a numeral: digits alone, and they have a value.
-  pub numeral : kind ≡ 14 → (v : ℕ) × (all_digits w ≡ true) × (numeral_of w ≡ Fits v)
+  pub numeral : kind ≡ 14 → (v : ℕ) × (all_digits w ≡ true) × (numeral_of w ≡ Some v)
   -- 15 to 23: a sign of that kind.
   pub sign : 15 ≤ kind → SignOf kind w
 

@@ -7,6 +7,10 @@ use native.Mathlib.Omega.{arith}
 use lib.ListN.{length, get_or}
 use lib.Dec.{eqb, ltb}
 use borrow.Author.Tests.{ne_eqb, eqb-true, ltb-true}
+use Rattle.std.specs.Prelude.{Result, Ok, Err}
+use Rattle.std.specs.Result.{is_err}
+use Rattle.refusals.specs.declared.Rejection.{Rejection}
+use Rattle.words.specs.Rows.{outcome}
 use Rattle.source_text.specs.Bytes.{within, starts_with, up_to, one_of}
 use Rattle.source_text.specs.Characters.{arrow, character_of, class_of, has_outside, outside_after}
 use Rattle.source_text.specs.Lines.{code_of}
@@ -15,11 +19,10 @@ use Rattle.source_text.specs.Numerals.{all_digits, numeral_of}
 use Rattle.words.specs.Signs.{sign_item}
 use Rattle.words.specs.Tokens.{Reading, and_then, is_word, word_of, item_of, item_length, read_item, read_after, read_lines, outside_line}
 use Rattle.words.specs.Tokens.Reading.{tokens, refused}
-use Rattle.source_text.specs.declared.NumeralValue.{NumeralValue}
-use Rattle.source_text.specs.declared.NumeralValue.TheVariants.{Fits, TooLarge}
+use Rattle.std.specs.Prelude.{Option, Some, None}
 use Rattle.words.specs.Lexer.{in_domain}
-use Rattle.words.specs.declared.Refusal.TheVariants.{UnexpectedCharacter, OutsideDomain}
-use Rattle.words.specs.declared.tokens.Item.TheVariants.{Token, Refused}
+use Rattle.refusals.specs.declared.Refusal.TheVariants.{UnexpectedCharacter, OutsideDomain}
+use Rattle.words.specs.Items.Item.{Token, Refused}
 use Rattle.source_text.proofs.Scans.{by_bool, and_left, and_right}
 use Rattle.words.proofs.Items.{sign_at, sign_by, no_arrow}
 
@@ -27,6 +30,10 @@ use Rattle.words.proofs.Items.{sign_at, sign_by, no_arrow}
 abbrev pub accepted : Reading → Bool
 accepted (tokens ts) = true
 accepted (refused r n) = false
+
+pub accepted_ok : (l : Result ℕ Rejection) (rows : List (List ℕ)) → is_err l ≡ false → accepted (outcome l rows) ≡ true
+accepted_ok (Ok n) rows e = refl
+accepted_ok (Err r) rows e = absurd (let z : ◌≡◌ {A = ℕ} 0 1 = cc in omega arith)
 
 then_accepted : (a b : Reading) → accepted (and_then a b) ≡ true → (accepted a ≡ true) × (accepted b ≡ true)
 unfolding and_then
@@ -128,9 +135,9 @@ token_length w p n a =
     (λ f. by_bool (all_digits w) (λ g. simp (e, f, g) (fitted (numeral_of w) (simp (e, f, g) at a)))
     (λ g. simp (e, f, g))))
   where
-    fitted : (v : NumeralValue) → accepted (read_item (if_fits v (Token 14 (length w))) p n) ≡ true → item_length (if_fits v (Token 14 (length w))) ≡ length w
-    fitted (Fits v) a = refl
-    fitted TooLarge a = absurd (let z : ◌≡◌ {A = ℕ} 0 1 = cc in omega arith)
+    fitted : (v : Option ℕ) → accepted (read_item (if_fits v (Token 14 (length w))) p n) ≡ true → item_length (if_fits v (Token 14 (length w))) ≡ length w
+    fitted (Some v) a = refl
+    fitted None a = absurd (let z : ◌≡◌ {A = ℕ} 0 1 = cc in omega arith)
 
 word_cons : (c : ℕ) (s : List ℕ) → is_word (character_of (c ∷ s)).class ≡ true → length (word_of (c ∷ s)) ≡ suc (length (word_of s))
 unfolding word_of up_to

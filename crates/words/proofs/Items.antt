@@ -7,17 +7,22 @@ use native.Mathlib.Numerals.{add-one}
 use native.Mathlib.Omega.{arith}
 use lib.ListN.{length, get_or, take, drop, length-drop}
 use lib.Dec.{eqb}
-use borrow.Author.Tests.{ne_eqb}
+use borrow.Author.Tests.{ne_eqb, eqb-true}
+use Rattle.std.proofs.Common.{◌⊎◌, ⊎_elim}
 use Rattle.source_text.specs.Bytes.{starts_with, same_bytes}
-use Rattle.source_text.specs.Characters.{arrow, character_of}
-use Rattle.words.specs.Names.{keywords, keyword_of, number_among, name_kind}
+use Rattle.source_text.specs.Characters.{class_number, arrow, character_of}
+use Rattle.words.specs.Names.{if_fits, word_item, keywords, keyword_of, number_among, name_kind}
 use Rattle.words.specs.Signs.{signs, sign_among, sign_item}
-use Rattle.words.specs.Tokens.{is_word, word_of}
-use Rattle.words.specs.declared.Refusal.TheVariants.{UnexpectedCharacter}
-use Rattle.source_text.specs.declared.characters.Character.{Character}
-use Rattle.words.specs.declared.tokens.Item.{Item}
-use Rattle.words.specs.declared.tokens.Item.TheVariants.{Token, Refused}
-use Rattle.source_text.proofs.Scans.{one_at, two_at, scan_next, scan_stop, scan_end, scan_fits, scan_take}
+use Rattle.words.specs.Tokens.{is_word, word_of, item_of}
+use Rattle.refusals.specs.declared.Refusal.TheVariants.{UnexpectedCharacter, NumeralTooLarge}
+use Rattle.std.specs.Prelude.{Option, Some, None}
+use Rattle.std.specs.Option.{is_some}
+use Rattle.source_text.specs.declared.characters.Class.{Class}
+use Rattle.source_text.specs.declared.characters.Class.TheVariants.{Letter, Digit}
+use Rattle.source_text.specs.Characters.{Classed}
+use Rattle.words.specs.Items.{Item}
+use Rattle.words.specs.Items.Item.{Blank, Token, Refused}
+use Rattle.source_text.proofs.Scans.{by_bool, and_left, and_right, one_at, two_at, scan_next, scan_stop, scan_end, scan_fits, scan_take}
 
 -- The sign whose first bytes are a and b; t: stands there.
 abbrev pub sign_by : ℕ → ℕ → Bool → Item
@@ -46,6 +51,51 @@ no_arrow [] zero a e f = refl
 no_arrow [] (suc i) a e f = refl
 no_arrow (c ∷ s) zero a e f = simp (e, f)
 no_arrow (c ∷ s) (suc i) a e f = no_arrow s i a e f
+
+-- Where the first bytes start no sign, → alone stands.
+pub sign_else : (a b : ℕ) (t : Bool) → (a ≡ 45 → b ≡ 62 → ⊥) → (a ≡ 61 → ⊥) → (a ≡ 58 → ⊥) → (a ≡ 40 → ⊥) → (a ≡ 41 → ⊥) → (a ≡ 44 → ⊥) → (a ≡ 124 → ⊥) → sign_by a b t ≡ cond t (Token 15 3) (Refused UnexpectedCharacter)
+sign_else a b t n0 n1 n2 n3 n4 n5 n6 =
+    by_bool (eqb a 45 && eqb b 62)
+    (λ e. absurd (n0 (eqb-true a 45 (and_left (eqb a 45) (eqb b 62) e)) (eqb-true b 62 (and_right (eqb a 45) (eqb b 62) e))))
+    (λ e. simp (e, ne_eqb _ _ n1, ne_eqb _ _ n2, ne_eqb _ _ n3, ne_eqb _ _ n4, ne_eqb _ _ n5, ne_eqb _ _ n6))
+
+-- The item of a character's class.
+pub item_blank : (s : List ℕ) → (character_of s).class ≡ 1 → item_of s ≡ Blank
+unfolding item_of
+item_blank s e = simp e
+
+pub item_word : (s : List ℕ) → is_word (character_of s).class ≡ true → ((character_of s).class ≡ 1 → ⊥) → item_of s ≡ word_item (word_of s)
+unfolding item_of
+item_word s e n = simp (ne_eqb _ _ n, e)
+
+pub item_sign : (s : List ℕ) → (character_of s).class ≡ 4 → item_of s ≡ sign_item s
+unfolding item_of
+item_sign s e = simp e
+
+pub item_none : (s : List ℕ) → ((character_of s).class ≡ 0) ⊎ ((character_of s).class ≡ 5) → item_of s ≡ Refused UnexpectedCharacter
+unfolding item_of
+item_none s e =
+    ⊎_elim
+    (λ f. let g : (character_of s).class ≡ 0 = f in simp g)
+    (λ f. let g : (character_of s).class ≡ 5 = f in simp g)
+    e
+
+-- Letters and digits make words, and are no blanks.
+pub lettered : (k : Class) → (k ≡ Letter) ⊎ (k ≡ Digit) → (is_word (class_number k) ≡ true) × (class_number k ≡ 1 → ⊥)
+lettered k e =
+    ⊎_elim
+    (λ f. let g : k ≡ Letter = f in rw g (refl, λ z. omega arith))
+    (λ f. let g : k ≡ Digit = f in rw g (refl, λ z. omega arith))
+    e
+
+-- The item of a numeral.
+pub fits_some : (v : Option ℕ) (i : Item) → is_some v ≡ true → if_fits v i ≡ i
+fits_some (Some v) i e = refl
+fits_some None i e = absurd (let z : ◌≡◌ {A = ℕ} 0 1 = cc in omega arith)
+
+pub fits_none : (v : Option ℕ) (i : Item) → is_some v ≡ false → if_fits v i ≡ Refused NumeralTooLarge
+fits_none (Some v) i e = absurd (let z : ◌≡◌ {A = ℕ} 0 1 = cc in omega arith)
+fits_none None i e = refl
 
 -- A word whose first byte is a, compared with the keywords that start so.
 pub keyword_by : (w : List ℕ) (a : ℕ) (f : List ℕ → ℕ) → 0 < length w → get_or w 0 0 ≡ a → ((t : List ℕ) → keyword_of (a ∷ t) ≡ f (a ∷ t)) → f w ≡ keyword_of w
@@ -83,7 +133,7 @@ module _ (s : List ℕ) (i : ℕ) where
   word_part e q = let k : e - i ≡ length (word_of (drop i s)) = omega arith in rw k (sym (scan_take (λ l. not (is_word (character_of l).class)) (drop i s)))
 
   -- It is not empty where its first character is one of words.
-  pub word_starts : (e : ℕ) (c : Character) → i < length s → c ≡ character_of (drop i s) → is_word c.class ≡ true → e ≡ i + length (word_of (drop i s)) → 0 < length (take (e - i) (drop i s))
+  pub word_starts : (e : ℕ) (c : Classed) → i < length s → c ≡ character_of (drop i s) → is_word c.class ≡ true → e ≡ i + length (word_of (drop i s)) → 0 < length (take (e - i) (drop i s))
   word_starts e c h f g q =
       let n : length (word_of (drop i s)) ≡ suc (length (word_of (drop (i + 1) s))) = word_next h (rw (← f) g) in
       rw (word_part e q) (omega arith)

@@ -1,5 +1,4 @@
 -- The laws that several proofs cite.
-pub mod Rows
 pub mod Items
 pub mod Readings
 pub mod Domains

@@ -20,13 +20,13 @@ use Rattle.words.specs.Tokens.{Reading, and_then, is_word, word_of, item_of, ite
 use Rattle.words.specs.Rows.{outcome}
 use Rattle.words.specs.Tokens.Reading.{tokens, refused}
 use Rattle.words.specs.Lexer.{answer_of, rows_of, zero_row, count_of}
-use Rattle.source_text.specs.declared.NumeralValue.{NumeralValue}
-use Rattle.source_text.specs.declared.NumeralValue.TheVariants.{Fits, TooLarge}
-use Rattle.words.specs.declared.Lexed.{Lexed}
-use Rattle.words.specs.declared.Lexed.TheVariants as lexed
-use Rattle.words.specs.declared.Refusal.{Refusal}
-use Rattle.words.specs.declared.tokens.Item.{Item}
-use Rattle.words.specs.declared.tokens.Item.TheVariants.{Blank, Token, Refused}
+use Rattle.std.specs.Prelude.{Option, Some, None}
+use Rattle.std.specs.Prelude.{Result, Ok, Err}
+use Rattle.std.specs.Result.{result_unwrap_or}
+use Rattle.refusals.specs.declared.Rejection.{Rejection}
+use Rattle.refusals.specs.declared.Refusal.{Refusal}
+use Rattle.words.specs.Items.{Item}
+use Rattle.words.specs.Items.Item.{Blank, Token, Refused}
 use Rattle.source_text.proofs.Scans.{by_bool, and_left, and_right, prefix_fits, line_long, lines_at, code_part}
 use Rattle.source_text.proofs.Encodings.{past}
 use Rattle.words.proofs.Items.{word_next, word_fits}
@@ -73,9 +73,9 @@ word_length w h =
     (λ f. by_bool (all_digits w) (λ g. simp (e, f, g) (fitted (numeral_of w)))
     (λ g. simp (e, f, g) (omega arith, omega arith))))
   where
-    fitted : (v : NumeralValue) → (0 < item_length (if_fits v (Token 14 (length w)))) × (item_length (if_fits v (Token 14 (length w))) ≤ length w)
-    fitted (Fits v) = (omega arith, omega arith)
-    fitted TooLarge = (omega arith, omega arith)
+    fitted : (v : Option ℕ) → (0 < item_length (if_fits v (Token 14 (length w)))) × (item_length (if_fits v (Token 14 (length w))) ≤ length w)
+    fitted (Some v) = (omega arith, omega arith)
+    fitted None = (omega arith, omega arith)
 
 -- No sign is written with no bytes.
 written : List Sign → Bool
@@ -161,14 +161,19 @@ pub push_row : (rows : List (List ℕ)) (n : ℕ) (row : List ℕ) → n < lengt
 push_row rows n row h = rw (add-one n) (take-suc-set rows n row h)
 
 -- A refusal stands, whatever comes after it.
-pub stopped : (l : Lexed) (rows : List (List ℕ)) (rest : Reading) (r : Refusal) (n : ℕ) → l ≡ lexed.Refused r n → and_then (outcome l rows) rest ≡ outcome l rows
+pub stopped : (l : Result ℕ Rejection) (rows : List (List ℕ)) (rest : Reading) (e : Rejection) → l ≡ Err e → and_then (outcome l rows) rest ≡ outcome l rows
 unfolding and_then
-stopped l rows rest r n e = rw e
+stopped l rows rest r e = rw e
+
+-- How many rows an answer counts.
+pub counted : (l : Result ℕ Rejection) → result_unwrap_or l 0 ≡ count_of l
+counted (Ok n) = refl
+counted (Err e) = refl
 
 -- What `lex` answers and leaves, from what reading comes to and the rows past it zeroed.
 module _ (m : ℕ) (rows after : List (List ℕ)) (long : length rows ≡ m) where
-  pub leaves : (l : Lexed) → count_of l ≤ m → after ≡ take (count_of l) rows ++ replicate (length rows - count_of l) zero_row → (l ≡ answer_of (outcome l rows)) × (after ≡ rows_of m (outcome l rows))
-  leaves (lexed.Tokens n) f e =
+  pub leaves : (l : Result ℕ Rejection) → count_of l ≤ m → after ≡ take (count_of l) rows ++ replicate (length rows - count_of l) zero_row → (l ≡ answer_of (outcome l rows)) × (after ≡ rows_of m (outcome l rows))
+  leaves (Ok n) f e =
       let k : length (take n rows) ≡ n = length-take-le n rows (omega arith) in
       (sym (simp k), e ∙ simp (k, long))
-  leaves (lexed.Refused r n) f e = let k : length rows - 0 ≡ m = omega arith in (refl, e ∙ simp k)
+  leaves (Err r) f e = let k : length rows - 0 ≡ m = omega arith in (refl, e ∙ simp k)

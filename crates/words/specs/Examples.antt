@@ -13,7 +13,7 @@ use Rattle.words.specs.Names.{keywords, number_among, keyword_of, word_item}
 use Rattle.words.specs.Signs.{signs, sign_among, sign_item}
 use Rattle.words.specs.Tokens.{Reading, and_then, word_of, item_of, read_after, read_lines, outside_line}
 use Rattle.words.specs.Tokens.Reading.{tokens, refused}
-use Rattle.words.specs.Refusals.{number_of}
+use Rattle.refusals.specs.Refusals.{number_of}
 use Rattle.words.specs.Lexer.{lex_of}
 
 -- A text, and what is read: 0 and then the rows of its tokens, or the number and the line of the refusal.

@@ -7,9 +7,9 @@ use Rattle.words.specs.Tokens.Reading.{tokens, refused}
 use Rattle.source_text.specs.Answers.{Told, refuses}
 use Rattle.words.specs.Answers.{lexed_told, reading_told}
 use Rattle.words.specs.declared.Limits.{Limits}
-use Rattle.words.specs.declared.Lexed.{Lexed}
-use Rattle.words.specs.declared.Lexed.TheVariants.{Tokens, Refused}
-use Rattle.words.specs.declared.Refusal.TheVariants.{Storage, TextLength, NotUtf8, OutsideDomain}
+use Rattle.std.specs.Prelude.{Result, Ok, Err}
+use Rattle.refusals.specs.declared.Rejection.{Rejection}
+use Rattle.refusals.specs.declared.Refusal.TheVariants.{Storage, TextLength, NotUtf8, OutsideDomain}
 
 -- A limit over document 01's counts as document 01's.
 abbrev pub capped_of : Limits → Limits
@@ -38,17 +38,17 @@ abbrev pub zero_row : List ℕ
 zero_row = 0 ∷ 0 ∷ 0 ∷ 0 ∷ []
 
 -- What `lex` answers for a reading, and what m lent rows hold then: the tokens and zero past them; on a refusal zero throughout.
-abbrev pub answer_of : Reading → Lexed
-answer_of (tokens ts) = Tokens (length ts)
-answer_of (refused r n) = Refused r n
+abbrev pub answer_of : Reading → Result ℕ Rejection
+answer_of (tokens ts) = Ok (length ts)
+answer_of (refused r n) = Err (record { refusal = r; line = n })
 
 abbrev pub rows_of : ℕ → Reading → List (List ℕ)
 rows_of m (tokens ts) = ts ++ replicate (m - length ts) zero_row
 rows_of m (refused r n) = replicate m zero_row
 
 -- `lex` itself: fewer rows than the limit give 1 and are left as they are; else answer and rows are those of the reading.
-abbrev pub lex_answer : List ℕ → Limits → List (List ℕ) → Lexed
-lex_answer text limits rows = cond (ltb (length rows) (capped_of limits).text) (Refused Storage 0) (answer_of (lex_of (capped_of limits).text text))
+abbrev pub lex_answer : List ℕ → Limits → List (List ℕ) → Result ℕ Rejection
+lex_answer text limits rows = cond (ltb (length rows) (capped_of limits).text) (Err (record { refusal = Storage; line = 0 })) (answer_of (lex_of (capped_of limits).text text))
 
 abbrev pub lex_rows : List ℕ → Limits → List (List ℕ) → List (List ℕ)
 lex_rows text limits rows = cond (ltb (length rows) (capped_of limits).text) rows (rows_of (length rows) (lex_of (capped_of limits).text text))
@@ -59,12 +59,12 @@ lex_told text limits rows =
     cond (ltb (length rows) (capped_of limits).text) (refuses 1 0) (reading_told (lex_of (capped_of limits).text text))
 
 -- How many rows an answer counts.
-abbrev pub count_of : Lexed → ℕ
-count_of (Tokens n) = n
-count_of (Refused r n) = 0
+abbrev pub count_of : Result ℕ Rejection → ℕ
+count_of (Ok n) = n
+count_of (Err e) = 0
 
 -- The promise of `lex`: answer, numbers and rows as above, and no more tokens than the limit on the text's bytes.
-pub record Lexing (text : List ℕ) (limits : Limits) (before : List (List ℕ)) (r : Lexed) (after : List (List ℕ)) : Type 0 where
+pub record Lexing (text : List ℕ) (limits : Limits) (before : List (List ℕ)) (r : Result ℕ Rejection) (after : List (List ℕ)) : Type 0 where
   pub answer : r ≡ lex_answer text limits before
   pub told : lexed_told r ≡ lex_told text limits before
   pub rows : after ≡ lex_rows text limits before

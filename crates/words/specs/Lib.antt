@@ -1,8 +1,8 @@
 -- What the contracts of `words` cite, in reading order.
+pub mod Items
 pub mod Names
 pub mod Signs
 pub mod Tokens
-pub mod Refusals
 pub mod Answers
 pub mod Lexer
 pub mod Rows

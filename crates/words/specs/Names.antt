@@ -1,12 +1,10 @@
 -- Document 01, Words: the eleven keywords, in the Rust's order, and the kind of a word.
-use Rattle.std.specs.Prelude.{cond, List, [], ◌∷◌, ℕ, suc, eqb, ltb, length, get_or}
+use Rattle.std.specs.Prelude.{Option, Some, None, cond, List, [], ◌∷◌, ℕ, suc, eqb, ltb, length, get_or}
 use Rattle.source_text.specs.Bytes.{same_bytes}
 use Rattle.source_text.specs.Numerals.{all_digits, numeral_of}
-use Rattle.words.specs.declared.Refusal.TheVariants.{NumeralTooLarge, WordTooLong}
-use Rattle.source_text.specs.declared.NumeralValue.{NumeralValue}
-use Rattle.source_text.specs.declared.NumeralValue.TheVariants.{Fits, TooLarge}
-use Rattle.words.specs.declared.tokens.Item.{Item}
-use Rattle.words.specs.declared.tokens.Item.TheVariants.{Token, Refused}
+use Rattle.refusals.specs.declared.Refusal.TheVariants.{NumeralTooLarge, WordTooLong}
+use Rattle.words.specs.Items.{Item}
+use Rattle.words.specs.Items.Item.{Token, Refused}
 
 -- The kinds of words: 1 to 11 are the keywords.
 abbrev pub name_kind : ℕ
@@ -52,9 +50,9 @@ abbrev pub hash_keyword_of : List ℕ → ℕ
 hash_keyword_of w = cond (same_bytes w (35 ∷ 101 ∷ 118 ∷ 97 ∷ 108 ∷ [])) 10 (number_if w (35 ∷ 99 ∷ 104 ∷ 101 ∷ 99 ∷ 107 ∷ []) 11)
 
 -- A numeral, if its value fits.
-abbrev pub if_fits : NumeralValue → Item → Item
-if_fits (Fits v) i = i
-if_fits TooLarge i = Refused NumeralTooLarge
+abbrev pub if_fits : Option ℕ → Item → Item
+if_fits (Some v) i = i
+if_fits None i = Refused NumeralTooLarge
 
 -- The token that a word makes. A word that starts with `?` (63) is a metavariable, the lone `?` too. 6 comes before 5.
 unfoldable pub word_item : List ℕ → Item

@@ -2,9 +2,9 @@
 use Rattle.std.specs.Prelude.{cond, List, [], ◌∷◌, ℕ, length}
 use Rattle.source_text.specs.Bytes.{starts_with}
 use Rattle.source_text.specs.Characters.{arrow}
-use Rattle.words.specs.declared.Refusal.TheVariants.{UnexpectedCharacter}
-use Rattle.words.specs.declared.tokens.Item.{Item}
-use Rattle.words.specs.declared.tokens.Item.TheVariants.{Token, Refused}
+use Rattle.refusals.specs.declared.Refusal.TheVariants.{UnexpectedCharacter}
+use Rattle.words.specs.Items.{Item}
+use Rattle.words.specs.Items.Item.{Token, Refused}
 
 -- A sign: its kind, and how it is written.
 pub record Sign : Type 0 where

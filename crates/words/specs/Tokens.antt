@@ -5,10 +5,10 @@ use Rattle.source_text.specs.Characters.{blank, letter, digit, sign, character_o
 use Rattle.source_text.specs.Lines.{code_of}
 use Rattle.words.specs.Names.{word_item}
 use Rattle.words.specs.Signs.{sign_item}
-use Rattle.words.specs.declared.Refusal.{Refusal}
-use Rattle.words.specs.declared.Refusal.TheVariants.{UnexpectedCharacter}
-use Rattle.words.specs.declared.tokens.Item.{Item}
-use Rattle.words.specs.declared.tokens.Item.TheVariants.{Blank, Token, Refused}
+use Rattle.refusals.specs.declared.Refusal.{Refusal}
+use Rattle.refusals.specs.declared.Refusal.TheVariants.{UnexpectedCharacter}
+use Rattle.words.specs.Items.{Item}
+use Rattle.words.specs.Items.Item.{Blank, Token, Refused}
 
 -- Do characters of a class make words?
 abbrev pub is_word : ℕ → Bool

@@ -1,14 +1,37 @@
 // Keywords, and the tokens that words make.
 ghost use Rattle.std.specs.Prelude.{◌≡◌, ◌<◌, length};
+ghost use Rattle.words.specs.Items.{lexeme_item};
 ghost use Rattle.words.specs.Names.{keyword_of, number_if, hash_keyword_of, word_item};
 
-use super::Refusal;
-use super::tokens::Item;
-use source_text::NumeralValue;
+use super::tokens::Lexeme;
+use refusals::Refusal;
 use source_text::bytes::same;
 use source_text::numerals::{all_digits, value};
 
-// The kinds of words past the eleven keywords.
+// The kinds of words: the eleven keywords.
+pub const SORT: u32 = 1;
+
+pub const CTOR: u32 = 2;
+
+pub const PRED: u32 = 3;
+
+pub const RULE: u32 = 4;
+
+pub const DEF: u32 = 5;
+
+pub const THEOREM: u32 = 6;
+
+pub const BY: u32 = 7;
+
+pub const AUTO: u32 = 8;
+
+pub const INDUCTION: u32 = 9;
+
+pub const EVAL: u32 = 10;
+
+pub const CHECK: u32 = 11;
+
+// The kinds of other words.
 pub const NAME: u32 = 12;
 
 pub const METAVARIABLE: u32 = 13;
@@ -33,9 +56,9 @@ fn hash_keyword(w: &[u8]) -> u32
     ensures { result ≡ hash_keyword_of w.now }
 {
     if same(w, b"#eval") {
-        return 10;
+        return EVAL;
     }
-    number_if(w, b"#check", 11)
+    number_if(w, b"#check", CHECK)
 }
 
 // The number of a keyword, in the Rust's order, or that of a name. The first byte leaves at most two to compare with.
@@ -45,38 +68,46 @@ fn keyword(w: &[u8]) -> u32
 {
     let first = w[0];
     match first {
-        b's' => number_if(w, b"sort", 1),
-        b'c' => number_if(w, b"ctor", 2),
-        b'p' => number_if(w, b"pred", 3),
-        b'r' => number_if(w, b"rule", 4),
-        b'd' => number_if(w, b"def", 5),
-        b't' => number_if(w, b"theorem", 6),
-        b'b' => number_if(w, b"by", 7),
-        b'a' => number_if(w, b"auto", 8),
-        b'i' => number_if(w, b"induction", 9),
+        b's' => number_if(w, b"sort", SORT),
+        b'c' => number_if(w, b"ctor", CTOR),
+        b'p' => number_if(w, b"pred", PRED),
+        b'r' => number_if(w, b"rule", RULE),
+        b'd' => number_if(w, b"def", DEF),
+        b't' => number_if(w, b"theorem", THEOREM),
+        b'b' => number_if(w, b"by", BY),
+        b'a' => number_if(w, b"auto", AUTO),
+        b'i' => number_if(w, b"induction", INDUCTION),
         b'#' => hash_keyword(w),
         _ => NAME,
     }
 }
 
 // The token that a word makes: its length is tested first, so that 6 comes before 5.
-pub fn word_item(w: &[u8]) -> Item
+pub fn word_item(w: &[u8]) -> Result<Lexeme, Refusal>
     requires { 0 < length w.now }
-    ensures { result ≡ word_item w.now }
+    ensures { lexeme_item result ≡ word_item w.now }
 {
     let length = w.len();
     if LONGEST < length {
-        return Item::Refused(Refusal::WordTooLong);
+        return Err(Refusal::WordTooLong);
     }
     if w[0] == b'?' {
-        return Item::Token(METAVARIABLE, length);
+        return Ok(Lexeme {
+            kind: METAVARIABLE,
+            length,
+        });
     }
     if all_digits(w) {
-        let v = value(w);
-        let NumeralValue::Fits(_) = v else {
-            return Item::Refused(Refusal::NumeralTooLarge);
-        };
-        return Item::Token(NUMERAL, length);
+        if value(w).is_none() {
+            return Err(Refusal::NumeralTooLarge);
+        }
+        return Ok(Lexeme {
+            kind: NUMERAL,
+            length,
+        });
     }
-    Item::Token(keyword(w), length)
+    Ok(Lexeme {
+        kind: keyword(w),
+        length,
+    })
 }

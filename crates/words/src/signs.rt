@@ -1,9 +1,10 @@
 // The signs: two bytes are tried before one.
 ghost use Rattle.std.specs.Prelude.{◌≡◌, ◌<◌, length, drop};
+ghost use Rattle.words.specs.Items.{lexeme_item};
 ghost use Rattle.words.specs.Signs.{sign_item};
 
-use super::Refusal;
-use super::tokens::Item;
+use super::tokens::Lexeme;
+use refusals::Refusal;
 use source_text::bytes::{byte, starts_with};
 use source_text::characters::UNICODE_ARROW;
 
@@ -26,36 +27,26 @@ pub const BAR: u32 = 22;
 pub const EQUALS: u32 = 23;
 
 // The sign at a place of a line.
-pub fn sign_item(line: &[u8], at: usize) -> Item
+pub fn sign_item(line: &[u8], at: usize) -> Result<Lexeme, Refusal>
     requires { at < length line.now }
-    ensures { result ≡ sign_item (drop at line.now) }
+    ensures { lexeme_item result ≡ sign_item (drop at line.now) }
 {
-    let first = line[at];
-    let second = byte(line, at + 1);
-    match first {
-        b'-' => if second == b'>' {
-            Item::Token(ARROW, 2)
-        } else {
-            Item::Refused(Refusal::UnexpectedCharacter)
-        },
-        b'=' => if second == b'>' {
-            Item::Token(DOUBLE_ARROW, 2)
-        } else {
-            Item::Token(EQUALS, 1)
-        },
-        b':' => if second == b'=' {
-            Item::Token(DEFINES, 2)
-        } else {
-            Item::Token(COLON, 1)
-        },
-        b'(' => Item::Token(OPEN, 1),
-        b')' => Item::Token(CLOSE, 1),
-        b',' => Item::Token(COMMA, 1),
-        b'|' => Item::Token(BAR, 1),
-        _ => if starts_with(line, at, &UNICODE_ARROW) {
-            Item::Token(ARROW, 3)
-        } else {
-            Item::Refused(Refusal::UnexpectedCharacter)
-        },
-    }
+    let (kind, length) = match (line[at], byte(line, at + 1)) {
+        (b'-', b'>') => (ARROW, 2),
+        (b'=', b'>') => (DOUBLE_ARROW, 2),
+        (b':', b'=') => (DEFINES, 2),
+        (b'(', _) => (OPEN, 1),
+        (b')', _) => (CLOSE, 1),
+        (b':', _) => (COLON, 1),
+        (b',', _) => (COMMA, 1),
+        (b'|', _) => (BAR, 1),
+        (b'=', _) => (EQUALS, 1),
+        _ => {
+            if !starts_with(line, at, &UNICODE_ARROW) {
+                return Err(Refusal::UnexpectedCharacter);
+            }
+            (ARROW, 3)
+        }
+    };
+    Ok(Lexeme { kind, length })
 }

@@ -4,12 +4,9 @@ use native.Mathlib.Numerals.{add-one}
 use mathlib.Core.Path.{◌≡◌, sym}
 use Rattle.arena.specs.Cells.{cells}
 use Rattle.arena.specs.Rows.{column}
-use Rattle.acyclicity.proofs.EdgeLaws.{edge_variable, edge_second, edge_argument, edge_past, variable_row, node_words, argument_small}
+use Rattle.acyclicity.proofs.EdgeLaws.{edge_variable, edge_second, edge_argument, edge_past, argument_small}
 use native.Mathlib.Omega.{arith}
 use Rattle.acyclicity.proofs.edge_at.Goals as goal
-
-pub bounds-bindings-reference : goal.bounds-bindings-reference
-bounds-bindings-reference c = variable_row c.requires.stored c.requires.reference c.if-reference-limit.true
 
 pub returns-then-i-eq0 : goal.returns-then-i-eq0
 returns-then-i-eq0 c =
@@ -24,14 +21,6 @@ returns-then-reference-limit c =
     let if1 = c.if-reference-limit in
     let if2 = c.if-i-eq0 in
     sym (edge_second args.limit (cells args.words.now) (column 0 args.bindings.now) args.reference args.i if1.true if2.false)
-
-pub bounds-words-address : goal.bounds-words-address
-bounds-words-address c = let n = node_words c.requires.stored c.requires.reference c.if-reference-limit.false in omega arith
-
-pub bounds-words-address-then-i-arity : goal.bounds-words-address-then-i-arity
-bounds-words-address-then-i-arity c =
-    let n = node_words c.requires.stored c.requires.reference c.if-reference-limit.false in
-    omega arith
 
 pub overflow_add-result-then-i-arity-2 : goal.overflow_add-result-then-i-arity-2
 overflow_add-result-then-i-arity-2 c =

@@ -1,19 +1,33 @@
 -- `is_acyclic` meets its contract: the answer is the search's, and clearing the rows for references restores scratch.
-use Rattle.acyclicity.proofs.Clearing.{searchable, restored}
+use Prim.Native.Nat.{ℕ, ◌+◌, ◌-◌}
+use native.Mathlib.Omega.{arith}
+use mathlib.Core.Path.{◌≡◌, ap₂, ◌∙◌}
+use mathlib.Core.List.{[], ◌∷◌, ◌++◌}
+use lib.ListN.{length, take, drop}
+use Rattle.std.proofs.Common.{◌≤◌, min, length-take}
+use Rattle.std.proofs.lemmas.List.Edits.{length-between}
+use Rattle.arena.specs.Rows.{pair_is}
+use Rattle.acyclicity.proofs.Clearing.{cleared_part, overwritten, restored}
 use Rattle.acyclicity.proofs.is_acyclic.Goals as goal
-
-pub search-answer-requires : goal.search-answer-requires
-search-answer-requires c = searchable c.requires
 
 pub returns : goal.returns
 returns c =
-    let are-pairs = c.are_pairs in
+    let args = c.args in
     let search = c.search-answer in
-    let pre = c.requires in
-    let clear-rows = c.clear_rows in
-    let clear-rows2 = c.clear_rows-2 in
+    let stored = c.requires.stored in
+    let zeros = c.fill.ensures.after (λ y h. pair_is y h.long ∙ ap₂ (λ (x z : ℕ). x ∷ z ∷ []) (h.at 0 0 0 (omega arith)) (h.at 1 0 0 (omega arith))) in
+    let zeros2 = c.fill-2.ensures.after (λ y h. pair_is y h.long ∙ ap₂ (λ (x z : ℕ). x ∷ z ∷ []) (h.at 0 0 0 (omega arith)) (h.at 1 0 0 (omega arith))) in
+    let n : length search.new.scratch ≡ length args.scratch.now = search.ensures.long in
+    let room : args.limit + args.used ≤ length args.scratch.now = c.requires.long in
+    let few : args.variables ≤ args.limit = stored.few in
+    let k : length (take args.variables search.new.scratch) ≡ args.variables - 0 = length-take args.variables search.new.scratch ∙ (let m : min args.variables (length search.new.scratch) ≡ args.variables - 0 = omega arith in m) in
+    let first = cleared_part search.new.scratch c.fill.new.self 0 args.variables _ (omega arith) (omega arith) k zeros in
+    let l : args.limit + args.used ≤ length (c.fill.new.self ++ drop args.variables search.new.scratch) = let m = first.long in omega arith in
+    let k2 = length-between (c.fill.new.self ++ drop args.variables search.new.scratch) args.limit (args.limit + args.used) l in
+    let second = cleared_part (c.fill.new.self ++ drop args.variables search.new.scratch) c.fill-2.new.self args.limit (args.limit + args.used) _ (omega arith) l k2 zeros2 in
     record {
       accepted = search.ensures.accepted;
       refused = search.ensures.refused;
-      restored = restored pre are-pairs.ensures search.ensures clear-rows.ensures clear-rows2.ensures;
+      restored = overwritten (c.fill.new.self ++ drop args.variables search.new.scratch) c.fill-2.new.self args.limit (args.limit + args.used) _ (omega arith) l k2 zeros2
+          ∙ restored c.requires (λ a b. c.told-scratch a (omega arith)) search.ensures first second;
     }

@@ -4,33 +4,18 @@ use Prim.Native.Nat.{◌+◌, ◌-◌}
 use mathlib.Core.Path.{refl}
 use Rattle.terms.specs.Numbers.{true_false}
 use Rattle.arena.specs.Rows.{column}
-use Rattle.acyclicity.proofs.Turns.{pending_most, pending_one, risen, turn_start, ahead_row, turn_skip, turn_enter, turn_refuse, top_row, turn_close, turn_follow, turn_begin, turn_accept}
+use Rattle.acyclicity.proofs.Turns.{risen, turn_start, ahead_row, turn_skip, turn_enter, turn_refuse, top_row, turn_close, turn_follow, turn_begin, turn_accept}
 use native.Mathlib.Omega.{arith}
 use Rattle.acyclicity.proofs.search.Goals as goal
 
 pub loop-ahead-init : goal.loop-ahead-init
 loop-ahead-init c = turn_start c.requires
 
-pub overflow_sub-row : goal.overflow_sub-row
-overflow_sub-row c = omega (arith, c.if-ahead-ne0.true)
-
-pub overflow_cast-row : goal.overflow_cast-row
-overflow_cast-row c = let (a, b) = ahead_row c.loop-ahead.invariant c.if-ahead-ne0.true in omega arith
-
-pub offset_bounds-scratch-row : goal.offset_bounds-scratch-row
-offset_bounds-scratch-row c = let (a, b) = ahead_row c.loop-ahead.invariant c.if-ahead-ne0.true in omega arith
-
 pub bounds-scratch-row : goal.bounds-scratch-row
 bounds-scratch-row c = let (a, b) = ahead_row c.loop-ahead.invariant c.if-ahead-ne0.true in omega arith
 
-pub loop-ahead-smaller-then-mark-eq-CLOSED : goal.loop-ahead-smaller-then-mark-eq-CLOSED
-loop-ahead-smaller-then-mark-eq-CLOSED c = let e = pending_one c.loop-ahead.ahead c.if-ahead-ne0.true in omega arith
-
 pub loop-ahead-preserved-then-mark-eq-CLOSED : goal.loop-ahead-preserved-then-mark-eq-CLOSED
 loop-ahead-preserved-then-mark-eq-CLOSED c = turn_skip c.loop-ahead.invariant c.if-ahead-ne0.true c.if-mark-eq-CLOSED.true
-
-pub offset_bounds-scratch-row-then-mark-eq0 : goal.offset_bounds-scratch-row-then-mark-eq0
-offset_bounds-scratch-row-then-mark-eq0 c = let (a, b) = ahead_row c.loop-ahead.invariant c.if-ahead-ne0.true in omega arith
 
 pub bounds-scratch-row-then-mark-eq0 : goal.bounds-scratch-row-then-mark-eq0
 bounds-scratch-row-then-mark-eq0 c = let (a, b) = ahead_row c.loop-ahead.invariant c.if-ahead-ne0.true in omega arith
@@ -61,29 +46,14 @@ returns-else-mark-eq0 c =
       outside = loop.invariant.outside;
     }
 
-pub overflow_sub-row-then-top-ne0 : goal.overflow_sub-row-then-top-ne0
-overflow_sub-row-then-top-ne0 c = omega (arith, c.if-top-ne0.true)
-
-pub overflow_cast-row-then-top-ne0 : goal.overflow_cast-row-then-top-ne0
-overflow_cast-row-then-top-ne0 c = let (v, a, b, d, f) = top_row c.loop-ahead.invariant c.if-ahead-ne0.false c.if-top-ne0.true in omega arith
-
-pub offset_bounds-scratch-row-then-top-ne0 : goal.offset_bounds-scratch-row-then-top-ne0
-offset_bounds-scratch-row-then-top-ne0 c = let (v, a, b, d, f) = top_row c.loop-ahead.invariant c.if-ahead-ne0.false c.if-top-ne0.true in omega arith
-
 pub bounds-scratch-row-then-top-ne0 : goal.bounds-scratch-row-then-top-ne0
 bounds-scratch-row-then-top-ne0 c = let (v, a, b, d, f) = top_row c.loop-ahead.invariant c.if-ahead-ne0.false c.if-top-ne0.true in omega arith
 
 pub overflow_sub-followed : goal.overflow_sub-followed
 overflow_sub-followed c = let (v, a, b, d, f) = top_row c.loop-ahead.invariant c.if-ahead-ne0.false c.if-top-ne0.true in omega arith
 
-pub offset_bounds-scratch-row-then-top-ne0-2 : goal.offset_bounds-scratch-row-then-top-ne0-2
-offset_bounds-scratch-row-then-top-ne0-2 c = let (v, a, b, d, f) = top_row c.loop-ahead.invariant c.if-ahead-ne0.false c.if-top-ne0.true in omega arith
-
 pub bounds-scratch-row-then-top-ne0-2 : goal.bounds-scratch-row-then-top-ne0-2
 bounds-scratch-row-then-top-ne0-2 c = let (v, a, b, d, f) = top_row c.loop-ahead.invariant c.if-ahead-ne0.false c.if-top-ne0.true in omega arith
-
-pub overflow_sub-top : goal.overflow_sub-top
-overflow_sub-top c = omega (arith, c.if-top-ne0.true)
 
 pub edge_at-place-requires : goal.edge_at-place-requires
 edge_at-place-requires c =
@@ -91,11 +61,6 @@ edge_at-place-requires c =
       stored = c.loop-ahead.invariant.stored;
       reference = (top_row c.loop-ahead.invariant c.if-ahead-ne0.false c.if-top-ne0.true).0;
     }
-
-pub offset_bounds-scratch-row-then-place-eq0 : goal.offset_bounds-scratch-row-then-place-eq0
-offset_bounds-scratch-row-then-place-eq0 c =
-    let (v, a, b, d, f) = top_row c.loop-ahead.invariant c.if-ahead-ne0.false c.if-top-ne0.true in
-    omega arith
 
 pub bounds-scratch-row-then-place-eq0 : goal.bounds-scratch-row-then-place-eq0
 bounds-scratch-row-then-place-eq0 c =
@@ -122,16 +87,6 @@ loop-ahead-preserved-then-place-eq0 c =
     let edge_at = c.edge_at-place in
     let if5 = c.if-place-eq0 in
     turn_close loop.invariant if1.false if4.true edge_at.result edge_at.ensures if5.true
-
-pub overflow_add-scratch : goal.overflow_add-scratch
-overflow_add-scratch c =
-    let (v, a, b, d, f) = top_row c.loop-ahead.invariant c.if-ahead-ne0.false c.if-top-ne0.true in
-    omega arith
-
-pub offset_bounds-scratch-row-else-place-eq0 : goal.offset_bounds-scratch-row-else-place-eq0
-offset_bounds-scratch-row-else-place-eq0 c =
-    let (v, a, b, d, f) = top_row c.loop-ahead.invariant c.if-ahead-ne0.false c.if-top-ne0.true in
-    omega arith
 
 pub bounds-scratch-row-else-place-eq0 : goal.bounds-scratch-row-else-place-eq0
 bounds-scratch-row-else-place-eq0 c =
@@ -171,21 +126,6 @@ returns-then-next-variables c =
       long = loop.invariant.long;
       outside = loop.invariant.outside;
     }
-
-pub overflow_add-next : goal.overflow_add-next
-overflow_add-next c =
-    let a = c.loop-ahead.invariant.few in
-    let b = c.loop-ahead.invariant.stored.few in
-    let d = c.loop-ahead.invariant.stored.low in
-    omega arith
-
-pub loop-ahead-smaller : goal.loop-ahead-smaller
-loop-ahead-smaller c =
-    let a = c.loop-ahead.invariant.few in
-    let n = c.if-next-variables.false in
-    let q = pending_most (c.loop-ahead.next + 1) in
-    let z = c.if-ahead-ne0.false in
-    rw z (omega arith)
 
 pub loop-ahead-preserved : goal.loop-ahead-preserved
 loop-ahead-preserved c = turn_begin c.loop-ahead.invariant c.if-ahead-ne0.false c.if-top-ne0.false c.if-next-variables.false

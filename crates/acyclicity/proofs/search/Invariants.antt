@@ -1,6 +1,5 @@
 -- `search` meets its contract. The loop's invariant: a search in depth stands in order at `top`, on its way to `ahead`, and of the variables below `next`
 -- none is new, but for one ahead. Each turn raises a mark, enters or passes over the place ahead, or goes on to the next variable.
-use Prim.Native.Nat.{◌-◌}
 use Rattle.acyclicity.proofs.Turns.{Turn, left}
 use Rattle.acyclicity.proofs.search.Given as goal
 

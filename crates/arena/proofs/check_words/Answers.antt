@@ -1,14 +1,10 @@
 -- `check_words` meets its contract. The loop's invariant: what is left to be read from `at` on decides as the whole does.
-use mathlib.Core.Path.{refl, sym, ◌∙◌}
-use Prim.Native.Nat.{◌-◌}
+use mathlib.Core.Path.{sym, ◌∙◌}
 use Rattle.arena.specs.Form.{in_form}
-use Rattle.arena.proofs.Checking.{header_step, header_stop, argument_step, argument_stop, end_step}
+use Rattle.arena.proofs.Checking.{header_stop, argument_stop, end_step}
 use borrow.Author.Rules.{rules}
 use native.Mathlib.Omega.{arith}
 use Rattle.arena.proofs.check_words.Goals as goal
-
-pub loop-at-init : goal.loop-at-init
-loop-at-init c = (search rules, search rules, search rules, search rules, refl)
 
 pub returns-then-not-is_header : goal.returns-then-not-is_header
 unfolding in_form
@@ -19,17 +15,7 @@ returns-then-not-is_header c =
     let if1 = c.if-left-eq0 in
     let is-header = c.is_header in
     let if2 = c.if-not-is_header in
-    sym (sym loop.invariant.4 ∙ header_stop (record { words = args.words.now; room = args.room; variables = args.variables; from = args.from }) args.arities.now args.words.now args.to pre.1 loop.at loop.node loop.left (search rules) if1.true (sym is-header.ensures ∙ if2.true))
-
-pub loop-at-preserved-then-left-eq0 : goal.loop-at-preserved-then-left-eq0
-loop-at-preserved-then-left-eq0 c =
-    let args = c.args in
-    let pre = c.requires in
-    let loop = c.loop-at in
-    let if1 = c.if-left-eq0 in
-    let is-header = c.is_header in
-    let if2 = c.if-not-is_header in
-    (search rules, search rules, search rules, search rules, sym (header_step (record { words = args.words.now; room = args.room; variables = args.variables; from = args.from }) args.arities.now args.words.now args.to pre.1 loop.at loop.node loop.left (search rules) if1.true (sym is-header.ensures ∙ if2.false)) ∙ loop.invariant.4)
+    sym (sym loop.invariant.2 ∙ header_stop (record { words = args.words.now; room = args.room; variables = args.variables; from = args.from }) args.arities.now args.words.now args.to pre.1 loop.at loop.node loop.left (search rules) if1.true (sym is-header.ensures ∙ if2.true))
 
 pub returns-then-not-is_argument : goal.returns-then-not-is_argument
 unfolding in_form
@@ -40,17 +26,7 @@ returns-then-not-is_argument c =
     let if1 = c.if-left-eq0 in
     let is-argument = c.is_argument in
     let if3 = c.if-not-is_argument in
-    sym (sym loop.invariant.4 ∙ argument_stop (record { words = args.words.now; room = args.room; variables = args.variables; from = args.from }) args.arities.now args.words.now args.to pre.1 loop.at loop.node loop.left (search rules) if1.false (sym is-argument.ensures ∙ if3.true))
-
-pub loop-at-preserved : goal.loop-at-preserved
-loop-at-preserved c =
-    let args = c.args in
-    let pre = c.requires in
-    let loop = c.loop-at in
-    let if1 = c.if-left-eq0 in
-    let is-argument = c.is_argument in
-    let if3 = c.if-not-is_argument in
-    (search rules, search rules, search rules, search rules, sym (argument_step (record { words = args.words.now; room = args.room; variables = args.variables; from = args.from }) args.arities.now args.words.now args.to pre.1 loop.at loop.node loop.left (search rules) if1.false (sym is-argument.ensures ∙ if3.false)) ∙ loop.invariant.4)
+    sym (sym loop.invariant.2 ∙ argument_stop (record { words = args.words.now; room = args.room; variables = args.variables; from = args.from }) args.arities.now args.words.now args.to pre.1 loop.at loop.node loop.left (search rules) if1.false (sym is-argument.ensures ∙ if3.true))
 
 pub returns : goal.returns
 unfolding in_form
@@ -59,5 +35,4 @@ returns c =
     let pre = c.requires in
     let loop = c.loop-at in
     let loop-test = c.loop-at-test in
-    sym (end_step (record { words = args.words.now; room = args.room; variables = args.variables; from = args.from }) args.arities.now args.words.now args.to pre.1 loop.at loop.node loop.left (let t = loop-test.false in
-    omega (arith, loop.invariant.1))) ∙ loop.invariant.4
+    sym (end_step (record { words = args.words.now; room = args.room; variables = args.variables; from = args.from }) args.arities.now args.words.now args.to pre.1 loop.at loop.node loop.left (omega arith)) ∙ loop.invariant.2

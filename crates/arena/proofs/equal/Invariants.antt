@@ -1,7 +1,6 @@
 -- `equal` meets its contract. The loop's invariant: the two references denote the same term exactly where the answer is still true and the links that are
 -- left, all from `low` on and below `at`, hold.
 use mathlib.Core.Path.{◌≡◌}
-use Prim.Native.Nat.{◌-◌}
 use lib.ListN.{length}
 use Rattle.arena.proofs.Settling.{Passing}
 use Rattle.arena.proofs.equal.Given as goal

@@ -1,13 +1,10 @@
 -- `inst` meets its contract. The loop's invariant: writing the copied words from i on completes the copy.
 use mathlib.Core.Path.{◌≡◌}
-use Prim.Native.Nat.{◌≤◌, ◌-◌, ◌+◌}
+use Prim.Native.Nat.{◌+◌}
 use lib.ListN.{length, drop}
 use lib.Seq.{sets}
 use Rattle.arena.specs.Copies.{copied}
 use Rattle.arena.proofs.inst.Given as goal
 
 abbrev pub invariant-loop-i : goal.invariant-loop-i
-invariant-loop-i l = (l.start ≡ l.from) × (l.end ≡ l.count) × (l.at ≡ l.used) × (l.first ≡ 64 + l.from) × (l.base ≡ l.room + l.used) × (length l.words ≡ length l.initial.words) × (l.i ≤ l.count) × (sets l.words (l.used + l.i) (drop l.i (copied l.pattern l.from l.count l.places l.room l.used l.counter)) ≡ sets l.initial.words l.used (copied l.pattern l.from l.count l.places l.room l.used l.counter))
-
-abbrev pub decreases-loop-i : goal.decreases-loop-i
-decreases-loop-i l = l.count - l.i
+invariant-loop-i l = (l.start ≡ l.from) × (l.end ≡ l.count) × (l.at ≡ l.used) × (l.first ≡ 64 + l.from) × (l.base ≡ l.room + l.used) × (length l.words ≡ length l.initial.words) × (sets l.words (l.used + l.i) (drop l.i (copied l.pattern l.from l.count l.places l.room l.used l.counter)) ≡ sets l.initial.words l.used (copied l.pattern l.from l.count l.places l.room l.used l.counter))

@@ -1,18 +1,10 @@
 -- `try_body` meets its contract: the premises are copied, or the limits refuse them and the bindings are undone.
 use mathlib.Core.Path.{sym, ◌∙◌}
-use Rattle.attempts.specs.Bodies.{body_undoable, body_refused, body_copyable, body_copied}
+use Rattle.attempts.specs.Bodies.{body_undoable, body_copyable, body_copied}
 use Rattle.attempts.proofs.try_body.Goals as goal
 
 pub undo-requires : goal.undo-requires
 undo-requires c = body_undoable c.requires
-
-pub returns-then-exceeds : goal.returns-then-exceeds
-returns-then-exceeds c =
-    let pre = c.requires in
-    let exceeds = c.exceeds in
-    let if1 = c.if-exceeds in
-    let undo = c.undo in
-    body_refused pre (sym exceeds.ensures ∙ if1.true) undo.ensures
 
 pub inst-requires : goal.inst-requires
 inst-requires c =

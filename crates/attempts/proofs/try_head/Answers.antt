@@ -1,16 +1,7 @@
 -- `try_head` meets its contract: the limits refuse the conclusion, or its head clashes with the goal's, or it is copied and the goal is unified with it.
 use mathlib.Core.Path.{sym, ◌∙◌}
-use Rattle.attempts.specs.Heads.{head_refused, head_comparable, head_clashes, head_copyable, head_movable, head_scratch, head_form, head_goal, head_conclusion, head_apart, head_unifies}
+use Rattle.attempts.specs.Heads.{head_clashes, head_copyable, head_movable, head_scratch, head_form, head_goal, head_conclusion, head_ended}
 use Rattle.attempts.proofs.try_head.Goals as goal
-
-pub returns-then-exceeds : goal.returns-then-exceeds
-returns-then-exceeds c =
-    let pre = c.requires in
-    let exceeds = c.exceeds in
-    head_refused pre (sym exceeds.ensures ∙ c.if-exceeds.true)
-
-pub clashes-requires : goal.clashes-requires
-clashes-requires c = head_comparable c.requires
 
 pub returns-then-clashes : goal.returns-then-clashes
 returns-then-clashes c =
@@ -34,8 +25,8 @@ inst-requires c =
     let if1 = c.if-exceeds in
     head_copyable pre (sym exceeds.ensures ∙ if1.false)
 
-pub unify-ended-requires : goal.unify-ended-requires
-unify-ended-requires c =
+pub unify-requires : goal.unify-requires
+unify-requires c =
     let pre = c.requires in
     let exceeds = c.exceeds in
     let if1 = c.if-exceeds in
@@ -44,24 +35,7 @@ unify-ended-requires c =
     let fits = sym exceeds.ensures ∙ if1.false in
     record { fact_1 = head_form pre fits _ inst.ensures; fact_2 = (head_goal pre fits _ inst.ensures, head_conclusion pre fits _ inst.ensures _ moved_word.ensures); fact_3 = head_scratch pre fits }
 
-pub returns-then-ended : goal.returns-then-ended
-returns-then-ended c =
-    let pre = c.requires in
-    let exceeds = c.exceeds in
-    let if1 = c.if-exceeds in
-    let inst = c.inst in
-    let moved_word = c.moved_word-second in
-    let unify = c.unify-ended in
-    let fits = sym exceeds.ensures ∙ if1.false in
-    head_unifies pre fits _ inst.ensures moved_word.ensures unify.ensures c.if-ended.true
-
 pub returns : goal.returns
 returns c =
-    let pre = c.requires in
-    let exceeds = c.exceeds in
-    let if1 = c.if-exceeds in
-    let inst = c.inst in
-    let moved_word = c.moved_word-second in
-    let unify = c.unify-ended in
-    let fits = sym exceeds.ensures ∙ if1.false in
-    head_apart pre fits _ inst.ensures moved_word.ensures unify.ensures c.if-ended.false
+    let fits = sym c.exceeds.ensures ∙ c.if-exceeds.false in
+    head_ended c.requires fits _ c.inst.ensures c.moved_word-second.ensures c.unify.result c.unify.ensures

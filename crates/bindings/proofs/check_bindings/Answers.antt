@@ -6,14 +6,8 @@ use native.Mathlib.Omega.{arith}
 use borrow.Author.Rules.{rules}
 use Rattle.bindings.proofs.check_bindings.Goals as goal
 
-pub returns-then-b-variables : goal.returns-then-b-variables
-returns-then-b-variables c = checked_no (λ f. let l = f.lent_rows in omega arith) _ refl
-
 pub returns-then-variables-k : goal.returns-then-variables-k
 returns-then-variables-k c = checked_no (λ f. let l = form_few f in omega arith) _ refl
-
-pub check_trail-requires : goal.check_trail-requires
-check_trail-requires c = let a = c.requires.fact_2 in record { fact_1 = (a.2, omega arith, omega arith, a.0); fact_2 = c.requires.fact_3 }
 
 pub is_acyclic-requires : goal.is_acyclic-requires
 is_acyclic-requires c =
@@ -37,10 +31,6 @@ returns-then-check_rest c =
     let if4 = c.if-check_rest in
     let is-acyclic = c.is_acyclic in
     checked_last pre.fact_1 pre.fact_2 (search rules) check-trail.ensures if3.true check-rest.ensures if4.true is-acyclic.ensures
-
-pub returns-then-check_trail : goal.returns-then-check_trail
-returns-then-check_trail c =
-    checked_no (λ f. tells_false c.check_rest.ensures c.if-check_rest.false f.rest) _ c.check_trail.ensures.marks
 
 pub returns : goal.returns
 returns c =

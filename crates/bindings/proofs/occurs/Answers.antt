@@ -1,15 +1,11 @@
 -- `occurs` meets its contract. The loop's invariant: what stands in the queue was reached from r, the edges of its first h are followed, none of them
 -- is x, and taking all marks back gives the marks at entry.
-use Prim.Native.Nat.{◌-◌}
 use mathlib.Core.Path.{sym, ◌∙◌}
 use Rattle.bindings.specs.Entries.{entries_none, entries_few}
-use Rattle.bindings.specs.Search.{search_start, search_step, search_end, searched_lent, searched_undoable, searched_back, undone_zero, reference_low, occurs_yes, occurs_no}
+use Rattle.bindings.specs.Search.{search_start, search_step, search_end, searched_lent, searched_back, undone_zero, reference_low, occurs_yes, occurs_no}
 use borrow.Author.Rules.{rules}
 use native.Mathlib.Omega.{arith}
 use Rattle.bindings.proofs.occurs.Goals as goal
-
-pub overflow_add-room : goal.overflow_add-room
-overflow_add-room c = let l = c.requires.fact_1.low in omega arith
 
 pub visit-t-requires : goal.visit-t-requires
 visit-t-requires c = record { fact_1 = entries_none _ _ c.requires.fact_4.empty; fact_2 = (reference_low c.requires.fact_2, c.requires.fact_4.lent) }
@@ -21,9 +17,6 @@ loop-h-init c =
     let visit = c.visit-t in
     search_start args.room args.w.now args.b.now _ args.variables args.used args.r args.x _ _ pre.fact_2 visit.ensures
 
-pub overflow_cast-y : goal.overflow_cast-y
-overflow_cast-y c = omega arith
-
 pub bounds-m-h : goal.bounds-m-h
 bounds-m-h c =
     let loop = c.loop-h in
@@ -34,13 +27,6 @@ bounds-m-h c =
     let f = entries_few loop.invariant.entries in
     let t = loop-test.true in
     omega arith
-
-pub undo-requires : goal.undo-requires
-undo-requires c =
-    let loop = c.loop-h in
-    let visit = c.visit-t in
-    let pre = c.requires in
-    searched_undoable loop.invariant (visit.ensures.back ∙ undone_zero _ 0) pre.fact_4.lent
 
 pub returns-then-y-x : goal.returns-then-y-x
 returns-then-y-x c =
@@ -68,22 +54,6 @@ visit_edges-t-requires c =
           ∙ undone_zero _ 0) pre.fact_4.lent;
     }
 
-pub overflow_add-h : goal.overflow_add-h
-overflow_add-h c =
-    let loop = c.loop-h in
-    let loop-test = c.loop-h-test in
-    let pre = c.requires in
-    let f = entries_few loop.invariant.entries in
-    let t = loop-test.true in
-    let l = pre.fact_1.low in
-    omega arith
-
-pub loop-h-smaller : goal.loop-h-smaller
-loop-h-smaller c =
-    let f = entries_few c.loop-h.invariant.entries in
-    let t = c.loop-h-test.true in
-    omega arith
-
 pub loop-h-preserved : goal.loop-h-preserved
 loop-h-preserved c =
     let args = c.args in
@@ -93,11 +63,6 @@ loop-h-preserved c =
     let if1 = c.if-y-x in
     let visit-edges = c.visit_edges-t in
     search_step args.room args.w.now args.b.now _ args.variables args.used args.r args.x _ _ loop.h _ _ pre.fact_1 loop.invariant loop-test.true if1.false visit-edges.ensures
-
-pub undo-requires-2 : goal.undo-requires-2
-undo-requires-2 c =
-    searched_undoable c.loop-h.invariant (c.visit-t.ensures.back
-    ∙ undone_zero _ 0) c.requires.fact_4.lent
 
 pub returns : goal.returns
 returns c =

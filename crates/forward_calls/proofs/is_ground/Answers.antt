@@ -1,56 +1,57 @@
--- `is_ground` meets its contract. The loop's invariant: from the row i on stand as many terms as are left, and they are ground if the whole is.
-use Prim.Native.Nat.{◌-◌}
+-- `is_ground` meets its contract.
 use native.Mathlib.Omega.{arith}
-use Rattle.forward_calls.proofs.Pending.{turn_start, bounded, application_bounded, turn_meta, turn_application, turn_leaf, turn_done}
+use native.Mathlib.Numerals.{unary_clauses}
+use Rattle.std.proofs.Common.{ℕ, ◌+◌, ◌≡◌, ◌∙◌, sym, subst}
+use Rattle.std.proofs.lemmas.List.{length-take, length-drop}
+use Rattle.forward_calls.proofs.Pending.{row_behind, Turn, turn_start, bounded, application_bounded, turn_meta, turn_application_behind, turn_leaf_behind, turn_done}
 use Rattle.forward_calls.proofs.is_ground.Goals as goal
+use Rattle.forward_calls.proofs.is_ground.Goals.{then-row-eq-APPLICATION, else-row-eq-APPLICATION}
 
-pub loop-left-init : goal.loop-left-init
-loop-left-init c = turn_start c.requires
+pub offset_bounds-rows-at : goal.offset_bounds-rows-at
+offset_bounds-rows-at c = let b = bounded (turn_start c.requires) in omega arith
 
-pub offset_bounds-rows-i : goal.offset_bounds-rows-i
-offset_bounds-rows-i c = let b = bounded c.loop-left.invariant in let t = c.loop-left-test.true in omega arith
+pub slice_bounds-row-items-count : goal.slice_bounds-row-items-count
+slice_bounds-row-items-count c = let b = bounded (turn_start c.requires) in omega arith
 
-pub bounds-rows-i : goal.bounds-rows-i
-bounds-rows-i c = let b = bounded c.loop-left.invariant in let t = c.loop-left-test.true in omega arith
+pub slice_bounds-row-items-start : goal.slice_bounds-row-items-start
+slice_bounds-row-items-start c = let b = bounded (turn_start c.requires) in omega arith
 
-pub returns-then-kind-eq-METAVARIABLE : goal.returns-then-kind-eq-METAVARIABLE
-returns-then-kind-eq-METAVARIABLE c = turn_meta c.loop-left.invariant c.loop-left-test.true c.if-kind-eq-METAVARIABLE.true
+pub loop-row-init : goal.loop-row-init
+loop-row-init c = (omega arith, simp unary_clauses (turn_start c.requires))
 
-pub overflow_sub-left : goal.overflow_sub-left
-overflow_sub-left c = let b = bounded c.loop-left.invariant in let t = c.loop-left-test.true in omega arith
-
-pub offset_bounds-rows-i-then-kind-eq-APPLICATION : goal.offset_bounds-rows-i-then-kind-eq-APPLICATION
-offset_bounds-rows-i-then-kind-eq-APPLICATION c = let b = bounded c.loop-left.invariant in let t = c.loop-left-test.true in omega arith
-
-pub bounds-rows-i-then-kind-eq-APPLICATION : goal.bounds-rows-i-then-kind-eq-APPLICATION
-bounds-rows-i-then-kind-eq-APPLICATION c = let b = bounded c.loop-left.invariant in let t = c.loop-left-test.true in omega arith
-
-pub overflow_cast-left : goal.overflow_cast-left
-overflow_cast-left c = let b = bounded c.loop-left.invariant in let t = c.loop-left-test.true in let a = application_bounded c.loop-left.invariant t c.if-kind-eq-APPLICATION.true in omega arith
+pub returns-then-row-eq-METAVARIABLE : goal.returns-then-row-eq-METAVARIABLE
+returns-then-row-eq-METAVARIABLE c =
+    turn_meta c.loop-row.invariant.1 c.loop-row.invariant.0 (sym (row_behind c.args.rows.now c.args.at c.loop-row.row-index 0) ∙ c.if-row-eq-METAVARIABLE.true)
 
 pub overflow_add-left : goal.overflow_add-left
-overflow_add-left c = let b = bounded c.loop-left.invariant in let t = c.loop-left-test.true in let a = application_bounded c.loop-left.invariant t c.if-kind-eq-APPLICATION.true in omega arith
+overflow_add-left c =
+    let e = row_behind c.args.rows.now c.args.at c.loop-row.row-index 3 in
+    let a = application_bounded c.loop-row.invariant.1 c.loop-row.invariant.0 (sym (row_behind c.args.rows.now c.args.at c.loop-row.row-index 0) ∙ c.if-row-eq-APPLICATION.true) in
+    let b = bounded (turn_start c.requires) in
+    omega arith
 
-pub overflow_add-i : goal.overflow_add-i
-overflow_add-i c = let b = bounded c.loop-left.invariant in let t = c.loop-left-test.true in omega arith
+pub returns-then-left-eq0 : goal.returns-then-left-eq0
+returns-then-left-eq0 c =
+    let next : Turn c.args.text.now c.args.rows.now c.args.at c.if-row-eq-APPLICATION.left (c.args.at + c.loop-row.row-index + 1) =
+    elim c.if-row-eq-APPLICATION.branch [
+      | then-row-eq-APPLICATION w ↦ turn_application_behind c.loop-row.row-index c.loop-row.invariant.1 c.loop-row.invariant.0 w.if-row-eq-APPLICATION.true w.left-is
+      | else-row-eq-APPLICATION w ↦ turn_leaf_behind c.loop-row.row-index c.loop-row.invariant.1 c.loop-row.invariant.0 c.if-row-eq-METAVARIABLE.false w.if-row-eq-APPLICATION.false w.left-is
+    ] in
+    turn_done next c.if-left-eq0.true
 
-pub loop-left-smaller-then-kind-eq-APPLICATION : goal.loop-left-smaller-then-kind-eq-APPLICATION
-loop-left-smaller-then-kind-eq-APPLICATION c = let b = bounded c.loop-left.invariant in let t = c.loop-left-test.true in omega arith
-
-pub loop-left-preserved-then-kind-eq-APPLICATION : goal.loop-left-preserved-then-kind-eq-APPLICATION
-loop-left-preserved-then-kind-eq-APPLICATION c = turn_application c.loop-left.invariant c.loop-left-test.true c.if-kind-eq-APPLICATION.true
-
-pub overflow_sub-left-in-loop-left : goal.overflow_sub-left-in-loop-left
-overflow_sub-left-in-loop-left c = let b = bounded c.loop-left.invariant in let t = c.loop-left-test.true in omega arith
-
-pub overflow_add-i-in-loop-left : goal.overflow_add-i-in-loop-left
-overflow_add-i-in-loop-left c = let b = bounded c.loop-left.invariant in let t = c.loop-left-test.true in omega arith
-
-pub loop-left-smaller : goal.loop-left-smaller
-loop-left-smaller c = let b = bounded c.loop-left.invariant in let t = c.loop-left-test.true in omega arith
-
-pub loop-left-preserved : goal.loop-left-preserved
-loop-left-preserved c = turn_leaf c.loop-left.invariant c.loop-left-test.true c.if-kind-eq-METAVARIABLE.false c.if-kind-eq-APPLICATION.false
+pub loop-row-preserved : goal.loop-row-preserved
+loop-row-preserved c =
+    let next : Turn c.args.text.now c.args.rows.now c.args.at c.if-row-eq-APPLICATION.left (c.args.at + c.loop-row.row-index + 1) =
+    elim c.if-row-eq-APPLICATION.branch [
+      | then-row-eq-APPLICATION w ↦ turn_application_behind c.loop-row.row-index c.loop-row.invariant.1 c.loop-row.invariant.0 w.if-row-eq-APPLICATION.true w.left-is
+      | else-row-eq-APPLICATION w ↦ turn_leaf_behind c.loop-row.row-index c.loop-row.invariant.1 c.loop-row.invariant.0 c.if-row-eq-METAVARIABLE.false w.if-row-eq-APPLICATION.false w.left-is
+    ] in
+    let s : c.args.at + c.loop-row.row-index + 1 ≡ c.args.at + (c.loop-row.row-index + 1) = omega arith in
+    (omega arith, subst (λ (i : ℕ). Turn c.args.text.now c.args.rows.now c.args.at c.if-row-eq-APPLICATION.left i) s next)
 
 pub returns : goal.returns
-returns c = turn_done c.loop-left.invariant (let l = c.loop-left-test.false in omega arith)
+returns c =
+    let b = bounded c.loop-row.invariant.1 in
+    let t = c.loop-row-test.false in
+    let l = c.loop-row.invariant.0 in
+    absurd (let u = simp (length-take, length-drop) at t in let z : ⊥ = omega arith in z)

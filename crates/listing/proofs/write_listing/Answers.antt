@@ -1,8 +1,8 @@
 -- `write_listing` meets its contract: a buffer of the size has room for the listing, and what `lex` answers is listed.
 use mathlib.Core.Path.{sym, ap, ◌∙◌}
 use lib.ListN.{length}
+use lib.Seq.{length-take-le}
 use Rattle.byte_output.specs.OutputLaws.{written_as}
-use Rattle.listing.specs.Listing.{refused_line}
 use Rattle.listing.specs.ListingLaws.{tokens_listed, tokens_counted, refusal_listed, listing_refused, listing_done}
 use Rattle.listing.specs.SizeLaws.{listing_fits}
 use native.Mathlib.Omega.{arith}
@@ -15,52 +15,35 @@ returns-then-out-size c =
     listing_refused (args.text.now) (args.limits) (args.rows.now) (args.out.now) (let s = size.ensures in
     omega arith)
 
+pub slice_bounds-write_tokens-end-in-Ok : goal.slice_bounds-write_tokens-end-in-Ok
+slice_bounds-write_tokens-end-in-Ok c = let h = tokens_counted c.args.text.now c.args.limits c.args.rows.now c.lex.ensures.rows (sym c.in-Ok.is ∙ c.lex.ensures.answer) in let t = length-take-le c.in-Ok.count c.lex.new.tokens h in omega arith
+
 pub write_tokens-end-requires : goal.write_tokens-end-requires
 write_tokens-end-requires c =
-    let lex' = c.lex in
-    let args = c.args in
-    let size = c.size in
-    let left = lex'.ensures.rows in
-    let e = sym (c.in-Tokens.is) ∙ lex'.ensures.answer in
-    let l = ap length (tokens_listed (args.text.now) (args.limits) (args.rows.now) left e) in
-    let f = listing_fits (args.text.now) (args.limits) (length (args.rows.now)) in
-    let s = size.ensures in
-    (tokens_counted (args.text.now) (args.limits) (args.rows.now) left e, omega arith)
+    let e = sym c.in-Ok.is ∙ c.lex.ensures.answer in
+    let l = ap length (tokens_listed c.args.text.now c.args.limits c.args.rows.now c.lex.ensures.rows e) in
+    let f = listing_fits c.args.text.now c.args.limits (length c.args.rows.now) in
+    let s = c.size.ensures in
+    omega arith
 
 pub write_refused_line-end-requires : goal.write_refused_line-end-requires
 write_refused_line-end-requires c =
-    let lex' = c.lex in
-    let number = c.number in
-    let args = c.args in
-    let size = c.size in
-    let left = lex'.ensures.rows in
-    let e = sym (c.in-Refused.is) ∙ lex'.ensures.answer in
-    let l = ap length (ap (λ k. refused_line k (c.in-Refused.line)) (number.ensures)
-    ∙ refusal_listed (args.text.now) (args.limits) (args.rows.now) left e) in
-    let f = listing_fits (args.text.now) (args.limits) (length (args.rows.now)) in
-    let s = size.ensures in
+    let e = sym c.in-Err.is ∙ c.lex.ensures.answer in
+    let l = ap length (refusal_listed c.args.text.now c.args.limits c.args.rows.now c.lex.ensures.rows e) in
+    let f = listing_fits c.args.text.now c.args.limits (length c.args.rows.now) in
+    let s = c.size.ensures in
     omega arith
 
-pub returns-in-Tokens : goal.returns-in-Tokens
-returns-in-Tokens c =
-    let lex' = c.lex in
-    let size = c.size in
-    let args = c.args in
-    let write-tokens = c.write_tokens-end in
-    let left = lex'.ensures.rows in
-    let e = sym (c.in-Tokens.is) ∙ lex'.ensures.answer in
-    let s = size.ensures in
-    listing_done (args.text.now) (args.limits) (args.rows.now) (args.out.now) (omega arith) (written_as (write-tokens.ensures) (tokens_listed (args.text.now) (args.limits) (args.rows.now) left e)) left
+pub returns-in-Ok : goal.returns-in-Ok
+returns-in-Ok c =
+    let left = c.lex.ensures.rows in
+    let e = sym c.in-Ok.is ∙ c.lex.ensures.answer in
+    let s = c.size.ensures in
+    listing_done c.args.text.now c.args.limits c.args.rows.now c.args.out.now (omega arith) (written_as c.write_tokens-end.ensures (tokens_listed c.args.text.now c.args.limits c.args.rows.now left e)) left
 
-pub returns-in-Refused : goal.returns-in-Refused
-returns-in-Refused c =
-    let lex' = c.lex in
-    let size = c.size in
-    let args = c.args in
-    let write-refused-line = c.write_refused_line-end in
-    let number = c.number in
-    let left = lex'.ensures.rows in
-    let e = sym (c.in-Refused.is) ∙ lex'.ensures.answer in
-    let s = size.ensures in
-    listing_done (args.text.now) (args.limits) (args.rows.now) (args.out.now) (omega arith) (written_as (write-refused-line.ensures) (ap (λ k. refused_line k (c.in-Refused.line)) (number.ensures)
-    ∙ refusal_listed (args.text.now) (args.limits) (args.rows.now) left e)) left
+pub returns-in-Err : goal.returns-in-Err
+returns-in-Err c =
+    let left = c.lex.ensures.rows in
+    let e = sym c.in-Err.is ∙ c.lex.ensures.answer in
+    let s = c.size.ensures in
+    listing_done c.args.text.now c.args.limits c.args.rows.now c.args.out.now (omega arith) (written_as c.write_refused_line-end.ensures (refusal_listed c.args.text.now c.args.limits c.args.rows.now left e)) left

@@ -1,51 +1,24 @@
 -- `parse` meets its contract.
+use mathlib.Core.Path.{ap}
 use native.Mathlib.Omega.{arith}
+use Rattle.term_parser.specs.Steps.{step}
 use Rattle.term_parser.proofs.Readers.{moved}
-use Rattle.parser.proofs.StorageLaws.{over, few, parse_short, parse_end, parse_absent, parse_refused}
+use Rattle.parser.proofs.StorageLaws.{over, few, parse_short, parse_end, parse_refused}
 use Rattle.parser.proofs.parse.Goals as goal
 
 pub returns-then-tokens-gt65536 : goal.returns-then-tokens-gt65536
-returns-then-tokens-gt65536 c =
-    let args = c.args in
-    let if1 = c.if-tokens-gt65536 in
-    parse_short args.text.now args.tokens.now args.rows.now (over args.text.now args.tokens.now args.rows.now if1.true)
+returns-then-tokens-gt65536 c = parse_short c.args.text.now c.args.tokens.now c.args.rows.now (over c.args.text.now c.args.tokens.now c.args.rows.now c.if-tokens-gt65536.true)
 
 pub returns-then-rows-tokens : goal.returns-then-rows-tokens
-returns-then-rows-tokens c =
-    let args = c.args in
-    let if2 = c.if-rows-tokens in
-    parse_short args.text.now args.tokens.now args.rows.now (few args.text.now args.tokens.now args.rows.now if2.true)
+returns-then-rows-tokens c = parse_short c.args.text.now c.args.tokens.now c.args.rows.now (few c.args.text.now c.args.tokens.now c.args.rows.now c.if-rows-tokens.true)
 
 pub clear-requires : goal.clear-requires
 clear-requires c =
-    let declarations = c.declarations in
-    let if2 = c.if-rows-tokens in
-    let m = moved declarations.ensures.answers c.in-At.is in
-    omega (arith, m, if2.false, declarations.auto.out)
+    let m = moved c.declarations.ensures.answers (ap step c.in-Ok.is) in
+    omega (arith, m, c.if-rows-tokens.false, c.declarations.auto.out)
 
-pub returns-in-At : goal.returns-in-At
-returns-in-At c =
-    let args = c.args in
-    let if1 = c.if-tokens-gt65536 in
-    let if2 = c.if-rows-tokens in
-    let declarations = c.declarations in
-    let clear = c.clear in
-    parse_end args.text.now args.tokens.now _ if1.false if2.false declarations.ensures declarations.auto.out c.in-At.is clear.ensures
+pub returns-in-Ok : goal.returns-in-Ok
+returns-in-Ok c = parse_end c.args.text.now c.args.tokens.now _ c.if-tokens-gt65536.false c.if-rows-tokens.false c.declarations.ensures c.declarations.auto.out (ap step c.in-Ok.is) c.clear.ensures
 
-pub returns-in-Absent : goal.returns-in-Absent
-returns-in-Absent c =
-    let args = c.args in
-    let if1 = c.if-tokens-gt65536 in
-    let if2 = c.if-rows-tokens in
-    let declarations = c.declarations in
-    let clear2 = c.clear-in-Absent in
-    parse_absent args.text.now args.tokens.now _ if1.false if2.false declarations.ensures declarations.auto.out c.in-Absent.is clear2.ensures
-
-pub returns-in-Refused : goal.returns-in-Refused
-returns-in-Refused c =
-    let args = c.args in
-    let if1 = c.if-tokens-gt65536 in
-    let if2 = c.if-rows-tokens in
-    let declarations = c.declarations in
-    let clear3 = c.clear-in-Refused in
-    parse_refused args.text.now args.tokens.now _ if1.false if2.false declarations.ensures declarations.auto.out c.in-Refused.is clear3.ensures
+pub returns-in-Err : goal.returns-in-Err
+returns-in-Err c = parse_refused c.args.text.now c.args.tokens.now _ c.if-tokens-gt65536.false c.if-rows-tokens.false c.declarations.ensures c.declarations.auto.out (ap step c.in-Err.is) c.clear-in-Err.ensures

@@ -1,5 +1,5 @@
 -- `parse_text` meets its contract.
-use mathlib.Core.Path.{◌≡◌, refl, ap}
+use mathlib.Core.Path.{◌≡◌, refl, sym, ap, ◌∙◌}
 use native.Mathlib.Omega.{arith}
 use Prim.Native.Nat.{◌≤◌}
 use lib.ListN.{length}
@@ -25,53 +25,33 @@ returns-then-rows-limit c =
 
 pub slice_bounds-parse-end : goal.slice_bounds-parse-end
 slice_bounds-parse-end c =
-    let capped = c.capped-limit in
     let args = c.args in
-    let if1 = c.if-tokens-limit in
-    let if2 = c.if-rows-limit in
-    let lex' = c.lex in
-    let e : capped.result.text ≡ (capped_of args.limits).text = ap (λ l. l.text) capped.ensures in
-    let h : (capped_of args.limits).text ≤ length args.tokens.now = omega (arith, e, if1.false) in
-    let k : (capped_of args.limits).text ≤ length args.rows.now = omega (arith, e, if2.false) in
-    let i = tokens_in args.text.now args.limits args.tokens.now args.rows.now h k lex'.ensures c.in-Tokens.is in
-    omega (arith, i, h, lex'.auto.tokens)
+    let e : c.capped-limit.result.text ≡ (capped_of args.limits).text = ap (λ l. l.text) c.capped-limit.ensures in
+    let h : (capped_of args.limits).text ≤ length args.tokens.now = omega (arith, e, c.if-tokens-limit.false) in
+    let k : (capped_of args.limits).text ≤ length args.rows.now = omega (arith, e, c.if-rows-limit.false) in
+    let i = tokens_in args.text.now args.limits args.tokens.now args.rows.now h k c.lex.ensures c.in-Ok.is in
+    omega (arith, i, h, c.lex.auto.tokens)
 
-pub returns-in_default : goal.returns-in_default
-returns-in_default c =
-    let capped = c.capped-limit in
+pub returns-then-is_err : goal.returns-then-is_err
+returns-then-is_err c =
     let args = c.args in
-    let if1 = c.if-tokens-limit in
-    let if2 = c.if-rows-limit in
-    let lex' = c.lex in
-    let parse = c.parse-answer in
-    let clear2 = c.clear-in_default in
-    let e : capped.result.text ≡ (capped_of args.limits).text = ap (λ l. l.text) capped.ensures in
-    let h : (capped_of args.limits).text ≤ length args.tokens.now = omega (arith, e, if1.false) in
-    let k : (capped_of args.limits).text ≤ length args.rows.now = omega (arith, e, if2.false) in
-    text_refused args.text.now args.limits args.tokens.now args.rows.now h k lex'.ensures c.in-Tokens.is refl parse.ensures c.in_default.is lex'.auto.tokens clear2.ensures
+    let e : c.capped-limit.result.text ≡ (capped_of args.limits).text = ap (λ l. l.text) c.capped-limit.ensures in
+    let h : (capped_of args.limits).text ≤ length args.tokens.now = omega (arith, e, c.if-tokens-limit.false) in
+    let k : (capped_of args.limits).text ≤ length args.rows.now = omega (arith, e, c.if-rows-limit.false) in
+    text_refused args.text.now args.limits args.tokens.now args.rows.now h k c.lex.ensures c.in-Ok.is refl c.parse-answer.ensures (sym c.is_err.ensures.value ∙ c.if-is_err.true) c.lex.auto.tokens c.clear.ensures
 
-pub returns-in-Refused : goal.returns-in-Refused
-returns-in-Refused c =
-    let capped = c.capped-limit in
+pub returns-else-is_err : goal.returns-else-is_err
+returns-else-is_err c =
     let args = c.args in
-    let if1 = c.if-tokens-limit in
-    let if2 = c.if-rows-limit in
-    let lex' = c.lex in
-    let clear = c.clear in
-    let e : capped.result.text ≡ (capped_of args.limits).text = ap (λ l. l.text) capped.ensures in
-    let h : (capped_of args.limits).text ≤ length args.tokens.now = omega (arith, e, if1.false) in
-    let k : (capped_of args.limits).text ≤ length args.rows.now = omega (arith, e, if2.false) in
-    text_unread args.text.now args.limits args.tokens.now args.rows.now h k lex'.ensures c.in-Refused.is clear.ensures
+    let e : c.capped-limit.result.text ≡ (capped_of args.limits).text = ap (λ l. l.text) c.capped-limit.ensures in
+    let h : (capped_of args.limits).text ≤ length args.tokens.now = omega (arith, e, c.if-tokens-limit.false) in
+    let k : (capped_of args.limits).text ≤ length args.rows.now = omega (arith, e, c.if-rows-limit.false) in
+    text_parsed args.text.now args.limits args.tokens.now args.rows.now h k c.lex.ensures c.in-Ok.is refl c.parse-answer.ensures (sym c.is_err.ensures.value ∙ c.if-is_err.false)
 
-pub returns-in-Declarations : goal.returns-in-Declarations
-returns-in-Declarations c =
-    let capped = c.capped-limit in
+pub returns-in-Err : goal.returns-in-Err
+returns-in-Err c =
     let args = c.args in
-    let if1 = c.if-tokens-limit in
-    let if2 = c.if-rows-limit in
-    let lex' = c.lex in
-    let parse = c.parse-answer in
-    let e : capped.result.text ≡ (capped_of args.limits).text = ap (λ l. l.text) capped.ensures in
-    let h : (capped_of args.limits).text ≤ length args.tokens.now = omega (arith, e, if1.false) in
-    let k : (capped_of args.limits).text ≤ length args.rows.now = omega (arith, e, if2.false) in
-    text_parsed args.text.now args.limits args.tokens.now args.rows.now h k lex'.ensures c.in-Tokens.is refl parse.ensures c.in-Declarations.is
+    let e : c.capped-limit.result.text ≡ (capped_of args.limits).text = ap (λ l. l.text) c.capped-limit.ensures in
+    let h : (capped_of args.limits).text ≤ length args.tokens.now = omega (arith, e, c.if-tokens-limit.false) in
+    let k : (capped_of args.limits).text ≤ length args.rows.now = omega (arith, e, c.if-rows-limit.false) in
+    text_unread args.text.now args.limits args.tokens.now args.rows.now h k c.lex.ensures c.in-Err.is c.clear-in-Err.ensures

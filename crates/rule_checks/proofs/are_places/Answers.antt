@@ -1,27 +1,24 @@
--- `are_places` meets its contract: it tells whether the row has the table's places.
--- The loop's invariant: the places passed are the row's.
-use mathlib.Core.Path.{◌≡◌}
-use Prim.Native.Nat.{◌+◌, ◌-◌}
-use lib.ListN.{get_or}
-use borrow.Author.Count.{below_more}
-use Rattle.names.specs.Symbols.{row_at, column}
-use Rattle.unifier.specs.Checking.{tells_yes, tells_no}
-use borrow.Author.Rules.{rules}
-use native.Mathlib.Omega.{arith}
+-- `are_places` meets its contract: two lists are the same exactly where they have the same numbers.
+use Rattle.std.proofs.Common.{◌+◌, get_or, ap, sym, ◌∙◌, arith, length-take, get_or-take}
+use Rattle.std.specs.Cmp.{unsigned_Decides}
+use Rattle.std.proofs.lemmas.Slice.Eq.{slice_eq-Decides}
+use Rattle.std.proofs.lemmas.Grind.{same_number_lists}
+use Rattle.names.specs.Symbols.{column}
+use Rattle.rule_checks.proofs.PartLaws.{part_length, part_index}
 use Rattle.rule_checks.proofs.are_places.Goals as goal
 
-pub loop-x-init : goal.loop-x-init
-loop-x-init c = λ k l. absurd (omega arith)
-
-pub returns-then-places-x : goal.returns-then-places-x
-returns-then-places-x c = tells_no (λ h. c.if-places-x.true (h c.loop-x.x c.loop-x-test.true))
-
-pub loop-x-preserved : goal.loop-x-preserved
-loop-x-preserved c =
-    let args = c.args in
-    let loop = c.loop-x in
-    let if1 = c.if-places-x in
-    below_more (λ k. get_or args.places.now k 0 ≡ column (row_at args.rules.now args.i) (90 + k)) loop.x loop.invariant if1.false
-
 pub returns : goal.returns
-returns c = tells_yes (λ k l. let e = c.loop-x-test.false in c.loop-x.invariant k (omega arith))
+returns c =
+    let d = slice_eq-Decides unsigned_Decides _ _ _ c.eq.ensures in
+    let row = c.args.rule.now in
+    let places = c.args.places.now in
+    let v = column row 3 in
+    let few = c.requires.0 in
+    let lent = c.requires.1 in
+    let long = c.told-rule in
+    let n = part_length row 90 (90 + v) (omega arith) in
+    let m = length-take v places in
+    record {
+      yes = λ e x l. sym (get_or-take v places x 0 l) ∙ ap (λ s. get_or s x 0) (d.0 e) ∙ part_index row 90 (90 + v) x (omega arith);
+      back = λ h. d.1 (same_number_lists _ _ (omega arith) (λ x l. get_or-take v places x 0 (omega arith) ∙ h x (omega arith) ∙ sym (part_index row 90 (90 + v) x (omega arith))));
+    }

@@ -1,51 +1,9 @@
 -- `check_rule` meets its contract: it tells whether the row and the words are in form.
 -- Each way out is one step of the test, and the steps together are the form.
-use Rattle.names.specs.Symbols.{row_at}
 use Rattle.unifier.specs.Checking.{tells_false}
-use Rattle.rule_checks.proofs.ListedLaws.{checked_bad, checked_good, listed_numbers, listed_columns, listed_parts, listed_order, listed_places, order_asked, walkable}
-use borrow.Author.Rules.{rules}
+use Rattle.rule_checks.proofs.ListedLaws.{checked_bad, checked_good, listed_parts, listed_places, order_asked, walkable}
 use native.Mathlib.Omega.{arith}
 use Rattle.rule_checks.proofs.check_rule.Goals as goal
-
-pub returns-then-not-are_numbers : goal.returns-then-not-are_numbers
-returns-then-not-are_numbers c = checked_bad _ _ _ _ _ _ _ (λ next l. tells_false c.are_numbers.ensures (c.if-not-are_numbers.true) (listed_numbers _ _ _ _ _ _ _ l))
-
-pub are_columns-requires : goal.are_columns-requires
-are_columns-requires c =
-    let n = c.are_numbers.ensures.yes (c.if-not-are_numbers.false) in
-    (c.requires.fact_2.0, n.variables, n.premises)
-
-pub returns-then-not-are_columns : goal.returns-then-not-are_columns
-returns-then-not-are_columns c = checked_bad _ _ _ _ _ _ _ (λ next l. tells_false c.are_columns.ensures (c.if-not-are_columns.true) (listed_columns _ _ _ _ _ _ _ l))
-
-pub overflow_add-middle : goal.overflow_add-middle
-overflow_add-middle c =
-    let are-numbers = c.are_numbers in
-    let if1 = c.if-not-are_numbers in
-    let pre = c.requires in
-    let n = (are-numbers.ensures.yes (if1.false)).within in
-    let f = pre.fact_1.few in
-    omega arith
-
-pub overflow_add-end : goal.overflow_add-end
-overflow_add-end c =
-    let are-numbers = c.are_numbers in
-    let if1 = c.if-not-are_numbers in
-    let pre = c.requires in
-    let n = (are-numbers.ensures.yes (if1.false)).within in
-    let f = pre.fact_1.few in
-    omega arith
-
-pub are_parts-requires : goal.are_parts-requires
-are_parts-requires c =
-    let are-numbers = c.are_numbers in
-    let if1 = c.if-not-are_numbers in
-    let pre = c.requires in
-    let n = are-numbers.ensures.yes (if1.false) in
-    let w = n.within in
-    let f = pre.fact_1.few in
-    let l = pre.fact_1.lent in
-    (pre.fact_2.0, n.premises, omega arith, omega arith, omega arith, omega arith)
 
 pub returns-then-not-are_parts : goal.returns-then-not-are_parts
 returns-then-not-are_parts c = checked_bad _ _ _ _ _ _ _ (λ next l. tells_false c.are_parts.ensures (c.if-not-are_parts.true) (listed_parts _ _ _ _ _ _ _ l))
@@ -59,11 +17,7 @@ is_in_order-requires c =
     let are-parts = c.are_parts in
     let if3 = c.if-not-are_parts in
     let n = are-numbers.ensures.yes (if1.false) in
-    (pre.fact_2.0, order_asked args.text.now args.arities.now args.words.now 0 _ (row_at args.rules.now args.i) args.from pre.fact_1 n, walkable args.text.now args.arities.now args.words.now 0 _ (row_at args.rules.now args.i) args.from pre.fact_1 n (are-parts.ensures.yes (if3.false)), pre.fact_2.1)
-
-pub returns-then-not-is_in_order : goal.returns-then-not-is_in_order
-returns-then-not-is_in_order c =
-    checked_bad _ _ _ _ _ _ _ (λ next l. tells_false c.is_in_order.ensures (c.if-not-is_in_order.true) (listed_order _ _ _ _ _ _ _ l))
+    (order_asked args.text.now args.arities.now args.words.now 0 _ args.rule.now args.from pre.fact_1 n, walkable args.text.now args.arities.now args.words.now 0 _ args.rule.now args.from pre.fact_1 n (are-parts.ensures.yes (if3.false)), pre.fact_2)
 
 pub is_in_places-requires : goal.is_in_places-requires
 is_in_places-requires c =
@@ -76,7 +30,7 @@ is_in_places-requires c =
     let is-in-order = c.is_in_order in
     let if4 = c.if-not-is_in_order in
     let n = are-numbers.ensures.yes (if1.false) in
-    (pre.fact_2.0, order_asked args.text.now args.arities.now args.words.now 0 _ (row_at args.rules.now args.i) args.from pre.fact_1 n, walkable args.text.now args.arities.now args.words.now 0 _ (row_at args.rules.now args.i) args.from pre.fact_1 n (are-parts.ensures.yes (if3.false)), is-in-order.ensures.yes (if4.false), omega (arith, pre.fact_2.1, is-in-order.auto.stack))
+    (order_asked args.text.now args.arities.now args.words.now 0 _ args.rule.now args.from pre.fact_1 n, walkable args.text.now args.arities.now args.words.now 0 _ args.rule.now args.from pre.fact_1 n (are-parts.ensures.yes (if3.false)), is-in-order.ensures.yes (if4.false), omega (arith, pre.fact_2, is-in-order.auto.stack))
 
 pub returns-then-not-is_in_places : goal.returns-then-not-is_in_places
 returns-then-not-is_in_places c =
@@ -96,4 +50,4 @@ returns c =
     let if5 = c.if-not-is_in_places in
     let are-columns = c.are_columns in
     let if2 = c.if-not-are_columns in
-    checked_good args.text.now args.arities.now args.words.now args.sorts args.used (row_at args.rules.now args.i) args.from pre.fact_1 (are-numbers.ensures.yes (if1.false)) (are-parts.ensures.yes (if3.false)) (is-in-order.ensures.yes (if4.false)) (is-in-places.ensures.yes (if5.false)) (are-columns.ensures.yes (if2.false))
+    checked_good args.text.now args.arities.now args.words.now args.sorts args.used args.rule.now args.from pre.fact_1 (are-numbers.ensures.yes (if1.false)) (are-parts.ensures.yes (if3.false)) (is-in-order.ensures.yes (if4.false)) (is-in-places.ensures.yes (if5.false)) (are-columns.ensures.yes (if2.false))

@@ -2,20 +2,19 @@
 -- The conclusion and then the premises, the last first, are met in a new table.
 use mathlib.Core.Path.{sym, ◌∙◌}
 use mathlib.Core.List.{[]}
-use Rattle.names.specs.Symbols.{row_at}
 use Rattle.unifier.specs.Checking.{tells_no, tells_false}
-use Rattle.rule_checks.specs.Steps.{conclusion_of}
+use Rattle.rule_checks.specs.Steps.{conclusion_of, PlacedWord}
+use Rattle.rule_checks.proofs.PartLaws.{part_each, each_part}
 use Rattle.rule_checks.proofs.TableLaws.{records_new, lent_new, lent_kept, placed_listed, listed_placed, table_places}
 use Rattle.rule_checks.proofs.ListedLaws.{conclusion_asked, premise_asked}
-use borrow.Author.Rules.{rules}
 use native.Mathlib.Omega.{arith}
 use Rattle.rule_checks.proofs.is_in_places.Goals as goal
 
 pub walk-met-requires : goal.walk-met-requires
-walk-met-requires c = let pre = c.requires in (conclusion_asked pre.2 pre.1 pre.3, lent_new pre.4, ([], records_new))
+walk-met-requires c = let pre = c.requires in (conclusion_asked pre.1 pre.0 pre.2, lent_new pre.3, ([], records_new))
 
-pub returns-then-met-rules : goal.returns-then-met-rules
-returns-then-met-rules c = tells_no (λ h. c.if-met-rules.true ((c.walk-met.ensures [] records_new).counted ∙ sym h.meets))
+pub returns-then-met-rule : goal.returns-then-met-rule
+returns-then-met-rule c = tells_no (λ h. c.if-met-rule.true ((c.walk-met.ensures [] records_new).counted ∙ sym h.meets))
 
 pub returns-then-not-are_placed : goal.returns-then-not-are_placed
 returns-then-not-are_placed c =
@@ -24,36 +23,36 @@ returns-then-not-are_placed c =
     let if2 = c.if-not-are_placed in
     let args = c.args in
     let walk = c.walk-met in
-    let m = pre.1.middle in
-    let z = pre.1.last in
-    tells_no (λ h. tells_false are-placed.ensures (if2.true) (listed_placed (conclusion_of args.words.now (row_at args.rules.now args.i)) (walk.ensures [] records_new) args.words.now args.middle args.end (λ a l b. h.listed a (omega arith) (omega arith))))
+    let m = pre.0.middle in
+    let z = pre.0.last in
+    tells_no (λ h. tells_false are-placed.ensures (if2.true) (each_part args.words.now args.middle args.end (PlacedWord walk.new.places) pre.1.within (listed_placed (conclusion_of args.words.now args.rule.now) (walk.ensures [] records_new) args.words.now args.middle args.end (λ a l b. h.listed a (omega arith) (omega arith)))))
 
 pub walk_back-requires : goal.walk_back-requires
 walk_back-requires c =
     let pre = c.requires in
     let walk = c.walk-met in
     let args = c.args in
-    (pre.0, pre.2.premises, premise_asked pre.2 pre.1 pre.3, lent_kept walk.auto.places walk.auto.stack (lent_new {stack = args.stack.now} pre.4), (_, walk.ensures [] records_new))
+    (pre.1.premises, premise_asked pre.1 pre.0 pre.2, lent_kept walk.auto.places walk.auto.stack (lent_new {stack = args.stack.now} pre.3), (_, walk.ensures [] records_new))
 
 pub returns : goal.returns
 returns c =
     let pre = c.requires in
     let walk = c.walk-met in
     let walk-back = c.walk_back in
-    let if1 = c.if-met-rules in
+    let if1 = c.if-met-rule in
     let args = c.args in
     let are-placed = c.are_placed in
     let if2 = c.if-not-are_placed in
     let are-places = c.are_places in
-    let m = pre.1.middle in
-    let z = pre.1.last in
+    let m = pre.0.middle in
+    let z = pre.0.last in
     let rec = walk.ensures [] records_new in
-    let placed = table_places pre.3 pre.1.variables (walk-back.ensures _ rec).1 in
+    let placed = table_places pre.2 pre.0.variables (walk-back.ensures _ rec).1 in
     record {
       yes = λ e. record {
         meets = sym if1.false
             ∙ rec.counted;
-        listed = λ a l b. placed_listed (conclusion_of args.words.now (row_at args.rules.now args.i)) rec args.words.now args.middle args.end (are-placed.ensures.yes (if2.false)) a (omega arith) (omega arith);
+        listed = λ a l b. placed_listed (conclusion_of args.words.now args.rule.now) rec args.words.now args.middle args.end (part_each args.words.now args.middle args.end (PlacedWord walk.new.places) pre.1.within (are-placed.ensures.yes if2.false)) a (omega arith) (omega arith);
         placed = λ x l. sym (are-places.ensures.yes e x l)
             ∙ placed x l;
       };

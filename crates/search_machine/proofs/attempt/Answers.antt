@@ -1,49 +1,23 @@
 -- `attempt` meets its contract: each answer of the attempt is one way on.
 use native.Mathlib.Omega.{arith}
-use Rattle.search_machine.specs.Ways.{stepped_as, step_refused, step_missed, step_put, ready_asked, ready_few, ready_room}
+use Rattle.std.proofs.Common.{Ok, set, ap, ◌∙◌}
+use Rattle.arena.specs.Rows.{Rows}
+use Rattle.search_machine.specs.Ways.{framed_stepped, stepped_as, step_refused, step_missed, step_put}
 use Rattle.search_machine.proofs.attempt.Goals as goal
 
-pub try_stored-requires : goal.try_stored-requires
-try_stored-requires c =
-    let the-pre = c.requires in
-    ready_asked the-pre.fact_1 the-pre.fact_2
+pub returns-in-Err-clause-stepped : goal.returns-in-Err-clause-stepped
+returns-in-Err-clause-stepped c =
+    framed_stepped c.try_stored.ensures.frames
+    (stepped_as c.at_stop.ensures (step_refused c.requires.ready c.requires.choice c.try_stored.ensures.tried _ c.in-Err.is))
 
-pub overflow_add-m : goal.overflow_add-m
-overflow_add-m c =
-    let the-pre = c.requires in
-    let l = ready_few the-pre.fact_1 the-pre.fact_2 in omega arith
+pub returns-in-Ok-Missed-clause-stepped : goal.returns-in-Ok-Missed-clause-stepped
+returns-in-Ok-Missed-clause-stepped c =
+    framed_stepped c.try_stored.ensures.frames
+    (stepped_as c.at_rule.ensures (step_missed c.requires.ready c.requires.choice c.try_stored.ensures.tried _ (c.in-Ok-Missed.is ∙ ap Ok c.in-Ok-Missed.field-0-is)))
 
-pub overflow_add-m-in-Entered : goal.overflow_add-m-in-Entered
-overflow_add-m-in-Entered c =
-    let the-pre = c.requires in
-    let l = ready_room the-pre.fact_1 the-pre.fact_2 in omega arith
-
-pub at_body-requires : goal.at_body-requires
-at_body-requires c =
-    let the-pre = c.requires in
-    ready_room the-pre.fact_1 the-pre.fact_2
-
-pub returns-in-Exceeded : goal.returns-in-Exceeded
-returns-in-Exceeded c =
-    let the-at-stop = c.at_stop in
-    let the-pre = c.requires in
-    let the-try-stored = c.try_stored in
-    stepped_as the-at-stop.ensures (step_refused the-pre.fact_1 the-pre.fact_2 the-try-stored.ensures c.in-Exceeded.is)
-
-pub returns-in-Missed : goal.returns-in-Missed
-returns-in-Missed c =
-    let the-at-rule = c.at_rule in
-    let the-pre = c.requires in
-    let the-try-stored = c.try_stored in
-    stepped_as the-at-rule.ensures (step_missed the-pre.fact_1 the-pre.fact_2 the-try-stored.ensures _ c.in-Missed.is)
-
-pub returns-in-Entered : goal.returns-in-Entered
-returns-in-Entered c =
-    let the-pre = c.requires in
-    let the-try-stored = c.try_stored in
-    let the_larger = c.larger-high in
-    let the-frame-for = c.frame_for-x in
-    let the-put-frame = c.put_frame in
-    let the-at-body = c.at_body in
-    step_put the-pre.fact_1 the-pre.fact_2 the-try-stored.ensures _ _ _ _ c.in-Entered.is the_larger.ensures.lower_bound
-    the_larger.ensures.lower_bound_2 the-frame-for.ensures the-put-frame.ensures the-at-body.ensures
+pub returns-in-Ok-Entered-clause-stepped : goal.returns-in-Ok-Entered-clause-stepped
+returns-in-Ok-Entered-clause-stepped c =
+    let e = c.max-high.ensures in
+    step_put c.requires.ready c.requires.choice c.try_stored.ensures.tried _ _ _ _ (c.in-Ok-Entered.is ∙ ap Ok c.in-Ok-Entered.field-0-is) (omega arith) (omega arith)
+    c.frame.ensures (c.put_row.ensures ∙ ap (λ (F : Rows). set F c.args.m.frames c.into.result) c.try_stored.ensures.frames
+    ∙ ap (set c.args.store.now.frames.now c.args.m.frames) c.into.ensures) c.at_body.ensures

@@ -11,34 +11,34 @@ returns-then-parent-eq0 c = moved_as c.at_stop.ensures (moved_proof c.requires (
 
 pub overflow_add-x : goal.overflow_add-x
 overflow_add-x c =
-    let l = seen_place c.requires c.frame_at-x.result
-    c.frame_at-x.ensures (omega arith) (omega arith) in omega arith
+    let l = seen_place c.requires c.frame-x.result
+    c.frame-x.ensures (omega arith) (omega arith) in omega arith
 
 pub returns-then-place-arity_of : goal.returns-then-place-arity_of
 returns-then-place-arity_of c =
     moved_as c.at_place.ensures (moved_built c.requires
-    c.frame_at-x.result c.frame_at-x.ensures
+    c.frame-x.result c.frame-x.ensures
     c.arity_of.result c.arity_of.ensures (omega arith) (omega arith)
     c.if-place-arity_of.true)
 
 pub returns-then-x-eq0 : goal.returns-then-x-eq0
 returns-then-x-eq0 c =
     moved_as c.at_fail-then-x-eq0.ensures (moved_cut c.requires
-    c.frame_at-x.result c.frame_at-x.ensures
+    c.frame-x.result c.frame-x.ensures
     c.arity_of.result c.arity_of.ensures (omega arith)
     (omega arith) c.if-place-arity_of.false c.if-x-eq0.true)
 
 pub premise-goal-requires : goal.premise-goal-requires
 premise-goal-requires c =
-    seen_premise c.requires c.frame_at-x.result
-    c.frame_at-x.ensures (omega arith) (omega arith) c.arity_of.result
+    seen_premise c.requires c.frame-x.result
+    c.frame-x.ensures (omega arith) (omega arith) c.arity_of.result
     c.arity_of.ensures c.if-place-arity_of.false
 
 pub returns : goal.returns
 returns c =
     moved_as c.at_goal.ensures (moved_goal c.requires
-    c.frame_at-x.result
-    c.frame_at-x.ensures
+    c.frame-x.result
+    c.frame-x.ensures
     c.arity_of.result
     c.arity_of.ensures (omega arith) (omega arith)
     c.premise-goal.result c.premise-goal.ensures c.if-place-arity_of.false

@@ -1,27 +1,34 @@
--- `are_inputs_formed` meets its contract. The loop's invariant: the first j columns are in form.
-use Rattle.unifier.specs.Checking.{tells_yes, tells_no, tells_false}
-use Rattle.signature.proofs.Laws.{holds}
-use Rattle.names.specs.Symbols.{column, row_at}
-use Rattle.signature.specs.Parts.{InputFormed}
-use Prim.Native.Nat.{◌+◌, ◌-◌}
-use borrow.Author.Count.{below_more}
-use native.Mathlib.Omega.{arith}
+-- `are_inputs_formed` meets its contract: the inputs are sorts, and the columns past them are zero.
+use Rattle.std.proofs.Common.{◌≡◌, ℕ, ◌<◌, ◌≤◌, arith}
+use Rattle.names.specs.Symbols.{column}
+use Rattle.terms.specs.Numbers.{true_false}
+use Rattle.rule_checks.proofs.PartLaws.{columns_each, each_columns}
 use Rattle.signature.proofs.are_inputs_formed.Goals as goal
 
-pub loop-j-init : goal.loop-j-init
-loop-j-init c = (omega arith, λ i l. absurd (omega arith))
+abbrev Zero : ℕ → Type 0
+Zero x = x ≡ 0
 
-pub returns-then-not-is_input_formed : goal.returns-then-not-is_input_formed
-returns-then-not-is_input_formed c =
-    tells_no (λ h. tells_false c.is_input_formed.ensures (c.if-not-is_input_formed.true) (h c.loop-j.j c.loop-j-test.true))
+abbrev Sort : ℕ → ℕ → Type 0
+Sort sorts x = (0 < x) × (x ≤ sorts)
 
-pub loop-j-preserved : goal.loop-j-preserved
-loop-j-preserved c =
-    let args = c.args in
-    let loop = c.loop-j in
-    let is-input-formed = c.is_input_formed in
-    let if1 = c.if-not-is_input_formed in
-    (omega arith, below_more (λ x. InputFormed args.sorts (column (row_at args.symbols.now args.i) 6) x (column (row_at args.symbols.now args.i) (8 + x))) loop.j loop.invariant.1 (holds is-input-formed.ensures if1.false-raw))
+pub returns-then-are_sorts : goal.returns-then-are_sorts
+returns-then-are_sorts c =
+    let row = c.args.row.now in
+    let few = c.requires in
+    let long = c.told-row in
+    let used = columns_each row 8 0 (column row 6) (Sort c.args.sorts) (omega arith) (c.are_sorts.ensures.0 c.if-are_sorts.true) in
+    record {
+      yes = λ e j l. let clear = columns_each row 8 (column row 6) 16 Zero (omega arith) (c.are_zeros.ensures.0 e) in
+          record { used = λ b. used j (omega arith) b; clear = λ b. clear j b l };
+      back = λ h. c.are_zeros.ensures.1 (each_columns row 8 (column row 6) 16 Zero (omega arith) (λ j a b. (h j b).clear a));
+    }
 
-pub returns : goal.returns
-returns c = tells_yes (λ i l. c.loop-j.invariant.1 i (omega (arith, c.loop-j-test.false)))
+pub returns-else-are_sorts : goal.returns-else-are_sorts
+returns-else-are_sorts c =
+    let row = c.args.row.now in
+    let few = c.requires in
+    let long = c.told-row in
+    record {
+      yes = λ e. true_false e c.if-are_sorts.false;
+      back = λ h. c.are_sorts.ensures.1 (each_columns row 8 0 (column row 6) (Sort c.args.sorts) (omega arith) (λ j _ b. (h j (omega arith)).used b));
+    }

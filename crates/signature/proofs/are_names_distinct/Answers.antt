@@ -1,13 +1,10 @@
 -- `are_names_distinct` meets its contract: the names at the places that are written are those of sorts and symbols together.
-use Rattle.signature.proofs.NameLaws.{names_placed}
-use native.Mathlib.Omega.{arith}
+use Rattle.std.proofs.Common.{◌≡◌, length, arith}
+use Rattle.std.proofs.lemmas.Grind.{common_steps}
+use Rattle.signature.proofs.NameLaws.{names_told}
 use Rattle.signature.proofs.are_names_distinct.Goals as goal
 
 pub returns : goal.returns
 returns c =
-    let args = c.args in
-    let put-sorts = c.put_sorts in
-    let put-symbols = c.put_symbols in
-    let pre = c.requires in
-    let are-distinct = c.are_distinct in
-    rw (names_placed args.text.now args.sorts.now args.n args.symbols.now args.m put-sorts.new.places put-symbols.new.places pre.0 pre.1 (omega (arith, pre.2, pre.3, put-sorts.auto.places, put-symbols.auto.places)) put-sorts.ensures put-symbols.ensures) at are-distinct.ensures
+    let q : length c.put_symbols.new.places ≡ length c.args.symbols.now = let a = c.put_symbols.auto.places in grind (arith, common_steps) in
+    names_told c.args.text.now c.args.sorts.now c.args.symbols.now c.copy_from_slice.new.self c.put_symbols.new.places _ _ c.copy_from_slice.ensures.after q c.put_symbols.ensures c.are_distinct.ensures

@@ -1,16 +1,9 @@
--- `are_rules_listed` meets its contract.
--- The loop's invariant: the first i rules are in form one behind the other, their words end at `at`, and the stack keeps its length.
+-- The rules passed are in form one behind the other, and their words end at `at`.
+use Rattle.std.proofs.Common.{◌≤◌}
 use Rattle.arena.specs.Cells.{WellFormed, cells}
 use Rattle.arena.specs.Copies.{pattern_room}
 use Rattle.signature.specs.Parts.{RulesListed}
-use Prim.Native.Nat.{◌≤◌, ◌-◌}
-use mathlib.Core.Path.{◌≡◌}
-use lib.ListN.{length}
-use borrow.Author.Rules.{rules}
 use Rattle.signature.proofs.are_rules_listed.Given as goal
 
-abbrev pub invariant-loop-i : goal.invariant-loop-i
-invariant-loop-i l = (l.i ≤ l.k) × (l.at ≤ l.used) × RulesListed l.text l.arities l.words l.sorts l.rules l.i l.at × WellFormed pattern_room (cells l.words) pattern_room l.at × (length l.stack ≡ length l.initial.stack)
-
-abbrev pub decreases-loop-i : goal.decreases-loop-i
-decreases-loop-i l = l.k - l.i
+abbrev pub invariant-loop-rule : goal.invariant-loop-rule
+invariant-loop-rule l = (l.at ≤ l.counts.words) × RulesListed l.text l.arities l.signature.words.now l.counts.sorts l.signature.rules.now l.rule-index l.at × WellFormed pattern_room (cells l.signature.words.now) pattern_room l.at

@@ -1,12 +1,8 @@
--- `put_symbols` meets its contract. The loop's invariant: the places of the first i symbols are written.
-use Prim.Native.Nat.{◌≤◌, ◌-◌}
-use mathlib.Core.Path.{◌≡◌}
-use lib.ListN.{length}
-use Rattle.signature.specs.Parts.{SymbolsPut}
+-- The places of the symbols passed are written.
+use Rattle.std.proofs.Common.{◌≡◌, ℕ, ◌<◌}
+use Rattle.names.specs.Symbols.{row_at}
+use Rattle.signature.specs.Parts.{place_in}
 use Rattle.signature.proofs.put_symbols.Given as goal
 
 abbrev pub invariant-loop-i : goal.invariant-loop-i
-invariant-loop-i l = (l.i ≤ l.m) × (length l.places ≡ length l.initial.places) × SymbolsPut l.symbols l.i l.initial.places l.places l.n
-
-abbrev pub decreases-loop-i : goal.decreases-loop-i
-decreases-loop-i l = l.m - l.i
+invariant-loop-i l = (j : ℕ) → j < l.i → row_at l.places j ≡ place_in (row_at l.symbols j)

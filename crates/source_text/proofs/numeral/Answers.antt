@@ -6,4 +6,4 @@ use Rattle.source_text.proofs.AnswerLaws.{numeral_read}
 use Rattle.source_text.proofs.numeral.Goals as goal
 
 pub returns : goal.returns
-returns c = numeral_read _ _ _ (c.value.ensures ∙ ap numeral_of c.word.ensures)
+returns c = numeral_read _ _ _ _ (c.value.ensures ∙ ap numeral_of c.word.ensures)

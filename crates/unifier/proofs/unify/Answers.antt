@@ -1,20 +1,13 @@
 -- `unify` meets its contract: after the loop the links are undone and the stack is cleared, and without success the bindings are undone.
-use Rattle.unifier.specs.Ending.{links_undoable, bindings_undoable, stack_within, ended_yes, ended_no}
+use Rattle.unifier.specs.Ending.{bindings_undoable, ended_yes, ended_no}
 use Rattle.unifier.proofs.unify.Goals as goal
 
-pub undo-requires : goal.undo-requires
-undo-requires c =
-    links_undoable c.equate-e.ensures c.requires.fact_3.links_free.lent
-
-pub clear-requires : goal.clear-requires
-clear-requires c = stack_within c.equate-e.ensures
-
-pub returns-then-equal : goal.returns-then-equal
-returns-then-equal c =
+pub returns-then-e : goal.returns-then-e
+returns-then-e c =
     let equate = c.equate-e in
     let undo = c.undo in
     let clear = c.clear in
-    let if1 = c.if-equal in
+    let if1 = c.if-e in
     ended_yes equate.ensures _ _ undo.ensures clear.ensures if1.true
 
 pub undo-requires-2 : goal.undo-requires-2
@@ -25,7 +18,7 @@ returns c =
     let equate = c.equate-e in
     let undo = c.undo in
     let clear = c.clear in
-    let if1 = c.if-equal in
+    let if1 = c.if-e in
     let pre = c.requires in
     let undo2 = c.undo-2 in
     ended_no equate.ensures _ _ undo.ensures clear.ensures if1.false pre.fact_1 _ undo2.ensures

@@ -1,14 +1,9 @@
 -- `are_bindings` meets its contract. The loop's invariant: the bindings of the variables passed are in form.
-use Prim.Native.Nat.{ℕ, ◌-◌, ◌≤◌, ◌<◌}
-use mathlib.Core.Path.{◌≡◌}
-use lib.ListN.{length}
+use Prim.Native.Nat.{ℕ, ◌<◌}
 use Rattle.arena.specs.Cells.{cells}
 use Rattle.arena.specs.Rows.{column}
 use Rattle.acyclicity_test.specs.Form.{BindingInForm}
 use Rattle.acyclicity_test.proofs.form.are_bindings.Given as goal
 
 abbrev pub invariant-loop-v : goal.invariant-loop-v
-invariant-loop-v l = (l.end ≡ l.variables) × (l.v ≤ l.end) × (l.end ≤ length l.bindings) × ((k : ℕ) → k < l.v → BindingInForm l.limit (cells l.words) l.variables l.used (column 0 l.bindings k))
-
-abbrev pub decreases-loop-v : goal.decreases-loop-v
-decreases-loop-v l = l.end - l.v
+invariant-loop-v l = (k : ℕ) → k < l.v → BindingInForm l.limit (cells l.words) l.variables l.used (column 0 l.bindings k)

@@ -1,12 +1,7 @@
 -- `link_arguments` meets its contract. The loop's invariant: the first i pairs are linked, and there are no links below `floor`.
-use mathlib.Core.Path.{◌≡◌}
 use mathlib.Core.Bool.{true}
-use Prim.Native.Nat.{◌≤◌, ◌-◌, ◌+◌}
 use Rattle.arena.proofs.Linking.{Pairs}
 use Rattle.arena.proofs.links.link_arguments.Given as goal
 
 abbrev pub invariant-loop-i : goal.invariant-loop-i
-invariant-loop-i l = (l.left ≡ l.a + 1) × (l.right ≡ l.b + 1) × (l.end ≡ l.count) × (l.i ≤ l.count) × Pairs l.room l.words l.initial.links l.a l.b l.count l.low l.links l.i l.floor true
-
-abbrev pub decreases-loop-i : goal.decreases-loop-i
-decreases-loop-i l = l.count - l.i
+invariant-loop-i l = Pairs l.room l.words l.initial.links l.a l.b l.count l.low l.links l.i l.floor true

@@ -1,15 +1,8 @@
 -- `settle` meets its contract: each way out is one law.
 use mathlib.Core.Path.{refl}
-use Rattle.arena.proofs.Settling.{settle_none, settle_no, settle_clash, settle_linked, lower, room_for, arguments_linkable}
+use Rattle.arena.proofs.Settling.{settle_no, settle_clash, settle_linked, lower, room_for, arguments_linkable}
 use native.Mathlib.Omega.{arith}
 use Rattle.arena.proofs.links.settle.Goals as goal
-
-pub returns-then-next-eq0 : goal.returns-then-next-eq0
-returns-then-next-eq0 c =
-    let args = c.args in
-    let pre = c.requires in
-    let if1 = c.if-next-eq0 in
-    settle_none args.room args.words.now args.links.now args.variables args.used args.at pre.fact_1 pre.fact_2 args.same args.low if1.true
 
 pub overflow_sub-other-then-same : goal.overflow_sub-other-then-same
 overflow_sub-other-then-same c =
@@ -17,20 +10,6 @@ overflow_sub-other-then-same c =
     let pre = c.requires in
     let if1 = c.if-next-eq0 in
     omega (arith, room_for args.room args.words.now args.links.now args.variables args.used args.at pre.fact_1 pre.fact_2 _ _ refl if1.false refl)
-
-pub overflow_cast-other : goal.overflow_cast-other
-overflow_cast-other c =
-    let args = c.args in
-    let pre = c.requires in
-    let if1 = c.if-next-eq0 in
-    omega (arith, lower args.room args.words.now args.links.now args.variables args.used args.at pre.fact_1 pre.fact_2 _ _ refl if1.false refl, pre.fact_1.words_in_lem, pre.fact_2)
-
-pub offset_bounds-words-other : goal.offset_bounds-words-other
-offset_bounds-words-other c =
-    let args = c.args in
-    let pre = c.requires in
-    let if1 = c.if-next-eq0 in
-    omega (arith, lower args.room args.words.now args.links.now args.variables args.used args.at pre.fact_1 pre.fact_2 _ _ refl if1.false refl, pre.fact_1.words_in_lem, pre.fact_2)
 
 pub bounds-words-other : goal.bounds-words-other
 bounds-words-other c =

@@ -21,18 +21,18 @@ pub returns-then-bindings-most : goal.returns-then-bindings-most
 returns-then-bindings-most c =
     λ e. true_false e refl
 
-pub returns-then-not-are_zero_pairs : goal.returns-then-not-are_zero_pairs
-returns-then-not-are_zero_pairs c =
+pub returns-then-not-are_zero : goal.returns-then-not-are_zero
+returns-then-not-are_zero c =
     λ e. true_false e refl
 
-pub returns-then-not-are_zero_pairs-2 : goal.returns-then-not-are_zero_pairs-2
-returns-then-not-are_zero_pairs-2 c =
+pub returns-then-not-are_zero-2 : goal.returns-then-not-are_zero-2
+returns-then-not-are_zero-2 c =
     λ e. true_false e refl
 
 pub returns : goal.returns
 returns c =
     λ e. record {
-      scratch = zeros_scratch (c.are_zero_pairs.ensures.yes (c.if-not-are_zero_pairs.false)) (c.are_zero_pairs-2.ensures.yes (c.if-not-are_zero_pairs-2.false)) (c.are_zero_triples.ensures.yes e);
+      scratch = zeros_scratch (c.are_zero.ensures.yes (c.if-not-are_zero.false)) (c.are_zero-2.ensures.yes (c.if-not-are_zero-2.false)) (c.are_zero-3.ensures.yes e);
       lent_words = omega arith;
       lent_rows = omega arith;
       enough = omega arith;

@@ -1,11 +1,7 @@
 -- `check_values` meets its contract. The loop's invariant: the values of the variables passed are good.
-use Prim.Native.Nat.{ℕ, ◌-◌, ◌≤◌, ◌<◌}
-use lib.ListN.{length}
+use Prim.Native.Nat.{ℕ, ◌<◌}
 use Rattle.bindings.specs.Checking.{GoodValue}
 use Rattle.bindings.proofs.trails.check_values.Given as goal
 
 abbrev pub invariant-loop-v : goal.invariant-loop-v
-invariant-loop-v l = (l.v ≤ length l.b) × ((x : ℕ) → x < l.v → GoodValue l.room l.w l.b l.m l.variables l.used x)
-
-abbrev pub decreases-loop-v : goal.decreases-loop-v
-decreases-loop-v l = length l.b - l.v
+invariant-loop-v l = (x : ℕ) → x < l.v → GoodValue l.room l.w l.b l.m l.variables l.used x

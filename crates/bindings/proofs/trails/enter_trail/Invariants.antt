@@ -1,10 +1,6 @@
 -- `enter_trail` meets its contract. The loop's invariant: the first i entries are entered; each is in use, bound, and none stands twice.
-use Prim.Native.Nat.{◌-◌, ◌≤◌}
 use Rattle.bindings.specs.Checking.{Entering}
 use Rattle.bindings.proofs.trails.enter_trail.Given as goal
 
 abbrev pub invariant-loop-i : goal.invariant-loop-i
-invariant-loop-i l = (l.i ≤ l.k) × Entering l.b l.initial.m l.m l.variables l.i
-
-abbrev pub decreases-loop-i : goal.decreases-loop-i
-decreases-loop-i l = l.k - l.i
+invariant-loop-i l = Entering l.b l.initial.m l.m l.variables l.i

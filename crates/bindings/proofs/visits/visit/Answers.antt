@@ -1,6 +1,6 @@
 -- `visit` meets its contract: an unmarked reference is entered, and for it the list has room.
 use Rattle.bindings.specs.Entries.{entries_room}
-use Rattle.bindings.specs.Search.{mark_one, mark_none}
+use Rattle.bindings.specs.Search.{mark_one}
 use native.Mathlib.Omega.{arith}
 use Rattle.bindings.proofs.visits.visit.Goals as goal
 
@@ -28,6 +28,3 @@ returns-then-m-i-eq0 c =
     let if1 = c.if-m-i-eq0 in
     let enter = c.enter in
     mark_one _ _ args.t args.y pre.fact_1 pre.fact_2.0 pre.fact_2.1 if1.true enter.ensures
-
-pub returns : goal.returns
-returns c = mark_none _ _ c.args.t c.requires.fact_1 (λ y e. rw e c.if-m-i-eq0.false)

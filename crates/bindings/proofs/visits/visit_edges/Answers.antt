@@ -1,19 +1,12 @@
 -- `visit_edges` meets its contract: an unbound variable has no edge, a bound one has one, and a node has one for each argument.
 use Prim.Native.Nat.{◌≤◌}
-use Rattle.bindings.specs.Search.{edges_free, edges_bound, edges_arguments, row_in, value_in, node_in, argument_in}
-use native.Mathlib.Omega.{arith}
+use Rattle.bindings.specs.Search.{edges_free, edges_bound, edges_arguments, value_in, node_in, argument_in}
 use borrow.Author.Rules.{rules}
 use Rattle.bindings.proofs.visits.visit_edges.Goals as goal
-
-pub bounds-b-r : goal.bounds-b-r
-bounds-b-r c = row_in c.requires.fact_1 c.requires.fact_2 (search rules)
 
 pub returns-then-value-eq0 : goal.returns-then-value-eq0
 returns-then-value-eq0 c =
     edges_free c.requires.fact_1 c.requires.fact_2 _ c.args.t c.requires.fact_3 (search rules) c.if-value-eq0.true
-
-pub overflow_add-room : goal.overflow_add-room
-overflow_add-room c = let l = c.requires.fact_1.low in omega arith
 
 pub visit-requires : goal.visit-requires
 visit-requires c =
@@ -27,12 +20,6 @@ returns-then-r-room c =
     let if2 = c.if-value-eq0 in
     let visit = c.visit in
     edges_bound pre.fact_1 pre.fact_2 (search rules) if2.false visit.ensures
-
-pub bounds-w-a : goal.bounds-w-a
-bounds-w-a c = let n = node_in c.requires.fact_1 c.requires.fact_2 (search rules) in omega arith
-
-pub overflow_add-room-2 : goal.overflow_add-room-2
-overflow_add-room-2 c = let l = c.requires.fact_1.low in omega arith
 
 pub visit_args-requires : goal.visit_args-requires
 visit_args-requires c =

@@ -1,18 +1,10 @@
 -- `find_clause` meets its contract. The outer loop's invariant: no clause before i fits. The inner one's: matching what is left of the clause i, from the values that
--- the environment holds, comes to matching all of it. Both ways out of the outer loop meet behind it.
-use Prim.Native.Nat.{◌-◌}
-use lib.ListN.{length}
+-- the environment holds, comes to matching all of it.
 use Rattle.clause_matching.proofs.Choosing.{Choosing, Trying}
 use Rattle.clause_matching.proofs.choice.find_clause.Given as goal
 
 abbrev pub invariant-loop-k : goal.invariant-loop-k
-invariant-loop-k l = Trying l.rules l.pattern l.values l.words l.used l.initial.environment l.initial.links l.initial.stack l.initial.i l.base l.environment l.links l.stack l.i l.k
-
-abbrev pub decreases-loop-k : goal.decreases-loop-k
-decreases-loop-k l = length l.values - l.k
+invariant-loop-k l = Trying l.rules l.pattern l.values l.words l.used l.initial.environment l.initial.links l.initial.stack l.i l.base l.environment l.links l.stack l.k
 
 abbrev pub invariant-clauses : goal.invariant-clauses
 invariant-clauses l = Choosing l.rules l.pattern l.from l.end l.values l.words l.used l.initial.environment l.initial.links l.initial.stack l.environment l.links l.stack l.i
-
-abbrev pub decreases-clauses : goal.decreases-clauses
-decreases-clauses l = l.end - l.i

@@ -6,10 +6,6 @@ use Rattle.clause_matching.proofs.choice.pattern_at.Goals as goal
 pub returns-then-reference-lt-PATTERN_ROOM : goal.returns-then-reference-lt-PATTERN_ROOM
 returns-then-reference-lt-PATTERN_ROOM c = rw (less_yes c.if-reference-lt-PATTERN_ROOM.true)
 
--- src/choice.rt:27:17
-pub bounds-pattern-address : goal.bounds-pattern-address
-bounds-pattern-address c = c.requires.0 c.if-reference-lt-PATTERN_ROOM.false
-
 -- src/choice.rt:18:1
 pub returns : goal.returns
 returns c = rw (less_no c.if-reference-lt-PATTERN_ROOM.false)

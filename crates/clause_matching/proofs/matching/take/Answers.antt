@@ -1,10 +1,5 @@
-use native.Mathlib.Omega.{arith}
-use Rattle.clause_matching.proofs.Taking.{value_low, take_new, compare_ready, take_old}
+use Rattle.clause_matching.proofs.Taking.{take_new, compare_ready, take_old}
 use Rattle.clause_matching.proofs.matching.take.Goals as goal
-
--- src/matching.rt:26:26
-pub overflow_add-environment : goal.overflow_add-environment
-overflow_add-environment c = let l = value_low _ c.requires.0 c.requires.1 in omega arith
 
 -- src/matching.rt:27:9
 pub returns-then-old-eq0 : goal.returns-then-old-eq0

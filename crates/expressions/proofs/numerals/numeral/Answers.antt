@@ -1,28 +1,35 @@
 -- `numeral` meets its contract: one law for each way out.
+use native.Mathlib.Omega.{arith}
+use mathlib.Core.Path.{refl, sym}
 use mathlib.Core.List.{[]}
-use Rattle.expressions.proofs.Numbering.{no_zero, zero_predicate, no_succ, succ_predicate, numeral_refused, tower_asked, numeral_built}
+use Rattle.clause_matching.proofs.Forming.{passed_on}
+use Rattle.expressions.proofs.Misuses.{found_wrong, found_nothing}
+use Rattle.expressions.proofs.Numbering.{no_zero, no_succ, check_asked, numeral_refused, tower_asked, numeral_built}
 use Rattle.expressions.proofs.numerals.numeral.Goals as goal
 
-pub returns-then-count-z : goal.returns-then-count-z
-returns-then-count-z c = no_zero _ _ c.requires c.find_symbol-z.ensures c.if-count-z.true
+pub returns-in_err-z : goal.returns-in_err-z
+returns-in_err-z c = rw (passed_on c.from_residual.result c.from_residual.ensures.1) (no_zero _ _ c.requires c.find_constructor.ensures c.in_err-z.was)
 
-pub returns-then-symbols-z-eq0 : goal.returns-then-symbols-z-eq0
-returns-then-symbols-z-eq0 c = zero_predicate _ _ c.requires c.find_symbol-z.ensures c.if-count-z.false c.if-symbols-z-eq0.true
+pub returns-in_err-y : goal.returns-in_err-y
+returns-in_err-y c =
+    rw (passed_on c.from_residual-in_err-y.result c.from_residual-in_err-y.ensures.1) (no_succ _ _ c.requires c.find_constructor-2.ensures c.in_err-y.was)
 
-pub returns-then-count-y : goal.returns-then-count-y
-returns-then-count-y c = no_succ _ _ c.requires c.find_symbol-z.ensures c.if-count-z.false c.find_symbol-y.ensures c.if-count-y.true
+pub check_numeral-requires : goal.check_numeral-requires
+check_numeral-requires c = check_asked _ c.args.n c.requires c.find_constructor.ensures c.in_ok-z.was c.find_constructor-2.ensures c.in_ok-y.was
 
-pub returns-then-symbols-y-eq0 : goal.returns-then-symbols-y-eq0
-returns-then-symbols-y-eq0 c = succ_predicate _ _ c.requires c.find_symbol-z.ensures c.if-count-z.false c.find_symbol-y.ensures c.if-count-y.false c.if-symbols-y-eq0.true
-
-pub numeral_misuse-e-requires : goal.numeral_misuse-e-requires
-numeral_misuse-e-requires c = (c.requires.lent, c.if-count-y.false, c.if-count-z.false, c.requires.deep)
-
-pub returns-then-e-ne0 : goal.returns-then-e-ne0
-returns-then-e-ne0 c = numeral_refused _ _ c.requires c.find_symbol-z.ensures c.if-count-z.false c.find_symbol-y.ensures c.if-count-y.false c.if-symbols-z-eq0.false c.if-symbols-y-eq0.false c.numeral_misuse-e.ensures c.if-e-ne0.true
+pub returns-in_err-check_numeral : goal.returns-in_err-check_numeral
+returns-in_err-check_numeral c =
+    rw (passed_on c.from_residual-in_err-check_numeral.result c.from_residual-in_err-check_numeral.ensures.1)
+    (numeral_refused _ _ c.requires c.find_constructor.ensures c.in_ok-z.was c.find_constructor-2.ensures c.in_ok-y.was
+    (λ l t s. (found_wrong (c.check_numeral.ensures l t s) c.in_err-check_numeral.was).0) refl
+    (λ z. let w = found_wrong (c.check_numeral.ensures 0 [] []) c.in_err-check_numeral.was in omega arith))
 
 pub tower-requires : goal.tower-requires
-tower-requires c = tower_asked _ _ c.requires c.find_symbol-z.ensures c.if-count-z.false c.find_symbol-y.ensures c.if-count-y.false c.if-symbols-z-eq0.false c.if-symbols-y-eq0.false c.numeral_misuse-e.ensures [] c.if-e-ne0.false
+tower-requires c =
+    tower_asked _ _ c.requires c.find_constructor.ensures c.in_ok-z.was c.find_constructor-2.ensures c.in_ok-y.was
+    (λ l t s. sym (found_nothing (c.check_numeral.ensures l t s) c.in_ok-check_numeral.was)) [] refl
 
 pub returns : goal.returns
-returns c = numeral_built _ _ c.requires c.find_symbol-z.ensures c.if-count-z.false c.find_symbol-y.ensures c.if-count-y.false c.if-symbols-z-eq0.false c.if-symbols-y-eq0.false c.numeral_misuse-e.ensures [] c.if-e-ne0.false c.tower.ensures
+returns c =
+    numeral_built _ _ c.requires c.find_constructor.ensures c.in_ok-z.was c.find_constructor-2.ensures c.in_ok-y.was
+    (λ l t s. sym (found_nothing (c.check_numeral.ensures l t s) c.in_ok-check_numeral.was)) [] refl c.tower.ensures

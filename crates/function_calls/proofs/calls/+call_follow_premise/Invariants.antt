@@ -1,7 +1,5 @@
 -- `call`, `follow` and `premise` meet their contracts. What falls is 130 less the depth. The loop's invariant of `follow`: the premises that are left, from the values that
 -- the environment holds, come to all of them.
-use mathlib.Core.Path.{◌≡◌}
-use Rattle.names.specs.Symbols.{column, row_at}
 use Rattle.function_calls.proofs.Following.{Turn}
 use Prim.Native.Nat.{◌-◌, ◌*◌}
 use Rattle.function_calls.proofs.calls.+call_follow_premise.Given as goal
@@ -16,7 +14,4 @@ abbrev pub decreases-premise : goal.decreases-premise
 decreases-premise l = 3 * (130 - l.depth) - 2
 
 abbrev pub invariant-follow-loop-j : goal.invariant-follow-loop-j
-invariant-follow-loop-j l = (l.premises ≡ column (row_at l.rules l.rule) 4) × Turn l.symbols l.rules l.pattern l.rule l.depth l.height l.calls l.used l.limit l.initial.environment l.initial.words l.initial.links l.initial.trees l.initial.stack l.environment l.words l.links l.trees l.stack l.made l.spent l.j
-
-abbrev pub decreases-follow-loop-j : goal.decreases-follow-loop-j
-decreases-follow-loop-j l = l.premises - l.j
+invariant-follow-loop-j l = Turn l.symbols l.rules l.pattern l.rule l.depth l.height l.calls l.used l.limit l.initial.environment l.initial.words l.initial.links l.initial.trees l.initial.stack l.environment l.words l.links l.trees l.stack l.made l.spent l.j

@@ -1,19 +1,22 @@
 -- `digit` meets its contract: by the byte at the place.
-use mathlib.Core.Path.{sym}
-use Rattle.listing.specs.RecordedLaws.{digit_past, digit_low, digit_high, digit_is}
+use mathlib.Core.Path.{sym, ap, ◌∙◌}
+use lib.ListN.{get_or}
+use Prim.Native.Nat.{◌-◌, ◌<◌}
+use Rattle.listing.specs.Recorded.{read_digit}
+use Rattle.listing.specs.RecordedLaws.{digit_past, digit_none, digit_is, read_small}
+use borrow.Author.Rules.{rules}
 use native.Mathlib.Omega.{arith}
 use Rattle.listing.proofs.recorded.digit.Goals as goal
 
 pub returns-then-list-at : goal.returns-then-list-at
-returns-then-list-at c = record { is = sym (digit_past (c.args.list.now) (c.args.at) (c.if-list-at.true)); small = omega arith }
+returns-then-list-at c = record { is = ap read_digit (sym (digit_past c.args.list.now c.args.at c.if-list-at.true)); small = search rules }
 
-pub returns-then-c-lt48 : goal.returns-then-c-lt48
-returns-then-c-lt48 c = record { is = sym (digit_low (c.args.list.now) (c.args.at) (c.if-c-lt48.true)); small = omega arith }
-
-pub returns-then-c-gt57 : goal.returns-then-c-gt57
-returns-then-c-gt57 c =
-    record { is = sym (digit_high (c.args.list.now) (c.args.at) (c.if-c-gt57.true)); small = omega arith }
+pub returns-then-not-is_ascii_digit : goal.returns-then-not-is_ascii_digit
+returns-then-not-is_ascii_digit c =
+    record { is = ap read_digit (sym (digit_none c.args.list.now c.args.at (sym c.is_ascii_digit.ensures.value ∙ c.if-not-is_ascii_digit.true))); small = search rules }
 
 pub returns : goal.returns
 returns c =
-    record { is = sym (digit_is (c.args.list.now) (c.args.at) (c.if-c-lt48.false) (c.if-c-gt57.false)); small = omega arith }
+    let d = digit_is c.args.list.now c.args.at (sym c.is_ascii_digit.ensures.value ∙ c.if-not-is_ascii_digit.false) in
+    let small : get_or c.args.list.now c.args.at 0 - 48 < 10 = grind (arith, c.is_ascii_digit.ensures.cases, c.if-not-is_ascii_digit.false) in
+    record { is = rw c.from.ensures (read_small _ small ∙ ap read_digit (sym d)); small = omega (arith, c.from.ensures) }

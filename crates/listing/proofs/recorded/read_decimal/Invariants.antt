@@ -6,7 +6,4 @@ use Rattle.listing.specs.Recorded.{decimal_from, decimal_at}
 use Rattle.listing.proofs.recorded.read_decimal.Given as goal
 
 abbrev pub invariant-loop-i : goal.invariant-loop-i
-invariant-loop-i l = (l.i ≤ 20) × (l.value ≤ 1048576) × (decimal_from (20 - l.i) l.list (l.at + l.i) l.value ≡ decimal_at l.list l.at)
-
-abbrev pub decreases-loop-i : goal.decreases-loop-i
-decreases-loop-i l = 20 - l.i
+invariant-loop-i l = (l.value ≤ 1048576) × (decimal_from (20 - l.i) l.list (l.at + l.i) l.value ≡ decimal_at l.list l.at)

@@ -1,46 +1,48 @@
 -- `all_binders` meets its contract.
-use Prim.Native.Nat.{◌-◌}
+use mathlib.Core.Path.{ap, ◌∙◌}
+use Rattle.std.specs.Prelude.{Ok}
+use Rattle.term_parser.specs.Steps.{maybe_step}
 use native.Mathlib.Omega.{arith}
 use Rattle.term_parser.specs.Parsing.{last_line}
 use Rattle.parser.specs.Declarations.{binders_of}
 use Rattle.parser.specs.Rows.{binders_rows}
-use Rattle.term_parser.proofs.Readers.{moved, loop_start, loop_turn}
+use Rattle.term_parser.proofs.Readers.{maybe_exits, moved, loop_start, loop_turn}
 use Rattle.term_parser.proofs.TermLaws.{room_on}
 use Rattle.term_parser.proofs.ListLaws.{list_absent, list_refused}
 use Rattle.parser.proofs.declarations.all_binders.Goals as goal
 
-pub loop-q-init : goal.loop-q-init
-loop-q-init c = loop_start (binders_of (last_line c.args.tokens.now)) binders_rows c.args.tokens.now _ _ 0 _ c.requires.here
+pub loop-more-init : goal.loop-more-init
+loop-more-init c = loop_start (binders_of (last_line c.args.tokens.now)) binders_rows c.args.tokens.now _ _ 0 _ c.requires.here
 
 pub binders-requires : goal.binders-requires
-binders-requires c = room_on c.requires _ _ _ c.loop-q.invariant.to (omega (arith, c.loop-q.invariant.fits)) c.loop-q.invariant.long
+binders-requires c = room_on c.requires _ _ _ c.loop-more.invariant.to (omega (arith, c.loop-more.invariant.fits)) c.loop-more.invariant.long
 
 pub overflow_add-n : goal.overflow_add-n
 overflow_add-n c =
-    let loop = c.loop-q in
+    let loop = c.loop-more in
     let pre = c.requires in
     omega (arith, loop.invariant.few, loop.invariant.to, pre.small)
 
-pub loop-q-smaller : goal.loop-q-smaller
-loop-q-smaller c = let m = moved c.binders.ensures c.in-At.is in omega (arith, m)
+pub loop-more-smaller : goal.loop-more-smaller
+loop-more-smaller c = let m = moved c.binders.ensures (ap maybe_step (c.in_ok-more.was ∙ ap Ok c.in-Some.is)) in omega (arith, m)
 
-pub loop-q-preserved : goal.loop-q-preserved
-loop-q-preserved c =
+pub loop-more-preserved : goal.loop-more-preserved
+loop-more-preserved c =
     let args = c.args in
-    let loop = c.loop-q in
+    let loop = c.loop-more in
     let binders = c.binders in
-    loop_turn (binders_of (last_line args.tokens.now)) binders_rows args.tokens.now loop.invariant binders.ensures c.in-At.is binders.auto.out
+    loop_turn (binders_of (last_line args.tokens.now)) binders_rows args.tokens.now loop.invariant binders.ensures (ap maybe_step (c.in_ok-more.was ∙ ap Ok c.in-Some.is)) binders.auto.out
 
-pub returns-in-Absent : goal.returns-in-Absent
-returns-in-Absent c =
+pub returns : goal.returns
+returns c =
     let args = c.args in
-    let loop = c.loop-q in
+    let loop = c.loop-more in
     let binders = c.binders in
-    list_absent (binders_of (last_line args.tokens.now)) binders_rows args.tokens.now loop.invariant binders.ensures c.in-Absent.is
+    list_absent (binders_of (last_line args.tokens.now)) binders_rows args.tokens.now loop.invariant binders.ensures (ap maybe_step (c.in_ok-more.was ∙ ap Ok c.in_default.is))
 
-pub returns-in-Refused : goal.returns-in-Refused
-returns-in-Refused c =
+pub returns-in_err-more : goal.returns-in_err-more
+returns-in_err-more c =
     let args = c.args in
-    let loop = c.loop-q in
+    let loop = c.loop-more in
     let binders = c.binders in
-    list_refused (binders_of (last_line args.tokens.now)) binders_rows args.tokens.now loop.invariant binders.ensures c.in-Refused.is
+    rw (maybe_exits _ _ c.in_err-more.was c.from_residual.ensures.1, ap maybe_step c.in_err-more.was) (list_refused (binders_of (last_line args.tokens.now)) binders_rows args.tokens.now loop.invariant binders.ensures (ap maybe_step c.in_err-more.was))

@@ -7,8 +7,8 @@ use Rattle.parser.specs.Rows.{clause_rows}
 use Rattle.term_parser.proofs.Readers.{Looped}
 use Rattle.parser.proofs.declarations.clauses.Given as goal
 
-abbrev pub invariant-loop-q : goal.invariant-loop-q
-invariant-loop-q l = Looped (clause_of l.text (last_line l.tokens)) clause_rows l.tokens l.at l.used 0 l.initial.out l.p l.u l.n l.out
+abbrev pub invariant-loop-more : goal.invariant-loop-more
+invariant-loop-more l = Looped (clause_of l.text (last_line l.tokens)) clause_rows l.tokens l.at l.used 0 l.initial.out l.p l.u l.n l.out
 
-abbrev pub decreases-loop-q : goal.decreases-loop-q
-decreases-loop-q l = length l.tokens - l.p
+abbrev pub decreases-loop-more : goal.decreases-loop-more
+decreases-loop-more l = length l.tokens - l.p

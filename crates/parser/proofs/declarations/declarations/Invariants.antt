@@ -7,8 +7,8 @@ use Rattle.parser.specs.Rows.{declared_rows}
 use Rattle.term_parser.proofs.Readers.{Looped}
 use Rattle.parser.proofs.declarations.declarations.Given as goal
 
-abbrev pub invariant-loop-q : goal.invariant-loop-q
-invariant-loop-q l = Looped (declaration_of l.text (last_line l.tokens)) declared_rows l.tokens 0 0 0 l.initial.out l.p l.u l.n l.out
+abbrev pub invariant-loop-more : goal.invariant-loop-more
+invariant-loop-more l = Looped (declaration_of l.text (last_line l.tokens)) declared_rows l.tokens 0 0 0 l.initial.out l.p l.u l.n l.out
 
-abbrev pub decreases-loop-q : goal.decreases-loop-q
-decreases-loop-q l = length l.tokens - l.p
+abbrev pub decreases-loop-more : goal.decreases-loop-more
+decreases-loop-more l = length l.tokens - l.p

@@ -1,6 +1,5 @@
 -- `is_prop` meets its contract.
 use mathlib.Core.Path.{ap, ◌∙◌}
-use Prim.Native.Nat.{◌-◌}
 use Rattle.source_text.specs.Bytes.{same_bytes}
 use Rattle.parser.specs.Declarations.{prop_name}
 use Rattle.parser.proofs.declarations.is_prop.Goals as goal

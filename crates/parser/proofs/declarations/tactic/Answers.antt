@@ -30,9 +30,8 @@ returns-then-peek-ne-BY c =
     let if1 = c.if-peek-ne-DEFINES in
     let if2 = c.if-peek-ne-BY in
     let peek2 = c.peek-2 in
-    let line = c.line in
-    no_by args.tokens.now args.at args.used _ (sym (ap (λ x. x.kind) peek.ensures)
-    ∙ if1.false) (λ e. if2.true (ap (λ x. x.kind) peek2.ensures ∙ e)) line.ensures
+    rw c.rejection.ensures (no_by args.tokens.now args.at args.used _ (sym (ap (λ x. x.kind) peek.ensures)
+    ∙ if1.false) (λ e. if2.true (ap (λ x. x.kind) peek2.ensures ∙ e)) refl)
 
 pub overflow_add-at-2 : goal.overflow_add-at-2
 overflow_add-at-2 c = omega (arith, c.requires.here, c.requires.small)
@@ -94,7 +93,6 @@ returns c =
     let if3 = c.if-k-eq-AUTO in
     let peek3 = c.peek-k in
     let if4 = c.if-k-eq-INDUCTION in
-    let line2 = c.line-2 in
-    neither args.tokens.now args.at args.used _ (sym (ap (λ x. x.kind) peek.ensures)
+    rw c.rejection-2.ensures (neither args.tokens.now args.at args.used _ (sym (ap (λ x. x.kind) peek.ensures)
     ∙ if1.false) (sym (ap (λ x. x.kind) peek2.ensures)
-    ∙ if2.false) (λ e. if3.false (ap (λ x. x.kind) peek3.ensures ∙ e)) (λ e. if4.false (ap (λ x. x.kind) peek3.ensures ∙ e)) line2.ensures
+    ∙ if2.false) (λ e. if3.false (ap (λ x. x.kind) peek3.ensures ∙ e)) (λ e. if4.false (ap (λ x. x.kind) peek3.ensures ∙ e)) refl)

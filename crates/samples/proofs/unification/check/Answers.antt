@@ -10,4 +10,4 @@ overflow_add-used c =
 pub check_bindings-answer-requires : goal.check_bindings-answer-requires
 check_bindings-answer-requires c =
     let s = c.are_terms.ensures.yes (c.if-not-are_terms.false) in
-    record { fact_1 = s.formed; fact_2 = (s.few, s.low, s.lent); fact_3 = zeros_free (c.are_zero_pairs.ensures.yes (c.if-not-are_zero_pairs.false)) }
+    record { fact_1 = s.formed; fact_2 = (s.few, s.low, s.lent); fact_3 = zeros_free (c.are_zero.ensures.yes (c.if-not-are_zero.false)) }

@@ -1,14 +1,12 @@
 -- `frame_at` meets its contract: the row's eight numbers, or zeros past the end.
-use mathlib.Core.Path.{refl, sym, ap}
-use mathlib.Core.List.{[]}
-use lib.ListN.{get_or-eq_default}
+use Rattle.std.proofs.Common.{[], ap, ◌∙◌, le_refl}
 use Rattle.search_machine.specs.State.{frame_at, frame_of}
 use Rattle.search_machine.proofs.frames.frame_at.Goals as goal
 
-pub returns-then-k-frames : goal.returns-then-k-frames
+pub returns-in-Some : goal.returns-in-Some
 unfolding frame_at
-returns-then-k-frames c = refl
+returns-in-Some c = c.from.ensures ∙ ap frame_of (c.in-Some.ensures.lookup.3.1 [])
 
-pub returns : goal.returns
+pub returns-in-None : goal.returns-in-None
 unfolding frame_at
-returns c = sym (ap frame_of (get_or-eq_default c.args.frames.now [] c.if-k-frames.false))
+returns-in-None c = c.from-in-None.ensures ∙ ap frame_of (c.in-None.ensures.lookup.4 (le_refl _) [])

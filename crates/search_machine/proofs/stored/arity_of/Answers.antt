@@ -1,15 +1,12 @@
 -- `arity_of` meets its contract: column 4 of the row, or 0 past the end.
-use mathlib.Core.Path.{refl, sym, ap}
-use mathlib.Core.List.{List, []}
-use Prim.Native.Nat.{ℕ}
-use lib.ListN.{get_or, get_or-eq_default}
+use borrow.Author.Rules.{rules}
 use Rattle.search_machine.specs.State.{arity}
 use Rattle.search_machine.proofs.stored.arity_of.Goals as goal
 
-pub returns-then-k-rules : goal.returns-then-k-rules
+pub returns-in-Some : goal.returns-in-Some
 unfolding arity
-returns-then-k-rules c = refl
+returns-in-Some c = let h = c.in-Some.ensures.lookup in search rules
 
-pub returns : goal.returns
+pub returns-in-None : goal.returns-in-None
 unfolding arity
-returns c = sym (ap (λ (row : List ℕ). get_or row 4 0) (get_or-eq_default c.args.rules.now [] c.if-k-rules.false))
+returns-in-None c = let h = c.in-None.ensures.lookup in search rules

@@ -8,7 +8,7 @@ try_rule-requires c = parts_asked
     c.requires
     (search rules) c.stored_in-stored.ensures
 
-pub returns : goal.returns
-returns c = parts_tried
+pub returns-clause-tried : goal.returns-clause-tried
+returns-clause-tried c = parts_tried
     c.requires (search rules)
     c.stored_in-stored.ensures c.try_rule.ensures

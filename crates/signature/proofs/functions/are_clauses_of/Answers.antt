@@ -1,70 +1,36 @@
--- `are_clauses_of` meets its contract.
--- The loop's invariant: the first j clauses are in form.
-use Prim.Native.Nat.{◌+◌, ◌-◌}
-use borrow.Author.Count.{below_more}
-use Rattle.unifier.specs.Checking.{tells_yes, tells_no, tells_false}
-use Rattle.names.specs.Symbols.{column, row_at, symbols_of}
+-- `are_clauses_of` meets its contract: the clauses are the rules from the symbol's first one on.
+use Rattle.std.proofs.Common.{◌+◌, length, arith, below_more}
+use Rattle.names.specs.Symbols.{row_at, column, symbols_of}
 use Rattle.rule_checks.specs.RuleForm.{rule_in}
+use Rattle.unifier.specs.Checking.{tells_yes, tells_no, tells_false}
 use Rattle.loader.specs.Legal.{ClauseFormed}
 use Rattle.signature.proofs.Laws.{holds}
-use borrow.Author.Rules.{rules}
-use native.Mathlib.Omega.{arith}
+use Rattle.signature.proofs.UsedLaws.{part_length, part_row}
 use Rattle.signature.proofs.functions.are_clauses_of.Goals as goal
-
-pub overflow_cast-first-2 : goal.overflow_cast-first-2
-overflow_cast-first-2 c =
-    let w = c.requires.0.within c.args.i c.requires.1 in
-    let l = c.requires.0.rules_lent in
-    omega arith
-
-pub overflow_cast-n-2 : goal.overflow_cast-n-2
-overflow_cast-n-2 c =
-    let w = c.requires.0.within c.args.i c.requires.1 in
-    let l = c.requires.0.rules_lent in
-    omega arith
-
-pub loop-j-init : goal.loop-j-init
-loop-j-init c = (omega arith, λ text a l. absurd (omega arith))
-
-pub overflow_add-first : goal.overflow_add-first
-overflow_add-first c =
-    let pre = c.requires in
-    let args = c.args in
-    let loop-test = c.loop-j-test in
-    let w = pre.0.within args.i pre.1 in
-    let l = pre.0.rules_lent in
-    omega (arith, loop-test.true)
-
-pub is_clause-requires : goal.is_clause-requires
-is_clause-requires c =
-    let pre = c.requires in
-    let args = c.args in
-    let loop-test = c.loop-j-test in
-    let w = pre.0.within args.i pre.1 in
-    let l = pre.0.rules_lent in
-    let t = loop-test.true in
-    (omega arith, pre.0.premises _ (omega arith), pre.0.symbols_lent)
 
 pub returns-then-not-is_clause : goal.returns-then-not-is_clause
 returns-then-not-is_clause c =
-    λ text. tells_no (λ h. tells_false (c.is_clause.ensures text) (c.if-not-is_clause.true) (h c.loop-j.j c.loop-j-test.true))
+    let row = row_at c.args.symbols.now c.args.i in
+    let rules = c.args.rules.now in
+    let w = c.requires.0.within c.args.i c.requires.1 in
+    let n = part_length rules (column row 4) (column row 4 + column row 5) w in
+    let e = part_row rules (column row 4) (column row 4 + column row 5) c.loop-rule.rule-index (omega (arith, c.loop-rule-test.true)) in
+    λ text. tells_no (λ h. tells_false (c.is_clause.ensures text) c.if-not-is_clause.true (rw e (h c.loop-rule.rule-index (omega (arith, c.loop-rule-test.true)))))
 
-pub overflow_add-j : goal.overflow_add-j
-overflow_add-j c =
-    let pre = c.requires in
-    let args = c.args in
-    let loop-test = c.loop-j-test in
-    let w = pre.0.within args.i pre.1 in
-    let l = pre.0.rules_lent in
-    omega (arith, loop-test.true)
-
-pub loop-j-preserved : goal.loop-j-preserved
-loop-j-preserved c =
-    let args = c.args in
-    let loop = c.loop-j in
-    let is-clause = c.is_clause in
-    let if1 = c.if-not-is_clause in
-    (omega arith, λ text. below_more (λ a. ClauseFormed (symbols_of text args.symbols.now args.m) args.i (rule_in text args.words.now (row_at args.rules.now (column (row_at args.symbols.now args.i) 4 + a)))) loop.j (loop.invariant.1 text) (holds (is-clause.ensures text) if1.false-raw))
+pub loop-rule-preserved : goal.loop-rule-preserved
+loop-rule-preserved c =
+    let symbols = c.args.symbols.now in
+    let row = row_at symbols c.args.i in
+    let rules = c.args.rules.now in
+    let w = c.requires.0.within c.args.i c.requires.1 in
+    let n = part_length rules (column row 4) (column row 4 + column row 5) w in
+    let e = part_row rules (column row 4) (column row 4 + column row 5) c.loop-rule.rule-index (omega (arith, c.loop-rule-test.true)) in
+    λ text. below_more (λ a. ClauseFormed (symbols_of text symbols (length symbols)) c.args.i (rule_in text c.args.words.now (row_at rules (column row 4 + a)))) c.loop-rule.rule-index (c.loop-rule.invariant text)
+    (rw e at (holds (c.is_clause.ensures text) c.if-not-is_clause.false-raw))
 
 pub returns : goal.returns
-returns c = λ text. tells_yes (λ a l. c.loop-j.invariant.1 text a (omega (arith, c.loop-j-test.false)))
+returns c =
+    let row = row_at c.args.symbols.now c.args.i in
+    let w = c.requires.0.within c.args.i c.requires.1 in
+    let n = part_length c.args.rules.now (column row 4) (column row 4 + column row 5) w in
+    λ text. tells_yes (λ a l. c.loop-rule.invariant text a (omega (arith, c.loop-rule-test.false)))

@@ -1,31 +1,26 @@
 -- `is_call` meets its contract: a node is a call where its symbol's row has the function mark.
 -- The ways out are a variable, a symbol that is not there, and a row.
+use Rattle.std.proofs.Common.{◌≡◌, ◌<◌, ◌≤◌, length, sym, ◌∙◌, arith, le_refl}
+use borrow.Author.Tests.{ltb-true}
+use Rattle.names.specs.Symbols.{row_at, symbols_of}
+use Rattle.names.specs.SearchLaws.{get_d_any}
 use Rattle.unifier.specs.Checking.{tells_no}
-use Rattle.names.specs.Symbols.{symbols_of}
 use Rattle.signature.proofs.ClauseLaws.{no_call, past_call, call_told}
-use native.Mathlib.Omega.{arith}
 use Rattle.signature.proofs.functions.is_call.Goals as goal
 
 pub returns-then-reference-lt-ROOM : goal.returns-then-reference-lt-ROOM
 returns-then-reference-lt-ROOM c =
-    let args = c.args in
-    let if1 = c.if-reference-lt-ROOM in
-    λ text. tells_no (λ h. no_call args.words.now args.reference (symbols_of text args.symbols.now args.m) (omega (arith, if1.true)) h)
+    λ text. tells_no (λ h. no_call c.args.words.now c.args.reference (symbols_of text c.args.symbols.now (length c.args.symbols.now)) c.if-reference-lt-ROOM.true h)
 
-pub returns-then-m-f : goal.returns-then-m-f
-returns-then-m-f c =
-    let args = c.args in
-    let symbol-at = c.symbol_at-f in
-    let pre = c.requires in
-    let if1 = c.if-reference-lt-ROOM in
-    let if2 = c.if-m-f in
-    λ text. tells_no (λ h. past_call text args.words.now args.reference args.symbols.now args.m symbol-at.result pre (omega (arith, if1.false)) symbol-at.ensures (omega (arith, if2.true)) h)
+pub returns-in-Some : goal.returns-in-Some
+returns-in-Some c =
+    let rows = c.args.symbols.now in
+    let l : c.symbol_at.result < length rows = ltb-true _ _ (sym c.in-Some.ensures.lookup.0) in
+    let e : c.in-Some.symbol.now ≡ row_at rows c.symbol_at.result = c.in-Some.ensures.lookup.1 ∙ get_d_any rows _ _ _ l in
+    λ text. rw e (call_told text c.args.words.now c.args.reference rows (length rows) c.symbol_at.result (le_refl _) c.if-reference-lt-ROOM.false c.symbol_at.ensures l)
 
-pub returns : goal.returns
-returns c =
-    let args = c.args in
-    let symbol-at = c.symbol_at-f in
-    let pre = c.requires in
-    let if1 = c.if-reference-lt-ROOM in
-    let if2 = c.if-m-f in
-    λ text. call_told text args.words.now args.reference args.symbols.now args.m symbol-at.result pre (omega (arith, if1.false)) symbol-at.ensures (omega (arith, if2.false))
+pub returns-in-None : goal.returns-in-None
+returns-in-None c =
+    let rows = c.args.symbols.now in
+    let l : length rows ≤ c.symbol_at.result = search (arith, c.in-None.ensures.lookup.0) in
+    λ text. tells_no (λ h. past_call text c.args.words.now c.args.reference rows (length rows) c.symbol_at.result (le_refl _) c.if-reference-lt-ROOM.false c.symbol_at.ensures l h)

@@ -1,6 +1,6 @@
 -- `same` meets its contract. The loop's invariant: from place i on both words are equal.
 use mathlib.Core.Path.{◌≡◌}
-use Prim.Native.Nat.{◌≤◌, ◌-◌}
+use Prim.Native.Nat.{◌≤◌}
 use lib.ListN.{length, drop}
 use Rattle.source_text.proofs.bytes.same.Given as goal
 

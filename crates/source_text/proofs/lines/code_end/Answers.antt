@@ -1,6 +1,5 @@
 -- `code_end` meets its contract. The loop's invariant: the code's end is as far from i as the end of the code that starts at i.
 use mathlib.Core.Path.{refl, sym, ◌∙◌}
-use Prim.Native.Nat.{◌-◌}
 use Rattle.source_text.proofs.Scans.{code_next, code_stop, code_past}
 use borrow.Author.Rules.{rules}
 use native.Mathlib.Omega.{arith}

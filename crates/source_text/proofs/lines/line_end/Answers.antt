@@ -1,6 +1,5 @@
 -- `line_end` meets its contract. The loop's invariant: the line's end is as far from i as the end of the line that starts at i.
 use mathlib.Core.Path.{refl}
-use Prim.Native.Nat.{◌-◌}
 use Rattle.source_text.proofs.Scans.{line_next, line_stop, line_end_lem}
 use borrow.Author.Rules.{rules}
 use native.Mathlib.Omega.{arith}

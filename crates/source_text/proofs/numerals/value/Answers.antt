@@ -1,47 +1,42 @@
--- `value` meets its contract. The loop's invariant: the word's numeral is the one whose first digits make v and whose other bytes stand from place i on.
-use mathlib.Core.Path.{sym, ◌∙◌}
-use Prim.Native.Nat.{◌-◌}
-use Rattle.source_text.proofs.Numbers.{numeral_empty, numeral_start, numeral_not, numeral_next, numeral_over, numeral_end, digits_low, digits_high}
+-- `value` meets its contract: each way out is the numeral from the loop's place on.
+use mathlib.Core.Path.{◌≡◌, sym, ap, ◌∙◌}
+use mathlib.Core.Bool.{true}
+use Prim.Native.Nat.{ℕ, ◌+◌, ◌-◌, ◌*◌}
+use lib.ListN.{get_or, drop}
 use borrow.Author.Rules.{rules}
+use borrow.Author.Tests.{eqb-true, eq-eqb}
 use native.Mathlib.Omega.{arith}
+use Rattle.source_text.specs.Bytes.{within}
+use Rattle.source_text.proofs.Numbers.{numeral_empty, numeral_start, numeral_not, numeral_next, numeral_over, numeral_end, numeral_from}
 use Rattle.source_text.proofs.numerals.value.Goals as goal
 
-pub returns-then-w-eq0 : goal.returns-then-w-eq0
-returns-then-w-eq0 c = sym (numeral_empty _ c.if-w-eq0.true)
+pub returns-then-is_empty : goal.returns-then-is_empty
+returns-then-is_empty c = sym (numeral_empty c.args.w.now (eqb-true _ _ (sym c.is_empty.ensures ∙ c.if-is_empty.true)))
 
-pub loop-i-init : goal.loop-i-init
-loop-i-init c = (search rules, search rules, numeral_start _ c.if-w-eq0.false)
+pub loop-c-init : goal.loop-c-init
+loop-c-init c = (omega arith, numeral_start c.args.w.now (λ e. let z : ◌≡◌ {A = ℕ} 0 1 = grind (arith, eq-eqb _ _ e) in omega arith))
 
-pub returns-then-c-lt48 : goal.returns-then-c-lt48
-returns-then-c-lt48 c =
-    let loop = c.loop-i in
-    let loop-test = c.loop-i-test in
-    let if2 = c.if-c-lt48 in
-    sym (loop.invariant.2 ∙ numeral_not _ loop.i loop-test.true _ (digits_low _ loop.i loop-test.true if2.true))
+pub returns-then-not-is_ascii_digit : goal.returns-then-not-is_ascii_digit
+returns-then-not-is_ascii_digit c =
+    sym (c.loop-c.invariant.1 ∙ numeral_not c.args.w.now c.loop-c.c-index c.loop-c.v c.loop-c-test.true (sym c.is_ascii_digit.ensures.value ∙ c.if-not-is_ascii_digit.true))
 
-pub returns-then-c-gt57 : goal.returns-then-c-gt57
-returns-then-c-gt57 c =
-    let loop = c.loop-i in
-    let loop-test = c.loop-i-test in
-    let if3 = c.if-c-gt57 in
-    sym (loop.invariant.2 ∙ numeral_not _ loop.i loop-test.true _ (digits_high _ loop.i loop-test.true if3.true))
+pub returns-in_err-checked_mul : goal.returns-in_err-checked_mul
+returns-in_err-checked_mul c =
+    let e : within 48 57 (get_or c.args.w.now c.loop-c.c-index 0) ≡ true = sym c.is_ascii_digit.ensures.value ∙ c.if-not-is_ascii_digit.false in
+    c.from_residual.ensures ∙ sym (c.loop-c.invariant.1 ∙ numeral_over c.args.w.now c.loop-c.c-index c.loop-c.v c.loop-c-test.true e (omega (arith, c.in_err-checked_mul.ensures)))
 
-pub returns-then-d-v : goal.returns-then-d-v
-returns-then-d-v c =
-    let loop = c.loop-i in
-    let args = c.args in
-    let loop-test = c.loop-i-test in
-    let if2 = c.if-c-lt48 in
-    let if3 = c.if-c-gt57 in
-    sym (loop.invariant.2 ∙ numeral_over args.w.now loop.i loop-test.true loop.v if2.false if3.false (omega arith))
+pub returns-in_err-v : goal.returns-in_err-v
+returns-in_err-v c =
+    let e : within 48 57 (get_or c.args.w.now c.loop-c.c-index 0) ≡ true = sym c.is_ascii_digit.ensures.value ∙ c.if-not-is_ascii_digit.false in
+    c.from_residual-in_err-v.ensures ∙ sym (c.loop-c.invariant.1 ∙ numeral_over c.args.w.now c.loop-c.c-index c.loop-c.v c.loop-c-test.true e (omega (arith, c.in_ok-checked_mul.ensures, c.in_err-v.ensures, c.from-d.ensures)))
 
-pub loop-i-preserved : goal.loop-i-preserved
-loop-i-preserved c =
-    let loop = c.loop-i in
-    let loop-test = c.loop-i-test in
-    let if2 = c.if-c-lt48 in
-    let if3 = c.if-c-gt57 in
-    (omega arith, omega arith, loop.invariant.2 ∙ numeral_next _ loop.i loop-test.true loop.v if2.false if3.false)
+pub loop-c-preserved : goal.loop-c-preserved
+loop-c-preserved c =
+    let e : within 48 57 (get_or c.args.w.now c.loop-c.c-index 0) ≡ true = sym c.is_ascii_digit.ensures.value ∙ c.if-not-is_ascii_digit.false in
+    let v : c.loop-c.v * 10 + (get_or c.args.w.now c.loop-c.c-index 0 - 48) ≡ c.in_ok-v.v = omega (arith, c.in_ok-checked_mul.ensures, c.in_ok-v.ensures, c.from-d.ensures) in (
+      search rules,
+      c.loop-c.invariant.1 ∙ numeral_next c.args.w.now c.loop-c.c-index c.loop-c.v c.loop-c-test.true e ∙ ap (λ n. numeral_from n (drop (c.loop-c.c-index + 1) c.args.w.now)) v,
+    )
 
 pub returns : goal.returns
-returns c = sym (c.loop-i.invariant.2 ∙ numeral_end _ c.loop-i.i c.loop-i.v c.loop-i-test.false c.loop-i.invariant.1)
+returns c = sym (c.loop-c.invariant.1 ∙ numeral_end c.args.w.now c.loop-c.c-index c.loop-c.v (omega arith) (omega arith))

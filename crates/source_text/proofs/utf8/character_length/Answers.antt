@@ -1,33 +1,29 @@
 -- `character_length` meets its contract.
-use mathlib.Core.Path.{sym, ◌∙◌}
-use Rattle.source_text.proofs.Encodings.{length_past, length_none, length_at}
+use mathlib.Core.Path.{◌≡◌, sym, ap, ◌∙◌}
+use Prim.Native.Nat.{◌<◌, ◌≤◌, ◌-◌}
+use borrow.Author.Rules.{rules}
+use lib.ListN.{length, get_or, length-drop}
+use native.Mathlib.Omega.{arith}
+use Rattle.std.proofs.lemmas.List.{take_all}
+use Rattle.std.proofs.lemmas.Bool.Decides.{nat_tests}
+use Rattle.source_text.specs.Utf8.{positive, lead_of, tails_of}
+use Rattle.source_text.proofs.Encodings.{starting_none, starting_some, positive_if, length_past, length_none, length_at}
 use Rattle.source_text.proofs.utf8.character_length.Goals as goal
 
-pub returns-then-text-at : goal.returns-then-text-at
-returns-then-text-at c = sym (length_past c.args.text.now c.args.at c.if-text-at.true)
+pub returns-in_err-get : goal.returns-in_err-get
+returns-in_err-get c =
+    let p : length c.args.text.now ≤ c.args.at = grind (arith, nat_tests, c.in_err-get.ensures.lookup) in
+    c.from_residual.ensures ∙ ap positive (sym (length_past c.args.text.now c.args.at p))
 
-pub returns-then-length-eq0 : goal.returns-then-length-eq0
-returns-then-length-eq0 c =
-    let args = c.args in
-    let lead-of = c.lead_of-l in
-    let if1 = c.if-text-at in
-    let if2 = c.if-length-eq0 in
-    sym (length_none args.text.now args.at lead-of.result if1.false lead-of.ensures if2.true)
-
-pub returns-then-tails : goal.returns-then-tails
-returns-then-tails c =
-    let args = c.args in
-    let lead-of = c.lead_of-l in
-    let if1 = c.if-text-at in
-    let tails = c.tails in
-    let if3 = c.if-tails in
-    sym (length_at args.text.now args.at lead-of.result if1.false lead-of.ensures tails.result tails.ensures ∙ simp if3.true)
+pub returns-in_err-lead : goal.returns-in_err-lead
+returns-in_err-lead c =
+    let p : c.args.at < length c.args.text.now = search rules in
+    let q : c.in_ok-get.field-0.now ≡ get_or c.args.text.now c.args.at 0 = search rules in
+    c.from_residual-in_err-lead.ensures ∙ ap positive (sym (length_none c.args.text.now c.args.at (lead_of c.in_ok-get.field-0.now) p (ap lead_of q) (starting_none _ (sym c.lead_of.ensures ∙ c.in_err-lead.was))))
 
 pub returns : goal.returns
 returns c =
-    let args = c.args in
-    let lead-of = c.lead_of-l in
-    let if1 = c.if-text-at in
-    let tails = c.tails in
-    let if3 = c.if-tails in
-    sym (length_at args.text.now args.at lead-of.result if1.false lead-of.ensures tails.result tails.ensures ∙ simp if3.false)
+    let s = starting_some (lead_of c.in_ok-get.field-0.now) c.in_ok-lead.lead (sym c.lead_of.ensures ∙ c.in_ok-lead.was) in
+    let p : c.args.at < length c.args.text.now = search rules in
+    let q : c.in_ok-get.field-0.now ≡ get_or c.args.text.now c.args.at 0 = search rules in
+    c.then_some.ensures ∙ positive_if _ _ s.1 ∙ ap positive (sym (length_at c.args.text.now c.args.at c.in_ok-lead.lead p (s.0 ∙ ap lead_of q) c.tails.result (c.tails.ensures ∙ ap (tails_of (c.in_ok-lead.lead.length - 1) c.in_ok-lead.lead.low c.in_ok-lead.lead.high) (take_all _ _ (simp length-drop (omega arith))))))

@@ -1,8 +1,7 @@
 -- `is_utf8` meets its contract. The loop's invariant: the text is UTF-8 exactly when it is from `at` on, where a character starts.
 use mathlib.Core.Path.{refl, sym, ◌∙◌}
-use Prim.Native.Nat.{◌-◌}
 use Rattle.source_text.specs.Utf8.{is_utf8}
-use Rattle.source_text.proofs.Encodings.{length_within, utf8_next, utf8_not, utf8_end}
+use Rattle.source_text.proofs.Encodings.{positive_none, positive_some, length_within, utf8_next, utf8_not, utf8_end}
 use borrow.Author.Rules.{rules}
 use native.Mathlib.Omega.{arith}
 use Rattle.source_text.proofs.utf8.is_utf8.Goals as goal
@@ -11,39 +10,26 @@ pub loop-at-init : goal.loop-at-init
 unfolding is_utf8
 loop-at-init c = (search rules, refl)
 
-pub returns-then-length-eq0 : goal.returns-then-length-eq0
-returns-then-length-eq0 c =
-    let loop = c.loop-at in
-    let character-length = c.character_length-length in
-    let loop-test = c.loop-at-test in
-    let if1 = c.if-length-eq0 in
-    sym (loop.invariant.1 ∙ utf8_not _ loop.at character-length.result loop-test.true character-length.ensures if1.true)
+pub returns-in_default : goal.returns-in_default
+returns-in_default c =
+    let z = positive_none _ (sym c.character_length.ensures ∙ c.in_default.is) in
+    sym (c.loop-at.invariant.1 ∙ utf8_not _ c.loop-at.at _ c.loop-at-test.true refl z)
 
 pub overflow_add-at : goal.overflow_add-at
 overflow_add-at c =
-    let args = c.args in
-    let loop = c.loop-at in
-    let character-length = c.character_length-length in
-    let loop-test = c.loop-at-test in
-    omega (arith, length_within args.text.now loop.at character-length.result loop-test.true character-length.ensures)
+    let p = positive_some _ c.in-Some.length (sym c.character_length.ensures ∙ c.in-Some.is) in
+    omega (arith, length_within c.args.text.now c.loop-at.at c.in-Some.length c.loop-at-test.true p.0)
 
 pub loop-at-smaller : goal.loop-at-smaller
 loop-at-smaller c =
-    let args = c.args in
-    let loop = c.loop-at in
-    let character-length = c.character_length-length in
-    let loop-test = c.loop-at-test in
-    omega (arith, length_within args.text.now loop.at character-length.result loop-test.true character-length.ensures)
+    let p = positive_some _ c.in-Some.length (sym c.character_length.ensures ∙ c.in-Some.is) in
+    omega (arith, length_within c.args.text.now c.loop-at.at c.in-Some.length c.loop-at-test.true p.0, p.1)
 
 pub loop-at-preserved : goal.loop-at-preserved
 loop-at-preserved c =
-    let args = c.args in
-    let loop = c.loop-at in
-    let character-length = c.character_length-length in
-    let loop-test = c.loop-at-test in (
-      omega (arith, length_within args.text.now loop.at character-length.result loop-test.true character-length.ensures),
-      loop.invariant.1
-          ∙ utf8_next _ loop.at character-length.result loop-test.true character-length.ensures (omega arith),
+    let p = positive_some _ c.in-Some.length (sym c.character_length.ensures ∙ c.in-Some.is) in (
+      omega (arith, length_within c.args.text.now c.loop-at.at c.in-Some.length c.loop-at-test.true p.0),
+      c.loop-at.invariant.1 ∙ utf8_next _ c.loop-at.at c.in-Some.length c.loop-at-test.true p.0 p.1,
     )
 
 pub returns : goal.returns

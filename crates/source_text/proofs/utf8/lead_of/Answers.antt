@@ -1,56 +1,50 @@
 -- `lead_of` meets its contract: on each range of bytes one test shows what they ask.
-use mathlib.Core.Path.{sym, ◌∙◌}
-use Rattle.source_text.specs.Utf8.{lead_of, form_of, forms, asks}
+use mathlib.Core.Path.{sym, ap}
+use Rattle.source_text.specs.Utf8.{lead_of, form_of, forms, asks, starting}
 use Rattle.source_text.proofs.Encodings.{same_lead, lead_range}
 use native.Mathlib.Omega.{arith}
 use Rattle.source_text.proofs.utf8.lead_of.Goals as goal
 
-pub returns-then-a-lt128 : goal.returns-then-a-lt128
+pub returns-in_default : goal.returns-in_default
 unfolding lead_of form_of forms same_lead
-returns-then-a-lt128 c = c.asks.ensures ∙ sym (lead_range 0 128 _ tt c.args.a (omega arith) (omega arith))
+returns-in_default c = ap starting (sym (lead_range 128 66 (asks 0 0x80 0xBF) tt c.args.a (omega arith) (omega arith)))
 
-pub returns-then-a-lt194 : goal.returns-then-a-lt194
+pub returns-in_default-2 : goal.returns-in_default-2
 unfolding lead_of form_of forms same_lead
-returns-then-a-lt194 c = c.asks-then-a-lt194.ensures ∙ sym (lead_range 128 66 _ tt c.args.a (omega arith) (omega arith))
+returns-in_default-2 c = ap starting (sym (lead_range 245 11 (asks 0 0x80 0xBF) tt c.args.a (omega arith) (omega arith)))
 
-pub returns-then-a-lt224 : goal.returns-then-a-lt224
+pub returns-in-0-to-127 : goal.returns-in-0-to-127
 unfolding lead_of form_of forms same_lead
-returns-then-a-lt224 c = c.asks-then-a-lt224.ensures ∙ sym (lead_range 194 30 _ tt c.args.a (omega arith) (omega arith))
+returns-in-0-to-127 c = ap starting (sym (lead_range 0 128 (asks 1 0x80 0xBF) tt c.args.a (omega arith) (omega arith)))
 
-pub returns-then-a-lt225 : goal.returns-then-a-lt225
+pub returns-in-194-to-223 : goal.returns-in-194-to-223
 unfolding lead_of form_of forms same_lead
-returns-then-a-lt225 c = c.asks-then-a-lt225.ensures ∙ sym (lead_range 224 1 _ tt c.args.a (omega arith) (omega arith))
+returns-in-194-to-223 c = ap starting (sym (lead_range 194 30 (asks 2 0x80 0xBF) tt c.args.a (omega arith) (omega arith)))
 
-pub returns-then-a-lt237 : goal.returns-then-a-lt237
+pub returns-in-224 : goal.returns-in-224
 unfolding lead_of form_of forms same_lead
-returns-then-a-lt237 c = c.asks-then-a-lt237.ensures ∙ sym (lead_range 225 12 _ tt c.args.a (omega arith) (omega arith))
+returns-in-224 c = ap starting (sym (lead_range 224 1 (asks 3 0xA0 0xBF) tt c.args.a (omega arith) (omega arith)))
 
-pub returns-then-a-lt238 : goal.returns-then-a-lt238
+pub returns-in-225-to-236 : goal.returns-in-225-to-236
 unfolding lead_of form_of forms same_lead
-returns-then-a-lt238 c = c.asks-then-a-lt238.ensures ∙ sym (lead_range 237 1 _ tt c.args.a (omega arith) (omega arith))
+returns-in-225-to-236 c = ap starting (sym (lead_range 225 12 (asks 3 0x80 0xBF) tt c.args.a (omega arith) (omega arith)))
 
-pub returns-then-a-lt240 : goal.returns-then-a-lt240
+pub returns-in-237 : goal.returns-in-237
 unfolding lead_of form_of forms same_lead
-returns-then-a-lt240 c = c.asks-then-a-lt240.ensures ∙ sym (lead_range 238 2 _ tt c.args.a (omega arith) (omega arith))
+returns-in-237 c = ap starting (sym (lead_range 237 1 (asks 3 0x80 0x9F) tt c.args.a (omega arith) (omega arith)))
 
-pub returns-then-a-lt241 : goal.returns-then-a-lt241
+pub returns-in-238-to-239 : goal.returns-in-238-to-239
 unfolding lead_of form_of forms same_lead
-returns-then-a-lt241 c = c.asks-then-a-lt241.ensures ∙ sym (lead_range 240 1 _ tt c.args.a (omega arith) (omega arith))
+returns-in-238-to-239 c = ap starting (sym (lead_range 238 2 (asks 3 0x80 0xBF) tt c.args.a (omega arith) (omega arith)))
 
-pub returns-then-a-lt244 : goal.returns-then-a-lt244
+pub returns-in-240 : goal.returns-in-240
 unfolding lead_of form_of forms same_lead
-returns-then-a-lt244 c = c.asks-then-a-lt244.ensures ∙ sym (lead_range 241 3 _ tt c.args.a (omega arith) (omega arith))
+returns-in-240 c = ap starting (sym (lead_range 240 1 (asks 4 0x90 0xBF) tt c.args.a (omega arith) (omega arith)))
 
-pub returns-then-a-lt245 : goal.returns-then-a-lt245
+pub returns-in-241-to-243 : goal.returns-in-241-to-243
 unfolding lead_of form_of forms same_lead
-returns-then-a-lt245 c =
-    let asks10 = c.asks-then-a-lt245 in
-    let args = c.args in
-    asks10.ensures ∙ sym (lead_range 244 1 _ tt args.a (omega arith) (omega arith))
+returns-in-241-to-243 c = ap starting (sym (lead_range 241 3 (asks 4 0x80 0xBF) tt c.args.a (omega arith) (omega arith)))
 
-pub returns : goal.returns
+pub returns-in-244 : goal.returns-in-244
 unfolding lead_of form_of forms same_lead
-returns c =
-    let asks11 = c.asks-2 in
-    let args = c.args in
-    asks11.ensures ∙ sym (lead_range 245 11 _ tt args.a (omega arith) (omega arith))
+returns-in-244 c = ap starting (sym (lead_range 244 1 (asks 4 0x80 0x8F) tt c.args.a (omega arith) (omega arith)))

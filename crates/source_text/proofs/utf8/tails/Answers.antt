@@ -1,39 +1,37 @@
--- `tails` meets its contract. The loop's invariant: what is asked of the text from `at` on is what is still asked of it from i on.
-use mathlib.Core.Path.{refl, sym, ◌∙◌}
-use Prim.Native.Nat.{◌-◌}
-use Rattle.source_text.proofs.Encodings.{tails_short, tails_low, tails_high, tails_next, tails_none}
+-- `tails` meets its contract. The bytes read are those of the rest, in order.
+use mathlib.Core.Path.{◌≡◌, sym, ap, ◌∙◌}
+use Prim.Native.Nat.{◌-◌, ◌+◌, ◌≤◌}
+use native.Mathlib.Omega.{arith}
+use lib.ListN.{length, get_or, drop}
+use borrow.Author.Rules.{rules}
+use Rattle.std.proofs.lemmas.Grind.{common_steps}
+use Rattle.source_text.specs.Utf8.{tails_of}
+use Rattle.source_text.proofs.Encodings.{tails_low, tails_high, tails_next, tails_none, tails_long}
 use Rattle.source_text.proofs.utf8.tails.Goals as goal
+use Rattle.source_text.proofs.utf8.tails.Goals.{then-c-from-via-then-c-from, then-c-from-via-else-c-from+then-to-c}
 
-pub loop-left-init : goal.loop-left-init
-loop-left-init c = refl
-
-pub returns-then-text-i : goal.returns-then-text-i
-returns-then-text-i c = sym (c.loop-left.invariant ∙ tails_short _ c.loop-left.i c.loop-left.left _ _ c.if-text-i.true c.loop-left-test.true)
+pub returns-in_default : goal.returns-in_default
+returns-in_default c = sym (tails_long c.args.count c.args.low c.args.high c.args.rest.now (omega (arith, c.in_default.ensures.lookup)))
 
 pub returns-then-c-from : goal.returns-then-c-from
 returns-then-c-from c =
-    let loop = c.loop-left in
-    let if1 = c.if-text-i in
-    let loop-test = c.loop-left-test in
-    let if2 = c.if-c-from in
-    sym (loop.invariant ∙ tails_low _ loop.i loop.left _ _ if1.false loop-test.true if2.true)
+    let n : length c.in-Some.tails.now ≡ c.args.count = search rules in
+    let s : c.args.count ≤ length c.args.rest.now = search rules in
+    let q : get_or c.in-Some.tails.now c.loop-c.c-index 0 ≡ get_or c.args.rest.now c.loop-c.c-index 0 = grind (arith, common_steps) in
+    elim c.then-c-from.branch [
+      | then-c-from-via-then-c-from w ↦ sym (c.loop-c.invariant ∙ tails_low _ c.loop-c.c-index _ _ _ (omega arith) (omega arith) (omega (arith, w.if-c-from)))
+      | then-c-from-via-else-c-from+then-to-c w ↦ sym (c.loop-c.invariant ∙ tails_high _ c.loop-c.c-index _ _ _ (omega arith) (omega arith) (omega (arith, w.if-to-c)))
+    ]
 
-pub returns-then-to-c : goal.returns-then-to-c
-returns-then-to-c c =
-    let loop = c.loop-left in
-    let if1 = c.if-text-i in
-    let loop-test = c.loop-left-test in
-    let if3 = c.if-to-c in
-    sym (loop.invariant ∙ tails_high _ loop.i loop.left _ _ if1.false loop-test.true if3.true)
-
-pub loop-left-preserved : goal.loop-left-preserved
-loop-left-preserved c =
-    let loop = c.loop-left in
-    let if1 = c.if-text-i in
-    let loop-test = c.loop-left-test in
-    let if2 = c.if-c-from in
-    let if3 = c.if-to-c in
-    loop.invariant ∙ tails_next _ loop.i loop.left _ _ if1.false loop-test.true if2.false if3.false
+pub loop-c-preserved : goal.loop-c-preserved
+loop-c-preserved c =
+    let n : length c.in-Some.tails.now ≡ c.args.count = search rules in
+    let s : c.args.count ≤ length c.args.rest.now = search rules in
+    let q : get_or c.in-Some.tails.now c.loop-c.c-index 0 ≡ get_or c.args.rest.now c.loop-c.c-index 0 = grind (arith, common_steps) in
+    let m : c.args.count - c.loop-c.c-index - 1 ≡ c.args.count - (c.loop-c.c-index + 1) = omega arith in
+    c.loop-c.invariant ∙ tails_next _ c.loop-c.c-index _ _ _ (omega arith) (omega arith) (omega (arith, c.if-c-from.false)) (omega (arith, c.if-to-c.false)) ∙ ap (λ k. tails_of k 0x80 0xBF (drop (c.loop-c.c-index + 1) c.args.rest.now)) m
 
 pub returns : goal.returns
-returns c = sym (c.loop-left.invariant ∙ tails_none _ c.loop-left.left _ _ c.loop-left-test.false)
+returns c =
+    let n : length c.in-Some.tails.now ≡ c.args.count = search rules in
+    sym (c.loop-c.invariant ∙ tails_none _ _ _ _ (omega arith))

@@ -1,27 +1,28 @@
 -- `judgments` meets its contract: the loop reads the items behind a sign.
 use mathlib.Core.Path.{◌≡◌, sym, ap, ◌∙◌}
-use Prim.Native.Nat.{◌+◌, ◌-◌}
+use Prim.Native.Nat.{◌+◌}
 use lib.ListN.{drop}
 use native.Mathlib.Omega.{arith}
 use Rattle.term_parser.specs.Parsing.{kind_of, behind}
 use Rattle.term_parser.specs.Rows.{rows_of}
+use Rattle.term_parser.specs.Steps.{step}
 use Rattle.term_parser.proofs.TermLaws.{room_on, term_at, firm_term}
 use Rattle.term_parser.proofs.TokenLaws.{token_there}
-use Rattle.term_parser.proofs.Readers.{stopped, moved, loop_start, loop_turn}
+use Rattle.term_parser.proofs.Readers.{stopped_err, exits, moved, loop_start, loop_turn}
 use Rattle.term_parser.proofs.ListLaws.{behind_answers, behind_firm, behind_not, chain_stopped, chain_end, chain_refused}
 use Rattle.term_parser.proofs.lists.judgments.Goals as goal
 
-pub returns-in_default : goal.returns-in_default
-returns-in_default c =
+pub returns-in_err-first : goal.returns-in_err-first
+returns-in_err-first c =
     let args = c.args in
-    let term = c.term-first in
-    chain_stopped (behind 15 (term_at args.text.now args.tokens.now 64)) rows_of args.tokens.now (term_at args.text.now args.tokens.now 64) (firm_term args.text.now args.tokens.now 64) term.ensures (stopped term.result c.in_default.in_default-own.keys2)
+    let term = c.term in
+    rw (exits _ _ c.in_err-first.was c.from_residual.ensures.1) (chain_stopped (behind 15 (term_at args.text.now args.tokens.now 64)) rows_of args.tokens.now (term_at args.text.now args.tokens.now 64) (firm_term args.text.now args.tokens.now 64) term.ensures (stopped_err _ c.in_err-first.was))
 
 pub loop-out-init : goal.loop-out-init
 loop-out-init c =
     let args = c.args in
-    let term = c.term-first in
-    loop_start (behind 15 (term_at args.text.now args.tokens.now 64)) rows_of args.tokens.now _ _ 1 _ (moved term.ensures c.in-At.is).1
+    let term = c.term in
+    loop_start (behind 15 (term_at args.text.now args.tokens.now 64)) rows_of args.tokens.now _ _ 1 _ (moved term.ensures (ap step c.in_ok-first.was)).1
 
 pub overflow_add-p : goal.overflow_add-p
 overflow_add-p c =
@@ -34,29 +35,29 @@ overflow_add-p c =
     let h = token_there args.tokens.now loop.p (omega arith) in
     omega (arith, pre.small)
 
-pub term-more-requires : goal.term-more-requires
-term-more-requires c =
+pub term-requires-in-loop-out : goal.term-requires-in-loop-out
+term-requires-in-loop-out c =
     let loop = c.loop-out in
     let args = c.args in
     let peek = c.peek in
     let if1 = c.loop-out-test in
-    let term = c.term-first in
+    let term = c.term in
     let pre = c.requires in
     let e : kind_of (drop loop.p args.tokens.now) ≡ 15 = sym (ap (λ x. x.kind) peek.ensures) ∙ if1.true in
     let h = token_there args.tokens.now loop.p (omega arith) in
-    let m = moved term.ensures c.in-At.is in
+    let m = moved term.ensures (ap step c.in_ok-first.was) in
     room_on pre _ _ _ (omega arith) (omega (arith, m, loop.invariant.fits)) (loop.invariant.long ∙ term.auto.out)
 
-pub returns-in_default-more : goal.returns-in_default-more
-returns-in_default-more c =
+pub returns-in_err-more : goal.returns-in_err-more
+returns-in_err-more c =
     let loop = c.loop-out in
     let args = c.args in
     let peek = c.peek in
     let if1 = c.loop-out-test in
-    let term = c.term-first in
-    let term2 = c.term-more in
+    let term = c.term in
+    let term2 = c.term-in-loop-out in
     let e : kind_of (drop loop.p args.tokens.now) ≡ 15 = sym (ap (λ x. x.kind) peek.ensures) ∙ if1.true in
-    chain_refused (behind 15 (term_at args.text.now args.tokens.now 64)) rows_of args.tokens.now (term_at args.text.now args.tokens.now 64) (firm_term args.text.now args.tokens.now 64) term.ensures c.in-At.is loop.invariant (behind_answers 15 (term_at args.text.now args.tokens.now 64) args.tokens.now loop.p e term2.ensures) (stopped term2.result c.in_default-more.in_default-more-own.keys2) (behind_firm 15 (term_at args.text.now args.tokens.now 64) args.tokens.now loop.p e (firm_term args.text.now args.tokens.now 64 (drop (loop.p + 1) args.tokens.now)))
+    rw (exits _ _ c.in_err-more.was c.from_residual-in_err-more.ensures.1) (chain_refused (behind 15 (term_at args.text.now args.tokens.now 64)) rows_of args.tokens.now (term_at args.text.now args.tokens.now 64) (firm_term args.text.now args.tokens.now 64) term.ensures (ap step c.in_ok-first.was) loop.invariant (behind_answers 15 (term_at args.text.now args.tokens.now 64) args.tokens.now loop.p e term2.ensures) (stopped_err _ c.in_err-more.was) (behind_firm 15 (term_at args.text.now args.tokens.now 64) args.tokens.now loop.p e (firm_term args.text.now args.tokens.now 64 (drop (loop.p + 1) args.tokens.now))))
 
 pub overflow_add-n : goal.overflow_add-n
 overflow_add-n c =
@@ -65,7 +66,7 @@ overflow_add-n c =
     omega (arith, loop.invariant.few, loop.invariant.to, pre.small)
 
 pub loop-out-smaller : goal.loop-out-smaller
-loop-out-smaller c = let m = moved c.term-more.ensures c.in-At-more.is in omega (arith, m)
+loop-out-smaller c = let m = moved c.term-in-loop-out.ensures (ap step c.in_ok-more.was) in omega (arith, m)
 
 pub loop-out-preserved : goal.loop-out-preserved
 loop-out-preserved c =
@@ -73,16 +74,16 @@ loop-out-preserved c =
     let args = c.args in
     let peek = c.peek in
     let if1 = c.loop-out-test in
-    let term2 = c.term-more in
+    let term2 = c.term-in-loop-out in
     let e : kind_of (drop loop.p args.tokens.now) ≡ 15 = sym (ap (λ x. x.kind) peek.ensures) ∙ if1.true in
-    loop_turn (behind 15 (term_at args.text.now args.tokens.now 64)) rows_of args.tokens.now loop.invariant (behind_answers 15 (term_at args.text.now args.tokens.now 64) args.tokens.now loop.p e term2.ensures) c.in-At-more.is term2.auto.out
+    loop_turn (behind 15 (term_at args.text.now args.tokens.now 64)) rows_of args.tokens.now loop.invariant (behind_answers 15 (term_at args.text.now args.tokens.now 64) args.tokens.now loop.p e term2.ensures) (ap step c.in_ok-more.was) term2.auto.out
 
 pub returns : goal.returns
 returns c =
     let args = c.args in
-    let term = c.term-first in
+    let term = c.term in
     let loop = c.loop-out in
     let if1 = c.loop-out-test in
     let peek = c.peek in
-    chain_end (behind 15 (term_at args.text.now args.tokens.now 64)) rows_of args.tokens.now (term_at args.text.now args.tokens.now 64) (firm_term args.text.now args.tokens.now 64) term.ensures c.in-At.is loop.invariant (behind_not 15 (term_at args.text.now args.tokens.now 64) args.tokens.now loop.p (λ e. if1.false (ap (λ x. x.kind) peek.ensures
+    chain_end (behind 15 (term_at args.text.now args.tokens.now 64)) rows_of args.tokens.now (term_at args.text.now args.tokens.now 64) (firm_term args.text.now args.tokens.now 64) term.ensures (ap step c.in_ok-first.was) loop.invariant (behind_not 15 (term_at args.text.now args.tokens.now 64) args.tokens.now loop.p (λ e. if1.false (ap (λ x. x.kind) peek.ensures
     ∙ e)))

@@ -9,7 +9,7 @@ use Rattle.term_parser.proofs.Readers.{Looped}
 use Rattle.term_parser.proofs.lists.names.Given as goal
 
 abbrev pub invariant-loop-out : goal.invariant-loop-out
-invariant-loop-out l = Looped (unless 20 (name_of (last_line l.tokens))) name_rows l.tokens l.next l.k 1 l.initial.out l.p l.u l.n l.out
+invariant-loop-out l = Looped (unless 20 (name_of (last_line l.tokens))) name_rows l.tokens l.initial.p l.initial.u 1 l.initial.out l.p l.u l.n l.out
 
 abbrev pub decreases-loop-out : goal.decreases-loop-out
 decreases-loop-out l = length l.tokens - l.p

@@ -1,6 +1,5 @@
 -- `patterns` meets its contract.
 use mathlib.Core.Path.{sym, ap, ◌∙◌}
-use Prim.Native.Nat.{◌-◌}
 use Rattle.term_parser.proofs.ListLaws.{patterns_none, patterns_some}
 use Rattle.term_parser.proofs.lists.patterns.Goals as goal
 

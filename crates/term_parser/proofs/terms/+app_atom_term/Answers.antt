@@ -1,38 +1,39 @@
 -- `atom`, `app` and `term` call each other in turn: the tokens left fall, and with the same tokens left the rank of the three.
-use Prim.Native.Nat.{◌-◌}
 use mathlib.Core.Path.{refl, sym, ap, ◌∙◌}
 use native.Mathlib.Omega.{arith}
 use Rattle.term_parser.proofs.TokenLaws.{token_there}
-use Rattle.term_parser.proofs.Readers.{stopped, moved}
+use Rattle.term_parser.proofs.Readers.{stopped_err, exits, exits_maybe, maybe_exits, moved}
+use Rattle.term_parser.specs.Steps.{step, maybe_step}
+use Rattle.std.specs.Prelude.{Ok, Some}
 use Rattle.term_parser.proofs.TermLaws.{room_on, there, is_name, is_meta, is_numeral_lem, is_open, is_none, too_deep, inner_stopped, inner_closed, atoms_start, atoms_room, atoms_from, atoms_past, atoms_few, atoms_turn, atoms_none, atoms_applied, atoms_refused, term_stopped, term_plain, second_stopped, root_room, term_equated}
 use Rattle.term_parser.proofs.terms.+app_atom_term.Goals as goal
 
-pub app-loop-q-init : goal.app-loop-q-init
-app-loop-q-init t c = atoms_start (c.args.text.now) (c.args.tokens.now) (c.args.left)
+pub app-loop-more-init : goal.app-loop-more-init
+app-loop-more-init t c = atoms_start (c.args.text.now) (c.args.tokens.now) (c.args.left)
 
 pub app-atom-requires : goal.app-atom-requires
-app-atom-requires t c = let args = c.args in let pre = c.requires in let loop = c.loop-q in (let f = atoms_from (args.text.now) (args.tokens.now) (args.left) (pre) (loop.invariant) in omega (arith, f), atoms_room (args.text.now) (args.tokens.now) (args.left) (pre) (loop.invariant))
+app-atom-requires t c = let args = c.args in let pre = c.requires in let loop = c.loop-more in (let f = atoms_from (args.text.now) (args.tokens.now) (args.left) (pre) (loop.invariant) in omega (arith, f), atoms_room (args.text.now) (args.tokens.now) (args.left) (pre) (loop.invariant))
 
 pub app-overflow_add-n : goal.app-overflow_add-n
-app-overflow_add-n t c = let args = c.args in let pre = c.requires in let loop = c.loop-q in let f = atoms_few (args.text.now) (args.tokens.now) (args.left) (pre) (loop.invariant) in let r = atoms_room (args.text.now) (args.tokens.now) (args.left) (pre) (loop.invariant) in omega (arith, f, r.here, (pre.small))
+app-overflow_add-n t c = let args = c.args in let pre = c.requires in let loop = c.loop-more in let f = atoms_few (args.text.now) (args.tokens.now) (args.left) (pre) (loop.invariant) in let r = atoms_room (args.text.now) (args.tokens.now) (args.left) (pre) (loop.invariant) in omega (arith, f, r.here, (pre.small))
 
-pub app-loop-q-smaller : goal.app-loop-q-smaller
-app-loop-q-smaller t c = let m = moved (c.atom.ensures) (c.in-At.is) in omega (arith, m)
+pub app-loop-more-smaller : goal.app-loop-more-smaller
+app-loop-more-smaller t c = let m = moved (c.atom.ensures) (ap maybe_step (c.in_ok-more.was ∙ ap Ok c.in-Some.is)) in omega (arith, m)
 
-pub app-loop-q-preserved : goal.app-loop-q-preserved
-app-loop-q-preserved t c = let args = c.args in let pre = c.requires in let atom = c.atom in let loop = c.loop-q in atoms_turn (args.text.now) (args.tokens.now) (args.left) (pre) (atom.ensures) (loop.invariant) (c.in-At.is) (atom.auto.out)
+pub app-loop-more-preserved : goal.app-loop-more-preserved
+app-loop-more-preserved t c = let args = c.args in let pre = c.requires in let atom = c.atom in let loop = c.loop-more in atoms_turn (args.text.now) (args.tokens.now) (args.left) (pre) (atom.ensures) (loop.invariant) (ap maybe_step (c.in_ok-more.was ∙ ap Ok c.in-Some.is)) (atom.auto.out)
 
 pub app-returns-then-n-eq0 : goal.app-returns-then-n-eq0
-app-returns-then-n-eq0 t c = let args = c.args in let pre = c.requires in let atom = c.atom in let loop = c.loop-q in let if1 = c.if-n-eq0 in let line = c.line in atoms_none (args.text.now) (args.tokens.now) (args.left) (pre) (atom.ensures) (loop.invariant) (c.in-Absent.is) (if1.true) (line.ensures)
+app-returns-then-n-eq0 t c = let args = c.args in let pre = c.requires in let atom = c.atom in let loop = c.loop-more in let if1 = c.if-n-eq0 in rw c.rejection.ensures (atoms_none (args.text.now) (args.tokens.now) (args.left) (pre) (atom.ensures) (loop.invariant) (ap maybe_step (c.in_ok-more.was ∙ ap Ok c.in_default.is)) (if1.true) refl)
 
 pub app-apply-requires : goal.app-apply-requires
-app-apply-requires t c = let args = c.args in let pre = c.requires in let loop = c.loop-q in let if1 = c.if-n-eq0 in let atom = c.atom in let r = atoms_room (args.text.now) (args.tokens.now) (args.left) (pre) (loop.invariant) in let f = atoms_past (args.text.now) (args.tokens.now) (args.left) (pre) (loop.invariant) (if1.false) in omega (arith, f, r.here, r.lent, (pre.below), (atom.auto.out))
+app-apply-requires t c = let args = c.args in let pre = c.requires in let loop = c.loop-more in let if1 = c.if-n-eq0 in let atom = c.atom in let r = atoms_room (args.text.now) (args.tokens.now) (args.left) (pre) (loop.invariant) in let f = atoms_past (args.text.now) (args.tokens.now) (args.left) (pre) (loop.invariant) (if1.false) in omega (arith, f, r.here, r.lent, (pre.below), (atom.auto.out))
 
-pub app-returns-in-Absent : goal.app-returns-in-Absent
-app-returns-in-Absent t c = let args = c.args in let pre = c.requires in let atom = c.atom in let loop = c.loop-q in let if1 = c.if-n-eq0 in let apply = c.apply in atoms_applied (args.text.now) (args.tokens.now) (args.left) (pre) (atom.ensures) (loop.invariant) (c.in-Absent.is) (if1.false) (apply.ensures)
+pub app-returns : goal.app-returns
+app-returns t c = let args = c.args in let pre = c.requires in let atom = c.atom in let loop = c.loop-more in let if1 = c.if-n-eq0 in let apply = c.apply in atoms_applied (args.text.now) (args.tokens.now) (args.left) (pre) (atom.ensures) (loop.invariant) (ap maybe_step (c.in_ok-more.was ∙ ap Ok c.in_default.is)) (if1.false) (apply.ensures)
 
-pub app-returns-in-Refused : goal.app-returns-in-Refused
-app-returns-in-Refused t c = let args = c.args in let pre = c.requires in let atom = c.atom in let loop = c.loop-q in atoms_refused (args.text.now) (args.tokens.now) (args.left) (pre) (atom.ensures) (loop.invariant) (c.in-Refused.is)
+pub app-returns-in_err-more : goal.app-returns-in_err-more
+app-returns-in_err-more t c = let args = c.args in let pre = c.requires in let atom = c.atom in let loop = c.loop-more in rw (maybe_exits _ _ c.in_err-more.was c.from_residual.ensures.1, ap maybe_step c.in_err-more.was) (atoms_refused (args.text.now) (args.tokens.now) (args.left) (pre) (atom.ensures) (loop.invariant) (ap maybe_step c.in_err-more.was))
 
 pub atom-push-requires : goal.atom-push-requires
 atom-push-requires t c =
@@ -50,7 +51,7 @@ atom-returns-then-t-eq-NAME t c =
     let peek = c.peek-t in
     let push = c.push in
     let if1 = c.if-t-eq-NAME in
-    is_name args.text.now args.tokens.now args.left pre peek.ensures push.ensures.0 if1.true push.ensures.1
+    is_name args.text.now args.tokens.now args.left pre peek.ensures (ap (λ r. maybe_step (Ok (Some r))) push.ensures.0) if1.true push.ensures.1
 
 pub atom-push-requires-then-t-eq-METAVARIABLE : goal.atom-push-requires-then-t-eq-METAVARIABLE
 atom-push-requires-then-t-eq-METAVARIABLE t c =
@@ -69,7 +70,7 @@ atom-returns-then-t-eq-METAVARIABLE t c =
     let push2 = c.push-then-t-eq-METAVARIABLE in
     let if1 = c.if-t-eq-NAME in
     let if2 = c.if-t-eq-METAVARIABLE in
-    is_meta args.text.now args.tokens.now args.left pre peek.ensures push2.ensures.0 if1.false if2.true push2.ensures.1
+    is_meta args.text.now args.tokens.now args.left pre peek.ensures (ap (λ r. maybe_step (Ok (Some r))) push2.ensures.0) if1.false if2.true push2.ensures.1
 
 pub atom-push-requires-then-t-eq-NUMERAL : goal.atom-push-requires-then-t-eq-NUMERAL
 atom-push-requires-then-t-eq-NUMERAL t c =
@@ -90,7 +91,7 @@ atom-returns-then-t-eq-NUMERAL t c =
     let if2 = c.if-t-eq-METAVARIABLE in
     let if3 = c.if-t-eq-NUMERAL in
     let saturated = c.saturated-value in
-    is_numeral_lem args.text.now args.tokens.now args.left pre peek.ensures push3.ensures.0 if1.false if2.false if3.true saturated.ensures push3.ensures.1
+    is_numeral_lem args.text.now args.tokens.now args.left pre peek.ensures (ap (λ r. maybe_step (Ok (Some r))) push3.ensures.0) if1.false if2.false if3.true saturated.ensures push3.ensures.1
 
 pub atom-overflow_add-inside : goal.atom-overflow_add-inside
 atom-overflow_add-inside t c =
@@ -111,11 +112,10 @@ atom-returns-then-left-eq0 t c =
     let if3 = c.if-t-eq-NUMERAL in
     let if4 = c.if-t-eq-OPEN in
     let if5 = c.if-left-eq0 in
-    let line = c.line in
-    too_deep args.text.now args.tokens.now args.at args.left args.used _ (is_open args.text.now args.tokens.now args.left pre peek.ensures if1.false if2.false if3.false if4.true) if5.true line.ensures
+    rw c.rejection.ensures (too_deep args.text.now args.tokens.now args.at args.left args.used _ (is_open args.text.now args.tokens.now args.left pre peek.ensures if1.false if2.false if3.false if4.true) if5.true refl)
 
-pub atom-term-r-requires : goal.atom-term-r-requires
-atom-term-r-requires t c =
+pub atom-term-requires : goal.atom-term-requires
+atom-term-requires t c =
     let args = c.args in
     let pre = c.requires in
     let peek = c.peek-t in
@@ -123,8 +123,8 @@ atom-term-r-requires t c =
     let h = there args.text.now args.tokens.now args.left pre peek.ensures if4.true (omega arith) in
     (omega (arith), room_on pre _ _ _ (omega arith) (omega arith) refl)
 
-pub atom-returns-in_default : goal.atom-returns-in_default
-atom-returns-in_default t c =
+pub atom-returns-in_err-inner : goal.atom-returns-in_err-inner
+atom-returns-in_err-inner t c =
     let args = c.args in
     let pre = c.requires in
     let peek = c.peek-t in
@@ -133,8 +133,8 @@ atom-returns-in_default t c =
     let if3 = c.if-t-eq-NUMERAL in
     let if4 = c.if-t-eq-OPEN in
     let if5 = c.if-left-eq0 in
-    let term = c.term-r in
-    inner_stopped args.text.now args.tokens.now args.at args.left args.used _ (is_open args.text.now args.tokens.now args.left pre peek.ensures if1.false if2.false if3.false if4.true) if5.false term.ensures (stopped term.result c.in_default.in_default-own.keys2)
+    let term = c.term in
+    rw (exits_maybe _ _ c.in_err-inner.was c.from_residual.ensures.1) (inner_stopped args.text.now args.tokens.now args.at args.left args.used _ (is_open args.text.now args.tokens.now args.left pre peek.ensures if1.false if2.false if3.false if4.true) if5.false term.ensures (stopped_err _ c.in_err-inner.was))
 
 pub atom-returns-then-t-eq-OPEN : goal.atom-returns-then-t-eq-OPEN
 atom-returns-then-t-eq-OPEN t c =
@@ -146,9 +146,23 @@ atom-returns-then-t-eq-OPEN t c =
     let if3 = c.if-t-eq-NUMERAL in
     let if4 = c.if-t-eq-OPEN in
     let if5 = c.if-left-eq0 in
-    let term = c.term-r in
+    let term = c.term in
     let sign = c.sign in
-    inner_closed args.text.now args.tokens.now args.at args.left args.used _ (is_open args.text.now args.tokens.now args.left pre peek.ensures if1.false if2.false if3.false if4.true) if5.false term.ensures c.in-At.is sign.ensures
+    rw (ap step c.in_ok-sign.was) at (inner_closed args.text.now args.tokens.now args.at args.left args.used _ (is_open args.text.now args.tokens.now args.left pre peek.ensures if1.false if2.false if3.false if4.true) if5.false term.ensures (ap step c.in_ok-inner.was) sign.ensures)
+
+pub atom-returns-in_err-sign : goal.atom-returns-in_err-sign
+atom-returns-in_err-sign t c =
+    let args = c.args in
+    let pre = c.requires in
+    let peek = c.peek-t in
+    let if1 = c.if-t-eq-NAME in
+    let if2 = c.if-t-eq-METAVARIABLE in
+    let if3 = c.if-t-eq-NUMERAL in
+    let if4 = c.if-t-eq-OPEN in
+    let if5 = c.if-left-eq0 in
+    let term = c.term in
+    let sign = c.sign in
+    rw (exits_maybe _ _ c.in_err-sign.was c.from_residual-in_err-sign.ensures.1) (inner_closed args.text.now args.tokens.now args.at args.left args.used _ (is_open args.text.now args.tokens.now args.left pre peek.ensures if1.false if2.false if3.false if4.true) if5.false term.ensures (ap step c.in_ok-inner.was) sign.ensures)
 
 pub atom-returns : goal.atom-returns
 atom-returns t c =
@@ -161,70 +175,70 @@ atom-returns t c =
     let if4 = c.if-t-eq-OPEN in
     is_none args.text.now args.tokens.now args.left pre peek.ensures if1.false if2.false if3.false if4.false
 
-pub term-returns-in_default : goal.term-returns-in_default
-term-returns-in_default t c =
+pub term-returns-in_err-first : goal.term-returns-in_err-first
+term-returns-in_err-first t c =
     let args = c.args in
     let pre = c.requires in
-    let app = c.app-first in
-    term_stopped args.text.now args.tokens.now args.left pre app.ensures (stopped app.result c.in_default.in_default-own.keys2)
+    let app = c.app in
+    rw (exits _ _ c.in_err-first.was c.from_residual.ensures.1) (term_stopped args.text.now args.tokens.now args.left pre app.ensures (stopped_err _ c.in_err-first.was))
 
 pub term-returns-then-peek-ne-EQUALS : goal.term-returns-then-peek-ne-EQUALS
 term-returns-then-peek-ne-EQUALS t c =
     let args = c.args in
     let pre = c.requires in
-    let app = c.app-first in
+    let app = c.app in
     let if1 = c.if-peek-ne-EQUALS in
     let peek = c.peek in
-    term_plain args.text.now args.tokens.now args.left pre app.ensures c.in-At.is (λ e. if1.true (ap (λ x. x.kind) peek.ensures ∙ e))
+    term_plain args.text.now args.tokens.now args.left pre app.ensures (ap step c.in_ok-first.was) (λ e. if1.true (ap (λ x. x.kind) peek.ensures ∙ e))
 
-pub term-overflow_add-next : goal.term-overflow_add-next
-term-overflow_add-next t c =
-    let app = c.app-first in
+pub term-overflow_add-first : goal.term-overflow_add-first
+term-overflow_add-first t c =
+    let app = c.app in
     let pre = c.requires in
-    let m = moved app.ensures c.in-At.is in
+    let m = moved app.ensures (ap step c.in_ok-first.was) in
     omega (arith, m, pre.small)
 
-pub term-app-second-requires : goal.term-app-second-requires
-term-app-second-requires t c =
-    let app = c.app-first in
+pub term-app-requires-2 : goal.term-app-requires-2
+term-app-requires-2 t c =
+    let app = c.app in
     let args = c.args in
     let peek = c.peek in
     let if1 = c.if-peek-ne-EQUALS in
     let pre = c.requires in
-    let m = moved app.ensures c.in-At.is in
-    let h = token_there args.tokens.now c.in-At.next (let e = ap (λ x. x.kind) (sym peek.ensures) ∙ if1.false in
+    let m = moved app.ensures (ap step c.in_ok-first.was) in
+    let h = token_there args.tokens.now c.in_ok-first.first.at (let e = ap (λ x. x.kind) (sym peek.ensures) ∙ if1.false in
     omega arith) in
     (omega (arith, m), room_on pre _ _ _ (omega arith) (omega (arith, m)) app.auto.out)
 
-pub term-returns-in_default-second : goal.term-returns-in_default-second
-term-returns-in_default-second t c =
+pub term-returns-in_err-second : goal.term-returns-in_err-second
+term-returns-in_err-second t c =
     let args = c.args in
     let pre = c.requires in
-    let app = c.app-first in
+    let app = c.app in
     let peek = c.peek in
     let if1 = c.if-peek-ne-EQUALS in
-    let app2 = c.app-second in
-    second_stopped args.text.now args.tokens.now args.left pre app.ensures c.in-At.is (ap (λ x. x.kind) (sym peek.ensures) ∙ if1.false) app2.ensures (stopped app2.result c.in_default-second.in_default-second-own.keys2)
+    let app2 = c.app-2 in
+    rw (exits _ _ c.in_err-second.was c.from_residual-in_err-second.ensures.1) (second_stopped args.text.now args.tokens.now args.left pre app.ensures (ap step c.in_ok-first.was) (ap (λ x. x.kind) (sym peek.ensures) ∙ if1.false) app2.ensures (stopped_err _ c.in_err-second.was))
 
 pub term-equate-requires : goal.term-equate-requires
 term-equate-requires t c =
-    let app = c.app-first in
-    let app2 = c.app-second in
+    let app = c.app in
+    let app2 = c.app-2 in
     let pre = c.requires in
     let args = c.args in
     let peek = c.peek in
     let if1 = c.if-peek-ne-EQUALS in
-    let m = moved app.ensures c.in-At.is in
-    let n = moved app2.ensures c.in-At-second.is in
-    record { fact_1 = omega (arith, m, n, pre.lent, pre.below, app.auto.out, app2.auto.out); fact_2 = root_room args.text.now args.tokens.now args.left pre app.ensures c.in-At.is (ap (λ x. x.kind) (sym peek.ensures) ∙ if1.false) app2.ensures c.in-At-second.is (omega (arith, m, n, pre.lent, pre.below, app.auto.out, app2.auto.out)) }
+    let m = moved app.ensures (ap step c.in_ok-first.was) in
+    let n = moved app2.ensures (ap step c.in_ok-second.was) in
+    record { fact_1 = omega (arith, m, n, pre.lent, pre.below, app.auto.out, app2.auto.out); fact_2 = root_room args.text.now args.tokens.now args.left pre app.ensures (ap step c.in_ok-first.was) (ap (λ x. x.kind) (sym peek.ensures) ∙ if1.false) app2.ensures (ap step c.in_ok-second.was) (omega (arith, m, n, pre.lent, pre.below, app.auto.out, app2.auto.out)) }
 
 pub term-returns : goal.term-returns
 term-returns t c =
     let args = c.args in
     let pre = c.requires in
-    let app = c.app-first in
+    let app = c.app in
     let peek = c.peek in
     let if1 = c.if-peek-ne-EQUALS in
-    let app2 = c.app-second in
+    let app2 = c.app-2 in
     let equate = c.equate in
-    term_equated args.text.now args.tokens.now args.left pre app.ensures c.in-At.is (ap (λ x. x.kind) (sym peek.ensures) ∙ if1.false) app2.ensures c.in-At-second.is equate.ensures
+    term_equated args.text.now args.tokens.now args.left pre app.ensures (ap step c.in_ok-first.was) (ap (λ x. x.kind) (sym peek.ensures) ∙ if1.false) app2.ensures (ap step c.in_ok-second.was) equate.ensures

@@ -13,8 +13,8 @@ decreases-atom l = 4 * (length l.tokens.now - l.at)
 abbrev pub decreases-term : goal.decreases-term
 decreases-term l = 4 * (length l.tokens.now - l.at) + 3
 
-abbrev pub invariant-app-loop-q : goal.invariant-app-loop-q
-invariant-app-loop-q l = Atoms l.text l.tokens l.left l.at l.used l.initial.out l.p l.u l.n l.out
+abbrev pub invariant-app-loop-more : goal.invariant-app-loop-more
+invariant-app-loop-more l = Atoms l.text l.tokens l.left l.at l.used l.initial.out l.p l.u l.n l.out
 
-abbrev pub decreases-app-loop-q : goal.decreases-app-loop-q
-decreases-app-loop-q l = length l.tokens - l.p
+abbrev pub decreases-app-loop-more : goal.decreases-app-loop-more
+decreases-app-loop-more l = length l.tokens - l.p

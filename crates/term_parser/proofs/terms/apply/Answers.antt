@@ -1,8 +1,7 @@
 -- `apply` meets its contract.
 use mathlib.Core.Path.{ap, refl}
 use native.Mathlib.Omega.{arith}
-use Rattle.term_parser.specs.declared.Step.TheVariants.{Refused}
-use Rattle.term_parser.specs.declared.Refusal.TheVariants.{OnlyNames}
+use Rattle.term_parser.specs.Steps.Step.{Refused}
 use Rattle.term_parser.proofs.terms.apply.Goals as goal
 
 pub returns-then-more-eq0 : goal.returns-then-more-eq0
@@ -16,5 +15,5 @@ returns c =
     record {
       none = λ e. absurd (omega arith);
       name = λ l e. absurd (c.if-row-eq-NAME.false e);
-      other = λ l e. ap (Refused OnlyNames) c.line.ensures;
+      other = λ l e. ap (λ e. Refused e.refusal e.line) c.rejection.ensures;
     }

@@ -1,8 +1,7 @@
 -- `equate` meets its contract.
 use mathlib.Core.Path.{ap, refl}
 use native.Mathlib.Omega.{arith}
-use Rattle.term_parser.specs.declared.Step.TheVariants.{Refused}
-use Rattle.term_parser.specs.declared.Refusal.TheVariants.{LeftOfEquals}
+use Rattle.term_parser.specs.Steps.Step.{Refused}
 use Rattle.term_parser.proofs.terms.equate.Goals as goal
 
 pub returns-then-row-eq-NAME : goal.returns-then-row-eq-NAME
@@ -19,5 +18,5 @@ returns c =
     record {
       name = λ e. absurd (c.if-row-eq-NAME.false e);
       more = λ e. absurd (c.if-row-eq-APPLICATION.false e);
-      other = λ d e. ap (Refused LeftOfEquals) c.line.ensures;
+      other = λ d e. ap (λ e. Refused e.refusal e.line) c.rejection.ensures;
     }

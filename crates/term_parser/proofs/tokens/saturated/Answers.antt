@@ -1,14 +1,11 @@
 -- `saturated` meets its contract.
-use mathlib.Core.Path.{sym, ap, ◌∙◌}
-use native.Mathlib.Omega.{arith}
-use Rattle.term_parser.specs.Grammar.{value}
+use mathlib.Core.Path.{ap, ◌∙◌}
+use Rattle.std.specs.Prelude.{min, unwrap_or}
+use Rattle.source_text.specs.Numerals.{numeral_of}
+use Rattle.source_text.specs.Parts.{part_of}
+use Rattle.term_parser.proofs.TokenLaws.{saturates}
 use Rattle.term_parser.proofs.tokens.saturated.Goals as goal
 
-pub returns-then-v-lt4294967295 : goal.returns-then-v-lt4294967295
-returns-then-v-lt4294967295 c = let e = ap value (sym c.numeral.ensures.answer ∙ c.in-Fits.is) in omega (arith, e)
-
-pub returns-else-v-lt4294967295 : goal.returns-else-v-lt4294967295
-returns-else-v-lt4294967295 c = let e = ap value (sym c.numeral.ensures.answer ∙ c.in-Fits.is) in omega (arith, e)
-
-pub returns-in-TooLarge : goal.returns-in-TooLarge
-returns-in-TooLarge c = let e = ap value (sym c.numeral.ensures.answer ∙ c.in-TooLarge.is) in omega (arith, e)
+pub returns : goal.returns
+returns c =
+    c.min.ensures ∙ ap (λ n. min n c.from.result) (c.unwrap_or.ensures ∙ ap (λ v. unwrap_or v 18446744073709551615) c.numeral-value.ensures.answer) ∙ ap (min _) c.from.ensures ∙ saturates (numeral_of (part_of c.args.text.now c.args.start c.args.length))

@@ -4,8 +4,7 @@ use lib.ListN.{drop}
 use Rattle.term_parser.specs.Parsing.{kind_of, last_line}
 use native.Mathlib.Omega.{arith}
 use Rattle.term_parser.specs.Promises.{signed}
-use Rattle.term_parser.specs.declared.Step.TheVariants.{Refused}
-use Rattle.term_parser.specs.declared.Refusal.TheVariants.{SignExpected}
+use Rattle.term_parser.specs.Steps.Step.{Refused}
 use Rattle.term_parser.proofs.TokenLaws.{token_there, sign_there, sign_not}
 use Rattle.term_parser.proofs.tokens.sign.Goals as goal
 
@@ -34,12 +33,9 @@ returns-then-peek-kind c =
 
 pub returns : goal.returns
 returns c =
-    let line = c.line in
     let args = c.args in
-    let if1 = c.if-peek-kind in
-    let peek = c.peek in
     record {
-      is = ap (Refused SignExpected) line.ensures
-          ∙ sym (ap (signed (args.at) (args.used)) (sign_not (last_line (args.tokens.now)) (args.kind) (drop (args.at) (args.tokens.now)) (λ e. if1.false (ap (λ t. t.kind) peek.ensures ∙ e))));
+      is = ap (λ e. Refused e.refusal e.line) c.rejection.ensures
+          ∙ sym (ap (signed (args.at) (args.used)) (sign_not (last_line (args.tokens.now)) (args.kind) (drop (args.at) (args.tokens.now)) (λ e. c.if-peek-kind.false (ap (λ t. t.kind) c.peek.ensures ∙ e))));
       within = tt;
     }

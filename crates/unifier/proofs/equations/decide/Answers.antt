@@ -1,20 +1,12 @@
 -- `decide` meets its contract: each way out is one case of it.
 use mathlib.Core.Path.{refl, sym, ◌∙◌}
 use Rattle.unifier.specs.Promises.{of_first, of_second, in_first, in_second, heads}
-use Rattle.unifier.specs.Deciding.{ways, alike_met, alike_constants, alike_linked, opened, header_in, root_in}
+use Rattle.unifier.specs.Deciding.{ways, alike_met, alike_constants, alike_linked, opened}
 use borrow.Author.Rules.{rules}
 use Rattle.unifier.proofs.equations.decide.Goals as goal
 
 pub returns-then-p-q : goal.returns-then-p-q
 returns-then-p-q c = record { says = alike_met c.walk-p.ensures c.walk-q.ensures c.if-p-q.true; marks = refl }
-
-pub occurs-requires : goal.occurs-requires
-occurs-requires c =
-    let pre = c.requires in
-    let walk2 = c.walk-q in
-    let walk = c.walk-p in
-    let if2 = c.if-p-room in
-    record { fact_1 = pre.fact_1; fact_2 = walk2.ensures.in_form; fact_3 = (walk.ensures.in_form.variable if2.true, walk.ensures.ends if2.true); fact_4 = pre.fact_5 }
 
 pub returns-then-occurs : goal.returns-then-occurs
 returns-then-occurs c =
@@ -42,14 +34,6 @@ returns-then-p-room c =
       marks = occurs.ensures.marks;
     }
 
-pub occurs-requires-then-q-room : goal.occurs-requires-then-q-room
-occurs-requires-then-q-room c =
-    let pre = c.requires in
-    let walk = c.walk-p in
-    let walk2 = c.walk-q in
-    let if4 = c.if-q-room in
-    record { fact_1 = pre.fact_1; fact_2 = walk.ensures.in_form; fact_3 = (walk2.ensures.in_form.variable if4.true, walk2.ensures.ends if4.true); fact_4 = pre.fact_5 }
-
 pub returns-then-occurs-2 : goal.returns-then-occurs-2
 returns-then-occurs-2 c =
     let walk = c.walk-p in
@@ -74,12 +58,6 @@ returns-then-q-room c =
       marks = occurs2.ensures.marks;
     }
 
-pub bounds-w-p : goal.bounds-w-p
-bounds-w-p c = header_in c.requires.fact_1 c.walk-p.ensures (search rules)
-
-pub bounds-w-q : goal.bounds-w-q
-bounds-w-q c = header_in c.requires.fact_1 c.walk-q.ensures (search rules)
-
 pub returns-then-header-w : goal.returns-then-header-w
 returns-then-header-w c =
     let walk = c.walk-p in
@@ -100,12 +78,6 @@ returns-then-header-eq0 c =
       says = alike_constants walk.ensures walk2.ensures (search rules) (search rules) if6.false if7.true;
       marks = refl;
     }
-
-pub find-requires : goal.find-requires
-find-requires c = record { fact_1 = c.requires.fact_3; fact_2 = root_in c.walk-p.ensures c.requires.fact_4 }
-
-pub find-requires-2 : goal.find-requires-2
-find-requires-2 c = record { fact_1 = c.requires.fact_3; fact_2 = root_in c.walk-q.ensures c.requires.fact_4 }
 
 pub returns-then-find : goal.returns-then-find
 returns-then-find c =

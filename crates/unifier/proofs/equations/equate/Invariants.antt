@@ -1,12 +1,13 @@
 -- `equate` meets its contract. The loop's invariant: what is left to be made equal, under the bindings held, comes to what the whole comes to; links
 -- join equal terms; bindings, links and open pairs were only added. What falls: links still possible, room on the stack, arguments left, the stage.
 use Rattle.arena.specs.Rows.{column}
+use Rattle.std.specs.Prelude.{is_some, unwrap_or}
 use Rattle.unifier.specs.Bounds.{measure}
 use Rattle.unifier.specs.Equating.{Loop}
 use Rattle.unifier.proofs.equations.equate.Given as goal
 
 abbrev pub invariant-loop-pending : goal.invariant-loop-pending
-invariant-loop-pending l = Loop l.room l.w l.initial.b l.initial.links l.initial.m l.initial.s l.variables l.used l.k l.r l.t l.b l.links l.m l.s l.x l.y l.d l.n l.c l.pending
+invariant-loop-pending l = Loop l.room l.w l.initial.b l.initial.links l.initial.m l.initial.s l.variables l.used l.k l.r l.t l.b l.links l.m l.s (unwrap_or l.pending (0, 0)).0 (unwrap_or l.pending (0, 0)).1 l.d l.n l.c (is_some l.pending)
 
 abbrev pub decreases-loop-pending : goal.decreases-loop-pending
-decreases-loop-pending l = measure l.room (column 0 l.links) (column 2 l.s) l.used l.d l.pending
+decreases-loop-pending l = measure l.room (column 0 l.links) (column 2 l.s) l.used l.d (is_some l.pending)

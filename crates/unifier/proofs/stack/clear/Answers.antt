@@ -1,18 +1,15 @@
--- `clear` meets its contract. The loop's invariant: what is left to clear comes to the rows that clearing all gives.
-use mathlib.Core.Path.{refl}
-use Rattle.unifier.specs.Ending.{clear_step, clear_end}
-use borrow.Author.Rules.{rules}
+-- `clear` meets its contract.
 use native.Mathlib.Omega.{arith}
+use mathlib.Core.Path.{◌≡◌, ap, ap₂, ◌∙◌}
+use mathlib.Core.List.{[], ◌∷◌}
+use Prim.Native.Nat.{ℕ}
+use lib.ListN.{length, take, get_or}
+use Rattle.std.proofs.Common.{min, length-take}
+use Rattle.unifier.specs.Ending.{triple_is, cleared_front}
 use Rattle.unifier.proofs.stack.clear.Goals as goal
 
-pub loop-i-init : goal.loop-i-init
-loop-i-init c = record { long = refl; within = c.requires; is = refl }
-
-pub bounds-s-i : goal.bounds-s-i
-bounds-s-i c = let a = c.loop-i.invariant.long in let b = c.loop-i.invariant.within in omega arith
-
-pub loop-i-preserved : goal.loop-i-preserved
-loop-i-preserved c = clear_step c.loop-i.invariant c.loop-i-test.true
-
 pub returns : goal.returns
-returns c = clear_end c.loop-i.invariant (search rules)
+returns c =
+    let k : length (take c.args.d c.args.s.now) ≡ c.args.d = length-take c.args.d c.args.s.now ∙ (let m : min c.args.d (length c.args.s.now) ≡ c.args.d = omega arith in m) in
+    cleared_front c.args.s.now c.fill.new.self c.args.d _ c.requires k
+    (c.fill.ensures.after (λ y h. triple_is y h.long ∙ (ap₂ (λ (x f : ℕ). x ∷ f ∷ get_or y 2 0 ∷ []) (h.at 0 0 0 (omega arith)) (h.at 1 0 0 (omega arith)) ∙ ap (λ (z : ℕ). 0 ∷ 0 ∷ z ∷ []) (h.at 2 0 0 (omega arith)))))

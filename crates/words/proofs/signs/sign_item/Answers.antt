@@ -1,86 +1,56 @@
 -- `sign_item` meets its contract: the sign follows from the first bytes and from whether → stands there.
-use mathlib.Core.Path.{refl, sym, ◌∙◌}
-use borrow.Author.Tests.{eq-eqb, ne_eqb}
-use Rattle.words.proofs.Items.{sign_at, no_arrow}
+use mathlib.Core.Path.{◌≡◌, refl, sym, ◌∙◌}
+use mathlib.Core.Bool.{Bool, cond}
+use lib.ListN.{get_or}
+use borrow.Author.Tests.{ne_eqb}
+use native.Mathlib.Omega.{arith}
+use Rattle.refusals.specs.declared.Refusal.TheVariants.{UnexpectedCharacter}
+use Rattle.words.specs.Items.Item.{Token, Refused}
+use Rattle.words.proofs.Items.{sign_at, sign_by, sign_else, no_arrow}
 use Rattle.words.proofs.signs.sign_item.Goals as goal
+use Rattle.words.proofs.signs.sign_item.Goals.{in_default-via-in-45+in_default, in_default-via-in_default}
 
-pub returns-then-second-eq62 : goal.returns-then-second-eq62
-returns-then-second-eq62 c =
-    let args = c.args in
-    let byte = c.byte-second in
-    let if1 = c.if-second-eq62 in
-    sym (sign_at args.line.now args.at ∙ simp (c.in-45.is, ← byte.ensures, eq-eqb _ _ if1.true))
+pub returns-in-45-eq62 : goal.returns-in-45-eq62
+returns-in-45-eq62 c = sym (sign_at c.args.line.now c.args.at ∙ simp (c.in-45-eq62.is-0, ← c.byte.ensures, c.in-45-eq62.is-1))
 
-pub returns-else-second-eq62 : goal.returns-else-second-eq62
-returns-else-second-eq62 c =
-    let args = c.args in
-    let byte = c.byte-second in
-    let if1 = c.if-second-eq62 in
-    sym (sign_at args.line.now args.at
-    ∙ simp (no_arrow args.line.now args.at 45 c.in-45.is refl, c.in-45.is, ← byte.ensures, ne_eqb _ _ if1.false))
+pub returns-in-61-eq62 : goal.returns-in-61-eq62
+returns-in-61-eq62 c = sym (sign_at c.args.line.now c.args.at ∙ simp (c.in-61-eq62.is-0, ← c.byte.ensures, c.in-61-eq62.is-1))
 
-pub returns-then-second-eq62-2 : goal.returns-then-second-eq62-2
-returns-then-second-eq62-2 c =
-    let args = c.args in
-    let byte = c.byte-second in
-    let if2 = c.if-second-eq62-2 in
-    sym (sign_at args.line.now args.at ∙ simp (c.in-61.is, ← byte.ensures, eq-eqb _ _ if2.true))
+pub returns-in-61-default : goal.returns-in-61-default
+returns-in-61-default c = sym (sign_at c.args.line.now c.args.at ∙ simp (no_arrow c.args.line.now c.args.at 61 c.in-61-default.is-0 refl, c.in-61-default.is-0, ← c.byte.ensures, ne_eqb _ _ c.in-61-default.is-1.1))
 
-pub returns-else-second-eq62-2 : goal.returns-else-second-eq62-2
-returns-else-second-eq62-2 c =
-    let args = c.args in
-    let byte = c.byte-second in
-    let if2 = c.if-second-eq62-2 in
-    sym (sign_at args.line.now args.at
-    ∙ simp (no_arrow args.line.now args.at 61 c.in-61.is refl, c.in-61.is, ← byte.ensures, ne_eqb _ _ if2.false))
+pub returns-in-58-eq61 : goal.returns-in-58-eq61
+returns-in-58-eq61 c = sym (sign_at c.args.line.now c.args.at ∙ simp (c.in-58-eq61.is-0, ← c.byte.ensures, c.in-58-eq61.is-1))
 
-pub returns-then-second-eq61 : goal.returns-then-second-eq61
-returns-then-second-eq61 c =
-    let args = c.args in
-    let byte = c.byte-second in
-    let if3 = c.if-second-eq61 in
-    sym (sign_at args.line.now args.at ∙ simp (c.in-58.is, ← byte.ensures, eq-eqb _ _ if3.true))
+pub returns-in-58-default : goal.returns-in-58-default
+returns-in-58-default c = sym (sign_at c.args.line.now c.args.at ∙ simp (no_arrow c.args.line.now c.args.at 58 c.in-58-default.is-0 refl, c.in-58-default.is-0, ← c.byte.ensures, ne_eqb _ _ c.in-58-default.is-1.1))
 
-pub returns-else-second-eq61 : goal.returns-else-second-eq61
-returns-else-second-eq61 c =
-    let args = c.args in
-    let byte = c.byte-second in
-    let if3 = c.if-second-eq61 in
-    sym (sign_at args.line.now args.at
-    ∙ simp (no_arrow args.line.now args.at 58 c.in-58.is refl, c.in-58.is, ← byte.ensures, ne_eqb _ _ if3.false))
+pub returns-in-40-default : goal.returns-in-40-default
+returns-in-40-default c = sym (sign_at c.args.line.now c.args.at ∙ simp (no_arrow c.args.line.now c.args.at 40 c.in-40-default.is-0 refl, c.in-40-default.is-0))
 
-pub returns-in-40 : goal.returns-in-40
-returns-in-40 c =
-    let args = c.args in
-    sym (sign_at args.line.now args.at ∙ simp (no_arrow args.line.now args.at 40 c.in-40.is refl, c.in-40.is))
+pub returns-in-41-default : goal.returns-in-41-default
+returns-in-41-default c = sym (sign_at c.args.line.now c.args.at ∙ simp (no_arrow c.args.line.now c.args.at 41 c.in-41-default.is-0 refl, c.in-41-default.is-0))
 
-pub returns-in-41 : goal.returns-in-41
-returns-in-41 c =
-    let args = c.args in
-    sym (sign_at args.line.now args.at ∙ simp (no_arrow args.line.now args.at 41 c.in-41.is refl, c.in-41.is))
+pub returns-in-44-default : goal.returns-in-44-default
+returns-in-44-default c = sym (sign_at c.args.line.now c.args.at ∙ simp (no_arrow c.args.line.now c.args.at 44 c.in-44-default.is-0 refl, c.in-44-default.is-0))
 
-pub returns-in-44 : goal.returns-in-44
-returns-in-44 c =
-    let args = c.args in
-    sym (sign_at args.line.now args.at ∙ simp (no_arrow args.line.now args.at 44 c.in-44.is refl, c.in-44.is))
+pub returns-in-124-default : goal.returns-in-124-default
+returns-in-124-default c = sym (sign_at c.args.line.now c.args.at ∙ simp (no_arrow c.args.line.now c.args.at 124 c.in-124-default.is-0 refl, c.in-124-default.is-0))
 
-pub returns-in-124 : goal.returns-in-124
-returns-in-124 c =
-    let args = c.args in
-    sym (sign_at args.line.now args.at ∙ simp (no_arrow args.line.now args.at 124 c.in-124.is refl, c.in-124.is))
+pub returns-then-not-starts_with : goal.returns-then-not-starts_with
+returns-then-not-starts_with c =
+    let a = get_or c.args.line.now c.args.at 0 in
+    let d = elim c.in_default.branch as (λ _. (t : Bool) → sign_by a c.byte.result t ≡ cond t (Token 15 3) (Refused UnexpectedCharacter)) [
+      | in_default-via-in-45+in_default w ↦ λ t. sign_else (get_or c.args.line.now c.args.at 0) c.byte.result t (λ e f. omega arith) (λ e. omega arith) (λ e. omega arith) (λ e. omega arith) (λ e. omega arith) (λ e. omega arith) (λ e. omega arith)
+      | in_default-via-in_default w ↦ λ t. sign_else (get_or c.args.line.now c.args.at 0) c.byte.result t (λ e f. omega arith) (λ e. omega arith) (λ e. omega arith) (λ e. omega arith) (λ e. omega arith) (λ e. omega arith) (λ e. omega arith)
+    ] in
+    sym (sign_at c.args.line.now c.args.at ∙ simp (← c.byte.ensures, ← c.starts_with.ensures, c.if-not-starts_with.true, d))
 
-pub returns-then-starts_with : goal.returns-then-starts_with
-returns-then-starts_with c =
-    let args = c.args in
-    let starts_with = c.starts_with in
-    let if4 = c.if-starts_with in
-    sym (sign_at args.line.now args.at
-    ∙ simp (ne_eqb _ _ (c.in_default.in_default-own.rest.0.0.0.0.0.0.1), ne_eqb _ _ (c.in_default.in_default-own.rest.0.0.0.0.0.1), ne_eqb _ _ (c.in_default.in_default-own.rest.0.0.0.0.1), ne_eqb _ _ (c.in_default.in_default-own.rest.0.0.0.1), ne_eqb _ _ (c.in_default.in_default-own.rest.0.0.1), ne_eqb _ _ (c.in_default.in_default-own.rest.0.1), ne_eqb _ _ (c.in_default.in_default-own.rest.1), ← starts_with.ensures, if4.true))
-
-pub returns-else-starts_with : goal.returns-else-starts_with
-returns-else-starts_with c =
-    let args = c.args in
-    let starts_with = c.starts_with in
-    let if4 = c.if-starts_with in
-    sym (sign_at args.line.now args.at
-    ∙ simp (ne_eqb _ _ (c.in_default.in_default-own.rest.0.0.0.0.0.0.1), ne_eqb _ _ (c.in_default.in_default-own.rest.0.0.0.0.0.1), ne_eqb _ _ (c.in_default.in_default-own.rest.0.0.0.0.1), ne_eqb _ _ (c.in_default.in_default-own.rest.0.0.0.1), ne_eqb _ _ (c.in_default.in_default-own.rest.0.0.1), ne_eqb _ _ (c.in_default.in_default-own.rest.0.1), ne_eqb _ _ (c.in_default.in_default-own.rest.1), ← starts_with.ensures, if4.false))
+pub returns-else-not-starts_with : goal.returns-else-not-starts_with
+returns-else-not-starts_with c =
+    let a = get_or c.args.line.now c.args.at 0 in
+    let d = elim c.in_default.branch as (λ _. (t : Bool) → sign_by a c.byte.result t ≡ cond t (Token 15 3) (Refused UnexpectedCharacter)) [
+      | in_default-via-in-45+in_default w ↦ λ t. sign_else (get_or c.args.line.now c.args.at 0) c.byte.result t (λ e f. omega arith) (λ e. omega arith) (λ e. omega arith) (λ e. omega arith) (λ e. omega arith) (λ e. omega arith) (λ e. omega arith)
+      | in_default-via-in_default w ↦ λ t. sign_else (get_or c.args.line.now c.args.at 0) c.byte.result t (λ e f. omega arith) (λ e. omega arith) (λ e. omega arith) (λ e. omega arith) (λ e. omega arith) (λ e. omega arith) (λ e. omega arith)
+    ] in
+    sym (sign_at c.args.line.now c.args.at ∙ simp (← c.byte.ensures, ← c.starts_with.ensures, c.if-not-starts_with.false, d))

@@ -1,7 +1,8 @@
 -- `outside_line` meets its contract. The loop's invariant: the first line outside the domain is the first one from the line at `at` on.
-use mathlib.Core.Path.{refl, sym, ◌∙◌}
-use Prim.Native.Nat.{◌-◌}
+use mathlib.Core.Path.{◌≡◌, refl, ◌∙◌}
 use Rattle.words.specs.Tokens.{outside_line}
+use Rattle.source_text.specs.Lines.{lines}
+use Rattle.source_text.proofs.Encodings.{positive_is}
 use Rattle.source_text.proofs.Scans.{code_fits, code_within, line_within}
 use Rattle.words.proofs.Readings.{outside_line_lem, lines_past}
 use borrow.Author.Rules.{rules}
@@ -9,7 +10,7 @@ use native.Mathlib.Omega.{arith}
 use Rattle.words.proofs.tokens.outside_line.Goals as goal
 
 pub loop-at-init : goal.loop-at-init
-loop-at-init c = (search rules, refl)
+loop-at-init c = ((search rules, search rules), refl)
 
 pub slice_bounds-has_outside-count : goal.slice_bounds-has_outside-count
 slice_bounds-has_outside-count c =
@@ -34,7 +35,7 @@ returns-then-has_outside c =
     let loop-test = c.loop-at-test in
     let has-outside = c.has_outside in
     let if1 = c.if-has_outside in
-    sym (loop.invariant.1
+    positive_is _ _ loop.invariant.0.1 (loop.invariant.1
     ∙ outside_line_lem args.text.now loop.at code-end.result _ loop.number loop-test.true code-end.ensures refl
     ∙ simp (← has-outside.ensures, if1.true))
 
@@ -77,7 +78,7 @@ loop-at-preserved c =
     let loop-test = c.loop-at-test in
     let has-outside = c.has_outside in
     let if1 = c.if-has_outside in (
-      omega (arith, loop.invariant, code_within args.text.now loop.at code-end.result line-end.result loop-test.true code-end.ensures line-end.ensures),
+      (omega (arith, loop.invariant), omega (arith, loop.invariant, code_within args.text.now loop.at code-end.result line-end.result loop-test.true code-end.ensures line-end.ensures)),
       loop.invariant.1
           ∙ outside_line_lem args.text.now loop.at code-end.result line-end.result loop.number loop-test.true code-end.ensures line-end.ensures
           ∙ simp (← has-outside.ensures, if1.false),
@@ -85,4 +86,6 @@ loop-at-preserved c =
 
 pub returns : goal.returns
 unfolding outside_line
-returns c = sym (c.loop-at.invariant.1 ∙ simp (lines_past c.args.text.now c.loop-at.at c.loop-at-test.false))
+returns c =
+    let n : outside_line (lines c.args.text.now) 1 ≡ 0 = c.loop-at.invariant.1 ∙ simp (lines_past c.args.text.now c.loop-at.at c.loop-at-test.false) in
+    rw n refl

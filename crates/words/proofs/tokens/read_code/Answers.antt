@@ -2,12 +2,14 @@
 -- there is no more than one row for each byte passed.
 use mathlib.Core.Path.{refl, sym, ap, ◌∙◌}
 use mathlib.Core.List.{[], ◌∷◌}
-use Prim.Native.Nat.{◌≤◌, ◌<◌, ◌-◌, ◌+◌}
+use Prim.Native.Nat.{◌≤◌, ◌<◌, ◌+◌}
 use native.Mathlib.Nat.{add-zero}
 use lib.ListN.{length, drop, take, length-set}
 use Rattle.words.specs.Tokens.{and_then, read_after}
 use Rattle.words.specs.Tokens.Reading.{tokens}
-use Rattle.words.specs.declared.tokens.Item.TheVariants.{Token}
+use Rattle.words.specs.Items.{item}
+use Rattle.words.specs.Items.Item.{Token}
+use Rattle.std.specs.Prelude.{Ok}
 use Rattle.words.proofs.Readings.{item_within, read_end, read_blank, read_token, read_refused, push_row}
 use borrow.Author.Rules.{rules}
 use native.Mathlib.Omega.{arith}
@@ -19,8 +21,8 @@ loop-at-init c = (search rules, omega (arith, c.requires.below), refl, simp add-
 pub item_at-requires : goal.item_at-requires
 item_at-requires c = (c.requires.table, c.loop-at-test.true)
 
-pub loop-at-preserved-in-Blank : goal.loop-at-preserved-in-Blank
-loop-at-preserved-in-Blank c =
+pub loop-at-preserved-in-Ok-None : goal.loop-at-preserved-in-Ok-None
+loop-at-preserved-in-Ok-None c =
     let loop = c.loop-at in
     let args = c.args in
     let loop-test = c.loop-at-test in
@@ -29,24 +31,17 @@ loop-at-preserved-in-Blank c =
       omega (arith, loop.invariant),
       loop.invariant.2,
       loop.invariant.3
-          ∙ read_blank args.code.now loop.at args.start args.number _ loop-test.true (sym c.in-Blank.is ∙ item-at.ensures),
+          ∙ read_blank args.code.now loop.at args.start args.number _ loop-test.true (sym (ap item (c.in-Ok-None.is ∙ ap Ok c.in-Ok-None.field-0-is)) ∙ item-at.ensures),
     )
 
-pub overflow_add-place : goal.overflow_add-place
-overflow_add-place c = omega (arith, c.requires.small)
-
-pub overflow_cast-place : goal.overflow_cast-place
-overflow_cast-place c = omega (arith, c.requires.small)
-
-pub overflow_cast-size : goal.overflow_cast-size
-overflow_cast-size c =
+pub overflow_cast-rows-in-Ok-Some : goal.overflow_cast-rows-in-Ok-Some
+overflow_cast-rows-in-Ok-Some c =
     let loop = c.loop-at in
     let args = c.args in
     let loop-test = c.loop-at-test in
     let item-at = c.item_at in
     let pre = c.requires in
-    let w : (0 < c.in-Token.length) × (loop.at + c.in-Token.length ≤ length args.code.now) = item_within args.code.now loop.at args.start args.number (Token c.in-Token.kind c.in-Token.length) loop-test.true (sym c.in-Token.is
-    ∙ item-at.ensures) in
+    let w : (0 < c.in-Ok-Some.lexeme.length) × (loop.at + c.in-Ok-Some.lexeme.length ≤ length args.code.now) = item_within args.code.now loop.at args.start args.number (Token c.in-Ok-Some.lexeme.kind c.in-Ok-Some.lexeme.length) loop-test.true (sym (ap item (c.in-Ok-Some.is ∙ ap Ok c.in-Ok-Some.field-0-is)) ∙ item-at.ensures) in
     omega (arith, pre.small)
 
 pub bounds-rows-n : goal.bounds-rows-n
@@ -55,15 +50,14 @@ bounds-rows-n c = omega (arith, c.requires.lent, c.loop-at.invariant)
 pub overflow_add-n : goal.overflow_add-n
 overflow_add-n c = omega (arith, c.requires.small, c.loop-at.invariant)
 
-pub overflow_add-at-in-Token : goal.overflow_add-at-in-Token
-overflow_add-at-in-Token c =
+pub overflow_add-at-in-Ok-Some : goal.overflow_add-at-in-Ok-Some
+overflow_add-at-in-Ok-Some c =
     let loop = c.loop-at in
     let args = c.args in
     let loop-test = c.loop-at-test in
     let item-at = c.item_at in
     let pre = c.requires in
-    let w : (0 < c.in-Token.length) × (loop.at + c.in-Token.length ≤ length args.code.now) = item_within args.code.now loop.at args.start args.number (Token c.in-Token.kind c.in-Token.length) loop-test.true (sym c.in-Token.is
-    ∙ item-at.ensures) in
+    let w : (0 < c.in-Ok-Some.lexeme.length) × (loop.at + c.in-Ok-Some.lexeme.length ≤ length args.code.now) = item_within args.code.now loop.at args.start args.number (Token c.in-Ok-Some.lexeme.kind c.in-Ok-Some.lexeme.length) loop-test.true (sym (ap item (c.in-Ok-Some.is ∙ ap Ok c.in-Ok-Some.field-0-is)) ∙ item-at.ensures) in
     omega (arith, pre.small)
 
 pub loop-at-smaller : goal.loop-at-smaller
@@ -72,8 +66,7 @@ loop-at-smaller c =
     let args = c.args in
     let loop-test = c.loop-at-test in
     let item-at = c.item_at in
-    let w : (0 < c.in-Token.length) × (loop.at + c.in-Token.length ≤ length args.code.now) = item_within args.code.now loop.at args.start args.number (Token c.in-Token.kind c.in-Token.length) loop-test.true (sym c.in-Token.is
-    ∙ item-at.ensures) in
+    let w : (0 < c.in-Ok-Some.lexeme.length) × (loop.at + c.in-Ok-Some.lexeme.length ≤ length args.code.now) = item_within args.code.now loop.at args.start args.number (Token c.in-Ok-Some.lexeme.kind c.in-Ok-Some.lexeme.length) loop-test.true (sym (ap item (c.in-Ok-Some.is ∙ ap Ok c.in-Ok-Some.field-0-is)) ∙ item-at.ensures) in
     omega arith
 
 pub loop-at-preserved : goal.loop-at-preserved
@@ -83,26 +76,25 @@ loop-at-preserved c =
     let loop-test = c.loop-at-test in
     let item-at = c.item_at in
     let pre = c.requires in
-    let w : (0 < c.in-Token.length) × (loop.at + c.in-Token.length ≤ length args.code.now) = item_within args.code.now loop.at args.start args.number (Token c.in-Token.kind c.in-Token.length) loop-test.true (sym c.in-Token.is
-    ∙ item-at.ensures) in
+    let w : (0 < c.in-Ok-Some.lexeme.length) × (loop.at + c.in-Ok-Some.lexeme.length ≤ length args.code.now) = item_within args.code.now loop.at args.start args.number (Token c.in-Ok-Some.lexeme.kind c.in-Ok-Some.lexeme.length) loop-test.true (sym (ap item (c.in-Ok-Some.is ∙ ap Ok c.in-Ok-Some.field-0-is)) ∙ item-at.ensures) in
     let room : loop.n < length loop.rows = omega (arith, pre.lent, loop.invariant) in (
       omega arith,
       omega (arith, loop.invariant),
       simp length-set loop.invariant.2,
       loop.invariant.3
-          ∙ read_token args.code.now loop.at args.start args.number (take loop.n loop.rows) loop-test.true c.in-Token.kind c.in-Token.length (sym c.in-Token.is ∙ item-at.ensures)
-          ∙ ap (λ ts. and_then (tokens ts) (read_after (drop (loop.at + c.in-Token.length) args.code.now) 0 (args.start + (loop.at + c.in-Token.length)) args.number)) (sym (push_row loop.rows loop.n (c.in-Token.kind ∷ (args.start + loop.at) ∷ c.in-Token.length ∷ args.number ∷ []) room)),
+          ∙ read_token args.code.now loop.at args.start args.number (take loop.n loop.rows) loop-test.true c.in-Ok-Some.lexeme.kind c.in-Ok-Some.lexeme.length (sym (ap item (c.in-Ok-Some.is ∙ ap Ok c.in-Ok-Some.field-0-is)) ∙ item-at.ensures)
+          ∙ ap (λ ts. and_then (tokens ts) (read_after (drop (loop.at + c.in-Ok-Some.lexeme.length) args.code.now) 0 (args.start + (loop.at + c.in-Ok-Some.lexeme.length)) args.number)) (sym (push_row loop.rows loop.n (c.in-Ok-Some.lexeme.kind ∷ (args.start + loop.at) ∷ c.in-Ok-Some.lexeme.length ∷ args.number ∷ []) room)),
     )
 
-pub returns-in-Refused : goal.returns-in-Refused
-returns-in-Refused c =
+pub returns-in-Err : goal.returns-in-Err
+returns-in-Err c =
     let loop = c.loop-at in
     let args = c.args in
     let loop-test = c.loop-at-test in
     let item-at = c.item_at in
     record {
       reads = sym (loop.invariant.3
-          ∙ read_refused args.code.now loop.at args.start args.number (take loop.n loop.rows) loop-test.true c.in-Refused.r (sym c.in-Refused.is ∙ item-at.ensures));
+          ∙ read_refused args.code.now loop.at args.start args.number (take loop.n loop.rows) loop-test.true c.in-Err.refusal (sym (ap item c.in-Err.is) ∙ item-at.ensures));
       fits = omega arith;
       long = loop.invariant.2;
     }

@@ -3,6 +3,8 @@
 use mathlib.Core.Path.{◌≡◌, refl, sym, ap, ◌∙◌}
 use Prim.Native.Nat.{◌-◌, ◌+◌}
 use lib.ListN.{length, drop, take}
+use Rattle.std.specs.Prelude.{Err}
+use Rattle.std.proofs.lemmas.Result.{err_from_is_err_and}
 use Rattle.source_text.specs.Lines.{lines}
 use Rattle.words.specs.Tokens.{and_then, read_lines}
 use Rattle.words.specs.Rows.{outcome}
@@ -28,8 +30,8 @@ pub slice_bounds-read_code-end : goal.slice_bounds-read_code-end
 slice_bounds-read_code-end c =
     omega (arith, code_fits c.args.text.now c.loop-at.at c.code_end-end.result c.loop-at-test.true c.code_end-end.ensures)
 
-pub read_code-read-requires : goal.read_code-read-requires
-read_code-read-requires c =
+pub read_code-requires : goal.read_code-requires
+read_code-requires c =
     let code-end = c.code_end-end in
     let loop = c.loop-at in
     let args = c.args in
@@ -44,19 +46,21 @@ read_code-read-requires c =
       small = omega (arith, pre, code_fits args.text.now loop.at code-end.result loop-test.true code-end.ensures);
     }
 
-pub returns-in_default : goal.returns-in_default
-returns-in_default c =
+pub returns-in_err-count : goal.returns-in_err-count
+returns-in_err-count c =
     let code-end = c.code_end-end in
     let loop = c.loop-at in
     let args = c.args in
     let loop-test = c.loop-at-test in
-    let read-code = c.read_code-read in
+    let read-code = c.read_code in
     let long : length (take (code-end.result - loop.at) (drop loop.at args.text.now)) ≡ code-end.result - loop.at = part_long args.text.now loop.at code-end.result (code_fits args.text.now loop.at code-end.result loop-test.true code-end.ensures) in
+    let p = err_from_is_err_and c.from_residual.result c.from_residual.ensures.1 in
+    let q : c.from_residual.result ≡ read-code.result = p.1 ∙ ap Err p.2 ∙ sym c.in_err-count.was in
     record {
-      reads = sym (then_nil _
+      reads = ap (λ l. outcome l read-code.new.rows) q ∙ sym (then_nil _
           ∙ line_read args.text.now loop.at code-end.result _ loop.number loop-test.true code-end.ensures refl _ (take loop.count loop.rows) (outcome read-code.result read-code.new.rows) loop.invariant.4 read-code.ensures.reads
-          ∙ stopped read-code.result read-code.new.rows _ _ _ c.in_default.is);
-      fits = omega (arith, read-code.ensures.fits, code_fits args.text.now loop.at code-end.result loop-test.true code-end.ensures);
+          ∙ stopped read-code.result read-code.new.rows _ _ c.in_err-count.was);
+      fits = rw q (omega (arith, read-code.ensures.fits, code_fits args.text.now loop.at code-end.result loop-test.true code-end.ensures));
       long = read-code.ensures.long ∙ loop.invariant.3;
     }
 
@@ -98,17 +102,17 @@ loop-at-preserved c =
     let loop = c.loop-at in
     let args = c.args in
     let loop-test = c.loop-at-test in
-    let read-code = c.read_code-read in
+    let read-code = c.read_code in
     let line-end = c.line_end-at in
     let long : length (take (code-end.result - loop.at) (drop loop.at args.text.now)) ≡ code-end.result - loop.at = part_long args.text.now loop.at code-end.result (code_fits args.text.now loop.at code-end.result loop-test.true code-end.ensures) in
-    let counted : count_of read-code.result ≡ c.in-Tokens.n = ap count_of c.in-Tokens.is in (
+    let counted : count_of read-code.result ≡ c.in_ok-count.count = ap count_of c.in_ok-count.was in (
       omega (arith, loop.invariant, code_within args.text.now loop.at code-end.result line-end.result loop-test.true code-end.ensures line-end.ensures),
       omega (arith, read-code.ensures.fits, code_fits args.text.now loop.at code-end.result loop-test.true code-end.ensures, code_within args.text.now loop.at code-end.result line-end.result loop-test.true code-end.ensures line-end.ensures),
       omega (arith, read-code.ensures.fits, code_fits args.text.now loop.at code-end.result loop-test.true code-end.ensures),
       read-code.ensures.long
           ∙ loop.invariant.3,
       line_read args.text.now loop.at code-end.result line-end.result loop.number loop-test.true code-end.ensures line-end.ensures _ (take loop.count loop.rows) (outcome read-code.result read-code.new.rows) loop.invariant.4 read-code.ensures.reads
-          ∙ ap (λ l. and_then (outcome l read-code.new.rows) (read_lines (lines (drop (line-end.result + 1) args.text.now)) (line-end.result + 1) (loop.number + 1))) c.in-Tokens.is,
+          ∙ ap (λ l. and_then (outcome l read-code.new.rows) (read_lines (lines (drop (line-end.result + 1) args.text.now)) (line-end.result + 1) (loop.number + 1))) c.in_ok-count.was,
     )
 
 pub returns : goal.returns

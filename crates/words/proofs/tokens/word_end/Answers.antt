@@ -1,6 +1,5 @@
 -- `word_end` meets its contract. The loop's invariant: the word's end is as far from i as the end of the word that starts at i.
 use mathlib.Core.Path.{refl, sym, ap, ◌∙◌}
-use Prim.Native.Nat.{◌-◌}
 use Rattle.words.specs.Tokens.{is_word}
 use Rattle.words.proofs.Items.{word_next, word_stop, word_past}
 use borrow.Author.Rules.{rules}

@@ -1,0 +1,33 @@
+-- Laws of a part of a list, as a slice of it is lent: what holds of each number of the part holds of each number at its places.
+use Rattle.std.proofs.Common.{◌≡◌, ℕ, ◌+◌, ◌-◌, ◌≤◌, ◌<◌, List, length, get_or, take, drop, sym, ap, subst, ◌∙◌, arith, EachIndex, length-take, length-drop, get_or-take, get_or-drop}
+
+module _ (xs : List ℕ) (from to : ℕ) where
+  pub part_length : to ≤ length xs → length (take (to - from) (drop from xs)) ≡ to - from
+  part_length l = omega (arith, length-take (to - from) (drop from xs), length-drop from xs)
+
+  pub part_index : (k : ℕ) → from + k < to → get_or (take (to - from) (drop from xs)) k 0 ≡ get_or xs (from + k) 0
+  part_index k l = get_or-take (to - from) (drop from xs) k 0 (omega arith) ∙ get_or-drop from xs k 0
+
+  pub part_each : (P : ℕ → Type 0) → to ≤ length xs → EachIndex (take (to - from) (drop from xs)) (λ k. P (get_or (take (to - from) (drop from xs)) k 0))
+      → (i : ℕ) → from ≤ i → i < to → P (get_or xs i 0)
+  part_each P l h i a b =
+      let e : from + (i - from) ≡ i = omega arith in
+      let n = part_length l in
+      subst P (part_index (i - from) (omega arith) ∙ ap (λ j. get_or xs j 0) e) (h (i - from) (omega arith))
+
+  pub each_part : (P : ℕ → Type 0) → to ≤ length xs → ((i : ℕ) → from ≤ i → i < to → P (get_or xs i 0))
+      → EachIndex (take (to - from) (drop from xs)) (λ k. P (get_or (take (to - from) (drop from xs)) k 0))
+  each_part P l h k b =
+      let n = part_length l in
+      subst P (sym (part_index k (omega arith))) (h (from + k) (omega arith) (omega arith))
+
+-- The same of columns, n up to m from column `at` on.
+module _ (row : List ℕ) (at n m : ℕ) (P : ℕ → Type 0) (long : at + m ≤ length row) where
+  pub columns_each : EachIndex (take (at + m - (at + n)) (drop (at + n) row)) (λ k. P (get_or (take (at + m - (at + n)) (drop (at + n) row)) k 0))
+      → (j : ℕ) → n ≤ j → j < m → P (get_or row (at + j) 0)
+  columns_each h j a b = part_each row (at + n) (at + m) P long h (at + j) (omega arith) (omega arith)
+
+  pub each_columns : ((j : ℕ) → n ≤ j → j < m → P (get_or row (at + j) 0))
+      → EachIndex (take (at + m - (at + n)) (drop (at + n) row)) (λ k. P (get_or (take (at + m - (at + n)) (drop (at + n) row)) k 0))
+  each_columns h = each_part row (at + n) (at + m) P long
+      (λ i a b. let e : at + (i - at) ≡ i = omega arith in subst (λ x. P (get_or row x 0)) e (h (i - at) (omega arith) (omega arith)))

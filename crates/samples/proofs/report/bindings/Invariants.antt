@@ -1,9 +1,0 @@
--- `bindings` is safe.
-use Prim.Native.Nat.{◌-◌}
-use Rattle.samples.proofs.report.bindings.Given as goal
-
-abbrev pub invariant-loop-i : goal.invariant-loop-i
-invariant-loop-i l = Unit {0}
-
-abbrev pub decreases-loop-i : goal.decreases-loop-i
-decreases-loop-i l = l.to - l.i

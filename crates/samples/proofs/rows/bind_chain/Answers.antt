@@ -1,7 +1,0 @@
--- `bind_chain` is safe. The loop's invariant: the rows stay as many.
-use mathlib.Core.Path.{refl}
-use Rattle.samples.proofs.rows.bind_chain.Goals as goal
-
-pub loop-i-init : goal.loop-i-init
-loop-i-init c =
-    refl

@@ -1,0 +1,68 @@
+-- The contracts over what travels together: a program, which is read, and a store, which is written.
+use Rattle.std.specs.Prelude.{◌≡◌}
+use Rattle.std.proofs.Common.{refl, ◌∙◌}
+use Rattle.search_machine.specs.Storage.{RowAsked, RowTried, Attempt}
+use Rattle.search_machine.specs.Promises.{Ready, Stepped, Returned, Searched}
+use Rattle.search_machine.specs.declared.Allowed.{Allowed}
+use Rattle.search_machine.specs.declared.Machine.{Machine}
+use Rattle.search_machine.specs.declared.Program.{Program}
+use Rattle.search_machine.specs.declared.Store.{Store}
+
+-- The same buffers are lent.
+pub record IsLent (s s' : Store) : Type 0 where
+  pub words : s'.words.ghost_name ≡ s.words.ghost_name
+  pub bindings : s'.bindings.ghost_name ≡ s.bindings.ghost_name
+  pub links : s'.links.ghost_name ≡ s.links.ghost_name
+  pub marks : s'.marks.ghost_name ≡ s.marks.ghost_name
+  pub stack : s'.stack.ghost_name ≡ s.stack.ghost_name
+  pub frames : s'.frames.ghost_name ≡ s.frames.ghost_name
+
+-- What an attempt with the rule of a state asks, and what it leaves.
+abbrev pub AskedIn : Program → Store → Machine → Type 0
+AskedIn p s m =
+    RowAsked p.allowed.variables p.allowed.words p.pattern.now p.rules.now s.words.now s.bindings.now s.links.now s.marks.now s.stack.now
+    m.counter m.used m.bound m.goal m.rule
+
+abbrev pub TriedIn : Program → Store → Store → Machine → Attempt → Type 0
+TriedIn p s s' m answer =
+    RowTried p.allowed.variables p.allowed.words p.pattern.now p.rules.now s.words.now s'.words.now s.bindings.now s'.bindings.now
+    s.links.now s'.links.now s.marks.now s'.marks.now s.stack.now s'.stack.now m.counter m.used m.bound m.goal m.rule answer
+
+-- What a step asks and leaves, and what the whole search leaves.
+abbrev pub ReadyIn : Program → Store → Machine → Type 0
+ReadyIn p s m =
+    Ready p.allowed p.pattern.now p.rules.now s.frames.now s.words.now s.bindings.now s.links.now s.marks.now s.stack.now m
+
+abbrev pub SteppedIn : Program → Store → Store → Machine → Machine → Type 0
+SteppedIn p s s' m m' =
+    Stepped p.allowed p.pattern.now p.rules.now s.frames.now s'.frames.now s.words.now s'.words.now s.bindings.now s'.bindings.now
+    s.links.now s'.links.now s.marks.now s'.marks.now s.stack.now s'.stack.now m m'
+
+-- A step back writes bindings alone.
+pub record ReturnedIn (a : Allowed) (s s' : Store) (m m' : Machine) : Type 0 where
+  pub returned : Returned a s.frames.now s.bindings.now s'.bindings.now m m'
+  pub words : s'.words.now ≡ s.words.now
+  pub links : s'.links.now ≡ s.links.now
+  pub marks : s'.marks.now ≡ s.marks.now
+  pub stack : s'.stack.now ≡ s.stack.now
+  pub frames : s'.frames.now ≡ s.frames.now
+
+abbrev pub SearchedIn : Program → Store → Store → Machine → Machine → Type 0
+SearchedIn p s s' m m' =
+    Searched p.allowed p.pattern.now p.rules.now s.frames.now s'.frames.now s.words.now s'.words.now s.bindings.now s'.bindings.now
+    s.links.now s'.links.now s.marks.now s'.marks.now s.stack.now s'.stack.now m m'
+
+-- Laws
+
+pub lent_start : {s : Store} → IsLent s s
+lent_start = record { words = refl; bindings = refl; links = refl; marks = refl; stack = refl; frames = refl }
+
+pub lent_on : {s s' s'' : Store} → IsLent s s' → IsLent s' s'' → IsLent s s''
+lent_on h k = record {
+  words = k.words ∙ h.words;
+  bindings = k.bindings ∙ h.bindings;
+  links = k.links ∙ h.links;
+  marks = k.marks ∙ h.marks;
+  stack = k.stack ∙ h.stack;
+  frames = k.frames ∙ h.frames;
+}
