@@ -22,8 +22,10 @@ use Rattle.loader.specs.Entering.{Storage}
 use Rattle.loader.specs.TermRows.{spelled_size, ClauseStands}
 use Rattle.declarations.specs.Steps.{Ready, Filled, Advanced, ClauseDeclared, ClausesStand}
 use Rattle.declarations.specs.declared.State.{State}
+use Rattle.std.specs.Prelude.{Result, Ok, Err}
+use Rattle.refusals.specs.declared.Refusal.{Refusal}
+use Rattle.refusals.specs.Refusals.{number_of}
 use Rattle.declarations.specs.declared.Progress.{Progress}
-use Rattle.declarations.specs.declared.Progress.TheVariants.{Refused, Done}
 
 -- As many patterns as the clause's row says.
 pub patterns_number : {text : List ℕ} {rows : Rows} {p : ℕ} {c : Clause} {q : ℕ} → ClauseStands text rows p c q → size (spelled text (all_of c.patterns)) ≡ column (row_at rows p) 3
@@ -111,35 +113,36 @@ module _ {text : List ℕ} {limit : ℕ} {rows : Rows} {n start size : ℕ} {sym
       go [] s e = absurd (omega arith)
       go (c ∷ cs) s e = (c, s.0, s.1)
 
-  module _ {rules' : Rows} {words' : List ℕ} {r : Progress} (inside : NamePlace text start size)
+  module _ {rules' : Rows} {words' : List ℕ} {r : Result Progress Refusal} (inside : NamePlace text start size)
       (declared : ClauseDeclared text rows p i start size symbols rules words st r rules' words') where
     -- It is refused, and so are all.
-    pub going_refused : {e : ℕ} → Going text limit rows n start size symbols rules words st₀ st p i q all whole → i < n → r ≡ Refused e → whole ≡ no e
+    pub going_refused : {e : Refusal} → Going text limit rows n start size symbols rules words st₀ st p i q all whole → i < n → r ≡ Err e → whole ≡ no (number_of e)
     unfolding ClausesStand enter_clauses
     going_refused {e} g l z = go g.rest g.stand g.number g.same
       where
-        step : (ts : List Title) (x : Step) (m : ℕ) → Advanced text limit ts x m rules' words' st r → x ≡ no e
-        step ts (no f) m h = cc
+        step : (ts : List Title) (x : Step) (m : ℕ) → Advanced text limit ts x m rules' words' st r → x ≡ no (number_of e)
+        step ts (no f) m h = let g : number_of e ≡ f = rw z at h in ap no (sym g)
         step ts (on t) m h = absurd (let d = h.1 in let w : ◌≡◌ {A = ℕ} 0 1 = cc in omega arith)
 
-        go : (cs : List Clause) → ClausesStand text rows p cs q → i + length cs ≡ n → whole ≡ enter_clauses limit text g.signature (part_of text start size) i cs → whole ≡ no e
+        go : (cs : List Clause) → ClausesStand text rows p cs q → i + length cs ≡ n → whole ≡ enter_clauses limit text g.signature (part_of text start size) i cs → whole ≡ no (number_of e)
         go [] s d w = absurd (omega arith)
         go (c ∷ cs) s d w =
             let h = step _ (enter_clause limit text g.signature (part_of text start size) i c) s.0 (declared.same limit g.titles g.signature g.ready inside g.counted c s.0 s.1) in
             w ∙ rw h refl
 
     -- It is entered, and the others are left.
-    pub going_on : {next : ℕ} {st' : State} → Going text limit rows n start size symbols rules words st₀ st p i q all whole → i < n → r ≡ Done next st'
+    pub going_on : {next : ℕ} {st' : State} → Going text limit rows n start size symbols rules words st₀ st p i q all whole → i < n → r ≡ Ok (record { next = next; state = st' })
         → Going text limit rows n start size symbols rules' words' st₀ st' next (i + 1) q all whole
     unfolding ClausesStand enter_clauses with_clauses
     going_on {next} {st'} g l z = go g.rest g.stand g.number g.titled g.same
       where
         step : (ts : List Title) (x : Step) (m : ℕ) → Advanced text limit ts x m rules' words' st r → (t : Signature) × (x ≡ on t) × (next ≡ m) × Filled text limit ts t rules' words' st st'
-        step ts (no f) m h = absurd (let w : ◌≡◌ {A = ℕ} 0 1 = cc in omega arith)
+        step ts (no f) m h = absurd (rw z at h)
         step ts (on t) m h =
-            let d = h.1 in
-            let a : h.0 ≡ st' = cc in
-            let b : next ≡ m = cc in
+            let d : ◌≡◌ {A = Result Progress Refusal} (Ok (record { next = m; state = h.0 })) (Ok (record { next = next; state = st' })) = sym h.1 ∙ z in
+            let y : ◌≡◌ {A = Progress} (record { next = m; state = h.0 }) (record { next = next; state = st' }) = cc in
+            let a : h.0 ≡ st' = ap (λ (x : Progress). x.state) y in
+            let b : next ≡ m = sym (ap (λ (x : Progress). x.next) y) in
             (t, refl, b, rw (← a) h.2)
 
         more : List Title
@@ -184,12 +187,12 @@ module _ {text : List ℕ} {limit : ℕ} {rows : Rows} {n start size : ℕ} {sym
             turn c cs s.0 s.2 d ti w h.0 h.1 h.2 h.3
 
   -- No clause is left.
-  pub going_end : Going text limit rows n start size symbols rules words st₀ st p i q all whole → n ≤ i → Advanced text limit all whole q rules words st₀ (Done p st)
+  pub going_end : Going text limit rows n start size symbols rules words st₀ st p i q all whole → n ≤ i → Advanced text limit all whole q rules words st₀ (Ok (record { next = p; state = st }))
   unfolding ClausesStand enter_clauses with_clauses
   going_end g l = go g.rest g.stand g.number g.titled g.same
     where
-      go : (cs : List Clause) → ClausesStand text rows p cs q → i + length cs ≡ n → all ≡ with_clauses g.titles (place start size) i cs → whole ≡ enter_clauses limit text g.signature (part_of text start size) i cs → Advanced text limit all whole q rules words st₀ (Done p st)
-      go [] s d ti w = rw (w, ti) (st, ap (λ (x : ℕ). Done x st) s, record { kept = g.ready.kept; sorts = g.sorts; symbols = g.symbols_kept })
+      go : (cs : List Clause) → ClausesStand text rows p cs q → i + length cs ≡ n → all ≡ with_clauses g.titles (place start size) i cs → whole ≡ enter_clauses limit text g.signature (part_of text start size) i cs → Advanced text limit all whole q rules words st₀ (Ok (record { next = p; state = st }))
+      go [] s d ti w = rw (w, ti) (st, ap (λ (x : ℕ). Ok (record { next = x; state = st })) s, record { kept = g.ready.kept; sorts = g.sorts; symbols = g.symbols_kept })
       go (c ∷ cs) s d ti w = absurd (omega arith)
 
 -- Entering clauses leaves sorts and symbols as they are.

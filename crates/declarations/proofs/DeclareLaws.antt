@@ -22,10 +22,12 @@ use Rattle.loader.specs.Rows.{entered}
 use Rattle.loader.specs.Arrows.{names_at}
 use Rattle.loader.specs.SymbolEntry.{symbol_named}
 use Rattle.declarations.specs.Held.{Held}
-use Rattle.declarations.specs.Steps.{name_at, place_at, sort_progress, SymbolAsked, SymbolDeclared, Ready, Advanced, RuleAsked, RuleDeclared, Stepped, def_of, DefAsked, DefDeclared, DeclarationAt}
+use Rattle.declarations.specs.Steps.{name_at, place_at, GoesTo, sort_progress, SymbolAsked, SymbolDeclared, Ready, Advanced, RuleAsked, RuleDeclared, Stepped, def_of, DefAsked, DefDeclared, DeclarationAt}
 use Rattle.declarations.specs.declared.State.{State}
+use Rattle.std.specs.Prelude.{Result, Ok, Err}
+use Rattle.refusals.specs.declared.Refusal.{Refusal}
+use Rattle.refusals.specs.declared.Refusal.TheVariants.{NoDeclaration, NotLoaded}
 use Rattle.declarations.specs.declared.Progress.{Progress}
-use Rattle.declarations.specs.declared.Progress.TheVariants.{Refused, Done}
 use Rattle.declarations.proofs.NameLaws.{sort_stepped}
 use Rattle.declarations.proofs.DefLaws.{symbol_stepped}
 use Rattle.declarations.proofs.DeclarationLaws.{kind_of, first_row, sort_parts, ctor_parts, pred_parts, rule_parts, def_parts, eval_parts}
@@ -49,7 +51,7 @@ ready {text} {limit} {ts} {s} held =
 
 -- Rules entered with the names as they were.
 from_advanced : {text : List ℕ} {limit : ℕ} {ts : Titles} {s : Signature} {sorts symbols rules : Rows} {words : List ℕ} {st : State} → Held text limit ts s sorts symbols rules words st
-    → (us : List Title) (x : Step) (q : ℕ) (rules' : Rows) (words' : List ℕ) (r : Progress) → ((t : Signature) → x ≡ on t → (t.sorts ≡ s.sorts) × (t.symbols ≡ s.symbols)) → Stepping Legal x
+    → (us : List Title) (x : Step) (q : ℕ) (rules' : Rows) (words' : List ℕ) (r : Result Progress Refusal) → ((t : Signature) → x ≡ on t → (t.sorts ≡ s.sorts) × (t.symbols ≡ s.symbols)) → Stepping Legal x
     → Advanced text limit us x q rules' words' st r → Stepped text limit (record { sorts = ts.sorts; symbols = ts.symbols; rules = us }) x q sorts symbols rules' words' r
 from_advanced held us (no e) q rules' words' r same legal a = a
 from_advanced held us (on t) q rules' words' r same legal a =
@@ -105,8 +107,8 @@ module _ {text : List ℕ} {limit : ℕ} {ts : Titles} {s : Signature} {sorts sy
       go line (eval t) h k = absurd (omega arith)
       go line (check t) h k = absurd (omega arith)
 
-  pub sort_done : (sorts' : Rows) (r : Progress) → column (row_at rows p) 0 ≡ 1
-      → r ≡ sort_progress (sort_refusal (sorts_of text sorts st.sorts) (symbols_of text symbols st.symbols) (name_at text rows (p + 1))) p st
+  pub sort_done : (sorts' : Rows) (r : Result Progress Refusal) → column (row_at rows p) 0 ≡ 1
+      → GoesTo (sort_refusal (sorts_of text sorts st.sorts) (symbols_of text symbols st.symbols) (name_at text rows (p + 1))) (sort_progress p st) r
       → sorts' ≡ entered (sort_refusal (sorts_of text sorts st.sorts) (symbols_of text symbols st.symbols) (name_at text rows (p + 1))) sorts st.sorts (column (row_at rows (p + 1)) 1 ∷ column (row_at rows (p + 1)) 2 ∷ [])
       → Stepped text limit (entitled ts d.declaration) (declare limit text s d.declaration) q sorts' symbols rules words r
   sort_done sorts' r e a b = go d.line d.declaration h (is_kind h 1 e) (declare_legal limit text s d.declaration held.legal)
@@ -149,12 +151,12 @@ module _ {text : List ℕ} {limit : ℕ} {ts : Titles} {s : Signature} {sorts sy
 
   -- without a sort
   pub ctor_none : (sorts' symbols' rules' : Rows) (words' : List ℕ) → column (row_at rows p) 0 ≡ 2 → column (row_at rows p) 2 ≡ 0
-      → Stepped text limit (entitled ts d.declaration) (declare limit text s d.declaration) q sorts' symbols' rules' words' (Refused 0)
+      → Stepped text limit (entitled ts d.declaration) (declare limit text s d.declaration) q sorts' symbols' rules' words' (Err NoDeclaration)
   unfolding numbers_of
   ctor_none sorts' symbols' rules' words' e z = go d.line d.declaration h (is_kind h 2 e)
     where
       go : (line : ℕ) (e : Declaration) → DeclarationAt text rows p (record { line = line; declaration = e }) q → kind_of e ≡ 2
-          → Stepped text limit (entitled ts e) (declare limit text s e) q sorts' symbols' rules' words' (Refused 0)
+          → Stepped text limit (entitled ts e) (declare limit text s e) q sorts' symbols' rules' words' (Err NoDeclaration)
       go line (sort n) h k = absurd (omega arith)
       go line (ctor n []) h k = refl
       go line (ctor n (x ∷ ss)) h k = let y = (ctor_parts text rows p line h).0.number in absurd (omega arith)
@@ -165,7 +167,7 @@ module _ {text : List ℕ} {limit : ℕ} {ts : Titles} {s : Signature} {sorts sy
       go line (eval t) h k = absurd (omega arith)
       go line (check t) h k = absurd (omega arith)
 
-  pub ctor_done : (symbols' : Rows) (r : Progress) → column (row_at rows p) 0 ≡ 2 → 0 < column (row_at rows p) 2 → SymbolDeclared text rows p true sorts symbols st r symbols'
+  pub ctor_done : (symbols' : Rows) (r : Result Progress Refusal) → column (row_at rows p) 0 ≡ 2 → 0 < column (row_at rows p) 2 → SymbolDeclared text rows p true sorts symbols st r symbols'
       → Stepped text limit (entitled ts d.declaration) (declare limit text s d.declaration) q sorts symbols' rules words r
   ctor_done symbols' r e some a = go d.line d.declaration h (is_kind h 2 e) (declare_legal limit text s d.declaration held.legal)
     where
@@ -212,7 +214,7 @@ module _ {text : List ℕ} {limit : ℕ} {ts : Titles} {s : Signature} {sorts sy
       go line (eval t) h k = absurd (omega arith)
       go line (check t) h k = absurd (omega arith)
 
-  pub pred_done : (symbols' : Rows) (r : Progress) → column (row_at rows p) 0 ≡ 3 → SymbolDeclared text rows p false sorts symbols st r symbols'
+  pub pred_done : (symbols' : Rows) (r : Result Progress Refusal) → column (row_at rows p) 0 ≡ 3 → SymbolDeclared text rows p false sorts symbols st r symbols'
       → Stepped text limit (entitled ts d.declaration) (declare limit text s d.declaration) q sorts symbols' rules words r
   pred_done symbols' r e a = go d.line d.declaration h (is_kind h 3 e) (declare_legal limit text s d.declaration held.legal)
     where
@@ -262,7 +264,7 @@ module _ {text : List ℕ} {limit : ℕ} {ts : Titles} {s : Signature} {sorts sy
       go line (eval t) h k = absurd (omega arith)
       go line (check t) h k = absurd (omega arith)
 
-  pub rule_done : (rules' : Rows) (words' : List ℕ) (r : Progress) → column (row_at rows p) 0 ≡ 4 → RuleDeclared text rows p symbols rules words st r rules' words'
+  pub rule_done : (rules' : Rows) (words' : List ℕ) (r : Result Progress Refusal) → column (row_at rows p) 0 ≡ 4 → RuleDeclared text rows p symbols rules words st r rules' words'
       → Stepped text limit (entitled ts d.declaration) (declare limit text s d.declaration) q sorts symbols rules' words' r
   rule_done rules' words' r e a = go d.line d.declaration h (is_kind h 4 e) (declare_legal limit text s d.declaration held.legal)
     where
@@ -271,7 +273,7 @@ module _ {text : List ℕ} {limit : ℕ} {ts : Titles} {s : Signature} {sorts sy
       go line (sort n) h k l = absurd (omega arith)
       go line (ctor n ss) h k l = absurd (omega arith)
       go line (pred n ss) h k l = absurd (omega arith)
-      go line (rule n []) h k l = a.none (rule_parts text rows p line h).number
+      go line (rule n []) h k l = rw (a.none (rule_parts text rows p line h).number) refl
       go line (rule n (j ∷ js)) h k l =
           let x = rule_parts text rows p line h in
           from_advanced held (ts.rules ++ (title_at n 0 ∷ [])) (enter_judgments limit text s (bytes_at text n) (j ∷ js)) q rules' words' r (judgments_names limit text s (bytes_at text n) j js) l
@@ -313,7 +315,7 @@ module _ {text : List ℕ} {limit : ℕ} {ts : Titles} {s : Signature} {sorts sy
       go line (eval t) h k = absurd (omega arith)
       go line (check t) h k = absurd (omega arith)
 
-  pub def_done : (symbols' rules' : Rows) (words' : List ℕ) (r : Progress) → column (row_at rows p) 0 ≡ 5 → DefDeclared text rows p sorts symbols rules words st r symbols' rules' words'
+  pub def_done : (symbols' rules' : Rows) (words' : List ℕ) (r : Result Progress Refusal) → column (row_at rows p) 0 ≡ 5 → DefDeclared text rows p sorts symbols rules words st r symbols' rules' words'
       → Stepped text limit (entitled ts d.declaration) (declare limit text s d.declaration) q sorts symbols' rules' words' r
   def_done symbols' rules' words' r e a = go d.line d.declaration h (is_kind h 5 e) (declare_legal limit text s d.declaration held.legal)
     where
@@ -339,12 +341,12 @@ module _ {text : List ℕ} {limit : ℕ} {ts : Titles} {s : Signature} {sorts sy
       go line (check t) h k l = absurd (omega arith)
 
   -- 10, `#eval`
-  pub eval_done : (r : ℕ) → column (row_at rows p) 0 ≡ 10 → Skipped rows (p + 1) 1 r → Stepped text limit (entitled ts d.declaration) (declare limit text s d.declaration) q sorts symbols rules words (Done r st)
+  pub eval_done : (r : ℕ) → column (row_at rows p) 0 ≡ 10 → Skipped rows (p + 1) 1 r → Stepped text limit (entitled ts d.declaration) (declare limit text s d.declaration) q sorts symbols rules words (Ok (record { next = r; state = st }))
   unfolding Stands size
   eval_done r e a = go d.line d.declaration h (is_kind h 10 e)
     where
       go : (line : ℕ) (e : Declaration) → DeclarationAt text rows p (record { line = line; declaration = e }) q → kind_of e ≡ 10
-          → Stepped text limit (entitled ts e) (declare limit text s e) q sorts symbols rules words (Done r st)
+          → Stepped text limit (entitled ts e) (declare limit text s e) q sorts symbols rules words (Ok (record { next = r; state = st }))
       go line (sort n) h k = absurd (omega arith)
       go line (ctor n ss) h k = absurd (omega arith)
       go line (pred n ss) h k = absurd (omega arith)
@@ -353,16 +355,16 @@ module _ {text : List ℕ} {limit : ℕ} {ts : Titles} {s : Signature} {sorts sy
       go line (theorem n bs js t) h k = absurd (omega arith)
       go line (eval t) h k =
           let z : r ≡ q = a.behind text (more (spelled text t) none) q (q, eval_parts text rows p line h, refl) refl in
-          (st, ap (λ (x : ℕ). Done x st) z, held)
+          (st, ap (λ (x : ℕ). Ok (record { next = x; state = st })) z, held)
       go line (check t) h k = absurd (omega arith)
 
   -- The others are `theorem` and `#check`.
   pub others_done : (sorts' symbols' rules' : Rows) (words' : List ℕ) → (column (row_at rows p) 0 ≡ 1 → ⊥) → (column (row_at rows p) 0 ≡ 2 → ⊥) → (column (row_at rows p) 0 ≡ 3 → ⊥)
       → (column (row_at rows p) 0 ≡ 4 → ⊥) → (column (row_at rows p) 0 ≡ 5 → ⊥) → (column (row_at rows p) 0 ≡ 10 → ⊥)
-      → Stepped text limit (entitled ts d.declaration) (declare limit text s d.declaration) q sorts' symbols' rules' words' (Refused 27)
+      → Stepped text limit (entitled ts d.declaration) (declare limit text s d.declaration) q sorts' symbols' rules' words' (Err NotLoaded)
   others_done sorts' symbols' rules' words' a b c f g i = go d.declaration (first_row h).kind
     where
-      go : (e : Declaration) → column (row_at rows p) 0 ≡ kind_of e → Stepped text limit (entitled ts e) (declare limit text s e) q sorts' symbols' rules' words' (Refused 27)
+      go : (e : Declaration) → column (row_at rows p) 0 ≡ kind_of e → Stepped text limit (entitled ts e) (declare limit text s e) q sorts' symbols' rules' words' (Err NotLoaded)
       go (sort n) k = absurd (a k)
       go (ctor n ss) k = absurd (b k)
       go (pred n ss) k = absurd (c k)

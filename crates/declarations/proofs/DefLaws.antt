@@ -20,10 +20,13 @@ use Rattle.loader.specs.Arrows.{names_at}
 use Rattle.loader.specs.SymbolEntry.{symbol_named, SymbolEntered}
 use Rattle.loader.proofs.SymbolLaws.{arrow_count}
 use Rattle.declarations.specs.Held.{NamesHeld, Held}
-use Rattle.declarations.specs.Steps.{name_at, place_at, NameInside, symbol_progress, SymbolDeclared, Ready, Advanced, def_of, Stepped}
+use Rattle.declarations.specs.Steps.{name_at, place_at, NameInside, GoesTo, symbol_progress, SymbolDeclared, Ready, Advanced, def_of, Stepped}
 use Rattle.declarations.specs.declared.State.{State}
+use Rattle.std.specs.Prelude.{Result, Ok, Err}
+use Rattle.refusals.specs.declared.Refusal.{Refusal}
+use Rattle.patterns.specs.Refused.{Refuses}
 use Rattle.declarations.specs.declared.Progress.{Progress}
-use Rattle.declarations.specs.declared.Progress.TheVariants.{Refused}
+use Rattle.declarations.proofs.ProgressLaws.{goes_on, goes_not}
 use Rattle.declarations.proofs.ClauseLaws.{clause_names}
 use Rattle.declarations.proofs.NameLaws.{Came, with_symbol, one_symbol_more, symbol_came, rules_held}
 
@@ -43,24 +46,24 @@ module _ {text : List ℕ} {limit : ℕ} {ts : Titles} {s : Signature} {sorts sy
   abbrev N : Numbers
   N = numbers_of s.sorts (names_at text rows (p + 2) k)
 
-  pub symbol_stepped : (c : Bool) (r : Progress) (symbols' : Rows) → SymbolDeclared text rows p c sorts symbols st r symbols'
+  pub symbol_stepped : (c : Bool) (r : Result Progress Refusal) (symbols' : Rows) → SymbolDeclared text rows p c sorts symbols st r symbols'
       → (next : List ℕ → Step) → ((ns : List ℕ) → length ns ≡ k → next ns ≡ enter_symbol s (symbol_named c W 0 0 0 ns)) → Stepping Legal (with_sorts N next)
       → Stepped text limit (symbol_titled ts P) (with_sorts N next) (p + 2 + k) sorts symbols' rules words r
   symbol_stepped c r symbols' d next same legal =
       go d.refusal N (symbol_came held.names inside d.entered) d.is (λ ns q. arrow_count s.sorts text rows (p + 2) k ns q) legal
     where
-      go : (e : ℕ) (M : Numbers) → Came text (symbol_titled ts P) s sorts st c W 0 0 0 symbols' e M → r ≡ symbol_progress e p k st → ((ns : List ℕ) → M ≡ numbers ns → length ns ≡ k) → Stepping Legal (with_sorts M next)
+      go : (e : ℕ) (M : Numbers) → Came text (symbol_titled ts P) s sorts st c W 0 0 0 symbols' e M → GoesTo e (symbol_progress p k st) r → ((ns : List ℕ) → M ≡ numbers ns → length ns ≡ k) → Stepping Legal (with_sorts M next)
           → Stepped text limit (symbol_titled ts P) (with_sorts M next) (p + 2 + k) sorts symbols' rules words r
-      go e unknown came is n legal = let z : r ≡ symbol_progress 18 p k st = rw came at is in z
+      go e unknown came is n legal = goes_not 18 _ r (omega arith) (rw came at is)
       go zero (numbers ns) came is n legal =
           let h = came.1 refl in
           let q : next ns ≡ on (with_symbol s (symbol_named c W 0 0 0 ns)) = same ns (n ns refl) ∙ h.0 in
           let l : Legal (with_symbol s (symbol_named c W 0 0 0 ns)) = subst (Stepping Legal) q legal in
           subst (λ (x : Step). Stepped text limit (symbol_titled ts P) x (p + 2 + k) sorts symbols' rules words r) (sym q)
-          (one_symbol_more st, is, record { names = h.1; kept = rules_held held.kept (symbol_named c W 0 0 0 ns) (st.symbols + 1); legal = l })
+          (one_symbol_more st, goes_on _ r is, record { names = h.1; kept = rules_held held.kept (symbol_named c W 0 0 0 ns) (st.symbols + 1); legal = l })
       go (suc e) (numbers ns) came is n legal =
           let q : next ns ≡ no (suc e) = same ns (n ns refl) ∙ came.0 (λ z. omega arith) in
-          let z : r ≡ Refused (suc e) = rw (ne_eqb (suc e) 0 (λ w. omega arith)) at is in
+          let z : Refuses (suc e) r = goes_not (suc e) _ r (omega arith) is in
           subst (λ (x : Step). Stepped text limit (symbol_titled ts P) x (p + 2 + k) sorts symbols' rules words r) (sym q) z
 
   -- `def`
@@ -72,9 +75,9 @@ module _ {text : List ℕ} {limit : ℕ} {ts : Titles} {s : Signature} {sorts sy
     F ns = symbol_named false W 1 (first_of s cs) (length cs) ns
 
     -- refused
-    pub def_no : (e q : ℕ) (symbols' rules' : Rows) (words' : List ℕ) → def_of limit text s W (names_at text rows (p + 2) k) cs ≡ no e
-        → Stepped text limit D (def_of limit text s W (names_at text rows (p + 2) k) cs) q sorts symbols' rules' words' (Refused e)
-    def_no e q symbols' rules' words' h = subst (λ (x : Step). Stepped text limit D x q sorts symbols' rules' words' (Refused e)) (sym h) refl
+    pub def_no : (e q : ℕ) (symbols' rules' : Rows) (words' : List ℕ) (r : Result Progress Refusal) → Refuses e r → def_of limit text s W (names_at text rows (p + 2) k) cs ≡ no e
+        → Stepped text limit D (def_of limit text s W (names_at text rows (p + 2) k) cs) q sorts symbols' rules' words' r
+    def_no e q symbols' rules' words' r a h = subst (λ (x : Step). Stepped text limit D x q sorts symbols' rules' words' r) (sym h) a
 
     -- the first clause is the next rule
     pub first_is : {n first : ℕ} → first ≡ cond (eqb n 0) 0 st.rules → n ≡ length cs → first ≡ first_of s cs
@@ -151,7 +154,7 @@ module _ {text : List ℕ} {limit : ℕ} {ts : Titles} {s : Signature} {sorts sy
               kept = rules_held held.kept (F d.found) (st.symbols + 1);
             }
 
-        pub def_stepped : (q : ℕ) (rules' : Rows) (words' : List ℕ) (r : Progress)
+        pub def_stepped : (q : ℕ) (rules' : Rows) (words' : List ℕ) (r : Result Progress Refusal)
             → Advanced text limit (with_clauses ts.rules P 0 cs) (enter_clauses limit text (with_symbol s (F d.found)) W 0 cs) q rules' words' (one_symbol_more st) r
             → Stepping Legal (def_of limit text s W (names_at text rows (p + 2) k) cs)
             → Stepped text limit D (def_of limit text s W (names_at text rows (p + 2) k) cs) q sorts symbols' rules' words' r

@@ -18,10 +18,11 @@ use Rattle.rules.specs.Layout.{rule_words, row_of}
 use Rattle.rules.specs.LayoutLaws.{rule_words_length}
 use Rattle.rules.specs.Promises.{Entering, RuleDone}
 use Rattle.rules.specs.declared.Title.{Title}
-use Rattle.rules.specs.declared.Entered.{Entered}
+use Rattle.std.specs.Prelude.{Result, Ok, Err}
+use Rattle.refusals.specs.declared.Refusal.{Refusal}
+use Rattle.rules.specs.declared.Space.{Space}
 use Rattle.clauses.specs.Promises.{entered, NextIs}
-use Rattle.clauses.specs.declared.Outcome.{Outcome}
-use Rattle.clauses.specs.declared.Outcome.TheVariants.{Refused as Barred, Done as Out}
+use Rattle.clauses.specs.declared.EnteredRule.{EnteredRule}
 use Rattle.loader.specs.Signature.{Signature, room_in, with_rule}
 use Rattle.loader.specs.Holding.{RulesKept, rules_entered}
 use Rattle.loader.specs.Entering.{Storage}
@@ -73,27 +74,28 @@ module _ {text : List ℕ} {limit : ℕ} {ts : List Title} {s : Signature} {symb
         rules_lent = k.rules_lent;
       }
 
-  as_given : (title : Title) (g : List Symbol → ℕ → Ruled) (m : ℕ) → m ≡ min 1024 st.left → (rules' : Rows) (words' : List ℕ) (o : Outcome)
+  as_given : (title : Title) (g : List Symbol → ℕ → Ruled) (m : ℕ) → m ≡ min 1024 st.left → (rules' : Rows) (words' : List ℕ) (o : Result EnteredRule Refusal)
       → Entering text (arities_of (symbols_of text symbols st.symbols)) title words st.used m rules st.rules words' rules' (entering st.rules (g (symbols_of text symbols st.symbols) m)) (entered o)
       → Entering text (arities_of s.symbols) title words st.used (min 1024 st.left) rules st.rules words' rules' (entering st.rules (g s.symbols (min 1024 st.left))) (entered o)
   as_given title g m e rules' words' o h =
       let h₁ = subst (λ (x : ℕ). Entering text (arities_of (symbols_of text symbols st.symbols)) title words st.used x rules st.rules words' rules' (entering st.rules (g (symbols_of text symbols st.symbols) x)) (entered o)) e h in
       subst (λ (x : List Symbol). Entering text (arities_of x) title words st.used (min 1024 st.left) rules st.rules words' rules' (entering st.rules (g x (min 1024 st.left))) (entered o)) ready.symbols_are h₁
 
-  told_fits : (title : Title) (rules' : Rows) (words' : List ℕ) (x : Ruled) (o : Outcome)
+  told_fits : (title : Title) (rules' : Rows) (words' : List ℕ) (x : Ruled) (o : Result EnteredRule Refusal)
       → Entering text (arities_of s.symbols) title words st.used (min 1024 st.left) rules st.rules words' rules' x (entered o) → Told st (min 1024 st.left) o
-  told_fits title rules' words' x (Barred f) h = tt
-  told_fits title rules' words' (barred e) (Out next u left) h = absurd (let w : ◌≡◌ {A = ℕ} 0 1 = cc in omega arith)
-  told_fits title rules' words' (ruled R m) (Out next u left) h =
+  told_fits title rules' words' x (Err f) h = tt
+  told_fits title rules' words' (barred e) (Ok o) h = absurd h
+  told_fits title rules' words' (ruled R m) (Ok o) h =
       let d = h.is in
-      let b : left ≡ m = cc in
+      let a : o.space ≡ record { used = h.used; room = m } = cc in
+      let b : o.space.room ≡ m = ap (λ (x : Space). x.room) a in
       let f = h.fits in
       let t = h.kept.to in
       let k = ready.kept.few_rules in
       (omega arith, room_left, k)
 
   -- The differences that are told are not below zero.
-  pub told_by : (title : Title) (g : List Symbol → ℕ → Ruled) (m : ℕ) → m ≡ min 1024 st.left → (rules' : Rows) (words' : List ℕ) (o : Outcome)
+  pub told_by : (title : Title) (g : List Symbol → ℕ → Ruled) (m : ℕ) → m ≡ min 1024 st.left → (rules' : Rows) (words' : List ℕ) (o : Result EnteredRule Refusal)
       → Entering text (arities_of (symbols_of text symbols st.symbols)) title words st.used m rules st.rules words' rules' (entering st.rules (g (symbols_of text symbols st.symbols) m)) (entered o)
       → Told st m o
   told_by title g m e rules' words' o h =
@@ -105,7 +107,7 @@ module _ {text : List ℕ} {limit : ℕ} {ts : List Title} {s : Signature} {symb
     row_named row h few = let e = h.2 in record { place = rw (h.0, h.1) inside; clause = omega arith }
 
     -- A rule entered behind the others is held.
-    one_more : (R : Rule) (left : ℕ) (r : Entered) → st.rules < 1024
+    one_more : (R : Rule) (left : ℕ) (r : Result Space Refusal) → st.rules < 1024
         → (done : RuleDone text (arities_of s.symbols) title words st.used (min 1024 st.left) rules st.rules words' rules' R left r)
         → RulesHeld text limit (ts ++ (title ∷ [])) (record { sorts = s.sorts; symbols = s.symbols; rules = s.rules ++ (R ∷ []); nodes = s.nodes + (min 1024 st.left - left) }) rules' words'
         (record { sorts = st.sorts; symbols = st.symbols; rules = st.rules + 1; used = done.used; left = st.left - (min 1024 st.left - left) })
@@ -149,29 +151,30 @@ module _ {text : List ℕ} {limit : ℕ} {ts : List Title} {s : Signature} {symb
         }
 
     -- What came of a rule, as the definition says.
-    advanced : (x : Ruled) (q : ℕ) (o : Outcome) (r : Progress)
+    advanced : (x : Ruled) (q : ℕ) (o : Result EnteredRule Refusal) (r : Result Progress Refusal)
         → Entering text (arities_of s.symbols) title words st.used (min 1024 st.left) rules st.rules words' rules' (entering st.rules x) (entered o) → NextIs q o
         → r ≡ progress_of st (min 1024 st.left) o → Advanced text limit (ts ++ (title ∷ [])) (with_rule s (min 1024 st.left) (entering st.rules x)) q rules' words' st r
     advanced x q o r h nx e = go (entering st.rules x) (λ R m z. entering_few st.rules x z) o h nx e
       where
-        go : (y : Ruled) → ((R : Rule) (m : ℕ) → y ≡ ruled R m → st.rules < 1024) → (o : Outcome)
+        go : (y : Ruled) → ((R : Rule) (m : ℕ) → y ≡ ruled R m → st.rules < 1024) → (o : Result EnteredRule Refusal)
             → Entering text (arities_of s.symbols) title words st.used (min 1024 st.left) rules st.rules words' rules' y (entered o) → NextIs q o
             → r ≡ progress_of st (min 1024 st.left) o → Advanced text limit (ts ++ (title ∷ [])) (with_rule s (min 1024 st.left) y) q rules' words' st r
-        go (barred e) few (Barred f) h nx z = let a : e ≡ f = cc in rw a z
-        go (barred e) few (Out next u left) h nx z = absurd (let w : ◌≡◌ {A = ℕ} 0 1 = cc in omega arith)
-        go (ruled R m) few (Barred f) h nx z = absurd (let d = h.is in let w : ◌≡◌ {A = ℕ} 0 1 = cc in omega arith)
-        go (ruled R m) few (Out next u left) h nx z =
+        go (barred e) few (Err f) h nx z = rw z h
+        go (barred e) few (Ok o) h nx z = absurd h
+        go (ruled R m) few (Err f) h nx z = absurd (let d = h.is in let w : ◌≡◌ {A = ℕ} 0 1 = cc in omega arith)
+        go (ruled R m) few (Ok o) h nx z =
             let d = h.is in
-            let a : u ≡ h.used = cc in
-            let b : left ≡ m = cc in
-            let c : next ≡ q = nx in (
+            let e : o.space ≡ record { used = h.used; room = m } = cc in
+            let a : o.space.used ≡ h.used = ap (λ (x : Space). x.used) e in
+            let b : o.space.room ≡ m = ap (λ (x : Space). x.room) e in
+            let c : o.next ≡ q = nx in (
               record { sorts = st.sorts; symbols = st.symbols; rules = st.rules + 1; used = h.used; left = st.left - (min 1024 st.left - m) },
               z ∙ rw (a, b, c) refl,
-              record { kept = one_more R m (entered (Out next u left)) (few R m refl) h; sorts = refl; symbols = refl },
+              record { kept = one_more R m (entered (Ok o)) (few R m refl) h; sorts = refl; symbols = refl },
             )
 
     -- The same of what the code was given: its symbols' rows, and the room that it reckoned.
-    pub advanced_by : (g : List Symbol → ℕ → Ruled) (m : ℕ) → m ≡ min 1024 st.left → (q : ℕ) (o : Outcome) (r : Progress) → NextIs q o
+    pub advanced_by : (g : List Symbol → ℕ → Ruled) (m : ℕ) → m ≡ min 1024 st.left → (q : ℕ) (o : Result EnteredRule Refusal) (r : Result Progress Refusal) → NextIs q o
         → Entering text (arities_of (symbols_of text symbols st.symbols)) title words st.used m rules st.rules words' rules' (entering st.rules (g (symbols_of text symbols st.symbols) m)) (entered o)
         → r ≡ progress_of st m o
         → Advanced text limit (ts ++ (title ∷ [])) (with_rule s (room_in limit s) (entering (length s.rules) (g s.symbols (room_in limit s)))) q rules' words' st r

@@ -30,9 +30,12 @@ use Rattle.loader.specs.SymbolEntry.{inputs_of, output_of, symbol_named, arrow_r
 use Rattle.loader.proofs.SymbolLaws.{not_refused}
 use Rattle.patterns.proofs.Terms.{symbols_length}
 use Rattle.declarations.specs.Held.{NamesHeld, RulesHeld, Held}
-use Rattle.declarations.specs.Steps.{sort_progress, Stepped}
+use Rattle.declarations.specs.Steps.{GoesTo, sort_progress, Stepped}
 use Rattle.declarations.specs.declared.State.{State}
+use Rattle.std.specs.Prelude.{Result, Ok, Err}
+use Rattle.refusals.specs.declared.Refusal.{Refusal}
 use Rattle.declarations.specs.declared.Progress.{Progress}
+use Rattle.declarations.proofs.ProgressLaws.{goes_on, goes_not}
 use Rattle.declarations.proofs.StoredLaws.{sort_stored, symbol_stored}
 
 -- One row more: what held of the others holds, and it holds of the new one.
@@ -131,22 +134,22 @@ abbrev with_sort : Signature → Name → Signature
 with_sort s w = record { sorts = s.sorts ++ (w ∷ []); symbols = s.symbols; rules = s.rules; nodes = s.nodes }
 
 pub sort_stepped : {text : List ℕ} {limit : ℕ} {ts : Titles} {s : Signature} {sorts symbols rules : Rows} {words : List ℕ} {st : State}
-    → Held text limit ts s sorts symbols rules words st → (p : ℕ) (sorts' : Rows) (r : Progress) (start size : ℕ) → NamePlace text start size
-    → r ≡ sort_progress (sort_refusal (sorts_of text sorts st.sorts) (symbols_of text symbols st.symbols) (part_of text start size)) p st
+    → Held text limit ts s sorts symbols rules words st → (p : ℕ) (sorts' : Rows) (r : Result Progress Refusal) (start size : ℕ) → NamePlace text start size
+    → GoesTo (sort_refusal (sorts_of text sorts st.sorts) (symbols_of text symbols st.symbols) (part_of text start size)) (sort_progress p st) r
     → sorts' ≡ entered (sort_refusal (sorts_of text sorts st.sorts) (symbols_of text symbols st.symbols) (part_of text start size)) sorts st.sorts (start ∷ size ∷ [])
     → Stepping Legal (enter_sort s (part_of text start size)) → Stepped text limit (sort_titled ts (place start size)) (enter_sort s (part_of text start size)) (p + 2) sorts' symbols rules words r
 sort_stepped {text} {limit} {ts} {s} {sorts} {symbols} {rules} {words} {st} held p sorts' r start size inside a b legal =
-    let a₁ : r ≡ sort_progress (sort_refusal s.sorts s.symbols (part_of text start size)) p st = rw (held.names.sorts_are, held.names.symbols_are) at a in
+    let a₁ : GoesTo (sort_refusal s.sorts s.symbols (part_of text start size)) (sort_progress p st) r = rw (held.names.sorts_are, held.names.symbols_are) at a in
     let b₁ : sorts' ≡ entered (sort_refusal s.sorts s.symbols (part_of text start size)) sorts st.sorts (start ∷ size ∷ []) = rw (held.names.sorts_are, held.names.symbols_are) at b in
     go (sort_refusal s.sorts s.symbols (part_of text start size)) (sort_few s.sorts s.symbols (part_of text start size)) a₁ b₁ legal
   where
-    go : (e : ℕ) → (e ≡ 0 → length s.sorts < 256) → r ≡ sort_progress e p st → sorts' ≡ entered e sorts st.sorts (start ∷ size ∷ []) → Stepping Legal (unless e (with_sort s (part_of text start size)))
+    go : (e : ℕ) → (e ≡ 0 → length s.sorts < 256) → GoesTo e (sort_progress p st) r → sorts' ≡ entered e sorts st.sorts (start ∷ size ∷ []) → Stepping Legal (unless e (with_sort s (part_of text start size)))
         → Stepped text limit (sort_titled ts (place start size)) (unless e (with_sort s (part_of text start size))) (p + 2) sorts' symbols rules words r
     go zero few a b legal =
         let n = sorts_number held.names in
         let k = sort_held held.names start size inside (omega (arith, few refl)) in (
           record { sorts = st.sorts + 1; symbols = st.symbols; rules = st.rules; used = st.used; left = st.left },
-          a,
+          goes_on _ r a,
           record {
             names = rw b k;
             kept = record {
@@ -165,7 +168,7 @@ sort_stepped {text} {limit} {ts} {s} {sorts} {symbols} {rules} {words} {st} held
             legal = legal;
           },
         )
-    go (suc e) few a b legal = rw (ne_eqb (suc e) 0 (λ q. omega arith)) at a
+    go (suc e) few a b legal = goes_not (suc e) _ r (omega arith) a
 
 -- `ctor`, `pred` and `def`
 

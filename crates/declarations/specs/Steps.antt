@@ -1,5 +1,5 @@
 -- What the functions that declare ask and owe.
-use Rattle.std.specs.Prelude.{ℕ, ◌+◌, ◌-◌, ◌≤◌, ◌<◌, ◌≡◌, Bool, cond, List, [], ◌∷◌, ◌++◌, eqb, length}
+use Rattle.std.specs.Prelude.{ℕ, ◌+◌, ◌-◌, ◌≤◌, ◌<◌, ◌≡◌, Bool, Result, Ok, Err, List, [], ◌∷◌, ◌++◌, length}
 use Rattle.source_text.specs.Parts.{part_of}
 use Rattle.term_parser.specs.Source.{Place, place, Source, one}
 use Rattle.parser.specs.Source.{Clause, def}
@@ -10,8 +10,11 @@ use Rattle.names.specs.NamePlaces.{NamePlace}
 use Rattle.names.specs.Symbols.{Rows, column, row_at, symbols_of}
 use Rattle.rules.specs.PatternLaws.{InputsUpto}
 use Rattle.rules.specs.declared.Title.{Title}
-use Rattle.clauses.specs.declared.Outcome.{Outcome}
-use Rattle.clauses.specs.declared.Outcome.TheVariants.{Refused as Barred, Done as Entry}
+use Rattle.refusals.specs.declared.Refusal.{Refusal}
+use Rattle.refusals.specs.declared.Refusal.TheVariants.{NoDeclaration}
+use Rattle.refusals.specs.Refusals.{number_of}
+use Rattle.patterns.specs.Refused.{Refuses}
+use Rattle.clauses.specs.declared.EnteredRule.{EnteredRule}
 use Rattle.loader.specs.Signature.{Signature, Step, no, on, and_then, with_sorts, with_some, numbers_of, first_of, enter_symbol, enter_judgments, enter_clause, enter_clauses, declare}
 use Rattle.loader.specs.Legal.{Legal}
 use Rattle.loader.specs.Stored.{Titles, title_at, with_clauses, entitled}
@@ -24,7 +27,6 @@ use Rattle.loader.specs.PlaceLaws.{Titled}
 use Rattle.declarations.specs.Held.{RulesHeld, Held}
 use Rattle.declarations.specs.declared.State.{State}
 use Rattle.declarations.specs.declared.Progress.{Progress}
-use Rattle.declarations.specs.declared.Progress.TheVariants.{Refused, Done}
 
 -- The name in a row.
 abbrev pub name_at : List ℕ → Rows → ℕ → Name
@@ -40,15 +42,18 @@ NameInside text rows p = NamePlace text (column (row_at rows p) 1) (column (row_
 
 -- Names
 
--- A refusal, or else the row behind the declaration and one sort more.
-abbrev pub sort_progress : ℕ → ℕ → State → Progress
-sort_progress e p st =
-    cond (eqb e 0) (Done (p + 2) (record { sorts = st.sorts + 1; symbols = st.symbols; rules = st.rules; used = st.used; left = st.left })) (Refused e)
+-- The row behind the declaration, and one sort more.
+abbrev pub sort_progress : ℕ → State → Progress
+sort_progress p st = record { next = p + 2; state = record { sorts = st.sorts + 1; symbols = st.symbols; rules = st.rules; used = st.used; left = st.left } }
 
 -- The same of a symbol, behind the declaration with k sorts.
-abbrev pub symbol_progress : ℕ → ℕ → ℕ → State → Progress
-symbol_progress e p k st =
-    cond (eqb e 0) (Done (p + 2 + k) (record { sorts = st.sorts; symbols = st.symbols + 1; rules = st.rules; used = st.used; left = st.left })) (Refused e)
+abbrev pub symbol_progress : ℕ → ℕ → State → Progress
+symbol_progress p k st = record { next = p + 2 + k; state = record { sorts = st.sorts; symbols = st.symbols + 1; rules = st.rules; used = st.used; left = st.left } }
+
+-- The refusal with a number; or, without one (0), so far.
+abbrev pub GoesTo : ℕ → Progress → Result Progress Refusal → Type 0
+GoesTo n x (Ok y) = (0 ≡ n) × (y ≡ x)
+GoesTo n x (Err e) = (number_of e ≡ n) × (0 < number_of e)
 
 -- What `declare_symbol` asks: k sorts behind the row of the name.
 pub record SymbolAsked (rows : Rows) (p : ℕ) (sorts symbols : Rows) (st : State) : Type 0 where
@@ -60,9 +65,9 @@ pub record SymbolAsked (rows : Rows) (p : ℕ) (sorts symbols : Rows) (st : Stat
   pub few_symbols : st.symbols ≤ 1024
 
 -- What it owes.
-pub record SymbolDeclared (text : List ℕ) (rows : Rows) (p : ℕ) (constructor : Bool) (sorts symbols : Rows) (st : State) (r : Progress) (symbols' : Rows) : Type 0 where
+pub record SymbolDeclared (text : List ℕ) (rows : Rows) (p : ℕ) (constructor : Bool) (sorts symbols : Rows) (st : State) (r : Result Progress Refusal) (symbols' : Rows) : Type 0 where
   pub refusal : ℕ
-  pub is : r ≡ symbol_progress refusal p (column (row_at rows p) 2) st
+  pub is : GoesTo refusal (symbol_progress p (column (row_at rows p) 2) st) r
   pub entered : SymbolEntered text rows (p + 2) (column (row_at rows p) 2) (column (row_at rows (p + 1)) 1) (column (row_at rows (p + 1)) 2) constructor 0 0 0 sorts st.sorts symbols st.symbols refusal symbols'
 
 -- Rules
@@ -82,20 +87,20 @@ pub record Filled (text : List ℕ) (limit : ℕ) (ts : List Title) (t : Signatu
   pub sorts : st'.sorts ≡ st.sorts
   pub symbols : st'.symbols ≡ st.symbols
 
-abbrev pub Advanced : List ℕ → ℕ → List Title → Step → ℕ → Rows → List ℕ → State → Progress → Type 0
-Advanced text limit ts (no e) q rules words st r = r ≡ Refused e
-Advanced text limit ts (on t) q rules words st r = (st' : State) × (r ≡ Done q st') × Filled text limit ts t rules words st st'
+abbrev pub Advanced : List ℕ → ℕ → List Title → Step → ℕ → Rows → List ℕ → State → Result Progress Refusal → Type 0
+Advanced text limit ts (no e) q rules words st r = Refuses e r
+Advanced text limit ts (on t) q rules words st r = (st' : State) × (r ≡ Ok (record { next = q; state = st' })) × Filled text limit ts t rules words st st'
 
 -- How an outcome is told, where so many nodes were allowed.
-abbrev pub progress_of : State → ℕ → Outcome → Progress
-progress_of st m (Barred e) = Refused e
-progress_of st m (Entry next u left) =
-    Done next (record { sorts = st.sorts; symbols = st.symbols; rules = st.rules + 1; used = u; left = st.left - (m - left) })
+abbrev pub progress_of : State → ℕ → Result EnteredRule Refusal → Result Progress Refusal
+progress_of st m (Err e) = Err e
+progress_of st m (Ok r) =
+    Ok (record { next = r.next; state = record { sorts = st.sorts; symbols = st.symbols; rules = st.rules + 1; used = r.space.used; left = st.left - (m - r.space.room) } })
 
 -- No sum is too large, and no difference below zero.
-abbrev pub Told : State → ℕ → Outcome → Type 0
-Told st m (Barred e) = Unit {0}
-Told st m (Entry next u left) = (left ≤ m) × (m ≤ st.left) × (st.rules ≤ 1024)
+abbrev pub Told : State → ℕ → Result EnteredRule Refusal → Type 0
+Told st m (Err e) = Unit {0}
+Told st m (Ok r) = (r.space.room ≤ m) × (m ≤ st.left) × (st.rules ≤ 1024)
 
 -- What `declare_rule` asks: as many judgments as the declaration's row says, behind the row of the name.
 pub record RuleAsked (text : List ℕ) (rows : Rows) (p : ℕ) (symbols rules : Rows) (words : List ℕ) (st : State) : Type 0 where
@@ -105,8 +110,8 @@ pub record RuleAsked (text : List ℕ) (rows : Rows) (p : ℕ) (symbols rules : 
   pub stand : 0 < column (row_at rows p) 2 → (j : Source one) × (js : List (Source one)) × (q : ℕ) × JudgmentsStand text rows (p + 2) j js q × (column (row_at rows p) 2 ≡ length (j ∷ js))
 
 -- What it owes.
-pub record RuleDeclared (text : List ℕ) (rows : Rows) (p : ℕ) (symbols rules : Rows) (words : List ℕ) (st : State) (r : Progress) (rules' : Rows) (words' : List ℕ) : Type 0 where
-  pub none : column (row_at rows p) 2 ≡ 0 → r ≡ Refused 0
+pub record RuleDeclared (text : List ℕ) (rows : Rows) (p : ℕ) (symbols rules : Rows) (words : List ℕ) (st : State) (r : Result Progress Refusal) (rules' : Rows) (words' : List ℕ) : Type 0 where
+  pub none : column (row_at rows p) 2 ≡ 0 → r ≡ Err NoDeclaration
   pub same : (limit : ℕ) (ts : List Title) (s : Signature) → Ready text limit ts s symbols rules words st → NameInside text rows (p + 1)
       → (j : Source one) (js : List (Source one)) (q : ℕ) → JudgmentsStand text rows (p + 2) j js q → column (row_at rows p) 2 ≡ length (j ∷ js)
       → Advanced text limit (ts ++ (title_at (place_at rows (p + 1)) 0 ∷ [])) (enter_judgments limit text s (name_at text rows (p + 1)) (j ∷ js)) q rules' words' st r
@@ -121,7 +126,7 @@ pub record ClauseAsked (text : List ℕ) (rows : Rows) (p number : ℕ) (symbols
   pub stand : (c : Clause) × (q : ℕ) × ClauseStands text rows p c q
 
 -- What it owes, where there are as many rules as clauses before it.
-pub record ClauseDeclared (text : List ℕ) (rows : Rows) (p number start size : ℕ) (symbols rules : Rows) (words : List ℕ) (st : State) (r : Progress) (rules' : Rows) (words' : List ℕ) : Type 0 where
+pub record ClauseDeclared (text : List ℕ) (rows : Rows) (p number start size : ℕ) (symbols rules : Rows) (words : List ℕ) (st : State) (r : Result Progress Refusal) (rules' : Rows) (words' : List ℕ) : Type 0 where
   pub same : (limit : ℕ) (ts : List Title) (s : Signature) → Ready text limit ts s symbols rules words st → NamePlace text start size → number ≤ st.rules
       → (c : Clause) (q : ℕ) → ClauseStands text rows p c q
       → Advanced text limit (ts ++ (title_at (place start size) (number + 1) ∷ [])) (enter_clause limit text s (part_of text start size) number c) q rules' words' st r
@@ -142,7 +147,7 @@ pub record ClausesAsked (text : List ℕ) (rows : Rows) (p n start size : ℕ) (
   pub stand : (cs : List Clause) × (q : ℕ) × ClausesStand text rows p cs q × (n ≡ length cs)
 
 -- What it owes.
-pub record ClausesDeclared (text : List ℕ) (rows : Rows) (p n start size : ℕ) (symbols rules : Rows) (words : List ℕ) (st : State) (r : Progress) (rules' : Rows) (words' : List ℕ) : Type 0 where
+pub record ClausesDeclared (text : List ℕ) (rows : Rows) (p n start size : ℕ) (symbols rules : Rows) (words : List ℕ) (st : State) (r : Result Progress Refusal) (rules' : Rows) (words' : List ℕ) : Type 0 where
   pub same : (limit : ℕ) (ts : List Title) (s : Signature) → Ready text limit ts s symbols rules words st
       → (cs : List Clause) (q : ℕ) → ClausesStand text rows p cs q → n ≡ length cs
       → Advanced text limit (with_clauses ts (place start size) 0 cs) (enter_clauses limit text s (part_of text start size) 0 cs) q rules' words' st r
@@ -150,9 +155,9 @@ pub record ClausesDeclared (text : List ℕ) (rows : Rows) (p n start size : ℕ
 -- Declarations
 
 -- One declaration was entered up to the row q, with these titles in all, or refused.
-abbrev pub Stepped : List ℕ → ℕ → Titles → Step → ℕ → Rows → Rows → Rows → List ℕ → Progress → Type 0
-Stepped text limit ts (no e) q sorts symbols rules words r = r ≡ Refused e
-Stepped text limit ts (on t) q sorts symbols rules words r = (st : State) × (r ≡ Done q st) × Held text limit ts t sorts symbols rules words st
+abbrev pub Stepped : List ℕ → ℕ → Titles → Step → ℕ → Rows → Rows → Rows → List ℕ → Result Progress Refusal → Type 0
+Stepped text limit ts (no e) q sorts symbols rules words r = Refuses e r
+Stepped text limit ts (on t) q sorts symbols rules words r = (st : State) × (r ≡ Ok (record { next = q; state = st })) × Held text limit ts t sorts symbols rules words st
 
 -- `def` of a name by its sorts' names and its clauses.
 abbrev pub def_of : ℕ → List ℕ → Signature → Name → List Name → List Clause → Step
@@ -172,7 +177,7 @@ pub record DefAsked (text : List ℕ) (rows : Rows) (p : ℕ) (sorts symbols rul
   pub stand : (cs : List Clause) × (q : ℕ) × ClausesStand text rows (p + 2 + column (row_at rows p) 2) cs q × (column (row_at rows p) 3 ≡ length cs)
 
 -- What it owes.
-pub record DefDeclared (text : List ℕ) (rows : Rows) (p : ℕ) (sorts symbols rules : Rows) (words : List ℕ) (st : State) (r : Progress) (symbols' rules' : Rows) (words' : List ℕ) : Type 0 where
+pub record DefDeclared (text : List ℕ) (rows : Rows) (p : ℕ) (sorts symbols rules : Rows) (words : List ℕ) (st : State) (r : Result Progress Refusal) (symbols' rules' : Rows) (words' : List ℕ) : Type 0 where
   pub same : (limit : ℕ) (ts : Titles) (s : Signature) → Held text limit ts s sorts symbols rules words st
       → (cs : List Clause) (q : ℕ) → ClausesStand text rows (p + 2 + column (row_at rows p) 2) cs q → column (row_at rows p) 3 ≡ length cs
       → Stepping Legal (def_of limit text s (name_at text rows (p + 1)) (names_at text rows (p + 2) (column (row_at rows p) 2)) cs)
@@ -196,6 +201,6 @@ pub record DeclareAsked (text : List ℕ) (rows : Rows) (p : ℕ) (sorts symbols
   pub stand : (d : Declared) × (q : ℕ) × DeclarationAt text rows p d q
 
 -- What it owes.
-pub record DeclareDone (text : List ℕ) (rows : Rows) (p : ℕ) (sorts symbols rules : Rows) (words : List ℕ) (st : State) (r : Progress) (sorts' symbols' rules' : Rows) (words' : List ℕ) : Type 0 where
+pub record DeclareDone (text : List ℕ) (rows : Rows) (p : ℕ) (sorts symbols rules : Rows) (words : List ℕ) (st : State) (r : Result Progress Refusal) (sorts' symbols' rules' : Rows) (words' : List ℕ) : Type 0 where
   pub same : (limit : ℕ) (ts : Titles) (s : Signature) → Held text limit ts s sorts symbols rules words st
       → (d : Declared) (q : ℕ) → DeclarationAt text rows p d q → Stepped text limit (entitled ts d.declaration) (declare limit text s d.declaration) q sorts' symbols' rules' words' r

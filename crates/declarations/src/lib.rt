@@ -8,12 +8,14 @@ ghost use Rattle.std.specs.Prelude.{◌≡◌, cond, [], ◌∷◌, ◌+◌, ◌
 ghost use Rattle.names.specs.Symbols.{column, row_at, sorts_of, symbols_of};
 ghost use Rattle.loader.specs.Signature.{sort_refusal};
 ghost use Rattle.loader.specs.Rows.{entered};
-ghost use Rattle.declarations.specs.Steps.{name_at, sort_progress, SymbolAsked, SymbolDeclared, Told, progress_of, RuleAsked, RuleDeclared, ClauseAsked, ClauseDeclared, ClausesAsked, ClausesDeclared, DefAsked, DefDeclared, DeclareAsked, DeclareDone};
+ghost use Rattle.declarations.specs.Steps.{name_at, GoesTo, sort_progress, SymbolAsked, SymbolDeclared, Told, progress_of, RuleAsked, RuleDeclared, ClauseAsked, ClauseDeclared, ClausesAsked, ClausesDeclared, DefAsked, DefDeclared, DeclareAsked, DeclareDone};
 
-use clauses::Outcome;
-use names::{SortRow, SymbolRow};
-use patterns::TermRow;
-use rules::{RuleRow, Title};
+use clauses::EnteredRule;
+use names::{SortRow, SymbolRow, TermRow};
+
+use refusals::Refusal;
+use rules::{RuleRow, Space, Title};
+use words::{CTOR, DEF, EVAL, PRED, RULE, SORT};
 
 // How many sorts, symbols and rules there are, how many words are in use, and how many nodes are left.
 #[derive(Clone, Copy)]
@@ -25,28 +27,18 @@ pub struct State {
     pub left: usize,
 }
 
-// What came of a declaration: its refusal; or the row behind it and what there is then.
+// How far declaring is: the next row, and what there is.
 #[derive(Clone, Copy)]
-pub enum Progress {
-    Refused { number: u32 },
-    Done { next: usize, state: State },
+pub struct Progress {
+    pub next: usize,
+    pub state: State,
 }
 
 // The room for the nodes of a rule, where so many are left in all.
 fn room(left: usize) -> usize
     ensures { result ≡ min 1024 left }
 {
-    if left < 1024 {
-        return left;
-    }
-    1024
-}
-
-// A word as a number of the machine.
-fn wide(n: u32) -> usize
-    ensures { result ≡ n }
-{
-    n as usize
+    left.min(1024)
 }
 
 // `sort`: the name stands in the row behind the declaration's.
@@ -57,29 +49,28 @@ fn declare_sort(
     sorts: &mut [SortRow],
     symbols: &[SymbolRow],
     state: State,
-) -> Progress
+) -> Result<Progress, Refusal>
     requires { (at + 2 ≤ length rows.now) × (length rows.now ≤ 65536) × (256 ≤ length sorts.old) × (state.sorts ≤ 256) × (state.symbols ≤ length symbols.now) }
-    ensures value { result ≡ sort_progress (sort_refusal (sorts_of text.now sorts.old state.sorts) (symbols_of text.now symbols.now state.symbols) (name_at text.now rows.now (at + 1))) at state }
+    ensures value { GoesTo (sort_refusal (sorts_of text.now sorts.old state.sorts) (symbols_of text.now symbols.now state.symbols) (name_at text.now rows.now (at + 1))) (sort_progress at state) result }
     ensures sorts_after { sorts.new ≡ entered (sort_refusal (sorts_of text.now sorts.old state.sorts) (symbols_of text.now symbols.now state.symbols) (name_at text.now rows.now (at + 1))) sorts.old state.sorts (column (row_at rows.now (at + 1)) 1 ∷ column (row_at rows.now (at + 1)) 2 ∷ []) }
 {
-    let start = rows[at + 1][1];
-    let size = rows[at + 1][2];
-    let many = state.sorts;
-    let count = state.symbols;
-    let e = loader::enter_sort(text, sorts, many, symbols, count, start, size);
-    if e != 0 {
-        return Progress::Refused { number: e };
-    }
-    Progress::Done {
+    let [_, start, size, _] = rows[at + 1];
+    loader::enter_sort(
+        text,
+        sorts,
+        state.sorts,
+        symbols,
+        state.symbols,
+        start,
+        size,
+    )?;
+    Ok(Progress {
         next: at + 2,
         state: State {
-            sorts: many + 1,
-            symbols: count,
-            rules: state.rules,
-            used: state.used,
-            left: state.left,
+            sorts: state.sorts + 1,
+            ..state
         },
-    }
+    })
 }
 
 // `ctor` and `pred`: the sorts stand behind the row of the name.
@@ -91,14 +82,12 @@ fn declare_symbol(
     sorts: &[SortRow],
     symbols: &mut [SymbolRow],
     state: State,
-) -> Progress
+) -> Result<Progress, Refusal>
     requires { SymbolAsked rows.now at sorts.now symbols.old state }
     ensures { SymbolDeclared text.now rows.now at constructor sorts.now symbols.old state result symbols.new }
 {
-    let k = wide(rows[at][2]);
-    let many = state.sorts;
-    let count = state.symbols;
-    let e = loader::enter_symbol(
+    let k = rows[at][2] as usize;
+    loader::enter_symbol(
         text,
         rows,
         at + 1,
@@ -108,47 +97,38 @@ fn declare_symbol(
         0,
         0,
         sorts,
-        many,
+        state.sorts,
         symbols,
-        count,
-    );
-    if e != 0 {
-        return Progress::Refused { number: e };
-    }
-    Progress::Done {
+        state.symbols,
+    )?;
+    Ok(Progress {
         next: at + 2 + k,
         state: State {
-            sorts: many,
-            symbols: count + 1,
-            rules: state.rules,
-            used: state.used,
-            left: state.left,
+            symbols: state.symbols + 1,
+            ..state
         },
-    }
+    })
 }
 
 // What came of a rule for which m nodes were allowed.
-fn told(state: State, m: usize, outcome: Outcome) -> Progress
+fn told(
+    state: State,
+    m: usize,
+    outcome: Result<EnteredRule, Refusal>,
+) -> Result<Progress, Refusal>
     requires { Told state m outcome }
     ensures { result ≡ progress_of state m outcome }
 {
-    match outcome {
-        Outcome::Refused { number: e } => Progress::Refused { number: e },
-        Outcome::Done {
-            next,
-            used: u,
-            room: left,
-        } => Progress::Done {
-            next: next,
-            state: State {
-                sorts: state.sorts,
-                symbols: state.symbols,
-                rules: state.rules + 1,
-                used: u,
-                left: state.left - (m - left),
-            },
+    let rule = outcome?;
+    Ok(Progress {
+        next: rule.next,
+        state: State {
+            rules: state.rules + 1,
+            used: rule.space.used,
+            left: state.left - (m - rule.space.room),
+            ..state
         },
-    }
+    })
 }
 
 // `rule`: the judgments stand behind the row of the name.
@@ -160,20 +140,20 @@ fn declare_rule(
     rules: &mut [RuleRow],
     words: &mut [u32],
     state: State,
-) -> Progress
+) -> Result<Progress, Refusal>
     requires { RuleAsked text.now rows.now at symbols.now rules.old words.old state }
     ensures { RuleDeclared text.now rows.now at symbols.now rules.old words.old state result rules.new words.new }
 {
-    let k = wide(rows[at][2]);
+    let k = rows[at][2] as usize;
     if k == 0 {
-        return Progress::Refused { number: 0 };
+        return Err(Refusal::NoDeclaration);
     }
-    let start = rows[at + 1][1];
-    let size = rows[at + 1][2];
-    let count = state.symbols;
-    let used = state.used;
-    let number = state.rules;
+    let [_, start, size, _] = rows[at + 1];
     let m = room(state.left);
+    let space = Space {
+        used: state.used,
+        room: m,
+    };
     let outcome = loader::enter_rule(
         text,
         rows,
@@ -182,12 +162,11 @@ fn declare_rule(
         start,
         size,
         symbols,
-        count,
+        state.symbols,
         words,
-        used,
-        m,
+        space,
         rules,
-        number,
+        state.rules,
     );
     told(state, m, outcome)
 }
@@ -206,15 +185,16 @@ fn declare_clause(
     out: &mut [TermRow],
     calls: &mut [TermRow],
     state: State,
-) -> Progress
+) -> Result<Progress, Refusal>
     requires { ClauseAsked text.now rows.now at number symbols.now rules.old words.old out.old calls.old state }
     ensures { ClauseDeclared text.now rows.now at number start size symbols.now rules.old words.old state result rules.new words.new }
 {
-    let n = wide(rows[at][3]);
-    let count = state.symbols;
-    let used = state.used;
-    let next = state.rules;
+    let n = rows[at][3] as usize;
     let m = room(state.left);
+    let space = Space {
+        used: state.used,
+        room: m,
+    };
     let title = Title {
         start: start,
         size: size,
@@ -226,12 +206,11 @@ fn declare_clause(
         at + 1,
         n,
         symbols,
-        count,
+        state.symbols,
         words,
-        used,
-        m,
+        space,
         rules,
-        next,
+        state.rules,
         title,
         out,
         calls,
@@ -253,26 +232,28 @@ fn declare_clauses(
     out: &mut [TermRow],
     calls: &mut [TermRow],
     state: State,
-) -> Progress
+) -> Result<Progress, Refusal>
     requires { ClausesAsked text.now rows.now at n start size symbols.now rules.old words.old out.old calls.old state }
     ensures { ClausesDeclared text.now rows.now at n start size symbols.now rules.old words.old state result rules.new words.new }
 {
-    let mut st = state;
-    let mut p = at;
-    let mut i = 0;
-    while i < n {
-        match declare_clause(
-            text, rows, p, i, start, size, symbols, rules, words, out, calls, st,
-        ) {
-            Progress::Refused { number: e } => return Progress::Refused { number: e },
-            Progress::Done { next, state: s } => {
-                p = next;
-                st = s;
-            }
-        }
-        i += 1;
+    let mut progress = Progress { next: at, state };
+    for i in 0..n {
+        progress = declare_clause(
+            text,
+            rows,
+            progress.next,
+            i,
+            start,
+            size,
+            symbols,
+            rules,
+            words,
+            out,
+            calls,
+            progress.state,
+        )?;
     }
-    Progress::Done { next: p, state: st }
+    Ok(progress)
 }
 
 // The first of n clauses is the next rule; 0 where there is none.
@@ -298,22 +279,18 @@ fn declare_def(
     out: &mut [TermRow],
     calls: &mut [TermRow],
     state: State,
-) -> Progress
+) -> Result<Progress, Refusal>
     requires { DefAsked text.now rows.now at sorts.now symbols.old rules.old words.old out.old calls.old state }
     ensures { DefDeclared text.now rows.now at sorts.now symbols.old rules.old words.old state result symbols.new rules.new words.new }
 {
-    let k = wide(rows[at][2]);
+    let k = rows[at][2] as usize;
     if k == 0 {
-        return Progress::Refused { number: 0 };
+        return Err(Refusal::NoDeclaration);
     }
-    let n = wide(rows[at][3]);
-    let start = rows[at + 1][1];
-    let size = rows[at + 1][2];
-    let many = state.sorts;
-    let count = state.symbols;
-    let number = state.rules;
-    let first = first_clause(n, number);
-    let e = loader::enter_symbol(
+    let n = rows[at][3] as usize;
+    let [_, start, size, _] = rows[at + 1];
+    let first = first_clause(n, state.rules);
+    loader::enter_symbol(
         text,
         rows,
         at + 1,
@@ -323,19 +300,13 @@ fn declare_def(
         first,
         n as u32,
         sorts,
-        many,
+        state.sorts,
         symbols,
-        count,
-    );
-    if e != 0 {
-        return Progress::Refused { number: e };
-    }
+        state.symbols,
+    )?;
     let with = State {
-        sorts: many,
-        symbols: count + 1,
-        rules: number,
-        used: state.used,
-        left: state.left,
+        symbols: state.symbols + 1,
+        ..state
     };
     declare_clauses(
         text,
@@ -365,28 +336,27 @@ pub fn declare(
     out: &mut [TermRow],
     calls: &mut [TermRow],
     state: State,
-) -> Progress
+) -> Result<Progress, Refusal>
     requires { DeclareAsked text.now rows.now at sorts.old symbols.old rules.old words.old out.old calls.old state }
     ensures { DeclareDone text.now rows.now at sorts.old symbols.old rules.old words.old state result sorts.new symbols.new rules.new words.new }
 {
-    let kind = rows[at][0];
-    match kind {
-        1 => declare_sort(text, rows, at, sorts, symbols, state),
-        2 => {
+    match rows[at][0] {
+        SORT => declare_sort(text, rows, at, sorts, symbols, state),
+        CTOR => {
             if rows[at][2] == 0 {
-                return Progress::Refused { number: 0 };
+                return Err(Refusal::NoDeclaration);
             }
             declare_symbol(text, rows, at, true, sorts, symbols, state)
         }
-        3 => declare_symbol(text, rows, at, false, sorts, symbols, state),
-        4 => declare_rule(text, rows, at, symbols, rules, words, state),
-        5 => declare_def(
+        PRED => declare_symbol(text, rows, at, false, sorts, symbols, state),
+        RULE => declare_rule(text, rows, at, symbols, rules, words, state),
+        DEF => declare_def(
             text, rows, at, sorts, symbols, rules, words, out, calls, state,
         ),
-        10 => Progress::Done {
+        EVAL => Ok(Progress {
             next: clauses::skip(rows, at + 1, 1),
-            state: state,
-        },
-        _ => Progress::Refused { number: 27 },
+            state,
+        }),
+        _ => Err(Refusal::NotLoaded),
     }
 }

@@ -12,7 +12,7 @@ ghost use Rattle.loader.specs.Signature.{is_taken, sort_refusal, symbol_refusal,
 ghost use Rattle.loader.specs.Rows.{symbol_row, entered};
 ghost use Rattle.loader.specs.Entering.{RuleAsked, RuleEntered};
 ghost use Rattle.loader.specs.Arrows.{names_at, Arrowing};
-ghost use Rattle.loader.specs.SymbolEntry.{SymbolEntered};
+ghost use Rattle.loader.specs.SymbolEntry.{SymbolAnswered};
 
 use clauses::EnteredRule;
 use names::{SortRow, SymbolRow, TermRow};
@@ -190,7 +190,7 @@ pub fn enter_symbol(
     count: usize,
 ) -> Result<(), Refusal>
     requires { (at + 1 + k ≤ length rows.now) × (length rows.now ≤ 65536) × (many ≤ length sorts.now) × (many ≤ 256) × (count ≤ 1024) × (1024 ≤ length symbols.old) }
-    ensures { SymbolEntered text.now rows.now (at + 1) k (column (row_at rows.now at) 1) (column (row_at rows.now at) 2) constructor function first clauses sorts.now many symbols.old count result symbols.new }
+    ensures { SymbolAnswered text.now rows.now (at + 1) k (column (row_at rows.now at) 1) (column (row_at rows.now at) 2) constructor function first clauses sorts.now many symbols.old count result symbols.new }
 {
     let mut inputs = [0u32; 16];
     let last = find_arrow(text, rows, at + 1, k, sorts, many, &mut inputs)

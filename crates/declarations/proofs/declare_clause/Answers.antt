@@ -1,5 +1,5 @@
 -- `declare_clause` meets its contract: the clause is entered with the room that is left.
-use mathlib.Core.Path.{◌≡◌, sym, ◌∙◌}
+use mathlib.Core.Path.{◌≡◌, refl}
 use Prim.Native.Nat.{ℕ, suc, ◌+◌}
 use mathlib.Core.List.{List}
 use Rattle.source_text.specs.Parts.{part_of}
@@ -16,9 +16,8 @@ use Rattle.declarations.proofs.declare_clause.Goals as goal
 pub clause-outcome-requires : goal.clause-outcome-requires
 clause-outcome-requires c =
     let pre = c.requires in
-    let wide = c.wide-n in
     let room = c.room-m in
-    clause_asked (pre.stand.2) wide.ensures pre.short pre.out_lent pre.calls_lent (rw (room.ensures) (storage (pre.ready.3)))
+    clause_asked (pre.stand.2) refl pre.short pre.out_lent pre.calls_lent (rw (room.ensures) (storage (pre.ready.3)))
 
 pub told-requires : goal.told-requires
 told-requires c =
@@ -26,22 +25,19 @@ told-requires c =
     let args = c.args in
     let room = c.room-m in
     let clause = c.clause-outcome in
-    let wide = c.wide-n in
     let st = pre.stand.2 in
     let e : args.number + 1 ≡ suc args.number = omega arith in
-    told_by pre.ready.3 (record { start = args.start; size = args.size; clause = args.number + 1 }) (λ (F : List Symbol) (m : ℕ). clause_of F (part_of args.text.now args.start args.size) args.number (spelled args.text.now (all_of pre.stand.0.patterns)) (spelled args.text.now pre.stand.0.body) m) room.result room.ensures (clause.new.rules) (clause.new.words) clause.result (clause.ensures.same _ _ st.patterns (patterns_number st
-    ∙ sym wide.ensures) _ _ st.right args.number e).1
+    told_by pre.ready.3 (record { start = args.start; size = args.size; clause = args.number + 1 }) (λ (F : List Symbol) (m : ℕ). clause_of F (part_of args.text.now args.start args.size) args.number (spelled args.text.now (all_of pre.stand.0.patterns)) (spelled args.text.now pre.stand.0.body) m) room.result room.ensures (clause.new.rules) (clause.new.words) clause.result (clause.ensures.same _ _ st.patterns (patterns_number st) _ _ st.right args.number e).1
 
 pub returns : goal.returns
 returns c =
     let args = c.args in
     let clause = c.clause-outcome in
-    let wide = c.wide-n in
     let room = c.room-m in
     let told = c.told in
     record {
       same = λ limit ts s ready inside counted cl q st. let e : args.number + 1 ≡ suc args.number = omega arith in
-          let h = clause.ensures.same _ _ st.patterns (patterns_number st ∙ sym wide.ensures) _ _ st.right args.number e in
+          let h = clause.ensures.same _ _ st.patterns (patterns_number st) _ _ st.right args.number e in
           advanced_by ready (record {
             start = args.start;
             size = args.size;

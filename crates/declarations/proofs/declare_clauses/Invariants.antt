@@ -7,7 +7,4 @@ use borrow.Author.Rules.{rules}
 use Rattle.declarations.proofs.declare_clauses.Given as goal
 
 abbrev pub invariant-loop-i : goal.invariant-loop-i
-invariant-loop-i l = (l.i ≤ l.n) × (length l.rules ≡ length l.initial.rules) × (length l.words ≡ length l.initial.words) × (length l.out ≡ length l.initial.out) × (length l.calls ≡ length l.initial.calls) × Everywhere l.text l.rows l.at l.n l.start l.size l.symbols l.initial.rules l.initial.words l.initial.st l.rules l.words l.st l.p l.i
-
-abbrev pub decreases-loop-i : goal.decreases-loop-i
-decreases-loop-i l = l.n - l.i
+invariant-loop-i l = (length l.rules ≡ length l.initial.rules) × (length l.words ≡ length l.initial.words) × (length l.out ≡ length l.initial.out) × (length l.calls ≡ length l.initial.calls) × Everywhere l.text l.rows l.at l.n l.start l.size l.symbols l.initial.rules l.initial.words l.fn.state l.rules l.words l.progress.state l.progress.next l.i

@@ -1,5 +1,5 @@
 -- `declare_rule` meets its contract: the rule is entered with the room that is left.
-use mathlib.Core.Path.{refl, ◌∙◌}
+use mathlib.Core.Path.{refl}
 use Prim.Native.Nat.{ℕ, ◌+◌}
 use mathlib.Core.List.{List, ◌∷◌}
 use Rattle.term_parser.specs.Source.{all_of}
@@ -18,17 +18,14 @@ returns-then-k-eq0 c =
     record {
       none = λ z. refl;
       same = λ limit ts s ready inside j js q st kn. absurd (let z = c.if-k-eq0.true in
-          let w = c.wide-k.ensures in
           omega arith);
     }
 
 pub enter_rule-outcome-requires : goal.enter_rule-outcome-requires
 enter_rule-outcome-requires c =
-    let wide = c.wide-k in
     let pre = c.requires in
     let if1 = c.if-k-eq0 in
     let room = c.room-m in
-    let w = wide.ensures in
     let st = pre.stand (omega (arith, if1.false)) in
     let here = pre.here in
     record {
@@ -36,7 +33,7 @@ enter_rule-outcome-requires c =
       others = st.1;
       end = st.2;
       stand = st.3;
-      number = w ∙ st.4;
+      number = st.4;
       here = here;
       later = omega arith;
       short = pre.short;
@@ -45,27 +42,23 @@ enter_rule-outcome-requires c =
 
 pub told-requires : goal.told-requires
 told-requires c =
-    let wide = c.wide-k in
     let pre = c.requires in
     let if1 = c.if-k-eq0 in
     let args = c.args in
     let room = c.room-m in
     let enter-rule = c.enter_rule-outcome in
-    let w = wide.ensures in
     let st = pre.stand (omega (arith, if1.false)) in
-    told_by pre.ready.3 (record { start = column (row_at args.rows.now (args.at + 1)) 1; size = column (row_at args.rows.now (args.at + 1)) 2; clause = 0 }) (λ (F : List Symbol) (m : ℕ). rule_of F (name_at args.text.now args.rows.now (args.at + 1)) (spelled args.text.now (all_of (front_of (st.0 ∷ st.1)))) (spelled args.text.now (last_judgment st.0 st.1)) m) room.result room.ensures (enter-rule.new.rules) (enter-rule.new.words) enter-rule.result (enter-rule.ensures.same st.0 st.1 st.2 st.3 (w
-    ∙ st.4)).1
+    told_by pre.ready.3 (record { start = column (row_at args.rows.now (args.at + 1)) 1; size = column (row_at args.rows.now (args.at + 1)) 2; clause = 0 }) (λ (F : List Symbol) (m : ℕ). rule_of F (name_at args.text.now args.rows.now (args.at + 1)) (spelled args.text.now (all_of (front_of (st.0 ∷ st.1)))) (spelled args.text.now (last_judgment st.0 st.1)) m) room.result room.ensures (enter-rule.new.rules) (enter-rule.new.words) enter-rule.result (enter-rule.ensures.same st.0 st.1 st.2 st.3 st.4).1
 
 pub returns : goal.returns
 returns c =
     let if1 = c.if-k-eq0 in
-    let wide = c.wide-k in
     let enter-rule = c.enter_rule-outcome in
     let args = c.args in
     let room = c.room-m in
     let told = c.told in
     record {
-      none = λ z. absurd (if1.false (wide.ensures ∙ z));
-      same = λ limit ts s ready inside j js q st kn. let h = enter-rule.ensures.same j js q st (wide.ensures ∙ kn) in
+      none = λ z. absurd (if1.false z);
+      same = λ limit ts s ready inside j js q st kn. let h = enter-rule.ensures.same j js q st kn in
           advanced_by ready (record { start = column (row_at args.rows.now (args.at + 1)) 1; size = column (row_at args.rows.now (args.at + 1)) 2; clause = 0 }) inside (omega arith) (enter-rule.new.rules) (enter-rule.new.words) (enter-rule.auto.rules) (enter-rule.auto.words) (λ (F : List Symbol) (m : ℕ). rule_of F (name_at args.text.now args.rows.now (args.at + 1)) (spelled args.text.now (all_of (front_of (j ∷ js)))) (spelled args.text.now (last_judgment j js)) m) room.result room.ensures q enter-rule.result told.result h.0 h.1 told.ensures;
     }

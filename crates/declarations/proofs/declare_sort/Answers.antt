@@ -1,17 +1,12 @@
 -- `declare_sort` meets its contract: the sort is refused, or it is one more.
-use Rattle.declarations.proofs.ProgressLaws.{sort_refused, sort_done}
+use mathlib.Core.Path.{refl}
+use Rattle.patterns.specs.Refused.{handed_on}
 use Rattle.declarations.proofs.declare_sort.Goals as goal
 
-pub returns-then-e-ne0 : goal.returns-then-e-ne0
-returns-then-e-ne0 c =
-    let args = c.args in
-    let enter-sort = c.enter_sort-e in
-    let if1 = c.if-e-ne0 in
-    record { value = sort_refused _ _ args.at args.state enter-sort.ensures.value if1.true; sorts_after = rw (enter-sort.ensures.value) at (enter-sort.ensures.sorts_after) }
+pub returns-in_err-enter_sort : goal.returns-in_err-enter_sort
+returns-in_err-enter_sort c =
+    rw (handed_on c.from_residual.result c.in_err-enter_sort.field-0.0 c.from_residual.ensures.1)
+    (record { value = c.in_err-enter_sort.ensures.value; sorts_after = c.enter_sort.ensures.sorts_after })
 
 pub returns : goal.returns
-returns c =
-    let args = c.args in
-    let enter-sort = c.enter_sort-e in
-    let if1 = c.if-e-ne0 in
-    record { value = sort_done _ _ args.at args.state enter-sort.ensures.value if1.false; sorts_after = rw (enter-sort.ensures.value) at (enter-sort.ensures.sorts_after) }
+returns c = record { value = (c.in_ok-enter_sort.ensures.value, refl); sorts_after = c.enter_sort.ensures.sorts_after }

@@ -1,32 +1,19 @@
 -- `declare_symbol` meets its contract: the symbol is refused, or it is one more.
-use mathlib.Core.Path.{◌≡◌}
+use mathlib.Core.Path.{◌≡◌, refl}
 use Prim.Native.Nat.{◌+◌}
-use Rattle.declarations.proofs.ProgressLaws.{symbol_refused, symbol_done}
 use native.Mathlib.Omega.{arith}
+use Rattle.patterns.specs.Refused.{handed_on}
 use Rattle.declarations.proofs.declare_symbol.Goals as goal
 
-pub returns-then-e-ne0 : goal.returns-then-e-ne0
-returns-then-e-ne0 c =
-    let args = c.args in
-    let enter-symbol = c.enter_symbol-e in
-    let if1 = c.if-e-ne0 in
-    let wide = c.wide-k in
-    let q : args.at + 1 + 1 ≡ args.at + 2 = omega arith in
-    record {
-      refusal = enter-symbol.result;
-      is = symbol_refused _ _ args.at args.state if1.true;
-      entered = rw (q, wide.ensures) at enter-symbol.ensures;
-    }
+pub returns-in_err-enter_symbol : goal.returns-in_err-enter_symbol
+returns-in_err-enter_symbol c =
+    let q : c.args.at + 1 + 1 ≡ c.args.at + 2 = omega arith in
+    let h = rw q at c.in_err-enter_symbol.ensures in
+    rw (handed_on c.from_residual.result c.in_err-enter_symbol.field-0.0 c.from_residual.ensures.1)
+    (record { refusal = h.number; is = h.answer; entered = h.comes_to })
 
 pub returns : goal.returns
 returns c =
-    let args = c.args in
-    let enter-symbol = c.enter_symbol-e in
-    let wide = c.wide-k in
-    let if1 = c.if-e-ne0 in
-    let q : args.at + 1 + 1 ≡ args.at + 2 = omega arith in
-    record {
-      refusal = enter-symbol.result;
-      is = rw (wide.ensures) (symbol_done _ _ args.at args.state if1.false);
-      entered = rw (q, wide.ensures) at enter-symbol.ensures;
-    }
+    let q : c.args.at + 1 + 1 ≡ c.args.at + 2 = omega arith in
+    let h = rw q at c.in_ok-enter_symbol.ensures in
+    record { refusal = h.number; is = (h.answer, refl); entered = h.comes_to }

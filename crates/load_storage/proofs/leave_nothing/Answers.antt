@@ -10,7 +10,7 @@ pub returns : goal.returns
 returns c =
     let args = c.args in
     let leave = c.leave in
-    let clear = c.clear in
+    let clear = c.clear_rows in
     let b : Buffers = record {
       tokens = args.tokens.now;
       rows = args.rows.now;

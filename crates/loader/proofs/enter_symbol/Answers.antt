@@ -25,11 +25,11 @@ returns-in_err-check_symbol c =
     let n = inputs_count (args.constructor) look.found (args.k) c₁ in
     rw (handed_on c.from_residual-in_err-check_symbol.result c.in_err-check_symbol.field-0.0 c.from_residual-in_err-check_symbol.ensures.1)
     (record {
-      refusal = (c.in_err-check_symbol.ensures.0
+      number = _;
+      answer = (refl, c.in_err-check_symbol.ensures.1);
+      comes_to = record { refusal = (c.in_err-check_symbol.ensures.0
           ∙ ap (symbol_refusal (sorts_of (args.text.now) (args.sorts.now) (args.many)) (symbols_of (args.text.now) (args.symbols.now) (args.count)) _) (input-count.ensures ∙ sym n)
-          ∙ ap (arrow_refusal (sorts_of (args.text.now) (args.sorts.now) (args.many)) (symbols_of (args.text.now) (args.symbols.now) (args.count)) _ (args.constructor)) (sym look.is), c.in_err-check_symbol.ensures.1);
-      refused = refl;
-      entered = tt;
+          ∙ ap (arrow_refusal (sorts_of (args.text.now) (args.sorts.now) (args.many)) (symbols_of (args.text.now) (args.symbols.now) (args.count)) _ (args.constructor)) (sym look.is)); refused = λ z. refl; entered = λ z. absurd (let l = c.in_err-check_symbol.ensures.1 in omega arith) };
     })
 
 pub put_symbol-requires : goal.put_symbol-requires
@@ -54,9 +54,9 @@ returns-in_err-last c =
     let find-arrow = c.find_arrow in
     rw (handed_on c.from_residual.result c.in_err-last.field-0.0 c.from_residual.ensures.1, none_is c.find_arrow.result c.in_err-last.ensures.ok_part c.in_err-last.ensures.value)
     (record {
-      refusal = (ap (arrow_refusal (sorts_of (args.text.now) (args.sorts.now) (args.many)) (symbols_of (args.text.now) (args.symbols.now) (args.count)) _ (args.constructor)) (sym (arrow_unknown (numbers_of (sorts_of (args.text.now) (args.sorts.now) (args.many)) (names_at (args.text.now) (args.rows.now) (args.at + 1) (args.k))) (find-arrow.result) _ (args.k) (find-arrow.ensures) c.in_err-last.ensures.ok_part)), omega arith);
-      refused = refl;
-      entered = tt;
+      number = 18;
+      answer = (refl, omega arith);
+      comes_to = record { refusal = ap (arrow_refusal (sorts_of (args.text.now) (args.sorts.now) (args.many)) (symbols_of (args.text.now) (args.symbols.now) (args.count)) _ (args.constructor)) (sym (arrow_unknown (numbers_of (sorts_of (args.text.now) (args.sorts.now) (args.many)) (names_at (args.text.now) (args.rows.now) (args.at + 1) (args.k))) (find-arrow.result) _ (args.k) (find-arrow.ensures) c.in_err-last.ensures.ok_part)); refused = λ z. refl; entered = λ z. absurd (omega arith) };
     })
 
 pub returns : goal.returns
@@ -78,8 +78,10 @@ returns c =
     let few = rw (input-count.ensures) at f.0 in
     let put = rw (t, output.ensures, input-count.ensures) at (put-symbol.ensures) in
     record {
-      refusal = (c.in_ok-check_symbol.ensures ∙ ap (symbol_refusal (sorts_of (args.text.now) (args.sorts.now) (args.many)) (symbols_of (args.text.now) (args.symbols.now) (args.count)) _) (input-count.ensures ∙ sym n) ∙ ap (arrow_refusal (sorts_of (args.text.now) (args.sorts.now) (args.many)) (symbols_of (args.text.now) (args.symbols.now) (args.count)) _ (args.constructor)) (sym look.is));
-      refused = tt;
-      entered = λ ns e. let q : look.found ≡ ns = same_numbers (sym look.is ∙ e) in
-          rw (← q) (put ∙ ap (set (args.symbols.now) (args.count)) (row_is (column (row_at (args.rows.now) (args.at)) 1) (column (row_at (args.rows.now) (args.at)) 2) (args.function) (args.first) (args.clauses) (args.k) (args.constructor) look.found _ _ c₁ look.last_is few look.written));
+      number = 0;
+      answer = refl;
+      comes_to = record { refusal = (c.in_ok-check_symbol.ensures ∙ ap (symbol_refusal (sorts_of (args.text.now) (args.sorts.now) (args.many)) (symbols_of (args.text.now) (args.symbols.now) (args.count)) _) (input-count.ensures ∙ sym n) ∙ ap (arrow_refusal (sorts_of (args.text.now) (args.sorts.now) (args.many)) (symbols_of (args.text.now) (args.symbols.now) (args.count)) _ (args.constructor)) (sym look.is));
+      refused = λ z. absurd (z refl);
+      entered = λ z ns e. let q : look.found ≡ ns = same_numbers (sym look.is ∙ e) in
+          rw (← q) (put ∙ ap (set (args.symbols.now) (args.count)) (row_is (column (row_at (args.rows.now) (args.at)) 1) (column (row_at (args.rows.now) (args.at)) 2) (args.function) (args.first) (args.clauses) (args.k) (args.constructor) look.found _ _ c₁ look.last_is few look.written)) };
     }
