@@ -6,8 +6,7 @@
 ghost use Rattle.forward_calls.specs.Ground.{GroundAsked, GroundAnswered};
 ghost use Rattle.forward_calls.specs.Forward.{ForwardAsked, ForwardAnswered};
 
-use names::SymbolRow;
-use patterns::TermRow;
+use names::{SymbolRow, TermRow};
 
 // Whether the term whose rows start at a place has no metavariable: its rows stand in preorder, so one pass over them sees every part.
 pub fn is_ground(text: &[u8], rows: &[TermRow], at: usize) -> bool
@@ -49,10 +48,9 @@ pub fn is_forward_call(
     if kind == words::METAVARIABLE {
         return false;
     }
-    let i = names::symbol_of(text, symbols, count, kind, rows[at][1], rows[at][2]);
-    if count <= i {
+    let Some(i) = names::find_at(text, &symbols[..count], kind, rows[at][1], rows[at][2]) else {
         return false;
-    }
+    };
     if symbols[i][3] != 1 {
         return false;
     }
