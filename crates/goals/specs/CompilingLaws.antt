@@ -19,7 +19,7 @@ use Rattle.sessions.specs.Storage.{named_in, names_in}
 use Rattle.sessions.specs.Goals.{WrittenTerm, variable_for, name_for, closing, goal_compiled}
 use Rattle.goals.specs.Compiling.{Agrees, GoalMade}
 use Rattle.goals.specs.declared.Goal.{Goal}
-use Rattle.goals.specs.declared.Outcome.TheVariants.{Refused, Done}
+use Rattle.std.specs.Prelude.{Ok, Err}
 
 -- Names as variables
 
@@ -83,13 +83,13 @@ module _ {text : List ℕ} {rows : Rows} {at : ℕ} {symbols : List Symbol} (nam
   outs t q s = (c.same t q s).1 ∙ ap (λ (us : List Variable). stored [] (pattern_of symbols t (0 ∷ []) us 1024) w 0) copied
 
   -- The pattern is refused.
-  pub goal_failed : (e : ℕ) → r ≡ Failed e → GoalMade text rows at symbols names w (Refused e) vx wx
+  pub goal_failed : (e : ℕ) → r ≡ Failed e → GoalMade text rows at symbols names w (Err e) vx wx
   unfolding goal_compiled
   goal_failed e f = record { same = λ t q s. go q (made t) (sym (ap (λ (x : Made). answer text x vx wx) f) ∙ outs t q s) }
     where
       go : (q : ℕ) (o : Out one) → no e ≡ stored [] o w 0
-          → Agrees text rows at q n w (closing (length (names_in text names n)) o) (Refused e) vx wx
-      go q (bad e') x = let d : e ≡ e' = cc in ap Refused d
+          → Agrees text rows at q n w (closing (length (names_in text names n)) o) (Err e) vx wx
+      go q (bad e') x = let d : e ≡ e' = cc in ap Err d
       go q (good p us left) x = no_yes x
 
   module _ {x next v u m : ℕ} (f : r ≡ Node x next v u m) where
@@ -111,12 +111,12 @@ module _ {text : List ℕ} {rows : Rows} {at : ℕ} {symbols : List Symbol} (nam
         subst (λ (k : ℕ). LiesIn rows at k (row_at vx i)) e (h.new i a b)
 
     -- A sort is not known.
-    pub goal_unknown : all_known (variables_of text vx v) ≡ false → GoalMade text rows at symbols names w (Refused 25) vx wx
+    pub goal_unknown : all_known (variables_of text vx v) ≡ false → GoalMade text rows at symbols names w (Err 25) vx wx
     unfolding goal_compiled
     goal_unknown k = record { same = λ t q s. go q (made t) (there t q s) }
       where
         go : (q : ℕ) (o : Out one) → yes (laid (x ∷ []) wx u) (variables_of text vx v) m ≡ stored [] o w 0
-            → Agrees text rows at q n w (closing (length (names_in text names n)) o) (Refused 25) vx wx
+            → Agrees text rows at q n w (closing (length (names_in text names n)) o) (Err 25) vx wx
         go q (bad e') y = yes_no y
         go q (good p us left) y =
             let d : variables_of text vx v ≡ us = cc in
@@ -127,13 +127,13 @@ module _ {text : List ℕ} {rows : Rows} {at : ℕ} {symbols : List Symbol} (nam
     abbrev goal : Goal
     goal = record { node = x; variables = v; words = u }
 
-    pub goal_done : all_known (variables_of text vx v) ≡ true → GoalMade text rows at symbols names w (Done goal) vx wx
+    pub goal_done : all_known (variables_of text vx v) ≡ true → GoalMade text rows at symbols names w (Ok goal) vx wx
     unfolding goal_compiled
     goal_done k = record { same = λ t q s. go q (made t) (lying t q s) (there t q s) }
       where
         go : (q : ℕ) (o : Out one) → ((i : ℕ) → n ≤ i → i < v → LiesIn rows at q (row_at vx i))
             → yes (laid (x ∷ []) wx u) (variables_of text vx v) m ≡ stored [] o w 0
-            → Agrees text rows at q n w (closing (length (names_in text names n)) o) (Done goal) vx wx
+            → Agrees text rows at q n w (closing (length (names_in text names n)) o) (Ok goal) vx wx
         go q (bad e') h y = yes_no y
         go q (good p us left) h y =
             let d : variables_of text vx v ≡ us = cc in

@@ -20,6 +20,7 @@ use Rattle.resolution.specs.Session.{Named, variable_at}
 use Rattle.attempts.specs.StoredRules.{Part, Root}
 use Rattle.attempts.specs.Parts.{copied_form, copied_grown, copied_reference, copied_denotes}
 use Rattle.rules.specs.LayingLaws.{lying_one, lying_part, lying_root, lying_form}
+use Rattle.signature.proofs.UsedLaws.{used_length, row_used}
 use Rattle.sessions.specs.Storage.{named_in, names_in}
 use Rattle.sessions.specs.declared.SessionCounts.{SessionCounts}
 use Rattle.goals.specs.Storing.{name_row, NamesEntered, PlacesPut, GoalLying, StoreAsked, GoalStored}
@@ -46,6 +47,22 @@ module _ (vs : Rows) (n i c : ℕ) (names names' : Rows) (a : n ≤ i) (l : i < 
         (λ e _. get_or-set_other names' i j row [] (λ d. e (sym d)) ∙ h.new j p (let d : i ≡ j → ⊥ = e in omega arith));
     behind = λ j p. get_or-set_other names' i j row [] (λ e. omega arith) ∙ h.behind j (omega arith);
   }
+
+-- The rows of the first v variables, and of the first v names, lent as a part of the table.
+pub entered_used : {vs : Rows} {n v c : ℕ} {names names' : Rows} → v ≤ length vs → NamesEntered (take v vs) n (length (take v vs)) c names names'
+    → NamesEntered vs n v c names names'
+entered_used {vs} {n} {v} l h =
+    let e = used_length vs v l in
+    record {
+      long = h.long;
+      front = h.front;
+      new = λ i a b. rw (row_used vs v l i b) at (h.new i a (omega arith));
+      behind = λ i a. h.behind i (omega arith);
+    }
+
+pub put_used : (names : Rows) (v : ℕ) (places : List ℕ) → v ≤ length names → PlacesPut (take v names) (length (take v names)) places
+    → PlacesPut names v places
+put_used names v places l h i b = let e = used_length names v l in rw (row_used names v l i b) at (h i (omega arith))
 
 module _ (names : Rows) (i : ℕ) (places : List ℕ) (l : i < length places) (h : PlacesPut names i places) where
   abbrev number : ℕ

@@ -30,24 +30,14 @@ pub struct Goal {
     pub words: u32,
 }
 
-// What came of a goal.
-#[derive(Clone, Copy)]
-pub enum Outcome {
-    Refused { number: u32 },
-    Done { goal: Goal },
-}
-
 // The session's names as variables: the first four columns of each row.
 fn copy_names(names: &[NameRow], variables: &mut [VariableRow])
     requires { length names.now ≤ length variables.old }
     ensures { (text : List ℕ) → variables_of text variables.new (length names.now)
         ≡ map variable_for (names_in text names.now (length names.now)) }
 {
-    let mut i = 0;
-    while i < names.len() {
-        let row = names[i];
+    for (i, row) in names.iter().enumerate() {
         variables[i] = [row[0], row[1], row[2], row[3]];
-        i += 1;
     }
 }
 
@@ -62,7 +52,7 @@ pub fn compile(
     names: &[NameRow],
     variables: &mut [VariableRow],
     words: &mut [u32],
-) -> Outcome
+) -> Result<Goal, u32>
     requires { Ready symbols.now count variables.old (length names.now) words.old 0 1024 }
     ensures bounds { Bounds (length names.now) result }
     ensures goal_made { GoalMade text.now rows.now at (symbols_of text.now symbols.now count)
@@ -73,7 +63,7 @@ pub fn compile(
     match patterns::pattern(
         text, rows, at, symbols, count, 0, variables, n, words, 0, NODES,
     ) {
-        Made::Failed { number } => Outcome::Refused { number: number },
+        Made::Failed { number } => Err(number),
         Made::Node {
             node: r,
             next: _,
@@ -82,46 +72,38 @@ pub fn compile(
             room: _,
         } => {
             if !rules::all_known(variables, v) {
-                return Outcome::Refused {
-                    number: rules::SORT_NOT_KNOWN,
-                };
+                return Err(rules::SORT_NOT_KNOWN);
             }
             let entered = v as u32;
             let used = u as u32;
-            Outcome::Done {
-                goal: Goal {
-                    node: r,
-                    variables: entered,
-                    words: used,
-                },
-            }
+            Ok(Goal {
+                node: r,
+                variables: entered,
+                words: used,
+            })
         }
     }
 }
 
 // Writes the rows of a goal's new names behind the n names of a session, with variables from `counter` on.
-fn enter_names(variables: &[VariableRow], v: usize, names: &mut [NameRow], n: usize, counter: u32)
-    requires { (n ≤ v) × (v ≤ 64) × (v ≤ length variables.now) × (v ≤ length names.old) × (counter + (v - n) ≤ term_room) }
-    ensures { NamesEntered variables.now n v counter names.old names.new }
+fn enter_names(variables: &[VariableRow], names: &mut [NameRow], n: usize, counter: u32)
+    requires { (n ≤ length variables.now) × (length variables.now ≤ 64) × (length variables.now ≤ length names.old) × (counter + (length variables.now - n) ≤ term_room) }
+    ensures { NamesEntered variables.now n (length variables.now) counter names.old names.new }
 {
-    let mut i = n;
-    while i < v {
-        let row = variables[i];
+    for i in n..variables.len() {
+        let [kind, start, size, sort] = variables[i];
         let x = counter + ((i - n) as u32);
-        names[i] = [row[0], row[1], row[2], row[3], x];
-        i += 1;
+        names[i] = [kind, start, size, sort, x];
     }
 }
 
-// The variables of the first v names, as a table of places.
-fn put_places(names: &[NameRow], v: usize, places: &mut [u32])
-    requires { (v ≤ length names.now) × (v ≤ length places.old) }
-    ensures { PlacesPut names.now v places.new }
+// The variables of names, as a table of places.
+fn put_places(names: &[NameRow], places: &mut [u32])
+    requires { length names.now ≤ length places.old }
+    ensures { PlacesPut names.now (length names.now) places.new }
 {
-    let mut i = 0;
-    while i < v {
-        places[i] = names[i][4];
-        i += 1;
+    for (i, row) in names.iter().enumerate() {
+        places[i] = row[4];
     }
 }
 
@@ -152,7 +134,7 @@ pub fn store(
     let mut places = [0u32; 64];
     let n = counts.names as usize;
     let v = goal.variables as usize;
-    enter_names(variables, v, names, n, counts.variables);
-    put_places(names, v, &mut places);
+    enter_names(&variables[..v], names, n, counts.variables);
+    put_places(&names[..v], &mut places);
     copy_goal(pattern, goal, &places, words, counts.words)
 }

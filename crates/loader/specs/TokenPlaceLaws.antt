@@ -1,5 +1,5 @@
 -- Every token that reading gives lies inside the text and has 1 to 64 bytes: a longer word is refused, and signs have at most 3.
-use Rattle.std.specs.Prelude.{ℕ, zero, suc, ◌+◌, ◌-◌, ◌≤◌, ◌<◌, ◌≡◌, Bool, true, List, [], ◌∷◌, eqb, ltb, length, get_or}
+use Rattle.std.specs.Prelude.{ℕ, zero, suc, ◌+◌, ◌-◌, ◌≤◌, ◌<◌, ◌≡◌, Bool, true, Option, Some, None, List, [], ◌∷◌, eqb, ltb, length, get_or}
 use Rattle.std.proofs.Common.{arith, ltb-false}
 use Rattle.terms.specs.Numbers.{by_bool}
 use Rattle.source_text.specs.Bytes.{starts_with, up_to}
@@ -13,10 +13,8 @@ use Rattle.words.specs.Tokens.{Reading, is_word, word_of, item_of, and_then, rea
 use Rattle.words.specs.Tokens.Reading.{tokens, refused}
 use Rattle.source_text.specs.Utf8.{is_utf8}
 use Rattle.words.specs.Lexer.{in_domain, lex_of}
-use Rattle.source_text.specs.declared.NumeralValue.{NumeralValue}
-use Rattle.source_text.specs.declared.NumeralValue.TheVariants.{Fits, TooLarge}
-use Rattle.words.specs.declared.tokens.Item.{Item}
-use Rattle.words.specs.declared.tokens.Item.TheVariants.{Blank, Token, Refused}
+use Rattle.words.specs.Items.{Item}
+use Rattle.words.specs.Items.Item.{Blank, Token, Refused}
 use Rattle.term_parser.specs.Source.{Place, place}
 use Rattle.names.specs.NamePlaces.{NamePlace}
 use Rattle.term_parser.specs.ReaderLaws.{Each, each_append}
@@ -51,9 +49,9 @@ word_sized w some =
     rw e (by_bool (eqb (get_or w 0 0) 63) (λ f. rw f here)
     (λ f. rw f (by_bool (all_digits w) (λ g. rw g (numeral (numeral_of w) here)) (λ g. rw g here)))))
   where
-    numeral : (v : NumeralValue) → (0 < length w) × (length w ≤ 64) × (length w ≤ length w) → Sized (length w) (if_fits v (Token numeral_kind (length w)))
-    numeral (Fits v) h = h
-    numeral TooLarge h = tt
+    numeral : (v : Option ℕ) → (0 < length w) × (length w ≤ 64) × (length w ≤ length w) → Sized (length w) (if_fits v (Token numeral_kind (length w)))
+    numeral (Some v) h = h
+    numeral None h = tt
 
 -- A word has a byte at least, the one with which it starts.
 word_some : (c : ℕ) (s : List ℕ) → is_word (character_of (c ∷ s)).class ≡ true → 0 < length (word_of (c ∷ s))

@@ -1,10 +1,6 @@
 -- Rows whose numbers are all one value.
 use Rattle.std.specs.Prelude.{Bool, true, ◌&&◌, List, [], ◌∷◌, ℕ, eqb, get_or}
 
--- The row of four times v.
-abbrev pub row_of : ℕ → List ℕ
-row_of v = v ∷ v ∷ v ∷ v ∷ []
-
 -- Is each of a row's four numbers v?
 unfoldable pub is_all : ℕ → List ℕ → Bool
 is_all v row = eqb (get_or row 0 0) v && eqb (get_or row 1 0) v && eqb (get_or row 2 0) v && eqb (get_or row 3 0) v

@@ -2,12 +2,13 @@
 // afterwards. A test that fails writes a line that begins with `wrong`.
 #![tactic(auto)]
 
-ghost use Rattle.std.specs.Prelude.{◌&&◌, ◌≡◌, ◌+◌, ◌^◌, ◌≤◌, ◌<◌, leb, drop, length, replicate};
-ghost use Rattle.parser_replay.specs.Rows.{are_all, is_all, row_of};
+ghost use Rattle.std.specs.Prelude.{◌&&◌, ◌≡◌, ◌+◌, ◌^◌, ◌≤◌, ◌<◌, leb, drop, length};
+ghost use Rattle.parser_replay.specs.Rows.{are_all, is_all};
 
 use listing::recorded;
-use parser::Answer;
-use words::{Lexed, Limits, Row};
+use parser::Parsed;
+use refusals::{Refusal, Rejection};
+use words::{Limits, Row};
 
 // Standard output.
 const STDOUT_FILENO: i32 = 1;
@@ -15,47 +16,17 @@ const STDOUT_FILENO: i32 = 1;
 // What each number of the lent rows is before a call.
 const JUNK: u32 = 0xA5A5_A5A5;
 
-// Makes each number of the rows the value.
-fn fill(rows: &mut [Row], value: u32)
-    ensures { rows.new ≡ replicate (length rows.old) (row_of value) }
-{
-    let mut i = 0;
-    while i < rows.len() {
-        rows[i] = [value, value, value, value];
-        i += 1;
-    }
-}
-
 // Whether a place is within the rows or their end, and each number from there on is the value.
 fn are_all(rows: &[Row], from: usize, value: u32) -> bool
     ensures { result ≡ leb from (length rows.now) && are_all value (drop from rows.now) }
 {
-    if rows.len() < from {
-        return false;
-    }
-    let mut i = from;
-    while i < rows.len() {
-        if !is_all(rows[i], value) {
-            return false;
-        }
-        i += 1;
-    }
-    true
+    from <= rows.len() && rows[from..].iter().all(|row| is_all(*row, value))
 }
 
 fn is_all(row: Row, value: u32) -> bool
     ensures { result ≡ is_all value row }
 {
-    if row[0] != value {
-        return false;
-    }
-    if row[1] != value {
-        return false;
-    }
-    if row[2] != value {
-        return false;
-    }
-    row[3] == value
+    row.iter().all(|n| *n == value)
 }
 
 // Tests that the rows from a place on hold the value.
@@ -90,49 +61,40 @@ fn list_row(row: Row) {
 }
 
 fn list_rows(rows: &[Row], used: usize) {
-    let mut i = 0;
-    while i < rows.len() {
-        if used <= i {
-            return;
-        }
-        list_row(rows[i]);
-        i += 1;
+    for row in rows.iter().take(used) {
+        list_row(*row);
     }
 }
 
 // Lists an answer for a text of `count` tokens, and tests the rows: zero past the tokens and past the declarations, zero throughout after a refusal,
 // and after refusal 1 as they were.
-fn list_answer(answer: Answer, tokens: &[Row], count: usize, rows: &[Row]) {
+fn list_answer(answer: Result<Parsed, Rejection>, tokens: &[Row], count: usize, rows: &[Row]) {
     match answer {
-        Answer::Declarations(n, used) => {
+        Ok(parsed) => {
             io::write_all(STDOUT_FILENO, b"declarations ");
-            io::print_decimal(STDOUT_FILENO, n as u64);
+            io::print_decimal(STDOUT_FILENO, u64::from(parsed.declarations));
             io::write_all(STDOUT_FILENO, b"\n");
-            list_rows(rows, used);
-            expect_both(tokens, count, rows, used, 0);
+            list_rows(rows, parsed.rows);
+            expect_both(tokens, count, rows, parsed.rows, 0);
         }
-        Answer::Refused(r, line) => {
-            let number = parser::number(r);
-            listing::write_refusal(number, line);
-            let value = if number == 1 { JUNK } else { 0 };
+        Err(rejection) => {
+            listing::write_refusal(rejection);
+            let value = if rejection.refusal == Refusal::Storage {
+                JUNK
+            } else {
+                0
+            };
             expect_both(tokens, 0, rows, 0, value);
         }
     }
 }
 
-// The number of a text's tokens, 0 where it is refused.
-fn count_tokens(text: &[u8], limits: Limits, tokens: &mut [Row]) -> usize {
-    match words::lex(text, limits, tokens) {
-        Lexed::Tokens(n) => n,
-        Lexed::Refused(_, _) => 0,
-    }
-}
-
 // Parses a text and lists the answer.
 fn list(text: &[u8], limits: Limits, tokens: &mut [Row], rows: &mut [Row]) {
-    let count = count_tokens(text, limits, tokens);
-    fill(tokens, JUNK);
-    fill(rows, JUNK);
+    // A refused text has no tokens.
+    let count = words::lex(text, limits, tokens).unwrap_or(0);
+    tokens.fill([JUNK; 4]);
+    rows.fill([JUNK; 4]);
     let answer = parser::parse_text(text, limits, tokens, rows);
     list_answer(answer, tokens, count, rows);
 }

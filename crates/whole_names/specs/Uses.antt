@@ -1,7 +1,6 @@
 -- What it means that every word of a declaration is taken whole: its own name, and each name, metavariable and numeral that it uses.
-use Rattle.std.specs.Prelude.{ℕ, ◌≡◌, List}
+use Rattle.std.specs.Prelude.{ℕ, Some, ◌≡◌, List}
 use Rattle.source_text.specs.Numerals.{numeral_of}
-use Rattle.source_text.specs.declared.NumeralValue.TheVariants.{Fits}
 use Rattle.term_parser.specs.Source.{Place, place, Arity, Source, numeral, metavariable, name, application, none, more}
 use Rattle.term_parser.specs.Standing.{bytes_at}
 use Rattle.term_parser.specs.ReaderLaws.{Each}
@@ -18,7 +17,7 @@ WholeName text p = Whole text 12 p
 
 -- So of each word of a term, or of several terms; and the number that stands for a numeral is the value of its digits.
 unfoldable pub TermWhole : {n : Arity} → List ℕ → Source n → Type 0
-TermWhole text (numeral p v) = Whole text 14 p × (numeral_of (bytes_at text p) ≡ Fits v)
+TermWhole text (numeral p v) = Whole text 14 p × (numeral_of (bytes_at text p) ≡ Some v)
 TermWhole text (metavariable p) = Whole text 13 p
 TermWhole text (name p) = WholeName text p
 TermWhole text (application p ts) = WholeName text p × TermWhole text ts

@@ -1,7 +1,7 @@
 -- Every word of every declaration that is parsed is taken whole.
 use Prim.Native.Nat.{ℕ, zero, suc, ◌-◌, ◌≤◌}
 use Rattle.std.proofs.Common.{arith, eqb-true}
-use Rattle.std.specs.Prelude.{◌≡◌, refl, ◌&&◌, eqb, length, drop}
+use Rattle.std.specs.Prelude.{Some, ◌≡◌, refl, ◌&&◌, eqb, length, drop}
 use mathlib.Core.List.{List, [], ◌∷◌}
 use Rattle.std.proofs.Math.ListN.{get_or}
 use Rattle.terms.specs.Numbers.{by_bool}
@@ -10,13 +10,12 @@ use Rattle.source_text.specs.Numerals.{numeral_of}
 use Rattle.words.specs.Tokens.Reading.{tokens}
 use Rattle.source_text.specs.Parts.{part_of}
 use Rattle.words.specs.Lexer.{lex_of}
-use Rattle.source_text.specs.declared.NumeralValue.TheVariants.{Fits}
 use Rattle.term_parser.specs.Source.{Place, Source, one, many, numeral, metavariable, name as called, application, none, more, all_of, extend}
 use Rattle.term_parser.specs.Parsing.{Tokens, kind_of, line_of, last_line, Parsed, parsed, absent, refused, plus, follow, required, sign_of, behind, repeat}
 use Rattle.term_parser.specs.Grammar.{value, applied, equated, atom_of, app_of, term_of, parenthesis}
 use Rattle.term_parser.specs.Lists.{separated, unless, name, title_of, arrows_of, names_of, term, app, judgments_of, patterns_of}
 use Rattle.term_parser.specs.ReaderLaws.{Each, Comes, Any, any_comes, plus_comes, required_comes, when_comes, repeat_each}
-use Rattle.term_parser.specs.declared.Refusal.TheVariants.{TermExpected}
+use Rattle.refusals.specs.declared.Refusal.TheVariants.{TermExpected}
 use Rattle.parser.specs.Source.{Tactic, induction, Declaration, sort}
 use Rattle.parser.specs.Declarations.{ends_in_prop, Declared, behind_open, binders_of, by_of, tactic_of, sort_of, ctor_of, behind_bar, clause_of, pred_of, rule_of, def_of, theorem_of, eval_of, check_of, body_of, declaration_of, parse_of}
 use Rattle.whole_words.specs.Words.{ReadAs, TokenWhole, WordAt}
@@ -142,7 +141,7 @@ module _ (text : List ℕ) where
 
   -- A numeral's token has the value that the parser takes.
   token_value : (t : List ℕ) → TokenWhole text t → get_or t 0 0 ≡ 14
-      → numeral_of (part_of text (get_or t 1 0) (get_or t 2 0)) ≡ Fits (value (numeral_of (part_of text (get_or t 1 0) (get_or t 2 0))))
+      → numeral_of (part_of text (get_or t 1 0) (get_or t 2 0)) ≡ Some (value (numeral_of (part_of text (get_or t 1 0) (get_or t 2 0))))
   token_value t h e = let (v, _, q) = h.reads.numeral e in rw q refl
 
   module _ (last : ℕ) where
