@@ -12,7 +12,6 @@ ghost use Rattle.declarations.specs.Steps.{name_at, GoesTo, sort_progress, Symbo
 
 use clauses::EnteredRule;
 use names::{SortRow, SymbolRow, TermRow};
-
 use refusals::Refusal;
 use rules::{RuleRow, Space, Title};
 use words::{CTOR, DEF, EVAL, PRED, RULE, SORT};
@@ -111,11 +110,7 @@ fn declare_symbol(
 }
 
 // What came of a rule for which m nodes were allowed.
-fn told(
-    state: State,
-    m: usize,
-    outcome: Result<EnteredRule, Refusal>,
-) -> Result<Progress, Refusal>
+fn told(state: State, m: usize, outcome: Result<EnteredRule, Refusal>) -> Result<Progress, Refusal>
     requires { Told state m outcome }
     ensures { result ≡ progress_of state m outcome }
 {
