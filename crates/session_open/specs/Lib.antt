@@ -1,2 +1,0 @@
--- What the contracts of `session_open` cite.
-pub mod Cleared
