@@ -28,12 +28,14 @@ use Rattle.evaluation.specs.Expressions.{Evaluated, failed, evaluated, evaluate_
 use Rattle.evaluation.proofs.CountLaws.{evaluation_spends}
 use Rattle.clause_matching.specs.Building.{Stands as Built}
 use Rattle.function_calls.specs.Calls.{tree_rows, Working}
-use Rattle.expressions.specs.Terms.{ExpressionAsked, Evaluates, ExpressionAnswered}
+use Rattle.expressions.specs.Terms.{expressed, ExpressionAsked, Evaluates, ExpressionAnswered}
 use Rattle.expressions.specs.declared.written.Expressed.{Expressed}
-use Rattle.expressions.specs.declared.written.Expressed.TheVariants.{Value as Found, Refused as Missed}
+use Rattle.std.specs.Prelude.{Result, Err}
+use Rattle.refusals.specs.declared.Refusal.{Refusal}
+use Rattle.refusals.specs.Refusals.{number_of}
+use Rattle.expressions.proofs.Forming.{value_answer, made_answer, used_answer}
 use Rattle.evaluator.specs.Storage.{Results, most_words, is_short, zero_tree, wiped}
-use Rattle.evaluator.specs.Evaluating.{written_in, Ready, Valued, Left, EvaluationLeft}
-use Rattle.evaluator.specs.declared.Evaluation.TheVariants.{Value, Refused}
+use Rattle.evaluator.specs.Evaluating.{evaluation, written_in, Ready, Valued, Left, EvaluationLeft}
 use Rattle.evaluator.specs.ProgramLaws.{pattern, listed_headed, listed_tables}
 
 -- Clearing
@@ -66,17 +68,6 @@ module _ {A : Type 0} (z : A) where
   cleared_below d (suc n) (x ∷ xs) zero l m = ap (λ (ys : List A). get_or ys 0 d) (cleared_step n x xs)
   cleared_below d (suc n) (x ∷ xs) (suc i) l m = ap (λ (ys : List A). get_or ys (suc i) d) (cleared_step n x xs) ∙ cleared_below d n xs i (omega arith) (omega arith)
 
-  pub cleared_all : (xs : List A) → cleared_from z 0 xs ≡ replicate (length xs) z
-  cleared_all xs = let e : length xs - 0 ≡ length xs = omega arith in ap (λ (k : ℕ). replicate k z) e
-
-pub all_wiped : (words : List ℕ) {words' : List ℕ} (links : List ℕ) {links' : List ℕ} (trees : Rows) {trees' : Rows} → words' ≡ cleared_from 0 0 words → links' ≡ cleared_from 0 0 links
-    → trees' ≡ cleared_from zero_tree 0 trees
-    → record { words = words'; links = links'; trees = trees' } ≡ wiped (record { words = words; links = links; trees = trees })
-all_wiped words links trees e f g = together (e ∙ cleared_all 0 words) (f ∙ cleared_all 0 links) (g ∙ cleared_all zero_tree trees)
-  where
-    together : {u u' l l' : List ℕ} {t t' : Rows} → u' ≡ u → l' ≡ l → t' ≡ t → ◌≡◌ {A = Results} (record { words = u'; links = l'; trees = t' }) (record { words = u; links = l; trees = t })
-    together e f g = rw (e, f, g)
-
 -- Sizes
 
 pub record Enough (most words links trees : ℕ) : Type 0 where
@@ -104,11 +95,10 @@ module _ {text : List ℕ} {limits : Limits} {sg : SignatureStore} {rows : Rows}
   pub words_used : sg.counts.words ≤ length sg.words
   words_used = h.readable.signature.words_lent
 
-  working : (links : List ℕ) (stack : Rows) → links ≡ cleared_from 0 0 b.links → length stack ≡ 2049 → Working b.words 0 most links b.trees stack
+  working : (links : List ℕ) (stack : Rows) → links ≡ replicate (length b.links) 0 → length stack ≡ 2049 → Working b.words 0 most links b.trees stack
   working links stack e n =
       let z = sizes in let a = z.words_enough in let c = z.links_enough in
-      let m : links ≡ replicate (length b.links) 0 = e ∙ cleared_all 0 b.links in
-      let k : length links ≡ length b.links = ap length m ∙ length-replicate (length b.links) 0 in
+      let k : length links ≡ length b.links = ap length e ∙ length-replicate (length b.links) 0 in
       record {
         stored = record {
           formed = record { fits = λ i l. let y : ⊥ = omega arith in absurd y; arguments = λ i j l. let y : ⊥ = omega arith in absurd y };
@@ -118,12 +108,12 @@ module _ {text : List ℕ} {limits : Limits} {sg : SignatureStore} {rows : Rows}
         fits = omega arith;
         low = omega arith;
         scratch = omega arith;
-        linked = record { long = omega arith; clear = λ i. ap (λ (l : List ℕ). get_or l i 0) m ∙ zero_at (length b.links) i };
+        linked = record { long = omega arith; clear = λ i. ap (λ (l : List ℕ). get_or l i 0) e ∙ zero_at (length b.links) i };
         rows = omega arith;
         listed = z.trees_enough;
       }
 
-  pub expression_asked : (m : ℕ) → m ≡ most → (links : List ℕ) (stack : Rows) → links ≡ cleared_from 0 0 b.links → length stack ≡ 2049
+  pub expression_asked : (m : ℕ) → m ≡ most → (links : List ℕ) (stack : Rows) → links ≡ replicate (length b.links) 0 → length stack ≡ 2049
       → ExpressionAsked text rows at sg.symbols sg.counts.symbols sg.rules (pattern text sg h.readable.signature) 0 0 0 m
       b.words links b.trees stack
   expression_asked m q links stack e n =
@@ -143,10 +133,10 @@ module _ {text : List ℕ} {limits : Limits} {sg : SignatureStore} {rows : Rows}
 -- What is left
 
 -- What an answer says of the expression.
-pub missed : (o : Evaluated one) (q number : ℕ) (words : List ℕ) (trees : Rows) (words' : List ℕ) (trees' : Rows) (limit : ℕ)
-    → Evaluates o q (Missed number) words trees words' trees' 0 limit 0 → o ≡ failed number
-missed (failed e) q number words trees words' trees' limit h = ap failed (let z : number ≡ e = cc in sym z)
-missed (evaluated v ps c) q number words trees words' trees' limit h = let e = h.1 in let w : ◌≡◌ {A = ℕ} 0 1 = cc in absurd (let z : ⊥ = omega arith in z)
+pub missed : (o : Evaluated one) (q : ℕ) (refusal : Refusal) (words : List ℕ) (trees : Rows) (words' : List ℕ) (trees' : Rows) (limit : ℕ)
+    → Evaluates o q (Err refusal) words trees words' trees' 0 limit 0 → o ≡ failed (number_of refusal)
+missed (failed e) q refusal words trees words' trees' limit h = ap failed (sym h)
+missed (evaluated v ps c) q refusal words trees words' trees' limit h = let e = h.1 in absurd (let z : ⊥ = cc in z)
 
 record FoundAs (o : Evaluated one) (words : List ℕ) (trees : Rows) (words' : List ℕ) (trees' : Rows) (limit value calls used : ℕ) : Type 0 where
   pub result : Term
@@ -156,12 +146,12 @@ record FoundAs (o : Evaluated one) (words : List ℕ) (trees : Rows) (words' : L
   pub listed : Lists 0 0 words' used trees' 0 1 made calls
 
 found : (o : Evaluated one) (q value next calls used : ℕ) (words : List ℕ) (trees : Rows) (words' : List ℕ) (trees' : Rows) (limit : ℕ)
-    → Evaluates o q (Found value next calls used) words trees words' trees' 0 limit 0 → FoundAs o words trees words' trees' limit value calls used
-found (failed e) q value next calls used words trees words' trees' limit h = let w : ◌≡◌ {A = ℕ} 0 1 = cc in absurd (let z : ⊥ = omega arith in z)
+    → Evaluates o q (expressed value next calls used) words trees words' trees' 0 limit 0 → FoundAs o words trees words' trees' limit value calls used
+found (failed e) q value next calls used words trees words' trees' limit h = absurd h
 found (evaluated v ps c) q value next calls used words trees words' trees' limit (x, e, s, t) =
-    let a : x ≡ value = cc in
-    let d : c.calls ≡ calls = cc in
-    let f : c.words ≡ used = cc in
+    let a : x ≡ value = value_answer e in
+    let d : c.calls ≡ calls = made_answer e in
+    let f : c.words ≡ used = used_answer e in
     record {
       result = v;
       made = ps;
@@ -175,8 +165,8 @@ unfolding in_form
 nothing_formed words arities = refl
 
 module _ {text : List ℕ} {limits : Limits} {sg : SignatureStore} {rows : Rows} {at : ℕ} {b : Results} (h₀ : Ready text limits sg rows at b)
-    {links : List ℕ} {answer : Expressed} {words' links' : List ℕ} {trees' : Rows}
-    (most : ℕ) (is : most ≡ most_words limits) (cleared : links ≡ cleared_from 0 0 b.links)
+    {links : List ℕ} {answer : Result Expressed Refusal} {words' links' : List ℕ} {trees' : Rows}
+    (most : ℕ) (is : most ≡ most_words limits) (cleared : links ≡ replicate (length b.links) 0)
     (answered : ExpressionAnswered text rows at sg.symbols sg.counts.symbols sg.rules (pattern text sg h₀.readable.signature) 0 0 0 most
     b.words links b.trees answer words' links' trees') where
   abbrev x : ExpressionAnswered text rows at sg.symbols sg.counts.symbols sg.rules (pattern text sg h₀.readable.signature) 0 0 0 (most_words limits)
@@ -191,17 +181,17 @@ module _ {text : List ℕ} {limits : Limits} {sg : SignatureStore} {rows : Rows}
   evaluates h = x.says sg.counts.words (rules_in text sg) (listed_tables text sg h₀.readable.signature) (written_in h.readable) h.readable.next (term_stands h.readable.term) []
 
   links_length : length links ≡ length b.links
-  links_length = ap length cleared ∙ cleared_length 0 0 b.links
+  links_length = ap length cleared ∙ length-replicate (length b.links) 0
 
-  pub left_refused : (number : ℕ) → answer ≡ Missed number → length trees' ≡ length b.trees → (b' : Results)
-      → b' ≡ wiped (record { words = words'; links = links'; trees = trees' }) → EvaluationLeft text limits sg rows at b (Refused number) b'
-  left_refused number q n b' e h =
-      let o = missed (evaluate_of (most_words limits) (signature_of text sg) (written_in h.readable)) h.readable.next number b.words b.trees words' trees' (most_words limits)
-      (subst (λ (r : Expressed). Evaluates (evaluate_of (most_words limits) (signature_of text sg) (written_in h.readable)) h.readable.next r b.words b.trees words' trees' 0 (most_words limits) 0)
+  pub left_refused : (refusal : Refusal) → answer ≡ Err refusal → length trees' ≡ length b.trees → (b' : Results)
+      → b' ≡ wiped (record { words = words'; links = links'; trees = trees' }) → EvaluationLeft text limits sg rows at b (Err refusal) b'
+  left_refused refusal q n b' e h =
+      let o = missed (evaluate_of (most_words limits) (signature_of text sg) (written_in h.readable)) h.readable.next refusal b.words b.trees words' trees' (most_words limits)
+      (subst (λ (r : Result Expressed Refusal). Evaluates (evaluate_of (most_words limits) (signature_of text sg) (written_in h.readable)) h.readable.next r b.words b.trees words' trees' 0 (most_words limits) 0)
       q (evaluates h)) in
       let k = x.kept in
       let m : length links' ≡ length b.links = ap length x.restored ∙ links_length in
-      subst (λ (y : Evaluated one). Left text sg b y (Refused number) b') (sym o) (record {
+      subst (λ (y : Evaluated one). Left text sg b y (Err refusal) b') (sym o) (record {
         answer = refl;
         told = refl;
         left = e ∙ same_wiped k m n;
@@ -212,7 +202,7 @@ module _ {text : List ℕ} {limits : Limits} {sg : SignatureStore} {rows : Rows}
       same_wiped k m n = rw (k, m, n)
 
   -- The value is found.
-  module _ (value next calls used : ℕ) (q : answer ≡ Found value next calls used) (n : length trees' ≡ length b.trees) where
+  module _ (value next calls used : ℕ) (q : answer ≡ expressed value next calls used) (n : length trees' ≡ length b.trees) where
     abbrev ending : Results
     ending = record { words = cleared_from 0 used words'; links = links'; trees = cleared_from zero_tree calls trees' }
 
@@ -220,7 +210,7 @@ module _ {text : List ℕ} {limits : Limits} {sg : SignatureStore} {rows : Rows}
         → FoundAs (evaluate_of (most_words limits) (signature_of text sg) (written_in h.readable)) b.words b.trees words' trees' (most_words limits) value calls used
     ways h =
         found (evaluate_of (most_words limits) (signature_of text sg) (written_in h.readable)) h.readable.next value next calls used b.words b.trees words' trees' (most_words limits)
-        (subst (λ (r : Expressed). Evaluates (evaluate_of (most_words limits) (signature_of text sg) (written_in h.readable)) h.readable.next r b.words b.trees words' trees' 0 (most_words limits) 0)
+        (subst (λ (r : Result Expressed Refusal). Evaluates (evaluate_of (most_words limits) (signature_of text sg) (written_in h.readable)) h.readable.next r b.words b.trees words' trees' 0 (most_words limits) 0)
         q (evaluates h))
 
     -- There are rows enough for its calls.
@@ -233,7 +223,7 @@ module _ {text : List ℕ} {limits : Limits} {sg : SignatureStore} {rows : Rows}
         omega arith
 
     pub left_valued : (words'' : List ℕ) (trees'' : Rows) → words'' ≡ cleared_from 0 used words' → trees'' ≡ cleared_from zero_tree calls trees'
-        → EvaluationLeft text limits sg rows at b (Value value calls used) (record { words = words''; links = links'; trees = trees'' })
+        → EvaluationLeft text limits sg rows at b (evaluation value calls used) (record { words = words''; links = links'; trees = trees'' })
     left_valued words'' trees'' e₁ e₂ h =
         let b' : Results = record { words = words''; links = links'; trees = trees'' } in
         let e : b' ≡ ending = together e₁ e₂ in
@@ -245,8 +235,8 @@ module _ {text : List ℕ} {limits : Limits} {sg : SignatureStore} {rows : Rows}
         let g : length (cleared_from zero_tree calls trees') ≡ length trees' = cleared_length zero_tree calls trees' in
         let same : Same 0 (cells words') (cells (cleared_from 0 used words')) used = λ i l. sym (cleared_below 0 0 used words' i l (omega arith)) in
         let t = n in
-        subst (λ (y : Evaluated one). Left text sg b y (Value value calls used) b') (sym f.comes)
-        (subst (λ (z : Results). Valued text sg b f.result f.made (record { calls = calls; words = used }) (Value value calls used) z) (sym e) (record {
+        subst (λ (y : Evaluated one). Left text sg b y (evaluation value calls used) b') (sym f.comes)
+        (subst (λ (z : Results). Valued text sg b f.result f.made (record { calls = calls; words = used }) (evaluation value calls used) z) (sym e) (record {
           value = value;
           answer = refl;
           told = refl;
@@ -261,7 +251,7 @@ module _ {text : List ℕ} {limits : Limits} {sg : SignatureStore} {rows : Rows}
           trees_cleared = cleared_twice zero_tree calls trees';
           words_kept = m ∙ k;
           trees_kept = g ∙ n;
-          links_zero = x.restored ∙ cleared ∙ cleared_all 0 b.links;
+          links_zero = x.restored ∙ cleared;
         }))
       where
         together : {u u' : List ℕ} {t t' : Rows} → u' ≡ u → t' ≡ t → ◌≡◌ {A = Results} (record { words = u'; links = links'; trees = t' }) (record { words = u; links = links'; trees = t })

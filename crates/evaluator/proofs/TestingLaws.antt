@@ -23,8 +23,10 @@ use Rattle.function_calls.specs.Calls.{tree_rows}
 use Rattle.evaluator.specs.Storage.{Results, is_short, too_short}
 use Rattle.evaluator.specs.Evaluating.{Readable, written_in, Ready, EvaluationLeft, Evaluating, Forwarding}
 use Rattle.evaluator.specs.declared.Evaluation.{Evaluation}
-use Rattle.evaluator.specs.declared.Evaluation.TheVariants.{Refused}
-use Rattle.evaluator.specs.declared.Forward.TheVariants.{Call, Goal, Refused as Barred}
+use Rattle.std.specs.Prelude.{Result, Ok, Err, cond, [], ◌∷◌}
+use Rattle.source_text.specs.Answers.{answers}
+use Rattle.refusals.specs.declared.Refusal.{Refusal}
+use Rattle.refusals.specs.declared.Refusal.TheVariants.{Storage}
 
 -- Sizes
 
@@ -67,10 +69,10 @@ module _ {text : List ℕ} {sg : SignatureStore} {rows : Rows} {at : ℕ} where
 -- `evaluate`
 
 module _ {text : List ℕ} {limits : Limits} {sg : SignatureStore} {rows : Rows} {at : ℕ} {b : Results} where
-  pub refused_by_1 : (Ready text limits sg rows at b → ⊥) → Evaluating text limits sg rows at b (Refused 1) b
+  pub refused_by_1 : (Ready text limits sg rows at b → ⊥) → Evaluating text limits sg rows at b (Err Storage) b
   refused_by_1 n = record { unready = λ m. (refl, refl, refl); ready = λ h. absurd (n h) }
 
-  pub is_evaluating : {r : Evaluation} {b' : Results} → Ready text limits sg rows at b → EvaluationLeft text limits sg rows at b r b' → Evaluating text limits sg rows at b r b'
+  pub is_evaluating : {r : Result Evaluation Refusal} {b' : Results} → Ready text limits sg rows at b → EvaluationLeft text limits sg rows at b r b' → Evaluating text limits sg rows at b r b'
   is_evaluating h e = record { unready = λ n. absurd (n h); ready = e }
 
   pub too_short_lem : too_short limits b ≡ true → Ready text limits sg rows at b → ⊥
@@ -79,7 +81,7 @@ module _ {text : List ℕ} {limits : Limits} {sg : SignatureStore} {rows : Rows}
 -- `is_forward_call`
 
 module _ {text : List ℕ} {sg : SignatureStore} {rows : Rows} {at : ℕ} where
-  pub forward_refused : (Readable text sg rows at → ⊥) → Forwarding text sg rows at (Barred 1)
+  pub forward_refused : (Readable text sg rows at → ⊥) → Forwarding text sg rows at (Err Storage)
   forward_refused n = record { unready = λ m. (refl, refl); ready = λ h. absurd (n h) }
 
   pub forward_asked : Readable text sg rows at → ForwardAsked text rows at sg.symbols sg.counts.symbols
@@ -94,8 +96,8 @@ module _ {text : List ℕ} {sg : SignatureStore} {rows : Rows} {at : ℕ} where
     says : (k : Readable text sg rows at) → is_forward_call (symbols_in text sg) (written_in k) ≡ r
     says k = sym (a.says (written_in k) k.next (term_stands k.term))
 
-    pub is_call : r ≡ true → Forwarding text sg rows at Call
-    is_call e = record { unready = λ n. absurd (n h); ready = λ k. (rw (says k ∙ e), rw (says k ∙ e)) }
-
-    pub is_goal_lem : r ≡ false → Forwarding text sg rows at Goal
-    is_goal_lem e = record { unready = λ n. absurd (n h); ready = λ k. (rw (says k ∙ e), rw (says k ∙ e)) }
+    pub is_decided : Forwarding text sg rows at (Ok r)
+    is_decided = record {
+      unready = λ n. absurd (n h);
+      ready = λ k. (ap Ok (sym (says k)), ap (λ (b : Bool). answers (cond b 1 0 ∷ [])) (sym (says k)));
+    }

@@ -5,48 +5,36 @@
 // inputs. `evaluate_listed` serves programs that know their signature and their rows to be in form.
 #![tactic(auto)]
 
-ghost use Rattle.std.specs.Prelude.{◌≡◌, ◌≤◌, length, replicate};
+ghost use Rattle.std.specs.Prelude.{◌≡◌, ◌≤◌, length};
 ghost use Rattle.load_storage.specs.Storage.{cleared_from};
 ghost use Rattle.function_calls.specs.Calls.{tree_rows};
+ghost use Rattle.signature.specs.Storage.{store_of};
 ghost use Rattle.evaluator.specs.Storage.{is_short, zero_tree, wiped};
 ghost use Rattle.evaluator.specs.Evaluating.{Ready, EvaluationLeft, Evaluating, Forwarding};
 
-use expressions::Expressed;
-use function_calls::{MAX_CALLS, MAX_DEPTH, NOT_LISTED, TreeRow};
-use names::{SortRow, SymbolRow};
+use function_calls::{MAX_CALLS, MAX_DEPTH, TreeRow};
 use patterns::TermRow;
-use rules::RuleRow;
-use signature::Counts;
+use refusals::Refusal;
+use signature::StoredSignature;
 use term_check::TermChecked;
 use words::Limits;
 
 // The scratch behind the words, and the rows of the stack: as many as a rule's terms may take words, and one more.
 const SCRATCH: usize = 2049;
 
-// What came of an evaluation: the reference of the value, the number of calls and that of words; or a refusal.
+// An evaluation: the reference of the value, the number of calls and that of words.
 #[derive(Clone, Copy)]
-pub enum Evaluation {
-    Value { value: u32, calls: u32, words: u32 },
-    Refused { number: u32 },
-}
-
-// Whether an `#eval` is a forward call or a goal; or a refusal.
-#[derive(Clone, Copy)]
-pub enum Forward {
-    Call,
-    Goal,
-    Refused { number: u32 },
+pub struct Evaluation {
+    pub value: u32,
+    pub calls: u32,
+    pub words: u32,
 }
 
 // How many rows of trees so many words ask: at most 128 calls are open, and each other one has taken two words at least.
 fn tree_rows(most: u32) -> usize
     ensures { result ≡ tree_rows most }
 {
-    let rows = most / 2 + MAX_DEPTH;
-    if MAX_CALLS < rows {
-        return MAX_CALLS as usize;
-    }
-    rows as usize
+    u32::min(MAX_CALLS, most / 2 + MAX_DEPTH) as usize
 }
 
 // Is a buffer shorter than so many words ask?
@@ -69,11 +57,7 @@ fn clear_trees(trees: &mut [TreeRow], from: usize)
     requires { from ≤ length trees.old }
     ensures { trees.new ≡ cleared_from zero_tree from trees.old }
 {
-    let mut i = from;
-    while i < trees.len() {
-        trees[i] = [0u32; 8];
-        i += 1;
-    }
+    trees[from..].fill([0; 8]);
 }
 
 // Zeroes all that was lent to write.
@@ -81,47 +65,37 @@ fn wipe(words: &mut [u32], links: &mut [u32], trees: &mut [TreeRow])
     ensures { record { words = words.new; links = links.new; trees = trees.new }
         ≡ wiped (record { words = words.old; links = links.old; trees = trees.old }) }
 {
-    arena::clear(words, 0);
-    arena::clear(links, 0);
-    clear_trees(trees, 0);
+    words.fill(0);
+    links.fill(0);
+    trees.fill([0; 8]);
 }
 
 // The value of the term whose rows start at a place, and the trees of its calls, where all that is read is in form and the buffers are long enough.
 pub fn evaluate_listed(
     text: &[u8],
     limits: Limits,
-    sorts: &[SortRow],
-    symbols: &[SymbolRow],
-    rules: &[RuleRow],
-    pattern: &[u32],
-    counts: Counts,
+    signature: StoredSignature,
     rows: &[TermRow],
     at: usize,
     words: &mut [u32],
     links: &mut [u32],
     trees: &mut [TreeRow],
-) -> Evaluation
-    requires { Ready text.now limits
-        (record { sorts = sorts.now; symbols = symbols.now; rules = rules.now; words = pattern.now; counts = counts })
-        rows.now at (record { words = words.old; links = links.old; trees = trees.old }) }
-    ensures { EvaluationLeft text.now limits
-        (record { sorts = sorts.now; symbols = symbols.now; rules = rules.now; words = pattern.now; counts = counts })
-        rows.now at (record { words = words.old; links = links.old; trees = trees.old }) result
+) -> Result<Evaluation, Refusal>
+    requires { Ready text.now limits (store_of signature) rows.now at (record { words = words.old; links = links.old; trees = trees.old }) }
+    ensures { EvaluationLeft text.now limits (store_of signature.entry) rows.now at (record { words = words.old; links = links.old; trees = trees.old }) result
         (record { words = words.new; links = links.new; trees = trees.new }) }
 {
     let most = limits.capped().words;
-    let size = counts.words as usize;
-    let count = counts.symbols as usize;
     let mut stack = [[0u32; 3]; 2049];
-    arena::clear(links, 0);
+    links.fill(0);
     match expressions::expression(
         text,
         rows,
         at,
-        symbols,
-        count,
-        rules,
-        &pattern[..size],
+        signature.symbols,
+        signature.counts.symbols as usize,
+        signature.rules,
+        &signature.words[..signature.counts.words as usize],
         0,
         0,
         0,
@@ -131,23 +105,18 @@ pub fn evaluate_listed(
         trees,
         &mut stack,
     ) {
-        Expressed::Refused { number } => {
+        Err(refusal) => {
             wipe(words, links, trees);
-            Evaluation::Refused { number: number }
+            Err(refusal)
         }
-        Expressed::Value {
-            value,
-            next: _,
-            calls,
-            used,
-        } => {
-            arena::clear(words, used);
-            clear_trees(trees, calls as usize);
-            Evaluation::Value {
-                value: value,
-                calls: calls,
-                words: used,
-            }
+        Ok(expressed) => {
+            arena::clear(words, expressed.used);
+            clear_trees(trees, expressed.calls as usize);
+            Ok(Evaluation {
+                value: expressed.value,
+                calls: expressed.calls,
+                words: expressed.used,
+            })
         }
     }
 }
@@ -156,61 +125,58 @@ pub fn evaluate_listed(
 pub fn evaluate(
     text: &[u8],
     limits: Limits,
-    sorts: &[SortRow],
-    symbols: &[SymbolRow],
-    rules: &[RuleRow],
-    pattern: &[u32],
-    counts: Counts,
+    signature: StoredSignature,
     rows: &[TermRow],
     at: usize,
     words: &mut [u32],
     links: &mut [u32],
     trees: &mut [TreeRow],
-) -> Evaluation
-    ensures { Evaluating text.now limits
-        (record { sorts = sorts.now; symbols = symbols.now; rules = rules.now; words = pattern.now; counts = counts })
-        rows.now at (record { words = words.old; links = links.old; trees = trees.old }) result
+) -> Result<Evaluation, Refusal>
+    ensures { Evaluating text.now limits (store_of signature.entry) rows.now at (record { words = words.old; links = links.old; trees = trees.old }) result
         (record { words = words.new; links = links.new; trees = trees.new }) }
 {
     let most = limits.capped().words;
     if is_short(most, words, links, trees) {
-        return Evaluation::Refused { number: NOT_LISTED };
+        return Err(Refusal::Storage);
     }
-    if !signature::check_signature(text, sorts, symbols, rules, pattern, counts) {
-        return Evaluation::Refused { number: NOT_LISTED };
+    if !signature::check_signature(
+        text,
+        signature.sorts,
+        signature.symbols,
+        signature.rules,
+        signature.words,
+        signature.counts,
+    ) {
+        return Err(Refusal::Storage);
     }
     let TermChecked::Ends(_) = term_check::check_term(text, rows, at) else {
-        return Evaluation::Refused { number: NOT_LISTED };
+        return Err(Refusal::Storage);
     };
-    evaluate_listed(
-        text, limits, sorts, symbols, rules, pattern, counts, rows, at, words, links, trees,
-    )
+    evaluate_listed(text, limits, signature, rows, at, words, links, trees)
 }
 
 // Whether the term whose rows start at a place is evaluated, as an `#eval`: a function's name with all arguments but its result, and no metavariable.
 pub fn is_forward_call(
     text: &[u8],
-    sorts: &[SortRow],
-    symbols: &[SymbolRow],
-    rules: &[RuleRow],
-    pattern: &[u32],
-    counts: Counts,
+    signature: StoredSignature,
     rows: &[TermRow],
     at: usize,
-) -> Forward
-    ensures { Forwarding text.now
-        (record { sorts = sorts.now; symbols = symbols.now; rules = rules.now; words = pattern.now; counts = counts })
-        rows.now at result }
+) -> Result<bool, Refusal>
+    ensures { Forwarding text.now (store_of signature.entry) rows.now at result }
 {
-    if !signature::check_signature(text, sorts, symbols, rules, pattern, counts) {
-        return Forward::Refused { number: NOT_LISTED };
+    if !signature::check_signature(
+        text,
+        signature.sorts,
+        signature.symbols,
+        signature.rules,
+        signature.words,
+        signature.counts,
+    ) {
+        return Err(Refusal::Storage);
     }
     let TermChecked::Ends(_) = term_check::check_term(text, rows, at) else {
-        return Forward::Refused { number: NOT_LISTED };
+        return Err(Refusal::Storage);
     };
-    let count = counts.symbols as usize;
-    if forward_calls::is_forward_call(text, rows, at, symbols, count) {
-        return Forward::Call;
-    }
-    Forward::Goal
+    let count = signature.counts.symbols as usize;
+    Ok(forward_calls::is_forward_call(text, rows, at, signature.symbols, count))
 }

@@ -1,5 +1,5 @@
 -- `is_forward_call` meets its contract: what fails a test is not readable, and of what passes both the name and the rows decide.
-use Rattle.evaluator.proofs.TestingLaws.{no_signature, no_term, is_readable, forward_refused, forward_asked, is_call, is_goal_lem}
+use Rattle.evaluator.proofs.TestingLaws.{no_signature, no_term, is_readable, forward_refused, forward_asked, is_decided}
 use Rattle.evaluator.proofs.is_forward_call.Goals as goal
 
 pub returns-then-not-check_signature : goal.returns-then-not-check_signature
@@ -11,8 +11,5 @@ returns-in_default c = forward_refused (no_term c.check_term.ensures c.in_defaul
 pub is_forward_call-requires : goal.is_forward_call-requires
 is_forward_call-requires c = forward_asked (is_readable c.check_signature.ensures c.if-not-check_signature.false c.check_term.ensures c.in-Ends.is)
 
-pub returns-then-is_forward_call : goal.returns-then-is_forward_call
-returns-then-is_forward_call c = is_call (is_readable c.check_signature.ensures c.if-not-check_signature.false c.check_term.ensures c.in-Ends.is) c.is_forward_call.ensures c.if-is_forward_call.true
-
 pub returns : goal.returns
-returns c = is_goal_lem (is_readable c.check_signature.ensures c.if-not-check_signature.false c.check_term.ensures c.in-Ends.is) c.is_forward_call.ensures c.if-is_forward_call.false
+returns c = is_decided (is_readable c.check_signature.ensures c.if-not-check_signature.false c.check_term.ensures c.in-Ends.is) c.is_forward_call.ensures
