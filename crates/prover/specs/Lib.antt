@@ -1,4 +1,5 @@
 -- The prover, in reading order. Definitions: what is cleared, a goal before its search, the search, and the whole.
+pub mod Queries
 pub mod Clearing
 pub mod Preparing
 pub mod Searching

@@ -2,7 +2,7 @@
 -- it is in form.
 use Prim.Native.Nat.{ℕ, ◌+◌, ◌-◌, ◌≤◌, ◌<◌, min}
 use native.Mathlib.Omega.{arith}
-use Rattle.std.specs.Prelude.{◌≡◌, refl, Bool, true, false, ◌||◌, ltb}
+use Rattle.std.specs.Prelude.{Ok, Err, ◌≡◌, refl, Bool, true, false, ◌||◌, ltb}
 use Rattle.std.proofs.Math.Path.{sym, ap}
 use Rattle.std.proofs.Common.{ap₂, ◌∙◌, subst, length-take-le, take_at, drop_at}
 use mathlib.Core.List.{List, [], ◌++◌, append_assoc}
@@ -40,7 +40,6 @@ use Rattle.goals.specs.declared.Goal.{Goal}
 use Rattle.goals.specs.declared.Outcome.{Outcome}
 use Rattle.goals.specs.declared.Outcome.TheVariants.{Refused as Barred, Done}
 use Rattle.prover.specs.Preparing.{store_of, PrepareAsked, IsStored, Within, Prepares, Preparing}
-use Rattle.prover.specs.declared.preparing.Prepared.TheVariants.{Refused, Stored}
 
 -- The limits
 
@@ -188,14 +187,14 @@ module _ {text : List ℕ} {limits : Limits} {symbols : Rows} {count : ℕ} {row
         (names_part text names n.names) (goal_agrees made t)))
 
     -- Refused.
-    pub prepare_refused : (e : ℕ) → r ≡ Barred e → Preparing text limits symbols count rows at names ws n (Refused e) names ws
+    pub prepare_refused : (e : ℕ) → r ≡ Barred e → Preparing text limits symbols count rows at names ws n (Err e) names ws
     prepare_refused e d = record {
       says = λ sorts bindings room listed q t. go bindings q (goal_compiled known (goal_in t) old) (agrees q t (Barred e) d);
     }
       where
         go : (bindings : Rows) (q : ℕ) (c : Compiled) → Agrees text rows at q n.names w c (Barred e) vx wx
-            → Prepares text limits arities (store_of names ws bindings) n (Refused e) names ws c
-        go bindings q (refuses f) h = let z : e ≡ f = cc in record { answer = ap Refused z; names_are = refl; words_are = refl }
+            → Prepares text limits arities (store_of names ws bindings) n (Err e) names ws c
+        go bindings q (refuses f) h = let z : e ≡ f = cc in record { answer = ap Err z; names_are = refl; words_are = refl }
         go bindings q (compiles new p) h = absurd h
 
     module _ (g : Goal) (is : r ≡ Done g) where
@@ -259,12 +258,12 @@ module _ {text : List ℕ} {limits : Limits} {symbols : Rows} {count : ℕ} {row
 
       -- Over the limits.
       pub prepare_over : over (limits_of (allowance_of limits)) total used ≡ true
-          → Preparing text limits symbols count rows at names ws n (Refused 37) names ws
+          → Preparing text limits symbols count rows at names ws n (Err 37) names ws
       prepare_over e = record {
         says = λ sorts bindings room listed q t.
-            subst (λ (k : Compiled). Prepares text limits arities (store_of names ws bindings) n (Refused 37) names ws k)
+            subst (λ (k : Compiled). Prepares text limits arities (store_of names ws bindings) n (Err 37) names ws k)
             (sym (compiled_as q t).compiled)
-            (subst (λ (v : Bool). Within text arities (store_of names ws bindings) n (Refused 37) names ws (compiled_as q t).new
+            (subst (λ (v : Bool). Within text arities (store_of names ws bindings) n (Err 37) names ws (compiled_as q t).new
             (compiled_as q t).term v) (sym (over_is listed q t true e))
             (record { answer = refl; names_are = refl; words_are = refl }));
       }
@@ -285,14 +284,14 @@ module _ {text : List ℕ} {limits : Limits} {symbols : Rows} {count : ℕ} {row
 
         pub prepare_stored : {node : ℕ} {names' : Rows} {ws' : List ℕ} → GoalStored vx wx g names ws n node names' ws'
             → Preparing text limits symbols count rows at names ws n
-            (Stored (record { node = node; names = g.variables; variables = total; words = used })) names' ws'
+            (Ok (record { node = node; names = g.variables; variables = total; words = used })) names' ws'
         prepare_stored {node} {names'} {ws'} stored = record {
           says = λ sorts bindings room listed q t.
               let c = compiled_as q t in
               subst (λ (k : Compiled). Prepares text limits arities (store_of names ws bindings) n
-              (Stored (record { node = node; names = g.variables; variables = total; words = used })) names' ws' k) (sym c.compiled)
+              (Ok (record { node = node; names = g.variables; variables = total; words = used })) names' ws' k) (sym c.compiled)
               (subst (λ (v : Bool). Within text arities (store_of names ws bindings) n
-              (Stored (record { node = node; names = g.variables; variables = total; words = used })) names' ws' c.new c.term v)
+              (Ok (record { node = node; names = g.variables; variables = total; words = used })) names' ws' c.new c.term v)
               (sym (over_is listed q t false fits)) (is_stored sorts bindings room listed q t));
         }
           where
@@ -311,7 +310,7 @@ module _ {text : List ℕ} {limits : Limits} {symbols : Rows} {count : ℕ} {row
             is_stored : (sorts : ℕ) (bindings : Rows) → (capped_of limits).variables ≤ length bindings
                 → (listed : SessionListed text arities sorts (store_of names ws bindings) n) (q : ℕ) (t : TermAt text rows at q)
                 → IsStored text arities (store_of names ws bindings) n
-                (Stored (record { node = node; names = g.variables; variables = total; words = used })) names' ws'
+                (Ok (record { node = node; names = g.variables; variables = total; words = used })) names' ws'
                 (compiled_as q t).new (compiled_as q t).term
             is_stored sorts bindings room listed q t =
                 let c = compiled_as q t in

@@ -1,6 +1,6 @@
 -- How `prove_listed` meets its contract: what lies past the counts is of no concern, a ready call can be prepared and searched, and each
 -- way out leaves what the definitions' answer asks.
-use Rattle.std.specs.Prelude.{ℕ, zero, suc, ◌+◌, ◌-◌, ◌≤◌, ◌<◌, ◌≡◌, refl, Bool, true, false, ◌||◌, List, ◌++◌, ltb, length, get_or, take, drop, replicate}
+use Rattle.std.specs.Prelude.{ℕ, zero, suc, ◌+◌, ◌-◌, ◌≤◌, ◌<◌, ◌≡◌, refl, Bool, true, false, ◌||◌, List, Result, Ok, Err, ◌++◌, ltb, length, get_or, take, drop, replicate}
 use Rattle.std.proofs.Common.{arith, sym, ap, ap₂, ◌∙◌, subst, take-append-drop, get_or-take, take-take, ltb-false}
 use Rattle.std.proofs.lemmas.List.{length-replicate}
 use Rattle.words.specs.Lexer.{capped_of}
@@ -35,6 +35,7 @@ use Rattle.search_machine.specs.State.{rules_from, RulesStored, RulesInForm}
 use Rattle.search_machine.specs.Carry.{undone_length}
 use Rattle.search_machine.specs.Signatures.{rows_stored, rules_listed}
 use Rattle.search_machine.specs.declared.Allowed.{Allowed}
+use Rattle.search_machine.specs.declared.Store.{Store}
 use Rattle.deepening.specs.Bounds.{prove_of, Counted}
 use Rattle.sessions.specs.Storage.{SessionStore, session_of, is_short, zero_name, zero_tree}
 use Rattle.sessions.specs.Goals.{goal_in, goal_compiled}
@@ -47,14 +48,14 @@ use Rattle.sessions.proofs.LeavingLaws.{continued_cleared, refused_leaves, nothi
 use Rattle.sessions.specs.declared.SessionCounts.{SessionCounts}
 use Rattle.sessions.specs.declared.Answer.{Answer}
 use Rattle.sessions.specs.declared.Answer.TheVariants.{Refused, Proved, Nothing, Undecided}
-use Rattle.prover.specs.Clearing.{PastCleared}
+use Rattle.prover.specs.Queries.{asked_in, session_in}
+use Rattle.prover.specs.Clearing.{PastCleared, ClearsPast}
+use Rattle.prover.specs.declared.Query.{Query}
 use Rattle.prover.specs.Preparing.{store_of, PrepareAsked, GoalStands, Within, Prepares, Preparing}
 use Rattle.prover.specs.Searching.{SearchAsked, Unproved, counts_then, Failing, Finding, SearchSays, SearchLeft}
 use Rattle.prover.specs.Proving.{ClearedReady, ProveLeft}
 use Rattle.prover.specs.PreparingLaws.{capped_variables, capped_words, capped_steps}
 use Rattle.prover.specs.declared.preparing.StoredGoal.{StoredGoal}
-use Rattle.prover.specs.declared.preparing.Prepared.{Prepared}
-use Rattle.prover.specs.declared.preparing.Prepared.TheVariants.{Refused as Barred, Stored}
 
 -- Sizes
 
@@ -186,11 +187,11 @@ allowed_is rules limits e =
 
 -- What `prepare` says, for the answer that it gave.
 pub at_answer : {text : List ℕ} {limits : Limits} {symbols : Rows} {count : ℕ} {rows : Rows} {at : ℕ} {names : Rows} {ws : List ℕ}
-    {n : SessionCounts} {r q : Prepared} {names' : Rows} {ws' : List ℕ}
+    {n : SessionCounts} {r q : Result StoredGoal ℕ} {names' : Rows} {ws' : List ℕ}
     → Preparing text limits symbols count rows at names ws n r names' ws' → r ≡ q
     → Preparing text limits symbols count rows at names ws n q names' ws'
 at_answer {text} {limits} {symbols} {count} {rows} {at} {names} {ws} {n} {names' = names'} {ws' = ws'} h e =
-    subst (λ (r : Prepared). Preparing text limits symbols count rows at names ws n r names' ws') e h
+    subst (λ (r : Result StoredGoal ℕ). Preparing text limits symbols count rows at names ws n r names' ws') e h
 
 module _ {sg : SignatureStore} {k : Asked} {b : SessionStore} {n : SessionCounts} (h : ClearedReady sg k b n) where
   abbrev S : Session
@@ -263,14 +264,14 @@ module _ {sg : SignatureStore} {k : Asked} {b : SessionStore} {n : SessionCounts
 
     -- Refused before its search.
     pub prepared_refused : {e : ℕ} {N : Rows} {W : List ℕ}
-        → Preparing k.text k.limits sg.symbols sg.counts.symbols k.rows k.at b.names b.words n (Barred e) N W
+        → Preparing k.text k.limits sg.symbols sg.counts.symbols k.rows k.at b.names b.words n (Err e) N W
         → ProveLeft sg k b n (given (Refused e) N W b.bindings k.proof k.space.links k.space.marks k.space.stack)
     prepared_refused {e} {N} {W} prepared r =
         go (goal_compiled (symbols_in k.text sg) (goal_in r.goal) S.names) refl
         (prepared.says sg.counts.sorts b.bindings sizes.bindings r.session r.next r.goal)
       where
         go : (c : Compiled) → goal_compiled (symbols_in k.text sg) (goal_in r.goal) S.names ≡ c
-            → Prepares k.text k.limits arities b n (Barred e) N W c
+            → Prepares k.text k.limits arities b n (Err e) N W c
             → ProveLeaves sg k b n (answer_to sg k b n (goal_in r.goal))
             (given (Refused e) N W b.bindings k.proof k.space.links k.space.marks k.space.stack)
         go (refuses f) d x =
@@ -280,7 +281,7 @@ module _ {sg : SignatureStore} {k : Asked} {b : SessionStore} {n : SessionCounts
             (answer_is r (refuses f) d ∙ ap (λ (i : ℕ). record { verdict = refusal i; session = S }) (sym z))
         go (compiles new p) d x =
             by_bool (over (limits_of allowance) (n.variables + length new) (n.words + words (goal_of S p)))
-            (λ t. let x' = subst (λ (v : Bool). Within k.text arities b n (Barred e) N W new p v) t x in
+            (λ t. let x' = subst (λ (v : Bool). Within k.text arities b n (Err e) N W new p v) t x in
             let y = x'.answer in
             let z : e ≡ 37 = cc in
             refused_at r e x'.names_are x'.words_are refl refl refl refl refl
@@ -288,14 +289,14 @@ module _ {sg : SignatureStore} {k : Asked} {b : SessionStore} {n : SessionCounts
             ∙ ap (λ (v : Bool). answer S new (searched (rules_in k.text sg) S k.steps k.depth allowance (length new)
             (goal_of S p) v)) t
             ∙ ap (λ (i : ℕ). record { verdict = refusal i; session = S }) (sym z)))
-            (λ t. let x' = subst (λ (v : Bool). Within k.text arities b n (Barred e) N W new p v) t x in
+            (λ t. let x' = subst (λ (v : Bool). Within k.text arities b n (Err e) N W new p v) t x in
             let y = x'.answer in
             absurd (let z : ◌≡◌ {A = ℕ} 0 1 = cc in omega arith))
 
     -- Stored
     module _ {N₁ : Rows} {W₁ : List ℕ} (g : StoredGoal)
         (prepared : Preparing k.text k.limits sg.symbols sg.counts.symbols k.rows k.at b.names b.words n
-        (Stored g) N₁ W₁) where
+        (Ok g) N₁ W₁) where
       record Standing (r : ProveReady sg k b n) : Type 0 where
         pub new : List theory.Name
         pub goal : Term
@@ -309,14 +310,14 @@ module _ {sg : SignatureStore} {k : Asked} {b : SessionStore} {n : SessionCounts
           (prepared.says sg.counts.sorts b.bindings sizes.bindings r.session r.next r.goal)
         where
           go : (c : Compiled) → goal_compiled (symbols_in k.text sg) (goal_in r.goal) S.names ≡ c
-              → Prepares k.text k.limits arities b n (Stored g) N₁ W₁ c → Standing r
+              → Prepares k.text k.limits arities b n (Ok g) N₁ W₁ c → Standing r
           go (refuses f) d x = let y = x.answer in absurd (let z : ◌≡◌ {A = ℕ} 0 1 = cc in omega arith)
           go (compiles new p) d x =
               by_bool (over (limits_of allowance) (n.variables + length new) (n.words + words (goal_of S p)))
-              (λ t. let x' = subst (λ (v : Bool). Within k.text arities b n (Stored g) N₁ W₁ new p v) t x in
+              (λ t. let x' = subst (λ (v : Bool). Within k.text arities b n (Ok g) N₁ W₁ new p v) t x in
               let y = x'.answer in
               absurd (let z : ◌≡◌ {A = ℕ} 0 1 = cc in omega arith))
-              (λ t. let x' = subst (λ (v : Bool). Within k.text arities b n (Stored g) N₁ W₁ new p v) t x in
+              (λ t. let x' = subst (λ (v : Bool). Within k.text arities b n (Ok g) N₁ W₁ new p v) t x in
               let y = x'.answer in
               let z : x'.goal ≡ g = cc in
               record {
@@ -696,3 +697,11 @@ module _ {sg : SignatureStore} {k : Asked} {b : SessionStore} {n : SessionCounts
       (subst (λ (W : List ℕ). ProveLeft sg (with_proof k (replicate (length k.proof) zero_tree)) (store_of N W b.bindings) n g)
       p.words_are
       (subst (λ (F : Rows). ProveLeft sg (with_proof k F) (store_of N W b.bindings) n g) p.proof_is f)))
+
+-- The same with a store.
+module _ (q : Query) {sg : SignatureStore} {N N' : Rows} {s s' : Store} {n : SessionCounts} (c : ClearsPast n N s N' s') where
+  pub listed_cleared : ProveReady sg (asked_in q s) (session_in N s) n → ClearedReady sg (asked_in q s') (session_in N' s') n
+  listed_cleared h = rw (c.bindings, c.links, c.marks, c.stack) (cleared_ready h c.past)
+
+  pub listed_left : {g : Given} → ProveLeft sg (asked_in q s') (session_in N' s') n g → ProveLeft sg (asked_in q s) (session_in N s) n g
+  listed_left f = cleared_left c.past (rw (c.bindings, c.links, c.marks, c.stack) at f)

@@ -9,193 +9,102 @@ mod preparing; // a goal compiled, tested and stored
 mod searching; // the search, and what it leaves
 mod testing; // whether a call is ready
 
+ghost use Rattle.search_machine.specs.Groups.{IsLent};
+ghost use Rattle.signature.specs.Storage.{store_of};
 ghost use Rattle.sessions.specs.Promises.{ProveReady, Proving};
+ghost use Rattle.prover.specs.Queries.{asked_of, asked_in, session_of, session_in, given_of, given_in};
 ghost use Rattle.prover.specs.Proving.{ClearedReady, ProveLeft};
 
 use clearing::clear_past;
-use names::{SortRow, SymbolRow};
 use patterns::TermRow;
-use preparing::{Prepared, is_too_much, prepare};
-use rules::RuleRow;
-use search_machine::Allowed;
+use preparing::{is_too_much, prepare};
+use refusals::Refusal;
+use search_machine::{Allowed, Program, Store};
 use searching::search_goal;
 use sessions::{Answer, NameRow, SessionCounts};
-use signature::Counts;
+use signature::StoredSignature;
 use testing::is_ready;
 use words::Limits;
 
 // A row of a proof: height, kind, rule, goal; the other columns are zero.
 pub type ProofRow = [u32; 8];
 
-// Document 01's numbers: storage that is not in form or too short; more steps, or a greater depth, than allowed.
-const NOT_LISTED: u32 = 1;
-
-const TOO_MUCH: u32 = 38;
+// What is asked: a text, the limits, the rows of its terms with the row where the goal starts, and how many steps and what depth the search may take.
+#[derive(Clone, Copy)]
+pub struct Query<'a> {
+    pub text: &'a [u8],
+    pub limits: Limits,
+    pub rows: &'a [TermRow],
+    pub at: usize,
+    pub steps: u32,
+    pub depth: u32,
+}
 
 // Proves a goal, where what is read is in form and all past the counts is zero: only what is written is cleared.
 pub fn prove_cleared(
-    text: &[u8],
-    limits: Limits,
-    sorts: &[SortRow],
-    symbols: &[SymbolRow],
-    rules: &[RuleRow],
-    pattern: &[u32],
-    counts: Counts,
-    rows: &[TermRow],
-    at: usize,
-    steps: u32,
-    depth: u32,
+    signature: StoredSignature,
+    query: Query,
     names: &mut [NameRow],
-    words: &mut [u32],
-    bindings: &mut [[u32; 2]],
+    store: &mut Store,
     session: SessionCounts,
-    links: &mut [[u32; 2]],
-    marks: &mut [[u32; 2]],
-    stack: &mut [[u32; 3]],
-    proof: &mut [ProofRow],
 ) -> Answer
-    requires { ClearedReady
-        (record { sorts = sorts.now; symbols = symbols.now; rules = rules.now; words = pattern.now; counts = counts })
-        (record {
-          text = text.now;
-          limits = limits;
-          rows = rows.now;
-          at = at;
-          steps = steps;
-          depth = depth;
-          proof = proof.old;
-          space = record { links = links.old; marks = marks.old; stack = stack.old };
-        })
-        (record { names = names.old; words = words.old; bindings = bindings.old }) session }
-    ensures { ProveLeft
-        (record {
-          sorts = sorts.now;
-          symbols = symbols.now;
-          rules = rules.now;
-          words = pattern.now;
-          counts = counts;
-        })
-        (record {
-          text = text.now;
-          limits = limits;
-          rows = rows.now;
-          at = at;
-          steps = steps;
-          depth = depth;
-          proof = proof.old;
-          space = record { links = links.old; marks = marks.old; stack = stack.old };
-        })
-        (record { names = names.old; words = words.old; bindings = bindings.old }) session
-        (record {
-          answer = result;
-          store = record { names = names.new; words = words.new; bindings = bindings.new };
-          proof = proof.new;
-          space = record { links = links.new; marks = marks.new; stack = stack.new };
-        }) }
+    requires { ClearedReady (store_of signature) (asked_in query store.old) (session_in names.old store.old) session }
+    ensures left { ProveLeft (store_of signature.entry) (asked_in query.entry store.old)
+        (session_in names.old store.old) session (given_in result names.new store.new) }
+    ensures lent { IsLent store.old store.new }
 {
-    if is_too_much(limits, steps, depth) {
-        return Answer::Refused { number: TOO_MUCH };
+    if is_too_much(query.limits, query.steps, query.depth) {
+        return Answer::Refused {
+            number: u32::from(Refusal::TooMuch),
+        };
     }
-    let count = counts.symbols as usize;
-    let capped = limits.capped();
-    let allowed = Allowed {
-        variables: capped.variables,
-        words: capped.words,
-        frames: capped.steps,
-        rules: counts.rules,
+    let capped = query.limits.capped();
+    let program = Program {
+        rules: signature.rules,
+        pattern: signature.words,
+        allowed: Allowed {
+            variables: capped.variables,
+            words: capped.words,
+            frames: capped.steps,
+            rules: signature.counts.rules,
+        },
     };
-    match prepare(
-        text, limits, symbols, count, rows, at, names, words, session,
-    ) {
-        Prepared::Refused { number } => Answer::Refused { number: number },
-        Prepared::Stored { goal } => search_goal(
-            rules, pattern, allowed, names, words, bindings, links, marks, stack, proof, goal,
-            session, steps, depth,
+    match prepare(signature, query, names, store.words, session) {
+        Err(number) => Answer::Refused { number },
+        Ok(goal) => search_goal(
+            program,
+            names,
+            store,
+            goal,
+            session,
+            query.steps,
+            query.depth,
         ),
     }
 }
 
-// Proves the goal whose rows start at a place, in a session, where all that is read is in form and the buffers are long enough.
+// Proves the goal of a query, in a session, where all that is read is in form and the buffers are long enough.
 pub fn prove_listed(
-    text: &[u8],
-    limits: Limits,
-    sorts: &[SortRow],
-    symbols: &[SymbolRow],
-    rules: &[RuleRow],
-    pattern: &[u32],
-    counts: Counts,
-    rows: &[TermRow],
-    at: usize,
-    steps: u32,
-    depth: u32,
+    signature: StoredSignature,
+    query: Query,
     names: &mut [NameRow],
-    words: &mut [u32],
-    bindings: &mut [[u32; 2]],
+    store: &mut Store,
     session: SessionCounts,
-    links: &mut [[u32; 2]],
-    marks: &mut [[u32; 2]],
-    stack: &mut [[u32; 3]],
-    proof: &mut [ProofRow],
 ) -> Answer
-    requires { ProveReady
-        (record { sorts = sorts.now; symbols = symbols.now; rules = rules.now; words = pattern.now; counts = counts })
-        (record {
-          text = text.now;
-          limits = limits;
-          rows = rows.now;
-          at = at;
-          steps = steps;
-          depth = depth;
-          proof = proof.old;
-          space = record { links = links.old; marks = marks.old; stack = stack.old };
-        })
-        (record { names = names.old; words = words.old; bindings = bindings.old }) session }
-    ensures { ProveLeft
-        (record {
-          sorts = sorts.now;
-          symbols = symbols.now;
-          rules = rules.now;
-          words = pattern.now;
-          counts = counts;
-        })
-        (record {
-          text = text.now;
-          limits = limits;
-          rows = rows.now;
-          at = at;
-          steps = steps;
-          depth = depth;
-          proof = proof.old;
-          space = record { links = links.old; marks = marks.old; stack = stack.old };
-        })
-        (record { names = names.old; words = words.old; bindings = bindings.old }) session
-        (record {
-          answer = result;
-          store = record { names = names.new; words = words.new; bindings = bindings.new };
-          proof = proof.new;
-          space = record { links = links.new; marks = marks.new; stack = stack.new };
-        }) }
+    requires { ProveReady (store_of signature) (asked_in query store.old) (session_in names.old store.old) session }
+    ensures left { ProveLeft (store_of signature.entry) (asked_in query.entry store.old)
+        (session_in names.old store.old) session (given_in result names.new store.new) }
+    ensures lent { IsLent store.old store.new }
 {
-    clear_past(names, words, proof, session);
-    prove_cleared(
-        text, limits, sorts, symbols, rules, pattern, counts, rows, at, steps, depth, names, words,
-        bindings, session, links, marks, stack, proof,
-    )
+    clear_past(names, store, session);
+    prove_cleared(signature, query, names, store, session)
 }
 
-// Proves the goal whose rows start at a place, in a session.
+// Proves the goal of a query, in a session.
+// Stays: the buffers are lent one by one, since the test reads some while it marks another, and no generated proof covers that behind a store.
 pub fn prove(
-    text: &[u8],
-    limits: Limits,
-    sorts: &[SortRow],
-    symbols: &[SymbolRow],
-    rules: &[RuleRow],
-    pattern: &[u32],
-    counts: Counts,
-    rows: &[TermRow],
-    at: usize,
-    steps: u32,
-    depth: u32,
+    signature: StoredSignature,
+    query: Query,
     names: &mut [NameRow],
     words: &mut [u32],
     bindings: &mut [[u32; 2]],
@@ -205,40 +114,24 @@ pub fn prove(
     stack: &mut [[u32; 3]],
     proof: &mut [ProofRow],
 ) -> Answer
-    ensures { Proving
-        (record {
-          sorts = sorts.now;
-          symbols = symbols.now;
-          rules = rules.now;
-          words = pattern.now;
-          counts = counts;
-        })
-        (record {
-          text = text.now;
-          limits = limits;
-          rows = rows.now;
-          at = at;
-          steps = steps;
-          depth = depth;
-          proof = proof.old;
-          space = record { links = links.old; marks = marks.old; stack = stack.old };
-        })
-        (record { names = names.old; words = words.old; bindings = bindings.old }) session
-        (record {
-          answer = result;
-          store = record { names = names.new; words = words.new; bindings = bindings.new };
-          proof = proof.new;
-          space = record { links = links.new; marks = marks.new; stack = stack.new };
-        }) }
+    ensures { Proving (store_of signature.entry) (asked_of query.entry proof.old links.old marks.old stack.old)
+        (session_of names.old words.old bindings.old) session
+        (given_of result names.new words.new bindings.new proof.new links.new marks.new stack.new) }
 {
     if !is_ready(
-        text, limits, sorts, symbols, rules, pattern, counts, rows, at, names, words, bindings,
-        session, links, marks, stack, proof,
+        signature, query, names, words, bindings, session, links, marks, stack, proof,
     ) {
-        return Answer::Refused { number: NOT_LISTED };
+        return Answer::Refused {
+            number: u32::from(Refusal::Storage),
+        };
     }
-    prove_listed(
-        text, limits, sorts, symbols, rules, pattern, counts, rows, at, steps, depth, names, words,
-        bindings, session, links, marks, stack, proof,
-    )
+    let mut store = Store {
+        words,
+        bindings,
+        links,
+        marks,
+        stack,
+        frames: proof,
+    };
+    prove_listed(signature, query, names, &mut store, session)
 }

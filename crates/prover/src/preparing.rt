@@ -5,17 +5,15 @@ ghost use Rattle.resolution.specs.Search.{over};
 ghost use Rattle.sessions.specs.Promises.{allowance_of};
 ghost use Rattle.prover.specs.Preparing.{PrepareAsked, Preparing};
 
+use super::Query;
 use goals::Outcome;
-use names::SymbolRow;
-use patterns::TermRow;
+use refusals::Refusal;
 use sessions::{NameRow, SessionCounts};
+use signature::StoredSignature;
 use words::Limits;
 
 // The greatest depth.
 const DEPTH: u32 = 128;
-
-// Document 01's number for more variables or words than the limits allow.
-pub const OVER_LIMIT: u32 = 37;
 
 // A goal that stands in the session's words: its reference, and the names, variables and words with it.
 #[derive(Clone, Copy)]
@@ -26,22 +24,11 @@ pub struct StoredGoal {
     pub words: u32,
 }
 
-// What came of a goal before its search.
-#[derive(Clone, Copy)]
-pub enum Prepared {
-    Refused { number: u32 },
-    Stored { goal: StoredGoal },
-}
-
 // Are these more steps than allowed, or is the depth too great?
 pub fn is_too_much(limits: Limits, steps: u32, depth: u32) -> bool
     ensures { result ≡ too_much steps depth (allowance_of limits) }
 {
-    let capped = limits.capped();
-    if capped.steps < steps {
-        return true;
-    }
-    DEPTH < depth
+    limits.capped().steps < steps || DEPTH < depth
 }
 
 // Are these more variables or words than the limits allow?
@@ -49,57 +36,49 @@ fn is_over(limits: Limits, variables: u32, words: u32) -> bool
     ensures { result ≡ over (limits_of (allowance_of limits)) variables words }
 {
     let capped = limits.capped();
-    if capped.variables < variables {
-        return true;
-    }
-    capped.words < words
+    capped.variables < variables || capped.words < words
 }
 
-// Compiles the goal at a row against the names of a session, and stores it there where the limits allow. Refused, nothing is written.
+// Compiles the goal of a query against the names of a session, and stores it there where the limits allow. Refused, nothing is written.
 pub fn prepare(
-    text: &[u8],
-    limits: Limits,
-    symbols: &[SymbolRow],
-    count: usize,
-    rows: &[TermRow],
-    at: usize,
+    signature: StoredSignature,
+    query: Query,
     names: &mut [NameRow],
     words: &mut [u32],
     session: SessionCounts,
-) -> Prepared
-    requires { PrepareAsked text.now limits symbols.now count rows.now at names.old words.old session }
-    ensures { Preparing text.now limits symbols.now count rows.now at
-        names.old words.old session result names.new words.new }
+) -> Result<StoredGoal, u32>
+    requires { PrepareAsked query.text.now query.limits signature.symbols.now signature.counts.symbols query.rows.now query.at
+        names.old words.old session }
+    ensures { Preparing query.entry.text.now query.entry.limits signature.entry.symbols.now signature.entry.counts.symbols
+        query.entry.rows.now query.entry.at names.old words.old session result names.new words.new }
 {
     let mut variables = [[0u32; 4]; 64];
     let mut pattern = [0u32; 2048];
     let n = session.names as usize;
     match goals::compile(
-        text,
-        rows,
-        at,
-        symbols,
-        count,
+        query.text,
+        query.rows,
+        query.at,
+        signature.symbols,
+        signature.counts.symbols as usize,
         &names[..n],
         &mut variables,
         &mut pattern,
     ) {
-        Outcome::Refused { number } => Prepared::Refused { number: number },
+        Outcome::Refused { number } => Err(number),
         Outcome::Done { goal } => {
             let total = session.variables + (goal.variables - session.names);
             let used = session.words + goal.words;
-            if is_over(limits, total, used) {
-                return Prepared::Refused { number: OVER_LIMIT };
+            if is_over(query.limits, total, used) {
+                return Err(u32::from(Refusal::OverLimit));
             }
             let node = goals::store(&variables, &pattern, goal, names, words, session);
-            Prepared::Stored {
-                goal: StoredGoal {
-                    node: node,
-                    names: goal.variables,
-                    variables: total,
-                    words: used,
-                },
-            }
+            Ok(StoredGoal {
+                node,
+                names: goal.variables,
+                variables: total,
+                words: used,
+            })
         }
     }
 }

@@ -1,92 +1,85 @@
 // The search for a stored goal, and what it leaves.
-ghost use Rattle.prover.specs.Searching.{SearchAsked, SearchLeft};
+ghost use Rattle.std.specs.Prelude.{◌≡◌};
+ghost use Rattle.search_machine.specs.Groups.{IsLent};
+ghost use Rattle.prover.specs.Searching.{counts_then, SearchAskedIn, SearchLeftIn};
 
 use super::clearing::clear_names;
-use super::preparing::{OVER_LIMIT, StoredGoal};
-use deepening::Answer as Deepened;
-use rules::RuleRow;
-use search_machine::Allowed;
+use super::preparing::StoredGoal;
+use deepening::{Answer as Deepened, Question};
+use search_machine::{Program, Store};
 use sessions::{Answer, NameRow, SessionCounts};
 
 // Searches for a goal that stands in the session. Without a proof its words are cleared; refused by the limits, so are its names.
 pub fn search_goal(
-    rules: &[RuleRow],
-    pattern: &[u32],
-    allowed: Allowed,
+    program: Program,
     names: &mut [NameRow],
-    words: &mut [u32],
-    bindings: &mut [[u32; 2]],
-    links: &mut [[u32; 2]],
-    marks: &mut [[u32; 2]],
-    stack: &mut [[u32; 3]],
-    proof: &mut [[u32; 8]],
+    store: &mut Store,
     goal: StoredGoal,
     session: SessionCounts,
     steps: u32,
     depth: u32,
 ) -> Answer
-    requires { SearchAsked allowed pattern.now rules.now proof.old words.old bindings.old links.old marks.old stack.old
-        names.old goal session steps depth }
-    ensures { SearchLeft allowed pattern.now rules.now proof.old proof.new
-        words.old words.new bindings.old bindings.new links.old links.new
-        marks.old marks.new stack.old stack.new names.old names.new
-        goal session steps depth result }
+    requires { SearchAskedIn program names.old store.old goal session steps depth }
+    ensures left { SearchLeftIn program.entry names.old names.new store.old store.new goal session steps depth result }
+    ensures lent { IsLent store.old store.new }
 {
-    match deepening::prove(
-        rules,
-        pattern,
-        allowed,
-        words,
-        bindings,
-        links,
-        marks,
-        stack,
-        proof,
-        goal.node,
-        depth,
+    let question = Question {
+        goal: goal.node,
         steps,
-        goal.variables,
-        session.bound,
-        goal.words,
-    ) {
-        Deepened::Refused => {
-            clear_names(names, session.names as usize);
-            arena::clear(words, session.words);
-            Answer::Refused { number: OVER_LIMIT }
+        counter: goal.variables,
+        bound: session.bound,
+        used: goal.words,
+    };
+    match deepening::prove(program, store, question, depth) {
+        Err(refusal) => {
+            clear_names(names, session.names);
+            arena::clear(store.words, session.words);
+            Answer::Refused {
+                number: u32::from(refusal),
+            }
         }
-        Deepened::Proved(nodes, used, variables, bound, top) => Answer::Proved {
-            steps: used,
-            nodes: nodes,
+        Ok(
+            Deepened::Proved {
+                applications,
+                steps,
+                counter,
+                bound,
+                used,
+            },
+        ) => Answer::Proved {
+            steps,
+            nodes: applications,
             counts: SessionCounts {
                 names: goal.names,
-                variables: variables,
-                bound: bound,
-                words: top,
+                variables: counter,
+                bound,
+                words: used,
             },
         },
-        Deepened::Nothing(used, variables) => {
-            arena::clear(words, session.words);
+        Ok(Deepened::Nothing { steps, counter }) => {
+            arena::clear(store.words, session.words);
             Answer::Nothing {
-                steps: used,
-                counts: SessionCounts {
-                    names: goal.names,
-                    variables: variables,
-                    bound: session.bound,
-                    words: session.words,
-                },
+                steps,
+                counts: counts_then(session, goal, counter),
             }
         }
-        Deepened::Undecided(used, variables) => {
-            arena::clear(words, session.words);
+        Ok(Deepened::Undecided { steps, counter }) => {
+            arena::clear(store.words, session.words);
             Answer::Undecided {
-                steps: used,
-                counts: SessionCounts {
-                    names: goal.names,
-                    variables: variables,
-                    bound: session.bound,
-                    words: session.words,
-                },
+                steps,
+                counts: counts_then(session, goal, counter),
             }
         }
+    }
+}
+
+// The session's counts after a search without a proof: the goal's names and the variables then, and else those before it.
+fn counts_then(session: SessionCounts, goal: StoredGoal, variables: u32) -> SessionCounts
+    ensures { result ≡ counts_then session goal variables }
+{
+    SessionCounts {
+        names: goal.names,
+        variables,
+        ..session
     }
 }

@@ -1,25 +1,17 @@
 // Whether a call of `prove` is ready (document 01, refusal 1): nothing is written before this is known.
+ghost use Rattle.signature.specs.Storage.{store_of};
+ghost use Rattle.prover.specs.Queries.{session_of};
 ghost use Rattle.prover.specs.Proving.{ReadyTold};
 
-use names::{SortRow, SymbolRow};
-use patterns::TermRow;
-use rules::RuleRow;
+use super::Query;
 use sessions::{NameRow, SessionCounts};
-use signature::Counts;
+use signature::StoredSignature;
 use term_check::TermChecked;
-use words::Limits;
 
 // Are signature, goal, session and scratch in form, and is enough lent? The marks are left as they are.
 pub fn is_ready(
-    text: &[u8],
-    limits: Limits,
-    sorts: &[SortRow],
-    symbols: &[SymbolRow],
-    rules: &[RuleRow],
-    pattern: &[u32],
-    counts: Counts,
-    rows: &[TermRow],
-    at: usize,
+    signature: StoredSignature,
+    query: Query,
     names: &[NameRow],
     words: &[u32],
     bindings: &[[u32; 2]],
@@ -29,30 +21,38 @@ pub fn is_ready(
     stack: &[[u32; 3]],
     proof: &[[u32; 8]],
 ) -> bool
-    ensures { ReadyTold
-        (record {
-          sorts = sorts.now;
-          symbols = symbols.now;
-          rules = rules.now;
-          words = pattern.now;
-          counts = counts;
-        })
-        text.now limits rows.now at proof.now
+    ensures { ReadyTold (store_of signature.entry) query.entry.text.now query.entry.limits query.entry.rows.now query.entry.at proof.now
         (record { links = links.now; marks = marks.old; stack = stack.now })
-        (record { names = names.now; words = words.now; bindings = bindings.now }) session
-        marks.new result }
+        (session_of names.now words.now bindings.now) session marks.new result }
 {
-    let capped = limits.capped();
+    let capped = query.limits.capped();
     if proof.len() < capped.steps as usize {
         return false;
     }
-    if !signature::check_signature(text, sorts, symbols, rules, pattern, counts) {
+    if !signature::check_signature(
+        query.text,
+        signature.sorts,
+        signature.symbols,
+        signature.rules,
+        signature.words,
+        signature.counts,
+    ) {
         return false;
     }
-    let TermChecked::Ends(_) = term_check::check_term(text, rows, at) else {
+    let TermChecked::Ends(_) = term_check::check_term(query.text, query.rows, query.at) else {
         return false;
     };
     session_check::check_session(
-        text, limits, counts, symbols, names, words, bindings, links, marks, stack, session,
+        query.text,
+        query.limits,
+        signature.counts,
+        signature.symbols,
+        names,
+        words,
+        bindings,
+        links,
+        marks,
+        stack,
+        session,
     )
 }

@@ -1,23 +1,26 @@
 -- `search_goal` meets its contract: one law for each answer of the depth bounds.
+use Rattle.std.proofs.Common.{ap, ◌∙◌, Ok}
 use Rattle.prover.specs.SearchingLaws.{left_refused, left_proved, left_nothing, left_undecided}
 use Rattle.prover.proofs.searching.search_goal.Goals as goal
 
-pub returns-in-Refused : goal.returns-in-Refused
-returns-in-Refused c =
-    left_refused c.args.names.now c.args.goal c.args.session c.prove.ensures
-    c.in-Refused.is c.clear_names.ensures c.clear.ensures
+pub returns-in-Err-clause-left : goal.returns-in-Err-clause-left
+returns-in-Err-clause-left c =
+    rw c.from.ensures (left_refused c.args.names.now c.args.goal c.args.session c.prove.ensures.deepened _ c.in-Err.is c.clear_names.ensures
+    c.clear.ensures)
 
-pub returns-in-Proved : goal.returns-in-Proved
-returns-in-Proved c =
-    left_proved c.args.names.now c.args.goal c.args.session c.prove.ensures
-    _ _ _ _ _ c.in-Proved.is
+pub returns-in-Ok-Proved-clause-left : goal.returns-in-Ok-Proved-clause-left
+returns-in-Ok-Proved-clause-left c =
+    left_proved c.args.names.now c.args.goal c.args.session c.prove.ensures.deepened _ _ _ _ _
+    (c.in-Ok-Proved.is ∙ ap Ok c.in-Ok-Proved.field-0-is)
 
-pub returns-in-Nothing : goal.returns-in-Nothing
-returns-in-Nothing c =
-    left_nothing c.args.names.now c.args.goal c.args.session c.prove.ensures
-    _ _ c.in-Nothing.is c.clear-in-Nothing.ensures
+pub returns-in-Ok-Nothing-clause-left : goal.returns-in-Ok-Nothing-clause-left
+returns-in-Ok-Nothing-clause-left c =
+    rw c.counts_then.ensures
+    (left_nothing c.args.names.now c.args.goal c.args.session c.prove.ensures.deepened _ _
+    (c.in-Ok-Nothing.is ∙ ap Ok c.in-Ok-Nothing.field-0-is) c.clear-in-Ok-Nothing.ensures)
 
-pub returns-in-Undecided : goal.returns-in-Undecided
-returns-in-Undecided c =
-    left_undecided c.args.names.now c.args.goal c.args.session c.prove.ensures
-    _ _ c.in-Undecided.is c.clear-in-Undecided.ensures
+pub returns-in-Ok-Undecided-clause-left : goal.returns-in-Ok-Undecided-clause-left
+returns-in-Ok-Undecided-clause-left c =
+    rw c.counts_then-in-Ok-Undecided.ensures
+    (left_undecided c.args.names.now c.args.goal c.args.session c.prove.ensures.deepened _ _
+    (c.in-Ok-Undecided.is ∙ ap Ok c.in-Ok-Undecided.field-0-is) c.clear-in-Ok-Undecided.ensures)
