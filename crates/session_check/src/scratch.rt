@@ -5,7 +5,7 @@ ghost use Rattle.bindings.specs.Promises.{Tells};
 ghost use Rattle.unifier.specs.Promises.{Scratch};
 
 use arena::TERM_ROOM;
-use checks::{are_zero_pairs, are_zero_triples};
+use checks::are_zero;
 
 // Are links, marks and stack zero, and long enough for the words in use?
 pub fn is_scratch_zero(
@@ -18,7 +18,5 @@ pub fn is_scratch_zero(
     ensures { Tells result (Scratch term_room used links.now marks.now stack.now) }
 {
     let references = (TERM_ROOM + used) as usize;
-    are_zero_pairs(links, references)
-        && are_zero_pairs(marks, references)
-        && are_zero_triples(stack, used as usize)
+    are_zero(links, references) && are_zero(marks, references) && are_zero(stack, used as usize)
 }
