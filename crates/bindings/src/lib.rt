@@ -77,7 +77,7 @@ pub fn check_bindings(terms: Terms, b: &[[u32; 2]], m: &mut [[u32; 2]], k: u32) 
     }
     if check_trail(terms, b, m, k) {
         if check_rest(b, k) {
-            return is_acyclic(terms.words, b, terms.room, terms.variables, terms.used, m);
+            return is_acyclic(terms, b, m);
         }
         return false;
     }
