@@ -9,49 +9,36 @@ ghost use Rattle.arena.specs.Rows.{column};
 ghost use Rattle.acyclicity.specs.Contract.{Ready, Decided};
 ghost use Rattle.acyclicity.specs.Edges.{edge, Followable, Searchable, Searched};
 
+use arena::{SYMBOL_STEP, Terms};
+
 // The mark of a reference from which all edges were followed, and which no cycle was found through. Any other mark is 0 where the search has not been,
 // else 1 + the number of edges followed: below this, since a node has at most 31 arguments.
 const CLOSED: u32 = 33;
 
 // The place that edge number `i` from a reference leads to.
 // Stays: a place is a number, 0 for none, as the rows of scratch hold it: what is read there is compared and written back as it is.
-fn edge_at(
-    words: &[u32],
-    bindings: &[[u32; 2]],
-    limit: u32,
-    variables: u32,
-    used: u32,
-    reference: u32,
-    i: u32,
-) -> u32
-    requires { Followable words.now bindings.now limit variables used reference }
-    ensures { result ≡ edge limit (cells words.now) (column 0 bindings.now) reference i }
+fn edge_at(terms: Terms, bindings: &[[u32; 2]], reference: u32, i: u32) -> u32
+    requires { Followable terms.words.now bindings.now terms.room terms.variables terms.used reference }
+    ensures { result ≡ edge terms.entry.room (cells terms.entry.words.now) (column 0 bindings.now) reference i }
 {
-    if reference < limit {
+    if reference < terms.room {
         if i == 0 {
             return bindings[reference as usize][0];
         }
         return 0;
     }
-    let address = (reference - limit) as usize;
-    let arity = words[address] % 32;
+    let address = (reference - terms.room) as usize;
+    let arity = terms.words[address] % SYMBOL_STEP;
     if i < arity {
-        return words[address + 1 + (i as usize)] + 1;
+        return terms.words[address + 1 + (i as usize)] + 1;
     }
     0
 }
 
 // Whether the stored bindings are acyclic; leaves its marks in scratch.
-fn search(
-    words: &[u32],
-    bindings: &[[u32; 2]],
-    limit: u32,
-    variables: u32,
-    used: u32,
-    scratch: &mut [[u32; 2]],
-) -> bool
-    requires { Searchable words.now bindings.now limit variables used scratch.old }
-    ensures { Searched words.now bindings.now limit variables used scratch.old result scratch.new }
+fn search(terms: Terms, bindings: &[[u32; 2]], scratch: &mut [[u32; 2]]) -> bool
+    requires { Searchable terms.words.now bindings.now terms.room terms.variables terms.used scratch.old }
+    ensures { Searched terms.entry.words.now bindings.now terms.entry.room terms.entry.variables terms.entry.used scratch.old result scratch.new }
 {
     // The variables below `next` are entered; `top` is the place that the search is at, `ahead` the place that it goes to.
     let mut next = 0;
@@ -75,7 +62,7 @@ fn search(
             let row = (top - 1) as usize;
             let followed = scratch[row][0] - 1;
             let parent = scratch[row][1];
-            let place = edge_at(words, bindings, limit, variables, used, top - 1, followed);
+            let place = edge_at(terms, bindings, top - 1, followed);
             if place == 0 {
                 scratch[row] = [CLOSED, parent];
                 top = parent;
@@ -84,7 +71,7 @@ fn search(
                 ahead = place;
             }
         } else {
-            if next == variables {
+            if next == terms.variables {
                 return true;
             }
             next += 1;
@@ -93,21 +80,14 @@ fn search(
     }
 }
 
-// Whether the stored bindings are acyclic: one search in depth through all that the variables lead to. `limit` is the room for variables. Scratch has a
-// row for each reference; it is zero before and after.
-pub fn is_acyclic(
-    words: &[u32],
-    bindings: &[[u32; 2]],
-    limit: u32,
-    variables: u32,
-    used: u32,
-    scratch: &mut [[u32; 2]],
-) -> bool
-    requires { Ready words.now bindings.now limit variables used scratch.old }
-    ensures { Decided words.now bindings.now limit variables scratch.old result scratch.new }
+// Whether the stored bindings are acyclic: one search in depth through all that the variables lead to. Scratch has a row for
+// each reference; it is zero before and after.
+pub fn is_acyclic(terms: Terms, bindings: &[[u32; 2]], scratch: &mut [[u32; 2]]) -> bool
+    requires { Ready terms.words.now bindings.now terms.room terms.variables terms.used scratch.old }
+    ensures { Decided terms.entry.words.now bindings.now terms.entry.room terms.entry.variables scratch.old result scratch.new }
 {
-    let answer = search(words, bindings, limit, variables, used, scratch);
-    scratch[..variables as usize].fill([0, 0]);
-    scratch[limit as usize..(limit + used) as usize].fill([0, 0]);
+    let answer = search(terms, bindings, scratch);
+    scratch[..terms.variables as usize].fill([0, 0]);
+    scratch[terms.room as usize..(terms.room + terms.used) as usize].fill([0, 0]);
     answer
 }

@@ -3,7 +3,7 @@ ghost use Rattle.std.specs.Prelude.{◌≡◌, ◌≤◌, true, length};
 ghost use Rattle.arena.specs.Cells.{cells};
 ghost use Rattle.acyclicity_test.specs.Form.{NodeInForm, WordsInForm, BindingInForm, BindingsInForm, Zero};
 
-use arena::{HEADERS, SYMBOL_STEP};
+use arena::{HEADERS, SYMBOL_STEP, Terms};
 use bindings::is_reference;
 
 // The most words in use.
@@ -30,14 +30,14 @@ pub fn is_node(words: &[u32], limit: u32, variables: u32, used: usize, address: 
     if words.len() < used {
         return false;
     }
+    let before = Terms {
+        words,
+        room: limit,
+        variables,
+        used: address as u32,
+    };
     for i in 0..arity {
-        if !is_reference(
-            words,
-            limit,
-            variables,
-            address as u32,
-            words[address + 1 + i],
-        ) {
+        if !is_reference(before, words[address + 1 + i]) {
             return false;
         }
     }
@@ -67,7 +67,13 @@ pub fn is_binding(words: &[u32], limit: u32, variables: u32, used: u32, word: u3
     if word == 0 {
         return true;
     }
-    is_reference(words, limit, variables, used, word - 1)
+    let terms = Terms {
+        words,
+        room: limit,
+        variables,
+        used,
+    };
+    is_reference(terms, word - 1)
 }
 
 // Whether the bindings of the variables in use are in form.

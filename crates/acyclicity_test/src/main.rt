@@ -1,6 +1,8 @@
 // Runs the check of stored bindings on cases of all kinds, and writes a line for each.
 #![tactic(auto)]
 
+use arena::Terms;
+
 mod form;
 
 // Standard output.
@@ -51,7 +53,13 @@ fn answer(
         return Found::NotInForm;
     }
     form::zero(scratch);
-    let acyclic = acyclicity::is_acyclic(words, bindings, ROOM, variables, used, scratch);
+    let terms = Terms {
+        words,
+        room: ROOM,
+        variables,
+        used,
+    };
+    let acyclic = acyclicity::is_acyclic(terms, bindings, scratch);
     if !form::is_unmarked(scratch) {
         return Found::MarkLeft;
     }

@@ -21,6 +21,15 @@ pub use form::{is_argument, is_header};
 pub use format::{HEADERS, INPUTS, PATTERN_ROOM, SYMBOL_STEP, TERM_ROOM};
 use links::{link, past, settle};
 
+// Terms in lent words: of the words `used` are in use, and of the `room` variables that there is room for, `variables`.
+#[derive(Clone, Copy)]
+pub struct Terms<'a> {
+    pub words: &'a [u32],
+    pub room: u32,
+    pub variables: u32,
+    pub used: u32,
+}
+
 // Writes a node, its header and its arguments, from the address `used` on.
 pub fn push_node(words: &mut [u32], used: u32, header: u32, arguments: &[u32])
     // The node has room: the caller counts words before it writes.

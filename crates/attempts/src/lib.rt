@@ -6,7 +6,7 @@ ghost use Rattle.resolution.specs.Search.{within, over};
 ghost use Rattle.attempts.specs.Clashes.{Comparable, Clashes};
 ghost use Rattle.attempts.specs.Promises.{Asked, Attempted, HeadAsked, HeadTried, BodyAsked, BodyTried};
 
-use arena::{PATTERN_ROOM, SYMBOL_STEP, TERM_ROOM, inst, moved_word};
+use arena::{PATTERN_ROOM, SYMBOL_STEP, TERM_ROOM, Terms, inst, moved_word};
 use bindings::{undo, walk};
 use refusals::Refusal;
 use unifier::unify;
@@ -56,9 +56,13 @@ fn heads_differ(
     if other < PATTERN_ROOM {
         return false;
     }
-    let end = walk(
-        words, bindings, TERM_ROOM, variables, used, bound, reference,
-    );
+    let terms = Terms {
+        words,
+        room: TERM_ROOM,
+        variables,
+        used,
+    };
+    let end = walk(terms, bindings, bound, reference);
     if end < TERM_ROOM {
         return false;
     }
@@ -85,7 +89,13 @@ pub fn clashes(
     if conclusion < PATTERN_ROOM {
         return false;
     }
-    let end = walk(words, bindings, TERM_ROOM, variables, used, bound, goal);
+    let terms = Terms {
+        words,
+        room: TERM_ROOM,
+        variables,
+        used,
+    };
+    let end = walk(terms, bindings, bound, goal);
     if end < TERM_ROOM {
         return false;
     }
@@ -168,9 +178,13 @@ fn try_head(
     inst(
         pattern, from, count, places, words, TERM_ROOM, used, counter,
     );
-    Ok(unify(
-        words, bindings, links, marks, stack, TERM_ROOM, variables, top, bound, first, second,
-    ))
+    let terms = Terms {
+        words,
+        room: TERM_ROOM,
+        variables,
+        used: top,
+    };
+    Ok(unify(terms, bindings, links, marks, stack, bound, first, second))
 }
 
 // Copies the premises behind the conclusion, if the limits allow it; else the bindings are undone to the mark.

@@ -3,7 +3,7 @@
 ghost use Rattle.attempts_test.specs.Told.{Room, StateTold};
 ghost use Rattle.std.specs.Prelude.{◌≡◌, true};
 
-use arena::{HEADERS, PATTERN_ROOM, TERM_ROOM};
+use arena::{HEADERS, PATTERN_ROOM, TERM_ROOM, Terms};
 use attempts::{Stored, Tried};
 use refusals::Refusal;
 use samples::unification;
@@ -71,7 +71,13 @@ fn is_state(
     if !checks::is_form(words, bindings, marks, counter, used, bound) {
         return false;
     }
-    if !bindings::is_reference(words, TERM_ROOM, counter, used, goal) {
+    let terms = Terms {
+        words,
+        room: TERM_ROOM,
+        variables: counter,
+        used,
+    };
+    if !bindings::is_reference(terms, goal) {
         return false;
     }
     has_room(

@@ -7,7 +7,7 @@ ghost use Rattle.bindings.specs.Promises.{Free, Tells};
 ghost use Rattle.bindings.specs.Checking.{TrailEntered, GoodValue, TrailChecked};
 
 use super::tables::{enter, undo};
-use arena::HEADERS;
+use arena::{HEADERS, Terms};
 
 // Enters the variables of the trail as marks, until one is out of use, or unbound, or entered already; answers how many.
 fn enter_trail(b: &[[u32; 2]], m: &mut [[u32; 2]], variables: u32, k: u32) -> u32
@@ -32,60 +32,45 @@ fn enter_trail(b: &[[u32; 2]], m: &mut [[u32; 2]], variables: u32, k: u32) -> u3
 }
 
 // Whether a reference is in form: a variable in use, or a node whose address is before `used`.
-pub fn is_reference(w: &[u32], room: u32, variables: u32, used: u32, r: u32) -> bool
-    requires { used ≤ length w.now }
-    ensures { Tells result (Reference room (cells w.now) variables used r) }
+pub fn is_reference(terms: Terms, r: u32) -> bool
+    requires { terms.used ≤ length terms.words.now }
+    ensures { Tells result (Reference terms.entry.room (cells terms.entry.words.now) terms.entry.variables terms.entry.used r) }
 {
-    if r < room {
-        return r < variables;
+    if r < terms.room {
+        return r < terms.variables;
     }
-    let a = r - room;
-    if used <= a {
+    let a = r - terms.room;
+    if terms.used <= a {
         return false;
     }
-    w[a as usize] >= HEADERS
+    terms.words[a as usize] >= HEADERS
 }
 
 // Whether the value of v is 0 or in form.
-fn good_value(
-    w: &[u32],
-    b: &[[u32; 2]],
-    m: &[[u32; 2]],
-    room: u32,
-    variables: u32,
-    used: u32,
-    v: usize,
-) -> bool
-    requires { (used ≤ length w.now) × (v < length b.now) × (variables ≤ length m.now) }
-    ensures { Tells result (GoodValue room w.now b.now m.now variables used v) }
+fn good_value(terms: Terms, b: &[[u32; 2]], m: &[[u32; 2]], v: usize) -> bool
+    requires { (terms.used ≤ length terms.words.now) × (v < length b.now) × (terms.variables ≤ length m.now) }
+    ensures { Tells result (GoodValue terms.entry.room terms.entry.words.now b.now m.now terms.entry.variables terms.entry.used v) }
 {
     let value = b[v][0];
     if value == 0 {
         return true;
     }
-    if (variables as usize) <= v {
+    if (terms.variables as usize) <= v {
         return false;
     }
     if m[v][0] == 0 {
         return false;
     }
-    is_reference(w, room, variables, used, value - 1)
+    is_reference(terms, value - 1)
 }
 
 // Whether all values are 0 or in form.
-fn check_values(
-    w: &[u32],
-    b: &[[u32; 2]],
-    m: &[[u32; 2]],
-    room: u32,
-    variables: u32,
-    used: u32,
-) -> bool
-    requires { (used ≤ length w.now) × (variables ≤ length m.now) }
-    ensures { Tells result ((v : ℕ) → GoodValue room w.now b.now m.now variables used v) }
+fn check_values(terms: Terms, b: &[[u32; 2]], m: &[[u32; 2]]) -> bool
+    requires { (terms.used ≤ length terms.words.now) × (terms.variables ≤ length m.now) }
+    ensures { Tells result ((v : ℕ) → GoodValue terms.entry.room terms.entry.words.now b.now m.now terms.entry.variables terms.entry.used v) }
 {
     for v in 0..b.len() {
-        if !good_value(w, b, m, room, variables, used, v) {
+        if !good_value(terms, b, m, v) {
             return false;
         }
     }
@@ -100,25 +85,17 @@ pub fn check_rest(b: &[[u32; 2]], k: u32) -> bool
 }
 
 // Whether the first k entries of the trail are the bound variables, each once, and their values are in form.
-pub fn check_trail(
-    w: &[u32],
-    b: &[[u32; 2]],
-    m: &mut [[u32; 2]],
-    room: u32,
-    variables: u32,
-    used: u32,
-    k: u32,
-) -> bool
-    requires fact_1 { (used ≤ length w.now) × (k ≤ length b.now) × (variables ≤ length b.now) × (variables ≤ room) }
-    requires fact_2 { Free room used m.old }
-    ensures { TrailChecked room w.now b.now m.old m.new variables used k result }
+pub fn check_trail(terms: Terms, b: &[[u32; 2]], m: &mut [[u32; 2]], k: u32) -> bool
+    requires fact_1 { (terms.used ≤ length terms.words.now) × (k ≤ length b.now) × (terms.variables ≤ length b.now) × (terms.variables ≤ terms.room) }
+    requires fact_2 { Free terms.room terms.used m.old }
+    ensures { TrailChecked terms.entry.room terms.entry.words.now b.now m.old m.new terms.entry.variables terms.entry.used k result }
 {
-    let n = enter_trail(b, m, variables, k);
+    let n = enter_trail(b, m, terms.variables, k);
     if n < k {
         undo(m, n, 0);
         return false;
     }
-    let answer = check_values(w, b, m, room, variables, used);
+    let answer = check_values(terms, b, m);
     undo(m, n, 0);
     answer
 }

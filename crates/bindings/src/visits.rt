@@ -7,7 +7,7 @@ ghost use Rattle.bindings.specs.Entries.{Entries};
 ghost use Rattle.bindings.specs.Search.{Grown, ArgumentOf};
 
 use super::tables::enter;
-use arena::SYMBOL_STEP;
+use arena::{SYMBOL_STEP, Terms};
 
 // Marks y and puts it at the queue's end, unless it is marked.
 pub fn visit(m: &mut [[u32; 2]], limit: u32, t: u32, y: u32) -> u32
@@ -38,31 +38,21 @@ fn visit_args(w: &[u32], m: &mut [[u32; 2]], limit: u32, a: usize, n: usize, t: 
 }
 
 // Visits all that one step down from r leads to.
-pub fn visit_edges(
-    w: &[u32],
-    b: &[[u32; 2]],
-    m: &mut [[u32; 2]],
-    room: u32,
-    variables: u32,
-    used: u32,
-    k: u32,
-    t: u32,
-    r: u32,
-) -> u32
-    requires fact_1 { Form room w.now b.now variables used k }
-    requires fact_2 { Reference room (cells w.now) variables used r }
-    requires fact_3 { Entries m.old (room + used) t }
-    requires fact_4 { room + used ≤ length m.old }
-    ensures { Grown (room + used) (Edge room (cells w.now) (column 0 b.now) r) m.old t m.new result }
+pub fn visit_edges(terms: Terms, b: &[[u32; 2]], m: &mut [[u32; 2]], k: u32, t: u32, r: u32) -> u32
+    requires fact_1 { Form terms.room terms.words.now b.now terms.variables terms.used k }
+    requires fact_2 { Reference terms.room (cells terms.words.now) terms.variables terms.used r }
+    requires fact_3 { Entries m.old (terms.room + terms.used) t }
+    requires fact_4 { terms.room + terms.used ≤ length m.old }
+    ensures { Grown (terms.entry.room + terms.entry.used) (Edge terms.entry.room (cells terms.entry.words.now) (column 0 b.now) r) m.old t m.new result }
 {
-    if r < room {
+    if r < terms.room {
         let value = b[r as usize][0];
         if value == 0 {
             return t;
         }
-        return visit(m, room + used, t, value - 1);
+        return visit(m, terms.room + terms.used, t, value - 1);
     }
-    let a = (r - room) as usize;
-    let n = (w[a] % SYMBOL_STEP) as usize;
-    visit_args(w, m, room + used, a, n, t)
+    let a = (r - terms.room) as usize;
+    let n = (terms.words[a] % SYMBOL_STEP) as usize;
+    visit_args(terms.words, m, terms.room + terms.used, a, n, t)
 }

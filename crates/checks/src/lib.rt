@@ -6,7 +6,7 @@ mod zeros; // rows that are zero
 
 ghost use Rattle.checks.specs.Ready.{FormTold, ReadyTold};
 
-use arena::TERM_ROOM;
+use arena::{TERM_ROOM, Terms};
 use bindings::is_reference;
 pub use nodes::are_terms;
 pub use zeros::are_zero;
@@ -28,7 +28,13 @@ pub fn is_form(
     if !are_zero(marks, (TERM_ROOM + used) as usize) {
         return false;
     }
-    bindings::check_bindings(words, bindings, marks, TERM_ROOM, variables, used, bound)
+    let terms = Terms {
+        words,
+        room: TERM_ROOM,
+        variables,
+        used,
+    };
+    bindings::check_bindings(terms, bindings, marks, bound)
 }
 
 // Whether storage and two references are what `unifier::unify` asks; the marks are left as they are.
@@ -50,10 +56,16 @@ pub fn is_ready(
     if !is_form(words, bindings, marks, variables, used, bound) {
         return false;
     }
-    if !is_reference(words, TERM_ROOM, variables, used, left) {
+    let terms = Terms {
+        words,
+        room: TERM_ROOM,
+        variables,
+        used,
+    };
+    if !is_reference(terms, left) {
         return false;
     }
-    if !is_reference(words, TERM_ROOM, variables, used, right) {
+    if !is_reference(terms, right) {
         return false;
     }
     if !are_zero(links, (TERM_ROOM + used) as usize) {

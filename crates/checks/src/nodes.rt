@@ -5,7 +5,7 @@ ghost use Rattle.arena.specs.Copies.{term_room};
 ghost use Rattle.bindings.specs.Promises.{Tells};
 ghost use Rattle.checks.specs.Ready.{NodeFormed, Stored};
 
-use arena::{HEADERS, SYMBOL_STEP, TERM_ROOM};
+use arena::{HEADERS, SYMBOL_STEP, TERM_ROOM, Terms};
 use bindings::is_reference;
 
 // Whether the word at an address is no header, or that of a node in form.
@@ -21,9 +21,15 @@ fn is_node(words: &[u32], variables: u32, used: u32, address: u32) -> bool
     if used <= address + arity {
         return false;
     }
+    let before = Terms {
+        words,
+        room: TERM_ROOM,
+        variables,
+        used: address,
+    };
     for i in 0..arity {
         let argument = words[(address + 1 + i) as usize];
-        if !is_reference(words, TERM_ROOM, variables, address, argument) {
+        if !is_reference(before, argument) {
             return false;
         }
     }

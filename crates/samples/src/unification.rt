@@ -3,7 +3,7 @@ ghost use Rattle.samples.specs.Same.{Clean};
 ghost use Rattle.bindings.specs.Promises.{Tells};
 
 use super::{report, rows};
-use arena::TERM_ROOM;
+use arena::{TERM_ROOM, Terms};
 
 // The counts of storage, and two references.
 #[derive(Clone, Copy)]
@@ -56,9 +56,13 @@ pub fn solve(
     ) {
         return Err(Fault::NotReady);
     }
-    let ended = unifier::unify(
-        words, bindings, links, marks, stack, TERM_ROOM, variables, used, bound, left, right,
-    );
+    let terms = Terms {
+        words,
+        room: TERM_ROOM,
+        variables,
+        used,
+    };
+    let ended = unifier::unify(terms, bindings, links, marks, stack, bound, left, right);
     if !is_clean(links, marks, stack) {
         return Err(Fault::ScratchLeft);
     }
@@ -80,7 +84,13 @@ pub fn ask(
     if !checks::is_form(words, bindings, marks, variables, used, bound) {
         return Err(Fault::NotReady);
     }
-    if !bindings::is_reference(words, TERM_ROOM, variables, used, r) {
+    let terms = Terms {
+        words,
+        room: TERM_ROOM,
+        variables,
+        used,
+    };
+    if !bindings::is_reference(terms, r) {
         return Err(Fault::NotReady);
     }
     if variables <= x {
@@ -89,9 +99,7 @@ pub fn ask(
     if bindings[x as usize][0] != 0 {
         return Err(Fault::NotReady);
     }
-    let answer = bindings::occurs(
-        words, bindings, marks, TERM_ROOM, variables, used, bound, x, r,
-    );
+    let answer = bindings::occurs(terms, bindings, marks, bound, x, r);
     if !checks::are_zero(marks, 0) {
         return Err(Fault::ScratchLeft);
     }
@@ -114,9 +122,13 @@ pub fn check(
     if !checks::are_zero(marks, (TERM_ROOM + used) as usize) {
         return Err(Fault::NotReady);
     }
-    let answer = bindings::check_bindings(
-        words, bindings, marks, TERM_ROOM, variables, used, bound,
-    );
+    let terms = Terms {
+        words,
+        room: TERM_ROOM,
+        variables,
+        used,
+    };
+    let answer = bindings::check_bindings(terms, bindings, marks, bound);
     if !checks::are_zero(marks, 0) {
         return Err(Fault::ScratchLeft);
     }

@@ -9,48 +9,45 @@ ghost use Rattle.unifier.specs.Equating.{Equated};
 use super::links::{find, link};
 use super::nodes::{argument, arity};
 use super::{Decision, Ending};
-use arena::SYMBOL_STEP;
+use arena::{SYMBOL_STEP, Terms};
 use bindings::{enter, occurs, walk};
 
 // What is to be done with x and y.
 fn decide(
-    w: &[u32],
+    terms: Terms,
     b: &[[u32; 2]],
     links: &[[u32; 2]],
     m: &mut [[u32; 2]],
-    room: u32,
-    variables: u32,
-    used: u32,
     k: u32,
     x: u32,
     y: u32,
 ) -> Decision
-    requires fact_1 { Form room w.now b.now variables used k }
-    requires fact_2 { (Reference room (cells w.now) variables used x) × (Reference room (cells w.now) variables used y) }
+    requires fact_1 { Form terms.room terms.words.now b.now terms.variables terms.used k }
+    requires fact_2 { (Reference terms.room (cells terms.words.now) terms.variables terms.used x) × (Reference terms.room (cells terms.words.now) terms.variables terms.used y) }
     requires fact_3 { Falling links.now }
-    requires fact_4 { room + used ≤ length links.now }
-    requires fact_5 { Free room used m.old }
-    ensures { Decided room w.now b.now links.now m.old m.new k x y result }
+    requires fact_4 { terms.room + terms.used ≤ length links.now }
+    requires fact_5 { Free terms.room terms.used m.old }
+    ensures { Decided terms.entry.room terms.entry.words.now b.now links.now m.old m.new k x y result }
 {
-    let p = walk(w, b, room, variables, used, k, x);
-    let q = walk(w, b, room, variables, used, k, y);
+    let p = walk(terms, b, k, x);
+    let q = walk(terms, b, k, y);
     if p == q {
         return Decision::Same;
     }
-    if p < room {
-        if occurs(w, b, m, room, variables, used, k, p, q) {
+    if p < terms.room {
+        if occurs(terms, b, m, k, p, q) {
             return Decision::Clash;
         }
         return Decision::Bind(p, q);
     }
-    if q < room {
-        if occurs(w, b, m, room, variables, used, k, q, p) {
+    if q < terms.room {
+        if occurs(terms, b, m, k, q, p) {
             return Decision::Clash;
         }
         return Decision::Bind(q, p);
     }
-    let header = w[(p - room) as usize];
-    if header != w[(q - room) as usize] {
+    let header = terms.words[(p - terms.room) as usize];
+    if header != terms.words[(q - terms.room) as usize] {
         return Decision::Clash;
     }
     // Constants have no arguments to be made equal, so two with one header need no links.
@@ -65,23 +62,20 @@ fn decide(
 
 // Makes r and t equal under the first k bindings, if that can be, the pairs in the Rust's order; each pair of nodes is opened at most once.
 pub fn equate(
-    w: &[u32],
+    terms: Terms,
     b: &mut [[u32; 2]],
     links: &mut [[u32; 2]],
     m: &mut [[u32; 2]],
     s: &mut [[u32; 3]],
-    room: u32,
-    variables: u32,
-    used: u32,
     k: u32,
     r: u32,
     t: u32,
 ) -> Ending
-    requires fact_1 { Form room w.now b.old variables used k }
-    requires fact_2 { (Reference room (cells w.now) variables used r) × (Reference room (cells w.now) variables used t) }
-    requires fact_3 { Scratch room used links.old m.old s.old }
-    ensures { Equated room w.now b.old b.new links.old links.new m.old m.new
-        s.old s.new variables used k r t result.equal result.bound result.linked result.open }
+    requires fact_1 { Form terms.room terms.words.now b.old terms.variables terms.used k }
+    requires fact_2 { (Reference terms.room (cells terms.words.now) terms.variables terms.used r) × (Reference terms.room (cells terms.words.now) terms.variables terms.used t) }
+    requires fact_3 { Scratch terms.room terms.used links.old m.old s.old }
+    ensures { Equated terms.entry.room terms.entry.words.now b.old b.new links.old links.new m.old m.new
+        s.old s.new terms.entry.variables terms.entry.used k r t result.equal result.bound result.linked result.open }
 {
     let mut d = 0;
     let mut n = k;
@@ -91,7 +85,7 @@ pub fn equate(
         match pending {
             Some((x, y)) => {
                 pending = None;
-                match decide(w, b, links, m, room, variables, used, n, x, y) {
+                match decide(terms, b, links, m, n, x, y) {
                     Decision::Same => {}
                     Decision::Bind(v, z) => {
                         enter(b, n, v, z + 1);
@@ -122,12 +116,9 @@ pub fn equate(
                 }
                 let last = (d - 1) as usize;
                 let [left, right, taken] = s[last];
-                if taken < arity(w, room, left) {
+                if taken < arity(terms, left) {
                     s[last] = [left, right, taken + 1];
-                    pending = Some((
-                        argument(w, room, left, taken),
-                        argument(w, room, right, taken),
-                    ));
+                    pending = Some((argument(terms, left, taken), argument(terms, right, taken)));
                 } else {
                     link(links, c, left, right);
                     c += 1;

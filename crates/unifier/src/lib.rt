@@ -1,8 +1,7 @@
 // Unification over stored terms (the Rust's `unify`), on lent slices.
 //
-// `w` are the words, `b` the rows of the bindings with their trail, `links`, `m` (marks) and `s` (stack) lent scratch that is left as it was.
-// `room` is the number of variables there is room for, `variables` how many are in use, `used` how many words are in use, `k` how many bindings there
-// are. The room is a number here as in `bindings`; the crates above pass `arena::TERM_ROOM`.
+// `b` are the rows of the bindings with their trail, `links`, `m` (marks) and `s` (stack) lent scratch that is left as it was, `k` is how many bindings
+// there are. The terms have any room, as in `bindings`; that of the crates above is `arena::TERM_ROOM`.
 #![tactic(auto)]
 
 mod links; // links between equal nodes
@@ -16,6 +15,7 @@ ghost use Rattle.bindings.specs.Stored.{Form};
 ghost use Rattle.unifier.specs.Promises.{Scratch, Unified};
 ghost use Rattle.unifier.specs.Packing.{packed_unify};
 
+use arena::Terms;
 use bindings::undo;
 use equations::equate;
 use stack::clear;
@@ -57,25 +57,22 @@ pub fn packed(ended: Option<u32>, before: u32) -> u64
 // Unifies what r and t denote under the first k bindings; the answer is how many bindings there are then. Without success the bindings are undone to k. The
 // scratch is left as it was.
 pub fn unify(
-    w: &[u32],
+    terms: Terms,
     b: &mut [[u32; 2]],
     links: &mut [[u32; 2]],
     m: &mut [[u32; 2]],
     s: &mut [[u32; 3]],
-    room: u32,
-    variables: u32,
-    used: u32,
     k: u32,
     r: u32,
     t: u32,
 ) -> Option<u32>
-    requires fact_1 { Form room w.now b.old variables used k }
-    requires fact_2 { (Reference room (cells w.now) variables used r) × (Reference room (cells w.now) variables used t) }
-    requires fact_3 { Scratch room used links.old m.old s.old }
-    ensures { Unified room w.now b.old b.new links.old links.new m.old m.new
-        s.old s.new variables used k (unwrap_or result k) r t (is_some result) }
+    requires fact_1 { Form terms.room terms.words.now b.old terms.variables terms.used k }
+    requires fact_2 { (Reference terms.room (cells terms.words.now) terms.variables terms.used r) × (Reference terms.room (cells terms.words.now) terms.variables terms.used t) }
+    requires fact_3 { Scratch terms.room terms.used links.old m.old s.old }
+    ensures { Unified terms.entry.room terms.entry.words.now b.old b.new links.old links.new m.old m.new
+        s.old s.new terms.entry.variables terms.entry.used k (unwrap_or result k) r t (is_some result) }
 {
-    let e = equate(w, b, links, m, s, room, variables, used, k, r, t);
+    let e = equate(terms, b, links, m, s, k, r, t);
     undo(links, e.linked, 0);
     clear(s, e.open);
     if e.equal {

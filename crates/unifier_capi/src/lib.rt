@@ -7,7 +7,7 @@ ghost use Rattle.unifier.specs.Promises.{Scratch};
 ghost use Rattle.bindings.specs.Stored.{Form};
 ghost use Rattle.unifier.specs.Packing.{UnifiedAs};
 
-use arena::TERM_ROOM;
+use arena::{TERM_ROOM, Terms};
 
 // The caller sees to what `unify` asks. The answer is that of `capi::horn_unify`.
 #[unsafe(no_mangle)]
@@ -28,8 +28,12 @@ pub extern "C" fn horn_unify_unchecked(
     ensures { UnifiedAs words.now bindings.old bindings.new links.old links.new
         marks.old marks.new stack.old stack.new variables used bound left right result }
 {
-    let ended = unifier::unify(
-        words, bindings, links, marks, stack, TERM_ROOM, variables, used, bound, left, right,
-    );
+    let terms = Terms {
+        words,
+        room: TERM_ROOM,
+        variables,
+        used,
+    };
+    let ended = unifier::unify(terms, bindings, links, marks, stack, bound, left, right);
     unifier::packed(ended, bound)
 }

@@ -11,38 +11,38 @@ use Rattle.acyclicity.proofs.edge_at.Goals as goal
 pub returns-then-i-eq0 : goal.returns-then-i-eq0
 returns-then-i-eq0 c =
     let args = c.args in
-    let if1 = c.if-reference-limit in
+    let if1 = c.if-reference-terms in
     let if2 = c.if-i-eq0 in
-    sym (edge_variable args.limit (cells args.words.now) (column 0 args.bindings.now) args.reference args.i if1.true if2.true)
+    sym (edge_variable args.terms.room (cells args.terms.words.now) (column 0 args.bindings.now) args.reference args.i if1.true if2.true)
 
-pub returns-then-reference-limit : goal.returns-then-reference-limit
-returns-then-reference-limit c =
+pub returns-then-reference-terms : goal.returns-then-reference-terms
+returns-then-reference-terms c =
     let args = c.args in
-    let if1 = c.if-reference-limit in
+    let if1 = c.if-reference-terms in
     let if2 = c.if-i-eq0 in
-    sym (edge_second args.limit (cells args.words.now) (column 0 args.bindings.now) args.reference args.i if1.true if2.false)
+    sym (edge_second args.terms.room (cells args.terms.words.now) (column 0 args.bindings.now) args.reference args.i if1.true if2.false)
 
 pub overflow_add-result-then-i-arity-2 : goal.overflow_add-result-then-i-arity-2
 overflow_add-result-then-i-arity-2 c =
     let pre = c.requires in
     let args = c.args in
-    let if1 = c.if-reference-limit in
+    let if1 = c.if-reference-terms in
     let if3 = c.if-i-arity in
     let n = argument_small pre.stored args.i pre.reference if1.false if3.true in
-    let e : args.reference - args.limit + 1 + args.i ≡ args.reference - args.limit + suc args.i = omega arith in
+    let e : args.reference - args.terms.room + 1 + args.i ≡ args.reference - args.terms.room + suc args.i = omega arith in
     rw e (omega arith)
 
 pub returns-then-i-arity : goal.returns-then-i-arity
 returns-then-i-arity c =
     let args = c.args in
-    let if1 = c.if-reference-limit in
+    let if1 = c.if-reference-terms in
     let if3 = c.if-i-arity in
-    let e : args.reference - args.limit + 1 + args.i ≡ args.reference - args.limit + suc args.i = omega arith in
-    rw (add-one, e) (sym (edge_argument args.limit (cells args.words.now) (column 0 args.bindings.now) args.reference args.i if1.false if3.true))
+    let e : args.reference - args.terms.room + 1 + args.i ≡ args.reference - args.terms.room + suc args.i = omega arith in
+    rw (add-one, e) (sym (edge_argument args.terms.room (cells args.terms.words.now) (column 0 args.bindings.now) args.reference args.i if1.false if3.true))
 
 pub returns : goal.returns
 returns c =
     let args = c.args in
-    let if1 = c.if-reference-limit in
+    let if1 = c.if-reference-terms in
     let if3 = c.if-i-arity in
-    sym (edge_past args.limit (cells args.words.now) (column 0 args.bindings.now) args.reference args.i if1.false if3.false)
+    sym (edge_past args.terms.room (cells args.terms.words.now) (column 0 args.bindings.now) args.reference args.i if1.false if3.false)

@@ -27,7 +27,7 @@ loop-ahead-smaller-then-mark-eq0 c =
     let if3 = c.if-mark-eq0 in
     let args = c.args in
     let d = turn_enter loop.invariant if1.true if3.true in
-    risen loop.scratch (loop.ahead - 1) 1 loop.top args.variables loop.next loop.ahead 0 (ahead_row loop.invariant if1.true).0 d.state.most (let e = if3.true in
+    risen loop.scratch (loop.ahead - 1) 1 loop.top args.terms.variables loop.next loop.ahead 0 (ahead_row loop.invariant if1.true).0 d.state.most (let e = if3.true in
     omega arith)
 
 pub loop-ahead-preserved-then-mark-eq0 : goal.loop-ahead-preserved-then-mark-eq0
@@ -77,7 +77,7 @@ loop-ahead-smaller-then-place-eq0 c =
     let args = c.args in
     let (v, a, b, d, f) = top_row loop.invariant if1.false if4.true in
     let t = turn_close loop.invariant if1.false if4.true edge_at.result edge_at.ensures if5.true in
-    risen loop.scratch (loop.top - 1) 33 (column 1 loop.scratch (loop.top - 1)) args.variables loop.next loop.ahead loop.ahead a t.state.most (omega arith)
+    risen loop.scratch (loop.top - 1) 33 (column 1 loop.scratch (loop.top - 1)) args.terms.variables loop.next loop.ahead loop.ahead a t.state.most (omega arith)
 
 pub loop-ahead-preserved-then-place-eq0 : goal.loop-ahead-preserved-then-place-eq0
 loop-ahead-preserved-then-place-eq0 c =
@@ -103,7 +103,7 @@ loop-ahead-smaller-else-place-eq0 c =
     let args = c.args in
     let (v, a, b, d, f) = top_row loop.invariant if1.false if4.true in
     let t = turn_follow loop.invariant if1.false if4.true edge_at.result edge_at.ensures if5.false in
-    risen loop.scratch (loop.top - 1) (column 0 loop.scratch (loop.top - 1) - 1 + 2) (column 1 loop.scratch (loop.top - 1)) args.variables loop.next loop.ahead edge_at.result a t.state.most (omega arith)
+    risen loop.scratch (loop.top - 1) (column 0 loop.scratch (loop.top - 1) - 1 + 2) (column 1 loop.scratch (loop.top - 1)) args.terms.variables loop.next loop.ahead edge_at.result a t.state.most (omega arith)
 
 pub loop-ahead-preserved-else-place-eq0 : goal.loop-ahead-preserved-else-place-eq0
 loop-ahead-preserved-else-place-eq0 c =
@@ -114,12 +114,12 @@ loop-ahead-preserved-else-place-eq0 c =
     let if5 = c.if-place-eq0 in
     turn_follow loop.invariant if1.false if4.true edge_at.result edge_at.ensures if5.false
 
-pub returns-then-next-variables : goal.returns-then-next-variables
-returns-then-next-variables c =
+pub returns-then-next-terms : goal.returns-then-next-terms
+returns-then-next-terms c =
     let loop = c.loop-ahead in
     let if1 = c.if-ahead-ne0 in
     let if4 = c.if-top-ne0 in
-    let if6 = c.if-next-variables in
+    let if6 = c.if-next-terms in
     record {
       accepted = λ e. turn_accept loop.invariant if1.false if4.false if6.true;
       refused = λ e. true_false refl e;
@@ -128,4 +128,4 @@ returns-then-next-variables c =
     }
 
 pub loop-ahead-preserved : goal.loop-ahead-preserved
-loop-ahead-preserved c = turn_begin c.loop-ahead.invariant c.if-ahead-ne0.false c.if-top-ne0.false c.if-next-variables.false
+loop-ahead-preserved c = turn_begin c.loop-ahead.invariant c.if-ahead-ne0.false c.if-top-ne0.false c.if-next-terms.false

@@ -4,7 +4,7 @@ use Rattle.acyclicity.proofs.Turns.{Turn, left}
 use Rattle.acyclicity.proofs.search.Given as goal
 
 abbrev pub invariant-loop-ahead : goal.invariant-loop-ahead
-invariant-loop-ahead l = Turn l.words l.bindings l.limit l.variables l.used l.initial.scratch l.scratch l.next l.top l.ahead
+invariant-loop-ahead l = Turn l.terms.words.now l.bindings l.terms.room l.terms.variables l.terms.used l.initial.scratch l.scratch l.next l.top l.ahead
 
 abbrev pub decreases-loop-ahead : goal.decreases-loop-ahead
-decreases-loop-ahead l = left l.scratch l.variables l.next l.ahead
+decreases-loop-ahead l = left l.scratch l.terms.variables l.next l.ahead

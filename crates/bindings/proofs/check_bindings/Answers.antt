@@ -6,8 +6,8 @@ use native.Mathlib.Omega.{arith}
 use borrow.Author.Rules.{rules}
 use Rattle.bindings.proofs.check_bindings.Goals as goal
 
-pub returns-then-variables-k : goal.returns-then-variables-k
-returns-then-variables-k c = checked_no (λ f. let l = form_few f in omega arith) _ refl
+pub returns-then-terms-k : goal.returns-then-terms-k
+returns-then-terms-k c = checked_no (λ f. let l = form_few f in omega arith) _ refl
 
 pub is_acyclic-requires : goal.is_acyclic-requires
 is_acyclic-requires c =
@@ -15,7 +15,7 @@ is_acyclic-requires c =
     let check-trail = c.check_trail in
     let if3 = c.if-check_trail in
     let args = c.args in
-    let free = subst (Free args.room args.used) (sym check-trail.ensures.marks) pre.fact_3 in
+    let free = subst (Free args.terms.room args.terms.used) (sym check-trail.ensures.marks) pre.fact_3 in
     record {
       stored = trailed_stored pre.fact_1 pre.fact_2 (search rules) (check-trail.ensures.tells.yes if3.true);
       long = free.lent;

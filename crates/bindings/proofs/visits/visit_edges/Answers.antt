@@ -14,8 +14,8 @@ visit-requires c =
     let if2 = c.if-value-eq0 in
     record { fact_1 = pre.fact_3; fact_2 = (value_in pre.fact_1 pre.fact_2 (search rules) if2.false, pre.fact_4) }
 
-pub returns-then-r-room : goal.returns-then-r-room
-returns-then-r-room c =
+pub returns-then-r-terms : goal.returns-then-r-terms
+returns-then-r-terms c =
     let pre = c.requires in
     let if2 = c.if-value-eq0 in
     let visit = c.visit in
@@ -25,7 +25,7 @@ pub visit_args-requires : goal.visit_args-requires
 visit_args-requires c =
     let args = c.args in
     let pre = c.requires in
-    let l : args.room ≤ args.r = search rules in
+    let l : args.terms.room ≤ args.r = search rules in
     record { fact_1 = pre.fact_3; fact_2 = (node_in pre.fact_1 pre.fact_2 l, pre.fact_4); fact_3 = argument_in pre.fact_1 pre.fact_2 l }
 
 pub returns : goal.returns

@@ -12,7 +12,7 @@ pub returns-then-occurs : goal.returns-then-occurs
 returns-then-occurs c =
     let walk = c.walk-p in
     let walk2 = c.walk-q in
-    let if2 = c.if-p-room in
+    let if2 = c.if-p-terms in
     let if1 = c.if-p-q in
     let occurs = c.occurs in
     let if3 = c.if-occurs in
@@ -21,11 +21,11 @@ returns-then-occurs c =
       marks = occurs.ensures.marks;
     }
 
-pub returns-then-p-room : goal.returns-then-p-room
-returns-then-p-room c =
+pub returns-then-p-terms : goal.returns-then-p-terms
+returns-then-p-terms c =
     let walk = c.walk-p in
     let walk2 = c.walk-q in
-    let if2 = c.if-p-room in
+    let if2 = c.if-p-terms in
     let if1 = c.if-p-q in
     let occurs = c.occurs in
     let if3 = c.if-occurs in
@@ -38,31 +38,31 @@ pub returns-then-occurs-2 : goal.returns-then-occurs-2
 returns-then-occurs-2 c =
     let walk = c.walk-p in
     let walk2 = c.walk-q in
-    let if4 = c.if-q-room in
-    let occurs2 = c.occurs-then-q-room in
+    let if4 = c.if-q-terms in
+    let occurs2 = c.occurs-then-q-terms in
     let if5 = c.if-occurs-2 in
     record {
       says = in_first _ _ (ways walk.ensures walk2.ensures) (search rules) if4.true (sym occurs2.ensures.is ∙ if5.true);
       marks = occurs2.ensures.marks;
     }
 
-pub returns-then-q-room : goal.returns-then-q-room
-returns-then-q-room c =
+pub returns-then-q-terms : goal.returns-then-q-terms
+returns-then-q-terms c =
     let walk = c.walk-p in
     let walk2 = c.walk-q in
-    let if4 = c.if-q-room in
-    let occurs2 = c.occurs-then-q-room in
+    let if4 = c.if-q-terms in
+    let occurs2 = c.occurs-then-q-terms in
     let if5 = c.if-occurs-2 in
     record {
       says = of_second (ways walk.ensures walk2.ensures) (search rules) if4.true (sym occurs2.ensures.is ∙ if5.false);
       marks = occurs2.ensures.marks;
     }
 
-pub returns-then-header-w : goal.returns-then-header-w
-returns-then-header-w c =
+pub returns-then-header-terms : goal.returns-then-header-terms
+returns-then-header-terms c =
     let walk = c.walk-p in
     let walk2 = c.walk-q in
-    let if6 = c.if-header-w in
+    let if6 = c.if-header-terms in
     record {
       says = heads _ _ (ways walk.ensures walk2.ensures) (search rules) (search rules) if6.true;
       marks = refl;
@@ -72,7 +72,7 @@ pub returns-then-header-eq0 : goal.returns-then-header-eq0
 returns-then-header-eq0 c =
     let walk = c.walk-p in
     let walk2 = c.walk-q in
-    let if6 = c.if-header-w in
+    let if6 = c.if-header-terms in
     let if7 = c.if-header-eq0 in
     record {
       says = alike_constants walk.ensures walk2.ensures (search rules) (search rules) if6.false if7.true;
@@ -95,7 +95,7 @@ pub returns : goal.returns
 returns c =
     let walk = c.walk-p in
     let walk2 = c.walk-q in
-    let if6 = c.if-header-w in
+    let if6 = c.if-header-terms in
     let find = c.find in
     let find2 = c.find-2 in
     let if8 = c.if-find in
