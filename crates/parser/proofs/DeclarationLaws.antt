@@ -170,7 +170,6 @@ theorem_rows line n bs js t {b} {j} {e} x y z =
     ap₂ (λ v w. (6 ∷ line ∷ v ∷ w ∷ []) ∷ (row name_kind n (length (tactic_rows t)) ∷ (rows_of_all binders_rows bs ++ (rows_of_all rows_of js ++ tactic_rows t)))) (sym x) (sym y)
     ∙ ap₂ (λ v w. (6 ∷ line ∷ b ∷ j ∷ []) ∷ (v ∷ w)) (ap (row name_kind n) (sym z) ∙ sym (numbered_row n e)) (sym (append_assoc (rows_of_all binders_rows bs) _ _))
 
--- What is not less than i and not i is greater.
 -- A number between others.
 either_of : (k i : ℕ) → i ≤ k → k < i + 2 → (k ≡ i) ⊎ (k ≡ i + 1)
 either_of k i a b = go (dec_lt k (i + 1))

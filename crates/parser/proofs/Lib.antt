@@ -2,4 +2,5 @@
 pub mod PartLaws
 pub mod TacticLaws
 pub mod DeclarationLaws
+pub mod TheoremLaws
 pub mod StorageLaws

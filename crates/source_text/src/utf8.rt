@@ -49,10 +49,16 @@ fn tails(rest: &[u8], count: usize, low: u8, high: u8) -> bool
 }
 
 // The length of the character at a place, if there is one.
+#[inline]
 pub fn character_length(text: &[u8], at: usize) -> Option<usize>
     ensures { result ≡ positive (character_length (drop at text.now)) }
 {
-    let lead = lead_of(*text.get(at)?)?;
+    let first = *text.get(at)?;
+    // Most characters are ASCII, so they come first.
+    if first < 0x80 {
+        return Some(1);
+    }
+    let lead = lead_of(first)?;
     tails(&text[at + 1..], lead.length - 1, lead.low, lead.high).then_some(lead.length)
 }
 
