@@ -1,7 +1,7 @@
 -- Laws of a whole text: what the parser's answer says, and what is left of the text then.
 use Prim.Native.Nat.{ℕ, ◌+◌, ◌-◌, ◌*◌, ◌/◌, ◌≤◌}
 use native.Mathlib.Omega.{arith}
-use mathlib.Core.Path.{◌≡◌, refl, sym, ap, ◌∙◌, subst}
+use mathlib.Core.Path.{◌≡◌, refl, sym, ap, ap₂, ◌∙◌, subst}
 use mathlib.Core.Bool.{false}
 use mathlib.Core.List.{List, ◌++◌}
 use lib.ListN.{length, take, replicate, length-map}
@@ -13,12 +13,14 @@ use Rattle.words.specs.Tokens.Reading.{tokens, refused as unread}
 use Rattle.words.specs.declared.Limits.{Limits}
 use Rattle.term_parser.specs.Parsing.{Parsed, parsed, absent, refused as barred}
 use Rattle.term_parser.specs.Rows.{rows_of_all}
-use Rattle.term_parser.specs.declared.Refusal.{Refusal}
+use Rattle.std.specs.Prelude.{Ok, Err}
+use Rattle.refusals.specs.Refusals.{number_of}
+use Rattle.refusals.specs.declared.Refusal.{Refusal}
+use Rattle.refusals.specs.declared.Rejection.{Rejection}
 use Rattle.parser.specs.Declarations.{Declared, parse_of}
 use Rattle.parser.specs.Rows.{declared_rows}
-use Rattle.parser.specs.Parser.{number_of, answer_of, rows_after, short_for, used_of, parsed_text, text_of, ParsingText}
-use Rattle.parser.specs.declared.Answer.{Answer}
-use Rattle.parser.specs.declared.Answer.TheVariants.{Declarations, Refused}
+use Rattle.parser.specs.Parser.{Answer, counted, rejected, answer_of, rows_after, short_for, used_of, parsed_text, text_of, ParsingText}
+use Rattle.parser.specs.declared.Parsed.{Parsed as Counted}
 use Rattle.names.specs.Symbols.{Rows}
 use Rattle.loader.specs.Signature.{Signature, Loaded, refused, loaded, load_of}
 use Rattle.loader.specs.PlaceLaws.{TitlesInside, titles_inside}
@@ -26,12 +28,10 @@ use Rattle.loader.specs.Stored.{titles_of, sort_row, words_from}
 use Rattle.loader.specs.StoredLaws.{padded_is}
 use Rattle.declarations.specs.declared.State.{State}
 use Rattle.declarations.proofs.NameLaws.{sorts_number, symbols_number}
-use Rattle.load.specs.Load.{declared_in, of_parsed, load_text, evals_from}
+use Rattle.load.specs.Load.{Loading, declared_in, of_parsed, load_text, evals_from}
 use Rattle.load_storage.specs.Storage.{Buffers, zero_pair, zero_symbol, zero_rule, wiped}
 use Rattle.load.specs.Loading.{LoadedInto, Left}
 use Rattle.load.specs.Clearing.{RowsAsked, RowsKept, RowsLeft}
-use Rattle.load.specs.declared.Loading.{Loading}
-use Rattle.load.specs.declared.Loading.TheVariants.{Refused as Barred}
 use Rattle.load_storage.proofs.ShortLaws.{Enough}
 use Rattle.load_storage.proofs.WipeLaws.{buffers, SameLengths, wiped_same}
 use Rattle.load.proofs.ListedLaws.{held_rules, held_listed}
@@ -49,10 +49,12 @@ answered {text} {limits} {ts} {rows} {r} {ts'} {rows'} h a b =
     record { is = rw s at h.answer; rows_are = rw s at h.rows; fits = h.fits }
 
 -- A text that the parser refuses.
-pub parse_refused : {f : Refusal} {line : ℕ} (P : Parsed (List Declared)) → Refused f line ≡ answer_of P → P ≡ barred f line
+pub parse_refused : {j : Rejection} (P : Parsed (List Declared)) → Err j ≡ answer_of P → P ≡ barred j.refusal j.line
 parse_refused (parsed ds n) e = absurd (let z : ◌≡◌ {A = ℕ} 0 1 = cc in omega arith)
 parse_refused absent e = absurd (let z : ◌≡◌ {A = ℕ} 0 1 = cc in omega arith)
-parse_refused (barred r l) e = cc
+parse_refused {j} (barred r l) e =
+    let y : ◌≡◌ {A = Rejection} j (record { refusal = r; line = l }) = cc in
+    ap₂ (λ (a : Refusal) (b : ℕ). barred a b) (sym (ap (λ (x : Rejection). x.refusal) y)) (sym (ap (λ (x : Rejection). x.line) y))
 
 -- A text that it accepts: its declarations.
 pub record Accepted (text : List ℕ) (limit : ℕ) (P : Parsed (List Declared)) (n used : ℕ) : Type 0 where
@@ -61,11 +63,14 @@ pub record Accepted (text : List ℕ) (limit : ℕ) (P : Parsed (List Declared))
   pub long : used ≡ length (rows_of_all declared_rows (declared_in P))
   pub rows : (m : ℕ) → rows_after m P ≡ rows_of_all declared_rows (declared_in P) ++ replicate (m - length (rows_of_all declared_rows (declared_in P))) zero_row
 
-pub parse_accepted : (text : List ℕ) (limit n used : ℕ) (P : Parsed (List Declared)) → Declarations n used ≡ answer_of P → Accepted text limit P n used
+pub parse_accepted : (text : List ℕ) (limit n used : ℕ) (P : Parsed (List Declared)) → counted n used ≡ answer_of P → Accepted text limit P n used
 unfolding rows_of_all
-parse_accepted text limit n used (parsed ds m) e = record { whole = refl; number = cc; long = cc; rows = λ k. refl }
+parse_accepted text limit n used (parsed ds m) e =
+    let y : ◌≡◌ {A = Counted} (record { declarations = n; rows = used }) (record { declarations = length ds; rows = length (rows_of_all declared_rows ds) }) = cc in
+    record { whole = refl; number = ap (λ (x : Counted). x.declarations) y; long = ap (λ (x : Counted). x.rows) y; rows = λ k. refl }
 parse_accepted text limit n used absent e =
-    record { whole = refl; number = cc; long = cc; rows = λ k. (let z : k - 0 ≡ k = omega arith in ap (λ (x : ℕ). replicate x zero_row) (sym z)) }
+    let y : ◌≡◌ {A = Counted} (record { declarations = n; rows = used }) (record { declarations = 0; rows = 0 }) = cc in
+    record { whole = refl; number = ap (λ (x : Counted). x.declarations) y; long = ap (λ (x : Counted). x.rows) y; rows = λ k. (let z : k - 0 ≡ k = omega arith in ap (λ (x : ℕ). replicate x zero_row) (sym z)) }
 parse_accepted text limit n used (barred r l) e = absurd (let z : ◌≡◌ {A = ℕ} 0 1 = cc in omega arith)
 
 -- The names of its declarations lie in the text.
@@ -128,14 +133,14 @@ pub capped_small : (l : Limits) → ((capped_of l).text ≤ 65536) × ((capped_o
 capped_small l = (omega arith, omega arith)
 
 -- A text that the parser refuses leaves nothing.
-pub refused_left : (text : List ℕ) (limits : Limits) (b d : Buffers) (f : Refusal) (line e : ℕ) → text_of text limits ≡ barred f line → e ≡ number_of f → d ≡ wiped b
-    → Left text limits b (declared_in (text_of text limits)) (load_text text limits) (Barred e line) d
-refused_left text limits b d f line e p q w =
-    subst (λ (P : Parsed (List Declared)). Left text limits b (declared_in P) (of_parsed text (capped_of limits).nodes P) (Barred e line) d) (sym p) (ap (λ (k : ℕ). Barred k line) q, w)
+pub refused_left : (text : List ℕ) (limits : Limits) (b d : Buffers) (j : Rejection) → text_of text limits ≡ barred j.refusal j.line → d ≡ wiped b
+    → Left text limits b (declared_in (text_of text limits)) (load_text text limits) (Err j) d
+refused_left text limits b d j p w =
+    subst (λ (P : Parsed (List Declared)). Left text limits b (declared_in P) (of_parsed text (capped_of limits).nodes P) (Err j) d) (sym p) ((refl, refl), w)
 
 module _ (text : List ℕ) (limits : Limits) (ts rows calls sorts symbols rules : Rows) (words : List ℕ) (evals : Rows)
     (lent : Enough (capped_of limits).text (capped_of limits).nodes (length ts) (length rows) (length calls) (length sorts) (length symbols) (length rules) (length words) (length evals))
-    {n used : ℕ} {rows' : Rows} (a : Answered text limits rows (Declarations n used) rows') where
+    {n used : ℕ} {rows' : Rows} (a : Answered text limits rows (counted n used) rows') where
   accepted : (limit : ℕ) → Accepted text limit (text_of text limits) n used
   accepted limit = parse_accepted text limit n used (text_of text limits) a.is
 

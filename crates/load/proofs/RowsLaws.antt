@@ -12,20 +12,21 @@ use Rattle.loader.specs.Signature.{Signature, Loaded, refused, loaded}
 use Rattle.loader.specs.Stored.{Titles, titles_of}
 use Rattle.declarations.specs.Held.{Held}
 use Rattle.declarations.specs.declared.State.{State}
-use Rattle.load.specs.Load.{evals_from, Came}
+use Rattle.load.specs.Load.{Walk, RejectedBy, evals_from, Came}
 use Rattle.load_storage.specs.Storage.{Buffers, zero_pair, zero_symbol, zero_rule, cleared_from, wiped}
 use Rattle.load_storage.specs.Storage.{SignatureCleared, ScratchCleared}
 use Rattle.load.specs.Clearing.{RowsLeft}
-use Rattle.load.specs.declared.Walk.{Walk}
-use Rattle.load.specs.declared.Walk.TheVariants.{Refused, Done}
-use Rattle.load.specs.declared.Loading.TheVariants.{Refused as Barred, Loaded as Entered}
+use Rattle.std.specs.Prelude.{Result, Ok, Err}
+use Rattle.refusals.specs.Refusals.{number_of}
+use Rattle.refusals.specs.declared.Rejection.{Rejection}
+use Rattle.load.specs.declared.Entered.{Entered}
 use Rattle.load_storage.proofs.WipeLaws.{wipe, SameLengths}
 use Rattle.load.proofs.ListedLaws.{held_cleared}
 
 -- What an answer of `enter_all` says.
 module _ (text : List ℕ) (limit : ℕ) (ts : Titles) (waiting : Rows) (r : Walk) (sorts symbols rules : Rows) (words : List ℕ) (evals : Rows) where
-  came_refused : {e line : ℕ} (x : Loaded) → Came text limit ts waiting x r sorts symbols rules words evals → r ≡ Refused e line → x ≡ refused e line
-  came_refused (refused f l) h z = cc
+  came_refused : {j : Rejection} (x : Loaded) → Came text limit ts waiting x r sorts symbols rules words evals → r ≡ Err j → x ≡ refused (number_of j.refusal) j.line
+  came_refused {j} (refused f l) h z = let g : (number_of j.refusal ≡ f) × (j.line ≡ l) = subst (RejectedBy f l) z h in ap₂ refused (sym g.0) (sym g.1)
   came_refused (loaded s) h z = absurd (let i = h.is in let w : ◌≡◌ {A = ℕ} 0 1 = cc in omega arith)
 
 -- All declarations are entered.
@@ -41,13 +42,14 @@ pub record AllEntered (text : List ℕ) (limit : ℕ) (ts : Titles) (waiting : R
 pub part_is : {A : Type 0} (n : ℕ) (l : List A) → take (n - 0) l ≡ take n l
 part_is n l = let e : n - 0 ≡ n = omega arith in ap (λ (k : ℕ). take k l) e
 
-pub came_done : (text : List ℕ) (limit : ℕ) (ts : Titles) (waiting : Rows) (r : Walk) (sorts symbols rules : Rows) (words : List ℕ) (evals : Rows) {st : State} {k : ℕ} (x : Loaded)
-    → Came text limit ts waiting x r sorts symbols rules words evals → r ≡ Done st k → AllEntered text limit ts waiting x st k sorts symbols rules words evals
-came_done text limit ts waiting r sorts symbols rules words evals (refused f l) h z = absurd (let w : ◌≡◌ {A = ℕ} 0 1 = cc in omega arith)
-came_done text limit ts waiting r sorts symbols rules words evals {st} {k} (loaded s) h z =
+pub came_done : (text : List ℕ) (limit : ℕ) (ts : Titles) (waiting : Rows) (r : Walk) (sorts symbols rules : Rows) (words : List ℕ) (evals : Rows) {en : Entered} (x : Loaded)
+    → Came text limit ts waiting x r sorts symbols rules words evals → r ≡ Ok en → AllEntered text limit ts waiting x en.state en.evals sorts symbols rules words evals
+came_done text limit ts waiting r sorts symbols rules words evals (refused f l) h z = absurd (subst (RejectedBy f l) z h)
+came_done text limit ts waiting r sorts symbols rules words evals {en} (loaded s) h z =
     let i = h.is in
-    let a : h.state ≡ st = cc in
-    let b : k ≡ length waiting = cc in
+    let y : ◌≡◌ {A = Entered} (record { state = h.state; evals = length waiting }) en = cc in
+    let a : h.state ≡ en.state = ap (λ (x : Entered). x.state) y in
+    let b : en.evals ≡ length waiting = sym (ap (λ (x : Entered). x.evals) y) in
     let l = h.lent in
     record {
       signature = s;
@@ -64,15 +66,15 @@ clear_past z n l l₀ h e =
 
 module _ (b c d : Buffers) (same : SameLengths b c) where
   module _ (text : List ℕ) (limit : ℕ) (ds : List Declared) (r : Walk) where
-    pub rows_refused : (n : ℕ) {e line : ℕ} (x : Loaded) → Came text limit (titles_of ds) (evals_from 0 ds) x r c.sorts c.symbols c.rules c.words c.evals → r ≡ Refused e line → d ≡ wiped b
-        → RowsLeft text limit n b ds x (Barred e line) d
-    rows_refused n {e} {line} x h z w =
-        subst (λ (y : Loaded). RowsLeft text limit n b ds y (Barred e line) d) (sym (came_refused text limit (titles_of ds) (evals_from 0 ds) r c.sorts c.symbols c.rules c.words c.evals x h z)) (refl, w)
+    pub rows_refused : (n : ℕ) {j : Rejection} (x : Loaded) → Came text limit (titles_of ds) (evals_from 0 ds) x r c.sorts c.symbols c.rules c.words c.evals → r ≡ Err j → d ≡ wiped b
+        → RowsLeft text limit n b ds x (Err j) d
+    rows_refused n {j} x h z w =
+        subst (λ (y : Loaded). RowsLeft text limit n b ds y (Err j) d) (sym (came_refused text limit (titles_of ds) (evals_from 0 ds) r c.sorts c.symbols c.rules c.words c.evals x h z)) ((refl, refl), w)
 
     pub rows_done : (n : ℕ) {k : ℕ} {st : State} (x : Loaded) → AllEntered text limit (titles_of ds) (evals_from 0 ds) x st k c.sorts c.symbols c.rules c.words c.evals → d.rows ≡ b.rows
         → ScratchCleared c.tokens c.calls c.evals k d.tokens d.calls d.evals
         → SignatureCleared c.sorts c.symbols c.rules c.words st.sorts st.symbols st.rules st.used d.sorts d.symbols d.rules d.words
-        → RowsLeft text limit n b ds x (Entered n k (record { sorts = st.sorts; symbols = st.symbols; rules = st.rules; words = st.used })) d
+        → RowsLeft text limit n b ds x (Ok (record { declarations = n; evals = k; counts = record { sorts = st.sorts; symbols = st.symbols; rules = st.rules; words = st.used } })) d
     rows_done n {k} {st} x h rows y z =
         let held = h.held in
         let a = held.names.few_sorts in
@@ -85,10 +87,10 @@ module _ (b c d : Buffers) (same : SameLengths b c) where
         let u₁ = held.kept.words_lent in
         let now : Held text limit (titles_of ds) h.signature (cleared_from zero_pair st.sorts c.sorts) (cleared_from zero_symbol st.symbols c.symbols) (cleared_from zero_rule st.rules c.rules) (cleared_from 0 st.used c.words) st = held_cleared held zero_pair zero_symbol zero_rule in
         let now₁ : Held text limit (titles_of ds) h.signature d.sorts d.symbols d.rules d.words st = rw (z.sorts_are_lem, z.symbols_are_lem, z.rules_are_lem, z.words_are) now in
-        subst (λ (w : Loaded). RowsLeft text limit n b ds w (Entered n k (record { sorts = st.sorts; symbols = st.symbols; rules = st.rules; words = st.used })) d) (sym h.is)
+        subst (λ (w : Loaded). RowsLeft text limit n b ds w (Ok (record { declarations = n; evals = k; counts = record { sorts = st.sorts; symbols = st.symbols; rules = st.rules; words = st.used } })) d) (sym h.is)
         (record {
           state = st;
-          answer = ap (λ (j : ℕ). Entered n j (record { sorts = st.sorts; symbols = st.symbols; rules = st.rules; words = st.used })) h.number;
+          answer = ap (λ (j : ℕ). Ok (record { declarations = n; evals = j; counts = record { sorts = st.sorts; symbols = st.symbols; rules = st.rules; words = st.used } })) h.number;
           held = now₁;
           sorts_clear = ap (drop st.sorts) z.sorts_are_lem ∙ clear_past zero_pair st.sorts c.sorts b.sorts (omega arith) same.sorts;
           symbols_clear = ap (drop st.symbols) z.symbols_are_lem ∙ clear_past zero_symbol st.symbols c.symbols b.symbols (omega arith) same.symbols;

@@ -21,11 +21,13 @@ use Rattle.loader.specs.Stored.{Titles, untitled, entitled, titles_from, titles_
 use Rattle.declarations.specs.Held.{Held}
 use Rattle.declarations.specs.Steps.{Stepped, DeclarationAt, DeclareDone}
 use Rattle.declarations.specs.declared.State.{State}
+use Rattle.std.specs.Prelude.{Result, Ok, Err}
+use Rattle.refusals.specs.Refusals.{number_of}
+use Rattle.refusals.specs.declared.Rejection.{Rejection}
+use Rattle.refusals.specs.declared.Refusal.{Refusal}
 use Rattle.declarations.specs.declared.Progress.{Progress}
-use Rattle.declarations.specs.declared.Progress.TheVariants.{Refused as Barred, Done as Next}
 use Rattle.declarations.proofs.DeclarationLaws.{first_row, kind_of}
 use Rattle.load.specs.Load.{eval_of, evals_from, noted, Came}
-use Rattle.load.specs.declared.Walk.TheVariants.{Refused, Done}
 
 -- Storage with nothing entered holds the empty signature.
 pub held_none : (text : List ℕ) (limit : ℕ) (sorts symbols rules : Rows) (words : List ℕ) → 256 ≤ length sorts → 1024 ≤ length symbols → 1024 ≤ length rules → 2 * limit ≤ length words
@@ -165,41 +167,42 @@ module _ {text : List ℕ} {limit : ℕ} {rows : Rows} {n : ℕ} {sorts symbols 
       go [] e t m = absurd (omega arith)
       go (d ∷ ds) e t m = (d, p + length (declared_rows d), at_row g.before d ds e g.from t)
 
-  module _ {r : Progress} {sorts' symbols' rules' : Rows} {words' : List ℕ} (done : DeclareDone text rows p sorts symbols rules words st r sorts' symbols' rules' words') where
+  module _ {r : Result Progress Refusal} {sorts' symbols' rules' : Rows} {words' : List ℕ} (done : DeclareDone text rows p sorts symbols rules words st r sorts' symbols' rules' words') where
     -- It is refused, at its line, and so is the text.
-    sofar_refused : {e : ℕ} → Sofar text limit rows n sorts symbols rules words evals st count p i all waiting whole → i < n → r ≡ Barred e → whole ≡ refused e (column (row_at rows p) 1)
+    sofar_refused : {e : Refusal} → Sofar text limit rows n sorts symbols rules words evals st count p i all waiting whole → i < n → r ≡ Err e → whole ≡ refused (number_of e) (column (row_at rows p) 1)
     unfolding load_from
     sofar_refused {e} g l z = go g.rest g.split g.inside g.number g.same
       where
-        step : (ts : Titles) (x : Step) (q : ℕ) → Stepped text limit ts x q sorts' symbols' rules' words' r → x ≡ no e
-        step ts (no f) q h = cc
+        step : (ts : Titles) (x : Step) (q : ℕ) → Stepped text limit ts x q sorts' symbols' rules' words' r → x ≡ no (number_of e)
+        step ts (no f) q h = let g : number_of e ≡ f = rw z at h in ap no (sym g)
         step ts (on t) q h = absurd (let d = h.1 in let w : ◌≡◌ {A = ℕ} 0 1 = cc in omega arith)
 
         go : (ds : List Declared) → rows ≡ g.before ++ rows_of_all declared_rows ds → TitlesInside text ds → i + length ds ≡ n → whole ≡ load_from limit text g.signature ds
-            → whole ≡ refused e (column (row_at rows p) 1)
+            → whole ≡ refused (number_of e) (column (row_at rows p) 1)
         go [] e t m w = absurd (omega arith)
         go (d ∷ ds) s t m w =
             let a = at_row g.before d ds s g.from t in
             let h = step (entitled g.titles d.declaration) (declare limit text g.signature d.declaration) (p + length (declared_rows d)) (done.same limit g.titles g.signature g.held d _ a) in
-            w ∙ ap (λ (x : Step). go_on x d.line (λ (u : Signature). load_from limit text u ds)) h ∙ ap (refused e) (sym (first_row a).line)
+            w ∙ ap (λ (x : Step). go_on x d.line (λ (u : Signature). load_from limit text u ds)) h ∙ ap (refused (number_of e)) (sym (first_row a).line)
 
-    pub sofar_stops : {e : ℕ} → Sofar text limit rows n sorts symbols rules words evals st count p i all waiting whole → i < n → r ≡ Barred e
-        → (sorts₁ symbols₁ rules₁ : Rows) (words₁ : List ℕ) (evals₁ : Rows) → Came text limit all waiting whole (Refused e (column (row_at rows p) 1)) sorts₁ symbols₁ rules₁ words₁ evals₁
+    pub sofar_stops : {e : Refusal} → Sofar text limit rows n sorts symbols rules words evals st count p i all waiting whole → i < n → r ≡ Err e
+        → (sorts₁ symbols₁ rules₁ : Rows) (words₁ : List ℕ) (evals₁ : Rows) → Came text limit all waiting whole (Err (record { refusal = e; line = column (row_at rows p) 1 })) sorts₁ symbols₁ rules₁ words₁ evals₁
     sofar_stops {e} g l z sorts₁ symbols₁ rules₁ words₁ evals₁ =
-        subst (λ (x : Loaded). Came text limit all waiting x (Refused e (column (row_at rows p) 1)) sorts₁ symbols₁ rules₁ words₁ evals₁) (sym (sofar_refused g l z)) refl
+        subst (λ (x : Loaded). Came text limit all waiting x (Err (record { refusal = e; line = column (row_at rows p) 1 })) sorts₁ symbols₁ rules₁ words₁ evals₁) (sym (sofar_refused g l z)) (refl, refl)
 
     -- It is entered, and the others are left.
-    pub sofar_on : {next : ℕ} {st' : State} → Sofar text limit rows n sorts symbols rules words evals st count p i all waiting whole → i < n → r ≡ Next next st'
+    pub sofar_on : {next : ℕ} {st' : State} → Sofar text limit rows n sorts symbols rules words evals st count p i all waiting whole → i < n → r ≡ Ok (record { next = next; state = st' })
         → Sofar text limit rows n sorts' symbols' rules' words' (noted evals count (column (row_at rows p) 0) (column (row_at rows p) 1) p) st' (cond (eqb (column (row_at rows p) 0) 10) (count + 1) count) next (i + 1) all waiting whole
     unfolding load_from titles_from evals_from rows_of_all
     sofar_on {next} {st'} g l z = go g.rest g.split g.inside g.number g.titled g.same g.waits
       where
         step : (ts : Titles) (x : Step) (q : ℕ) → Stepped text limit ts x q sorts' symbols' rules' words' r → (t : Signature) × (x ≡ on t) × (next ≡ q) × Held text limit ts t sorts' symbols' rules' words' st'
-        step ts (no f) q h = absurd (let w : ◌≡◌ {A = ℕ} 0 1 = cc in omega arith)
+        step ts (no f) q h = absurd (rw z at h)
         step ts (on t) q h =
-            let d = h.1 in
-            let a : h.0 ≡ st' = cc in
-            let b : next ≡ q = cc in
+            let d : ◌≡◌ {A = Result Progress Refusal} (Ok (record { next = q; state = h.0 })) (Ok (record { next = next; state = st' })) = sym h.1 ∙ z in
+            let y : ◌≡◌ {A = Progress} (record { next = q; state = h.0 }) (record { next = next; state = st' }) = cc in
+            let a : h.0 ≡ st' = ap (λ (x : Progress). x.state) y in
+            let b : next ≡ q = sym (ap (λ (x : Progress). x.next) y) in
             (t, refl, b, rw (← a) h.2)
 
         turn : (d : Declared) (ds : List Declared) → rows ≡ g.before ++ (declared_rows d ++ rows_of_all declared_rows ds) → DeclarationAt text rows p d (p + length (declared_rows d)) → TitlesInside text ds
@@ -247,12 +250,12 @@ module _ {text : List ℕ} {limit : ℕ} {rows : Rows} {n : ℕ} {sorts symbols 
             turn d ds s a t.1 m ti w v h.0 h.1 h.2 h.3
 
   -- No declaration is left.
-  pub sofar_end : Sofar text limit rows n sorts symbols rules words evals st count p i all waiting whole → n ≤ i → Came text limit all waiting whole (Done st count) sorts symbols rules words evals
+  pub sofar_end : Sofar text limit rows n sorts symbols rules words evals st count p i all waiting whole → n ≤ i → Came text limit all waiting whole (Ok (record { state = st; evals = count })) sorts symbols rules words evals
   unfolding load_from titles_from evals_from
   sofar_end g l = go g.rest g.split g.number g.titled g.same g.waits
     where
       go : (ds : List Declared) → rows ≡ g.before ++ rows_of_all declared_rows ds → i + length ds ≡ n → all ≡ titles_from g.titles ds → whole ≡ load_from limit text g.signature ds
-          → waiting ≡ take count evals ++ evals_from p ds → Came text limit all waiting whole (Done st count) sorts symbols rules words evals
+          → waiting ≡ take count evals ++ evals_from p ds → Came text limit all waiting whole (Ok (record { state = st; evals = count })) sorts symbols rules words evals
       go [] s m ti w v =
           let e : waiting ≡ take count evals = v ∙ append-nil (take count evals) in
           let a = ap length s ∙ length-append g.before (rows_of_all declared_rows []) in
@@ -261,8 +264,8 @@ module _ {text : List ℕ} {limit : ℕ} {rows : Rows} {n : ℕ} {sorts symbols 
           let o = g.lent in
           let k : count ≤ length evals = omega arith in
           let m : length waiting ≡ count = ap length e ∙ length-take-le count evals k in
-          subst (λ (x : Loaded). Came text limit all waiting x (Done st count) sorts symbols rules words evals) (sym w)
-          (record { state = st; is = ap (Done st) (sym m); held = rw ti g.held; lent = omega arith; waits = ap (λ (x : ℕ). take x evals) m ∙ sym e })
+          subst (λ (x : Loaded). Came text limit all waiting x (Ok (record { state = st; evals = count })) sorts symbols rules words evals) (sym w)
+          (record { state = st; is = ap (λ (k : ℕ). Ok (record { state = st; evals = k })) (sym m); held = rw ti g.held; lent = omega arith; waits = ap (λ (x : ℕ). take x evals) m ∙ sym e })
       go (d ∷ ds) s m ti w v = absurd (omega arith)
 
 -- Each `#eval` takes two rows at least.

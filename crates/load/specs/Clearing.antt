@@ -1,5 +1,5 @@
 -- What the functions of `load` that clear storage, and the one that goes on behind the parser, ask and owe.
-use Rattle.std.specs.Prelude.{ℕ, ◌*◌, ◌+◌, ◌-◌, ◌≤◌, ◌≡◌, List, ◌++◌, length, take, drop, replicate}
+use Rattle.std.specs.Prelude.{ℕ, ◌*◌, ◌+◌, ◌-◌, ◌≤◌, ◌≡◌, Ok, List, ◌++◌, length, take, drop, replicate}
 use Rattle.words.specs.Lexer.{zero_row}
 use Rattle.term_parser.specs.Rows.{rows_of_all}
 use Rattle.parser.specs.Declarations.{Declared}
@@ -11,9 +11,7 @@ use Rattle.loader.specs.Stored.{titles_of}
 use Rattle.declarations.specs.Held.{Held}
 use Rattle.declarations.specs.declared.State.{State}
 use Rattle.load_storage.specs.Storage.{Buffers, zero_pair, zero_symbol, zero_rule, wiped}
-use Rattle.load.specs.Load.{evals_from}
-use Rattle.load.specs.declared.Loading.{Loading}
-use Rattle.load.specs.declared.Loading.TheVariants.{Refused as Barred, Loaded as Entered}
+use Rattle.load.specs.Load.{Loading, RejectedBy, evals_from}
 
 -- What `load_rows` asks: declarations in the first `used` rows, zero past them, and storage of the listed sizes.
 pub record RowsAsked (text : List ℕ) (limit n used : ℕ) (tokens rows calls sorts symbols rules : Rows) (words : List ℕ) (evals : Rows) : Type 0 where
@@ -32,7 +30,7 @@ pub record RowsAsked (text : List ℕ) (limit n used : ℕ) (tokens rows calls s
 -- What it leaves of a signature that is refused or loaded.
 pub record RowsKept (text : List ℕ) (limit n : ℕ) (b : Buffers) (ds : List Declared) (s : Signature) (r : Loading) (b' : Buffers) : Type 0 where
   pub state : State
-  pub answer : r ≡ Entered n (length (evals_from 0 ds)) (record { sorts = state.sorts; symbols = state.symbols; rules = state.rules; words = state.used })
+  pub answer : r ≡ Ok (record { declarations = n; evals = length (evals_from 0 ds); counts = record { sorts = state.sorts; symbols = state.symbols; rules = state.rules; words = state.used } })
   pub held : Held text limit (titles_of ds) s b'.sorts b'.symbols b'.rules b'.words state
   pub sorts_clear : drop state.sorts b'.sorts ≡ replicate (length b.sorts - state.sorts) zero_pair
   pub symbols_clear : drop state.symbols b'.symbols ≡ replicate (length b.symbols - state.symbols) zero_symbol
@@ -44,7 +42,7 @@ pub record RowsKept (text : List ℕ) (limit n : ℕ) (b : Buffers) (ds : List D
   pub calls : b'.calls ≡ replicate (length b.calls) zero_row
 
 abbrev pub RowsLeft : List ℕ → ℕ → ℕ → Buffers → List Declared → Loaded → Loading → Buffers → Type 0
-RowsLeft text limit n b ds (refused e line) r b' = (r ≡ Barred e line) × (b' ≡ wiped b)
+RowsLeft text limit n b ds (refused e line) r b' = RejectedBy e line r × (b' ≡ wiped b)
 RowsLeft text limit n b ds (loaded s) r b' = RowsKept text limit n b ds s r b'
 
 pub record RowsLoaded (text : List ℕ) (limit n used : ℕ) (b : Buffers) (r : Loading) (b' : Buffers) : Type 0 where

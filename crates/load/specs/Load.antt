@@ -1,5 +1,5 @@
 -- `load` on all inputs (document 01, "Terms and declarations" and the table by place): the order of the refusals, and what lent storage holds afterwards.
-use Rattle.std.specs.Prelude.{ℕ, ◌+◌, ◌*◌, ◌≤◌, ◌≡◌, cond, List, [], ◌∷◌, ◌++◌, eqb, length, take, set}
+use Rattle.std.specs.Prelude.{ℕ, ◌+◌, ◌*◌, ◌≤◌, ◌≡◌, cond, Result, Ok, Err, List, [], ◌∷◌, ◌++◌, eqb, length, take, set}
 use Rattle.words.specs.Lexer.{capped_of}
 use Rattle.words.specs.declared.Limits.{Limits}
 use Rattle.term_parser.specs.Parsing.{Parsed, parsed, absent, refused as barred}
@@ -7,15 +7,29 @@ use Rattle.term_parser.specs.Rows.{rows_of_all}
 use Rattle.parser.specs.Source.{Declaration, sort, ctor, pred, rule, def, theorem, eval, check}
 use Rattle.parser.specs.Declarations.{Declared}
 use Rattle.parser.specs.Rows.{declared_rows}
-use Rattle.parser.specs.Parser.{number_of, text_of}
+use Rattle.parser.specs.Parser.{text_of}
 use Rattle.names.specs.Symbols.{Rows}
 use Rattle.loader.specs.PlaceLaws.{TitlesInside}
 use Rattle.loader.specs.Stored.{Titles, titles_of}
 use Rattle.loader.specs.Signature.{Signature, Loaded, refused, loaded, load_of}
 use Rattle.declarations.specs.Held.{Held}
 use Rattle.declarations.specs.declared.State.{State}
-use Rattle.load.specs.declared.Walk.{Walk}
-use Rattle.load.specs.declared.Walk.TheVariants.{Refused, Done}
+use Rattle.refusals.specs.Refusals.{number_of}
+use Rattle.refusals.specs.declared.Rejection.{Rejection}
+use Rattle.load.specs.declared.Entered.{Entered}
+use Rattle.load.specs.declared.Loaded.{Loaded as AllLoaded}
+
+-- What `enter_all` and `load` answer.
+abbrev pub Walk : Type 0
+Walk = Result Entered Rejection
+
+abbrev pub Loading : Type 0
+Loading = Result AllLoaded Rejection
+
+-- The answer is a refusal by a number and a line.
+abbrev pub RejectedBy : {A : Type 0} → ℕ → ℕ → Result A Rejection → Type 0
+RejectedBy e line (Ok x) = ⊥
+RejectedBy e line (Err j) = (number_of j.refusal ≡ e) × (j.line ≡ line)
 
 -- The declarations of a parsed text.
 abbrev pub declared_in : Parsed (List Declared) → List Declared
@@ -68,13 +82,13 @@ pub record WalkAsked (text : List ℕ) (limit : ℕ) (rows : Rows) (n : ℕ) (so
 -- What it owes: the refusal; or storage that holds the signature, and the `#eval` that wait.
 pub record Filled (text : List ℕ) (limit : ℕ) (ts : Titles) (waiting : Rows) (s : Signature) (r : Walk) (sorts symbols rules : Rows) (words : List ℕ) (evals : Rows) : Type 0 where
   pub state : State
-  pub is : r ≡ Done state (length waiting)
+  pub is : r ≡ Ok (record { state = state; evals = length waiting })
   pub held : Held text limit ts s sorts symbols rules words state
   pub lent : length waiting ≤ length evals
   pub waits : take (length waiting) evals ≡ waiting
 
 abbrev pub Came : List ℕ → ℕ → Titles → Rows → Loaded → Walk → Rows → Rows → Rows → List ℕ → Rows → Type 0
-Came text limit ts waiting (refused e line) r sorts symbols rules words evals = r ≡ Refused e line
+Came text limit ts waiting (refused e line) r sorts symbols rules words evals = RejectedBy e line r
 Came text limit ts waiting (loaded s) r sorts symbols rules words evals = Filled text limit ts waiting s r sorts symbols rules words evals
 
 pub record Walked (text : List ℕ) (limit : ℕ) (rows : Rows) (n : ℕ) (r : Walk) (sorts symbols rules : Rows) (words : List ℕ) (evals : Rows) : Type 0 where

@@ -9,10 +9,9 @@ use Rattle.parser.specs.Parser.{text_of, rows_after}
 use Rattle.loader.specs.Signature.{Signature}
 use Rattle.loader.specs.Stored.{titles_of, sort_row, sort_rows, symbol_rows, rule_rows, words_from, padded}
 use Rattle.loader.specs.StoredLaws.{symbol_rows_length, rule_rows_length}
-use Rattle.load.specs.Load.{evals_from}
+use Rattle.load.specs.Load.{Loading, evals_from}
 use Rattle.load_storage.specs.Storage.{Buffers, zero_pair, zero_symbol, zero_rule}
 use Rattle.load.specs.Loading.{LoadedInto}
-use Rattle.load.specs.declared.Loading.{Loading}
 
 -- Past a list of k items is z.
 padded_past : {A : Type 0} (z : A) (n : ℕ) (l : List A) (k : ℕ) → length l ≡ k → drop k (padded z n l) ≡ replicate (n - k) z

@@ -1,5 +1,5 @@
 -- The contract of `load`: the answer and every lent buffer, on all inputs.
-use Rattle.std.specs.Prelude.{ℕ, ◌≡◌, true, false, cond, List, [], ◌∷◌, length, replicate}
+use Rattle.std.specs.Prelude.{ℕ, ◌≡◌, true, false, cond, Ok, Err, List, [], ◌∷◌, length, replicate}
 use Rattle.words.specs.Lexer.{zero_row}
 use Rattle.source_text.specs.Answers.{Told, answers, refuses}
 use Rattle.words.specs.declared.Limits.{Limits}
@@ -10,9 +10,8 @@ use Rattle.loader.specs.Signature.{Signature, Loaded, refused, loaded}
 use Rattle.loader.specs.Stored.{titles_of, sort_rows, symbol_rows, rule_rows, words_from, padded}
 use Rattle.signature.specs.Form.{rules_of, Listed}
 use Rattle.load_storage.specs.Storage.{Buffers, too_short, zero_pair, zero_symbol, zero_rule, wiped}
-use Rattle.load.specs.Load.{declared_in, load_text, evals_from}
-use Rattle.load.specs.declared.Loading.{Loading}
-use Rattle.load.specs.declared.Loading.TheVariants.{Refused as Barred, Loaded as Entered}
+use Rattle.refusals.specs.Refusals.{number_of}
+use Rattle.load.specs.Load.{Loading, RejectedBy, declared_in, load_text, evals_from}
 
 -- All that is left of a text with the declarations ds and the signature s: the stored signature, the declarations' rows, the line of
 -- each `#eval` with the row of its term, and zero past these and in the scratch. So no two programs that load a text differ in a byte.
@@ -33,12 +32,15 @@ stored_of text limits ds s b =
 pub record LoadedInto (text : List ℕ) (limits : Limits) (b : Buffers) (ds : List Declared) (s : Signature)
     (r : Loading) (b' : Buffers) : Type 0 where
   -- How many declarations and waiting `#eval` there are, and how many of each kind are stored; and every buffer, whole.
-  pub answer : r ≡ Entered (length ds) (length (evals_from 0 ds))
-      (record {
-        sorts = length s.sorts;
-        symbols = length s.symbols;
-        rules = length s.rules;
-        words = length (words_from s.rules 0);
+  pub answer : r ≡ Ok (record {
+        declarations = length ds;
+        evals = length (evals_from 0 ds);
+        counts = record {
+          sorts = length s.sorts;
+          symbols = length s.symbols;
+          rules = length s.rules;
+          words = length (words_from s.rules 0);
+        };
       })
   pub stored : b' ≡ stored_of text limits ds s b
   -- Each sort, symbol and rule has its title, so there are as many rows as are counted.
@@ -55,13 +57,13 @@ pub record LoadedInto (text : List ℕ) (limits : Limits) (b : Buffers) (ds : Li
 
 -- What is left of a text that is refused, by number and line, or loaded.
 abbrev pub Left : List ℕ → Limits → Buffers → List Declared → Loaded → Loading → Buffers → Type 0
-Left text limits b ds (refused e line) r b' = (r ≡ Barred e line) × (b' ≡ wiped b)
+Left text limits b ds (refused e line) r b' = RejectedBy e line r × (b' ≡ wiped b)
 Left text limits b ds (loaded s) r b' = LoadedInto text limits b ds s r b'
 
 -- The answer by the paper's numbers: how many declarations and waiting `#eval` there are, and how many sorts, symbols, rules and words; or the refusal.
 abbrev pub loading_told : Loading → Told
-loading_told (Barred e line) = refuses e line
-loading_told (Entered n k c) = answers (n ∷ k ∷ c.sorts ∷ c.symbols ∷ c.rules ∷ c.words ∷ [])
+loading_told (Err j) = refuses (number_of j.refusal) j.line
+loading_told (Ok l) = answers (l.declarations ∷ l.evals ∷ l.counts.sorts ∷ l.counts.symbols ∷ l.counts.rules ∷ l.counts.words ∷ [])
 
 -- The same of what the definitions come to.
 abbrev pub loaded_told : List Declared → Loaded → Told
@@ -79,5 +81,5 @@ loaded_told ds (loaded s) =
 -- A buffer that is too short gives 1, and nothing is written.
 pub record LoadingText (text : List ℕ) (limits : Limits) (b : Buffers) (r : Loading) (b' : Buffers) : Type 0 where
   pub told : loading_told r ≡ cond (too_short limits b) (refuses 1 0) (loaded_told (declared_in (text_of text limits)) (load_text text limits))
-  pub short : too_short limits b ≡ true → (r ≡ Barred 1 0) × (b' ≡ b)
+  pub short : too_short limits b ≡ true → RejectedBy 1 0 r × (b' ≡ b)
   pub enough : too_short limits b ≡ false → Left text limits b (declared_in (text_of text limits)) (load_text text limits) r b'

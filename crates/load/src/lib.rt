@@ -10,11 +10,11 @@ ghost use Rattle.load.specs.Clearing.{RowsAsked, RowsLoaded};
 
 use declarations::{Progress, State};
 pub use load_storage::EvalRow;
-use names::{SortRow, SymbolRow};
-use parser::Answer;
-use patterns::TermRow;
+use names::{SortRow, SymbolRow, TermRow};
+use refusals::{Refusal, Rejection};
 use rules::RuleRow;
 use signature::Counts;
+use words::EVAL;
 
 // Writes a row, if there is room for it.
 fn put(evals: &mut [EvalRow], i: usize, line: u32, row: u32)
@@ -25,23 +25,23 @@ fn put(evals: &mut [EvalRow], i: usize, line: u32, row: u32)
     }
 }
 
-// Keeps the line and the row of an `#eval`, whose kind is 10; answers how many there are then.
+// Keeps the line and the row of an `#eval`, whose kind is `EVAL`; answers how many there are then.
 fn note(evals: &mut [EvalRow], count: usize, kind: u32, line: u32, at: usize) -> usize
     requires { (at ≤ 65536) × (count ≤ 65536) }
     ensures { (result ≡ cond (eqb kind 10) (count + 1) count) × (evals.new ≡ noted evals.old count kind line at) }
 {
-    if kind != 10 {
+    if kind != EVAL {
         return count;
     }
     put(evals, count, line, at as u32 + 1);
     count + 1
 }
 
-// What came of all declarations: the refusal of one and its line; or what there is then, and how many `#eval` wait.
+// All declarations entered: what there is then, and how many `#eval` wait.
 #[derive(Clone, Copy)]
-pub enum Walk {
-    Refused { number: u32, line: u32 },
-    Done { state: State, evals: usize },
+struct Entered {
+    state: State,
+    evals: usize,
 }
 
 // Enters the n declarations of the rows, in text order, with so many nodes allowed in all.
@@ -57,55 +57,52 @@ fn enter_all(
     evals: &mut [EvalRow],
     out: &mut [TermRow],
     calls: &mut [TermRow],
-) -> Walk
+) -> Result<Entered, Rejection>
     requires { WalkAsked text.now limit rows.now n sorts.old symbols.old rules.old words.old evals.old out.old calls.old }
     ensures { Walked text.now limit rows.now n result sorts.new symbols.new rules.new words.new evals.new }
 {
-    let mut state = State {
-        sorts: 0,
-        symbols: 0,
-        rules: 0,
-        used: 0,
-        left: limit,
+    let mut progress = Progress {
+        next: 0,
+        state: State {
+            sorts: 0,
+            symbols: 0,
+            rules: 0,
+            used: 0,
+            left: limit,
+        },
     };
     let mut count = 0;
-    let mut at = 0;
-    let mut i = 0;
-    while i < n {
-        let line = rows[at][1];
-        count = note(evals, count, rows[at][0], line, at);
+    for _i in 0..n {
+        let [kind, line, _, _] = rows[progress.next];
+        count = note(evals, count, kind, line, progress.next);
         match declarations::declare(
-            text, rows, at, sorts, symbols, rules, words, out, calls, state,
+            text,
+            rows,
+            progress.next,
+            sorts,
+            symbols,
+            rules,
+            words,
+            out,
+            calls,
+            progress.state,
         ) {
-            Progress::Refused { number: e } => return Walk::Refused {
-                number: e,
-                line: line,
-            },
-            Progress::Done { next, state: s } => {
-                at = next;
-                state = s;
-            }
+            Ok(further) => progress = further,
+            Err(refusal) => return Err(Rejection { refusal, line }),
         }
-        i += 1;
     }
-    Walk::Done {
-        state: state,
+    Ok(Entered {
+        state: progress.state,
         evals: count,
-    }
+    })
 }
 
-// What `load` answers: the refusal by its number and line; or how many declarations there are, how many `#eval` wait, and how much is stored.
+// A text that is loaded: how many declarations there are, how many `#eval` wait, and how much is stored.
 #[derive(Clone, Copy)]
-pub enum Loading {
-    Refused {
-        number: u32,
-        line: u32,
-    },
-    Loaded {
-        declarations: u32,
-        evals: u32,
-        counts: Counts,
-    },
+pub struct Loaded {
+    pub declarations: u32,
+    pub evals: u32,
+    pub counts: Counts,
 }
 
 // Enters the n declarations in the first `used` rows, and clears what is past the counts; or clears everything.
@@ -122,7 +119,7 @@ fn load_rows(
     rules: &mut [RuleRow],
     words: &mut [u32],
     evals: &mut [EvalRow],
-) -> Loading
+) -> Result<Loaded, Rejection>
     requires { RowsAsked text.now limit n used tokens.old rows.old calls.old sorts.old symbols.old rules.old words.old evals.old }
     ensures { RowsLoaded text.now limit n used (record { tokens = tokens.old; rows = rows.old; calls = calls.old; sorts = sorts.old; symbols = symbols.old; rules = rules.old; words = words.old; evals = evals.old }) result (record { tokens = tokens.new; rows = rows.new; calls = calls.new; sorts = sorts.new; symbols = symbols.new; rules = rules.new; words = words.new; evals = evals.new }) }
 {
@@ -139,14 +136,11 @@ fn load_rows(
         tokens,
         calls,
     ) {
-        Walk::Refused { number, line } => {
+        Err(rejection) => {
             load_storage::leave_nothing(tokens, rows, calls, sorts, symbols, rules, words, evals);
-            Loading::Refused {
-                number: number,
-                line: line,
-            }
+            Err(rejection)
         }
-        Walk::Done { state, evals: k } => {
+        Ok(Entered { state, evals: k }) => {
             load_storage::leave(
                 tokens,
                 calls,
@@ -161,7 +155,7 @@ fn load_rows(
                 evals,
                 k,
             );
-            Loading::Loaded {
+            Ok(Loaded {
                 declarations: n,
                 evals: k as u32,
                 counts: Counts {
@@ -170,7 +164,7 @@ fn load_rows(
                     rules: state.rules as u32,
                     words: state.used as u32,
                 },
-            }
+            })
         }
     }
 }
@@ -187,7 +181,7 @@ pub fn load(
     rules: &mut [RuleRow],
     words: &mut [u32],
     evals: &mut [EvalRow],
-) -> Loading
+) -> Result<Loaded, Rejection>
     ensures { LoadingText text.now limits (record { tokens = tokens.old; rows = rows.old; calls = calls.old; sorts = sorts.old; symbols = symbols.old; rules = rules.old; words = words.old; evals = evals.old }) result (record { tokens = tokens.new; rows = rows.new; calls = calls.new; sorts = sorts.new; symbols = symbols.new; rules = rules.new; words = words.new; evals = evals.new }) }
 {
     if load_storage::is_short(
@@ -201,21 +195,21 @@ pub fn load(
         words.len(),
         evals.len(),
     ) {
-        return Loading::Refused { number: 1, line: 0 };
+        return Err(Rejection {
+            refusal: Refusal::Storage,
+            line: 0,
+        });
     }
     match parser::parse_text(text, limits, tokens, rows) {
-        Answer::Refused(refusal, line) => {
+        Err(rejection) => {
             load_storage::leave_nothing(tokens, rows, calls, sorts, symbols, rules, words, evals);
-            Loading::Refused {
-                number: parser::number(refusal),
-                line: line,
-            }
+            Err(rejection)
         }
-        Answer::Declarations(n, used) => load_rows(
+        Ok(parsed) => load_rows(
             text,
             limits.capped().nodes as usize,
-            n,
-            used,
+            parsed.declarations,
+            parsed.rows,
             tokens,
             rows,
             calls,

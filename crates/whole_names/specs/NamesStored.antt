@@ -5,7 +5,7 @@
 -- a whole word (`WholeWord` in whole_words/specs/Words.antt) is a run of 1 to 64 bytes that make words, which goes on neither before nor
 -- behind, and is in no comment; the titles of declarations (loader/specs/Stored.antt) are the places of the words by which they name sorts, symbols and
 -- rules, in text order.
-use Rattle.std.specs.Prelude.{ℕ, ◌<◌, ◌≡◌, refl, ◌↔◌, List, length}
+use Rattle.std.specs.Prelude.{ℕ, ◌<◌, ◌≡◌, refl, ◌↔◌, Ok, List, length}
 use Rattle.std.proofs.Common.{arith, sym, ap, subst}
 use Rattle.terms.specs.Numbers.{by_bool}
 use Rattle.words.specs.declared.Limits.{Limits}
@@ -16,11 +16,10 @@ use Rattle.names.specs.Symbols.{row_at, sort_of as name_in, sorts_of, symbols_of
 use Rattle.rules.specs.declared.Title.{Title}
 use Rattle.loader.specs.Signature.{Signature, Loaded, refused, loaded}
 use Rattle.signature.specs.declared.Counts.{Counts}
-use Rattle.load.specs.Load.{declared_in, load_text}
+use Rattle.load.specs.Load.{Loading, RejectedBy, declared_in, load_text, evals_from}
 use Rattle.load_storage.specs.Storage.{Buffers, too_short, zero_pair, zero_symbol, zero_rule}
 use Rattle.load.specs.Loading.{stored_of, Left, LoadingText}
-use Rattle.load.specs.declared.Loading.{Loading}
-use Rattle.load.specs.declared.Loading.TheVariants.{Refused as Barred, Loaded as Entered}
+use Rattle.load.specs.declared.Loaded.{Loaded as AllLoaded}
 use Rattle.whole_words.specs.Words.{NameAt}
 use Rattle.loader.specs.Stored.{Titles, title_at, titles_of, words_from}
 use Rattle.whole_names.specs.Titles.{row_place, row_title, place_number, title_number}
@@ -98,21 +97,22 @@ module _ (text : List ℕ) (limits : Limits) (ds : List Declared) (s : Signature
 
 -- Where `load` loads a text, the names of its declarations are stored whole.
 pub names_stored_whole : (text : List ℕ) (limits : Limits) (b : Buffers) (r : Loading) (b' : Buffers) → LoadingText text limits b r b'
-    → (declarations evals : ℕ) (counts : Counts) → r ≡ Entered declarations evals counts
+    → (declarations evals : ℕ) (counts : Counts) → r ≡ Ok (record { declarations = declarations; evals = evals; counts = counts })
     → NamesStoredWhole text (declared_in (text_of text limits)) b' counts
 names_stored_whole text limits b r b' h n m counts e =
-    by_bool (too_short limits b) (λ t. absurd (never (h.short t).0)) (λ t. go (load_text text limits) refl (h.enough t))
+    by_bool (too_short limits b) (λ t. absurd (never 1 0 (h.short t).0)) (λ t. go (load_text text limits) refl (h.enough t))
   where
-    never : {k line : ℕ} → r ≡ Barred k line → ⊥
-    never q = let z : ◌≡◌ {A = ℕ} 0 1 = cc in omega arith
+    never : (k line : ℕ) → RejectedBy k line r → ⊥
+    never k line q = subst (RejectedBy k line) e q
 
     go : (o : Loaded) → load_text text limits ≡ o → Left text limits b (declared_in (text_of text limits)) o r b'
         → NamesStoredWhole text (declared_in (text_of text limits)) b' counts
-    go (refused k line) q l = absurd (never l.0)
+    go (refused k line) q l = absurd (never k line l.0)
     go (loaded s) q l =
         let ds : List Declared = declared_in (text_of text limits) in
         let names : NamesWhole text ds s = names_whole text limits s q in
         let f = l.answer in
-        let c : counts_with text limits ds s names b b' l.stored l.sorts_are l.symbols_are (length (words_from s.rules 0)) ≡ counts = cc in
+        let same : ◌≡◌ {A = AllLoaded} (record { declarations = length ds; evals = length (evals_from 0 ds); counts = record { sorts = length s.sorts; symbols = length s.symbols; rules = length s.rules; words = length (words_from s.rules 0) } }) (record { declarations = n; evals = m; counts = counts }) = cc in
+        let c : counts_with text limits ds s names b b' l.stored l.sorts_are l.symbols_are (length (words_from s.rules 0)) ≡ counts = ap (λ (a : AllLoaded). a.counts) same in
         subst (λ (k : Counts). NamesStoredWhole text ds b' k) c
         (rows_whole text limits ds s names b b' l.stored l.sorts_are l.symbols_are (length (words_from s.rules 0)))

@@ -11,69 +11,36 @@ pub loop-i-init : goal.loop-i-init
 loop-i-init c =
     let pre = c.requires in
     let args = c.args in
-    (omega arith, refl, refl, refl, refl, refl, refl, refl, sofar_start pre.evals_lent (held_none args.text.now args.limit args.sorts.now args.symbols.now args.rules.now args.words.now pre.sorts_lent pre.symbols_lent pre.rules_lent pre.words_lent pre.limited))
+    (refl, refl, refl, refl, refl, refl, refl, sofar_start pre.evals_lent (held_none args.text.now args.limit args.sorts.now args.symbols.now args.rules.now args.words.now pre.sorts_lent pre.symbols_lent pre.rules_lent pre.words_lent pre.limited))
 
-pub offset_bounds-rows-at : goal.offset_bounds-rows-at
-offset_bounds-rows-at c =
+pub offset_bounds-rows-progress : goal.offset_bounds-rows-progress
+offset_bounds-rows-progress c =
     let loop = c.loop-i in
     let pre = c.requires in
     let loop-test = c.loop-i-test in
-    let g = loop.invariant.8 pre.declared.0 pre.declared.1 pre.declared.2 pre.declared.3 in
+    let g = loop.invariant.7 pre.declared.0 pre.declared.1 pre.declared.2 pre.declared.3 in
     let d = sofar_declaration g loop-test.true in
     let w = (first_row d.2).within in
     let s = pre.short in
     omega arith
 
-pub bounds-rows-at : goal.bounds-rows-at
-bounds-rows-at c =
+pub bounds-rows-progress : goal.bounds-rows-progress
+bounds-rows-progress c =
     let loop = c.loop-i in
     let pre = c.requires in
     let loop-test = c.loop-i-test in
-    let g = loop.invariant.8 pre.declared.0 pre.declared.1 pre.declared.2 pre.declared.3 in
+    let g = loop.invariant.7 pre.declared.0 pre.declared.1 pre.declared.2 pre.declared.3 in
     let d = sofar_declaration g loop-test.true in
     let w = (first_row d.2).within in
     let s = pre.short in
     omega arith
 
-pub bounds-rows-1 : goal.bounds-rows-1
-bounds-rows-1 c =
+pub bounds-rows-progress-in-loop-i : goal.bounds-rows-progress-in-loop-i
+bounds-rows-progress-in-loop-i c =
     let loop = c.loop-i in
     let pre = c.requires in
     let loop-test = c.loop-i-test in
-    let g = loop.invariant.8 pre.declared.0 pre.declared.1 pre.declared.2 pre.declared.3 in
-    let d = sofar_declaration g loop-test.true in
-    let w = (first_row d.2).within in
-    let s = pre.short in
-    omega arith
-
-pub offset_bounds-rows-at-in-loop-i : goal.offset_bounds-rows-at-in-loop-i
-offset_bounds-rows-at-in-loop-i c =
-    let loop = c.loop-i in
-    let pre = c.requires in
-    let loop-test = c.loop-i-test in
-    let g = loop.invariant.8 pre.declared.0 pre.declared.1 pre.declared.2 pre.declared.3 in
-    let d = sofar_declaration g loop-test.true in
-    let w = (first_row d.2).within in
-    let s = pre.short in
-    omega arith
-
-pub bounds-rows-at-in-loop-i : goal.bounds-rows-at-in-loop-i
-bounds-rows-at-in-loop-i c =
-    let loop = c.loop-i in
-    let pre = c.requires in
-    let loop-test = c.loop-i-test in
-    let g = loop.invariant.8 pre.declared.0 pre.declared.1 pre.declared.2 pre.declared.3 in
-    let d = sofar_declaration g loop-test.true in
-    let w = (first_row d.2).within in
-    let s = pre.short in
-    omega arith
-
-pub bounds-rows-0 : goal.bounds-rows-0
-bounds-rows-0 c =
-    let loop = c.loop-i in
-    let pre = c.requires in
-    let loop-test = c.loop-i-test in
-    let g = loop.invariant.8 pre.declared.0 pre.declared.1 pre.declared.2 pre.declared.3 in
+    let g = loop.invariant.7 pre.declared.0 pre.declared.1 pre.declared.2 pre.declared.3 in
     let d = sofar_declaration g loop-test.true in
     let w = (first_row d.2).within in
     let s = pre.short in
@@ -84,7 +51,7 @@ note-count-requires c =
     let loop = c.loop-i in
     let pre = c.requires in
     let loop-test = c.loop-i-test in
-    let g = loop.invariant.8 pre.declared.0 pre.declared.1 pre.declared.2 pre.declared.3 in
+    let g = loop.invariant.7 pre.declared.0 pre.declared.1 pre.declared.2 pre.declared.3 in
     let d = sofar_declaration g loop-test.true in
     let w = (first_row d.2).within in
     let s = pre.short in
@@ -97,7 +64,7 @@ declare-requires c =
     let pre = c.requires in
     let loop-test = c.loop-i-test in
     let args = c.args in
-    let g = loop.invariant.8 pre.declared.0 pre.declared.1 pre.declared.2 pre.declared.3 in
+    let g = loop.invariant.7 pre.declared.0 pre.declared.1 pre.declared.2 pre.declared.3 in
     let d = sofar_declaration g loop-test.true in
     let w = (first_row d.2).within in
     let s = pre.short in
@@ -105,26 +72,20 @@ declare-requires c =
     let b = pre.calls_lent in
     record {
       short = s;
-      out_lent = omega (arith, loop.invariant.6);
-      calls_lent = omega (arith, loop.invariant.7);
+      out_lent = omega (arith, loop.invariant.5);
+      calls_lent = omega (arith, loop.invariant.6);
       ready = (args.limit, g.titles, g.signature, g.held);
       stand = d;
     }
 
-pub returns-in-Refused : goal.returns-in-Refused
-returns-in-Refused c =
+pub returns-in-Err : goal.returns-in-Err
+returns-in-Err c =
     let declare = c.declare in
     let loop = c.loop-i in
     let loop-test = c.loop-i-test in
     record {
-      same = λ ds a b t. sofar_stops declare.ensures (loop.invariant.8 ds a b t) loop-test.true c.in-Refused.is _ _ _ _ _;
+      same = λ ds a b t. sofar_stops declare.ensures (loop.invariant.7 ds a b t) loop-test.true c.in-Err.is _ _ _ _ _;
     }
-
-pub overflow_add-i : goal.overflow_add-i
-overflow_add-i c =
-    let loop-test = c.loop-i-test in
-    let fits = c.ranges in
-    omega (arith, loop-test.true, fits.n)
 
 pub loop-i-preserved : goal.loop-i-preserved
 loop-i-preserved c =
@@ -132,23 +93,22 @@ loop-i-preserved c =
     let declare = c.declare in
     let loop = c.loop-i in
     let note = c.note-count in (
-      omega (arith, loop-test.true),
       declare.auto.sorts
-          ∙ loop.invariant.1,
+          ∙ loop.invariant.0,
       declare.auto.symbols
-          ∙ loop.invariant.2,
+          ∙ loop.invariant.1,
       declare.auto.rules
-          ∙ loop.invariant.3,
+          ∙ loop.invariant.2,
       declare.auto.words
-          ∙ loop.invariant.4,
+          ∙ loop.invariant.3,
       note.auto.evals
-          ∙ loop.invariant.5,
+          ∙ loop.invariant.4,
       declare.auto.out
-          ∙ loop.invariant.6,
+          ∙ loop.invariant.5,
       declare.auto.calls
-          ∙ loop.invariant.7,
-      λ ds a b t. rw (note.ensures.0, note.ensures.1) (sofar_on declare.ensures (loop.invariant.8 ds a b t) loop-test.true c.in-Done.is),
+          ∙ loop.invariant.6,
+      λ ds a b t. rw (note.ensures.0, note.ensures.1) (sofar_on declare.ensures {next = c.in-Ok.further.next} {st' = c.in-Ok.further.state} (loop.invariant.7 ds a b t) loop-test.true c.in-Ok.is),
     )
 
 pub returns : goal.returns
-returns c = record { same = λ ds a b t. sofar_end (c.loop-i.invariant.8 ds a b t) (omega (arith, c.loop-i-test.false)) }
+returns c = record { same = λ ds a b t. sofar_end (c.loop-i.invariant.7 ds a b t) (omega (arith, c.loop-i-test.false)) }

@@ -7,7 +7,4 @@ use borrow.Author.Rules.{rules}
 use Rattle.load.proofs.enter_all.Given as goal
 
 abbrev pub invariant-loop-i : goal.invariant-loop-i
-invariant-loop-i l = (l.i ≤ l.n) × (length l.sorts ≡ length l.initial.sorts) × (length l.symbols ≡ length l.initial.symbols) × (length l.rules ≡ length l.initial.rules) × (length l.words ≡ length l.initial.words) × (length l.evals ≡ length l.initial.evals) × (length l.out ≡ length l.initial.out) × (length l.calls ≡ length l.initial.calls) × Everywhere l.text l.limit l.rows l.n l.sorts l.symbols l.rules l.words l.evals l.state l.count l.at l.i
-
-abbrev pub decreases-loop-i : goal.decreases-loop-i
-decreases-loop-i l = l.n - l.i
+invariant-loop-i l = (length l.sorts ≡ length l.initial.sorts) × (length l.symbols ≡ length l.initial.symbols) × (length l.rules ≡ length l.initial.rules) × (length l.words ≡ length l.initial.words) × (length l.evals ≡ length l.initial.evals) × (length l.out ≡ length l.initial.out) × (length l.calls ≡ length l.initial.calls) × Everywhere l.text l.limit l.rows l.n l.sorts l.symbols l.rules l.words l.evals l.progress.state l.count l.progress.next l._i

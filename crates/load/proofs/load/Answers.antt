@@ -15,7 +15,7 @@ use borrow.Author.Rules.{rules}
 use Rattle.load.proofs.load.Goals as goal
 
 pub returns-then-is_short : goal.returns-then-is_short
-returns-then-is_short c = as_loading _ _ _ _ _ (λ z. (refl, refl)) (λ z. true_false (sym c.is_short.ensures ∙ c.if-is_short.true) z)
+returns-then-is_short c = as_loading _ _ _ _ _ (λ z. ((refl, refl), refl)) (λ z. true_false (sym c.is_short.ensures ∙ c.if-is_short.true) z)
 
 pub load_rows-requires : goal.load_rows-requires
 load_rows-requires c =
@@ -27,18 +27,17 @@ load_rows-requires c =
     let no = sym is-short.ensures ∙ if1.false in
     let lent = enough (capped_of args.limits).text (capped_of args.limits).nodes (length args.tokens.now) (length args.rows.now) (length args.calls.now) (length args.sorts.now) (length args.symbols.now) (length args.rules.now) (length args.words.now) (length args.evals.now) no in
     let an₀ = answered parse-text.ensures lent.tokens_lent lent.rows_lent in
-    let an = rw (c.in-Declarations.is) at an₀ in
+    let an = rw (c.in-Ok.is) at an₀ in
     let lm = ap (λ (x : Limits). x.nodes) capped.ensures in
     rows_asked args.text.now args.limits args.tokens.now args.rows.now args.calls.now args.sorts.now args.symbols.now args.rules.now args.words.now args.evals.now lent an capped.result.nodes (parse-text.new.tokens) lm (parse-text.auto.tokens) (parse-text.auto.rows)
 
-pub returns-in-Refused : goal.returns-in-Refused
-returns-in-Refused c =
+pub returns-in-Err : goal.returns-in-Err
+returns-in-Err c =
     let is-short = c.is_short in
     let if1 = c.if-is_short in
     let args = c.args in
     let parse-text = c.parse_text in
     let leave-nothing = c.leave_nothing in
-    let number = c.number in
     let no = sym is-short.ensures ∙ if1.false in
     let lent = enough (capped_of args.limits).text (capped_of args.limits).nodes (length args.tokens.now) (length args.rows.now) (length args.calls.now) (length args.sorts.now) (length args.symbols.now) (length args.rules.now) (length args.words.now) (length args.evals.now) no in
     let an = answered parse-text.ensures lent.tokens_lent lent.rows_lent in
@@ -81,13 +80,13 @@ returns-in-Refused c =
       words = leave-nothing.new.words;
       evals = leave-nothing.new.evals;
     } in
-    let p = parse_refused (text_of args.text.now args.limits) (sym c.in-Refused.is ∙ an.is) in
+    let p = parse_refused (text_of args.text.now args.limits) (sym c.in-Err.is ∙ an.is) in
     let w = leave-nothing.ensures.is ∙ wiped_same b m l (parse-text.auto.rows) in
     as_loading _ _ _ _ _ (λ z. true_false z no)
-    (λ z. refused_left args.text.now args.limits b d _ _ number.result p number.ensures w)
+    (λ z. refused_left args.text.now args.limits b d _ p w)
 
-pub returns-in-Declarations : goal.returns-in-Declarations
-returns-in-Declarations c =
+pub returns-in-Ok : goal.returns-in-Ok
+returns-in-Ok c =
     let is-short = c.is_short in
     let if1 = c.if-is_short in
     let args = c.args in
@@ -97,7 +96,7 @@ returns-in-Declarations c =
     let no = sym is-short.ensures ∙ if1.false in
     let lent = enough (capped_of args.limits).text (capped_of args.limits).nodes (length args.tokens.now) (length args.rows.now) (length args.calls.now) (length args.sorts.now) (length args.symbols.now) (length args.rules.now) (length args.words.now) (length args.evals.now) no in
     let an₀ = answered parse-text.ensures lent.tokens_lent lent.rows_lent in
-    let an = rw (c.in-Declarations.is) at an₀ in
+    let an = rw (c.in-Ok.is) at an₀ in
     let lm = ap (λ (x : Limits). x.nodes) capped.ensures in
     let b : Buffers = record {
       tokens = args.tokens.now;

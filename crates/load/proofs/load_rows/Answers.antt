@@ -43,7 +43,7 @@ leave-requires c =
     let pre = c.requires in
     let enter-all = c.enter_all in
     let g = came_done args.text.now args.limit (titles_of pre.declared.0) (evals_from 0 pre.declared.0) enter-all.result (enter-all.new.sorts) (enter-all.new.symbols) (enter-all.new.rules) (enter-all.new.words) (enter-all.new.evals) (load_of args.limit args.text.now pre.declared.0) (enter-all.ensures.same pre.declared.0 (part_is args.used args.rows.now
-    ∙ pre.declared.1) pre.declared.2 pre.declared.3) c.in-Done.is in
+    ∙ pre.declared.1) pre.declared.2 pre.declared.3) c.in-Ok.is in
     let h = g.held in
     let a = h.names.few_sorts in
     let a₁ = h.names.sorts_lent in
@@ -62,56 +62,56 @@ overflow_cast-result c =
     let pre = c.requires in
     let enter-all = c.enter_all in
     let g = came_done args.text.now args.limit (titles_of pre.declared.0) (evals_from 0 pre.declared.0) enter-all.result (enter-all.new.sorts) (enter-all.new.symbols) (enter-all.new.rules) (enter-all.new.words) (enter-all.new.evals) (load_of args.limit args.text.now pre.declared.0) (enter-all.ensures.same pre.declared.0 (part_is args.used args.rows.now
-    ∙ pre.declared.1) pre.declared.2 pre.declared.3) c.in-Done.is in
+    ∙ pre.declared.1) pre.declared.2 pre.declared.3) c.in-Ok.is in
     let m = g.number in
     let f = evals_few pre.declared.0 0 in
     let e = ap length (sym pre.declared.1) ∙ length-take-le args.used args.rows.now pre.within in
     let s = pre.short in
     omega arith
 
-pub overflow_cast-result-in-Done : goal.overflow_cast-result-in-Done
-overflow_cast-result-in-Done c =
+pub overflow_cast-result-in-Ok : goal.overflow_cast-result-in-Ok
+overflow_cast-result-in-Ok c =
     let args = c.args in
     let pre = c.requires in
     let enter-all = c.enter_all in
     let g = came_done args.text.now args.limit (titles_of pre.declared.0) (evals_from 0 pre.declared.0) enter-all.result (enter-all.new.sorts) (enter-all.new.symbols) (enter-all.new.rules) (enter-all.new.words) (enter-all.new.evals) (load_of args.limit args.text.now pre.declared.0) (enter-all.ensures.same pre.declared.0 (part_is args.used args.rows.now
-    ∙ pre.declared.1) pre.declared.2 pre.declared.3) c.in-Done.is in
+    ∙ pre.declared.1) pre.declared.2 pre.declared.3) c.in-Ok.is in
     let a = g.held.names.few_sorts in
     omega arith
 
-pub overflow_cast-result-in-Done-2 : goal.overflow_cast-result-in-Done-2
-overflow_cast-result-in-Done-2 c =
+pub overflow_cast-result-in-Ok-2 : goal.overflow_cast-result-in-Ok-2
+overflow_cast-result-in-Ok-2 c =
     let args = c.args in
     let pre = c.requires in
     let enter-all = c.enter_all in
     let g = came_done args.text.now args.limit (titles_of pre.declared.0) (evals_from 0 pre.declared.0) enter-all.result (enter-all.new.sorts) (enter-all.new.symbols) (enter-all.new.rules) (enter-all.new.words) (enter-all.new.evals) (load_of args.limit args.text.now pre.declared.0) (enter-all.ensures.same pre.declared.0 (part_is args.used args.rows.now
-    ∙ pre.declared.1) pre.declared.2 pre.declared.3) c.in-Done.is in
+    ∙ pre.declared.1) pre.declared.2 pre.declared.3) c.in-Ok.is in
     let a = g.held.names.few_symbols in
     omega arith
 
-pub overflow_cast-result-in-Done-3 : goal.overflow_cast-result-in-Done-3
-overflow_cast-result-in-Done-3 c =
+pub overflow_cast-result-in-Ok-3 : goal.overflow_cast-result-in-Ok-3
+overflow_cast-result-in-Ok-3 c =
     let args = c.args in
     let pre = c.requires in
     let enter-all = c.enter_all in
     let g = came_done args.text.now args.limit (titles_of pre.declared.0) (evals_from 0 pre.declared.0) enter-all.result (enter-all.new.sorts) (enter-all.new.symbols) (enter-all.new.rules) (enter-all.new.words) (enter-all.new.evals) (load_of args.limit args.text.now pre.declared.0) (enter-all.ensures.same pre.declared.0 (part_is args.used args.rows.now
-    ∙ pre.declared.1) pre.declared.2 pre.declared.3) c.in-Done.is in
+    ∙ pre.declared.1) pre.declared.2 pre.declared.3) c.in-Ok.is in
     let a = g.held.kept.few_rules in
     omega arith
 
-pub overflow_cast-result-in-Done-4 : goal.overflow_cast-result-in-Done-4
-overflow_cast-result-in-Done-4 c =
+pub overflow_cast-result-in-Ok-4 : goal.overflow_cast-result-in-Ok-4
+overflow_cast-result-in-Ok-4 c =
     let args = c.args in
     let pre = c.requires in
     let enter-all = c.enter_all in
     let g = came_done args.text.now args.limit (titles_of pre.declared.0) (evals_from 0 pre.declared.0) enter-all.result (enter-all.new.sorts) (enter-all.new.symbols) (enter-all.new.rules) (enter-all.new.words) (enter-all.new.evals) (load_of args.limit args.text.now pre.declared.0) (enter-all.ensures.same pre.declared.0 (part_is args.used args.rows.now
-    ∙ pre.declared.1) pre.declared.2 pre.declared.3) c.in-Done.is in
+    ∙ pre.declared.1) pre.declared.2 pre.declared.3) c.in-Ok.is in
     let a = g.held.kept.fits in
     let m = pre.limited in
     omega arith
 
-pub returns-in-Refused : goal.returns-in-Refused
-returns-in-Refused c =
+pub returns-in-Err : goal.returns-in-Err
+returns-in-Err c =
     let args = c.args in
     let enter-all = c.enter_all in
     let leave-nothing = c.leave_nothing in
@@ -157,11 +157,11 @@ returns-in-Refused c =
     let w = leave-nothing.ensures.is ∙ wiped_same b m l refl in
     record {
       same = λ ds x y t. rows_refused b m d l args.text.now args.limit ds enter-all.result args.n (load_of args.limit args.text.now ds) (enter-all.ensures.same ds (part_is args.used args.rows.now
-          ∙ x) y t) c.in-Refused.is w;
+          ∙ x) y t) c.in-Err.is w;
     }
 
-pub returns-in-Done : goal.returns-in-Done
-returns-in-Done c =
+pub returns-in-Ok : goal.returns-in-Ok
+returns-in-Ok c =
     let args = c.args in
     let enter-all = c.enter_all in
     let leave = c.leave in
@@ -206,5 +206,5 @@ returns-in-Done c =
     } in
     record {
       same = λ ds x y t. rows_done b m d l args.text.now args.limit ds enter-all.result args.n (load_of args.limit args.text.now ds) (came_done args.text.now args.limit (titles_of ds) (evals_from 0 ds) enter-all.result (enter-all.new.sorts) (enter-all.new.symbols) (enter-all.new.rules) (enter-all.new.words) (enter-all.new.evals) (load_of args.limit args.text.now ds) (enter-all.ensures.same ds (part_is args.used args.rows.now
-          ∙ x) y t) c.in-Done.is) refl leave.ensures.scratch_cleared leave.ensures.signature_cleared;
+          ∙ x) y t) c.in-Ok.is) refl leave.ensures.scratch_cleared leave.ensures.signature_cleared;
     }
