@@ -1,15 +1,14 @@
 -- Rows of any width whose numbers are all one value.
-use Rattle.std.specs.Prelude.{◌≡◌, ℕ, Bool, true, ◌&&◌, List, [], ◌∷◌, length, replicate, ◌==◌}
+use Rattle.std.specs.Prelude.{◌≡◌, ℕ, Bool, List, length, replicate, ◌==◌}
+use Rattle.std.specs.List.{list_all}
 
 -- Is each of the numbers v?
-unfoldable pub is_all : ℕ → List ℕ → Bool
-is_all v [] = true
-is_all v (n ∷ l) = n == v && is_all v l
+abbrev pub is_all : ℕ → List ℕ → Bool
+is_all v l = list_all (λ n. n == v) l
 
 -- Is each number of the rows v?
-unfoldable pub are_all : ℕ → List (List ℕ) → Bool
-are_all v [] = true
-are_all v (row ∷ rows) = is_all v row && are_all v rows
+abbrev pub are_all : ℕ → List (List ℕ) → Bool
+are_all v rows = list_all (is_all v) rows
 
 -- What each number is before a call: 0xA5A5A5A5.
 abbrev pub junk : ℕ

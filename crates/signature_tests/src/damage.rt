@@ -6,7 +6,7 @@ ghost use Rattle.signature_tests.specs.Damage.{changed};
 use crate::buffers;
 use names::{SortRow, SymbolRow};
 use rules::RuleRow;
-use signature::Counts;
+use signature::{Counts, StoredSignature};
 
 // The most bytes of a name, and the largest clause number.
 const BYTES: u32 = 64;
@@ -33,6 +33,13 @@ const FIRST: usize = 4;
 
 const VARIABLES: usize = 3;
 
+// Of a rule how many premises it has, its first word, and how many words the premises have.
+const PREMISES: usize = 4;
+
+const FIRST_WORD: usize = 6;
+
+const PREMISE_WORDS: usize = 7;
+
 const FIRST_PREMISE: usize = 10;
 
 // Is the signature accepted with another number in the row of a sort? The storage is left as it was.
@@ -52,7 +59,16 @@ fn is_taken_with_sort(
 {
     let kept = sorts[i];
     sorts[i][column] = value;
-    let taken = signature::check_signature(text, sorts, symbols, rules, words, counts);
+    let taken = signature::check_signature(
+        text,
+        StoredSignature {
+            sorts,
+            symbols,
+            rules,
+            words,
+            counts,
+        },
+    );
     sorts[i] = kept;
     taken
 }
@@ -74,7 +90,16 @@ fn is_taken_with_symbol(
 {
     let kept = symbols[i];
     symbols[i][column] = value;
-    let taken = signature::check_signature(text, sorts, symbols, rules, words, counts);
+    let taken = signature::check_signature(
+        text,
+        StoredSignature {
+            sorts,
+            symbols,
+            rules,
+            words,
+            counts,
+        },
+    );
     symbols[i] = kept;
     taken
 }
@@ -96,7 +121,16 @@ fn is_taken_with_rule(
 {
     let kept = rules[i];
     rules[i][column] = value;
-    let taken = signature::check_signature(text, sorts, symbols, rules, words, counts);
+    let taken = signature::check_signature(
+        text,
+        StoredSignature {
+            sorts,
+            symbols,
+            rules,
+            words,
+            counts,
+        },
+    );
     rules[i] = kept;
     taken
 }
@@ -117,17 +151,23 @@ fn is_taken_with_word(
 {
     let kept = words[i];
     words[i] = value;
-    let taken = signature::check_signature(text, sorts, symbols, rules, words, counts);
+    let taken = signature::check_signature(
+        text,
+        StoredSignature {
+            sorts,
+            symbols,
+            rules,
+            words,
+            counts,
+        },
+    );
     words[i] = kept;
     taken
 }
 
 // The place past a text, of which no more than 65,536 bytes are loaded.
 fn end(text: &[u8]) -> u32 {
-    if text.len() < 65536 {
-        return text.len() as u32;
-    }
-    65536
+    usize::min(text.len(), 65536) as u32
 }
 
 // Tests one sort.
@@ -368,10 +408,10 @@ fn test_premise(
     requires { i < length rules.old }
 {
     let row = rules[i];
-    if row[4] == 0 {
+    if row[PREMISES] == 0 {
         return;
     }
-    let end = past_premises(row[6], row[7]);
+    let end = past_premises(row[FIRST_WORD], row[PREMISE_WORDS]);
     let taken = is_taken_with_rule(
         text,
         sorts,
@@ -429,14 +469,8 @@ fn test_sorts(
     words: &[u32],
     counts: Counts,
 ) {
-    let count = counts.sorts as usize;
-    let mut i = 0;
-    while i < sorts.len() {
-        if count <= i {
-            return;
-        }
+    for i in 0..usize::min(counts.sorts as usize, sorts.len()) {
         test_sort(text, sorts, symbols, rules, words, counts, i);
-        i += 1;
     }
 }
 
@@ -449,16 +483,10 @@ fn test_symbols(
     words: &[u32],
     counts: Counts,
 ) {
-    let count = counts.symbols as usize;
-    let mut i = 0;
-    while i < symbols.len() {
-        if count <= i {
-            return;
-        }
+    for i in 0..usize::min(counts.symbols as usize, symbols.len()) {
         test_symbol(text, sorts, symbols, rules, words, counts, i);
         test_symbol_name(text, sorts, symbols, rules, words, counts, i);
         test_first_clause(text, sorts, symbols, rules, words, counts, i);
-        i += 1;
     }
 }
 
@@ -471,14 +499,8 @@ fn test_rules(
     words: &[u32],
     counts: Counts,
 ) {
-    let count = counts.rules as usize;
-    let mut i = 0;
-    while i < rules.len() {
-        if count <= i {
-            return;
-        }
+    for i in 0..usize::min(counts.rules as usize, rules.len()) {
         test_rule(text, sorts, symbols, rules, words, counts, i);
-        i += 1;
     }
 }
 
@@ -491,14 +513,8 @@ fn test_words(
     words: &mut [u32],
     counts: Counts,
 ) {
-    let count = counts.words as usize;
-    let mut i = 0;
-    while i < words.len() {
-        if count <= i {
-            return;
-        }
+    for i in 0..usize::min(counts.words as usize, words.len()) {
         test_word(text, sorts, symbols, rules, words, counts, i);
-        i += 1;
     }
 }
 
