@@ -91,12 +91,7 @@ pub fn list_calls(
     stack: &mut [OpenRow],
     out: &mut [u8],
 ) {
-    let mut i = 0;
-    while i < trees.len() {
-        if count <= i {
-            return;
-        }
-        list_call(text, symbols, rules, words, trees[i], stack, out);
-        i += 1;
+    for row in trees.iter().take(count) {
+        list_call(text, symbols, rules, words, *row, stack, out);
     }
 }

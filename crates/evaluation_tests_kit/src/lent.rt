@@ -4,10 +4,9 @@ ghost use Rattle.signature_tests.specs.Rows.{are_all, is_all, junk, Filled};
 
 use evaluator::Evaluation;
 use function_calls::TreeRow;
-use names::{SortRow, SymbolRow};
 use patterns::TermRow;
-use rules::RuleRow;
-use signature::Counts;
+use refusals::Refusal;
+use signature::StoredSignature;
 use signature_tests::buffers;
 use words::Limits;
 
@@ -15,11 +14,7 @@ use words::Limits;
 fn fill_trees(trees: &mut [TreeRow], value: u32)
     ensures { trees.new ≡ replicate (length trees.old) (replicate 8 value) }
 {
-    let mut i = 0;
-    while i < trees.len() {
-        trees[i] = [value; 8];
-        i += 1;
-    }
+    trees.fill([value; 8]);
 }
 
 // Fills the buffers with junk.
@@ -36,21 +31,15 @@ fn fill(words: &mut [u32], links: &mut [u32], trees: &mut [TreeRow])
 pub fn evaluate(
     text: &[u8],
     limits: Limits,
-    sorts: &[SortRow],
-    symbols: &[SymbolRow],
-    rules: &[RuleRow],
-    pattern: &[u32],
-    counts: Counts,
+    signature: StoredSignature,
     rows: &[TermRow],
     at: usize,
     words: &mut [u32],
     links: &mut [u32],
     trees: &mut [TreeRow],
-) -> Evaluation {
+) -> Result<Evaluation, Refusal> {
     fill(words, links, trees);
-    evaluator::evaluate(
-        text, limits, sorts, symbols, rules, pattern, counts, rows, at, words, links, trees,
-    )
+    evaluator::evaluate(text, limits, signature, rows, at, words, links, trees)
 }
 
 fn is_tree(row: TreeRow, value: u32) -> bool
@@ -66,12 +55,10 @@ fn are_trees(trees: &[TreeRow], from: usize, value: u32) -> bool
     if trees.len() < from {
         return false;
     }
-    let mut i = from;
-    while i < trees.len() {
+    for i in from..trees.len() {
         if !is_tree(trees[i], value) {
             return false;
         }
-        i += 1;
     }
     true
 }

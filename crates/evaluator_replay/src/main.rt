@@ -6,14 +6,15 @@
 ghost use Rattle.std.specs.Prelude.{◌+◌, ◌^◌, ◌≤◌, ◌<◌};
 
 use evaluation_tests_kit::{lent, refused};
-use evaluator::{Evaluation, Forward};
+use evaluator::Evaluation;
 use function_calls::TreeRow;
 use listing::recorded;
 use load::{EvalRow, Loading};
 use names::{SortRow, SymbolRow};
 use patterns::TermRow;
+use refusals::Refusal;
 use rules::RuleRow;
-use signature::Counts;
+use signature::StoredSignature;
 use signature_tests::buffers;
 use words::Limits;
 
@@ -37,20 +38,20 @@ fn write_number(number: u32) {
 // Lists a value and its calls.
 fn list_value(
     text: &[u8],
-    symbols: &[SymbolRow],
-    rules: &[RuleRow],
+    signature: StoredSignature,
     words: &[u32],
     value: u32,
     trees: &[TreeRow],
     calls: u32,
 ) {
+    let symbols = signature.symbols;
     let mut stack = [[0u32; 2]; 1024];
     let mut out = [0u8; 16384];
     evaluation_listing_kit::list_value(text, symbols, words, value, &mut stack, &mut out);
     evaluation_listing_kit::list_calls(
         text,
         symbols,
-        rules,
+        signature.rules,
         words,
         trees,
         calls as usize,
@@ -62,28 +63,32 @@ fn list_value(
 // Lists an answer, and tests the buffers: zero past what is used, zero throughout after a refusal, and after refusal 1 as they were.
 fn list_evaluation(
     text: &[u8],
-    symbols: &[SymbolRow],
-    rules: &[RuleRow],
-    answer: Evaluation,
+    signature: StoredSignature,
+    answer: Result<Evaluation, Refusal>,
     words: &[u32],
     links: &[u32],
     trees: &[TreeRow],
 ) {
     match answer {
-        Evaluation::Refused { number } => {
+        Err(refusal) => {
+            let number = u32::from(refusal);
             write(b"refused ");
             write_number(number);
             write(b"\n");
             let value = if number == 1 { buffers::JUNK } else { 0 };
             lent::test(words, 0, links, trees, 0, value);
         }
-        Evaluation::Value {
-            value,
-            calls,
-            words: used,
-        } => {
-            list_value(text, symbols, rules, words, value, trees, calls);
-            lent::test(words, used as usize, links, trees, calls as usize, 0);
+        Ok(evaluation) => {
+            let calls = evaluation.calls;
+            list_value(text, signature, words, evaluation.value, trees, calls);
+            lent::test(
+                words,
+                evaluation.words as usize,
+                links,
+                trees,
+                calls as usize,
+                0,
+            );
         }
     }
 }
@@ -92,21 +97,15 @@ fn list_evaluation(
 fn list_call(
     text: &[u8],
     limits: Limits,
-    sorts: &[SortRow],
-    symbols: &[SymbolRow],
-    rules: &[RuleRow],
-    pattern: &[u32],
-    counts: Counts,
+    signature: StoredSignature,
     rows: &[TermRow],
     at: usize,
     words: &mut [u32],
     links: &mut [u32],
     trees: &mut [TreeRow],
 ) {
-    let answer = lent::evaluate(
-        text, limits, sorts, symbols, rules, pattern, counts, rows, at, words, links, trees,
-    );
-    list_evaluation(text, symbols, rules, answer, words, links, trees);
+    let answer = lent::evaluate(text, limits, signature, rows, at, words, links, trees);
+    list_evaluation(text, signature, answer, words, links, trees);
 }
 
 // The row of an `#eval`'s term.
@@ -122,23 +121,14 @@ fn write_eval(eval: EvalRow) {
 }
 
 // Is a term evaluated? A goal is listed as such.
-fn is_call(
-    text: &[u8],
-    sorts: &[SortRow],
-    symbols: &[SymbolRow],
-    rules: &[RuleRow],
-    pattern: &[u32],
-    counts: Counts,
-    rows: &[TermRow],
-    at: usize,
-) -> bool {
-    match evaluator::is_forward_call(text, sorts, symbols, rules, pattern, counts, rows, at) {
-        Forward::Call => true,
-        Forward::Goal => {
+fn is_call(text: &[u8], signature: StoredSignature, rows: &[TermRow], at: usize) -> bool {
+    match evaluator::is_forward_call(text, signature, rows, at) {
+        Ok(true) => true,
+        Ok(false) => {
             write(b"goal\n");
             false
         }
-        Forward::Refused { number: _ } => {
+        Err(_) => {
             write(b"wrong: no term\n");
             false
         }
@@ -149,11 +139,7 @@ fn is_call(
 fn list_eval(
     text: &[u8],
     limits: Limits,
-    sorts: &[SortRow],
-    symbols: &[SymbolRow],
-    rules: &[RuleRow],
-    pattern: &[u32],
-    counts: Counts,
+    signature: StoredSignature,
     rows: &[TermRow],
     eval: EvalRow,
     words: &mut [u32],
@@ -162,23 +148,17 @@ fn list_eval(
 ) {
     write_eval(eval);
     let at = term_row(eval);
-    if !is_call(text, sorts, symbols, rules, pattern, counts, rows, at) {
+    if !is_call(text, signature, rows, at) {
         return;
     }
-    list_call(
-        text, limits, sorts, symbols, rules, pattern, counts, rows, at, words, links, trees,
-    );
+    list_call(text, limits, signature, rows, at, words, links, trees);
 }
 
 // Lists each of the n `#eval`.
 fn list_evals(
     text: &[u8],
     limits: Limits,
-    sorts: &[SortRow],
-    symbols: &[SymbolRow],
-    rules: &[RuleRow],
-    pattern: &[u32],
-    counts: Counts,
+    signature: StoredSignature,
     rows: &[TermRow],
     evals: &[EvalRow],
     n: usize,
@@ -186,16 +166,8 @@ fn list_evals(
     links: &mut [u32],
     trees: &mut [TreeRow],
 ) {
-    let mut i = 0;
-    while i < evals.len() {
-        if n <= i {
-            return;
-        }
-        list_eval(
-            text, limits, sorts, symbols, rules, pattern, counts, rows, evals[i], words, links,
-            trees,
-        );
-        i += 1;
+    for eval in evals.iter().take(n) {
+        list_eval(text, limits, signature, rows, *eval, words, links, trees);
     }
 }
 
@@ -211,35 +183,23 @@ fn first_row(evals: &[EvalRow]) -> usize {
 fn test_refused(
     text: &[u8],
     limits: Limits,
-    sorts: &[SortRow],
-    symbols: &[SymbolRow],
-    rules: &[RuleRow],
-    pattern: &[u32],
-    counts: Counts,
+    signature: StoredSignature,
     rows: &[TermRow],
     at: usize,
     words: &mut [u32],
     links: &mut [u32],
     trees: &mut [TreeRow],
 ) {
-    refused::test_unlisted_forward(text, sorts, symbols, rules, pattern, counts, rows, at);
-    refused::test_short(
-        text, limits, sorts, symbols, rules, pattern, counts, rows, at, words, links, trees,
-    );
-    refused::test_unlisted(
-        text, limits, sorts, symbols, rules, pattern, counts, rows, at, words, links, trees,
-    );
+    refused::test_unlisted_forward(text, signature, rows, at);
+    refused::test_short(text, limits, signature, rows, at, words, links, trees);
+    refused::test_unlisted(text, limits, signature, rows, at, words, links, trees);
 }
 
 // Lists the `#eval` of a loaded text, with so much lent for the results as the limits ask.
 fn list_lent(
     text: &[u8],
     limits: Limits,
-    sorts: &[SortRow],
-    symbols: &[SymbolRow],
-    rules: &[RuleRow],
-    pattern: &[u32],
-    counts: Counts,
+    signature: StoredSignature,
     rows: &[TermRow],
     evals: &[EvalRow],
     n: usize,
@@ -247,17 +207,11 @@ fn list_lent(
     links: &mut [u32],
     trees: &mut [TreeRow],
 ) {
-    list_evals(
-        text, limits, sorts, symbols, rules, pattern, counts, rows, evals, n, words, links, trees,
-    );
+    list_evals(text, limits, signature, rows, evals, n, words, links, trees);
     test_refused(
         text,
         limits,
-        sorts,
-        symbols,
-        rules,
-        pattern,
-        counts,
+        signature,
         rows,
         first_row(evals),
         words,
@@ -270,32 +224,21 @@ fn list_lent(
 fn most_words(limits: Limits) -> usize
     ensures { result ≤ 65536 }
 {
-    if limits.words < WORDS {
-        return limits.words as usize;
-    }
-    WORDS as usize
+    u32::min(limits.words, WORDS) as usize
 }
 
 // For how many rows of trees there is room under so many words: one for two words, and 128 more, but no more than there are calls.
 fn most_rows(words: usize) -> usize
     ensures { result ≤ 10000 }
 {
-    let rows = words / 2 + 128;
-    if rows < 10000 {
-        return rows;
-    }
-    10000
+    usize::min(words / 2 + 128, 10000)
 }
 
 // Lends the buffers for the results.
 fn list_loaded(
     text: &[u8],
     limits: Limits,
-    sorts: &[SortRow],
-    symbols: &[SymbolRow],
-    rules: &[RuleRow],
-    pattern: &[u32],
-    counts: Counts,
+    signature: StoredSignature,
     rows: &[TermRow],
     evals: &[EvalRow],
     n: usize,
@@ -309,11 +252,7 @@ fn list_loaded(
     list_lent(
         text,
         limits,
-        sorts,
-        symbols,
-        rules,
-        pattern,
-        counts,
+        signature,
         rows,
         evals,
         n,
@@ -341,9 +280,16 @@ fn list_answer(
             declarations: _,
             evals: n,
             counts,
-        } => list_loaded(
-            text, limits, sorts, symbols, rules, pattern, counts, rows, evals, n as usize,
-        ),
+        } => {
+            let signature = StoredSignature {
+                sorts,
+                symbols,
+                rules,
+                words: pattern,
+                counts,
+            };
+            list_loaded(text, limits, signature, rows, evals, n as usize);
+        }
     }
 }
 
@@ -376,7 +322,7 @@ fn list_text(text: &[u8], limits: Limits) {
 
 // Limits on a text's bytes, on nodes and on words; the others matter only to the search.
 fn limits_of(text: u32, nodes: usize, words: u32) -> Limits {
-    let nodes = if nodes < 65536 { nodes as u32 } else { 65536 };
+    let nodes = usize::min(nodes, 65536) as u32;
     Limits {
         text: text,
         nodes: nodes,

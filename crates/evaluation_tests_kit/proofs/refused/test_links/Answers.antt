@@ -1,8 +1,0 @@
--- `test_links` is safe: the part that is lent has all but one.
-use Rattle.std.proofs.Common.{◌-◌, length, sym, arith, length-take-le}
-use Rattle.evaluation_tests_kit.proofs.refused.test_links.Goals as goal
-
-pub slice_bounds-test_evaluation-end-2 : goal.slice_bounds-test_evaluation-end-2
-slice_bounds-test_evaluation-end-2 c =
-    let links = c.args.links.now in
-    sym (length-take-le (length links - 1) links (omega arith))
