@@ -2,5 +2,6 @@
 pub mod PartLaws
 pub mod TacticLaws
 pub mod DeclarationLaws
+pub mod SortLaws
 pub mod TheoremLaws
 pub mod StorageLaws
