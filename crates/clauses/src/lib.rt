@@ -82,8 +82,9 @@ pub fn clause(
         end: 0,
         number: 0,
     };
-    let flat = flattening::flatten(text, rows, symbols, count, out, calls, from)
-        .ok_or(Refusal::Full)?;
+    let flat = flattening::flatten(text, rows, symbols, count, out, calls, from).ok_or(
+        Refusal::Full,
+    )?;
     let left = rules::rule(
         text,
         calls,

@@ -22,7 +22,7 @@ use Rattle.loader.proofs.SymbolLaws.{arrow_count}
 use Rattle.declarations.specs.Held.{NamesHeld, Held}
 use Rattle.declarations.specs.Steps.{name_at, place_at, NameInside, GoesTo, symbol_progress, SymbolDeclared, Ready, Advanced, def_of, Stepped}
 use Rattle.declarations.specs.declared.State.{State}
-use Rattle.std.specs.Prelude.{Result, Ok, Err}
+use Rattle.std.specs.Prelude.{Result}
 use Rattle.refusals.specs.declared.Refusal.{Refusal}
 use Rattle.patterns.specs.Refused.{Refuses}
 use Rattle.declarations.specs.declared.Progress.{Progress}

@@ -1,5 +1,5 @@
 -- Laws of sorts and symbols entered one behind the other: what storage holds then.
-use Prim.Native.Nat.{ℕ, zero, suc, ◌+◌, ◌-◌, ◌≤◌, ◌<◌}
+use Prim.Native.Nat.{ℕ, zero, suc, ◌+◌, ◌≤◌, ◌<◌}
 use native.Mathlib.Omega.{arith}
 use mathlib.Core.Path.{◌≡◌, refl, sym, ap, ap₂, ◌∙◌}
 use mathlib.Core.Bool.{Bool, true, false, cond}
@@ -7,7 +7,7 @@ use mathlib.Core.List.{List, [], ◌∷◌, ◌++◌}
 use lib.Dec.{ltb}
 use lib.ListN.{length, set, length-set}
 use lib.Seq.{get_or-set_same, get_or-set_other}
-use borrow.Author.Tests.{ltb-true, ne_eqb}
+use borrow.Author.Tests.{ltb-true}
 use Rattle.terms.specs.Numbers.{by_same}
 use Rattle.source_text.specs.Parts.{part_of}
 use Rattle.term_parser.specs.Source.{place}
@@ -32,7 +32,7 @@ use Rattle.patterns.proofs.Terms.{symbols_length}
 use Rattle.declarations.specs.Held.{NamesHeld, RulesHeld, Held}
 use Rattle.declarations.specs.Steps.{GoesTo, sort_progress, Stepped}
 use Rattle.declarations.specs.declared.State.{State}
-use Rattle.std.specs.Prelude.{Result, Ok, Err}
+use Rattle.std.specs.Prelude.{Result}
 use Rattle.refusals.specs.declared.Refusal.{Refusal}
 use Rattle.declarations.specs.declared.Progress.{Progress}
 use Rattle.declarations.proofs.ProgressLaws.{goes_on, goes_not}

@@ -1,5 +1,5 @@
 -- Laws of what is told of a sort or a symbol: it is refused, or it is one more.
-use Prim.Native.Nat.{ℕ, suc, ◌<◌}
+use Prim.Native.Nat.{ℕ, ◌<◌}
 use native.Mathlib.Omega.{arith}
 use mathlib.Core.Path.{◌≡◌, ap}
 use Rattle.std.specs.Prelude.{Result, Ok, Err}

@@ -11,27 +11,27 @@ use Rattle.names.specs.Names.{Name}
 use Rattle.names.specs.Symbols.{Rows, row_at, sort_of}
 use Rattle.distinct.specs.Order.{is_before, Ordered}
 use Rattle.distinct.specs.Sorting.{name_at, once, tally, Ascending, Next, Sorted}
-use Rattle.distinct.specs.declared.Order.{Order}
-use Rattle.distinct.specs.declared.Order.TheVariants.{Before, Same, After}
+use Rattle.std.specs.declared.cmp.Ordering.{Ordering}
+use Rattle.std.specs.declared.cmp.Ordering.TheVariants.{Less, Equal, Greater}
 use Rattle.distinct.proofs.TallyLaws.{tally_next, tally_same, two_places}
 
 -- The next name: one run is at its end, or the names of both are compared.
 module _ {f : ℕ → Name} {i middle j to : ℕ} where
-  pub next_second : middle ≤ i → j < to → Next f i middle j to After
+  pub next_second : middle ≤ i → j < to → Next f i middle j to Greater
   next_second a b = record {
     first = λ e. absurd (let z : ◌≡◌ {A = ℕ} 0 1 = cc in omega arith);
     second = λ _. (b, λ c. absurd (omega arith));
     both = λ e. absurd (let z : ◌≡◌ {A = ℕ} 0 1 = cc in omega arith);
   }
 
-  pub next_first : i < middle → to ≤ j → Next f i middle j to Before
+  pub next_first : i < middle → to ≤ j → Next f i middle j to Less
   next_first a b = record {
     first = λ _. (a, λ c. absurd (omega arith));
     second = λ e. absurd (let z : ◌≡◌ {A = ℕ} 0 1 = cc in omega arith);
     both = λ e. absurd (let z : ◌≡◌ {A = ℕ} 0 1 = cc in omega arith);
   }
 
-  pub next_compared : {r : Order} {v w : Name} → i < middle → j < to → v ≡ f i → w ≡ f j → Ordered r v w → Next f i middle j to r
+  pub next_compared : {r : Ordering} {v w : Name} → i < middle → j < to → v ≡ f i → w ≡ f j → Ordered r v w → Next f i middle j to r
   next_compared a b p q o = record {
     first = λ e. (a, λ _. rw (p, q) at (o.before e));
     second = λ e. (b, λ _. rw (p, q) at (o.after e));
@@ -125,21 +125,21 @@ merge_start f g from middle to a b = record {
 -- The loop over rows.
 module _ (text : List ℕ) (spare before places : Rows) {from middle to i j k : ℕ}
     (h : Merging (name_at text spare) (name_at text before) (name_at text places) from to from i middle middle j to k) where
-  pub merge_first : Ascending (name_at text spare) from middle → {r : Order} → Next (name_at text spare) i middle j to r → r ≡ Before → k < to → k < length places
+  pub merge_first : Ascending (name_at text spare) from middle → {r : Ordering} → Next (name_at text spare) i middle j to r → r ≡ Less → k < to → k < length places
       → Merging (name_at text spare) (name_at text before) (name_at text (set places k (row_at spare i))) from to from (i + 1) middle middle j to (k + 1)
   unfolding name_at
   merge_first up n e m c =
       written (name_at text (set places k (row_at spare i))) h up (n.first e).0 m (n.first e).1
       (ap (sort_of text) (get_or-set_same places k (row_at spare i) _ c)) (λ x d. ap (sort_of text) (get_or-set_other places k x (row_at spare i) _ d))
 
-  pub merge_second : Ascending (name_at text spare) middle to → {r : Order} → Next (name_at text spare) i middle j to r → r ≡ After → k < to → k < length places
+  pub merge_second : Ascending (name_at text spare) middle to → {r : Ordering} → Next (name_at text spare) i middle j to r → r ≡ Greater → k < to → k < length places
       → Merging (name_at text spare) (name_at text before) (name_at text (set places k (row_at spare j))) from to from i middle middle (j + 1) to (k + 1)
   unfolding name_at
   merge_second up n e m c =
       swapped (written (name_at text (set places k (row_at spare j))) (swapped h) up (n.second e).0 m (n.second e).1
       (ap (sort_of text) (get_or-set_same places k (row_at spare j) _ c)) (λ x d. ap (sort_of text) (get_or-set_other places k x (row_at spare j) _ d)))
 
-  pub merge_both : {r : Order} → Next (name_at text spare) i middle j to r → r ≡ Same → Sorted (name_at text spare) (name_at text before) (name_at text places) from to false
+  pub merge_both : {r : Ordering} → Next (name_at text spare) i middle j to r → r ≡ Equal → Sorted (name_at text spare) (name_at text before) (name_at text places) from to false
   merge_both n e =
       let (a, b, q) = n.both e in
       let c = h.start in

@@ -1,4 +1,4 @@
--- Laws of the order of names: no name stands before itself, and the order is transitive; and of comparing two names from a place on.
+-- Laws of the order of names: no name stands before itself, and the order is transitive; and of comparing two names.
 use Prim.Native.Nat.{ℕ, ◌+◌, ◌≤◌, ◌<◌}
 use native.Mathlib.Numerals.{add-one}
 use native.Mathlib.Omega.{arith}
@@ -7,12 +7,14 @@ use mathlib.Core.Bool.{true, false}
 use mathlib.Core.List.{[], ◌∷◌}
 use lib.ListN.{length, get_or, drop, drop_of_length-le}
 use lib.Seq.{drop-cons}
-use borrow.Author.Tests.{lt-ltb, le-ltb}
+use borrow.Author.Tests.{lt-ltb, le-ltb, eq-eqb, ne_eqb}
 use Rattle.terms.specs.Numbers.{by_less, true_false}
 use Rattle.names.specs.Names.{Name}
 use Rattle.distinct.specs.Order.{is_before, Ordered}
-use Rattle.distinct.specs.declared.Order.{Order}
-use Rattle.distinct.specs.declared.Order.TheVariants.{Before, Same, After}
+use Rattle.std.specs.declared.cmp.Ordering.{Ordering}
+use Rattle.std.specs.declared.cmp.Ordering.TheVariants.{Less, Equal, Greater}
+use Rattle.std.specs.Ordering.{nat_cmp}
+use Rattle.std.specs.Cmp.Lexicographic.{slice_cmp}
 
 -- The first bytes differ, or are the same.
 before_less : (x y : ℕ) (a b : Name) → x < y → is_before (x ∷ a) (y ∷ b) ≡ true
@@ -51,45 +53,43 @@ before_trans (x ∷ a) (y ∷ b) (z ∷ c) p q =
 
 -- The three answers.
 module _ {a b : Name} where
-  pub is_before_lem : is_before a b ≡ true → Ordered Before a b
+  pub is_before_lem : is_before a b ≡ true → Ordered Less a b
   is_before_lem h = record {
     before = λ _. h;
     same = λ e. absurd (let z : ◌≡◌ {A = ℕ} 0 1 = cc in omega arith);
     after = λ e. absurd (let z : ◌≡◌ {A = ℕ} 0 1 = cc in omega arith);
   }
 
-  pub is_same : a ≡ b → Ordered Same a b
+  pub is_same : a ≡ b → Ordered Equal a b
   is_same h = record {
     before = λ e. absurd (let z : ◌≡◌ {A = ℕ} 0 1 = cc in omega arith);
     same = λ _. h;
     after = λ e. absurd (let z : ◌≡◌ {A = ℕ} 0 1 = cc in omega arith);
   }
 
-  pub is_after : is_before b a ≡ true → Ordered After a b
+  pub is_after : is_before b a ≡ true → Ordered Greater a b
   is_after h = record {
     before = λ e. absurd (let z : ◌≡◌ {A = ℕ} 0 1 = cc in omega arith);
     same = λ e. absurd (let z : ◌≡◌ {A = ℕ} 0 1 = cc in omega arith);
     after = λ _. h;
   }
 
-ordered_cons : {r : Order} (x y : ℕ) (a b : Name) → x ≡ y → Ordered r a b → Ordered r (x ∷ a) (y ∷ b)
+ordered_cons : {r : Ordering} (x y : ℕ) (a b : Name) → x ≡ y → Ordered r a b → Ordered r (x ∷ a) (y ∷ b)
 ordered_cons x y a b q h = record {
   before = λ e. before_same x y a b q ∙ h.before e;
   same = λ e. let t = h.same e in cc;
   after = λ e. before_same y x b a (sym q) ∙ h.after e;
 }
 
--- Two names are compared up to byte i.
-module _ (v w : Name) (i : ℕ) where
-  pub bytes_same : {r : Order} → i < length v → i < length w → get_or v i 0 ≡ get_or w i 0 → Ordered r (drop (i + 1) v) (drop (i + 1) w) → Ordered r (drop i v) (drop i w)
-  bytes_same l m q h = rw (drop-cons v i 0 l, drop-cons w i 0 m) (ordered_cons _ _ _ _ q (rw (add-one i) at h))
-
-  pub bytes_less : i < length v → i < length w → get_or v i 0 < get_or w i 0 → is_before (drop i v) (drop i w) ≡ true
-  bytes_less l m q = rw (drop-cons v i 0 l, drop-cons w i 0 m) (before_less _ _ _ _ q)
-
-  pub bytes_end : length v ≤ i → i < length w → is_before (drop i v) (drop i w) ≡ true
-  unfolding is_before
-  bytes_end l m = rw (drop_of_length-le v l, drop-cons w i 0 m)
-
-  pub bytes_all : length v ≤ i → length w ≤ i → drop i v ≡ drop i w
-  bytes_all l m = drop_of_length-le v l ∙ sym (drop_of_length-le w m)
+-- How two names stand to each other, as std compares them.
+pub compared : (a b : Name) → Ordered (slice_cmp nat_cmp a b) a b
+unfolding is_before
+compared [] [] = is_same refl
+compared [] (y ∷ b) = is_before_lem refl
+compared (x ∷ a) [] = is_after refl
+compared (x ∷ a) (y ∷ b) =
+    by_less x y
+    (λ l _. rw (lt-ltb x y l) (is_before_lem (before_less x y a b l)))
+    (λ m _. by_less y x
+    (λ l _. rw (le-ltb x y m, ne_eqb x y (λ e. omega arith)) (is_after (before_less y x b a l)))
+    (λ l _. let q : x ≡ y = omega arith in rw (le-ltb x y m, eq-eqb x y q) (ordered_cons x y a b q (compared a b))))

@@ -2,8 +2,8 @@
 -- would serve; what is decided in the end does not speak of it.
 use Rattle.std.specs.Prelude.{◌≡◌, Bool, true, false, cond, [], ◌∷◌, ltb}
 use Rattle.names.specs.Names.{Name}
-use Rattle.distinct.specs.declared.Order.{Order}
-use Rattle.distinct.specs.declared.Order.TheVariants.{Before, Same, After}
+use Rattle.std.specs.declared.cmp.Ordering.{Ordering}
+use Rattle.std.specs.declared.cmp.Ordering.TheVariants.{Less, Equal, Greater}
 
 -- a stands before b: by the first byte in which they differ, or because it ends first.
 unfoldable pub is_before : Name → Name → Bool
@@ -13,7 +13,7 @@ is_before (x ∷ a) [] = false
 is_before (x ∷ a) (y ∷ b) = cond (ltb x y) true (cond (ltb y x) false (is_before a b))
 
 -- How a stands to b.
-pub record Ordered (r : Order) (a b : Name) : Type 0 where
-  pub before : r ≡ Before → is_before a b ≡ true
-  pub same : r ≡ Same → a ≡ b
-  pub after : r ≡ After → is_before b a ≡ true
+pub record Ordered (r : Ordering) (a b : Name) : Type 0 where
+  pub before : r ≡ Less → is_before a b ≡ true
+  pub same : r ≡ Equal → a ≡ b
+  pub after : r ≡ Greater → is_before b a ≡ true

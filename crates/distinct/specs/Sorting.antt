@@ -4,8 +4,8 @@ use Rattle.source_text.specs.Bytes.{same_bytes}
 use Rattle.names.specs.Names.{Name}
 use Rattle.names.specs.Symbols.{Rows, row_at, sort_of}
 use Rattle.distinct.specs.Order.{is_before}
-use Rattle.distinct.specs.declared.Order.{Order}
-use Rattle.distinct.specs.declared.Order.TheVariants.{Before, Same, After}
+use Rattle.std.specs.declared.cmp.Ordering.{Ordering}
+use Rattle.std.specs.declared.cmp.Ordering.TheVariants.{Less, Equal, Greater}
 
 -- The name of row i.
 unfoldable pub name_at : List ℕ → Rows → ℕ → Name
@@ -33,10 +33,10 @@ abbrev pub Repeated : (ℕ → Name) → ℕ → ℕ → Type 0
 Repeated f from to = (w : Name) × (2 + tally f w from ≤ tally f w to)
 
 -- Of two runs whose next names are at i and j, which end before `middle` and `to`: the first has the next name, or the second, or both have it.
-pub record Next (f : ℕ → Name) (i middle j to : ℕ) (r : Order) : Type 0 where
-  pub first : r ≡ Before → (i < middle) × (j < to → is_before (f i) (f j) ≡ true)
-  pub second : r ≡ After → (j < to) × (i < middle → is_before (f j) (f i) ≡ true)
-  pub both : r ≡ Same → (i < middle) × (j < to) × (f i ≡ f j)
+pub record Next (f : ℕ → Name) (i middle j to : ℕ) (r : Ordering) : Type 0 where
+  pub first : r ≡ Less → (i < middle) × (j < to → is_before (f i) (f j) ≡ true)
+  pub second : r ≡ Greater → (j < to) × (i < middle → is_before (f j) (f i) ≡ true)
+  pub both : r ≡ Equal → (i < middle) × (j < to) × (f i ≡ f j)
 
 -- The names of f from `from` on and before `to` ascend in g' there, or one of them stands twice; elsewhere g' is g.
 pub record Sorted (f g g' : ℕ → Name) (from to : ℕ) (answer : Bool) : Type 0 where

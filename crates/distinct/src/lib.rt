@@ -7,58 +7,24 @@ ghost use Rattle.std.specs.Prelude.{◌≡◌, ℕ, ◌+◌, ◌≤◌, ◌<◌,
 ghost use Rattle.unifier.specs.Promises.{Tells};
 ghost use Rattle.names.specs.Names.{Distinct};
 ghost use Rattle.names.specs.Symbols.{row_at, sorts_of};
-ghost use Rattle.distinct.specs.Order.{Ordered};
 ghost use Rattle.distinct.specs.Sorting.{name_at, Ascending, Next, Sorted};
 
 use names::SortRow;
+use std::cmp::Ordering;
 
-// How two names stand to each other.
-#[derive(Clone, Copy)]
-enum Order {
-    Before,
-    Same,
-    After,
-}
-
-// Which of two names stands before the other: by the first byte in which they differ, or because it ends first.
-fn compare(v: &[u8], w: &[u8]) -> Order
-    ensures { Ordered result v.now w.now }
-{
-    let mut i = 0;
-    while i < v.len() {
-        if w.len() <= i {
-            return Order::After;
-        }
-        if v[i] < w[i] {
-            return Order::Before;
-        }
-        if w[i] < v[i] {
-            return Order::After;
-        }
-        i += 1;
-    }
-    if i < w.len() {
-        return Order::Before;
-    }
-    Order::Same
-}
-
-// Which of two runs has the next name: the first, left from i on and before `middle` (`Before`), the second, left from j on and before `to` (`After`),
-// or both (`Same`)?
-fn next_run(text: &[u8], rows: &[SortRow], i: usize, middle: usize, j: usize, to: usize) -> Order
+// Which of two runs has the next name: the first, left from i on and before `middle` (`Less`), the second, left from j on and before `to` (`Greater`),
+// or both (`Equal`)?
+fn next_run(text: &[u8], rows: &[SortRow], i: usize, middle: usize, j: usize, to: usize) -> Ordering
     requires { (i ≤ middle) × (j ≤ to) × (i + j < middle + to) × (middle ≤ length rows.now) × (to ≤ length rows.now) }
     ensures { Next (name_at text.now rows.now) i middle j to result }
 {
     if i == middle {
-        return Order::After;
+        return Ordering::Greater;
     }
     if j == to {
-        return Order::Before;
+        return Ordering::Less;
     }
-    compare(
-        names::part(text, rows[i][0], rows[i][1]),
-        names::part(text, rows[j][0], rows[j][1]),
-    )
+    names::part(text, rows[i][0], rows[i][1]).cmp(names::part(text, rows[j][0], rows[j][1]))
 }
 
 // Copies the rows from `from` on and before `to`.
@@ -66,11 +32,7 @@ fn copy(rows: &[SortRow], spare: &mut [SortRow], from: usize, to: usize)
     requires { (from ≤ to) × (to ≤ length rows.now) × (to ≤ length spare.old) }
     ensures { (i : ℕ) → from ≤ i → i < to → row_at spare.new i ≡ row_at rows.now i }
 {
-    let mut i = from;
-    while i < to {
-        spare[i] = rows[i];
-        i += 1;
-    }
+    spare[from..to].copy_from_slice(&rows[from..to]);
 }
 
 // Merges two ascending runs of `spare` into `places`: one before `middle`, one from there on. Where both have a name, the answer is no.
@@ -87,19 +49,16 @@ fn merge(
 {
     let mut i = from;
     let mut j = middle;
-    let mut k = from;
-    while k < to {
+    for k in from..to {
         match next_run(text, spare, i, middle, j, to) {
-            Order::Same => return false,
-            Order::Before => {
+            Ordering::Equal => return false,
+            Ordering::Less => {
                 places[k] = spare[i];
                 i += 1;
-                k += 1;
             }
-            Order::After => {
+            Ordering::Greater => {
                 places[k] = spare[j];
                 j += 1;
-                k += 1;
             }
         }
     }

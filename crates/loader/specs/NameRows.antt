@@ -1,5 +1,5 @@
 -- Laws of declaration rows: the names of an arrow stand in the parser's rows, wherever these are.
-use Rattle.std.specs.Prelude.{ℕ, suc, ◌+◌, ◌≡◌, refl, List, [], ◌∷◌, ◌++◌, map, length}
+use Rattle.std.specs.Prelude.{ℕ, suc, ◌≡◌, refl, List, [], ◌∷◌, ◌++◌, map, length}
 use Rattle.std.proofs.Common.{arith, ap, ap₂, append_assoc, length-append}
 use Rattle.std.proofs.Math.Seq.{get_or-append_seam}
 use Rattle.words.specs.Names.{name_kind}

@@ -193,8 +193,9 @@ pub fn enter_symbol(
     ensures { SymbolAnswered text.now rows.now (at + 1) k (column (row_at rows.now at) 1) (column (row_at rows.now at) 2) constructor function first clauses sorts.now many symbols.old count result symbols.new }
 {
     let mut inputs = [0u32; 16];
-    let last = find_arrow(text, rows, at + 1, k, sorts, many, &mut inputs)
-        .ok_or(Refusal::UnknownSort)?;
+    let last = find_arrow(text, rows, at + 1, k, sorts, many, &mut inputs).ok_or(
+        Refusal::UnknownSort,
+    )?;
     let [_, start, size, _] = rows[at];
     let n = input_count(constructor, k);
     check_symbol(text, sorts, many, symbols, count, start, size, n)?;

@@ -72,4 +72,3 @@ returns c =
           let d = clause_is (symbols_of (args.text.now) (args.symbols.now) (args.count)) (args.text.now) (args.title.start) (args.title.size) (args.title.clause) k ck ts t (args.space.room) P.is in
           (P.goes_on, rw d at (c.in_ok-left.ensures.same P.premises P.end P.stand P.numbered _ P.top P.stands));
     }
-

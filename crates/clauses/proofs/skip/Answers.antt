@@ -1,5 +1,4 @@
 -- `skip` meets its contract. The loop's invariant: so many terms are left from the row p on.
-use Prim.Native.Nat.{◌-◌}
 use Rattle.clauses.proofs.SkipLaws.{left_start, left_turn, left_end, left_past}
 use native.Mathlib.Omega.{arith}
 use Rattle.clauses.proofs.skip.Goals as goal

@@ -9,7 +9,6 @@ use Rattle.names.specs.Symbols.{Symbol}
 use Rattle.clauses.specs.Clauses.{clause_of}
 use Rattle.declarations.proofs.FilledLaws.{storage, told_by, advanced_by}
 use Rattle.declarations.proofs.ClauseLaws.{patterns_number, clause_asked}
-use borrow.Author.Rules.{rules}
 use native.Mathlib.Omega.{arith}
 use Rattle.declarations.proofs.declare_clause.Goals as goal
 

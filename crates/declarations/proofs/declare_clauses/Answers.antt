@@ -1,9 +1,7 @@
 -- `declare_clauses` meets its contract. The loop's invariant: the clauses before the number i are entered, and the others are left to enter from the row p on.
 use mathlib.Core.Path.{refl, ◌∙◌}
-use Prim.Native.Nat.{◌-◌}
 use Rattle.patterns.specs.Refused.{handed_on}
 use Rattle.declarations.proofs.ClauseLaws.{going_start, going_clause, going_refused, going_on, going_end}
-use borrow.Author.Rules.{rules}
 use native.Mathlib.Omega.{arith}
 use Rattle.declarations.proofs.declare_clauses.Goals as goal
 

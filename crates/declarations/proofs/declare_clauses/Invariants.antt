@@ -1,9 +1,7 @@
 -- `declare_clauses` meets its contract. The loop's invariant: the clauses before the number i are entered, and the others are left to enter from the row p on.
 use mathlib.Core.Path.{◌≡◌}
-use Prim.Native.Nat.{◌≤◌, ◌-◌}
 use lib.ListN.{length}
 use Rattle.declarations.proofs.ClauseLaws.{Everywhere}
-use borrow.Author.Rules.{rules}
 use Rattle.declarations.proofs.declare_clauses.Given as goal
 
 abbrev pub invariant-loop-i : goal.invariant-loop-i

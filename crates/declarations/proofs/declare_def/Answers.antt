@@ -4,7 +4,6 @@ use Prim.Native.Nat.{◌+◌, ◌<◌}
 use Rattle.names.specs.Symbols.{column, row_at}
 use Rattle.patterns.specs.Refused.{handed_on}
 use Rattle.declarations.proofs.DefLaws.{def_no, first_is, def_none, def_refused, def_entered, def_ready, def_stepped}
-use borrow.Author.Rules.{rules}
 use native.Mathlib.Omega.{arith}
 use Rattle.declarations.proofs.declare_def.Goals as goal
 

@@ -9,7 +9,6 @@ use Rattle.rules.specs.Rules.{rule_of}
 use Rattle.loader.specs.Signature.{front_of, last_judgment}
 use Rattle.declarations.specs.Steps.{name_at}
 use Rattle.declarations.proofs.FilledLaws.{storage, told_by, advanced_by}
-use borrow.Author.Rules.{rules}
 use native.Mathlib.Omega.{arith}
 use Rattle.declarations.proofs.declare_rule.Goals as goal
 

@@ -8,6 +8,3 @@ use Rattle.distinct.proofs.merge.Given as goal
 
 abbrev pub invariant-loop-k : goal.invariant-loop-k
 invariant-loop-k l = (length l.places ≡ length l.initial.places) × Merging (name_at l.text l.spare) (name_at l.text l.initial.places) (name_at l.text l.places) l.from l.to l.from l.i l.middle l.middle l.j l.to l.k
-
-abbrev pub decreases-loop-k : goal.decreases-loop-k
-decreases-loop-k l = l.to - l.k

@@ -1,6 +1,8 @@
 -- `next_run` meets its contract: a run at its end has no next name, and otherwise the two names are compared.
 use Rattle.distinct.specs.Sorting.{name_at}
 use Rattle.distinct.proofs.MergeLaws.{next_second, next_first, next_compared}
+use mathlib.Core.Path.{refl}
+use Rattle.distinct.proofs.OrderLaws.{compared}
 use native.Mathlib.Omega.{arith}
 use Rattle.distinct.proofs.next_run.Goals as goal
 
@@ -18,5 +20,5 @@ returns c =
     let if2 = c.if-j-to in
     let part = c.part in
     let part2 = c.part-2 in
-    let compare = c.compare in
-    next_compared (omega (arith, if1.false, pre)) (omega (arith, if2.false, pre)) part.ensures part2.ensures compare.ensures
+    let e = rw (part.ensures, part2.ensures) at c.cmp.ensures in
+    next_compared (omega (arith, if1.false, pre)) (omega (arith, if2.false, pre)) refl refl (rw e (compared _ _))

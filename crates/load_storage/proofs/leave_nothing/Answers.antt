@@ -3,7 +3,6 @@ use mathlib.Core.Path.{refl, ◌∙◌}
 use Rattle.words.specs.Lexer.{zero_row}
 use Rattle.load_storage.specs.Storage.{Buffers}
 use Rattle.load_storage.proofs.WipeLaws.{SameLengths, all_wiped, wipe}
-use borrow.Author.Rules.{rules}
 use Rattle.load_storage.proofs.leave_nothing.Goals as goal
 
 pub returns : goal.returns

@@ -48,4 +48,3 @@ returns c =
     record {
       same = λ j js q st kn. (rule_ends (args.text.now) (args.rows.now) (args.at) (args.k) j js q st kn (skip.result) (skip2.result) (skip.ensures) (skip2.ensures), (c.in_ok-left.ensures.same _ st.middle (parsed_stands (args.text.now) (args.rows.now) _ _ _ st.premises) (premises_number (args.text.now) (args.rows.now) (args.at) (args.k) j js q st kn) _ _ (parsed_stands (args.text.now) (args.rows.now) _ _ _ (conclusion_at (args.text.now) (args.rows.now) (args.at) (args.k) j js q st kn (skip.result) (skip.ensures)))));
     }
-

@@ -11,8 +11,11 @@ returns-then-is_taken c =
     let pre = c.requires in
     let is-taken = c.is_taken in
     let if1 = c.if-is_taken in record {
-      value = (sort_taken (args.text.now) (args.sorts.now) (args.many) (args.symbols.now) (args.count) (omega arith) (pre.2) (part_of (args.text.now) (args.start) (args.size)) (sym (is-taken.ensures)
-          ∙ if1.true), omega arith);
+      value = (
+        sort_taken (args.text.now) (args.sorts.now) (args.many) (args.symbols.now) (args.count) (omega arith) (pre.2) (part_of (args.text.now) (args.start) (args.size)) (sym (is-taken.ensures)
+            ∙ if1.true),
+        omega arith,
+      );
       sorts_after = rw (← sort_taken (args.text.now) (args.sorts.now) (args.many) (args.symbols.now) (args.count) (omega arith) (pre.2) (part_of (args.text.now) (args.start) (args.size)) (sym is-taken.ensures ∙ if1.true)) refl;
     }
 
@@ -35,7 +38,10 @@ returns c =
     let is-taken = c.is_taken in
     let if1 = c.if-is_taken in
     let if2 = c.if-many-lt-SORTS in record {
-      value = (sort_full (args.text.now) (args.sorts.now) (args.many) (args.symbols.now) (args.count) (omega arith) (pre.2) (part_of (args.text.now) (args.start) (args.size)) (sym (is-taken.ensures)
-          ∙ if1.false) if2.false, omega arith);
+      value = (
+        sort_full (args.text.now) (args.sorts.now) (args.many) (args.symbols.now) (args.count) (omega arith) (pre.2) (part_of (args.text.now) (args.start) (args.size)) (sym (is-taken.ensures)
+            ∙ if1.false) if2.false,
+        omega arith,
+      );
       sorts_after = rw (← sort_full (args.text.now) (args.sorts.now) (args.many) (args.symbols.now) (args.count) (omega arith) (pre.2) (part_of (args.text.now) (args.start) (args.size)) (sym is-taken.ensures ∙ if1.false) if2.false) refl;
     }

@@ -27,9 +27,13 @@ returns-in_err-check_symbol c =
     (record {
       number = _;
       answer = (refl, c.in_err-check_symbol.ensures.1);
-      comes_to = record { refusal = (c.in_err-check_symbol.ensures.0
-          ∙ ap (symbol_refusal (sorts_of (args.text.now) (args.sorts.now) (args.many)) (symbols_of (args.text.now) (args.symbols.now) (args.count)) _) (input-count.ensures ∙ sym n)
-          ∙ ap (arrow_refusal (sorts_of (args.text.now) (args.sorts.now) (args.many)) (symbols_of (args.text.now) (args.symbols.now) (args.count)) _ (args.constructor)) (sym look.is)); refused = λ z. refl; entered = λ z. absurd (let l = c.in_err-check_symbol.ensures.1 in omega arith) };
+      comes_to = record {
+        refusal = (c.in_err-check_symbol.ensures.0
+            ∙ ap (symbol_refusal (sorts_of (args.text.now) (args.sorts.now) (args.many)) (symbols_of (args.text.now) (args.symbols.now) (args.count)) _) (input-count.ensures ∙ sym n)
+            ∙ ap (arrow_refusal (sorts_of (args.text.now) (args.sorts.now) (args.many)) (symbols_of (args.text.now) (args.symbols.now) (args.count)) _ (args.constructor)) (sym look.is));
+        refused = λ z. refl;
+        entered = λ z. absurd (let l = c.in_err-check_symbol.ensures.1 in omega arith);
+      };
     })
 
 pub put_symbol-requires : goal.put_symbol-requires
@@ -80,8 +84,10 @@ returns c =
     record {
       number = 0;
       answer = refl;
-      comes_to = record { refusal = (c.in_ok-check_symbol.ensures ∙ ap (symbol_refusal (sorts_of (args.text.now) (args.sorts.now) (args.many)) (symbols_of (args.text.now) (args.symbols.now) (args.count)) _) (input-count.ensures ∙ sym n) ∙ ap (arrow_refusal (sorts_of (args.text.now) (args.sorts.now) (args.many)) (symbols_of (args.text.now) (args.symbols.now) (args.count)) _ (args.constructor)) (sym look.is));
-      refused = λ z. absurd (z refl);
-      entered = λ z ns e. let q : look.found ≡ ns = same_numbers (sym look.is ∙ e) in
-          rw (← q) (put ∙ ap (set (args.symbols.now) (args.count)) (row_is (column (row_at (args.rows.now) (args.at)) 1) (column (row_at (args.rows.now) (args.at)) 2) (args.function) (args.first) (args.clauses) (args.k) (args.constructor) look.found _ _ c₁ look.last_is few look.written)) };
+      comes_to = record {
+        refusal = (c.in_ok-check_symbol.ensures ∙ ap (symbol_refusal (sorts_of (args.text.now) (args.sorts.now) (args.many)) (symbols_of (args.text.now) (args.symbols.now) (args.count)) _) (input-count.ensures ∙ sym n) ∙ ap (arrow_refusal (sorts_of (args.text.now) (args.sorts.now) (args.many)) (symbols_of (args.text.now) (args.symbols.now) (args.count)) _ (args.constructor)) (sym look.is));
+        refused = λ z. absurd (z refl);
+        entered = λ z ns e. let q : look.found ≡ ns = same_numbers (sym look.is ∙ e) in
+            rw (← q) (put ∙ ap (set (args.symbols.now) (args.count)) (row_is (column (row_at (args.rows.now) (args.at)) 1) (column (row_at (args.rows.now) (args.at)) 2) (args.function) (args.first) (args.clauses) (args.k) (args.constructor) look.found _ _ c₁ look.last_is few look.written));
+      };
     }
