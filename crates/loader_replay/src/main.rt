@@ -10,7 +10,7 @@ use names::{SortRow, SymbolRow};
 use parser::Answer;
 use patterns::TermRow;
 use rules::RuleRow;
-use signature::Counts;
+use signature::{Counts, StoredSignature};
 use signature_tests::{buffers, damage};
 use words::Limits;
 
@@ -66,9 +66,14 @@ fn list_answer(
             evals: n,
             counts,
         } => {
-            signature_listing::list(
-                text, sorts, symbols, rules, words, counts, evals, n as usize,
-            );
+            let stored = StoredSignature {
+                sorts,
+                symbols,
+                rules,
+                words,
+                counts,
+            };
+            signature_listing::list(text, stored, evals, n as usize);
             buffers::expect(
                 declarations == parsed.declarations,
                 b"as many declarations as parsed",
@@ -76,7 +81,7 @@ fn list_answer(
             buffers::test_scratch(tokens, rows, parsed.rows, calls, evals, n as usize, 0);
             buffers::test_signature(sorts, symbols, rules, words, counts, 0);
             buffers::expect(
-                signature::check_signature(text, sorts, symbols, rules, words, counts),
+                signature::check_signature(text, stored),
                 b"loaded in the listed form",
             );
         }
@@ -188,10 +193,9 @@ fn list_text(
 
 // Limits on a text's bytes and on nodes; no other one matters before the search.
 fn limits_of(text: u32, nodes: usize) -> Limits {
-    let nodes = if nodes < 65536 { nodes as u32 } else { 65536 };
     Limits {
-        text: text,
-        nodes: nodes,
+        text,
+        nodes: usize::min(nodes, 65536) as u32,
         steps: 0,
         variables: 0,
         words: 0,

@@ -9,7 +9,7 @@ ghost use Rattle.signature_listing.specs.Nodes.{arity_at};
 use load_storage::EvalRow;
 use names::{SortRow, SymbolRow};
 use rules::RuleRow;
-use signature::Counts;
+use signature::StoredSignature;
 
 // Standard output.
 const STDOUT_FILENO: i32 = 1;
@@ -22,8 +22,36 @@ const FIRST_HEADER: u32 = 0x10_0000;
 // A header holds its symbol above its arity.
 const ARITIES: u32 = 32;
 
-// Where a symbol's inputs start in its row, and the premises, the variables' sorts and their places in a rule's.
+// The columns of a symbol's row: its output, its function mark, its first clause, how many clauses and inputs it has, and where its inputs start.
+const OUTPUT: usize = 2;
+
+const FUNCTION: usize = 3;
+
+const FIRST_CLAUSE: usize = 4;
+
+const CLAUSES: usize = 5;
+
+const INPUTS: usize = 6;
+
 const FIRST_INPUT: usize = 8;
+
+// Those of a rule's row: its clause number + 1, how many variables and premises it has, its conclusion, its first word, how many words premises and
+// conclusion have, how many variables are met in the conclusion, and where premises, sorts and places start.
+const CLAUSE: usize = 2;
+
+const VARIABLES: usize = 3;
+
+const PREMISES: usize = 4;
+
+const CONCLUSION: usize = 5;
+
+const FIRST_WORD: usize = 6;
+
+const PREMISE_WORDS: usize = 7;
+
+const CONCLUSION_WORDS: usize = 8;
+
+const MET: usize = 9;
 
 const FIRST_PREMISE: usize = 10;
 
@@ -47,10 +75,8 @@ fn write_name(text: &[u8], start: u32, length: u32) {
 fn part<'a>(numbers: &'a [u32], start: usize, count: usize) -> &'a [u32]
     ensures { result.now ≡ part_of numbers.now start count }
 {
-    if start <= numbers.len() {
-        if count <= numbers.len() - start {
-            return &numbers[start..start + count];
-        }
+    if start <= numbers.len() && count <= numbers.len() - start {
+        return &numbers[start..start + count];
     }
     &numbers[0..0]
 }
@@ -61,30 +87,24 @@ fn write_sort(text: &[u8], sorts: &[SortRow], number: u32) {
         write(b"Prop");
         return;
     }
-    let i = number as usize - 1;
-    if sorts.len() <= i {
-        write(b"wrong: no such sort");
-        return;
+    match sorts.get(number as usize - 1) {
+        Some(row) => write_name(text, row[0], row[1]),
+        None => write(b"wrong: no such sort"),
     }
-    write_name(text, sorts[i][0], sorts[i][1]);
 }
 
 // Writes the names of sorts, a blank before each.
 fn write_sorts(text: &[u8], sorts: &[SortRow], numbers: &[u32]) {
-    let mut i = 0;
-    while i < numbers.len() {
+    for number in numbers {
         write(b" ");
-        write_sort(text, sorts, numbers[i]);
-        i += 1;
+        write_sort(text, sorts, *number);
     }
 }
 
 fn write_numbers(numbers: &[u32]) {
-    let mut i = 0;
-    while i < numbers.len() {
+    for number in numbers {
         write(b" ");
-        write_number(numbers[i]);
-        i += 1;
+        write_number(*number);
     }
 }
 
@@ -105,67 +125,53 @@ fn write_reference(reference: u32, first: u32) {
 }
 
 fn write_references(references: &[u32], first: u32) {
-    let mut i = 0;
-    while i < references.len() {
-        write_reference(references[i], first);
-        i += 1;
+    for reference in references {
+        write_reference(*reference, first);
     }
 }
 
 fn list_sorts(text: &[u8], sorts: &[SortRow], count: usize) {
-    let mut i = 0;
-    while i < sorts.len() {
-        if count <= i {
-            return;
-        }
+    for row in sorts.iter().take(count) {
         write(b"sort ");
-        write_name(text, sorts[i][0], sorts[i][1]);
+        write_name(text, row[0], row[1]);
         write(b"\n");
-        i += 1;
     }
 }
 
 // Writes where a function's clauses start and how many there are.
-fn write_clauses(row: SymbolRow) {
-    if row[3] == 0 {
+fn write_clauses(row: &SymbolRow) {
+    if row[FUNCTION] == 0 {
         return;
     }
     write(b" function ");
-    write_number(row[4]);
+    write_number(row[FIRST_CLAUSE]);
     write(b" ");
-    write_number(row[5]);
+    write_number(row[CLAUSES]);
 }
 
-fn list_symbol(text: &[u8], sorts: &[SortRow], row: SymbolRow) {
+fn list_symbol(text: &[u8], sorts: &[SortRow], row: &SymbolRow) {
     write(b"symbol ");
     write_name(text, row[0], row[1]);
     write(b" :");
-    let inputs = row[6] as usize;
-    write_sorts(text, sorts, part(&row, FIRST_INPUT, inputs));
+    let inputs = row[INPUTS] as usize;
+    write_sorts(text, sorts, part(row, FIRST_INPUT, inputs));
     write(b" -> ");
-    write_sort(text, sorts, row[2]);
+    write_sort(text, sorts, row[OUTPUT]);
     write_clauses(row);
     write(b"\n");
 }
 
 fn list_symbols(text: &[u8], sorts: &[SortRow], symbols: &[SymbolRow], count: usize) {
-    let mut i = 0;
-    while i < symbols.len() {
-        if count <= i {
-            return;
-        }
-        list_symbol(text, sorts, symbols[i]);
-        i += 1;
+    for row in symbols.iter().take(count) {
+        list_symbol(text, sorts, row);
     }
 }
 
 fn write_symbol_name(text: &[u8], symbols: &[SymbolRow], number: u32) {
-    let i = number as usize;
-    if symbols.len() <= i {
-        write(b"wrong: no such symbol");
-        return;
+    match symbols.get(number as usize) {
+        Some(row) => write_name(text, row[0], row[1]),
+        None => write(b"wrong: no such symbol"),
     }
-    write_name(text, symbols[i][0], symbols[i][1]);
 }
 
 // The arity of the node at an address; 0 where there is no header.
@@ -173,22 +179,19 @@ fn arity_at(words: &[u32], address: usize) -> usize
     ensures value { result ≡ arity_at words.now address }
     ensures upper_bound { result ≤ 31 }
 {
-    if words.len() <= address {
-        return 0;
+    match words.get(address) {
+        Some(header) if FIRST_HEADER <= *header => (*header % ARITIES) as usize,
+        _ => 0,
     }
-    if words[address] < FIRST_HEADER {
-        return 0;
-    }
-    (words[address] % ARITIES) as usize
 }
 
 // Lists the node at an address.
 fn list_node(text: &[u8], symbols: &[SymbolRow], words: &[u32], address: usize, first: u32) {
-    if words.len() <= address {
+    let Some(header) = words.get(address) else {
         write(b"wrong: no such word\n");
         return;
-    }
-    let header = words[address];
+    };
+    let header = *header;
     if header < FIRST_HEADER {
         write(b"wrong: no header\n");
         return;
@@ -226,9 +229,9 @@ fn list_nodes(
 }
 
 // Writes a rule's name, that of a clause with its number.
-fn write_rule_name(text: &[u8], row: RuleRow) {
+fn write_rule_name(text: &[u8], row: &RuleRow) {
     write_name(text, row[0], row[1]);
-    let number = row[2];
+    let number = row[CLAUSE];
     if number == 0 {
         return;
     }
@@ -236,81 +239,61 @@ fn write_rule_name(text: &[u8], row: RuleRow) {
     write_number(number - 1);
 }
 
-fn list_heading(text: &[u8], sorts: &[SortRow], row: RuleRow) {
+fn list_heading(text: &[u8], sorts: &[SortRow], row: &RuleRow) {
     write(b"rule ");
     write_rule_name(text, row);
     write(b" vars");
-    let variables = row[3] as usize;
-    write_sorts(text, sorts, part(&row, FIRST_SORT, variables));
+    let variables = row[VARIABLES] as usize;
+    write_sorts(text, sorts, part(row, FIRST_SORT, variables));
     write(b"\n");
 }
 
-fn list_references(row: RuleRow) {
-    let variables = row[3] as usize;
-    let premises = row[4] as usize;
-    let first = row[6];
+fn list_references(row: &RuleRow) {
+    let variables = row[VARIABLES] as usize;
+    let premises = row[PREMISES] as usize;
+    let first = row[FIRST_WORD];
     write(b"  premises");
-    write_references(part(&row, FIRST_PREMISE, premises), first);
+    write_references(part(row, FIRST_PREMISE, premises), first);
     write(b" conclusion");
-    write_reference(row[5], first);
+    write_reference(row[CONCLUSION], first);
     write(b" met ");
-    write_number(row[9]);
+    write_number(row[MET]);
     write(b" places");
-    write_numbers(part(&row, FIRST_PLACE, variables));
+    write_numbers(part(row, FIRST_PLACE, variables));
     write(b"\n");
 }
 
-fn list_rule(text: &[u8], sorts: &[SortRow], symbols: &[SymbolRow], words: &[u32], row: RuleRow) {
-    list_heading(text, sorts, row);
-    list_nodes(text, symbols, words, row[6], row[7], row[8]);
+fn list_rule(text: &[u8], signature: StoredSignature, row: &RuleRow) {
+    list_heading(text, signature.sorts, row);
+    list_nodes(
+        text,
+        signature.symbols,
+        signature.words,
+        row[FIRST_WORD],
+        row[PREMISE_WORDS],
+        row[CONCLUSION_WORDS],
+    );
     list_references(row);
 }
 
-fn list_rules(
-    text: &[u8],
-    sorts: &[SortRow],
-    symbols: &[SymbolRow],
-    rules: &[RuleRow],
-    words: &[u32],
-    count: usize,
-) {
-    let mut i = 0;
-    while i < rules.len() {
-        if count <= i {
-            return;
-        }
-        list_rule(text, sorts, symbols, words, rules[i]);
-        i += 1;
-    }
-}
-
 fn list_evals(evals: &[EvalRow], count: usize) {
-    let mut i = 0;
-    while i < evals.len() {
-        if count <= i {
-            return;
-        }
+    for row in evals.iter().take(count) {
         write(b"eval ");
-        write_number(evals[i][0]);
+        write_number(row[0]);
         write(b" ");
-        write_number(evals[i][1]);
+        write_number(row[1]);
         write(b"\n");
-        i += 1;
     }
 }
 
-pub fn list(
-    text: &[u8],
-    sorts: &[SortRow],
-    symbols: &[SymbolRow],
-    rules: &[RuleRow],
-    words: &[u32],
-    counts: Counts,
-    evals: &[EvalRow],
-    n: usize,
-) {
+// Lists a signature, and the first n `#eval`s that wait.
+pub fn list(text: &[u8], signature: StoredSignature, evals: &[EvalRow], n: usize) {
+    let sorts = signature.sorts;
+    let counts = signature.counts;
     list_sorts(text, sorts, counts.sorts as usize);
-    list_symbols(text, sorts, symbols, counts.symbols as usize);
-    list_rules(text, sorts, symbols, rules, words, counts.rules as usize);
+    list_symbols(text, sorts, signature.symbols, counts.symbols as usize);
+    for row in signature.rules.iter().take(counts.rules as usize) {
+        list_rule(text, signature, row);
+    }
     list_evals(evals, n);
 }
