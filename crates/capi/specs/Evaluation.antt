@@ -4,6 +4,7 @@ use Rattle.std.proofs.lemmas.List.Edits.{sets}
 use Rattle.words.specs.declared.Limits.{Limits}
 use Rattle.names.specs.Symbols.{Rows}
 use Rattle.signature.specs.Storage.{SignatureStore}
+use Rattle.signature.specs.declared.Counts.{Counts}
 use Rattle.evaluator.specs.Storage.{Results}
 use Rattle.evaluator.specs.Evaluating.{Evaluating, Forwarding}
 use Rattle.evaluator.specs.declared.Evaluation.{Evaluation}
@@ -15,6 +16,10 @@ use Rattle.evaluator.specs.declared.Forward.TheVariants.{Call, Goal, Refused as 
 abbrev pub words_limit : ℕ → Limits
 words_limit most = record { text = 0; nodes = 0; steps = 0; variables = 0; words = most }
 
+-- The first four counts that `horn_load` leaves.
+abbrev pub stored_counts : List ℕ → Counts
+stored_counts counts = record { sorts = get_or counts 0 0; symbols = get_or counts 1 0; rules = get_or counts 2 0; words = get_or counts 3 0 }
+
 -- A signature's storage with the first four counts that `horn_load` leaves.
 abbrev pub store_with : Rows → Rows → Rows → List ℕ → List ℕ → SignatureStore
 store_with sorts symbols rules words counts =
@@ -23,7 +28,7 @@ store_with sorts symbols rules words counts =
       symbols = symbols;
       rules = rules;
       words = words;
-      counts = record { sorts = get_or counts 0 0; symbols = get_or counts 1 0; rules = get_or counts 2 0; words = get_or counts 3 0 };
+      counts = stored_counts counts;
     }
 
 -- 0 for a value, or 2^32 times the refusal's number.

@@ -1,18 +1,116 @@
 // The functions that programs in other languages call: numbers, byte slices and rows. `capi_c` exports them.
 #![tactic(auto)]
 
-ghost use Rattle.std.specs.Prelude.{◌≡◌, ◌≤◌, cond, eqb, [], ◌∷◌, length, replicate};
+ghost use Rattle.std.specs.Prelude.{◌≡◌, ◌*◌, ◌^◌, ◌≤◌, cond, eqb, [], ◌∷◌, length, replicate};
 ghost use Rattle.std.proofs.lemmas.List.Edits.{sets};
 ghost use Rattle.capi.specs.Declarations.{ParsedAs};
 ghost use Rattle.capi.specs.Checks.{CheckedAs};
-ghost use Rattle.capi.specs.Evaluation.{EvaluatedAs, ForwardAs};
+ghost use Rattle.capi.specs.Evaluation.{stored_counts, EvaluatedAs, ForwardAs};
 ghost use Rattle.capi.specs.Signatures.{LoadedAs};
-ghost use Rattle.capi.specs.Sessions.{OpenedAs, ProvedAs, packed_proof, verdict_after, search_limits};
+ghost use Rattle.capi.specs.Sessions.{OpenedAs, ProvedAs, counts_in, packed_proof, verdict_row, verdict_after, search_limits};
 ghost use Rattle.capi.specs.Unification.{Answered};
 ghost use Rattle.capi.specs.Words.{packed, text_limit};
 ghost use Rattle.words.specs.Lexer.{lex_answer, lex_rows};
 
 use arena::TERM_ROOM;
+use prover::Query;
+use signature::StoredSignature;
+
+// A refusal is told as so many times its number: more than any count and any line.
+const REFUSAL: u64 = 0x1_0000_0000;
+
+// Refusal 1: what is lent is too short or not in form.
+const REFUSED: u64 = REFUSAL;
+
+// Limits of 0, for those that a function does not read.
+const NO_LIMITS: words::Limits = words::Limits {
+    text: 0,
+    nodes: 0,
+    steps: 0,
+    variables: 0,
+    words: 0,
+};
+
+// A refusal as one number; its line is added.
+fn packed_refusal(number: u32) -> u64
+    ensures { result ≡ number * 2 ^ 32 }
+{
+    number as u64 * REFUSAL
+}
+
+// Limits on steps, variables and words.
+pub fn search_limits(steps: u32, variables: u32, words: u32) -> words::Limits
+    ensures { result ≡ search_limits steps variables words }
+{
+    words::Limits {
+        steps,
+        variables,
+        words,
+        ..NO_LIMITS
+    }
+}
+
+// The first four counts that `horn_load` leaves.
+pub fn signature_counts(counts: &[u32]) -> signature::Counts
+    requires { 4 ≤ length counts.now }
+    ensures { result ≡ stored_counts counts.now }
+{
+    signature::Counts {
+        sorts: counts[0],
+        symbols: counts[1],
+        rules: counts[2],
+        words: counts[3],
+    }
+}
+
+// A session's four counts.
+pub fn session_counts(counts: &[u32]) -> sessions::SessionCounts
+    requires { 4 ≤ length counts.now }
+    ensures { result ≡ counts_in counts.now }
+{
+    sessions::SessionCounts {
+        names: counts[0],
+        variables: counts[1],
+        bound: counts[2],
+        words: counts[3],
+    }
+}
+
+// Writes numbers, and zero behind them.
+fn put_numbers(results: &mut [u32], numbers: &[u32])
+    requires { length numbers.now ≤ length results.old }
+    ensures { results.new ≡ sets (replicate (length results.old) 0) 0 numbers.now }
+{
+    results.fill(0);
+    results[..numbers.len()].copy_from_slice(numbers);
+}
+
+// Zeroes the numbers of what is refused; 1 writes nothing.
+fn clear_numbers(results: &mut [u32], number: u32)
+    ensures { results.new ≡ cond (eqb number 1) results.old (replicate (length results.old) 0) }
+{
+    if number != 1 {
+        results.fill(0);
+    }
+}
+
+// Writes what a verdict tells: steps, nodes and the session's counts.
+fn put_verdict(results: &mut [u32], steps: u32, nodes: u32, session: sessions::SessionCounts)
+    requires { 6 ≤ length results.old }
+    ensures { results.new ≡ verdict_row steps nodes session results.old }
+{
+    put_numbers(
+        results,
+        &[
+            steps,
+            nodes,
+            session.names,
+            session.variables,
+            session.bound,
+            session.words,
+        ],
+    );
+}
 
 // `words::lex` under a limit on the text's bytes. The answer is the number of tokens, or 2^32 times the refusal's number and its line.
 pub fn horn_lex(text: &[u8], limit: u32, tokens: &mut [[u32; 4]]) -> u64
@@ -21,15 +119,12 @@ pub fn horn_lex(text: &[u8], limit: u32, tokens: &mut [[u32; 4]]) -> u64
 {
     let limits = words::Limits {
         text: limit,
-        nodes: 0,
-        steps: 0,
-        variables: 0,
-        words: 0,
+        ..NO_LIMITS
     };
     let answer = words::lex(text, limits, tokens);
     match answer {
         words::Lexed::Tokens(n) => n as u64,
-        words::Lexed::Refused(r, line) => (words::number(r) as u64) * 0x1_0000_0000 + (line as u64),
+        words::Lexed::Refused(r, line) => packed_refusal(words::number(r)) + line as u64,
     }
 }
 
@@ -39,40 +134,13 @@ pub fn horn_parse(text: &[u8], limit: u32, tokens: &mut [[u32; 4]], rows: &mut [
 {
     let limits = words::Limits {
         text: limit,
-        nodes: 0,
-        steps: 0,
-        variables: 0,
-        words: 0,
+        ..NO_LIMITS
     };
     let answer = parser::parse_text(text, limits, tokens, rows);
     match answer {
         parser::Answer::Declarations(n, _) => n as u64,
-        parser::Answer::Refused(r, line) => (parser::number(r) as u64) * 0x1_0000_0000
-            + (line as u64),
+        parser::Answer::Refused(r, line) => packed_refusal(parser::number(r)) + line as u64,
     }
-}
-
-// Writes five counts, and zero behind them.
-fn put_counts(counts: &mut [u32], stored: signature::Counts, evals: u32)
-    requires { 5 ≤ length counts.old }
-    ensures { counts.new ≡ sets (replicate (length counts.old) 0) 0 (stored.sorts ∷ stored.symbols ∷ stored.rules ∷ stored.words ∷ evals ∷ []) }
-{
-    arena::clear(counts, 0);
-    counts[0] = stored.sorts;
-    counts[1] = stored.symbols;
-    counts[2] = stored.rules;
-    counts[3] = stored.words;
-    counts[4] = evals;
-}
-
-// Zeroes the numbers of what is refused; 1 writes nothing.
-fn clear_counts(counts: &mut [u32], number: u32)
-    ensures { counts.new ≡ cond (eqb number 1) counts.old (replicate (length counts.old) 0) }
-{
-    if number == 1 {
-        return;
-    }
-    arena::clear(counts, 0);
 }
 
 // `load::load` under limits on the text's bytes and the nodes in all. The answer is the number of declarations, or 2^32 times the refusal's number and its
@@ -94,28 +162,35 @@ pub fn horn_load(
     ensures { LoadedAs text.now bytes nodes (record { tokens = tokens.old; rows = rows.old; calls = calls.old; sorts = sorts.old; symbols = symbols.old; rules = rules.old; words = words.old; evals = evals.old }) counts.old result (record { tokens = tokens.new; rows = rows.new; calls = calls.new; sorts = sorts.new; symbols = symbols.new; rules = rules.new; words = words.new; evals = evals.new }) counts.new }
 {
     if counts.len() < 5 {
-        return 0x1_0000_0000;
+        return REFUSED;
     }
     let limits = words::Limits {
         text: bytes,
-        nodes: nodes,
-        steps: 0,
-        variables: 0,
-        words: 0,
+        nodes,
+        ..NO_LIMITS
     };
     match load::load(
         text, limits, tokens, rows, calls, sorts, symbols, rules, words, evals,
     ) {
         load::Loading::Refused { number, line } => {
-            clear_counts(counts, number);
-            (number as u64) * 0x1_0000_0000 + (line as u64)
+            clear_numbers(counts, number);
+            packed_refusal(number) + line as u64
         }
         load::Loading::Loaded {
             declarations,
             evals: waiting,
             counts: stored,
         } => {
-            put_counts(counts, stored, waiting);
+            put_numbers(
+                counts,
+                &[
+                    stored.sorts,
+                    stored.symbols,
+                    stored.rules,
+                    stored.words,
+                    waiting,
+                ],
+            );
             declarations as u64
         }
     }
@@ -135,29 +210,13 @@ pub fn horn_check_signature(
         words.now counts.now result }
 {
     if counts.len() < 4 {
-        return 0x1_0000_0000;
+        return REFUSED;
     }
-    let stored = signature::Counts {
-        sorts: counts[0],
-        symbols: counts[1],
-        rules: counts[2],
-        words: counts[3],
-    };
+    let stored = signature_counts(counts);
     if !signature::check_signature(text, sorts, symbols, rules, words, stored) {
-        return 0x1_0000_0000;
+        return REFUSED;
     }
     0
-}
-
-// Writes three numbers, and zero behind them.
-fn put_results(results: &mut [u32], value: u32, calls: u32, used: u32)
-    requires { 3 ≤ length results.old }
-    ensures { results.new ≡ sets (replicate (length results.old) 0) 0 (value ∷ calls ∷ used ∷ []) }
-{
-    arena::clear(results, 0);
-    results[0] = value;
-    results[1] = calls;
-    results[2] = used;
 }
 
 // `evaluator::evaluate` under a limit on words, with the first four counts that `horn_load` leaves. The answer is 0 for a value, or 2^32 times the
@@ -183,37 +242,29 @@ pub fn horn_evaluate(
         (record { words = words.new; links = links.new; trees = trees.new }) results.new }
 {
     if counts.len() < 4 {
-        return 0x1_0000_0000;
+        return REFUSED;
     }
     if results.len() < 3 {
-        return 0x1_0000_0000;
+        return REFUSED;
     }
     let limits = words::Limits {
-        text: 0,
-        nodes: 0,
-        steps: 0,
-        variables: 0,
         words: limit,
+        ..NO_LIMITS
     };
-    let stored = signature::Counts {
-        sorts: counts[0],
-        symbols: counts[1],
-        rules: counts[2],
-        words: counts[3],
-    };
+    let stored = signature_counts(counts);
     match evaluator::evaluate(
         text, limits, sorts, symbols, rules, pattern, stored, rows, at, words, links, trees,
     ) {
         evaluator::Evaluation::Refused { number } => {
-            clear_counts(results, number);
-            (number as u64) * 0x1_0000_0000
+            clear_numbers(results, number);
+            packed_refusal(number)
         }
         evaluator::Evaluation::Value {
             value,
             calls,
             words: used,
         } => {
-            put_results(results, value, calls, used);
+            put_numbers(results, &[value, calls, used]);
             0
         }
     }
@@ -235,18 +286,13 @@ pub fn horn_is_forward_call(
         counts.now rows.now at result }
 {
     if counts.len() < 4 {
-        return 0x1_0000_0000;
+        return REFUSED;
     }
-    let stored = signature::Counts {
-        sorts: counts[0],
-        symbols: counts[1],
-        rules: counts[2],
-        words: counts[3],
-    };
+    let stored = signature_counts(counts);
     match evaluator::is_forward_call(text, sorts, symbols, rules, pattern, stored, rows, at) {
         evaluator::Forward::Call => 1,
         evaluator::Forward::Goal => 0,
-        evaluator::Forward::Refused { number } => (number as u64) * 0x1_0000_0000,
+        evaluator::Forward::Refused { number } => packed_refusal(number),
     }
 }
 
@@ -267,32 +313,11 @@ pub fn horn_open(
         (record { names = names.new; words = words.new; bindings = bindings.new })
         (record { links = links.new; marks = marks.new; stack = stack.new }) }
 {
-    let limits = words::Limits {
-        text: 0,
-        nodes: 0,
-        steps: 0,
-        variables: variables,
-        words: limit,
-    };
+    let limits = search_limits(0, variables, limit);
     match session_open::open(limits, names, words, bindings, links, marks, stack) {
-        sessions::Opened::Refused { number } => (number as u64) * 0x1_0000_0000,
+        sessions::Opened::Refused { number } => packed_refusal(number),
         sessions::Opened::New => 0,
     }
-}
-
-// Writes six numbers, and zero behind them.
-fn put_verdict(results: &mut [u32], steps: u32, nodes: u32, session: sessions::SessionCounts)
-    requires { 6 ≤ length results.old }
-    ensures { results.new ≡ sets (replicate (length results.old) 0) 0
-        (steps ∷ nodes ∷ session.names ∷ session.variables ∷ session.bound ∷ session.words ∷ []) }
-{
-    arena::clear(results, 0);
-    results[0] = steps;
-    results[1] = nodes;
-    results[2] = session.names;
-    results[3] = session.variables;
-    results[4] = session.bound;
-    results[5] = session.words;
 }
 
 // An answer as one number, and what else it tells.
@@ -303,8 +328,8 @@ pub fn tell_answer(results: &mut [u32], answer: sessions::Answer) -> u64
 {
     match answer {
         sessions::Answer::Refused { number } => {
-            clear_counts(results, number);
-            (number as u64) * 0x1_0000_0000
+            clear_numbers(results, number);
+            packed_refusal(number)
         }
         sessions::Answer::Proved {
             steps,
@@ -369,36 +394,32 @@ pub fn horn_prove(
         (record { links = links.new; marks = marks.new; stack = stack.new }) results.new }
 {
     if counts.len() < 4 {
-        return 0x1_0000_0000;
+        return REFUSED;
     }
     if session.len() < 4 {
-        return 0x1_0000_0000;
+        return REFUSED;
     }
     if results.len() < 6 {
-        return 0x1_0000_0000;
+        return REFUSED;
     }
-    let limits = words::Limits {
-        text: 0,
-        nodes: 0,
-        steps: most,
-        variables: variables,
-        words: limit,
+    let signature = StoredSignature {
+        sorts,
+        symbols,
+        rules,
+        words: pattern,
+        counts: signature_counts(counts),
     };
-    let stored = signature::Counts {
-        sorts: counts[0],
-        symbols: counts[1],
-        rules: counts[2],
-        words: counts[3],
+    let query = Query {
+        text,
+        limits: search_limits(most, variables, limit),
+        rows,
+        at,
+        steps,
+        depth,
     };
-    let used = sessions::SessionCounts {
-        names: session[0],
-        variables: session[1],
-        bound: session[2],
-        words: session[3],
-    };
+    let used = session_counts(session);
     let answer = prover::prove(
-        text, limits, sorts, symbols, rules, pattern, stored, rows, at, steps, depth, names, words,
-        bindings, used, links, marks, stack, proof,
+        signature, query, names, words, bindings, used, links, marks, stack, proof,
     );
     tell_answer(results, answer)
 }
@@ -423,7 +444,7 @@ pub fn horn_unify(
     if !checks::is_ready(
         words, bindings, links, marks, stack, variables, used, bound, left, right,
     ) {
-        return 0x1_0000_0000;
+        return REFUSED;
     }
     let ended = unifier::unify(
         words, bindings, links, marks, stack, TERM_ROOM, variables, used, bound, left, right,

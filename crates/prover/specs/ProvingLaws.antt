@@ -48,7 +48,7 @@ use Rattle.sessions.proofs.LeavingLaws.{continued_cleared, refused_leaves, nothi
 use Rattle.sessions.specs.declared.SessionCounts.{SessionCounts}
 use Rattle.sessions.specs.declared.Answer.{Answer}
 use Rattle.sessions.specs.declared.Answer.TheVariants.{Refused, Proved, Nothing, Undecided}
-use Rattle.prover.specs.Queries.{asked_in, session_in}
+use Rattle.prover.specs.Queries.{asked_in, session_in, given_of, given_in}
 use Rattle.prover.specs.Clearing.{PastCleared, ClearsPast}
 use Rattle.prover.specs.declared.Query.{Query}
 use Rattle.prover.specs.Preparing.{store_of, PrepareAsked, GoalStands, Within, Prepares, Preparing}
@@ -705,3 +705,9 @@ module _ (q : Query) {sg : SignatureStore} {N N' : Rows} {s s' : Store} {n : Ses
 
   pub listed_left : {g : Given} → ProveLeft sg (asked_in q s') (session_in N' s') n g → ProveLeft sg (asked_in q s) (session_in N s) n g
   listed_left f = cleared_left c.past (rw (c.bindings, c.links, c.marks, c.stack) at f)
+
+-- The buffers are those of a store.
+pub left_given : {sg : SignatureStore} {k : Asked} {b : SessionStore} {n : SessionCounts} {a : Answer} {N T F L M S : Rows} {W : List ℕ}
+    (s : Store) → W ≡ s.words.now → T ≡ s.bindings.now → F ≡ s.frames.now → L ≡ s.links.now → M ≡ s.marks.now → S ≡ s.stack.now
+    → ProveLeft sg k b n (given_in a N s) → ProveLeft sg k b n (given_of a N W T F L M S)
+left_given s w t f l m r h = rw (w, t, f, l, m, r) h

@@ -8,6 +8,11 @@ ghost use Rattle.capi.specs.Sessions.{counts_in, search_limits};
 ghost use Rattle.prover.specs.Proving.{ClearedReady};
 ghost use Rattle.prover_capi.specs.Cleared.{ClearedTold};
 
+use capi::{search_limits, session_counts, signature_counts};
+use prover::Query;
+use search_machine::Store;
+use signature::StoredSignature;
+
 // The caller sees to what `prove_cleared` asks, and lends four counts of the signature, four of the session and six results. The answer is that of
 // `capi::horn_prove`.
 #[unsafe(no_mangle)]
@@ -65,28 +70,30 @@ pub extern "C" fn horn_prove_cleared(
         (record { names = names.new; words = words.new; bindings = bindings.new }) proof.new
         (record { links = links.new; marks = marks.new; stack = stack.new }) results.new }
 {
-    let limits = words::Limits {
-        text: 0,
-        nodes: 0,
-        steps: most,
-        variables: variables,
-        words: limit,
+    let signature = StoredSignature {
+        sorts,
+        symbols,
+        rules,
+        words: pattern,
+        counts: signature_counts(counts),
     };
-    let stored = signature::Counts {
-        sorts: counts[0],
-        symbols: counts[1],
-        rules: counts[2],
-        words: counts[3],
+    let query = Query {
+        text,
+        limits: search_limits(most, variables, limit),
+        rows,
+        at,
+        steps,
+        depth,
     };
-    let used = sessions::SessionCounts {
-        names: session[0],
-        variables: session[1],
-        bound: session[2],
-        words: session[3],
+    let mut store = Store {
+        words,
+        bindings,
+        links,
+        marks,
+        stack,
+        frames: proof,
     };
-    let answer = prover::prove_cleared(
-        text, limits, sorts, symbols, rules, pattern, stored, rows, at, steps, depth, names, words,
-        bindings, used, links, marks, stack, proof,
-    );
+    let used = session_counts(session);
+    let answer = prover::prove_cleared(signature, query, names, &mut store, used);
     capi::tell_answer(results, answer)
 }

@@ -9,14 +9,17 @@ pub returns-then-counts-lt4 : goal.returns-then-counts-lt4
 returns-then-counts-lt4 c = record { taken = λ h. absurd (let l = h.lent in omega (arith, c.if-counts-lt4.true)); refused = λ h. refl }
 
 pub returns-then-not-check_signature : goal.returns-then-not-check_signature
-returns-then-not-check_signature c = record { taken = λ h. true_false (c.check_signature.ensures.complete h.listed) (c.if-not-check_signature.true); refused = λ h. refl }
+returns-then-not-check_signature c = record {
+  taken = λ h.
+      let e = rw c.signature_counts-stored.ensures at c.check_signature.ensures in
+      true_false (e.complete h.listed) c.if-not-check_signature.true;
+  refused = λ h. refl;
+}
 
 pub returns : goal.returns
-returns c =
-    let if1 = c.if-counts-lt4 in
-    let check-signature = c.check_signature in
-    let if2 = c.if-not-check_signature in
-    record {
-      taken = λ h. refl;
-      refused = λ h. absurd (h (record { lent = omega (arith, if1.false); listed = check-signature.ensures.sound (if2.false) }));
-    }
+returns c = record {
+  taken = λ h. refl;
+  refused = λ h.
+      let e = rw c.signature_counts-stored.ensures at c.check_signature.ensures in
+      absurd (h (record { lent = c.if-counts-lt4.false; listed = e.sound c.if-not-check_signature.false }));
+}

@@ -7,31 +7,31 @@ pub returns-then-counts-lt4 : goal.returns-then-counts-lt4
 returns-then-counts-lt4 c = record { few_counts = λ l. refl; enough = λ l. absurd (let z = c.if-counts-lt4.true in omega arith) }
 
 pub returns-in-Call : goal.returns-in-Call
-returns-in-Call c =
-    let if1 = c.if-counts-lt4 in
-    let asked = c.is_forward_call in
-    record {
-      few_counts = λ l. absurd (let z = if1.false in
-          omega arith);
-      enough = λ l. record { given = asked.result; is = rw (c.in-Call.is) refl; forwarding = asked.ensures };
-    }
+returns-in-Call c = record {
+  few_counts = λ l. absurd (let z = c.if-counts-lt4.false in omega arith);
+  enough = λ l. record {
+    given = c.is_forward_call.result;
+    is = rw c.in-Call.is refl;
+    forwarding = rw c.signature_counts-stored.ensures at c.is_forward_call.ensures;
+  };
+}
 
 pub returns-in-Goal : goal.returns-in-Goal
-returns-in-Goal c =
-    let if1 = c.if-counts-lt4 in
-    let asked = c.is_forward_call in
-    record {
-      few_counts = λ l. absurd (let z = if1.false in
-          omega arith);
-      enough = λ l. record { given = asked.result; is = rw (c.in-Goal.is) refl; forwarding = asked.ensures };
-    }
+returns-in-Goal c = record {
+  few_counts = λ l. absurd (let z = c.if-counts-lt4.false in omega arith);
+  enough = λ l. record {
+    given = c.is_forward_call.result;
+    is = rw c.in-Goal.is refl;
+    forwarding = rw c.signature_counts-stored.ensures at c.is_forward_call.ensures;
+  };
+}
 
 pub returns-in-Refused : goal.returns-in-Refused
-returns-in-Refused c =
-    let if1 = c.if-counts-lt4 in
-    let asked = c.is_forward_call in
-    record {
-      few_counts = λ l. absurd (let z = if1.false in
-          omega arith);
-      enough = λ l. record { given = asked.result; is = rw (c.in-Refused.is) refl; forwarding = asked.ensures };
-    }
+returns-in-Refused c = record {
+  few_counts = λ l. absurd (let z = c.if-counts-lt4.false in omega arith);
+  enough = λ l. record {
+    given = c.is_forward_call.result;
+    is = rw (c.packed_refusal.ensures, c.in-Refused.is) refl;
+    forwarding = rw c.signature_counts-stored.ensures at c.is_forward_call.ensures;
+  };
+}

@@ -5,9 +5,13 @@ use Rattle.capi.proofs.horn_open.Goals as goal
 pub returns-in-Refused : goal.returns-in-Refused
 returns-in-Refused c =
     let opened = c.«open» in
-    record { given = opened.result; is = rw c.in-Refused.is refl; opening = opened.ensures }
+    record {
+      given = opened.result;
+      is = rw (c.packed_refusal.ensures, c.in-Refused.is) refl;
+      opening = rw c.search_limits-limits.ensures at opened.ensures;
+    }
 
 pub returns-in-New : goal.returns-in-New
 returns-in-New c =
     let opened = c.«open» in
-    record { given = opened.result; is = rw c.in-New.is refl; opening = opened.ensures }
+    record { given = opened.result; is = rw c.in-New.is refl; opening = rw c.search_limits-limits.ensures at opened.ensures }

@@ -1,6 +1,5 @@
 -- `horn_parse` meets its contract: the answer of `parse_text` as one number, and its rows.
-use mathlib.Core.Path.{sym, ap, ◌∙◌}
-use Prim.Native.Nat.{◌+◌, ◌*◌}
+use mathlib.Core.Path.{sym, ap}
 use Rattle.capi.specs.Declarations.{packed_answer}
 use Rattle.capi.proofs.horn_parse.Goals as goal
 
@@ -13,11 +12,8 @@ returns-in-Declarations c =
     }
 
 pub returns-in-Refused : goal.returns-in-Refused
-returns-in-Refused c =
-    let parse-text = c.parse_text-answer in
-    let number = c.number in
-    record {
-      given = parse-text.result;
-      is = ap (λ n. n * 4294967296 + c.in-Refused.line) number.ensures ∙ sym (ap packed_answer c.in-Refused.is);
-      parsing = parse-text.ensures;
-    }
+returns-in-Refused c = record {
+  given = c.parse_text-answer.result;
+  is = rw (c.packed_refusal.ensures, c.number.ensures) (sym (ap packed_answer c.in-Refused.is));
+  parsing = c.parse_text-answer.ensures;
+}

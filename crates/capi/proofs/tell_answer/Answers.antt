@@ -4,8 +4,8 @@ use Rattle.capi.proofs.tell_answer.Goals as goal
 
 pub returns-in-Refused : goal.returns-in-Refused
 returns-in-Refused c =
-    let written = c.clear_counts in
-    record { number = rw c.in-Refused.is refl; results = rw c.in-Refused.is written.ensures }
+    let written = c.clear_numbers in
+    record { number = rw (c.packed_refusal.ensures, c.in-Refused.is) refl; results = rw c.in-Refused.is written.ensures }
 
 pub returns-in-Proved : goal.returns-in-Proved
 returns-in-Proved c =
