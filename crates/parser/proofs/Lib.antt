@@ -2,6 +2,7 @@
 pub mod PartLaws
 pub mod TacticLaws
 pub mod DeclarationLaws
+pub mod ClauseLaws
 pub mod SortLaws
 pub mod TheoremLaws
 pub mod StorageLaws
