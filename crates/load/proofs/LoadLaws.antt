@@ -13,13 +13,12 @@ use Rattle.words.specs.Tokens.Reading.{tokens, refused as unread}
 use Rattle.words.specs.declared.Limits.{Limits}
 use Rattle.term_parser.specs.Parsing.{Parsed, parsed, absent, refused as barred}
 use Rattle.term_parser.specs.Rows.{rows_of_all}
-use Rattle.std.specs.Prelude.{Ok, Err}
-use Rattle.refusals.specs.Refusals.{number_of}
+use Rattle.std.specs.Prelude.{Err}
 use Rattle.refusals.specs.declared.Refusal.{Refusal}
 use Rattle.refusals.specs.declared.Rejection.{Rejection}
 use Rattle.parser.specs.Declarations.{Declared, parse_of}
 use Rattle.parser.specs.Rows.{declared_rows}
-use Rattle.parser.specs.Parser.{Answer, counted, rejected, answer_of, rows_after, short_for, used_of, parsed_text, text_of, ParsingText}
+use Rattle.parser.specs.Parser.{Answer, counted, answer_of, rows_after, short_for, used_of, parsed_text, text_of, ParsingText}
 use Rattle.parser.specs.declared.Parsed.{Parsed as Counted}
 use Rattle.names.specs.Symbols.{Rows}
 use Rattle.loader.specs.Signature.{Signature, Loaded, refused, loaded, load_of}

@@ -1,5 +1,5 @@
 -- Laws of what is left of the rows: everything wiped where a declaration is refused, and the signature with zero past it where all are entered.
-use Prim.Native.Nat.{ℕ, ◌+◌, ◌-◌, ◌≤◌}
+use Prim.Native.Nat.{ℕ, ◌-◌, ◌≤◌}
 use native.Mathlib.Omega.{arith}
 use mathlib.Core.Path.{◌≡◌, refl, sym, ap, ap₂, ◌∙◌, subst}
 use mathlib.Core.List.{List, ◌++◌}
@@ -16,7 +16,7 @@ use Rattle.load.specs.Load.{Walk, RejectedBy, evals_from, Came}
 use Rattle.load_storage.specs.Storage.{Buffers, zero_pair, zero_symbol, zero_rule, cleared_from, wiped}
 use Rattle.load_storage.specs.Storage.{SignatureCleared, ScratchCleared}
 use Rattle.load.specs.Clearing.{RowsLeft}
-use Rattle.std.specs.Prelude.{Result, Ok, Err}
+use Rattle.std.specs.Prelude.{Ok, Err}
 use Rattle.refusals.specs.Refusals.{number_of}
 use Rattle.refusals.specs.declared.Rejection.{Rejection}
 use Rattle.load.specs.declared.Entered.{Entered}

@@ -1,5 +1,5 @@
 -- Laws of entering declarations in text order: the declarations before a row are entered, and the others are left.
-use Prim.Native.Nat.{ℕ, suc, ◌+◌, ◌-◌, ◌*◌, ◌≤◌, ◌<◌}
+use Prim.Native.Nat.{ℕ, suc, ◌+◌, ◌*◌, ◌≤◌, ◌<◌}
 use native.Mathlib.Omega.{arith}
 use mathlib.Core.Path.{◌≡◌, refl, sym, ap, ap₂, ◌∙◌, subst}
 use mathlib.Core.Bool.{Bool, true, false, cond}
@@ -23,7 +23,6 @@ use Rattle.declarations.specs.Steps.{Stepped, DeclarationAt, DeclareDone}
 use Rattle.declarations.specs.declared.State.{State}
 use Rattle.std.specs.Prelude.{Result, Ok, Err}
 use Rattle.refusals.specs.Refusals.{number_of}
-use Rattle.refusals.specs.declared.Rejection.{Rejection}
 use Rattle.refusals.specs.declared.Refusal.{Refusal}
 use Rattle.declarations.specs.declared.Progress.{Progress}
 use Rattle.declarations.proofs.DeclarationLaws.{first_row, kind_of}

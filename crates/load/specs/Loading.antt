@@ -33,15 +33,15 @@ pub record LoadedInto (text : List ℕ) (limits : Limits) (b : Buffers) (ds : Li
     (r : Loading) (b' : Buffers) : Type 0 where
   -- How many declarations and waiting `#eval` there are, and how many of each kind are stored; and every buffer, whole.
   pub answer : r ≡ Ok (record {
-        declarations = length ds;
-        evals = length (evals_from 0 ds);
-        counts = record {
-          sorts = length s.sorts;
-          symbols = length s.symbols;
-          rules = length s.rules;
-          words = length (words_from s.rules 0);
-        };
-      })
+    declarations = length ds;
+    evals = length (evals_from 0 ds);
+    counts = record {
+      sorts = length s.sorts;
+      symbols = length s.symbols;
+      rules = length s.rules;
+      words = length (words_from s.rules 0);
+    };
+  })
   pub stored : b' ≡ stored_of text limits ds s b
   -- Each sort, symbol and rule has its title, so there are as many rows as are counted.
   pub sort_titles : length (titles_of ds).sorts ≡ length s.sorts

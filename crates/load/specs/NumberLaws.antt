@@ -1,6 +1,6 @@
 -- Every text that is refused is refused by a number of the table (document 01, the table by place), 1 to 28; never by 0, which `declare` gives only for what
 -- is not parsed, and by none of the numbers above 28, which no reader gives.
-use Rattle.std.specs.Prelude.{ℕ, zero, suc, ◌+◌, ◌-◌, ◌≤◌, ◌<◌, ◌≡◌, refl, Bool, true, false, cond, ◌&&◌, Option, Some, None, List, [], ◌∷◌, ◌++◌, eqb, ltb, length, drop, get_or}
+use Rattle.std.specs.Prelude.{ℕ, zero, suc, ◌+◌, ◌-◌, ◌≤◌, ◌<◌, ◌≡◌, refl, Bool, true, false, ◌&&◌, Option, Some, None, List, [], ◌∷◌, ◌++◌, eqb, ltb, length, drop, get_or}
 use Rattle.std.proofs.Common.{arith}
 use Rattle.terms.specs.Numbers.{by_bool}
 use Rattle.source_text.specs.Bytes.{starts_with}
@@ -19,11 +19,11 @@ use Rattle.words.specs.Tokens.{Reading, is_word, word_of, item_of, and_then, rea
 use Rattle.words.specs.Tokens.Reading.{tokens, refused as unread}
 use Rattle.words.specs.Lexer.{capped_of, in_domain, lex_of}
 use Rattle.words.specs.declared.Limits.{Limits}
-use Rattle.term_parser.specs.Source.{Place, Source, one, numeral, metavariable, name as named, application}
+use Rattle.term_parser.specs.Source.{Source, one, numeral, metavariable, name as named, application}
 use Rattle.term_parser.specs.Parsing.{Tokens, kind_of, line_of, last_line, when, Parsed, parsed, absent, refused as barred, plus, follow, required, sign_of, behind, continued, repeat}
 use Rattle.term_parser.specs.Grammar.{applied, equated, name_of, atom_of, app_of, term_of, parenthesis}
 use Rattle.term_parser.specs.Lists.{separated, unless, title_of, arrows_of, names_of, term, app, judgments_of, patterns_of}
-use Rattle.parser.specs.Source.{Clause, Binders, Tactic, Declaration}
+use Rattle.parser.specs.Source.{Declaration}
 use Rattle.parser.specs.Declarations.{ends_in_prop, Declared, behind_open, binders_of, by_of, tactic_of, sort_of, ctor_of, behind_bar, clause_of, pred_of, rule_of, def_of, theorem_of, eval_of, check_of, body_of, declaration_of, parse_of}
 use Rattle.parser.specs.Parser.{parsed_text}
 use Rattle.loader.specs.Signature.{refused}

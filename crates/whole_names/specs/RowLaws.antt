@@ -1,5 +1,5 @@
 -- Laws of stored rows: the names that they keep, where they denote a signature whose names are whole.
-use Rattle.std.specs.Prelude.{ℕ, ◌+◌, ◌-◌, ◌<◌, ◌≡◌, ◌↔◌, length, get_or}
+use Rattle.std.specs.Prelude.{ℕ, ◌+◌, ◌<◌, ◌≡◌, ◌↔◌, length, get_or}
 use Rattle.std.proofs.Common.{arith, ◌∙◌, length-append, get_or-append-add}
 use Rattle.std.proofs.Math.Path.{sym, ap}
 use mathlib.Core.List.{List, [], map}

@@ -1,5 +1,4 @@
 -- `sort` meets its contract: the part to sort gets shorter. Its halves are sorted one after the other, copied, and merged.
-use Prim.Native.Nat.{◌-◌}
 use native.Mathlib.Omega.{arith}
 use Rattle.distinct.proofs.SortLaws.{copied_names, sorted_short, sorted_first, sorted_second, first_run, second_run, sorted_all}
 use Rattle.distinct.proofs.+sort.Goals as goal

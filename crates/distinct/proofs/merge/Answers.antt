@@ -1,5 +1,4 @@
 -- `merge` meets its contract. The loop's invariant: what was read of both runs stands in the places before k, ascending and before what is left of both.
-use Prim.Native.Nat.{◌-◌}
 use mathlib.Core.Path.{refl, ◌∙◌}
 use lib.ListN.{length-set}
 use Rattle.distinct.proofs.MergeLaws.{merge_start, merge_first, merge_second, merge_both, merge_end}
@@ -49,11 +48,11 @@ loop-k-preserved c =
     let loop = c.loop-k in
     let args = c.args in
     elim c.match-next_run.branch [
-      in-Less w ↦ rw (w.places-is, w.i-is, w.j-is) (
+      | in-Less w ↦ rw (w.places-is, w.i-is, w.j-is) (
         length-set loop.places loop.k _ ∙ loop.invariant.0,
         merge_first args.text.now args.spare.now args.places.now loop.places loop.invariant.1 c.requires.4 c.next_run.ensures w.in-Less.is c.loop-k-test.true (omega (arith, loop.invariant.0, c.loop-k-test.true)),
       )
-    | in-Greater w ↦ rw (w.places-is, w.i-is, w.j-is) (
+      | in-Greater w ↦ rw (w.places-is, w.i-is, w.j-is) (
         length-set loop.places loop.k _ ∙ loop.invariant.0,
         merge_second args.text.now args.spare.now args.places.now loop.places loop.invariant.1 c.requires.5 c.next_run.ensures w.in-Greater.is c.loop-k-test.true (omega (arith, loop.invariant.0, c.loop-k-test.true)),
       )

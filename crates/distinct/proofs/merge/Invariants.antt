@@ -1,5 +1,4 @@
 -- `merge` meets its contract. The loop's invariant: what was read of both runs stands in the places before k, ascending and before what is left of both.
-use Prim.Native.Nat.{◌-◌}
 use mathlib.Core.Path.{◌≡◌}
 use lib.ListN.{length}
 use Rattle.distinct.specs.Sorting.{name_at}

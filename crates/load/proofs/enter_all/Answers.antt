@@ -1,9 +1,7 @@
 -- `enter_all` meets its contract. The loop's invariant: the declarations before the number i are entered, and the others are left from the row `at` on.
 use mathlib.Core.Path.{refl, ◌∙◌}
-use Prim.Native.Nat.{◌-◌}
 use Rattle.load.proofs.WalkLaws.{held_none, sofar_start, sofar_declaration, sofar_stops, sofar_on, sofar_end}
 use Rattle.declarations.proofs.DeclarationLaws.{first_row}
-use borrow.Author.Rules.{rules}
 use native.Mathlib.Omega.{arith}
 use Rattle.load.proofs.enter_all.Goals as goal
 

@@ -1,9 +1,7 @@
 -- `enter_all` meets its contract. The loop's invariant: the declarations before the number i are entered, and the others are left from the row `at` on.
 use mathlib.Core.Path.{◌≡◌}
-use Prim.Native.Nat.{◌≤◌, ◌-◌}
 use lib.ListN.{length}
 use Rattle.load.proofs.WalkLaws.{Everywhere}
-use borrow.Author.Rules.{rules}
 use Rattle.load.proofs.enter_all.Given as goal
 
 abbrev pub invariant-loop-i : goal.invariant-loop-i

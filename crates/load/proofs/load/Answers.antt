@@ -11,7 +11,6 @@ use Rattle.load_storage.proofs.ShortLaws.{enough}
 use Rattle.load_storage.proofs.WipeLaws.{SameLengths, wiped_same}
 use Rattle.load.proofs.LoadLaws.{answered, parse_refused, refused_left, declared, rows_asked, accepted_left}
 use Rattle.load.proofs.ToldLaws.{as_loading}
-use borrow.Author.Rules.{rules}
 use Rattle.load.proofs.load.Goals as goal
 
 pub returns-then-is_short : goal.returns-then-is_short

@@ -10,7 +10,6 @@ use Rattle.load_storage.specs.Storage.{Buffers}
 use Rattle.load.proofs.WalkLaws.{evals_few}
 use Rattle.load_storage.proofs.WipeLaws.{SameLengths, wiped_same}
 use Rattle.load.proofs.RowsLaws.{part_is, came_done, rows_refused, rows_done}
-use borrow.Author.Rules.{rules}
 use native.Mathlib.Omega.{arith}
 use Rattle.load.proofs.load_rows.Goals as goal
 
