@@ -15,14 +15,6 @@ pub struct SessionCounts {
 }
 
 // A session in storage: the rows of its names, its words, its bindings with their trail, and how much of each is in use.
-pub struct Session<'a> {
-    pub names: &'a mut [NameRow],
-    pub words: &'a mut [u32],
-    pub bindings: &'a mut [[u32; 2]],
-    pub counts: SessionCounts,
-}
-
-// The same, to be read only.
 #[derive(Clone, Copy)]
 pub struct StoredSession<'a> {
     pub names: &'a [NameRow],

@@ -1,7 +1,7 @@
 // Damaged signatures, which `check_signature` must refuse: in a stored one that it accepts a single number is changed, and then put back.
 ghost use Rattle.std.specs.Prelude.{◌≡◌, ◌<◌, length, slice_set};
-ghost use Rattle.signature.specs.Form.{Checked};
-ghost use Rattle.signature_tests.specs.Damage.{changed};
+ghost use Rattle.signature.specs.Storage.{SignatureChecked};
+ghost use Rattle.signature_tests.specs.Damage.{changed, loaded_in};
 
 use crate::buffers;
 use names::{SortRow, SymbolRow};
@@ -42,126 +42,82 @@ const PREMISE_WORDS: usize = 7;
 
 const FIRST_PREMISE: usize = 10;
 
-// Is the signature accepted with another number in the row of a sort? The storage is left as it was.
-fn is_taken_with_sort(
-    text: &[u8],
-    sorts: &mut [SortRow],
-    symbols: &[SymbolRow],
-    rules: &[RuleRow],
-    words: &[u32],
+// A signature that was loaded, whose storage is damaged and put right again.
+#[derive(Drop)]
+struct Loaded<'a> {
+    text: &'a [u8],
+    sorts: &'a mut [SortRow],
+    symbols: &'a mut [SymbolRow],
+    rules: &'a mut [RuleRow],
+    words: &'a mut [u32],
     counts: Counts,
-    i: usize,
-    column: usize,
-    value: u32,
-) -> bool
-    requires { (i < length sorts.old) × (column < 2) }
-    ensures { Checked text.now (changed sorts.old i column value) symbols.now rules.now words.now counts.sorts counts.symbols counts.rules counts.words result × (sorts.new ≡ sorts.old) }
+}
+
+// Is it accepted as it stands?
+fn is_taken(loaded: &Loaded) -> bool
+    ensures { SignatureChecked loaded.now.text.now (loaded_in loaded.now) result }
 {
-    let kept = sorts[i];
-    sorts[i][column] = value;
-    let taken = signature::check_signature(
-        text,
+    signature::check_signature(
+        loaded.text,
         StoredSignature {
-            sorts,
-            symbols,
-            rules,
-            words,
-            counts,
+            sorts: loaded.sorts,
+            symbols: loaded.symbols,
+            rules: loaded.rules,
+            words: loaded.words,
+            counts: loaded.counts,
         },
-    );
-    sorts[i] = kept;
+    )
+}
+
+// Is it accepted with another number in the row of a sort? The storage is left as it was.
+fn is_taken_with_sort(loaded: &mut Loaded, i: usize, column: usize, value: u32) -> bool
+    requires { (i < length loaded.old.sorts.now) × (column < 2) }
+    ensures checked { SignatureChecked loaded.old.text.now (record (loaded_in loaded.old) { sorts = changed loaded.old.sorts.now i column value }) result }
+    ensures kept { loaded.new ≡ loaded.old }
+{
+    let kept = loaded.sorts[i];
+    loaded.sorts[i][column] = value;
+    let taken = is_taken(loaded);
+    loaded.sorts[i] = kept;
     taken
 }
 
-// Is the signature accepted with another number in the row of a symbol? The storage is left as it was.
-fn is_taken_with_symbol(
-    text: &[u8],
-    sorts: &[SortRow],
-    symbols: &mut [SymbolRow],
-    rules: &[RuleRow],
-    words: &[u32],
-    counts: Counts,
-    i: usize,
-    column: usize,
-    value: u32,
-) -> bool
-    requires { (i < length symbols.old) × (column < 24) }
-    ensures { Checked text.now sorts.now (changed symbols.old i column value) rules.now words.now counts.sorts counts.symbols counts.rules counts.words result × (symbols.new ≡ symbols.old) }
+// Is it accepted with another number in the row of a symbol? The storage is left as it was.
+fn is_taken_with_symbol(loaded: &mut Loaded, i: usize, column: usize, value: u32) -> bool
+    requires { (i < length loaded.old.symbols.now) × (column < 24) }
+    ensures checked { SignatureChecked loaded.old.text.now (record (loaded_in loaded.old) { symbols = changed loaded.old.symbols.now i column value }) result }
+    ensures kept { loaded.new ≡ loaded.old }
 {
-    let kept = symbols[i];
-    symbols[i][column] = value;
-    let taken = signature::check_signature(
-        text,
-        StoredSignature {
-            sorts,
-            symbols,
-            rules,
-            words,
-            counts,
-        },
-    );
-    symbols[i] = kept;
+    let kept = loaded.symbols[i];
+    loaded.symbols[i][column] = value;
+    let taken = is_taken(loaded);
+    loaded.symbols[i] = kept;
     taken
 }
 
-// Is the signature accepted with another number in the row of a rule? The storage is left as it was.
-fn is_taken_with_rule(
-    text: &[u8],
-    sorts: &[SortRow],
-    symbols: &[SymbolRow],
-    rules: &mut [RuleRow],
-    words: &[u32],
-    counts: Counts,
-    i: usize,
-    column: usize,
-    value: u32,
-) -> bool
-    requires { (i < length rules.old) × (column < 154) }
-    ensures { Checked text.now sorts.now symbols.now (changed rules.old i column value) words.now counts.sorts counts.symbols counts.rules counts.words result × (rules.new ≡ rules.old) }
+// Is it accepted with another number in the row of a rule? The storage is left as it was.
+fn is_taken_with_rule(loaded: &mut Loaded, i: usize, column: usize, value: u32) -> bool
+    requires { (i < length loaded.old.rules.now) × (column < 154) }
+    ensures checked { SignatureChecked loaded.old.text.now (record (loaded_in loaded.old) { rules = changed loaded.old.rules.now i column value }) result }
+    ensures kept { loaded.new ≡ loaded.old }
 {
-    let kept = rules[i];
-    rules[i][column] = value;
-    let taken = signature::check_signature(
-        text,
-        StoredSignature {
-            sorts,
-            symbols,
-            rules,
-            words,
-            counts,
-        },
-    );
-    rules[i] = kept;
+    let kept = loaded.rules[i];
+    loaded.rules[i][column] = value;
+    let taken = is_taken(loaded);
+    loaded.rules[i] = kept;
     taken
 }
 
-// Is the signature accepted with another number as a word? The storage is left as it was.
-fn is_taken_with_word(
-    text: &[u8],
-    sorts: &[SortRow],
-    symbols: &[SymbolRow],
-    rules: &[RuleRow],
-    words: &mut [u32],
-    counts: Counts,
-    i: usize,
-    value: u32,
-) -> bool
-    requires { i < length words.old }
-    ensures { Checked text.now sorts.now symbols.now rules.now (slice_set words.old i value) counts.sorts counts.symbols counts.rules counts.words result × (words.new ≡ words.old) }
+// Is it accepted with another number as a word? The storage is left as it was.
+fn is_taken_with_word(loaded: &mut Loaded, i: usize, value: u32) -> bool
+    requires { i < length loaded.old.words.now }
+    ensures checked { SignatureChecked loaded.old.text.now (record (loaded_in loaded.old) { words = slice_set loaded.old.words.now i value }) result }
+    ensures kept { loaded.new ≡ loaded.old }
 {
-    let kept = words[i];
-    words[i] = value;
-    let taken = signature::check_signature(
-        text,
-        StoredSignature {
-            sorts,
-            symbols,
-            rules,
-            words,
-            counts,
-        },
-    );
-    words[i] = kept;
+    let kept = loaded.words[i];
+    loaded.words[i] = value;
+    let taken = is_taken(loaded);
+    loaded.words[i] = kept;
     taken
 }
 
@@ -171,146 +127,54 @@ fn end(text: &[u8]) -> u32 {
 }
 
 // Tests one sort.
-fn test_sort(
-    text: &[u8],
-    sorts: &mut [SortRow],
-    symbols: &[SymbolRow],
-    rules: &[RuleRow],
-    words: &[u32],
-    counts: Counts,
-    i: usize,
-)
-    requires { i < length sorts.old }
+fn test_sort(loaded: &mut Loaded, i: usize)
+    requires { i < length loaded.old.sorts.now }
+    ensures { loaded.new ≡ loaded.old }
 {
-    let taken = is_taken_with_sort(
-        text,
-        sorts,
-        symbols,
-        rules,
-        words,
-        counts,
-        i,
-        PLACE,
-        end(text),
-    );
+    let past = end(loaded.text);
+    let taken = is_taken_with_sort(loaded, i, PLACE, past);
     buffers::expect(!taken, b"refused with a sort's name past the text");
-    let empty = is_taken_with_sort(text, sorts, symbols, rules, words, counts, i, SIZE, 0);
+    let empty = is_taken_with_sort(loaded, i, SIZE, 0);
     buffers::expect(!empty, b"refused with an empty sort's name");
-    let long = is_taken_with_sort(
-        text,
-        sorts,
-        symbols,
-        rules,
-        words,
-        counts,
-        i,
-        SIZE,
-        BYTES + 1,
-    );
+    let long = is_taken_with_sort(loaded, i, SIZE, BYTES + 1);
     buffers::expect(!long, b"refused with a sort's name of 65 bytes");
 }
 
 // Tests one symbol.
-fn test_symbol(
-    text: &[u8],
-    sorts: &[SortRow],
-    symbols: &mut [SymbolRow],
-    rules: &[RuleRow],
-    words: &[u32],
-    counts: Counts,
-    i: usize,
-)
-    requires { i < length symbols.old }
+fn test_symbol(loaded: &mut Loaded, i: usize)
+    requires { i < length loaded.old.symbols.now }
+    ensures { loaded.new ≡ loaded.old }
 {
-    let placed = is_taken_with_symbol(
-        text,
-        sorts,
-        symbols,
-        rules,
-        words,
-        counts,
-        i,
-        PLACE,
-        end(text),
-    );
+    let past = end(loaded.text);
+    let placed = is_taken_with_symbol(loaded, i, PLACE, past);
     buffers::expect(!placed, b"refused with a symbol's name past the text");
-    let sorted = is_taken_with_symbol(
-        text,
-        sorts,
-        symbols,
-        rules,
-        words,
-        counts,
-        i,
-        OUTPUT,
-        std::num::wrapping_add_u32(counts.sorts, 1),
-    );
+    let no_sort = std::num::wrapping_add_u32(loaded.counts.sorts, 1);
+    let sorted = is_taken_with_symbol(loaded, i, OUTPUT, no_sort);
     buffers::expect(!sorted, b"refused with an output past the sorts");
 }
 
 // Tests the length of one symbol's name.
-fn test_symbol_name(
-    text: &[u8],
-    sorts: &[SortRow],
-    symbols: &mut [SymbolRow],
-    rules: &[RuleRow],
-    words: &[u32],
-    counts: Counts,
-    i: usize,
-)
-    requires { i < length symbols.old }
+fn test_symbol_name(loaded: &mut Loaded, i: usize)
+    requires { i < length loaded.old.symbols.now }
+    ensures { loaded.new ≡ loaded.old }
 {
-    let empty = is_taken_with_symbol(text, sorts, symbols, rules, words, counts, i, SIZE, 0);
+    let empty = is_taken_with_symbol(loaded, i, SIZE, 0);
     buffers::expect(!empty, b"refused with an empty symbol's name");
-    let long = is_taken_with_symbol(
-        text,
-        sorts,
-        symbols,
-        rules,
-        words,
-        counts,
-        i,
-        SIZE,
-        BYTES + 1,
-    );
+    let long = is_taken_with_symbol(loaded, i, SIZE, BYTES + 1);
     buffers::expect(!long, b"refused with a symbol's name of 65 bytes");
 }
 
 // Tests the clauses of one symbol: the rule before the first of them was loaded before the function, and so concludes in no node of it.
-fn test_first_clause(
-    text: &[u8],
-    sorts: &[SortRow],
-    symbols: &mut [SymbolRow],
-    rules: &[RuleRow],
-    words: &[u32],
-    counts: Counts,
-    i: usize,
-)
-    requires { i < length symbols.old }
+fn test_first_clause(loaded: &mut Loaded, i: usize)
+    requires { i < length loaded.old.symbols.now }
+    ensures { loaded.new ≡ loaded.old }
 {
-    let first = symbols[i][FIRST];
+    let first = loaded.symbols[i][FIRST];
     if first == 0 {
         return;
     }
-    let before = first - 1;
-    let taken = is_taken_with_symbol(text, sorts, symbols, rules, words, counts, i, FIRST, before);
+    let taken = is_taken_with_symbol(loaded, i, FIRST, first - 1);
     buffers::expect(!taken, b"refused with a clause of another function");
-}
-
-// Is the signature accepted with a name of one rule that has so many bytes?
-fn is_taken_with_name(
-    text: &[u8],
-    sorts: &[SortRow],
-    symbols: &[SymbolRow],
-    rules: &mut [RuleRow],
-    words: &[u32],
-    counts: Counts,
-    i: usize,
-    size: u32,
-) -> bool
-    requires { i < length rules.old }
-{
-    is_taken_with_rule(text, sorts, symbols, rules, words, counts, i, SIZE, size)
 }
 
 // Has the text 64 bytes from a place on?
@@ -319,74 +183,39 @@ fn has_bytes(text: &[u8], start: u32) -> bool {
 }
 
 // Tests the length of one rule's name: rules may have the same name, so 64 bytes are accepted where the text has them.
-fn test_rule_name(
-    text: &[u8],
-    sorts: &[SortRow],
-    symbols: &[SymbolRow],
-    rules: &mut [RuleRow],
-    words: &[u32],
-    counts: Counts,
-    i: usize,
-)
-    requires { i < length rules.old }
+fn test_rule_name(loaded: &mut Loaded, i: usize)
+    requires { i < length loaded.old.rules.now }
+    ensures { loaded.new ≡ loaded.old }
 {
-    let empty = is_taken_with_name(text, sorts, symbols, rules, words, counts, i, 0);
+    let empty = is_taken_with_rule(loaded, i, SIZE, 0);
     buffers::expect(!empty, b"refused with an empty rule's name");
-    let long = is_taken_with_name(text, sorts, symbols, rules, words, counts, i, BYTES + 1);
+    let long = is_taken_with_rule(loaded, i, SIZE, BYTES + 1);
     buffers::expect(!long, b"refused with a rule's name of 65 bytes");
-    if !has_bytes(text, rules[i][PLACE]) {
+    if !has_bytes(loaded.text, loaded.rules[i][PLACE]) {
         return;
     }
-    let taken = is_taken_with_name(text, sorts, symbols, rules, words, counts, i, BYTES);
+    let taken = is_taken_with_rule(loaded, i, SIZE, BYTES);
     buffers::expect(taken, b"accepted with a rule's name of 64 bytes");
 }
 
 // Tests the clause number of one rule.
-fn test_clause(
-    text: &[u8],
-    sorts: &[SortRow],
-    symbols: &[SymbolRow],
-    rules: &mut [RuleRow],
-    words: &[u32],
-    counts: Counts,
-    i: usize,
-)
-    requires { i < length rules.old }
+fn test_clause(loaded: &mut Loaded, i: usize)
+    requires { i < length loaded.old.rules.now }
+    ensures { loaded.new ≡ loaded.old }
 {
-    let last = is_taken_with_rule(
-        text, sorts, symbols, rules, words, counts, i, CLAUSE, CLAUSES,
-    );
+    let last = is_taken_with_rule(loaded, i, CLAUSE, CLAUSES);
     buffers::expect(last, b"accepted with the clause number 1,024");
-    let past = is_taken_with_rule(
-        text,
-        sorts,
-        symbols,
-        rules,
-        words,
-        counts,
-        i,
-        CLAUSE,
-        CLAUSES + 1,
-    );
+    let past = is_taken_with_rule(loaded, i, CLAUSE, CLAUSES + 1);
     buffers::expect(!past, b"refused with the clause number 1,025");
 }
 
 // Tests the variables of one rule.
-fn test_variables(
-    text: &[u8],
-    sorts: &[SortRow],
-    symbols: &[SymbolRow],
-    rules: &mut [RuleRow],
-    words: &[u32],
-    counts: Counts,
-    i: usize,
-)
-    requires { i < length rules.old }
+fn test_variables(loaded: &mut Loaded, i: usize)
+    requires { i < length loaded.old.rules.now }
+    ensures { loaded.new ≡ loaded.old }
 {
-    let more = std::num::wrapping_add_u32(rules[i][VARIABLES], 1);
-    let taken = is_taken_with_rule(
-        text, sorts, symbols, rules, words, counts, i, VARIABLES, more,
-    );
+    let more = std::num::wrapping_add_u32(loaded.rules[i][VARIABLES], 1);
+    let taken = is_taken_with_rule(loaded, i, VARIABLES, more);
     buffers::expect(!taken, b"refused with one variable more");
 }
 
@@ -396,125 +225,66 @@ fn past_premises(first: u32, count: u32) -> u32 {
 }
 
 // Tests the first premise of one rule, if it has any.
-fn test_premise(
-    text: &[u8],
-    sorts: &[SortRow],
-    symbols: &[SymbolRow],
-    rules: &mut [RuleRow],
-    words: &[u32],
-    counts: Counts,
-    i: usize,
-)
-    requires { i < length rules.old }
+fn test_premise(loaded: &mut Loaded, i: usize)
+    requires { i < length loaded.old.rules.now }
+    ensures { loaded.new ≡ loaded.old }
 {
-    let row = rules[i];
+    let row = loaded.rules[i];
     if row[PREMISES] == 0 {
         return;
     }
-    let end = past_premises(row[FIRST_WORD], row[PREMISE_WORDS]);
-    let taken = is_taken_with_rule(
-        text,
-        sorts,
-        symbols,
-        rules,
-        words,
-        counts,
-        i,
-        FIRST_PREMISE,
-        end,
-    );
+    let past = past_premises(row[FIRST_WORD], row[PREMISE_WORDS]);
+    let taken = is_taken_with_rule(loaded, i, FIRST_PREMISE, past);
     buffers::expect(!taken, b"refused with a premise past its part");
 }
 
-// Tests one rule.
-fn test_rule(
-    text: &[u8],
-    sorts: &[SortRow],
-    symbols: &[SymbolRow],
-    rules: &mut [RuleRow],
-    words: &[u32],
-    counts: Counts,
-    i: usize,
-)
-    requires { i < length rules.old }
-{
-    test_rule_name(text, sorts, symbols, rules, words, counts, i);
-    test_clause(text, sorts, symbols, rules, words, counts, i);
-    test_variables(text, sorts, symbols, rules, words, counts, i);
-    test_premise(text, sorts, symbols, rules, words, counts, i);
-}
-
 // Tests one word.
-fn test_word(
-    text: &[u8],
-    sorts: &[SortRow],
-    symbols: &[SymbolRow],
-    rules: &[RuleRow],
-    words: &mut [u32],
-    counts: Counts,
-    i: usize,
-)
-    requires { i < length words.old }
+fn test_word(loaded: &mut Loaded, i: usize)
+    requires { i < length loaded.old.words.now }
+    ensures { loaded.new ≡ loaded.old }
 {
-    let taken = is_taken_with_word(text, sorts, symbols, rules, words, counts, i, NO_WORD);
+    let taken = is_taken_with_word(loaded, i, NO_WORD);
     buffers::expect(!taken, b"refused with a word that is none");
 }
 
 // Tests each sort.
-fn test_sorts(
-    text: &[u8],
-    sorts: &mut [SortRow],
-    symbols: &[SymbolRow],
-    rules: &[RuleRow],
-    words: &[u32],
-    counts: Counts,
-) {
-    for i in 0..usize::min(counts.sorts as usize, sorts.len()) {
-        test_sort(text, sorts, symbols, rules, words, counts, i);
+fn test_sorts(loaded: &mut Loaded)
+    ensures { loaded.new ≡ loaded.old }
+{
+    for i in 0..usize::min(loaded.counts.sorts as usize, loaded.sorts.len()) {
+        test_sort(loaded, i);
     }
 }
 
 // Tests each symbol.
-fn test_symbols(
-    text: &[u8],
-    sorts: &[SortRow],
-    symbols: &mut [SymbolRow],
-    rules: &[RuleRow],
-    words: &[u32],
-    counts: Counts,
-) {
-    for i in 0..usize::min(counts.symbols as usize, symbols.len()) {
-        test_symbol(text, sorts, symbols, rules, words, counts, i);
-        test_symbol_name(text, sorts, symbols, rules, words, counts, i);
-        test_first_clause(text, sorts, symbols, rules, words, counts, i);
+fn test_symbols(loaded: &mut Loaded)
+    ensures { loaded.new ≡ loaded.old }
+{
+    for i in 0..usize::min(loaded.counts.symbols as usize, loaded.symbols.len()) {
+        test_symbol(loaded, i);
+        test_symbol_name(loaded, i);
+        test_first_clause(loaded, i);
     }
 }
 
 // Tests each rule.
-fn test_rules(
-    text: &[u8],
-    sorts: &[SortRow],
-    symbols: &[SymbolRow],
-    rules: &mut [RuleRow],
-    words: &[u32],
-    counts: Counts,
-) {
-    for i in 0..usize::min(counts.rules as usize, rules.len()) {
-        test_rule(text, sorts, symbols, rules, words, counts, i);
+fn test_rules(loaded: &mut Loaded)
+    ensures { loaded.new ≡ loaded.old }
+{
+    for i in 0..usize::min(loaded.counts.rules as usize, loaded.rules.len()) {
+        test_rule_name(loaded, i);
+        test_clause(loaded, i);
+        test_variables(loaded, i);
+        test_premise(loaded, i);
     }
 }
 
 // Tests each word.
-fn test_words(
-    text: &[u8],
-    sorts: &[SortRow],
-    symbols: &[SymbolRow],
-    rules: &[RuleRow],
-    words: &mut [u32],
-    counts: Counts,
-) {
-    for i in 0..usize::min(counts.words as usize, words.len()) {
-        test_word(text, sorts, symbols, rules, words, counts, i);
+fn test_words(loaded: &mut Loaded)
+    ensures { loaded.new ≡ loaded.old }
+{
+    for i in 0..usize::min(loaded.counts.words as usize, loaded.words.len()) {
+        test_word(loaded, i);
     }
 }
 
@@ -527,8 +297,16 @@ pub fn test(
     words: &mut [u32],
     counts: Counts,
 ) {
-    test_sorts(text, sorts, symbols, rules, words, counts);
-    test_symbols(text, sorts, symbols, rules, words, counts);
-    test_rules(text, sorts, symbols, rules, words, counts);
-    test_words(text, sorts, symbols, rules, words, counts);
+    let mut loaded = Loaded {
+        text,
+        sorts,
+        symbols,
+        rules,
+        words,
+        counts,
+    };
+    test_sorts(&mut loaded);
+    test_symbols(&mut loaded);
+    test_rules(&mut loaded);
+    test_words(&mut loaded);
 }

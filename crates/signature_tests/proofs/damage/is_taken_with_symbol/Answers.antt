@@ -1,8 +1,7 @@
--- `is_taken_with_symbol` meets its contract.
--- What was overwritten is put back.
+-- `is_taken_with_symbol` meets its contract: what was overwritten is put back.
 use Rattle.std.proofs.Common.{set-set}
 use lib.Seq.{set-get_or}
 use Rattle.signature_tests.proofs.damage.is_taken_with_symbol.Goals as goal
 
-pub returns : goal.returns
-returns c = (c.check_signature-taken.ensures, simp (set-set, set-get_or))
+pub returns-clause-kept : goal.returns-clause-kept
+returns-clause-kept c = simp (set-set, set-get_or)
