@@ -20,6 +20,7 @@ struct Progress {
 }
 
 // The word at an address, 0 where there is none.
+// Stays: 0 is below every header, so one comparison in `header_at` answers for a word past the end and for one that is no header.
 fn word_at(words: &[u32], address: usize) -> u32
     ensures { result ≡ get_or words.now address 0 }
 {

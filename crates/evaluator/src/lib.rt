@@ -12,7 +12,7 @@ ghost use Rattle.signature.specs.Storage.{store_of};
 ghost use Rattle.evaluator.specs.Storage.{is_short, zero_tree, wiped};
 ghost use Rattle.evaluator.specs.Evaluating.{Ready, EvaluationLeft, Evaluating, Forwarding};
 
-use function_calls::{MAX_CALLS, MAX_DEPTH, TreeRow};
+use function_calls::{MAX_CALLS, MAX_DEPTH, Program, TreeRow};
 use patterns::TermRow;
 use refusals::Refusal;
 use signature::StoredSignature;
@@ -86,16 +86,19 @@ pub fn evaluate_listed(
         (record { words = words.new; links = links.new; trees = trees.new }) }
 {
     let most = limits.capped().words;
+    let program = Program {
+        symbols: signature.symbols,
+        rules: signature.rules,
+        pattern: &signature.words[..signature.counts.words as usize],
+    };
     let mut stack = [[0u32; 3]; 2049];
     links.fill(0);
     match expressions::expression(
         text,
         rows,
         at,
-        signature.symbols,
+        program,
         signature.counts.symbols as usize,
-        signature.rules,
-        &signature.words[..signature.counts.words as usize],
         0,
         0,
         0,

@@ -6,10 +6,9 @@ ghost use Rattle.expressions.specs.Nodes.{Finds};
 ghost use Rattle.expressions.specs.Applying.{ApplyAsked, ApplyAnswered};
 
 use super::nodes::build;
-use function_calls::{Outcome, TreeRow, call};
+use function_calls::{Outcome, Program, TreeRow, call};
 use names::SymbolRow;
 use refusals::Refusal;
-use rules::RuleRow;
 
 // What a symbol on so many arguments is refused for, if it is.
 pub fn check_use(
@@ -33,9 +32,7 @@ pub fn check_use(
 
 // A constructor is built, a function called at the next depth.
 pub fn apply(
-    symbols: &[SymbolRow],
-    rules: &[RuleRow],
-    pattern: &[u32],
+    program: Program,
     i: usize,
     values: &[u32],
     depth: u32,
@@ -47,16 +44,14 @@ pub fn apply(
     trees: &mut [TreeRow],
     stack: &mut [[u32; 3]],
 ) -> Result<Outcome, Refusal>
-    requires { ApplyAsked symbols.now rules.now pattern.now i values.now depth calls used limit
+    requires { ApplyAsked program.symbols.now program.rules.now program.pattern.now i values.now depth calls used limit
         words.old links.old trees.old stack.old }
-    ensures { ApplyAnswered symbols.now rules.now pattern.now i values.now depth calls used limit
+    ensures { ApplyAnswered program.entry.symbols.now program.entry.rules.now program.entry.pattern.now i values.now depth calls used limit
         words.old links.old trees.old result words.new links.new trees.new }
 {
-    if symbols[i][3] == 1 {
+    if program.symbols[i][3] == 1 {
         return call(
-            symbols,
-            rules,
-            pattern,
+            program,
             i,
             values,
             depth + 1,

@@ -10,6 +10,7 @@ use names::SymbolRow;
 use refusals::Refusal;
 
 // The sort of a value by its header: the output of its symbol.
+// Stays: the definition gives no symbol the output 0, and an option would be turned into it at once.
 pub fn sort_of(symbols: &[SymbolRow], count: usize, header: u32) -> u32
     requires { (count ≤ length symbols.now) × (headers ≤ header) }
     ensures { (text : List ℕ) → result ≡ (symbol_at (symbols_of text symbols.now count) (symbolIn header)).output }

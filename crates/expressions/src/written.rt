@@ -4,11 +4,9 @@ ghost use Rattle.expressions.specs.Terms.{ExpressionAsked, ExpressionAnswered, A
 use super::applying::{apply, check_use};
 use super::nodes::sort_of;
 use super::numerals::numeral;
-use function_calls::{MAX_DEPTH, TreeRow};
-use names::SymbolRow;
+use function_calls::{MAX_DEPTH, Program, TreeRow};
 use patterns::TermRow;
 use refusals::Refusal;
-use rules::RuleRow;
 
 // A term that has a value: the value, the row behind the term, the calls made and the words used then.
 #[derive(Clone, Copy)]
@@ -26,11 +24,9 @@ fn application(
     rows: &[TermRow],
     at: usize,
     arguments: usize,
-    symbols: &[SymbolRow],
+    program: Program,
     count: usize,
     i: usize,
-    rules: &[RuleRow],
-    pattern: &[u32],
     depth: u32,
     calls: u32,
     used: u32,
@@ -40,10 +36,10 @@ fn application(
     trees: &mut [TreeRow],
     stack: &mut [[u32; 3]],
 ) -> Result<Expressed, Refusal>
-    requires { ApplicationAsked text.now rows.now at arguments symbols.now count i rules.now pattern.now depth calls used limit
+    requires { ApplicationAsked text.now rows.now at arguments program.symbols.now count i program.rules.now program.pattern.now depth calls used limit
         words.old links.old trees.old stack.old }
-    ensures { ApplicationAnswered text.now rows.now at arguments symbols.now count i
-        rules.now pattern.now depth calls used limit
+    ensures { ApplicationAnswered text.now rows.now at arguments program.entry.symbols.now count i
+        program.entry.rules.now program.entry.pattern.now depth calls used limit
         words.old links.old trees.old result words.new links.new trees.new }
 {
     let mut values = [0u32; 16];
@@ -55,10 +51,8 @@ fn application(
             text,
             rows,
             p,
-            symbols,
+            program,
             count,
-            rules,
-            pattern,
             depth + 1,
             made,
             spent,
@@ -68,7 +62,9 @@ fn application(
             trees,
             stack,
         )?;
-        if sort_of(symbols, count, words[argument.value as usize]) != symbols[i][8 + k] {
+        if sort_of(program.symbols, count, words[argument.value as usize])
+            != program.symbols[i][8 + k]
+        {
             return Err(Refusal::WrongSort);
         }
         values[k] = argument.value;
@@ -77,9 +73,7 @@ fn application(
         spent = argument.used;
     }
     let outcome = apply(
-        symbols,
-        rules,
-        pattern,
+        program,
         i,
         &values[..arguments],
         depth,
@@ -105,10 +99,8 @@ pub fn expression(
     text: &[u8],
     rows: &[TermRow],
     at: usize,
-    symbols: &[SymbolRow],
+    program: Program,
     count: usize,
-    rules: &[RuleRow],
-    pattern: &[u32],
     depth: u32,
     calls: u32,
     used: u32,
@@ -118,10 +110,10 @@ pub fn expression(
     trees: &mut [TreeRow],
     stack: &mut [[u32; 3]],
 ) -> Result<Expressed, Refusal>
-    requires { ExpressionAsked text.now rows.now at symbols.now count rules.now pattern.now depth calls used limit
+    requires { ExpressionAsked text.now rows.now at program.symbols.now count program.rules.now program.pattern.now depth calls used limit
         words.old links.old trees.old stack.old }
-    ensures { ExpressionAnswered text.now rows.now at symbols.now count
-        rules.now pattern.now depth calls used limit
+    ensures { ExpressionAnswered text.now rows.now at program.entry.symbols.now count
+        program.entry.rules.now program.entry.pattern.now depth calls used limit
         words.old links.old trees.old result words.new links.new trees.new }
 {
     if MAX_DEPTH < depth {
@@ -129,7 +121,16 @@ pub fn expression(
     }
     let kind = rows[at][0];
     if kind == words::NUMERAL {
-        let built = numeral(text, symbols, count, rows[at][3], depth, words, used, limit)?;
+        let built = numeral(
+            text,
+            program.symbols,
+            count,
+            rows[at][3],
+            depth,
+            words,
+            used,
+            limit,
+        )?;
         return Ok(Expressed {
             value: built.value,
             next: at + 1,
@@ -140,22 +141,20 @@ pub fn expression(
     if kind == words::METAVARIABLE {
         return Err(Refusal::NotGround);
     }
-    let i = names::symbol_of(text, symbols, count, kind, rows[at][1], rows[at][2]);
+    let i = names::symbol_of(text, program.symbols, count, kind, rows[at][1], rows[at][2]);
     if count <= i {
         return Err(Refusal::UnknownSymbol);
     }
     let arguments = rows[at][3] as usize;
-    check_use(symbols, count, i, arguments)?;
+    check_use(program.symbols, count, i, arguments)?;
     application(
         text,
         rows,
         at + 1,
         arguments,
-        symbols,
+        program,
         count,
         i,
-        rules,
-        pattern,
         depth,
         calls,
         used,

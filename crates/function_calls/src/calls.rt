@@ -24,12 +24,18 @@ pub struct Outcome {
     pub used: u32,
 }
 
+// A program: its symbols, its rules, and the words of their patterns.
+#[derive(Clone, Copy)]
+pub struct Program<'a> {
+    pub symbols: &'a [SymbolRow],
+    pub rules: &'a [RuleRow],
+    pub pattern: &'a [u32],
+}
+
 // One premise of a clause, a node by its header and the address of its first argument: its call, whose value has to fit its last argument.
 #[cycle(call_follow_premise)]
 fn premise(
-    symbols: &[SymbolRow],
-    rules: &[RuleRow],
-    pattern: &[u32],
+    program: Program,
     header: u32,
     first: u32,
     depth: u32,
@@ -43,16 +49,16 @@ fn premise(
     trees: &mut [TreeRow],
     stack: &mut [[u32; 3]],
 ) -> Result<Outcome, Refusal>
-    requires { PremiseAsked symbols.now rules.now pattern.now header first depth height calls used limit
+    requires { PremiseAsked program.symbols.now program.rules.now program.pattern.now header first depth height calls used limit
         environment.old words.old links.old trees.old stack.old }
-    ensures { PremiseAnswered symbols.now rules.now pattern.now header first depth height calls used limit
+    ensures { PremiseAnswered program.entry.symbols.now program.entry.rules.now program.entry.pattern.now header first depth height calls used limit
         environment.old words.old links.old trees.old result
         environment.new words.new links.new trees.new }
 {
     let count = (header % SYMBOL_STEP - 1) as usize;
     let mut values = [0u32; 16];
     let before = instantiate_arguments(
-        pattern,
+        program.pattern,
         first,
         count,
         environment,
@@ -64,9 +70,7 @@ fn premise(
     )?;
     let symbol = ((header - HEADERS) / SYMBOL_STEP) as usize;
     let outcome = call(
-        symbols,
-        rules,
-        pattern,
+        program,
         symbol,
         &values[..count],
         depth + 1,
@@ -79,9 +83,9 @@ fn premise(
         trees,
         stack,
     )?;
-    let last = pattern[first as usize + count];
+    let last = program.pattern[first as usize + count];
     if !bind(
-        pattern,
+        program.pattern,
         last,
         words,
         outcome.used,
@@ -98,9 +102,7 @@ fn premise(
 // The clause that was taken: its premises in order, and then its conclusion, whose last argument is the value.
 #[cycle(call_follow_premise)]
 fn follow(
-    symbols: &[SymbolRow],
-    rules: &[RuleRow],
-    pattern: &[u32],
+    program: Program,
     rule: usize,
     depth: u32,
     height: u32,
@@ -113,22 +115,23 @@ fn follow(
     trees: &mut [TreeRow],
     stack: &mut [[u32; 3]],
 ) -> Result<Outcome, Refusal>
-    requires { FollowAsked symbols.now rules.now pattern.now rule depth height calls used limit
+    requires { FollowAsked program.symbols.now program.rules.now program.pattern.now rule depth height calls used limit
         environment.old words.old links.old trees.old stack.old }
-    ensures { Followed symbols.now rules.now pattern.now rule depth height calls used limit
+    ensures { Followed program.entry.symbols.now program.entry.rules.now program.entry.pattern.now rule depth height calls used limit
         environment.old words.old links.old trees.old result
         words.new links.new trees.new }
 {
     let mut made = calls + 1;
     let mut spent = used;
-    for j in 0..rules[rule][4] as usize {
-        let Pattern::Node { header, first } = pattern_at(pattern, rules[rule][10 + j]) else {
+    for j in 0..program.rules[rule][4] as usize {
+        let Pattern::Node { header, first } = pattern_at(
+            program.pattern,
+            program.rules[rule][10 + j],
+        ) else {
             return Err(Refusal::Storage);
         };
         let outcome = premise(
-            symbols,
-            rules,
-            pattern,
+            program,
             header,
             first,
             depth,
@@ -146,8 +149,8 @@ fn follow(
         spent = outcome.used;
     }
     let built = instantiate(
-        pattern,
-        rules[rule][5],
+        program.pattern,
+        program.rules[rule][5],
         environment,
         words,
         spent,
@@ -166,9 +169,7 @@ fn follow(
 // A call of the function `symbol` on values.
 #[cycle(call_follow_premise)]
 pub fn call(
-    symbols: &[SymbolRow],
-    rules: &[RuleRow],
-    pattern: &[u32],
+    program: Program,
     symbol: usize,
     values: &[u32],
     depth: u32,
@@ -181,9 +182,9 @@ pub fn call(
     trees: &mut [TreeRow],
     stack: &mut [[u32; 3]],
 ) -> Result<Outcome, Refusal>
-    requires { CallAsked symbols.now rules.now pattern.now symbol values.now depth height calls used limit
+    requires { CallAsked program.symbols.now program.rules.now program.pattern.now symbol values.now depth height calls used limit
         words.old links.old trees.old stack.old }
-    ensures { CallAnswered symbols.now rules.now pattern.now symbol values.now depth height calls used limit
+    ensures { CallAnswered program.entry.symbols.now program.entry.rules.now program.entry.pattern.now symbol values.now depth height calls used limit
         words.old links.old trees.old result words.new links.new trees.new }
 {
     if MAX_DEPTH < depth {
@@ -192,12 +193,12 @@ pub fn call(
     if MAX_CALLS <= calls {
         return Err(Refusal::TooManyCalls);
     }
-    let from = symbols[symbol][4] as usize;
-    let end = from + symbols[symbol][5] as usize;
+    let from = program.symbols[symbol][4] as usize;
+    let end = from + program.symbols[symbol][5] as usize;
     let mut environment = [0u32; 64];
     let Some(rule) = find_clause(
-        rules,
-        pattern,
+        program.rules,
+        program.pattern,
         from,
         end,
         values,
@@ -210,9 +211,7 @@ pub fn call(
         return Err(Refusal::NoClause);
     };
     follow(
-        symbols,
-        rules,
-        pattern,
+        program,
         rule,
         depth,
         height,

@@ -5,5 +5,5 @@
 
 mod calls; // calls of functions
 
-pub use calls::{MAX_CALLS, MAX_DEPTH, Outcome, TreeRow, call};
+pub use calls::{MAX_CALLS, MAX_DEPTH, Outcome, Program, TreeRow, call};
 pub use clause_matching::Built;

@@ -1,12 +1,8 @@
 -- `evaluate_listed` meets its contract: the expression is asked over the words in use, and what it leaves is cleared behind.
-use mathlib.Core.Path.{refl, sym, ap}
+use mathlib.Core.Path.{refl, ap}
 use Rattle.words.specs.declared.Limits.{Limits}
-use Rattle.evaluator.specs.ProgramLaws.{pattern_length}
 use Rattle.evaluator.proofs.LeavingLaws.{expression_asked, rows_enough, left_refused, left_valued}
 use Rattle.evaluator.proofs.evaluate_listed.Goals as goal
-
-pub slice_bounds-expression-end : goal.slice_bounds-expression-end
-slice_bounds-expression-end c = sym (pattern_length _ _ c.requires.readable.signature)
 
 pub expression-requires : goal.expression-requires
 expression-requires c = expression_asked c.requires _ (ap (λ (l : Limits). l.words) c.capped-most.ensures) _ _ (c.fill.ensures.after (λ y e. e)) refl

@@ -4,18 +4,18 @@ use Rattle.expressions.proofs.Applications.{call_asked, called, build_asked, not
 use Rattle.expressions.proofs.applying.apply.Goals as goal
 
 pub call-requires : goal.call-requires
-call-requires c = call_asked c.requires c.if-symbols-i-eq1.true
+call-requires c = call_asked c.requires c.if-program-i-eq1.true
 
-pub returns-then-symbols-i-eq1 : goal.returns-then-symbols-i-eq1
-returns-then-symbols-i-eq1 c = called c.requires c.if-symbols-i-eq1.true c.call.ensures
+pub returns-then-program-i-eq1 : goal.returns-then-program-i-eq1
+returns-then-program-i-eq1 c = called c.requires c.if-program-i-eq1.true c.call.ensures
 
 pub build-requires : goal.build-requires
-build-requires c = build_asked c.requires c.if-symbols-i-eq1.false
+build-requires c = build_asked c.requires c.if-program-i-eq1.false
 
 pub returns-in_err-built : goal.returns-in_err-built
 returns-in_err-built c =
     rw (passed_on c.from_residual.result c.from_residual.ensures.1)
-    (not_built c.requires c.if-symbols-i-eq1.false c.build.ensures c.in_err-built.was)
+    (not_built c.requires c.if-program-i-eq1.false c.build.ensures c.in_err-built.was)
 
 pub returns : goal.returns
-returns c = is_built c.requires c.if-symbols-i-eq1.false c.build.ensures c.in_ok-built.was
+returns c = is_built c.requires c.if-program-i-eq1.false c.build.ensures c.in_ok-built.was

@@ -26,13 +26,13 @@ application-bounds-words-argument t c = let (a, b, d) = value_inside c.loop-k.in
 pub application-sort_of-requires : goal.application-sort_of-requires
 application-sort_of-requires t c = let (a, b, d) = value_inside c.loop-k.invariant c.loop-k-test.true c.expression.ensures c.in_ok-argument.was in (c.requires.tables.lent, b)
 
-pub application-returns-then-sort_of-symbols : goal.application-returns-then-sort_of-symbols
-application-returns-then-sort_of-symbols t c =
-    wrong_sort c.loop-k.invariant c.loop-k-test.true c.expression.ensures c.in_ok-argument.was c.sort_of.ensures c.if-sort_of-symbols.true
+pub application-returns-then-sort_of-program : goal.application-returns-then-sort_of-program
+application-returns-then-sort_of-program t c =
+    wrong_sort c.loop-k.invariant c.loop-k-test.true c.expression.ensures c.in_ok-argument.was c.sort_of.ensures c.if-sort_of-program.true
 
 pub application-loop-k-preserved : goal.application-loop-k-preserved
 application-loop-k-preserved t c =
-    turn_next c.loop-k.invariant c.loop-k-test.true c.expression.ensures c.in_ok-argument.was c.sort_of.ensures c.if-sort_of-symbols.false c.expression.auto.trees
+    turn_next c.loop-k.invariant c.loop-k-test.true c.expression.ensures c.in_ok-argument.was c.sort_of.ensures c.if-sort_of-program.false c.expression.auto.trees
     c.expression.auto.stack
 
 pub application-apply-requires : goal.application-apply-requires

@@ -11,4 +11,4 @@ abbrev pub decreases-expression : goal.decreases-expression
 decreases-expression l = 2 * (130 - l.depth)
 
 abbrev pub invariant-application-loop-k : goal.invariant-application-loop-k
-invariant-application-loop-k l = Turn l.text l.rows l.at l.arguments l.symbols l.count l.i l.rules l.pattern l.depth l.calls l.used l.limit l.initial.words l.initial.links l.initial.trees l.initial.stack l.words l.links l.trees l.stack l.values l.k l.p l.made l.spent
+invariant-application-loop-k l = Turn l.text l.rows l.at l.arguments l.program.symbols.now l.count l.i l.program.rules.now l.program.pattern.now l.depth l.calls l.used l.limit l.initial.words l.initial.links l.initial.trees l.initial.stack l.words l.links l.trees l.stack l.values l.k l.p l.made l.spent

@@ -14,4 +14,4 @@ abbrev pub decreases-premise : goal.decreases-premise
 decreases-premise l = 3 * (130 - l.depth) - 2
 
 abbrev pub invariant-follow-loop-j : goal.invariant-follow-loop-j
-invariant-follow-loop-j l = Turn l.symbols l.rules l.pattern l.rule l.depth l.height l.calls l.used l.limit l.initial.environment l.initial.words l.initial.links l.initial.trees l.initial.stack l.environment l.words l.links l.trees l.stack l.made l.spent l.j
+invariant-follow-loop-j l = Turn l.program.symbols.now l.program.rules.now l.program.pattern.now l.rule l.depth l.height l.calls l.used l.limit l.initial.environment l.initial.words l.initial.links l.initial.trees l.initial.stack l.environment l.words l.links l.trees l.stack l.made l.spent l.j
