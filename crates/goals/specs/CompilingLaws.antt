@@ -12,14 +12,16 @@ use Rattle.names.specs.Standing.{Stands}
 use Rattle.patterns.specs.Patterns.{Out, bad, good, pattern_of}
 use Rattle.patterns.specs.Laying.{Laid, laid, after, lay}
 use Rattle.patterns.specs.Promises.{no, yes, stored, answer, Small, NextIs, Placed, LiesIn, MadePlaced, Compiled}
-use Rattle.patterns.specs.declared.Made.{Made}
-use Rattle.patterns.specs.declared.Made.TheVariants.{Node, Failed}
+use Rattle.patterns.specs.declared.CompiledTerm.{CompiledTerm}
+use Rattle.refusals.specs.Refusals.{number_of}
+use Rattle.refusals.specs.declared.Refusal.{Refusal}
+use Rattle.refusals.specs.declared.Refusal.TheVariants.{SortNotKnown}
 use Rattle.rules.specs.Rules.{all_known}
 use Rattle.sessions.specs.Storage.{named_in, names_in}
 use Rattle.sessions.specs.Goals.{WrittenTerm, variable_for, name_for, closing, goal_compiled}
 use Rattle.goals.specs.Compiling.{Agrees, GoalMade}
 use Rattle.goals.specs.declared.Goal.{Goal}
-use Rattle.std.specs.Prelude.{Ok, Err}
+use Rattle.std.specs.Prelude.{Result, Ok, Err}
 
 -- Names as variables
 
@@ -69,7 +71,7 @@ no_yes q = absurd (let z : ◌≡◌ {A = ℕ} 0 1 = cc in omega arith)
 yes_no : {A : Type 0} {e : ℕ} {l : Laid} {vs : List Variable} {m : ℕ} → yes l vs m ≡ no e → A
 yes_no q = absurd (let z : ◌≡◌ {A = ℕ} 0 1 = cc in omega arith)
 
-module _ {text : List ℕ} {rows : Rows} {at : ℕ} {symbols : List Symbol} (names : Rows) {vs : Rows} {w : List ℕ} {r : Made} {vx : Rows}
+module _ {text : List ℕ} {rows : Rows} {at : ℕ} {symbols : List Symbol} (names : Rows) {vs : Rows} {w : List ℕ} {r : Result CompiledTerm Refusal} {vx : Rows}
     {wx : List ℕ} (copied : variables_of text vs (length names) ≡ map variable_for (names_in text names (length names)))
     (c : Compiled text rows at symbols 0 vs (length names) w 0 1024 r vx wx) where
   abbrev n : ℕ
@@ -83,23 +85,38 @@ module _ {text : List ℕ} {rows : Rows} {at : ℕ} {symbols : List Symbol} (nam
   outs t q s = (c.same t q s).1 ∙ ap (λ (us : List Variable). stored [] (pattern_of symbols t (0 ∷ []) us 1024) w 0) copied
 
   -- The pattern is refused.
-  pub goal_failed : (e : ℕ) → r ≡ Failed e → GoalMade text rows at symbols names w (Err e) vx wx
+  pub goal_failed : (e : Refusal) → r ≡ Err e → GoalMade text rows at symbols names w (Err e) vx wx
   unfolding goal_compiled
-  goal_failed e f = record { same = λ t q s. go q (made t) (sym (ap (λ (x : Made). answer text x vx wx) f) ∙ outs t q s) }
+  goal_failed e f = record { same = λ t q s. go q (made t) (sym (ap (λ (x : Result CompiledTerm Refusal). answer text x vx wx) f) ∙ outs t q s) }
     where
-      go : (q : ℕ) (o : Out one) → no e ≡ stored [] o w 0
+      go : (q : ℕ) (o : Out one) → no (number_of e) ≡ stored [] o w 0
           → Agrees text rows at q n w (closing (length (names_in text names n)) o) (Err e) vx wx
-      go q (bad e') x = let d : e ≡ e' = cc in ap Err d
+      go q (bad e') x = let d : number_of e ≡ e' = cc in d
       go q (good p us left) x = no_yes x
 
-  module _ {x next v u m : ℕ} (f : r ≡ Node x next v u m) where
+  module _ {p : CompiledTerm} (f : r ≡ Ok p) where
+    abbrev x : ℕ
+    x = p.node
+
+    abbrev next : ℕ
+    next = p.place.next
+
+    abbrev v : ℕ
+    v = p.place.variables
+
+    abbrev u : ℕ
+    u = p.place.used
+
+    abbrev m : ℕ
+    m = p.place.room
+
     there : (t : WrittenTerm) (q : ℕ) → Stands text rows at t q
         → yes (laid (x ∷ []) wx u) (variables_of text vx v) m ≡ stored [] (made t) w 0
-    there t q s = sym (ap (λ (y : Made). answer text y vx wx) f) ∙ outs t q s
+    there t q s = sym (ap (λ (y : Result CompiledTerm Refusal). answer text y vx wx) f) ∙ outs t q s
 
     pub goal_bounds : (n ≤ v) × (v ≤ 64) × (u ≤ 2048)
     goal_bounds =
-        let s : Small (at + 1) n 0 1024 (Node x next v u m) = subst (Small (at + 1) n 0 1024) f c.small in
+        let s : Small (at + 1) n 0 1024 (Ok p) = subst (Small (at + 1) n 0 1024) f c.small in
         let d = s.4 in
         (s.1, s.2, omega arith)
 
@@ -107,18 +124,18 @@ module _ {text : List ℕ} {rows : Rows} {at : ℕ} {symbols : List Symbol} (nam
     lying : (t : WrittenTerm) (q : ℕ) → Stands text rows at t q → (i : ℕ) → n ≤ i → i < v → LiesIn rows at q (row_at vx i)
     lying t q s i a b =
         let e : next ≡ q = subst (NextIs q) f (c.same t q s).0 in
-        let h : Placed (LiesIn rows at next) vs n vx v = subst (λ (y : Made). MadePlaced (LiesIn rows at) vs n y vx) f c.placed in
+        let h : Placed (LiesIn rows at next) vs n vx v = subst (λ (y : Result CompiledTerm Refusal). MadePlaced (LiesIn rows at) vs n y vx) f c.placed in
         subst (λ (k : ℕ). LiesIn rows at k (row_at vx i)) e (h.new i a b)
 
     -- A sort is not known.
-    pub goal_unknown : all_known (variables_of text vx v) ≡ false → GoalMade text rows at symbols names w (Err 25) vx wx
+    pub goal_unknown : all_known (variables_of text vx v) ≡ false → GoalMade text rows at symbols names w (Err SortNotKnown) vx wx
     unfolding goal_compiled
     goal_unknown k = record { same = λ t q s. go q (made t) (there t q s) }
       where
         go : (q : ℕ) (o : Out one) → yes (laid (x ∷ []) wx u) (variables_of text vx v) m ≡ stored [] o w 0
-            → Agrees text rows at q n w (closing (length (names_in text names n)) o) (Err 25) vx wx
+            → Agrees text rows at q n w (closing (length (names_in text names n)) o) (Err SortNotKnown) vx wx
         go q (bad e') y = yes_no y
-        go q (good p us left) y =
+        go q (good g us left) y =
             let d : variables_of text vx v ≡ us = cc in
             let k' : all_known us ≡ false = ap all_known (sym d) ∙ k in
             rw k' refl
@@ -135,12 +152,12 @@ module _ {text : List ℕ} {rows : Rows} {at : ℕ} {symbols : List Symbol} (nam
             → yes (laid (x ∷ []) wx u) (variables_of text vx v) m ≡ stored [] o w 0
             → Agrees text rows at q n w (closing (length (names_in text names n)) o) (Ok goal) vx wx
         go q (bad e') h y = yes_no y
-        go q (good p us left) h y =
+        go q (good g us left) h y =
             let d : variables_of text vx v ≡ us = cc in
             let k' : all_known us ≡ true = ap all_known (sym d) ∙ k in
-            let l : laid (x ∷ []) wx u ≡ after [] (lay p w 0) = cc in
+            let l : laid (x ∷ []) wx u ≡ after [] (lay g w 0) = cc in
             rw k' (record {
               names = ap₂ (λ (i : ℕ) (l : List Variable). map name_for (drop i l)) (sym (names_count text names)) d;
               places = h;
-              lies = sym (l ∙ after_none (lay p w 0));
+              lies = sym (l ∙ after_none (lay g w 0));
             })

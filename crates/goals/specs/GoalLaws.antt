@@ -38,6 +38,7 @@ use Rattle.goals.specs.Compiling.{GoalLaid, Agrees, GoalMade}
 use Rattle.goals.specs.Storing.{name_row, NamesEntered, GoalLying, StoreAsked}
 use Rattle.goals.specs.declared.Goal.{Goal}
 use Rattle.std.specs.Prelude.{Result}
+use Rattle.refusals.specs.declared.Refusal.{Refusal}
 
 -- The goal's rows
 
@@ -46,7 +47,7 @@ pub goal_stands : {text : List ℕ} {rows : Rows} {at q : ℕ} (g : TermAt text 
 goal_stands {text} {rows} {at} {q} g = parsed_stands text rows at (goal_in g) q (term_stands g)
 
 -- so that `compile` answers as the definition does.
-pub goal_agrees : {text : List ℕ} {rows : Rows} {at q : ℕ} {symbols : List Symbol} {names : Rows} {w : List ℕ} {r : Result Goal ℕ} {vx : Rows}
+pub goal_agrees : {text : List ℕ} {rows : Rows} {at q : ℕ} {symbols : List Symbol} {names : Rows} {w : List ℕ} {r : Result Goal Refusal} {vx : Rows}
     {wx : List ℕ} → GoalMade text rows at symbols names w r vx wx → (g : TermAt text rows at q)
     → Agrees text rows at q (length names) w (goal_compiled symbols (goal_in g) (names_in text names (length names))) r vx wx
 goal_agrees {q = q} h g = h.same (goal_in g) q (goal_stands g)

@@ -15,8 +15,9 @@ ghost use Rattle.goals.specs.Compiling.{Bounds, GoalMade};
 ghost use Rattle.goals.specs.Storing.{NamesEntered, PlacesPut, StoreAsked, GoalStored};
 
 use arena::{PATTERN_ROOM, TERM_ROOM};
-use names::{SymbolRow, VariableRow};
-use patterns::{Made, TermRow};
+use names::{SymbolRow, TermRow, VariableRow};
+use patterns::Place;
+use refusals::Refusal;
 use sessions::{NameRow, SessionCounts};
 
 // How many nodes a goal may have.
@@ -52,37 +53,29 @@ pub fn compile(
     names: &[NameRow],
     variables: &mut [VariableRow],
     words: &mut [u32],
-) -> Result<Goal, u32>
+) -> Result<Goal, Refusal>
     requires { Ready symbols.now count variables.old (length names.now) words.old 0 1024 }
     ensures bounds { Bounds (length names.now) result }
     ensures goal_made { GoalMade text.now rows.now at (symbols_of text.now symbols.now count)
         names.now words.old result variables.new words.new }
 {
-    let n = names.len();
     copy_names(names, variables);
-    match patterns::pattern(
-        text, rows, at, symbols, count, 0, variables, n, words, 0, NODES,
-    ) {
-        Made::Failed { number } => Err(number),
-        Made::Node {
-            node: r,
-            next: _,
-            variables: v,
-            used: u,
-            room: _,
-        } => {
-            if !rules::all_known(variables, v) {
-                return Err(rules::SORT_NOT_KNOWN);
-            }
-            let entered = v as u32;
-            let used = u as u32;
-            Ok(Goal {
-                node: r,
-                variables: entered,
-                words: used,
-            })
-        }
+    let start = Place {
+        next: at,
+        variables: names.len(),
+        used: 0,
+        room: NODES,
+    };
+    let compiled = patterns::pattern(text, rows, symbols, count, 0, variables, words, start)?;
+    let place = compiled.place;
+    if !rules::all_known(&variables[..place.variables]) {
+        return Err(Refusal::SortNotKnown);
     }
+    Ok(Goal {
+        node: compiled.node,
+        variables: place.variables as u32,
+        words: place.used as u32,
+    })
 }
 
 // Writes the rows of a goal's new names behind the n names of a session, with variables from `counter` on.

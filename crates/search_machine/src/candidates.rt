@@ -7,7 +7,7 @@ ghost use Rattle.attempts.specs.Clashes.{Clashes};
 ghost use Rattle.search_machine.specs.Choosing.{Goal, Heads, Readable, Differs, Judged, Choosing, Chosen};
 
 use super::{Allowed, Machine, Mode, Program, Store};
-use arena::{PATTERN_ROOM, TERM_ROOM};
+use arena::{PATTERN_ROOM, TERM_ROOM, Terms};
 use attempts::clashes;
 use bindings::walk;
 
@@ -16,15 +16,13 @@ fn goal_header(store: &Store, m: Machine) -> Option<u32>
     requires { Goal store.now.words.now store.now.bindings.now m.counter m.used m.bound m.goal }
     ensures { IfSome result (Heads store.now.words.now store.now.bindings.now m.counter m.used m.bound m.goal) }
 {
-    let end = walk(
-        store.words,
-        store.bindings,
-        TERM_ROOM,
-        m.counter,
-        m.used,
-        m.bound,
-        m.goal,
-    );
+    let terms = Terms {
+        words: store.words,
+        room: TERM_ROOM,
+        variables: m.counter,
+        used: m.used,
+    };
+    let end = walk(terms, store.bindings, m.bound, m.goal);
     if end < TERM_ROOM {
         return None;
     }

@@ -13,7 +13,7 @@ ghost use Rattle.std.specs.Prelude.{◌≤◌, length};
 ghost use Rattle.sessions.specs.Storage.{part_in};
 ghost use Rattle.session_check.specs.Parts.{SessionChecked};
 
-use arena::TERM_ROOM;
+use arena::{TERM_ROOM, Terms};
 use lengths::is_counted;
 pub use lengths::is_short;
 use naming::are_names_listed;
@@ -64,13 +64,11 @@ pub fn check_session(
     if !is_scratch_zero(links, marks, stack, counts.words) {
         return false;
     }
-    bindings::check_bindings(
+    let terms = Terms {
         words,
-        session.bindings,
-        marks,
-        TERM_ROOM,
-        counts.variables,
-        counts.words,
-        counts.bound,
-    )
+        room: TERM_ROOM,
+        variables: counts.variables,
+        used: counts.words,
+    };
+    bindings::check_bindings(terms, session.bindings, marks, counts.bound)
 }
