@@ -14,6 +14,19 @@ use signature::{Counts, StoredSignature};
 use signature_tests::{buffers, damage};
 use words::Limits;
 
+// What is lent for one text after another.
+#[derive(Drop)]
+struct Lent<'a> {
+    tokens: &'a mut [TermRow],
+    rows: &'a mut [TermRow],
+    calls: &'a mut [TermRow],
+    sorts: &'a mut [SortRow],
+    symbols: &'a mut [SymbolRow],
+    rules: &'a mut [RuleRow],
+    words: &'a mut [u32],
+    evals: &'a mut [EvalRow],
+}
+
 // What a text has by the parser: how many declarations and how many rows of them, 0 where it is refused.
 #[derive(Clone, Copy)]
 struct Parsed {
@@ -21,8 +34,8 @@ struct Parsed {
     rows: usize,
 }
 
-fn parse(text: &[u8], limits: Limits, tokens: &mut [TermRow], rows: &mut [TermRow]) -> Parsed {
-    match parser::parse_text(text, limits, tokens, rows) {
+fn parse(text: &[u8], limits: Limits, lent: &mut Lent) -> Parsed {
+    match parser::parse_text(text, limits, lent.tokens, lent.rows) {
         Answer::Declarations(n, used) => Parsed {
             declarations: n,
             rows: used,
@@ -34,32 +47,45 @@ fn parse(text: &[u8], limits: Limits, tokens: &mut [TermRow], rows: &mut [TermRo
     }
 }
 
+// Tests what is lent: the value past the counts, and the rows of declarations and of `#eval` past so many.
+fn test_lent(lent: &Lent, rows: usize, evals: usize, counts: Counts, value: u32) {
+    buffers::test_scratch(
+        lent.tokens,
+        lent.rows,
+        rows,
+        lent.calls,
+        lent.evals,
+        evals,
+        value,
+    );
+    buffers::test_signature(
+        lent.sorts,
+        lent.symbols,
+        lent.rules,
+        lent.words,
+        counts,
+        value,
+    );
+}
+
 // Lists an answer, and tests the buffers: zero past the counts, zero throughout after a refusal, and after refusal 1 as they were.
-fn list_answer(
-    text: &[u8],
-    answer: Loading,
-    parsed: Parsed,
-    tokens: &[TermRow],
-    rows: &[TermRow],
-    calls: &[TermRow],
-    sorts: &[SortRow],
-    symbols: &[SymbolRow],
-    rules: &[RuleRow],
-    words: &[u32],
-    evals: &[EvalRow],
-) {
+fn list_answer(text: &[u8], answer: Loading, parsed: Parsed, lent: &Lent) {
     match answer {
         Loading::Refused { number, line } => {
             listing::write_refusal(number, line);
-            let value = if number == 1 { buffers::JUNK } else { 0 };
-            buffers::test_scratch(tokens, rows, 0, calls, evals, 0, value);
             let none = Counts {
                 sorts: 0,
                 symbols: 0,
                 rules: 0,
                 words: 0,
             };
-            buffers::test_signature(sorts, symbols, rules, words, none, value);
+            test_lent(
+                lent,
+                0,
+                0,
+                none,
+                if number == 1 { buffers::JUNK } else { 0 },
+            );
         }
         Loading::Loaded {
             declarations,
@@ -67,19 +93,18 @@ fn list_answer(
             counts,
         } => {
             let stored = StoredSignature {
-                sorts,
-                symbols,
-                rules,
-                words,
+                sorts: lent.sorts,
+                symbols: lent.symbols,
+                rules: lent.rules,
+                words: lent.words,
                 counts,
             };
-            signature_listing::list(text, stored, evals, n as usize);
+            signature_listing::list(text, stored, lent.evals, n as usize);
             buffers::expect(
                 declarations == parsed.declarations,
                 b"as many declarations as parsed",
             );
-            buffers::test_scratch(tokens, rows, parsed.rows, calls, evals, n as usize, 0);
-            buffers::test_signature(sorts, symbols, rules, words, counts, 0);
+            test_lent(lent, parsed.rows, n as usize, counts, 0);
             buffers::expect(
                 signature::check_signature(text, stored),
                 b"loaded in the listed form",
@@ -88,57 +113,29 @@ fn list_answer(
     }
 }
 
-// Fills the buffers with junk.
-fn fill(
-    tokens: &mut [TermRow],
-    rows: &mut [TermRow],
-    calls: &mut [TermRow],
-    sorts: &mut [SortRow],
-    symbols: &mut [SymbolRow],
-    rules: &mut [RuleRow],
-    words: &mut [u32],
-    evals: &mut [EvalRow],
-) {
-    buffers::fill_scratch(tokens, rows, calls, evals);
-    buffers::fill_signature(sorts, symbols, rules, words);
-}
-
 // Loads a text into buffers that hold junk.
-fn load_text(
-    text: &[u8],
-    limits: Limits,
-    tokens: &mut [TermRow],
-    rows: &mut [TermRow],
-    calls: &mut [TermRow],
-    sorts: &mut [SortRow],
-    symbols: &mut [SymbolRow],
-    rules: &mut [RuleRow],
-    words: &mut [u32],
-    evals: &mut [EvalRow],
-) -> Loading {
-    fill(tokens, rows, calls, sorts, symbols, rules, words, evals);
+fn load_text(text: &[u8], limits: Limits, lent: &mut Lent) -> Loading {
+    buffers::fill_scratch(lent.tokens, lent.rows, lent.calls, lent.evals);
+    buffers::fill_signature(lent.sorts, lent.symbols, lent.rules, lent.words);
     load::load(
-        text, limits, tokens, rows, calls, sorts, symbols, rules, words, evals,
+        text,
+        limits,
+        lent.tokens,
+        lent.rows,
+        lent.calls,
+        lent.sorts,
+        lent.symbols,
+        lent.rules,
+        lent.words,
+        lent.evals,
     )
 }
 
-// Lists an answer, and damages what was loaded.
-fn list_loaded(
-    text: &[u8],
-    answer: Loading,
-    parsed: Parsed,
-    tokens: &[TermRow],
-    rows: &[TermRow],
-    calls: &[TermRow],
-    sorts: &mut [SortRow],
-    symbols: &mut [SymbolRow],
-    rules: &mut [RuleRow],
-    words: &mut [u32],
-    evals: &[EvalRow],
-) {
-    list_answer(
-        text, answer, parsed, tokens, rows, calls, sorts, symbols, rules, words, evals,
-    );
+// Parses a text, loads it, lists the answer, and damages what was loaded.
+fn list_text(text: &[u8], limits: Limits, lent: &mut Lent) {
+    let parsed = parse(text, limits, lent);
+    let answer = load_text(text, limits, lent);
+    list_answer(text, answer, parsed, lent);
     let Loading::Loaded {
         declarations: _,
         evals: _,
@@ -147,47 +144,13 @@ fn list_loaded(
     else {
         return;
     };
-    damage::test(text, sorts, symbols, rules, words, counts);
-}
-
-// Loads a text and lists the answer.
-fn list_parsed(
-    text: &[u8],
-    limits: Limits,
-    parsed: Parsed,
-    tokens: &mut [TermRow],
-    rows: &mut [TermRow],
-    calls: &mut [TermRow],
-    sorts: &mut [SortRow],
-    symbols: &mut [SymbolRow],
-    rules: &mut [RuleRow],
-    words: &mut [u32],
-    evals: &mut [EvalRow],
-) {
-    let answer = load_text(
-        text, limits, tokens, rows, calls, sorts, symbols, rules, words, evals,
-    );
-    list_loaded(
-        text, answer, parsed, tokens, rows, calls, sorts, symbols, rules, words, evals,
-    );
-}
-
-// Parses a text, and then loads and lists it.
-fn list_text(
-    text: &[u8],
-    limits: Limits,
-    tokens: &mut [TermRow],
-    rows: &mut [TermRow],
-    calls: &mut [TermRow],
-    sorts: &mut [SortRow],
-    symbols: &mut [SymbolRow],
-    rules: &mut [RuleRow],
-    words: &mut [u32],
-    evals: &mut [EvalRow],
-) {
-    let parsed = parse(text, limits, tokens, rows);
-    list_parsed(
-        text, limits, parsed, tokens, rows, calls, sorts, symbols, rules, words, evals,
+    damage::test(
+        text,
+        lent.sorts,
+        lent.symbols,
+        lent.rules,
+        lent.words,
+        counts,
     );
 }
 
@@ -203,58 +166,23 @@ fn limits_of(text: u32, nodes: usize) -> Limits {
 }
 
 // Lists the text whose line is at a place, and answers the place of the next one's. The line's third number limits the nodes.
-fn replay_one(
-    list: &[u8],
-    at: usize,
-    tokens: &mut [TermRow],
-    rows: &mut [TermRow],
-    calls: &mut [TermRow],
-    sorts: &mut [SortRow],
-    symbols: &mut [SymbolRow],
-    rules: &mut [RuleRow],
-    words: &mut [u32],
-    evals: &mut [EvalRow],
-) -> usize
+fn replay_one(list: &[u8], at: usize, lent: &mut Lent) -> usize
     requires { at < 2 ^ 61 }
     ensures { (at < result) × (result ≤ at + 2000000) }
 {
     let text = recorded::read(list, at);
-    let limits = text.limits;
     let bytes = words::word(list, text.start, text.length);
-    list_text(
-        bytes,
-        limits_of(limits.text, text.rows),
-        tokens,
-        rows,
-        calls,
-        sorts,
-        symbols,
-        rules,
-        words,
-        evals,
-    );
+    list_text(bytes, limits_of(text.limits.text, text.rows), lent);
     text.next
 }
 
-fn replay(
-    list: &[u8],
-    tokens: &mut [TermRow],
-    rows: &mut [TermRow],
-    calls: &mut [TermRow],
-    sorts: &mut [SortRow],
-    symbols: &mut [SymbolRow],
-    rules: &mut [RuleRow],
-    words: &mut [u32],
-    evals: &mut [EvalRow],
-) {
+fn replay(list: &[u8], lent: &mut Lent) {
     let end = recorded::end(list);
     let mut at = 0;
     let mut number = 1;
     while at < end {
         recorded::write_heading(number);
-        at = replay_one(
-            list, at, tokens, rows, calls, sorts, symbols, rules, words, evals,
-        );
+        at = replay_one(list, at, lent);
         number += 1;
     }
 }
@@ -271,15 +199,15 @@ fn main() {
     let mut rules = [[0u32; 154]; 1024];
     let mut words = [0u32; 8192];
     let mut evals = [[0u32; 2]; 8192];
-    replay(
-        &list[..n],
-        &mut tokens,
-        &mut rows,
-        &mut calls,
-        &mut sorts,
-        &mut symbols,
-        &mut rules,
-        &mut words,
-        &mut evals,
-    );
+    let mut lent = Lent {
+        tokens: &mut tokens,
+        rows: &mut rows,
+        calls: &mut calls,
+        sorts: &mut sorts,
+        symbols: &mut symbols,
+        rules: &mut rules,
+        words: &mut words,
+        evals: &mut evals,
+    };
+    replay(&list[..n], &mut lent);
 }
