@@ -125,6 +125,7 @@ pub fn equal(
     let first = link(links, room, a, b, at);
     let mut same = first.same;
     let mut low = first.low;
+    // Stays: `low` moves while the loop goes down, so no range is known at the start.
     while at > low {
         at -= 1;
         let step = settle(words, links, room, variables, used, at, same, low);

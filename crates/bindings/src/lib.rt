@@ -49,6 +49,7 @@ pub fn occurs(terms: Terms, b: &[[u32; 2]], m: &mut [[u32; 2]], k: u32, x: u32, 
 {
     let mut t = visit(m, terms.room + terms.used, 0, r);
     let mut h = 0;
+    // Stays: the queue grows while it is gone through, so no range is known at the start.
     while h < t {
         let y = m[h as usize][1];
         if y == x {

@@ -24,6 +24,7 @@ pub fn write_bytes(bytes: &[u8], out: &mut [u8], at: usize) -> usize
     at + bytes.len()
 }
 
+// Stays: the digits go to a place of a lent buffer, each byte fixed by the contract; a formatter would be one more step to the same place.
 // Writes a number in decimal: the digits of its tenth, and then its last digit. A number of 32 bits has at most ten digits.
 pub fn write_decimal(out: &mut [u8], at: usize, number: u32) -> usize
     requires { at + length (numeral number) ≤ length out.old }

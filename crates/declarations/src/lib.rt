@@ -252,6 +252,7 @@ fn declare_clauses(
 }
 
 // The first of n clauses is the next rule; 0 where there is none.
+// Stays: the number goes into a symbol's row, which C callers lend, and 0 is what the row holds without clauses.
 fn first_clause(n: usize, number: usize) -> u32
     requires { number ≤ 1024 }
     ensures { result ≡ cond (eqb n 0) 0 number }

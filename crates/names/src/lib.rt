@@ -20,6 +20,7 @@ pub type TermRow = [u32; 4];
 pub type VariableRow = [u32; 4];
 
 // The kind of a row that stands for a variable of flattening, whose place is in `RESULT_NAMES`.
+// Stays: C callers lend the rows, so a kind is a number there, and may be none of these; a type of kinds would be converted at each read and write.
 pub const RESULT: u32 = 27;
 
 // The names `result.1` to `result.16`, 16 bytes each.

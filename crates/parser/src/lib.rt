@@ -12,6 +12,7 @@ use declarations::declarations;
 use refusals::{Refusal, Rejection};
 
 // The kinds of rows beside those of tokens and terms.
+// Stays: C callers lend the rows, so a kind is a number there, and may be none of these; a type of kinds would be converted at each read and write.
 pub const CLAUSE: u32 = 25;
 
 pub const BINDERS: u32 = 26;

@@ -54,6 +54,7 @@ pub fn check_term(text: &[u8], rows: &[[u32; 4]], at: usize) -> Option<usize>
     left[0] = 1;
     let mut d: usize = 1;
     let mut p = at;
+    // Stays: `d` is the height of a stack of levels, which grows and shrinks.
     while 0 < d {
         let k = left[d - 1];
         if k == 0 {

@@ -8,6 +8,7 @@ pub mod terms; // terms: the cycle of calls
 pub mod lists; // names, and lists of items
 
 // The kind of an application's row, beside the kinds of tokens.
+// Stays: C callers lend the rows, so a kind is a number there, and may be none of these; a type of kinds would be converted at each read and write.
 pub const APPLICATION: u32 = 24;
 
 // How many parentheses may be open together.

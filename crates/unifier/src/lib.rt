@@ -43,6 +43,7 @@ pub struct Ending {
     pub open: u32,
 }
 
+// Stays: C programs take the answer as one number, and the count before it stands for none.
 // How unification ended, as one number for programs in other languages: how many variables are bound, and 2^31 more where the terms unify. `before` is how
 // many were bound before, as they are again where the terms do not unify.
 pub fn packed(ended: Option<u32>, before: u32) -> u64

@@ -9,6 +9,7 @@ use source_text::bytes::same;
 use source_text::numerals::{all_digits, value};
 
 // The kinds of words: the eleven keywords.
+// Stays: C callers lend the rows, so a kind is a number there, and may be none of these; a type of kinds would be converted at each read and write.
 pub const SORT: u32 = 1;
 
 pub const CTOR: u32 = 2;
@@ -32,6 +33,7 @@ pub const EVAL: u32 = 10;
 pub const CHECK: u32 = 11;
 
 // The kinds of other words.
+// Stays: C callers lend the rows, so a kind is a number there, and may be none of these; a type of kinds would be converted at each read and write.
 pub const NAME: u32 = 12;
 
 pub const METAVARIABLE: u32 = 13;

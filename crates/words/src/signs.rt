@@ -8,6 +8,8 @@ use refusals::Refusal;
 use source_text::bytes::{byte, starts_with};
 use source_text::characters::UNICODE_ARROW;
 
+// The kinds of signs.
+// Stays: C callers lend the rows, so a kind is a number there, and may be none of these; a type of kinds would be converted at each read and write.
 pub const ARROW: u32 = 15;
 
 pub const DOUBLE_ARROW: u32 = 16;

@@ -72,6 +72,7 @@ fn read_code(
 {
     let mut at = 0;
     let mut n = count;
+    // Stays: a step is as long as a token, and one byte only at a blank.
     while at < code.len() {
         match item_at(classes, code, at) {
             Ok(None) => {
