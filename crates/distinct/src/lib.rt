@@ -66,6 +66,7 @@ fn merge(
 }
 
 // Sorts the places from `from` on and before `to` by their names; where a name stands twice, the answer is no.
+// Stays: std's sort would not end at the first name that stands twice, and would need a second pass over the sorted names to find it.
 fn sort(text: &[u8], places: &mut [SortRow], spare: &mut [SortRow], from: usize, to: usize) -> bool
     requires { (from ≤ to) × (to ≤ length places.old) × (to ≤ length spare.old) }
     ensures { Sorted (name_at text.now places.old) (name_at text.now places.old) (name_at text.now places.new) from to result }
