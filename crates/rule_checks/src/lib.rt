@@ -125,28 +125,38 @@ fn are_roots(words: &[u32], from: u32, middle: u32, references: &[u32]) -> bool
     true
 }
 
-// Whether the words of premises and conclusion are in form, and the references of a row are theirs.
-fn are_parts(
-    arities: &[u32],
-    words: &[u32],
+// A rule's row and its words: those of its premises from `from` up to `middle`, and those of its conclusion from there up to `end`.
+#[derive(Clone, Copy)]
+struct PlacedRule<'a> {
+    row: &'a RuleRow,
+    words: &'a [u32],
     from: u32,
     middle: u32,
     end: u32,
-    rule: &RuleRow,
-) -> bool
-    requires { (column rule.now 4 ≤ 16) × (from ≤ middle) × (middle ≤ end) × (end ≤ length words.now) × (pattern_room + end ≤ headers) }
-    ensures { Tells result (Parts arities.now words.now from middle end rule.now) }
+}
+
+// Whether the words of premises and conclusion are in form, and the references of the row are theirs.
+fn are_parts(arities: &[u32], rule: PlacedRule) -> bool
+    requires { (column rule.row.now 4 ≤ 16) × (rule.from ≤ rule.middle) × (rule.middle ≤ rule.end) × (rule.end ≤ length rule.words.now) × (pattern_room + rule.end ≤ headers) }
+    ensures { Tells result (Parts arities.now rule.entry.words.now rule.entry.from rule.entry.middle rule.entry.end rule.entry.row.now) }
 {
+    let PlacedRule {
+        row,
+        words,
+        from,
+        middle,
+        end,
+    } = rule;
     if !arena::check_words(words, from, middle, ROOM, ROOM, arities) {
         return false;
     }
-    if !are_roots(words, from, middle, &rule[10..10 + rule[4] as usize]) {
+    if !are_roots(words, from, middle, &row[10..10 + row[4] as usize]) {
         return false;
     }
     if !arena::check_words(words, middle, end, ROOM, ROOM, arities) {
         return false;
     }
-    arena::is_argument(words, middle, ROOM, ROOM, end, rule[5])
+    arena::is_argument(words, middle, ROOM, ROOM, end, row[5])
 }
 
 // Meets the variables of a row's premises in writing order, none of which has a place before; answers how many have places then, where the premises
@@ -209,28 +219,28 @@ fn are_placed(words: &[u32], places: &[u32]) -> bool
 }
 
 // Whether the terms of a row take the words that it counts, and its variables are numbered in writing order. The stack is scratch.
-fn is_in_order(
-    words: &[u32],
-    from: u32,
-    middle: u32,
-    end: u32,
-    rule: &RuleRow,
-    stack: &mut [[u32; 2]],
-) -> bool
-    requires { OrderAsked from middle end rule.now × Walkable words.now end rule.now × (2048 ≤ length stack.old) }
-    ensures { Tells result (InOrder words.now from rule.now) }
+fn is_in_order(rule: PlacedRule, stack: &mut [[u32; 2]]) -> bool
+    requires { OrderAsked rule.from rule.middle rule.end rule.row.now × Walkable rule.words.now rule.end rule.row.now × (2048 ≤ length stack.old) }
+    ensures { Tells result (InOrder rule.entry.words.now rule.entry.from rule.entry.row.now) }
 {
+    let PlacedRule {
+        row,
+        words,
+        from,
+        middle,
+        end,
+    } = rule;
     let mut places = [64u32; 64];
-    let Some(met) = walk_premises(words, end, rule, &mut places, stack) else {
+    let Some(met) = walk_premises(words, end, row, &mut places, stack) else {
         return false;
     };
     if !are_placed(&words[from as usize..middle as usize], &places) {
         return false;
     }
-    let Some(all) = walk_term(words, rule[5], end, &mut places, met, rule[8], stack) else {
+    let Some(all) = walk_term(words, row[5], end, &mut places, met, row[8], stack) else {
         return false;
     };
-    if all != rule[3] {
+    if all != row[3] {
         return false;
     }
     meeting::is_in_order(&places, all)
@@ -282,27 +292,27 @@ fn are_places(rule: &RuleRow, places: &[u32]) -> bool
 }
 
 // Whether a row has the variables of its conclusion counted and the places of all in meeting order. The stack is scratch.
-fn is_in_places(
-    words: &[u32],
-    from: u32,
-    middle: u32,
-    end: u32,
-    rule: &RuleRow,
-    stack: &mut [[u32; 2]],
-) -> bool
-    requires { OrderAsked from middle end rule.now × Walkable words.now end rule.now × InOrder words.now from rule.now × (2048 ≤ length stack.old) }
-    ensures { Tells result (InPlaces words.now from rule.now) }
+fn is_in_places(rule: PlacedRule, stack: &mut [[u32; 2]]) -> bool
+    requires { OrderAsked rule.from rule.middle rule.end rule.row.now × Walkable rule.words.now rule.end rule.row.now × InOrder rule.words.now rule.from rule.row.now × (2048 ≤ length stack.old) }
+    ensures { Tells result (InPlaces rule.entry.words.now rule.entry.from rule.entry.row.now) }
 {
+    let PlacedRule {
+        row,
+        words,
+        from: _,
+        middle,
+        end,
+    } = rule;
     let mut places = [64u32; 64];
-    let met = walk(words, rule[5], end, &mut places, 0, stack);
-    if met != rule[9] {
+    let met = walk(words, row[5], end, &mut places, 0, stack);
+    if met != row[9] {
         return false;
     }
     if !are_placed(&words[middle as usize..end as usize], &places) {
         return false;
     }
-    walk_back(words, end, rule, &mut places, met, stack);
-    are_places(rule, &places)
+    walk_back(words, end, row, &mut places, met, stack);
+    are_places(row, &places)
 }
 
 // Tests a rule, whose words start at `from`; `used` words are in use, and there are so many sorts. Answers where the rule's words end, if row and words
@@ -329,13 +339,20 @@ pub fn check_rule(
     }
     let middle = from + rule[7];
     let end = middle + rule[8];
-    if !are_parts(arities, words, from, middle, end, rule) {
+    let placed = PlacedRule {
+        row: rule,
+        words,
+        from,
+        middle,
+        end,
+    };
+    if !are_parts(arities, placed) {
         return None;
     }
-    if !is_in_order(words, from, middle, end, rule, stack) {
+    if !is_in_order(placed, stack) {
         return None;
     }
-    if !is_in_places(words, from, middle, end, rule, stack) {
+    if !is_in_places(placed, stack) {
         return None;
     }
     Some(end)

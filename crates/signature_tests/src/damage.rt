@@ -70,6 +70,7 @@ fn is_taken(loaded: &Loaded) -> bool
 }
 
 // Is it accepted with another number in the row of a sort? The storage is left as it was.
+// Stays: the four functions write four fields; one function would need the field lent and the rest tested in a closure, which reads no plainer.
 fn is_taken_with_sort(loaded: &mut Loaded, i: usize, column: usize, value: u32) -> bool
     requires { (i < length loaded.old.sorts.now) × (column < 2) }
     ensures checked { SignatureChecked loaded.old.text.now (record (loaded_in loaded.old) { sorts = changed loaded.old.sorts.now i column value }) result }

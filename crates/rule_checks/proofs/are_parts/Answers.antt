@@ -1,6 +1,6 @@
 -- `are_parts` meets its contract: it tells whether words and references are in form.
 -- Each way out is one of the tests of words and references.
-use Rattle.std.proofs.Common.{◌≡◌, ℕ, List, true, sym, ◌∙◌, arith}
+use Rattle.std.proofs.Common.{length, ◌≡◌, ℕ, List, true, sym, ◌∙◌, arith}
 use Rattle.arena.specs.Form.{is_argument}
 use Rattle.names.specs.Symbols.{column}
 use Rattle.rule_checks.specs.Steps.{place_from}
@@ -14,16 +14,16 @@ Root words from middle r = is_argument (place_from words from) middle r ≡ true
 
 pub returns-then-not-are_roots : goal.returns-then-not-are_roots
 returns-then-not-are_roots c =
-    let row = c.args.rule.now in
+    let row = c.args.rule.row.now in
     let few = c.requires.0 in
-    let long = c.told-rule in
-    tells_no (λ h. tells_false c.are_roots.ensures c.if-not-are_roots.true (each_columns row 10 0 (column row 4) (Root c.args.words.now c.args.from c.args.middle) (omega arith) (λ j _. h.roots j)))
+    let long : length row ≡ 154 = omega (arith, c.ranges.rule) in
+    tells_no (λ h. tells_false c.are_roots.ensures c.if-not-are_roots.true (each_columns row 10 0 (column row 4) (Root c.args.rule.words.now c.args.rule.from c.args.rule.middle) (omega arith) (λ j _. h.roots j)))
 
 pub returns : goal.returns
 returns c =
-    let row = c.args.rule.now in
+    let row = c.args.rule.row.now in
     let few = c.requires.0 in
-    let long = c.told-rule in
+    let long : length row ≡ 154 = omega (arith, c.ranges.rule) in
     let check-words = c.check_words in
     let if1 = c.if-not-check_words in
     let are-roots = c.are_roots in
@@ -35,7 +35,7 @@ returns c =
       yes = λ e. record {
         premises = sym check-words.ensures
             ∙ if1.false;
-        roots = λ j. columns_each row 10 0 (column row 4) (Root c.args.words.now c.args.from c.args.middle) (omega arith) (are-roots.ensures.yes if2.false) j (omega arith);
+        roots = λ j. columns_each row 10 0 (column row 4) (Root c.args.rule.words.now c.args.rule.from c.args.rule.middle) (omega arith) (are-roots.ensures.yes if2.false) j (omega arith);
         conclusion = sym check-words2.ensures
             ∙ if3.false;
         root = sym is-argument.ensures

@@ -27,7 +27,7 @@ returns-then-not-are_placed c =
     let rec = walk-premises.ensures.records _ c.in-Some.is [] records_new in
     let m = pre.0.middle in
     let z = pre.0.last in
-    tells_no (λ h. tells_false are-placed.ensures (if1.true) (each_part args.words.now args.from args.middle (PlacedWord walk-premises.new.places) (omega (arith, pre.1.within)) (listed_placed (premises_of args.words.now args.rule.now) rec args.words.now args.from args.middle (λ a l b. h.listed a l (omega arith)))))
+    tells_no (λ h. tells_false are-placed.ensures (if1.true) (each_part args.rule.words.now args.rule.from args.rule.middle (PlacedWord walk-premises.new.places) (omega (arith, pre.1.within)) (listed_placed (premises_of args.rule.words.now args.rule.row.now) rec args.rule.words.now args.rule.from args.rule.middle (λ a l b. h.listed a l (omega arith)))))
 
 pub walk_term-requires : goal.walk_term-requires
 walk_term-requires c =
@@ -38,11 +38,11 @@ walk_term-requires c =
     let w = pre.1 in
     (omega arith, record { within = w.within; low = w.low; formed = w.formed; root = w.root }, lent_kept walk-premises.auto.places walk-premises.auto.stack (lent_new {stack = args.stack.now} pre.2), (_, walk-premises.ensures.records _ c.in-Some.is [] records_new))
 
-pub returns-then-all-rule : goal.returns-then-all-rule
-returns-then-all-rule c =
+pub returns-then-all-row : goal.returns-then-all-row
+returns-then-all-row c =
     let walk-premises = c.walk_premises in
     let walk-term = c.walk_term in
-    let if2 = c.if-all-rule in
+    let if2 = c.if-all-row in
     let rec = walk-premises.ensures.records _ c.in-Some.is [] records_new in
     let both = walk-term.ensures.records _ c.in-Some-walk_term.is _ rec in
     tells_no (λ h. if2.true (both.counted ∙ ap length h.order ∙ numbers_count _))
@@ -56,7 +56,7 @@ returns c =
     let are-placed = c.are_placed in
     let if1 = c.if-not-are_placed in
     let is-in-order = c.is_in_order in
-    let if2 = c.if-all-rule in
+    let if2 = c.if-all-row in
     let rec = walk-premises.ensures.records _ c.in-Some.is [] records_new in
     let both = walk-term.ensures.records _ c.in-Some-walk_term.is _ rec in
     let m = pre.0.middle in
@@ -64,7 +64,7 @@ returns c =
     record {
       yes = λ e. record {
         body = walk-premises.ensures.fits _ c.in-Some.is;
-        listed = λ a l b. placed_listed (premises_of args.words.now args.rule.now) rec args.words.now args.from args.middle (part_each args.words.now args.from args.middle (PlacedWord walk-premises.new.places) (omega (arith, pre.1.within)) (are-placed.ensures.yes if1.false)) a l (omega arith);
+        listed = λ a l b. placed_listed (premises_of args.rule.words.now args.rule.row.now) rec args.rule.words.now args.rule.from args.rule.middle (part_each args.rule.words.now args.rule.from args.rule.middle (PlacedWord walk-premises.new.places) (omega (arith, pre.1.within)) (are-placed.ensures.yes if1.false)) a l (omega arith);
         head = walk-term.ensures.fits _ c.in-Some-walk_term.is;
         order = order_list both (sym is-in-order.ensures ∙ e)
             ∙ ap numbers_below if2.false;

@@ -13,8 +13,8 @@ use Rattle.rule_checks.proofs.is_in_places.Goals as goal
 pub walk-met-requires : goal.walk-met-requires
 walk-met-requires c = let pre = c.requires in (conclusion_asked pre.1 pre.0 pre.2, lent_new pre.3, ([], records_new))
 
-pub returns-then-met-rule : goal.returns-then-met-rule
-returns-then-met-rule c = tells_no (λ h. c.if-met-rule.true ((c.walk-met.ensures [] records_new).counted ∙ sym h.meets))
+pub returns-then-met-row : goal.returns-then-met-row
+returns-then-met-row c = tells_no (λ h. c.if-met-row.true ((c.walk-met.ensures [] records_new).counted ∙ sym h.meets))
 
 pub returns-then-not-are_placed : goal.returns-then-not-are_placed
 returns-then-not-are_placed c =
@@ -25,7 +25,7 @@ returns-then-not-are_placed c =
     let walk = c.walk-met in
     let m = pre.0.middle in
     let z = pre.0.last in
-    tells_no (λ h. tells_false are-placed.ensures (if2.true) (each_part args.words.now args.middle args.end (PlacedWord walk.new.places) pre.1.within (listed_placed (conclusion_of args.words.now args.rule.now) (walk.ensures [] records_new) args.words.now args.middle args.end (λ a l b. h.listed a (omega arith) (omega arith)))))
+    tells_no (λ h. tells_false are-placed.ensures (if2.true) (each_part args.rule.words.now args.rule.middle args.rule.end (PlacedWord walk.new.places) pre.1.within (listed_placed (conclusion_of args.rule.words.now args.rule.row.now) (walk.ensures [] records_new) args.rule.words.now args.rule.middle args.rule.end (λ a l b. h.listed a (omega arith) (omega arith)))))
 
 pub walk_back-requires : goal.walk_back-requires
 walk_back-requires c =
@@ -39,7 +39,7 @@ returns c =
     let pre = c.requires in
     let walk = c.walk-met in
     let walk-back = c.walk_back in
-    let if1 = c.if-met-rule in
+    let if1 = c.if-met-row in
     let args = c.args in
     let are-placed = c.are_placed in
     let if2 = c.if-not-are_placed in
@@ -52,7 +52,7 @@ returns c =
       yes = λ e. record {
         meets = sym if1.false
             ∙ rec.counted;
-        listed = λ a l b. placed_listed (conclusion_of args.words.now args.rule.now) rec args.words.now args.middle args.end (part_each args.words.now args.middle args.end (PlacedWord walk.new.places) pre.1.within (are-placed.ensures.yes if2.false)) a (omega arith) (omega arith);
+        listed = λ a l b. placed_listed (conclusion_of args.rule.words.now args.rule.row.now) rec args.rule.words.now args.rule.middle args.rule.end (part_each args.rule.words.now args.rule.middle args.rule.end (PlacedWord walk.new.places) pre.1.within (are-placed.ensures.yes if2.false)) a (omega arith) (omega arith);
         placed = λ x l. sym (are-places.ensures.yes e x l)
             ∙ placed x l;
       };
