@@ -12,6 +12,7 @@ use attempts::{Stored, Tried, try_rule};
 use rules::RuleRow;
 
 // What a row says of its rule.
+// Stays: neither the row nor what it says is a type of this crate, so that no `From` can stand here.
 fn stored_in(row: &RuleRow) -> Stored
     ensures { result ≡ stored_in row.now }
 {
