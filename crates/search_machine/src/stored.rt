@@ -13,6 +13,7 @@ use refusals::Refusal;
 use rules::RuleRow;
 
 // What a row says of its rule.
+// Stays: neither the row nor what it says is a type of this crate, so that no `From` can stand here.
 fn stored_in(row: &RuleRow) -> Stored
     ensures { result ≡ stored_in row.now }
 {
