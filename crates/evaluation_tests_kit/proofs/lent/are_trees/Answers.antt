@@ -1,17 +1,7 @@
 -- `are_trees` meets its contract. The loop's invariant: the trees from `from` on are all the value exactly when those from i on are.
-use Rattle.std.proofs.Common.{◌&&◌, length, drop, sym, ap, ◌∙◌, rules, le-leb}
-use borrow.Author.Tests.{lt-leb}
-use Rattle.signature_tests.specs.Rows.{are_all}
+use Rattle.std.proofs.Common.{sym, ◌∙◌, rules}
 use Rattle.signature_tests.proofs.Laws.{next_row, unequal_row, no_row}
 use Rattle.evaluation_tests_kit.proofs.lent.are_trees.Goals as goal
-
-pub returns-then-trees-from : goal.returns-then-trees-from
-returns-then-trees-from c =
-    sym (ap (λ b. b && are_all (c.args.value) (drop (c.args.from) (c.args.trees.now))) (lt-leb (c.args.from) (length (c.args.trees.now)) (c.if-trees-from.true)))
-
-pub loop-i-init : goal.loop-i-init
-loop-i-init c =
-    (search rules, ap (λ b. b && are_all (c.args.value) (drop (c.args.from) (c.args.trees.now))) (le-leb (c.args.from) (length (c.args.trees.now)) (c.if-trees-from.false)))
 
 pub returns-then-not-is_tree : goal.returns-then-not-is_tree
 returns-then-not-is_tree c =
