@@ -56,7 +56,6 @@ returns-in_err-walked c =
     rw c.from_residual.ensures (walked_differs (premises_of args.words.now args.rule.now) (going_over (term_of args.words.now) args.rule.now _ loop.invariant.1 (omega (arith, c.loop-reference-test.true)) _ loop.invariant.0 (rw e at (walked_over c.meet.ensures known.1 c.in_err-walked.was))))
 
 pub overflow_add-spent : goal.overflow_add-spent
-
 overflow_add-spent c =
     let known = c.loop-reference.invariant.1.recorded [] c.requires.3 in
     let counted = (walked_places c.meet.ensures known.1 _ c.in_ok-walked.was).allowed in
