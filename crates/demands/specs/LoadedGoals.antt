@@ -1,8 +1,8 @@
 -- The goals of a loaded text (document 01, "Terms and declarations": `#eval` terms wait until everything is loaded): each row of `evals`
 -- that
 -- `load` leaves has the line and the row of one `#eval`, and from that row on there are the rows of a goal, which is the one written there.
-use Rattle.std.specs.Prelude.{ℕ, zero, suc, ◌+◌, ◌<◌, ◌≡◌, refl, List, [], ◌∷◌, ◌++◌, length, get_or}
-use Rattle.std.proofs.Common.{arith, ap, ◌∙◌, length-append}
+use Rattle.std.specs.Prelude.{ℕ, zero, suc, ◌+◌, ◌<◌, ◌≡◌, refl, Ok, List, [], ◌∷◌, ◌++◌, length, get_or}
+use Rattle.std.proofs.Common.{arith, ap, subst, ◌∙◌, length-append}
 use Rattle.std.proofs.Math.ListN.{get_or-append}
 use Rattle.words.specs.declared.Limits.{Limits}
 use Rattle.terms.specs.Numbers.{by_bool}
@@ -16,13 +16,13 @@ use Rattle.parser.specs.Rows.{declared_rows}
 use Rattle.parser.specs.Parser.{text_of, rows_after}
 use Rattle.names.specs.Symbols.{Rows, row_at}
 use Rattle.loader.specs.Signature.{Loaded, refused, loaded}
+use Rattle.loader.specs.Stored.{words_from}
 use Rattle.signature.specs.declared.Counts.{Counts}
 use Rattle.load_storage.specs.Storage.{Buffers, too_short}
-use Rattle.load.specs.Load.{declared_in, load_text, eval_of, evals_from}
+use Rattle.load.specs.Load.{Loading, RejectedBy, declared_in, load_text, eval_of, evals_from}
 use Rattle.load.specs.Loading.{Left, LoadingText}
 use Rattle.load.specs.LoadedLaws.{rows_are, evals_are}
-use Rattle.load.specs.declared.Loading.{Loading}
-use Rattle.load.specs.declared.Loading.TheVariants.{Loaded as Entered}
+use Rattle.load.specs.declared.Loaded.{Loaded as AllLoaded}
 use Rattle.term_check.specs.TermRows.{TermAt}
 use Rattle.sessions.specs.Goals.{goal_in}
 use Rattle.sessions.specs.GoalRowLaws.{goal_rows, goal_written}
@@ -128,22 +128,30 @@ parsed_goal text limits m (parsed ds n) e i l =
 parsed_goal text limits m absent e i l = absurd (omega arith)
 parsed_goal text limits m (barred r line) e i l = absurd (omega arith)
 
--- Each of the k rows of `#eval` that `load` counts.
+-- Each of the rows of `#eval` that `load` counts.
 pub loaded_goal : (text : List ℕ) (limits : Limits) (b b' : Buffers) (r : Loading) → LoadingText text limits b r b'
-    → (n k : ℕ) (c : Counts) → r ≡ Entered n k c → (i : ℕ) → i < k
+    → (l : AllLoaded) → r ≡ Ok l → (i : ℕ) → i < l.evals
     → GoalLoaded text (declared_in (text_of text limits)) b'.rows (row_at b'.evals i)
-loaded_goal text limits b b' r done n k c q i l = by_bool (too_short limits b)
-    (λ e. absurd (let a = (done.short e).0 in let z : ◌≡◌ {A = ℕ} 0 1 = cc in omega arith))
+loaded_goal text limits b b' r done l q i below = by_bool (too_short limits b)
+    (λ e. absurd (subst (λ (x : Loading). RejectedBy 1 0 x) q (done.short e).0))
     (λ e. go (load_text text limits) (done.enough e))
   where
     ds : List Declared
     ds = declared_in (text_of text limits)
 
     go : (o : Loaded) → Left text limits b ds o r b' → GoalLoaded text ds b'.rows (row_at b'.evals i)
-    go (refused e line) h = absurd (let a = h.0 in let z : ◌≡◌ {A = ℕ} 0 1 = cc in omega arith)
+    go (refused e line) h = absurd (subst (λ (x : Loading). RejectedBy e line x) q h.0)
     go (loaded s) h =
+        let counts : Counts = record {
+          sorts = length s.sorts;
+          symbols = length s.symbols;
+          rules = length s.rules;
+          words = length (words_from s.rules 0);
+        } in
+        let stored : AllLoaded = record { declarations = length ds; evals = length (evals_from 0 ds); counts = counts } in
         let a = h.answer in
-        let count : length (evals_from 0 ds) ≡ k = cc in
+        let same : stored ≡ l = cc in
+        let count : length (evals_from 0 ds) ≡ l.evals = ap (λ (x : AllLoaded). x.evals) same in
         let short : i < length (evals_from 0 ds) = omega arith in
         let row : row_at b'.evals i ≡ get_or (evals_from 0 ds) i [] =
         ap (λ (x : Rows). row_at x i) (evals_are h) ∙ get_or-append (evals_from 0 ds) _ [] i short in

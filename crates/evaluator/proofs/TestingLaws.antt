@@ -16,17 +16,14 @@ use Rattle.words.specs.declared.Limits.{Limits}
 use Rattle.names.specs.Symbols.{Rows}
 use Rattle.term_check.specs.TermRows.{Checking}
 use Rattle.term_check.specs.TermLaws.{term_stands}
-use Rattle.term_check.specs.declared.TermChecked.{TermChecked}
-use Rattle.term_check.specs.declared.TermChecked.TheVariants.{Ends, NoTerm}
-use Rattle.signature.specs.Form.{Checked}
-use Rattle.signature.specs.Storage.{SignatureStore, symbols_in}
+use Rattle.signature.specs.Storage.{SignatureStore, SignatureChecked, symbols_in}
 use Rattle.evaluation.specs.Expressions.{is_forward_call}
 use Rattle.forward_calls.specs.Forward.{ForwardAsked, ForwardAnswered}
 use Rattle.function_calls.specs.Calls.{tree_rows}
 use Rattle.evaluator.specs.Storage.{Results, is_short, too_short}
 use Rattle.evaluator.specs.Evaluating.{Readable, written_in, Ready, EvaluationLeft, Evaluating, Forwarding}
 use Rattle.evaluator.specs.declared.Evaluation.{Evaluation}
-use Rattle.std.specs.Prelude.{Result, Ok, Err, cond, [], ◌∷◌}
+use Rattle.std.specs.Prelude.{Option, Some, None, Result, Ok, Err, cond, [], ◌∷◌}
 use Rattle.source_text.specs.Answers.{answers}
 use Rattle.refusals.specs.declared.Refusal.{Refusal}
 use Rattle.refusals.specs.declared.Refusal.TheVariants.{Storage}
@@ -56,17 +53,15 @@ short_is limits l e r b f =
 
 module _ {text : List ℕ} {sg : SignatureStore} {rows : Rows} {at : ℕ} where
   -- A signature that fails its test is not in form,
-  pub no_signature : {r : Bool} → Checked text sg.sorts sg.symbols sg.rules sg.words sg.counts.sorts sg.counts.symbols sg.counts.rules sg.counts.words r
-      → r ≡ false → Readable text sg rows at → ⊥
+  pub no_signature : {r : Bool} → SignatureChecked text sg r → r ≡ false → Readable text sg rows at → ⊥
   no_signature k e h = true_false (k.complete h.signature) e
 
   -- and rows that fail theirs are no term's.
-  pub no_term : {r : TermChecked} → Checking text rows at r → r ≡ NoTerm → Readable text sg rows at → ⊥
+  pub no_term : {r : Option ℕ} → Checking text rows at r → r ≡ None → Readable text sg rows at → ⊥
   no_term k e h = let f = k.complete h.next h.term in let z : ◌≡◌ {A = ℕ} 0 1 = cc in let y : ⊥ = omega arith in y
 
-  pub is_readable : {r : Bool} {t : TermChecked} {q : ℕ}
-      → Checked text sg.sorts sg.symbols sg.rules sg.words sg.counts.sorts sg.counts.symbols sg.counts.rules sg.counts.words r → r ≡ true
-      → Checking text rows at t → t ≡ Ends q → Readable text sg rows at
+  pub is_readable : {r : Bool} {t : Option ℕ} {q : ℕ}
+      → SignatureChecked text sg r → r ≡ true → Checking text rows at t → t ≡ Some q → Readable text sg rows at
   is_readable {q = q} k e l f = record { signature = k.sound e; next = q; term = l.sound q f }
 
 -- `evaluate`

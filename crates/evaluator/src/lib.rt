@@ -6,17 +6,15 @@
 #![tactic(auto)]
 
 ghost use Rattle.std.specs.Prelude.{◌≡◌, ◌≤◌, length};
-ghost use Rattle.load_storage.specs.Storage.{cleared_from};
 ghost use Rattle.function_calls.specs.Calls.{tree_rows};
 ghost use Rattle.signature.specs.Storage.{store_of};
-ghost use Rattle.evaluator.specs.Storage.{is_short, zero_tree, wiped};
+ghost use Rattle.evaluator.specs.Storage.{is_short, wiped};
 ghost use Rattle.evaluator.specs.Evaluating.{Ready, EvaluationLeft, Evaluating, Forwarding};
 
 use function_calls::{MAX_CALLS, MAX_DEPTH, Program, TreeRow};
-use patterns::TermRow;
+use names::TermRow;
 use refusals::Refusal;
 use signature::StoredSignature;
-use term_check::TermChecked;
 use words::Limits;
 
 // The scratch behind the words, and the rows of the stack: as many as a rule's terms may take words, and one more.
@@ -50,14 +48,6 @@ fn is_short(most: u32, words: &[u32], links: &[u32], trees: &[TreeRow]) -> bool
     }
     let rows = tree_rows(most);
     trees.len() < rows
-}
-
-// Zeroes the rows of trees from a place on.
-fn clear_trees(trees: &mut [TreeRow], from: usize)
-    requires { from ≤ length trees.old }
-    ensures { trees.new ≡ cleared_from zero_tree from trees.old }
-{
-    trees[from..].fill([0; 8]);
 }
 
 // Zeroes all that was lent to write.
@@ -114,7 +104,7 @@ pub fn evaluate_listed(
         }
         Ok(expressed) => {
             arena::clear(words, expressed.used);
-            clear_trees(trees, expressed.calls as usize);
+            load_storage::clear_rows(trees, expressed.calls as usize);
             Ok(Evaluation {
                 value: expressed.value,
                 calls: expressed.calls,
@@ -142,17 +132,10 @@ pub fn evaluate(
     if is_short(most, words, links, trees) {
         return Err(Refusal::Storage);
     }
-    if !signature::check_signature(
-        text,
-        signature.sorts,
-        signature.symbols,
-        signature.rules,
-        signature.words,
-        signature.counts,
-    ) {
+    if !signature::check_signature(text, signature) {
         return Err(Refusal::Storage);
     }
-    let TermChecked::Ends(_) = term_check::check_term(text, rows, at) else {
+    let Some(_) = term_check::check_term(text, rows, at) else {
         return Err(Refusal::Storage);
     };
     evaluate_listed(text, limits, signature, rows, at, words, links, trees)
@@ -167,17 +150,10 @@ pub fn is_forward_call(
 ) -> Result<bool, Refusal>
     ensures { Forwarding text.now (store_of signature.entry) rows.now at result }
 {
-    if !signature::check_signature(
-        text,
-        signature.sorts,
-        signature.symbols,
-        signature.rules,
-        signature.words,
-        signature.counts,
-    ) {
+    if !signature::check_signature(text, signature) {
         return Err(Refusal::Storage);
     }
-    let TermChecked::Ends(_) = term_check::check_term(text, rows, at) else {
+    let Some(_) = term_check::check_term(text, rows, at) else {
         return Err(Refusal::Storage);
     };
     let symbols = &signature.symbols[..signature.counts.symbols as usize];

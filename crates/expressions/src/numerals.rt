@@ -21,10 +21,9 @@ fn find_constructor(
     requires { count ≤ length symbols.now }
     ensures { ConstructorFound text.now symbols.now count name.now result }
 {
-    let i = names::find_symbol(text, symbols, count, name);
-    if count <= i {
+    let Some(i) = names::find(text, &symbols[..count], name) else {
         return Err(Refusal::NoNumerals);
-    }
+    };
     if symbols[i][2] == 0 {
         return Err(Refusal::NoNumerals);
     }

@@ -5,7 +5,7 @@ use super::applying::{apply, check_use};
 use super::nodes::sort_of;
 use super::numerals::numeral;
 use function_calls::{MAX_DEPTH, Program, TreeRow};
-use patterns::TermRow;
+use names::TermRow;
 use refusals::Refusal;
 
 // A term that has a value: the value, the row behind the term, the calls made and the words used then.
@@ -141,10 +141,15 @@ pub fn expression(
     if kind == words::METAVARIABLE {
         return Err(Refusal::NotGround);
     }
-    let i = names::symbol_of(text, program.symbols, count, kind, rows[at][1], rows[at][2]);
-    if count <= i {
+    let Some(i) = names::find_at(
+        text,
+        &program.symbols[..count],
+        kind,
+        rows[at][1],
+        rows[at][2],
+    ) else {
         return Err(Refusal::UnknownSymbol);
-    }
+    };
     let arguments = rows[at][3] as usize;
     check_use(program.symbols, count, i, arguments)?;
     application(

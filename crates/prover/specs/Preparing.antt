@@ -1,6 +1,6 @@
 -- A goal before its search (document 01, "Search" and the table's order: 19 to 28, then 37): compiled against the session's names, and
 -- stored where the limits allow.
-use Rattle.std.specs.Prelude.{ℕ, ◌+◌, ◌≤◌, ◌<◌, ◌≡◌, Bool, true, false, List, length, Result, Ok, Err}
+use Rattle.std.specs.Prelude.{ℕ, ◌+◌, ◌≤◌, ◌<◌, ◌≡◌, Bool, true, false, List, length, Result, Ok}
 use Rattle.words.specs.Lexer.{capped_of}
 use Rattle.words.specs.declared.Limits.{Limits}
 use Rattle.terms.specs.Term.{Term}
@@ -11,6 +11,8 @@ use Rattle.names.specs.Symbols.{Rows, column, row_at, symbols_of}
 use Rattle.resolution.specs.Search.{words, over}
 use Rattle.resolution.specs.Session.{Compiled, refuses, compiles, goal_of, limits_of}
 use Rattle.resolution.specs.Session as theory
+use Rattle.refusals.specs.declared.Refusal.{Refusal}
+use Rattle.patterns.specs.Refused.{Refuses}
 use Rattle.rules.specs.PatternLaws.{arities_of}
 use Rattle.deepening.specs.Clearing.{ClearFrom}
 use Rattle.sessions.specs.Storage.{SessionStore, session_of, SessionListed, zero_name}
@@ -40,8 +42,8 @@ pub record PrepareAsked (text : List ℕ) (limits : Limits) (symbols : Rows) (co
   pub words_clear : ClearFrom 0 words n.words
 
 -- Refused, and nothing was written.
-pub record NotStored (names : Rows) (words : List ℕ) (r : Result StoredGoal ℕ) (names' : Rows) (words' : List ℕ) (e : ℕ) : Type 0 where
-  pub answer : r ≡ Err e
+pub record NotStored (names : Rows) (words : List ℕ) (r : Result StoredGoal Refusal) (names' : Rows) (words' : List ℕ) (e : ℕ) : Type 0 where
+  pub answer : Refuses e r
   pub names_are : names' ≡ names
   pub words_are : words' ≡ words
 
@@ -64,19 +66,19 @@ pub record GoalStands (text arities : List ℕ) (b : SessionStore) (n : SessionC
   pub names : Continued zero_name n.names g.names b.names names'
   pub words : Continued 0 n.words g.words b.words words'
 
-pub record IsStored (text arities : List ℕ) (b : SessionStore) (n : SessionCounts) (r : Result StoredGoal ℕ) (names' : Rows) (words' : List ℕ)
+pub record IsStored (text arities : List ℕ) (b : SessionStore) (n : SessionCounts) (r : Result StoredGoal Refusal) (names' : Rows) (words' : List ℕ)
     (new : List theory.Name) (p : Term) : Type 0 where
   pub goal : StoredGoal
   pub answer : r ≡ Ok goal
   pub stands : GoalStands text arities b n names' words' new p goal
 
 -- 37 where it is over the limits,
-abbrev pub Within : List ℕ → List ℕ → SessionStore → SessionCounts → Result StoredGoal ℕ → Rows → List ℕ → List theory.Name → Term → Bool → Type 0
+abbrev pub Within : List ℕ → List ℕ → SessionStore → SessionCounts → Result StoredGoal Refusal → Rows → List ℕ → List theory.Name → Term → Bool → Type 0
 Within text arities b n r names' words' new p true = NotStored b.names b.words r names' words' 37
 Within text arities b n r names' words' new p false = IsStored text arities b n r names' words' new p
 
 -- for a goal that compiles.
-abbrev pub Prepares : List ℕ → Limits → List ℕ → SessionStore → SessionCounts → Result StoredGoal ℕ → Rows → List ℕ → Compiled → Type 0
+abbrev pub Prepares : List ℕ → Limits → List ℕ → SessionStore → SessionCounts → Result StoredGoal Refusal → Rows → List ℕ → Compiled → Type 0
 Prepares text limits arities b n r names' words' (refuses e) = NotStored b.names b.words r names' words' e
 Prepares text limits arities b n r names' words' (compiles new p) =
     Within text arities b n r names' words' new p
@@ -84,7 +86,7 @@ Prepares text limits arities b n r names' words' (compiles new p) =
 
 -- Whatever session in form this is a part of, and whatever term stands at the row.
 pub record Preparing (text : List ℕ) (limits : Limits) (symbols : Rows) (count : ℕ) (rows : Rows) (at : ℕ) (names : Rows)
-    (words : List ℕ) (n : SessionCounts) (r : Result StoredGoal ℕ) (names' : Rows) (words' : List ℕ) : Type 0 where
+    (words : List ℕ) (n : SessionCounts) (r : Result StoredGoal Refusal) (names' : Rows) (words' : List ℕ) : Type 0 where
   pub says : (sorts : ℕ) (bindings : Rows) → (capped_of limits).variables ≤ length bindings
       → SessionListed text (arities_of (symbols_of text symbols count)) sorts (store_of names words bindings) n
       → (q : ℕ) (g : TermAt text rows at q)

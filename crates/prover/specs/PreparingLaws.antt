@@ -2,7 +2,7 @@
 -- it is in form.
 use Prim.Native.Nat.{ℕ, ◌+◌, ◌-◌, ◌≤◌, ◌<◌, min}
 use native.Mathlib.Omega.{arith}
-use Rattle.std.specs.Prelude.{Ok, Err, ◌≡◌, refl, Bool, true, false, ◌||◌, ltb}
+use Rattle.std.specs.Prelude.{Result, Ok, Err, ◌≡◌, refl, Bool, true, false, ◌||◌, ltb}
 use Rattle.std.proofs.Math.Path.{sym, ap}
 use Rattle.std.proofs.Common.{ap₂, ◌∙◌, subst, length-take-le, take_at, drop_at}
 use mathlib.Core.List.{List, [], ◌++◌, append_assoc}
@@ -37,8 +37,8 @@ use Rattle.goals.specs.StoringLaws.{store_copyable}
 use Rattle.goals.specs.GoalLaws.{GoalGood, goal_agrees, names_part, goal_good}
 use Rattle.goals.specs.SessionLaws.{new_count, goal_size, session_asked, session_denotes, session_reference, session_made}
 use Rattle.goals.specs.declared.Goal.{Goal}
-use Rattle.goals.specs.declared.Outcome.{Outcome}
-use Rattle.goals.specs.declared.Outcome.TheVariants.{Refused as Barred, Done}
+use Rattle.refusals.specs.declared.Refusal.{Refusal}
+use Rattle.refusals.specs.declared.Refusal.TheVariants.{OverLimit}
 use Rattle.prover.specs.Preparing.{store_of, PrepareAsked, IsStored, Within, Prepares, Preparing}
 
 -- The limits
@@ -175,32 +175,32 @@ module _ {text : List ℕ} {limits : Limits} {symbols : Rows} {count : ℕ} {row
       omega arith
 
   -- What was compiled
-  module _ {vx : Rows} {w wx : List ℕ} {r : Outcome} (lent : 64 ≤ length vx) (long : 2048 ≤ length w)
+  module _ {vx : Rows} {w wx : List ℕ} {r : Result Goal Refusal} (lent : 64 ≤ length vx) (long : 2048 ≤ length w)
       (bounds : Bounds (length (take n.names names)) r)
       (made : GoalMade text rows at known (take n.names names) w r vx wx) where
-    agrees : (q : ℕ) (t : TermAt text rows at q) (o : Outcome) → r ≡ o
+    agrees : (q : ℕ) (t : TermAt text rows at q) (o : Result Goal Refusal) → r ≡ o
         → Agrees text rows at q n.names w (goal_compiled known (goal_in t) old) o vx wx
     agrees q t o e =
-        subst (λ (o : Outcome). Agrees text rows at q n.names w (goal_compiled known (goal_in t) old) o vx wx) e
+        subst (λ (o : Result Goal Refusal). Agrees text rows at q n.names w (goal_compiled known (goal_in t) old) o vx wx) e
         (subst (λ (i : ℕ). Agrees text rows at q i w (goal_compiled known (goal_in t) old) r vx wx) front_length
         (subst (λ (ns : List Named). Agrees text rows at q (length (take n.names names)) w (goal_compiled known (goal_in t) ns) r vx wx)
         (names_part text names n.names) (goal_agrees made t)))
 
     -- Refused.
-    pub prepare_refused : (e : ℕ) → r ≡ Barred e → Preparing text limits symbols count rows at names ws n (Err e) names ws
+    pub prepare_refused : (e : Refusal) → r ≡ Err e → Preparing text limits symbols count rows at names ws n (Err e) names ws
     prepare_refused e d = record {
-      says = λ sorts bindings room listed q t. go bindings q (goal_compiled known (goal_in t) old) (agrees q t (Barred e) d);
+      says = λ sorts bindings room listed q t. go bindings q (goal_compiled known (goal_in t) old) (agrees q t (Err e) d);
     }
       where
-        go : (bindings : Rows) (q : ℕ) (c : Compiled) → Agrees text rows at q n.names w c (Barred e) vx wx
+        go : (bindings : Rows) (q : ℕ) (c : Compiled) → Agrees text rows at q n.names w c (Err e) vx wx
             → Prepares text limits arities (store_of names ws bindings) n (Err e) names ws c
-        go bindings q (refuses f) h = let z : e ≡ f = cc in record { answer = ap Err z; names_are = refl; words_are = refl }
+        go bindings q (refuses f) h = record { answer = h; names_are = refl; words_are = refl }
         go bindings q (compiles new p) h = absurd h
 
-    module _ (g : Goal) (is : r ≡ Done g) where
+    module _ (g : Goal) (is : r ≡ Ok g) where
       pub goal_counts : (n.names ≤ g.variables) × (g.variables ≤ 64) × (g.words ≤ 2048)
-      goal_counts = subst (λ (i : ℕ). Bounds i (Done g)) front_length
-          (subst (λ (o : Outcome). Bounds (length (take n.names names)) o) is bounds)
+      goal_counts = subst (λ (i : ℕ). Bounds i (Ok g)) front_length
+          (subst (λ (o : Result Goal Refusal). Bounds (length (take n.names names)) o) is bounds)
 
       record CompiledAs (q : ℕ) (t : TermAt text rows at q) : Type 0 where
         pub new : List theory.Name
@@ -210,14 +210,14 @@ module _ {text : List ℕ} {limits : Limits} {symbols : Rows} {count : ℕ} {row
         pub good : GoalGood known old new term
 
       compiled_as : (q : ℕ) (t : TermAt text rows at q) → CompiledAs q t
-      compiled_as q t = go (goal_compiled known (goal_in t) old) refl (agrees q t (Done g) is)
+      compiled_as q t = go (goal_compiled known (goal_in t) old) refl (agrees q t (Ok g) is)
         where
           few : length old ≤ 64
           few = let a = names_length asked.session in let f = asked.session.few_names in omega arith
 
-          go : (c : Compiled) → goal_compiled known (goal_in t) old ≡ c → Agrees text rows at q n.names w c (Done g) vx wx
+          go : (c : Compiled) → goal_compiled known (goal_in t) old ≡ c → Agrees text rows at q n.names w c (Ok g) vx wx
               → CompiledAs q t
-          go (refuses e) d h = absurd (let z : ◌≡◌ {A = ℕ} 0 1 = cc in omega arith)
+          go (refuses e) d h = absurd h
           go (compiles new p) d h = record {
             new = new;
             term = p;
@@ -258,12 +258,12 @@ module _ {text : List ℕ} {limits : Limits} {symbols : Rows} {count : ℕ} {row
 
       -- Over the limits.
       pub prepare_over : over (limits_of (allowance_of limits)) total used ≡ true
-          → Preparing text limits symbols count rows at names ws n (Err 37) names ws
+          → Preparing text limits symbols count rows at names ws n (Err OverLimit) names ws
       prepare_over e = record {
         says = λ sorts bindings room listed q t.
-            subst (λ (k : Compiled). Prepares text limits arities (store_of names ws bindings) n (Err 37) names ws k)
+            subst (λ (k : Compiled). Prepares text limits arities (store_of names ws bindings) n (Err OverLimit) names ws k)
             (sym (compiled_as q t).compiled)
-            (subst (λ (v : Bool). Within text arities (store_of names ws bindings) n (Err 37) names ws (compiled_as q t).new
+            (subst (λ (v : Bool). Within text arities (store_of names ws bindings) n (Err OverLimit) names ws (compiled_as q t).new
             (compiled_as q t).term v) (sym (over_is listed q t true e))
             (record { answer = refl; names_are = refl; words_are = refl }));
       }

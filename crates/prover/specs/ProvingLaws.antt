@@ -37,6 +37,8 @@ use Rattle.search_machine.specs.Signatures.{rows_stored, rules_listed}
 use Rattle.search_machine.specs.declared.Allowed.{Allowed}
 use Rattle.search_machine.specs.declared.Store.{Store}
 use Rattle.deepening.specs.Bounds.{prove_of, Counted}
+use Rattle.refusals.specs.declared.Refusal.{Refusal}
+use Rattle.refusals.specs.Refusals.{number_of}
 use Rattle.sessions.specs.Storage.{SessionStore, session_of, is_short, zero_name, zero_tree}
 use Rattle.sessions.specs.Goals.{goal_in, goal_compiled}
 use Rattle.sessions.specs.Promises.{Asked, Given, ProveReady, allowance_of, query_of, answer_to, Continued, ProofListed}
@@ -46,8 +48,7 @@ use Rattle.sessions.proofs.AnswerLaws.{listing_is}
 use Rattle.sessions.proofs.KeepingLaws.{ask_within, stored_names}
 use Rattle.sessions.proofs.LeavingLaws.{continued_cleared, refused_leaves, nothing_leaves, undecided_leaves, proved_leaves}
 use Rattle.sessions.specs.declared.SessionCounts.{SessionCounts}
-use Rattle.sessions.specs.declared.Answer.{Answer}
-use Rattle.sessions.specs.declared.Answer.TheVariants.{Refused, Proved, Nothing, Undecided}
+use Rattle.sessions.specs.Answers.{Answer, Refused, Proved, Nothing, Undecided}
 use Rattle.prover.specs.Queries.{asked_in, session_in, given_of, given_in}
 use Rattle.prover.specs.Clearing.{PastCleared, ClearsPast}
 use Rattle.prover.specs.declared.Query.{Query}
@@ -187,11 +188,11 @@ allowed_is rules limits e =
 
 -- What `prepare` says, for the answer that it gave.
 pub at_answer : {text : List ℕ} {limits : Limits} {symbols : Rows} {count : ℕ} {rows : Rows} {at : ℕ} {names : Rows} {ws : List ℕ}
-    {n : SessionCounts} {r q : Result StoredGoal ℕ} {names' : Rows} {ws' : List ℕ}
+    {n : SessionCounts} {r q : Result StoredGoal Refusal} {names' : Rows} {ws' : List ℕ}
     → Preparing text limits symbols count rows at names ws n r names' ws' → r ≡ q
     → Preparing text limits symbols count rows at names ws n q names' ws'
 at_answer {text} {limits} {symbols} {count} {rows} {at} {names} {ws} {n} {names' = names'} {ws' = ws'} h e =
-    subst (λ (r : Result StoredGoal ℕ). Preparing text limits symbols count rows at names ws n r names' ws') e h
+    subst (λ (r : Result StoredGoal Refusal). Preparing text limits symbols count rows at names ws n r names' ws') e h
 
 module _ {sg : SignatureStore} {k : Asked} {b : SessionStore} {n : SessionCounts} (h : ClearedReady sg k b n) where
   abbrev S : Session
@@ -263,9 +264,9 @@ module _ {sg : SignatureStore} {k : Asked} {b : SessionStore} {n : SessionCounts
         ∙ ap (answered (rules_in k.text sg) S k.steps k.depth allowance) e
 
     -- Refused before its search.
-    pub prepared_refused : {e : ℕ} {N : Rows} {W : List ℕ}
+    pub prepared_refused : {e : Refusal} {N : Rows} {W : List ℕ}
         → Preparing k.text k.limits sg.symbols sg.counts.symbols k.rows k.at b.names b.words n (Err e) N W
-        → ProveLeft sg k b n (given (Refused e) N W b.bindings k.proof k.space.links k.space.marks k.space.stack)
+        → ProveLeft sg k b n (given (Refused (number_of e)) N W b.bindings k.proof k.space.links k.space.marks k.space.stack)
     prepared_refused {e} {N} {W} prepared r =
         go (goal_compiled (symbols_in k.text sg) (goal_in r.goal) S.names) refl
         (prepared.says sg.counts.sorts b.bindings sizes.bindings r.session r.next r.goal)
@@ -273,18 +274,16 @@ module _ {sg : SignatureStore} {k : Asked} {b : SessionStore} {n : SessionCounts
         go : (c : Compiled) → goal_compiled (symbols_in k.text sg) (goal_in r.goal) S.names ≡ c
             → Prepares k.text k.limits arities b n (Err e) N W c
             → ProveLeaves sg k b n (answer_to sg k b n (goal_in r.goal))
-            (given (Refused e) N W b.bindings k.proof k.space.links k.space.marks k.space.stack)
+            (given (Refused (number_of e)) N W b.bindings k.proof k.space.links k.space.marks k.space.stack)
         go (refuses f) d x =
-            let y = x.answer in
-            let z : e ≡ f = cc in
-            refused_at r e x.names_are x.words_are refl refl refl refl refl
+            let z : number_of e ≡ f = x.answer in
+            refused_at r (number_of e) x.names_are x.words_are refl refl refl refl refl
             (answer_is r (refuses f) d ∙ ap (λ (i : ℕ). record { verdict = refusal i; session = S }) (sym z))
         go (compiles new p) d x =
             by_bool (over (limits_of allowance) (n.variables + length new) (n.words + words (goal_of S p)))
             (λ t. let x' = subst (λ (v : Bool). Within k.text arities b n (Err e) N W new p v) t x in
-            let y = x'.answer in
-            let z : e ≡ 37 = cc in
-            refused_at r e x'.names_are x'.words_are refl refl refl refl refl
+            let z : number_of e ≡ 37 = x'.answer in
+            refused_at r (number_of e) x'.names_are x'.words_are refl refl refl refl refl
             (answer_is r (compiles new p) d
             ∙ ap (λ (v : Bool). answer S new (searched (rules_in k.text sg) S k.steps k.depth allowance (length new)
             (goal_of S p) v)) t
@@ -311,12 +310,11 @@ module _ {sg : SignatureStore} {k : Asked} {b : SessionStore} {n : SessionCounts
         where
           go : (c : Compiled) → goal_compiled (symbols_in k.text sg) (goal_in r.goal) S.names ≡ c
               → Prepares k.text k.limits arities b n (Ok g) N₁ W₁ c → Standing r
-          go (refuses f) d x = let y = x.answer in absurd (let z : ◌≡◌ {A = ℕ} 0 1 = cc in omega arith)
+          go (refuses f) d x = absurd x.answer
           go (compiles new p) d x =
               by_bool (over (limits_of allowance) (n.variables + length new) (n.words + words (goal_of S p)))
               (λ t. let x' = subst (λ (v : Bool). Within k.text arities b n (Ok g) N₁ W₁ new p v) t x in
-              let y = x'.answer in
-              absurd (let z : ◌≡◌ {A = ℕ} 0 1 = cc in omega arith))
+              absurd x'.answer)
               (λ t. let x' = subst (λ (v : Bool). Within k.text arities b n (Ok g) N₁ W₁ new p v) t x in
               let y = x'.answer in
               let z : x'.goal ≡ g = cc in

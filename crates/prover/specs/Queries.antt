@@ -4,7 +4,7 @@ use Rattle.names.specs.Symbols.{Rows}
 use Rattle.search_machine.specs.declared.Store.{Store}
 use Rattle.sessions.specs.Storage.{SessionStore}
 use Rattle.sessions.specs.Promises.{Asked, Given}
-use Rattle.sessions.specs.declared.Answer.{Answer}
+use Rattle.sessions.specs.Answers.{Answer}
 use Rattle.prover.specs.declared.Query.{Query}
 
 abbrev pub asked_of : Query → Rows → Rows → Rows → Rows → Asked

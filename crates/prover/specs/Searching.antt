@@ -10,8 +10,7 @@ use Rattle.search_machine.specs.declared.Store.{Store}
 use Rattle.deepening.specs.Bounds.{Asking, Counted, prove_of, Proven}
 use Rattle.sessions.specs.Storage.{zero_name}
 use Rattle.sessions.specs.declared.SessionCounts.{SessionCounts}
-use Rattle.sessions.specs.declared.Answer.{Answer}
-use Rattle.sessions.specs.declared.Answer.TheVariants.{Refused, Proved, Nothing, Undecided}
+use Rattle.sessions.specs.Answers.{Answer, Refused, Proved, Nothing, Undecided}
 use Rattle.prover.specs.declared.preparing.StoredGoal.{StoredGoal}
 
 -- The goal g in a session that had the counts n before it, with s steps and depth d.

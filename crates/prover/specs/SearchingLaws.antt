@@ -11,7 +11,7 @@ use Rattle.deepening.specs.declared.Answer.{Answer}
 use Rattle.deepening.specs.declared.Answer.TheVariants.{Proved as Shown, Nothing as Absent, Undecided as Open}
 use Rattle.sessions.specs.Storage.{zero_name}
 use Rattle.sessions.specs.declared.SessionCounts.{SessionCounts}
-use Rattle.sessions.specs.declared.Answer.TheVariants.{Refused, Proved, Nothing, Undecided}
+use Rattle.sessions.specs.Answers.{Refused, Proved, Nothing, Undecided}
 use Rattle.prover.specs.Searching.{counts_then, SearchLeft}
 use Rattle.prover.specs.declared.preparing.StoredGoal.{StoredGoal}
 

@@ -1,5 +1,5 @@
 -- The tests of `prove`: what fails one is not ready, and what passes all is.
-use Rattle.std.specs.Prelude.{ℕ, ◌≤◌, ◌<◌, ◌≡◌, refl, Bool, true, false, not, List, length}
+use Rattle.std.specs.Prelude.{ℕ, ◌≤◌, ◌<◌, ◌≡◌, refl, Bool, true, false, not, List, length, Option, Some, None}
 use Rattle.std.proofs.Common.{arith, sym, ap, subst}
 use Rattle.std.proofs.lemmas.Bool.{not-true, not-false}
 use Rattle.words.specs.Lexer.{capped_of}
@@ -7,8 +7,6 @@ use Rattle.words.specs.declared.Limits.{Limits}
 use Rattle.terms.specs.Numbers.{true_false}
 use Rattle.names.specs.Symbols.{Rows}
 use Rattle.term_check.specs.TermRows.{Checking}
-use Rattle.term_check.specs.declared.TermChecked.{TermChecked}
-use Rattle.term_check.specs.declared.TermChecked.TheVariants.{Ends, NoTerm}
 use Rattle.signature.specs.Form.{Checked}
 use Rattle.signature.specs.Storage.{SignatureStore}
 use Rattle.session_check.specs.Parts.{SessionChecked}
@@ -17,8 +15,7 @@ use Rattle.sessions.specs.Storage.{SessionStore, Workspace}
 use Rattle.sessions.specs.Promises.{Asked, Given, ProveReady, Proving}
 use Rattle.sessions.specs.declared.SessionCounts.{SessionCounts}
 use Rattle.search_machine.specs.declared.Store.{Store}
-use Rattle.sessions.specs.declared.Answer.{Answer}
-use Rattle.sessions.specs.declared.Answer.TheVariants.{Refused}
+use Rattle.sessions.specs.Answers.{Answer, Refused}
 use Rattle.prover.specs.Queries.{given_of, given_in}
 use Rattle.prover.specs.Proving.{ProveLeft, call_of, ReadyTold}
 
@@ -52,7 +49,7 @@ module _ {sg : SignatureStore} {text : List ℕ} {limits : Limits} {rows : Rows}
       → ReadyTold sg text limits rows at proof space b n space.marks false
   no_signature {r} k e = not_ready (λ steps depth h. true_false (k.complete h.signature) (not-true r e))
 
-  pub no_term : {r : TermChecked} → Checking text rows at r → r ≡ NoTerm
+  pub no_term : {r : Option ℕ} → Checking text rows at r → r ≡ None
       → ReadyTold sg text limits rows at proof space b n space.marks false
   no_term k e = not_ready (λ steps depth h.
       let f = k.complete h.next h.goal in
@@ -62,7 +59,7 @@ module _ {sg : SignatureStore} {text : List ℕ} {limits : Limits} {rows : Rows}
 
   -- The session's test decides the rest.
   pub session_told : {c : Limits} → c ≡ capped_of limits → c.steps ≤ length proof → {s : Bool} → SignatureTold text sg s → not s ≡ false
-      → {t : TermChecked} {q : ℕ} → Checking text rows at t → t ≡ Ends q → {marks' : Rows} {r : Bool}
+      → {t : Option ℕ} {q : ℕ} → Checking text rows at t → t ≡ Some q → {marks' : Rows} {r : Bool}
       → SessionChecked text limits sg.counts.sorts sg.symbols sg.counts.symbols b space n marks' r
       → ReadyTold sg text limits rows at proof space b n marks' r
   session_told {c} e l {s} k f {q = q} g is told = record {

@@ -11,17 +11,18 @@ mod testing; // whether a call is ready
 
 ghost use Rattle.search_machine.specs.Groups.{IsLent};
 ghost use Rattle.signature.specs.Storage.{store_of};
+ghost use Rattle.sessions.specs.Answers.{answer_in};
 ghost use Rattle.sessions.specs.Promises.{ProveReady, Proving};
 ghost use Rattle.prover.specs.Queries.{asked_of, asked_in, session_of, session_in, given_of, given_in};
 ghost use Rattle.prover.specs.Proving.{ClearedReady, ProveLeft};
 
 use clearing::clear_past;
-use patterns::TermRow;
+use names::TermRow;
 use preparing::{is_too_much, prepare};
 use refusals::Refusal;
 use search_machine::{Allowed, Program, Store};
 use searching::search_goal;
-use sessions::{Answer, NameRow, SessionCounts};
+use sessions::{NameRow, SessionCounts, Verdict};
 use signature::StoredSignature;
 use testing::is_ready;
 use words::Limits;
@@ -47,16 +48,14 @@ pub fn prove_cleared(
     names: &mut [NameRow],
     store: &mut Store,
     session: SessionCounts,
-) -> Answer
+) -> Result<Verdict, Refusal>
     requires { ClearedReady (store_of signature) (asked_in query store.old) (session_in names.old store.old) session }
     ensures left { ProveLeft (store_of signature.entry) (asked_in query.entry store.old)
-        (session_in names.old store.old) session (given_in result names.new store.new) }
+        (session_in names.old store.old) session (given_in (answer_in result) names.new store.new) }
     ensures lent { IsLent store.old store.new }
 {
     if is_too_much(query.limits, query.steps, query.depth) {
-        return Answer::Refused {
-            number: u32::from(Refusal::TooMuch),
-        };
+        return Err(Refusal::TooMuch);
     }
     let capped = query.limits.capped();
     let program = Program {
@@ -69,18 +68,16 @@ pub fn prove_cleared(
             rules: signature.counts.rules,
         },
     };
-    match prepare(signature, query, names, store.words, session) {
-        Err(number) => Answer::Refused { number },
-        Ok(goal) => search_goal(
-            program,
-            names,
-            store,
-            goal,
-            session,
-            query.steps,
-            query.depth,
-        ),
-    }
+    let goal = prepare(signature, query, names, store.words, session)?;
+    search_goal(
+        program,
+        names,
+        store,
+        goal,
+        session,
+        query.steps,
+        query.depth,
+    )
 }
 
 // Proves the goal of a query, in a session, where all that is read is in form and the buffers are long enough.
@@ -90,10 +87,10 @@ pub fn prove_listed(
     names: &mut [NameRow],
     store: &mut Store,
     session: SessionCounts,
-) -> Answer
+) -> Result<Verdict, Refusal>
     requires { ProveReady (store_of signature) (asked_in query store.old) (session_in names.old store.old) session }
     ensures left { ProveLeft (store_of signature.entry) (asked_in query.entry store.old)
-        (session_in names.old store.old) session (given_in result names.new store.new) }
+        (session_in names.old store.old) session (given_in (answer_in result) names.new store.new) }
     ensures lent { IsLent store.old store.new }
 {
     clear_past(names, store, session);
@@ -113,17 +110,15 @@ pub fn prove(
     marks: &mut [[u32; 2]],
     stack: &mut [[u32; 3]],
     proof: &mut [ProofRow],
-) -> Answer
+) -> Result<Verdict, Refusal>
     ensures { Proving (store_of signature.entry) (asked_of query.entry proof.old links.old marks.old stack.old)
         (session_of names.old words.old bindings.old) session
-        (given_of result names.new words.new bindings.new proof.new links.new marks.new stack.new) }
+        (given_of (answer_in result) names.new words.new bindings.new proof.new links.new marks.new stack.new) }
 {
     if !is_ready(
         signature, query, names, words, bindings, session, links, marks, stack, proof,
     ) {
-        return Answer::Refused {
-            number: u32::from(Refusal::Storage),
-        };
+        return Err(Refusal::Storage);
     }
     let mut store = Store {
         words,

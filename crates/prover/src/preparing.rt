@@ -6,7 +6,6 @@ ghost use Rattle.sessions.specs.Promises.{allowance_of};
 ghost use Rattle.prover.specs.Preparing.{PrepareAsked, Preparing};
 
 use super::Query;
-use goals::Outcome;
 use refusals::Refusal;
 use sessions::{NameRow, SessionCounts};
 use signature::StoredSignature;
@@ -46,7 +45,7 @@ pub fn prepare(
     names: &mut [NameRow],
     words: &mut [u32],
     session: SessionCounts,
-) -> Result<StoredGoal, u32>
+) -> Result<StoredGoal, Refusal>
     requires { PrepareAsked query.text.now query.limits signature.symbols.now signature.counts.symbols query.rows.now query.at
         names.old words.old session }
     ensures { Preparing query.entry.text.now query.entry.limits signature.entry.symbols.now signature.entry.counts.symbols
@@ -55,7 +54,7 @@ pub fn prepare(
     let mut variables = [[0u32; 4]; 64];
     let mut pattern = [0u32; 2048];
     let n = session.names as usize;
-    match goals::compile(
+    let goal = goals::compile(
         query.text,
         query.rows,
         query.at,
@@ -64,21 +63,17 @@ pub fn prepare(
         &names[..n],
         &mut variables,
         &mut pattern,
-    ) {
-        Outcome::Refused { number } => Err(number),
-        Outcome::Done { goal } => {
-            let total = session.variables + (goal.variables - session.names);
-            let used = session.words + goal.words;
-            if is_over(query.limits, total, used) {
-                return Err(u32::from(Refusal::OverLimit));
-            }
-            let node = goals::store(&variables, &pattern, goal, names, words, session);
-            Ok(StoredGoal {
-                node,
-                names: goal.variables,
-                variables: total,
-                words: used,
-            })
-        }
+    )?;
+    let total = session.variables + (goal.variables - session.names);
+    let used = session.words + goal.words;
+    if is_over(query.limits, total, used) {
+        return Err(Refusal::OverLimit);
     }
+    let node = goals::store(&variables, &pattern, goal, names, words, session);
+    Ok(StoredGoal {
+        node,
+        names: goal.variables,
+        variables: total,
+        words: used,
+    })
 }

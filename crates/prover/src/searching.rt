@@ -1,13 +1,15 @@
 // The search for a stored goal, and what it leaves.
 ghost use Rattle.std.specs.Prelude.{◌≡◌};
+ghost use Rattle.sessions.specs.Answers.{answer_in};
 ghost use Rattle.search_machine.specs.Groups.{IsLent};
 ghost use Rattle.prover.specs.Searching.{counts_then, SearchAskedIn, SearchLeftIn};
 
 use super::clearing::clear_names;
 use super::preparing::StoredGoal;
 use deepening::{Answer as Deepened, Question};
+use refusals::Refusal;
 use search_machine::{Program, Store};
-use sessions::{Answer, NameRow, SessionCounts};
+use sessions::{NameRow, SessionCounts, Verdict};
 
 // Searches for a goal that stands in the session. Without a proof its words are cleared; refused by the limits, so are its names.
 pub fn search_goal(
@@ -18,9 +20,9 @@ pub fn search_goal(
     session: SessionCounts,
     steps: u32,
     depth: u32,
-) -> Answer
+) -> Result<Verdict, Refusal>
     requires { SearchAskedIn program names.old store.old goal session steps depth }
-    ensures left { SearchLeftIn program.entry names.old names.new store.old store.new goal session steps depth result }
+    ensures left { SearchLeftIn program.entry names.old names.new store.old store.new goal session steps depth (answer_in result) }
     ensures lent { IsLent store.old store.new }
 {
     let question = Question {
@@ -34,9 +36,7 @@ pub fn search_goal(
         Err(refusal) => {
             clear_names(names, session.names);
             arena::clear(store.words, session.words);
-            Answer::Refused {
-                number: u32::from(refusal),
-            }
+            Err(refusal)
         }
         Ok(
             Deepened::Proved {
@@ -46,7 +46,7 @@ pub fn search_goal(
                 bound,
                 used,
             },
-        ) => Answer::Proved {
+        ) => Ok(Verdict::Proved {
             steps,
             nodes: applications,
             counts: SessionCounts {
@@ -55,20 +55,20 @@ pub fn search_goal(
                 bound,
                 words: used,
             },
-        },
+        }),
         Ok(Deepened::Nothing { steps, counter }) => {
             arena::clear(store.words, session.words);
-            Answer::Nothing {
+            Ok(Verdict::Nothing {
                 steps,
                 counts: counts_then(session, goal, counter),
-            }
+            })
         }
         Ok(Deepened::Undecided { steps, counter }) => {
             arena::clear(store.words, session.words);
-            Answer::Undecided {
+            Ok(Verdict::Undecided {
                 steps,
                 counts: counts_then(session, goal, counter),
-            }
+            })
         }
     }
 }

@@ -4,9 +4,8 @@ ghost use Rattle.prover.specs.Queries.{session_of};
 ghost use Rattle.prover.specs.Proving.{ReadyTold};
 
 use super::Query;
-use sessions::{NameRow, SessionCounts};
+use sessions::{NameRow, SessionCounts, StoredSession};
 use signature::StoredSignature;
-use term_check::TermChecked;
 
 // Are signature, goal, session and scratch in form, and is enough lent? The marks are left as they are.
 pub fn is_ready(
@@ -29,30 +28,25 @@ pub fn is_ready(
     if proof.len() < capped.steps as usize {
         return false;
     }
-    if !signature::check_signature(
-        query.text,
-        signature.sorts,
-        signature.symbols,
-        signature.rules,
-        signature.words,
-        signature.counts,
-    ) {
+    if !signature::check_signature(query.text, signature) {
         return false;
     }
-    let TermChecked::Ends(_) = term_check::check_term(query.text, query.rows, query.at) else {
+    let Some(_) = term_check::check_term(query.text, query.rows, query.at) else {
         return false;
+    };
+    let session = StoredSession {
+        names,
+        words,
+        bindings,
+        counts: session,
     };
     session_check::check_session(
         query.text,
         query.limits,
-        signature.counts,
-        signature.symbols,
-        names,
-        words,
-        bindings,
+        signature,
+        session,
         links,
         marks,
         stack,
-        session,
     )
 }

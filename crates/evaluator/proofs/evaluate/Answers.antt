@@ -25,7 +25,7 @@ evaluate_listed-requires c =
     let lent : Results = record { words = entry.words.now; links = entry.links.now; trees = entry.trees.now } in
     record {
       lent = short_is _ _ c.capped-most.ensures _ lent c.is_short.ensures ∙ c.if-is_short.false;
-      readable = is_readable c.check_signature.ensures c.if-not-check_signature.false c.check_term.ensures c.in-Ends.is;
+      readable = is_readable c.check_signature.ensures c.if-not-check_signature.false c.check_term.ensures c.in-Some.is;
     }
 
 pub returns : goal.returns
@@ -34,5 +34,5 @@ returns c =
     let lent : Results = record { words = entry.words.now; links = entry.links.now; trees = entry.trees.now } in
     is_evaluating (record {
       lent = short_is _ _ c.capped-most.ensures _ lent c.is_short.ensures ∙ c.if-is_short.false;
-      readable = is_readable c.check_signature.ensures c.if-not-check_signature.false c.check_term.ensures c.in-Ends.is;
+      readable = is_readable c.check_signature.ensures c.if-not-check_signature.false c.check_term.ensures c.in-Some.is;
     }) c.evaluate_listed.ensures

@@ -7,7 +7,7 @@ use Rattle.prover.proofs.prove.Goals as goal
 
 pub returns-then-not-is_ready : goal.returns-then-not-is_ready
 returns-then-not-is_ready c =
-    rw c.from.ensures (prove_unready c.args.query.steps c.args.query.depth c.is_ready.ensures (ap not c.if-not-is_ready.true))
+    prove_unready c.args.query.steps c.args.query.depth c.is_ready.ensures (ap not c.if-not-is_ready.true)
 
 pub prove_listed-requires : goal.prove_listed-requires
 prove_listed-requires c =

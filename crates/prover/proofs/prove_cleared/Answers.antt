@@ -1,20 +1,22 @@
 -- `prove_cleared` meets its contract: 38 first, then what the goal's preparation refuses, then what the search leaves.
 use mathlib.Core.Path.{sym, ◌∙◌}
+use Rattle.patterns.specs.Refused.{handed_on}
 use Rattle.prover.specs.ProvingLaws.{at_answer, allowed_is, prepared_refused, search_asked, search_left}
 use Rattle.prover.proofs.prove_cleared.Goals as goal
 
 pub search_goal-requires : goal.search_goal-requires
 search_goal-requires c =
     search_asked c.requires (sym c.is_too_much.ensures ∙ c.if-is_too_much.false) _
-    (at_answer c.prepare.ensures c.in-Ok.is) (allowed_is _ _ c.capped-capped.ensures)
+    (at_answer c.prepare.ensures c.in_ok-goal.was) (allowed_is _ _ c.capped-capped.ensures)
 
-pub returns-in-Err-clause-left : goal.returns-in-Err-clause-left
-returns-in-Err-clause-left c =
-    prepared_refused c.requires (sym c.is_too_much.ensures ∙ c.if-is_too_much.false)
-    (at_answer c.prepare.ensures c.in-Err.is)
+pub returns-in_err-goal-clause-left : goal.returns-in_err-goal-clause-left
+returns-in_err-goal-clause-left c =
+    rw (handed_on c.from_residual.result c.in_err-goal.field-0.0 c.from_residual.ensures.1)
+    (prepared_refused c.requires (sym c.is_too_much.ensures ∙ c.if-is_too_much.false)
+    (at_answer c.prepare.ensures c.in_err-goal.was))
 
-pub returns-in-Ok-clause-left : goal.returns-in-Ok-clause-left
-returns-in-Ok-clause-left c =
+pub returns-clause-left : goal.returns-clause-left
+returns-clause-left c =
     search_left c.requires (sym c.is_too_much.ensures ∙ c.if-is_too_much.false) _
-    (at_answer c.prepare.ensures c.in-Ok.is) (allowed_is _ _ c.capped-capped.ensures)
+    (at_answer c.prepare.ensures c.in_ok-goal.was) (allowed_is _ _ c.capped-capped.ensures)
     c.search_goal.ensures.left

@@ -1,7 +1,8 @@
 -- `expression` and `application` meet their contracts. What falls is 130 less the depth. The loop's invariant of `application`: the values so far, in front of what the
 -- arguments that are left come to, are what all of them come to, and the rows list the trees of those so far.
 use native.Mathlib.Omega.{arith}
-use mathlib.Core.Path.{refl, sym}
+use mathlib.Core.Path.{refl, sym, ◌∙◌}
+use Rattle.names.specs.SearchLaws.{symbol_some, symbol_none}
 use mathlib.Core.List.{[]}
 use Rattle.clause_matching.proofs.Forming.{passed_on}
 use Rattle.expressions.proofs.Misuses.{found_wrong, found_nothing}
@@ -67,34 +68,31 @@ expression-returns-then-kind-eq-NUMERAL t c =
 pub expression-returns-then-kind-eq-METAVARIABLE : goal.expression-returns-then-kind-eq-METAVARIABLE
 expression-returns-then-kind-eq-METAVARIABLE t c = of_meta c.requires c.if-depth-gt-MAX_DEPTH.false c.if-kind-eq-METAVARIABLE.true
 
-pub expression-symbol_of-i-requires : goal.expression-symbol_of-i-requires
-expression-symbol_of-i-requires t c = c.requires.tables.lent
-
-pub expression-returns-then-count-i : goal.expression-returns-then-count-i
-expression-returns-then-count-i t c =
-    of_unknown c.requires c.if-depth-gt-MAX_DEPTH.false c.if-kind-eq-NUMERAL.false c.if-kind-eq-METAVARIABLE.false c.symbol_of-i.ensures c.if-count-i.true
+pub expression-returns-in_default : goal.expression-returns-in_default
+expression-returns-in_default t c =
+    of_unknown c.requires c.if-depth-gt-MAX_DEPTH.false c.if-kind-eq-NUMERAL.false c.if-kind-eq-METAVARIABLE.false refl (symbol_none c.args.text.now c.args.program.symbols.now c.args.count c.requires.tables.lent _ (sym c.in_default.is ∙ c.find_at.ensures))
 
 pub expression-check_use-requires : goal.expression-check_use-requires
 expression-check_use-requires t c =
-    misuse_asked c.requires c.if-depth-gt-MAX_DEPTH.false c.if-kind-eq-NUMERAL.false c.if-kind-eq-METAVARIABLE.false c.symbol_of-i.ensures c.if-count-i.false refl
+    misuse_asked c.requires c.if-depth-gt-MAX_DEPTH.false c.if-kind-eq-NUMERAL.false c.if-kind-eq-METAVARIABLE.false (symbol_some c.args.text.now c.args.program.symbols.now c.args.count c.requires.tables.lent _ _ (sym c.in-Some.is ∙ c.find_at.ensures)).0 (symbol_some c.args.text.now c.args.program.symbols.now c.args.count c.requires.tables.lent _ _ (sym c.in-Some.is ∙ c.find_at.ensures)).1 refl
 
 pub expression-returns-in_err-check_use : goal.expression-returns-in_err-check_use
 expression-returns-in_err-check_use t c =
     rw (passed_on c.from_residual-in_err-check_use.result c.from_residual-in_err-check_use.ensures.1)
-    (of_misuse c.requires c.if-depth-gt-MAX_DEPTH.false c.if-kind-eq-NUMERAL.false c.if-kind-eq-METAVARIABLE.false c.symbol_of-i.ensures c.if-count-i.false refl
+    (of_misuse c.requires c.if-depth-gt-MAX_DEPTH.false c.if-kind-eq-NUMERAL.false c.if-kind-eq-METAVARIABLE.false (symbol_some c.args.text.now c.args.program.symbols.now c.args.count c.requires.tables.lent _ _ (sym c.in-Some.is ∙ c.find_at.ensures)).0 (symbol_some c.args.text.now c.args.program.symbols.now c.args.count c.requires.tables.lent _ _ (sym c.in-Some.is ∙ c.find_at.ensures)).1 refl
     (λ x. (found_wrong (c.check_use.ensures x) c.in_err-check_use.was).0) refl
     (λ z. let w = found_wrong (c.check_use.ensures []) c.in_err-check_use.was in omega arith))
 
 pub expression-application-requires : goal.expression-application-requires
 expression-application-requires t c = (
   let d = c.if-depth-gt-MAX_DEPTH.false in omega arith,
-  application_asked c.requires c.if-depth-gt-MAX_DEPTH.false c.if-kind-eq-NUMERAL.false c.if-kind-eq-METAVARIABLE.false c.symbol_of-i.ensures c.if-count-i.false refl
+  application_asked c.requires c.if-depth-gt-MAX_DEPTH.false c.if-kind-eq-NUMERAL.false c.if-kind-eq-METAVARIABLE.false (symbol_some c.args.text.now c.args.program.symbols.now c.args.count c.requires.tables.lent _ _ (sym c.in-Some.is ∙ c.find_at.ensures)).0 (symbol_some c.args.text.now c.args.program.symbols.now c.args.count c.requires.tables.lent _ _ (sym c.in-Some.is ∙ c.find_at.ensures)).1 refl
       (λ x. sym (found_nothing (c.check_use.ensures x) c.in_ok-check_use.was)) refl,
 )
 
 pub expression-returns : goal.expression-returns
 expression-returns t c =
-    applied_to c.requires c.if-depth-gt-MAX_DEPTH.false c.if-kind-eq-NUMERAL.false c.if-kind-eq-METAVARIABLE.false c.symbol_of-i.ensures c.if-count-i.false refl
+    applied_to c.requires c.if-depth-gt-MAX_DEPTH.false c.if-kind-eq-NUMERAL.false c.if-kind-eq-METAVARIABLE.false (symbol_some c.args.text.now c.args.program.symbols.now c.args.count c.requires.tables.lent _ _ (sym c.in-Some.is ∙ c.find_at.ensures)).0 (symbol_some c.args.text.now c.args.program.symbols.now c.args.count c.requires.tables.lent _ _ (sym c.in-Some.is ∙ c.find_at.ensures)).1 refl
     (λ x. sym (found_nothing (c.check_use.ensures x) c.in_ok-check_use.was)) refl c.application.ensures
 
 pub expression-offset_bounds-rows-at : goal.expression-offset_bounds-rows-at
@@ -115,8 +113,8 @@ expression-bounds-rows-at-else-kind-eq-METAVARIABLE-2 t c = let i = inside c.req
 pub expression-offset_bounds-rows-at-4 : goal.expression-offset_bounds-rows-at-4
 expression-offset_bounds-rows-at-4 t c = let i = inside c.requires in omega arith
 
-pub expression-bounds-rows-at-else-count-i : goal.expression-bounds-rows-at-else-count-i
-expression-bounds-rows-at-else-count-i t c = let i = inside c.requires in omega arith
+pub expression-bounds-rows-at-in-Some : goal.expression-bounds-rows-at-in-Some
+expression-bounds-rows-at-in-Some t c = let i = inside c.requires in omega arith
 
 pub expression-overflow_add-at : goal.expression-overflow_add-at
 expression-overflow_add-at t c = let i = inside c.requires in omega arith

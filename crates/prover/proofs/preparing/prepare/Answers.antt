@@ -2,6 +2,7 @@
 use native.Mathlib.Omega.{arith}
 use native.Mathlib.Nat.{le_refl}
 use mathlib.Core.Path.{sym, ◌∙◌}
+use Rattle.patterns.specs.Refused.{handed_on}
 use Rattle.prover.specs.PreparingLaws.{prepare_refused, prepare_over, store_asked, prepare_stored}
 use Rattle.prover.proofs.preparing.prepare.Goals as goal
 
@@ -9,27 +10,28 @@ pub returns-then-is_over : goal.returns-then-is_over
 returns-then-is_over c =
     let compile = c.compile in
     let lent = compile.auto.variables in
-    rw c.from.ensures (prepare_over c.requires (omega (arith, lent)) (le_refl 2048) compile.ensures.bounds compile.ensures.goal_made _ c.in-Done.is
-    (sym c.is_over.ensures ∙ c.if-is_over.true))
+    prepare_over c.requires (omega (arith, lent)) (le_refl 2048) compile.ensures.bounds compile.ensures.goal_made _ c.in_ok-goal.was
+    (sym c.is_over.ensures ∙ c.if-is_over.true)
 
 pub store-node-requires : goal.store-node-requires
 store-node-requires c =
     let compile = c.compile in
     let lent = compile.auto.variables in
-    store_asked c.requires (omega (arith, lent)) (le_refl 2048) compile.ensures.bounds compile.ensures.goal_made _ c.in-Done.is
+    store_asked c.requires (omega (arith, lent)) (le_refl 2048) compile.ensures.bounds compile.ensures.goal_made _ c.in_ok-goal.was
     (sym c.is_over.ensures ∙ c.if-is_over.false)
 
-pub returns-in-Refused : goal.returns-in-Refused
-returns-in-Refused c =
+pub returns-in_err-goal : goal.returns-in_err-goal
+returns-in_err-goal c =
     let compile = c.compile in
     let lent = compile.auto.variables in
-    prepare_refused c.requires (omega (arith, lent)) (le_refl 2048) compile.ensures.bounds compile.ensures.goal_made _
-    c.in-Refused.is
+    rw (handed_on c.from_residual.result c.in_err-goal.field-0.0 c.from_residual.ensures.1)
+    (prepare_refused c.requires (omega (arith, lent)) (le_refl 2048) compile.ensures.bounds compile.ensures.goal_made _
+    c.in_err-goal.was)
 
-pub returns-else-is_over : goal.returns-else-is_over
-returns-else-is_over c =
+pub returns : goal.returns
+returns c =
     let compile = c.compile in
     let lent = compile.auto.variables in
-    prepare_stored c.requires (omega (arith, lent)) (le_refl 2048) compile.ensures.bounds compile.ensures.goal_made _ c.in-Done.is
+    prepare_stored c.requires (omega (arith, lent)) (le_refl 2048) compile.ensures.bounds compile.ensures.goal_made _ c.in_ok-goal.was
     (sym c.is_over.ensures ∙ c.if-is_over.false)
     c.store-node.ensures
