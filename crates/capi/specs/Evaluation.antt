@@ -1,5 +1,5 @@
 -- What `horn_evaluate` and `horn_is_forward_call` answer.
-use Rattle.std.specs.Prelude.{ℕ, ◌*◌, ◌^◌, ◌≤◌, ◌<◌, ◌≡◌, cond, List, [], ◌∷◌, eqb, length, get_or, replicate}
+use Rattle.std.specs.Prelude.{ℕ, ◌*◌, ◌^◌, ◌≤◌, ◌<◌, ◌≡◌, Bool, cond, Result, Ok, Err, List, [], ◌∷◌, eqb, length, get_or, replicate}
 use Rattle.std.proofs.lemmas.List.Edits.{sets}
 use Rattle.words.specs.declared.Limits.{Limits}
 use Rattle.names.specs.Symbols.{Rows}
@@ -8,9 +8,8 @@ use Rattle.signature.specs.declared.Counts.{Counts}
 use Rattle.evaluator.specs.Storage.{Results}
 use Rattle.evaluator.specs.Evaluating.{Evaluating, Forwarding}
 use Rattle.evaluator.specs.declared.Evaluation.{Evaluation}
-use Rattle.evaluator.specs.declared.Evaluation.TheVariants.{Value, Refused}
-use Rattle.evaluator.specs.declared.Forward.{Forward}
-use Rattle.evaluator.specs.declared.Forward.TheVariants.{Call, Goal, Refused as Barred}
+use Rattle.refusals.specs.Refusals.{number_of}
+use Rattle.refusals.specs.declared.Refusal.{Refusal}
 
 -- A limit on words.
 abbrev pub words_limit : ℕ → Limits
@@ -32,19 +31,19 @@ store_with sorts symbols rules words counts =
     }
 
 -- 0 for a value, or 2^32 times the refusal's number.
-abbrev pub packed_evaluation : Evaluation → ℕ
-packed_evaluation (Value value calls used) = 0
-packed_evaluation (Refused e) = e * 2 ^ 32
+abbrev pub packed_evaluation : Result Evaluation Refusal → ℕ
+packed_evaluation (Ok e) = 0
+packed_evaluation (Err r) = number_of r * 2 ^ 32
 
 -- The value's reference, the number of calls and that of words, and zero behind them; zero throughout for a refusal; 1 writes nothing.
-abbrev pub results_after : Evaluation → List ℕ → List ℕ
-results_after (Value value calls used) results = sets (replicate (length results) 0) 0 (value ∷ calls ∷ used ∷ [])
-results_after (Refused e) results = cond (eqb e 1) results (replicate (length results) 0)
+abbrev pub results_after : Result Evaluation Refusal → List ℕ → List ℕ
+results_after (Ok e) results = sets (replicate (length results) 0) 0 (e.value ∷ e.calls ∷ e.words ∷ [])
+results_after (Err r) results = cond (eqb (number_of r) 1) results (replicate (length results) 0)
 
 -- `evaluate` told in numbers.
 pub record EvaluateTold (text : List ℕ) (limits : Limits) (sg : SignatureStore) (rows : Rows) (at : ℕ) (b : Results) (results : List ℕ) (answer : ℕ) (b' : Results)
     (results' : List ℕ) : Type 0 where
-  pub given : Evaluation
+  pub given : Result Evaluation Refusal
   pub is : answer ≡ packed_evaluation given
   pub evaluating : Evaluating text limits sg rows at b given b'
   pub written : results' ≡ results_after given results
@@ -58,13 +57,12 @@ pub record EvaluatedAs (text : List ℕ) (most : ℕ) (sorts symbols rules : Row
       → EvaluateTold text (words_limit most) (store_with sorts symbols rules words counts) rows at b results answer b' results'
 
 -- 1 for a forward call, 0 for a goal, or 2^32 times the refusal's number.
-abbrev pub packed_forward : Forward → ℕ
-packed_forward Call = 1
-packed_forward Goal = 0
-packed_forward (Barred e) = e * 2 ^ 32
+abbrev pub packed_forward : Result Bool Refusal → ℕ
+packed_forward (Ok is_call) = cond is_call 1 0
+packed_forward (Err r) = number_of r * 2 ^ 32
 
 pub record ForwardTold (text : List ℕ) (sg : SignatureStore) (rows : Rows) (at answer : ℕ) : Type 0 where
-  pub given : Forward
+  pub given : Result Bool Refusal
   pub is : answer ≡ packed_forward given
   pub forwarding : Forwarding text sg rows at given
 

@@ -1,5 +1,5 @@
 -- What `horn_open` and `horn_prove` answer.
-use Rattle.std.specs.Prelude.{ℕ, ◌*◌, ◌^◌, ◌≤◌, ◌<◌, ◌≡◌, cond, List, [], ◌∷◌, eqb, length, get_or, replicate}
+use Rattle.std.specs.Prelude.{ℕ, ◌*◌, ◌^◌, ◌≤◌, ◌<◌, ◌≡◌, cond, Result, Ok, Err, List, [], ◌∷◌, eqb, length, get_or, replicate}
 use Rattle.std.proofs.lemmas.List.Edits.{sets}
 use Rattle.words.specs.declared.Limits.{Limits}
 use Rattle.names.specs.Symbols.{Rows}
@@ -7,10 +7,9 @@ use Rattle.signature.specs.Storage.{SignatureStore}
 use Rattle.sessions.specs.Storage.{SessionStore, Workspace}
 use Rattle.sessions.specs.Promises.{Opening, Asked, Proving}
 use Rattle.sessions.specs.declared.SessionCounts.{SessionCounts}
-use Rattle.sessions.specs.declared.Opened.{Opened}
-use Rattle.sessions.specs.declared.Opened.TheVariants.{Refused as Unopened, New}
-use Rattle.sessions.specs.declared.Answer.{Answer}
-use Rattle.sessions.specs.declared.Answer.TheVariants.{Refused, Proved, Nothing, Undecided}
+use Rattle.sessions.specs.Answers.{Answer, Refused, Proved, Nothing, Undecided}
+use Rattle.refusals.specs.Refusals.{number_of}
+use Rattle.refusals.specs.declared.Refusal.{Refusal}
 use Rattle.capi.specs.Evaluation.{store_with}
 
 -- Limits on steps, variables and words.
@@ -18,14 +17,14 @@ abbrev pub search_limits : ℕ → ℕ → ℕ → Limits
 search_limits steps variables words = record { text = 0; nodes = 0; steps = steps; variables = variables; words = words }
 
 -- 0 for a new session, or 2^32 times the refusal's number.
-abbrev pub packed_opened : Opened → ℕ
-packed_opened (Unopened e) = e * 2 ^ 32
-packed_opened New = 0
+abbrev pub packed_opened : Result (Unit {0}) Refusal → ℕ
+packed_opened (Err r) = number_of r * 2 ^ 32
+packed_opened (Ok x) = 0
 
 -- `open` told in a number.
 pub record OpenedAs (variables words : ℕ) (b : SessionStore) (s : Workspace) (answer : ℕ) (b' : SessionStore) (s' : Workspace)
     : Type 0 where
-  pub given : Opened
+  pub given : Result (Unit {0}) Refusal
   pub is : answer ≡ packed_opened given
   pub opening : Opening (search_limits 0 variables words) b s given b' s'
 

@@ -1,25 +1,27 @@
 -- What `horn_load` answers.
-use Rattle.std.specs.Prelude.{ℕ, ◌+◌, ◌*◌, ◌^◌, ◌≤◌, ◌<◌, ◌≡◌, cond, List, [], ◌∷◌, eqb, length, replicate}
+use Rattle.std.specs.Prelude.{ℕ, Ok, Err, ◌*◌, ◌^◌, ◌≤◌, ◌<◌, ◌≡◌, cond, List, [], ◌∷◌, eqb, length, replicate}
 use Rattle.std.proofs.lemmas.List.Edits.{sets}
 use Rattle.words.specs.declared.Limits.{Limits}
 use Rattle.load_storage.specs.Storage.{Buffers}
+use Rattle.load.specs.Load.{Loading}
 use Rattle.load.specs.Loading.{LoadingText}
-use Rattle.load.specs.declared.Loading.{Loading}
-use Rattle.load.specs.declared.Loading.TheVariants.{Refused, Loaded}
+use Rattle.refusals.specs.Refusals.{number_of}
+use Rattle.capi.specs.Words.{packed_rejection}
 
 -- Limits on the text's bytes and the nodes in all.
 abbrev pub load_limits : ℕ → ℕ → Limits
 load_limits text nodes = record { text = text; nodes = nodes; steps = 0; variables = 0; words = 0 }
 
--- The number of declarations, or 2^32 times the refusal's number and its line.
+-- The number of declarations, or the refusal.
 abbrev pub packed_loading : Loading → ℕ
-packed_loading (Refused e line) = e * 2 ^ 32 + line
-packed_loading (Loaded n k c) = n
+packed_loading (Err r) = packed_rejection r
+packed_loading (Ok l) = l.declarations
 
 -- The counts: those of sorts, symbols, rules, words and waiting `#eval`, and zero behind them; zero throughout for a refused text; 1 writes nothing.
 abbrev pub counts_after : Loading → List ℕ → List ℕ
-counts_after (Refused e line) counts = cond (eqb e 1) counts (replicate (length counts) 0)
-counts_after (Loaded n k c) counts = sets (replicate (length counts) 0) 0 (c.sorts ∷ c.symbols ∷ c.rules ∷ c.words ∷ k ∷ [])
+counts_after (Err r) counts = cond (eqb (number_of r.refusal) 1) counts (replicate (length counts) 0)
+counts_after (Ok l) counts =
+    sets (replicate (length counts) 0) 0 (l.counts.sorts ∷ l.counts.symbols ∷ l.counts.rules ∷ l.counts.words ∷ l.evals ∷ [])
 
 -- `load` told in numbers.
 pub record LoadTold (text : List ℕ) (limits : Limits) (b : Buffers) (counts : List ℕ) (answer : ℕ) (b' : Buffers) (counts' : List ℕ) : Type 0 where

@@ -9,11 +9,15 @@ ghost use Rattle.capi.specs.Evaluation.{stored_counts, EvaluatedAs, ForwardAs};
 ghost use Rattle.capi.specs.Signatures.{LoadedAs};
 ghost use Rattle.capi.specs.Sessions.{OpenedAs, ProvedAs, counts_in, packed_proof, verdict_row, verdict_after, search_limits};
 ghost use Rattle.capi.specs.Unification.{Answered};
-ghost use Rattle.capi.specs.Words.{packed, text_limit};
+ghost use Rattle.capi.specs.Words.{packed, packed_rejection, text_limit};
+ghost use Rattle.refusals.specs.Refusals.{number_of};
+ghost use Rattle.sessions.specs.Answers.{answer_in};
 ghost use Rattle.words.specs.Lexer.{lex_answer, lex_rows};
 
-use arena::TERM_ROOM;
+use arena::{TERM_ROOM, Terms};
 use prover::Query;
+use refusals::{Refusal, Rejection};
+use sessions::Verdict;
 use signature::StoredSignature;
 
 // A refusal is told as so many times its number: more than any count and any line.
@@ -32,10 +36,17 @@ const NO_LIMITS: words::Limits = words::Limits {
 };
 
 // A refusal as one number; its line is added.
-fn packed_refusal(number: u32) -> u64
-    ensures { result ≡ number * 2 ^ 32 }
+fn packed_refusal(refusal: Refusal) -> u64
+    ensures { result ≡ number_of refusal * 2 ^ 32 }
 {
-    number as u64 * REFUSAL
+    u32::from(refusal) as u64 * REFUSAL
+}
+
+// The refusal of a text as one number, with its line.
+fn packed_rejection(rejection: Rejection) -> u64
+    ensures { result ≡ packed_rejection rejection }
+{
+    packed_refusal(rejection.refusal) + rejection.line as u64
 }
 
 // Limits on steps, variables and words.
@@ -86,10 +97,10 @@ fn put_numbers(results: &mut [u32], numbers: &[u32])
 }
 
 // Zeroes the numbers of what is refused; 1 writes nothing.
-fn clear_numbers(results: &mut [u32], number: u32)
-    ensures { results.new ≡ cond (eqb number 1) results.old (replicate (length results.old) 0) }
+fn clear_numbers(results: &mut [u32], refusal: Refusal)
+    ensures { results.new ≡ cond (eqb (number_of refusal) 1) results.old (replicate (length results.old) 0) }
 {
-    if number != 1 {
+    if u32::from(refusal) != 1 {
         results.fill(0);
     }
 }
@@ -121,10 +132,9 @@ pub fn horn_lex(text: &[u8], limit: u32, tokens: &mut [[u32; 4]]) -> u64
         text: limit,
         ..NO_LIMITS
     };
-    let answer = words::lex(text, limits, tokens);
-    match answer {
-        words::Lexed::Tokens(n) => n as u64,
-        words::Lexed::Refused(r, line) => packed_refusal(words::number(r)) + line as u64,
+    match words::lex(text, limits, tokens) {
+        Ok(n) => n as u64,
+        Err(rejection) => packed_rejection(rejection),
     }
 }
 
@@ -136,10 +146,9 @@ pub fn horn_parse(text: &[u8], limit: u32, tokens: &mut [[u32; 4]], rows: &mut [
         text: limit,
         ..NO_LIMITS
     };
-    let answer = parser::parse_text(text, limits, tokens, rows);
-    match answer {
-        parser::Answer::Declarations(n, _) => n as u64,
-        parser::Answer::Refused(r, line) => packed_refusal(parser::number(r)) + line as u64,
+    match parser::parse_text(text, limits, tokens, rows) {
+        Ok(parsed) => parsed.declarations as u64,
+        Err(rejection) => packed_rejection(rejection),
     }
 }
 
@@ -172,15 +181,12 @@ pub fn horn_load(
     match load::load(
         text, limits, tokens, rows, calls, sorts, symbols, rules, words, evals,
     ) {
-        load::Loading::Refused { number, line } => {
-            clear_numbers(counts, number);
-            packed_refusal(number) + line as u64
+        Err(rejection) => {
+            clear_numbers(counts, rejection.refusal);
+            packed_rejection(rejection)
         }
-        load::Loading::Loaded {
-            declarations,
-            evals: waiting,
-            counts: stored,
-        } => {
+        Ok(loaded) => {
+            let stored = loaded.counts;
             put_numbers(
                 counts,
                 &[
@@ -188,10 +194,10 @@ pub fn horn_load(
                     stored.symbols,
                     stored.rules,
                     stored.words,
-                    waiting,
+                    loaded.evals,
                 ],
             );
-            declarations as u64
+            loaded.declarations as u64
         }
     }
 }
@@ -212,8 +218,14 @@ pub fn horn_check_signature(
     if counts.len() < 4 {
         return REFUSED;
     }
-    let stored = signature_counts(counts);
-    if !signature::check_signature(text, sorts, symbols, rules, words, stored) {
+    let signature = StoredSignature {
+        sorts,
+        symbols,
+        rules,
+        words,
+        counts: signature_counts(counts),
+    };
+    if !signature::check_signature(text, signature) {
         return REFUSED;
     }
     0
@@ -251,20 +263,23 @@ pub fn horn_evaluate(
         words: limit,
         ..NO_LIMITS
     };
-    let stored = signature_counts(counts);
-    match evaluator::evaluate(
-        text, limits, sorts, symbols, rules, pattern, stored, rows, at, words, links, trees,
-    ) {
-        evaluator::Evaluation::Refused { number } => {
-            clear_numbers(results, number);
-            packed_refusal(number)
+    let signature = StoredSignature {
+        sorts,
+        symbols,
+        rules,
+        words: pattern,
+        counts: signature_counts(counts),
+    };
+    match evaluator::evaluate(text, limits, signature, rows, at, words, links, trees) {
+        Err(refusal) => {
+            clear_numbers(results, refusal);
+            packed_refusal(refusal)
         }
-        evaluator::Evaluation::Value {
-            value,
-            calls,
-            words: used,
-        } => {
-            put_numbers(results, &[value, calls, used]);
+        Ok(evaluation) => {
+            put_numbers(
+                results,
+                &[evaluation.value, evaluation.calls, evaluation.words],
+            );
             0
         }
     }
@@ -288,11 +303,17 @@ pub fn horn_is_forward_call(
     if counts.len() < 4 {
         return REFUSED;
     }
-    let stored = signature_counts(counts);
-    match evaluator::is_forward_call(text, sorts, symbols, rules, pattern, stored, rows, at) {
-        evaluator::Forward::Call => 1,
-        evaluator::Forward::Goal => 0,
-        evaluator::Forward::Refused { number } => packed_refusal(number),
+    let signature = StoredSignature {
+        sorts,
+        symbols,
+        rules,
+        words: pattern,
+        counts: signature_counts(counts),
+    };
+    match evaluator::is_forward_call(text, signature, rows, at) {
+        Ok(true) => 1,
+        Ok(false) => 0,
+        Err(refusal) => packed_refusal(refusal),
     }
 }
 
@@ -315,35 +336,37 @@ pub fn horn_open(
 {
     let limits = search_limits(0, variables, limit);
     match session_open::open(limits, names, words, bindings, links, marks, stack) {
-        sessions::Opened::Refused { number } => packed_refusal(number),
-        sessions::Opened::New => 0,
+        Ok(()) => 0,
+        Err(refusal) => packed_refusal(refusal),
     }
 }
 
 // An answer as one number, and what else it tells.
-pub fn tell_answer(results: &mut [u32], answer: sessions::Answer) -> u64
+pub fn tell_answer(results: &mut [u32], answer: Result<Verdict, Refusal>) -> u64
     requires { 6 ≤ length results.old }
-    ensures number { result ≡ packed_proof answer }
-    ensures results { results.new ≡ verdict_after answer results.old }
+    ensures number { result ≡ packed_proof (answer_in answer) }
+    ensures results { results.new ≡ verdict_after (answer_in answer) results.old }
 {
     match answer {
-        sessions::Answer::Refused { number } => {
-            clear_numbers(results, number);
-            packed_refusal(number)
+        Err(refusal) => {
+            clear_numbers(results, refusal);
+            packed_refusal(refusal)
         }
-        sessions::Answer::Proved {
-            steps,
-            nodes,
-            counts,
-        } => {
+        Ok(
+            Verdict::Proved {
+                steps,
+                nodes,
+                counts,
+            },
+        ) => {
             put_verdict(results, steps, nodes, counts);
             1
         }
-        sessions::Answer::Nothing { steps, counts } => {
+        Ok(Verdict::Nothing { steps, counts }) => {
             put_verdict(results, steps, 0, counts);
             2
         }
-        sessions::Answer::Undecided { steps, counts } => {
+        Ok(Verdict::Undecided { steps, counts }) => {
             put_verdict(results, steps, 0, counts);
             3
         }
@@ -446,8 +469,12 @@ pub fn horn_unify(
     ) {
         return REFUSED;
     }
-    let ended = unifier::unify(
-        words, bindings, links, marks, stack, TERM_ROOM, variables, used, bound, left, right,
-    );
-    unifier::packed(ended)
+    let terms = Terms {
+        words,
+        room: TERM_ROOM,
+        variables,
+        used,
+    };
+    let ended = unifier::unify(terms, bindings, links, marks, stack, bound, left, right);
+    unifier::packed(ended, bound)
 }

@@ -4,7 +4,7 @@ use Rattle.names.specs.Symbols.{Rows}
 use Rattle.signature.specs.Storage.{SignatureStore}
 use Rattle.sessions.specs.Storage.{SessionStore, Workspace}
 use Rattle.sessions.specs.Promises.{Asked}
-use Rattle.sessions.specs.declared.Answer.{Answer}
+use Rattle.sessions.specs.Answers.{Answer}
 use Rattle.sessions.specs.declared.SessionCounts.{SessionCounts}
 use Rattle.prover.specs.Proving.{ProveLeft}
 use Rattle.capi.specs.Sessions.{packed_proof, verdict_after}

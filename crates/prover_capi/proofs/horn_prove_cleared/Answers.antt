@@ -1,6 +1,7 @@
 -- `horn_prove_cleared` meets its contract: what it asks is what `prove_cleared` asks, and the answer is told in numbers.
 use native.Mathlib.Omega.{arith}
 use borrow.Author.Rules.{rules}
+use Rattle.sessions.specs.Answers.{answer_in}
 use Rattle.prover.specs.ProvingLaws.{left_given}
 use Rattle.prover_capi.proofs.horn_prove_cleared.Goals as goal
 
@@ -17,7 +18,7 @@ pub returns : goal.returns
 returns c =
     let l = c.prove_cleared-answer.ensures.lent in
     record {
-      given = c.prove_cleared-answer.result;
+      given = answer_in c.prove_cleared-answer.result;
       is = c.tell_answer.ensures.number;
       left = left_given c.prove_cleared-answer.new.store (search (rules, l.words)) (search (rules, l.bindings))
           (search (rules, l.frames)) (search (rules, l.links)) (search (rules, l.marks)) (search (rules, l.stack))
