@@ -1,21 +1,14 @@
 // The buffers that are lent to an evaluation: what they hold before it, and the tests of what they hold afterwards.
-ghost use Rattle.std.specs.Prelude.{◌≡◌, ◌&&◌, length, drop, replicate, nat_le};
-ghost use Rattle.signature_tests.specs.Rows.{are_all, is_all, junk, Filled};
+ghost use Rattle.std.specs.Prelude.{replicate};
+ghost use Rattle.signature_tests.specs.Rows.{junk, Filled};
 
 use evaluator::Evaluation;
 use function_calls::TreeRow;
-use patterns::TermRow;
+use names::TermRow;
 use refusals::Refusal;
 use signature::StoredSignature;
 use signature_tests::buffers;
 use words::Limits;
-
-// Makes each number of rows of trees the value.
-fn fill_trees(trees: &mut [TreeRow], value: u32)
-    ensures { trees.new ≡ replicate (length trees.old) (replicate 8 value) }
-{
-    trees.fill([value; 8]);
-}
 
 // Fills the buffers with junk.
 fn fill(words: &mut [u32], links: &mut [u32], trees: &mut [TreeRow])
@@ -24,7 +17,7 @@ fn fill(words: &mut [u32], links: &mut [u32], trees: &mut [TreeRow])
 {
     buffers::fill_words(words, buffers::JUNK);
     buffers::fill_words(links, buffers::JUNK);
-    fill_trees(trees, buffers::JUNK);
+    trees.fill([buffers::JUNK; 8]);
 }
 
 // Evaluates a term into buffers that hold junk.
@@ -42,27 +35,6 @@ pub fn evaluate(
     evaluator::evaluate(text, limits, signature, rows, at, words, links, trees)
 }
 
-fn is_tree(row: TreeRow, value: u32) -> bool
-    ensures { result ≡ is_all value row }
-{
-    buffers::is_all(&row, 0, value)
-}
-
-// Is a place within rows of trees or their end, and each number from there on the value?
-fn are_trees(trees: &[TreeRow], from: usize, value: u32) -> bool
-    ensures { result ≡ nat_le from (length trees.now) && are_all value (drop from trees.now) }
-{
-    if trees.len() < from {
-        return false;
-    }
-    for i in from..trees.len() {
-        if !is_tree(trees[i], value) {
-            return false;
-        }
-    }
-    true
-}
-
 // Tests that the words past those used and the rows past those of the calls hold the value, and the links throughout.
 pub fn test(
     words: &[u32],
@@ -78,7 +50,7 @@ pub fn test(
     );
     buffers::expect(buffers::is_all(links, 0, value), b"links as lent or zero");
     buffers::expect(
-        are_trees(trees, calls, value),
+        buffers::are_rows(trees, calls, value),
         b"rows of trees as lent or zero",
     );
 }

@@ -4,7 +4,7 @@ ghost use Rattle.evaluation_tests_kit.specs.Refusals.{is_refused};
 
 use crate::lent;
 use function_calls::TreeRow;
-use patterns::TermRow;
+use names::TermRow;
 use refusals::Refusal;
 use signature::{Counts, StoredSignature};
 use signature_tests::buffers;

@@ -9,10 +9,9 @@ use evaluation_tests_kit::{lent, refused};
 use evaluator::Evaluation;
 use function_calls::TreeRow;
 use listing::recorded;
-use load::{EvalRow, Loading};
-use names::{SortRow, SymbolRow};
-use patterns::TermRow;
-use refusals::Refusal;
+use load::{EvalRow, Loaded};
+use names::{SortRow, SymbolRow, TermRow};
+use refusals::{Refusal, Rejection};
 use rules::RuleRow;
 use signature::StoredSignature;
 use signature_tests::buffers;
@@ -266,7 +265,7 @@ fn list_loaded(
 fn list_answer(
     text: &[u8],
     limits: Limits,
-    answer: Loading,
+    answer: Result<Loaded, Rejection>,
     rows: &[TermRow],
     sorts: &[SortRow],
     symbols: &[SymbolRow],
@@ -275,20 +274,16 @@ fn list_answer(
     evals: &[EvalRow],
 ) {
     match answer {
-        Loading::Refused { number, line } => listing::write_refusal(number, line),
-        Loading::Loaded {
-            declarations: _,
-            evals: n,
-            counts,
-        } => {
+        Err(rejection) => listing::write_refusal(rejection),
+        Ok(loaded) => {
             let signature = StoredSignature {
                 sorts,
                 symbols,
                 rules,
                 words: pattern,
-                counts,
+                counts: loaded.counts,
             };
-            list_loaded(text, limits, signature, rows, evals, n as usize);
+            list_loaded(text, limits, signature, rows, evals, loaded.evals as usize);
         }
     }
 }

@@ -5,10 +5,10 @@
 ghost use Rattle.std.specs.Prelude.{◌+◌, ◌^◌, ◌≤◌, ◌<◌};
 
 use listing::recorded;
-use load::{EvalRow, Loading};
-use names::{SortRow, SymbolRow};
-use parser::Answer;
-use patterns::TermRow;
+use load::{EvalRow, Loaded};
+use names::{SortRow, SymbolRow, TermRow};
+use parser::Parsed;
+use refusals::{Refusal, Rejection};
 use rules::RuleRow;
 use signature::{Counts, StoredSignature};
 use signature_tests::{buffers, damage};
@@ -28,23 +28,11 @@ struct Lent<'a> {
 }
 
 // What a text has by the parser: how many declarations and how many rows of them, 0 where it is refused.
-#[derive(Clone, Copy)]
-struct Parsed {
-    declarations: u32,
-    rows: usize,
-}
-
 fn parse(text: &[u8], limits: Limits, lent: &mut Lent) -> Parsed {
-    match parser::parse_text(text, limits, lent.tokens, lent.rows) {
-        Answer::Declarations(n, used) => Parsed {
-            declarations: n,
-            rows: used,
-        },
-        Answer::Refused(_, _) => Parsed {
-            declarations: 0,
-            rows: 0,
-        },
-    }
+    parser::parse_text(text, limits, lent.tokens, lent.rows).unwrap_or(Parsed {
+        declarations: 0,
+        rows: 0,
+    })
 }
 
 // Tests what is lent: the value past the counts, and the rows of declarations and of `#eval` past so many.
@@ -69,29 +57,26 @@ fn test_lent(lent: &Lent, rows: usize, evals: usize, counts: Counts, value: u32)
 }
 
 // Lists an answer, and tests the buffers: zero past the counts, zero throughout after a refusal, and after refusal 1 as they were.
-fn list_answer(text: &[u8], answer: Loading, parsed: Parsed, lent: &Lent) {
+fn list_answer(text: &[u8], answer: Result<Loaded, Rejection>, parsed: Parsed, lent: &Lent) {
     match answer {
-        Loading::Refused { number, line } => {
-            listing::write_refusal(number, line);
+        Err(rejection) => {
+            listing::write_refusal(rejection);
             let none = Counts {
                 sorts: 0,
                 symbols: 0,
                 rules: 0,
                 words: 0,
             };
-            test_lent(
-                lent,
-                0,
-                0,
-                none,
-                if number == 1 { buffers::JUNK } else { 0 },
-            );
+            let value = if rejection.refusal == Refusal::Storage {
+                buffers::JUNK
+            } else {
+                0
+            };
+            test_lent(lent, 0, 0, none, value);
         }
-        Loading::Loaded {
-            declarations,
-            evals: n,
-            counts,
-        } => {
+        Ok(loaded) => {
+            let counts = loaded.counts;
+            let n = loaded.evals as usize;
             let stored = StoredSignature {
                 sorts: lent.sorts,
                 symbols: lent.symbols,
@@ -99,12 +84,12 @@ fn list_answer(text: &[u8], answer: Loading, parsed: Parsed, lent: &Lent) {
                 words: lent.words,
                 counts,
             };
-            signature_listing::list(text, stored, lent.evals, n as usize);
+            signature_listing::list(text, stored, lent.evals, n);
             buffers::expect(
-                declarations == parsed.declarations,
+                loaded.declarations == parsed.declarations,
                 b"as many declarations as parsed",
             );
-            test_lent(lent, parsed.rows, n as usize, counts, 0);
+            test_lent(lent, parsed.rows, n, counts, 0);
             buffers::expect(
                 signature::check_signature(text, stored),
                 b"loaded in the listed form",
@@ -114,7 +99,7 @@ fn list_answer(text: &[u8], answer: Loading, parsed: Parsed, lent: &Lent) {
 }
 
 // Loads a text into buffers that hold junk.
-fn load_text(text: &[u8], limits: Limits, lent: &mut Lent) -> Loading {
+fn load_text(text: &[u8], limits: Limits, lent: &mut Lent) -> Result<Loaded, Rejection> {
     buffers::fill_scratch(lent.tokens, lent.rows, lent.calls, lent.evals);
     buffers::fill_signature(lent.sorts, lent.symbols, lent.rules, lent.words);
     load::load(
@@ -136,12 +121,7 @@ fn list_text(text: &[u8], limits: Limits, lent: &mut Lent) {
     let parsed = parse(text, limits, lent);
     let answer = load_text(text, limits, lent);
     list_answer(text, answer, parsed, lent);
-    let Loading::Loaded {
-        declarations: _,
-        evals: _,
-        counts,
-    } = answer
-    else {
+    let Ok(loaded) = answer else {
         return;
     };
     damage::test(
@@ -150,7 +130,7 @@ fn list_text(text: &[u8], limits: Limits, lent: &mut Lent) {
         lent.symbols,
         lent.rules,
         lent.words,
-        counts,
+        loaded.counts,
     );
 }
 

@@ -3,8 +3,7 @@ ghost use Rattle.std.specs.Prelude.{◌≡◌, ◌&&◌, length, drop, replicate
 ghost use Rattle.signature_tests.specs.Rows.{are_all, is_all, junk, Filled};
 
 use load_storage::EvalRow;
-use names::{SortRow, SymbolRow};
-use patterns::TermRow;
+use names::{SortRow, SymbolRow, TermRow};
 use rules::RuleRow;
 use signature::Counts;
 
@@ -63,7 +62,7 @@ pub fn is_all(numbers: &[u32], from: usize, value: u32) -> bool
 }
 
 // Is a place within rows or their end, and each number from there on the value?
-fn are_rows<const N: usize>(rows: &[[u32; N]], from: usize, value: u32) -> bool
+pub fn are_rows<const N: usize>(rows: &[[u32; N]], from: usize, value: u32) -> bool
     ensures { result ≡ nat_le from (length rows.now) && are_all value (drop from rows.now) }
 {
     if rows.len() < from {

@@ -1,2 +1,0 @@
--- What the proofs of `signature_tests` share.
-pub mod Laws
