@@ -5,12 +5,13 @@ use mathlib.Core.Path.{◌≡◌, refl, sym, ap, ◌∙◌}
 use mathlib.Core.Bool.{Bool, true, false}
 use mathlib.Core.List.{List}
 use lib.Dec.{ltb}
-use lib.ListN.{length}
+use lib.ListN.{length, take}
+use Rattle.signature.proofs.UsedLaws.{symbols_used}
 use borrow.Author.Tests.{lt-ltb, le-ltb}
 use Rattle.terms.specs.Numbers.{true_false}
 use Rattle.words.specs.Lexer.{capped_of}
 use Rattle.words.specs.declared.Limits.{Limits}
-use Rattle.names.specs.Symbols.{Rows}
+use Rattle.names.specs.Symbols.{Rows, Symbol, symbols_of}
 use Rattle.term_check.specs.TermRows.{Checking}
 use Rattle.term_check.specs.TermLaws.{term_stands}
 use Rattle.signature.specs.Storage.{SignatureStore, SignatureChecked, symbols_in}
@@ -79,20 +80,23 @@ module _ {text : List ℕ} {sg : SignatureStore} {rows : Rows} {at : ℕ} where
   pub forward_refused : (Readable text sg rows at → ⊥) → Forwarding text sg rows at (Err Storage)
   forward_refused n = record { unready = λ m. (refl, refl); ready = λ h. absurd (n h) }
 
-  pub forward_asked : Readable text sg rows at → ForwardAsked text rows at sg.symbols sg.counts.symbols
-  forward_asked h = record {
-    term = written_in h;
-    next = h.next;
-    stands = term_stands h.term;
-    lent = let a = h.signature.symbols_lent in let c = h.signature.few_symbols in omega arith;
-  }
+  pub forward_asked : (symbols : Rows) → Readable text sg rows at → ForwardAsked text rows at symbols
+  forward_asked symbols h = record { term = written_in h; next = h.next; stands = term_stands h.term }
 
-  module _ (h : Readable text sg rows at) {r : Bool} (a : ForwardAnswered text rows at sg.symbols sg.counts.symbols r) where
-    says : (k : Readable text sg rows at) → is_forward_call (symbols_in text sg) (written_in k) ≡ r
-    says k = sym (a.says (written_in k) k.next (term_stands k.term))
+  -- The symbols in use, lent alone, are the signature's.
+  module _ (h : Readable text sg rows at) where
+    pub symbols_within : sg.counts.symbols ≤ length sg.symbols
+    symbols_within = let a = h.signature.symbols_lent in let c = h.signature.few_symbols in omega arith
 
-    pub is_decided : Forwarding text sg rows at (Ok r)
-    is_decided = record {
-      unready = λ n. absurd (n h);
-      ready = λ k. (ap Ok (sym (says k)), ap (λ (b : Bool). answers (cond b 1 0 ∷ [])) (sym (says k)));
-    }
+    symbols_part : symbols_of text (take sg.counts.symbols sg.symbols) (length (take sg.counts.symbols sg.symbols)) ≡ symbols_in text sg
+    symbols_part = symbols_used sg.symbols sg.counts.symbols symbols_within text
+
+    module _ {r : Bool} (a : ForwardAnswered text rows at (take sg.counts.symbols sg.symbols) r) where
+      says : (k : Readable text sg rows at) → is_forward_call (symbols_in text sg) (written_in k) ≡ r
+      says k = sym (a.says (written_in k) k.next (term_stands k.term) ∙ ap (λ (S : List Symbol). is_forward_call S (written_in k)) symbols_part)
+
+      pub is_decided : Forwarding text sg rows at (Ok r)
+      is_decided = record {
+        unready = λ n. absurd (n h);
+        ready = λ k. (ap Ok (sym (says k)), ap (λ (b : Bool). answers (cond b 1 0 ∷ [])) (sym (says k)));
+      }

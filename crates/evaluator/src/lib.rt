@@ -156,6 +156,6 @@ pub fn is_forward_call(
     let Some(_) = term_check::check_term(text, rows, at) else {
         return Err(Refusal::Storage);
     };
-    let count = signature.counts.symbols as usize;
-    Ok(forward_calls::is_forward_call(text, rows, at, signature.symbols, count))
+    let symbols = &signature.symbols[..signature.counts.symbols as usize];
+    Ok(forward_calls::is_forward_call(text, rows, at, symbols))
 }

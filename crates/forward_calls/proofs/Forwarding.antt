@@ -5,12 +5,17 @@ use mathlib.Core.Path.{◌≡◌, refl, sym, ap, ◌∙◌, subst}
 use mathlib.Core.Bool.{Bool, true, false, ◌&&◌}
 use mathlib.Core.List.{List}
 use lib.Dec.{eqb, ltb}
-use lib.ListN.{length}
+use lib.ListN.{length, take}
+use Rattle.std.specs.Prelude.{Option, Some, None}
+use Rattle.std.specs.List.{position}
+use Rattle.std.proofs.Math.Seq.{take-length}
+use Rattle.source_text.specs.Bytes.{same_bytes}
+use Rattle.names.specs.SearchLaws.{symbol_some, symbol_none}
 use borrow.Author.Tests.{eq-eqb, ne_eqb, lt-ltb, le-ltb}
 use Rattle.term_parser.specs.Source.{one}
 use Rattle.term_parser.specs.Standing.{Written, size, Stands}
-use Rattle.names.specs.Names.{name_of}
-use Rattle.names.specs.Symbols.{Rows, Symbol, column, row_at, symbols_of, symbol_at, symbol_number}
+use Rattle.names.specs.Names.{Name, name_of}
+use Rattle.names.specs.Symbols.{Rows, Symbol, sort_of, column, row_at, symbols_of, symbol_at, symbol_number}
 use Rattle.evaluation.specs.Expressions.{is_ground, is_called_with, is_forward_call}
 use Rattle.forward_calls.specs.Ground.{GroundAsked, GroundAnswered}
 use Rattle.forward_calls.specs.Forward.{ForwardAsked, ForwardAnswered}
@@ -25,7 +30,24 @@ and_false₂ : (a : Bool) → (a && false) ≡ false
 and_false₂ true = refl
 and_false₂ false = refl
 
-module _ {text : List ℕ} {rows : Rows} {at : ℕ} {symbols : Rows} {count : ℕ} (h : ForwardAsked text rows at symbols count) where
+-- A name looked for in all symbols.
+module _ (text : List ℕ) (symbols : Rows) (w : Name) {r : Option ℕ} (e : r ≡ position (λ row. same_bytes (sort_of text row) w) symbols) where
+  in_all : r ≡ position (λ row. same_bytes (sort_of text row) w) (take (length symbols) symbols)
+  in_all = e ∙ ap (position (λ row. same_bytes (sort_of text row) w)) (sym (take-length symbols))
+
+  pub found_at : {i : ℕ} → r ≡ Some i → (i ≡ symbol_number (symbols_of text symbols (length symbols)) w) × (i < length symbols)
+  found_at f = symbol_some text symbols (length symbols) (omega arith) w _ (sym f ∙ in_all)
+
+  pub not_found : r ≡ None → length symbols ≤ symbol_number (symbols_of text symbols (length symbols)) w
+  not_found f = symbol_none text symbols (length symbols) (omega arith) w (sym f ∙ in_all)
+
+module _ {text : List ℕ} {rows : Rows} {at : ℕ} {symbols : Rows} (h : ForwardAsked text rows at symbols) where
+  abbrev count : ℕ
+  count = length symbols
+
+  lent : count ≤ length symbols
+  lent = omega arith
+
   abbrev kind : ℕ
   kind = column (row_at rows at) 0
 
@@ -35,11 +57,11 @@ module _ {text : List ℕ} {rows : Rows} {at : ℕ} {symbols : Rows} {count : �
   pub inside : at < length rows
   inside = row_within text rows at h.next h.term h.stands
 
-  pub of_numeral : kind ≡ 14 → ForwardAnswered text rows at symbols count false
+  pub of_numeral : kind ≡ 14 → ForwardAnswered text rows at symbols false
   unfolding is_forward_call
   of_numeral k = record { says = λ t q s. let (v, e, c, n) = number_row text rows at q t s k in subst (λ (x : Written one). false ≡ is_forward_call table x) (sym e) refl }
 
-  pub of_meta : kind ≡ 13 → ForwardAnswered text rows at symbols count false
+  pub of_meta : kind ≡ 13 → ForwardAnswered text rows at symbols false
   unfolding is_forward_call
   of_meta k = record { says = λ t q s. let (w, e) = meta_row text rows at q t s k in subst (λ (x : Written one). false ≡ is_forward_call table x) (sym e) refl }
 
@@ -51,34 +73,34 @@ module _ {text : List ℕ} {rows : Rows} {at : ℕ} {symbols : Rows} {count : �
     -- What the name and the number of arguments say, in numbers.
     calls : {t : Written one} {q : ℕ} (d : Head text rows at t q) → is_called_with table d.name (size d.parts)
         ≡ (ltb i count && (eqb (symbol_at table i).function 1 && eqb (suc (column (row_at rows at) 3)) (length (symbol_at table i).inputs)))
-    calls d = rw (named d, symbols_length text symbols count h.lent, ← d.counts)
+    calls d = rw (named d, symbols_length text symbols count lent, ← d.counts)
 
     answer : (b : Bool) → ((ltb i count && (eqb (symbol_at table i).function 1 && eqb (suc (column (row_at rows at) 3)) (length (symbol_at table i).inputs))) ≡ b)
-        → (r : Bool) → ((t : Written one) (q : ℕ) → Stands text rows at t q → r ≡ (b && is_ground t)) → ForwardAnswered text rows at symbols count r
+        → (r : Bool) → ((t : Written one) (q : ℕ) → Stands text rows at t q → r ≡ (b && is_ground t)) → ForwardAnswered text rows at symbols r
     answer b e r k = record { says = λ t q s. let d = head_of text rows at q t s n m in k t q s ∙ ap (λ (x : Bool). x && is_ground t) (sym (calls d ∙ e)) ∙ sym (d.forward table) }
 
-    pub of_unknown : count ≤ i → ForwardAnswered text rows at symbols count false
+    pub of_unknown : count ≤ i → ForwardAnswered text rows at symbols false
     of_unknown l = answer false (rw (le-ltb i count l)) false (λ t q s. refl)
 
     module _ (l : i < count) where
-      pub of_other : (column (row_at symbols i) 3 ≡ 1 → ⊥) → ForwardAnswered text rows at symbols count false
-      of_other f = answer false (rw (function_at text symbols count h.lent i l, ne_eqb (column (row_at symbols i) 3) 1 f) (and_false (ltb i count) true)) false (λ t q s. refl)
+      pub of_other : (column (row_at symbols i) 3 ≡ 1 → ⊥) → ForwardAnswered text rows at symbols false
+      of_other f = answer false (rw (function_at text symbols count lent i l, ne_eqb (column (row_at symbols i) 3) 1 f) (and_false (ltb i count) true)) false (λ t q s. refl)
 
-      wrong_count : (suc (column (row_at rows at) 3) ≡ column (row_at symbols i) 6 → ⊥) → ForwardAnswered text rows at symbols count false
+      wrong_count : (suc (column (row_at rows at) 3) ≡ column (row_at symbols i) 6 → ⊥) → ForwardAnswered text rows at symbols false
       wrong_count f = answer false
-          (rw (arity_at_lem text symbols count h.lent i l, ne_eqb (suc (column (row_at rows at) 3)) (column (row_at symbols i) 6) f, and_false₂ (eqb (symbol_at table i).function 1)) (and_false₂ (ltb i count))) false (λ t q s. refl)
+          (rw (arity_at_lem text symbols count lent i l, ne_eqb (suc (column (row_at rows at) 3)) (column (row_at symbols i) 6) f, and_false₂ (eqb (symbol_at table i).function 1)) (and_false₂ (ltb i count))) false (λ t q s. refl)
 
-      pub of_none : column (row_at symbols i) 6 ≡ 0 → ForwardAnswered text rows at symbols count false
+      pub of_none : column (row_at symbols i) 6 ≡ 0 → ForwardAnswered text rows at symbols false
       of_none e = wrong_count (λ f. let z : ⊥ = omega arith in z)
 
       module _ (p : column (row_at symbols i) 6 ≡ 0 → ⊥) where
-        pub of_count : (column (row_at symbols i) 6 - 1 ≡ column (row_at rows at) 3 → ⊥) → ForwardAnswered text rows at symbols count false
+        pub of_count : (column (row_at symbols i) 6 - 1 ≡ column (row_at rows at) 3 → ⊥) → ForwardAnswered text rows at symbols false
         of_count e = wrong_count (λ f. e (omega arith))
 
-        pub of_call : column (row_at symbols i) 3 ≡ 1 → column (row_at symbols i) 6 - 1 ≡ column (row_at rows at) 3 → {r : Bool} → GroundAnswered text rows at r → ForwardAnswered text rows at symbols count r
+        pub of_call : column (row_at symbols i) 3 ≡ 1 → column (row_at symbols i) 6 - 1 ≡ column (row_at rows at) 3 → {r : Bool} → GroundAnswered text rows at r → ForwardAnswered text rows at symbols r
         of_call f e {r} g =
             let x : suc (column (row_at rows at) 3) ≡ column (row_at symbols i) 6 = omega (arith, p) in
-            answer true (rw (lt-ltb i count l, function_at text symbols count h.lent i l, eq-eqb (column (row_at symbols i) 3) 1 f, arity_at_lem text symbols count h.lent i l, eq-eqb (suc (column (row_at rows at) 3)) (column (row_at symbols i) 6) x)) r (λ t q s. g.says t q s)
+            answer true (rw (lt-ltb i count l, function_at text symbols count lent i l, eq-eqb (column (row_at symbols i) 3) 1 f, arity_at_lem text symbols count lent i l, eq-eqb (suc (column (row_at rows at) 3)) (column (row_at symbols i) 6) x)) r (λ t q s. g.says t q s)
 
   pub ground_asked : GroundAsked text rows at
   ground_asked = record { term = h.term; next = h.next; stands = h.stands }

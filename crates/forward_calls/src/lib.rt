@@ -31,15 +31,9 @@ pub fn is_ground(text: &[u8], rows: &[TermRow], at: usize) -> bool
 }
 
 // Whether the term whose rows start at a place is a function's name with all arguments but its result, and has no metavariable. Every other one is a goal.
-pub fn is_forward_call(
-    text: &[u8],
-    rows: &[TermRow],
-    at: usize,
-    symbols: &[SymbolRow],
-    count: usize,
-) -> bool
-    requires { ForwardAsked text.now rows.now at symbols.now count }
-    ensures { ForwardAnswered text.now rows.now at symbols.now count result }
+pub fn is_forward_call(text: &[u8], rows: &[TermRow], at: usize, symbols: &[SymbolRow]) -> bool
+    requires { ForwardAsked text.now rows.now at symbols.now }
+    ensures { ForwardAnswered text.now rows.now at symbols.now result }
 {
     let kind = rows[at][0];
     if kind == words::NUMERAL {
@@ -48,7 +42,7 @@ pub fn is_forward_call(
     if kind == words::METAVARIABLE {
         return false;
     }
-    let Some(i) = names::find_at(text, &symbols[..count], kind, rows[at][1], rows[at][2]) else {
+    let Some(i) = names::find_at(text, symbols, kind, rows[at][1], rows[at][2]) else {
         return false;
     };
     if symbols[i][3] != 1 {

@@ -9,7 +9,7 @@ pub returns-in_default : goal.returns-in_default
 returns-in_default c = forward_refused (no_term c.check_term.ensures c.in_default.is)
 
 pub is_forward_call-requires : goal.is_forward_call-requires
-is_forward_call-requires c = forward_asked (is_readable c.check_signature.ensures c.if-not-check_signature.false c.check_term.ensures c.in-Some.is)
+is_forward_call-requires c = forward_asked _ (is_readable c.check_signature.ensures c.if-not-check_signature.false c.check_term.ensures c.in-Some.is)
 
 pub returns : goal.returns
 returns c = is_decided (is_readable c.check_signature.ensures c.if-not-check_signature.false c.check_term.ensures c.in-Some.is) c.is_forward_call.ensures

@@ -1,8 +1,7 @@
 -- `is_forward_call` meets its contract: one law for each way out.
 use native.Mathlib.Omega.{arith}
-use Rattle.std.proofs.Common.{refl, sym, ◌∙◌}
-use Rattle.names.specs.SearchLaws.{symbol_some, symbol_none}
-use Rattle.forward_calls.proofs.Forwarding.{inside, of_numeral, of_meta, of_unknown, of_other, of_none, of_count, of_call, ground_asked}
+use Rattle.std.proofs.Common.{refl}
+use Rattle.forward_calls.proofs.Forwarding.{found_at, not_found, inside, of_numeral, of_meta, of_unknown, of_other, of_none, of_count, of_call, ground_asked}
 use Rattle.forward_calls.proofs.is_forward_call.Goals as goal
 
 pub offset_bounds-rows-at : goal.offset_bounds-rows-at
@@ -30,13 +29,13 @@ pub bounds-rows-at-else-kind-eq-METAVARIABLE-2 : goal.bounds-rows-at-else-kind-e
 bounds-rows-at-else-kind-eq-METAVARIABLE-2 c = let i = inside c.requires in omega arith
 
 pub returns-in_default : goal.returns-in_default
-returns-in_default c = of_unknown c.requires c.if-kind-eq-NUMERAL.false c.if-kind-eq-METAVARIABLE.false refl (symbol_none c.args.text.now c.args.symbols.now c.args.count c.requires.lent _ (sym c.in_default.is ∙ c.find_at.ensures))
+returns-in_default c = of_unknown c.requires c.if-kind-eq-NUMERAL.false c.if-kind-eq-METAVARIABLE.false refl (not_found _ _ _ c.find_at.ensures c.in_default.is)
 
 pub returns-then-symbols-i-ne1 : goal.returns-then-symbols-i-ne1
-returns-then-symbols-i-ne1 c = of_other c.requires c.if-kind-eq-NUMERAL.false c.if-kind-eq-METAVARIABLE.false (symbol_some c.args.text.now c.args.symbols.now c.args.count c.requires.lent _ _ (sym c.in-Some.is ∙ c.find_at.ensures)).0 (symbol_some c.args.text.now c.args.symbols.now c.args.count c.requires.lent _ _ (sym c.in-Some.is ∙ c.find_at.ensures)).1 c.if-symbols-i-ne1.true
+returns-then-symbols-i-ne1 c = of_other c.requires c.if-kind-eq-NUMERAL.false c.if-kind-eq-METAVARIABLE.false (found_at _ _ _ c.find_at.ensures c.in-Some.is).0 (found_at _ _ _ c.find_at.ensures c.in-Some.is).1 c.if-symbols-i-ne1.true
 
 pub returns-then-inputs-eq0 : goal.returns-then-inputs-eq0
-returns-then-inputs-eq0 c = of_none c.requires c.if-kind-eq-NUMERAL.false c.if-kind-eq-METAVARIABLE.false (symbol_some c.args.text.now c.args.symbols.now c.args.count c.requires.lent _ _ (sym c.in-Some.is ∙ c.find_at.ensures)).0 (symbol_some c.args.text.now c.args.symbols.now c.args.count c.requires.lent _ _ (sym c.in-Some.is ∙ c.find_at.ensures)).1 c.if-inputs-eq0.true
+returns-then-inputs-eq0 c = of_none c.requires c.if-kind-eq-NUMERAL.false c.if-kind-eq-METAVARIABLE.false (found_at _ _ _ c.find_at.ensures c.in-Some.is).0 (found_at _ _ _ c.find_at.ensures c.in-Some.is).1 c.if-inputs-eq0.true
 
 pub offset_bounds-rows-at-4 : goal.offset_bounds-rows-at-4
 offset_bounds-rows-at-4 c = let i = inside c.requires in omega arith
@@ -45,10 +44,10 @@ pub bounds-rows-at-else-inputs-eq0 : goal.bounds-rows-at-else-inputs-eq0
 bounds-rows-at-else-inputs-eq0 c = let i = inside c.requires in omega arith
 
 pub returns-then-inputs-rows : goal.returns-then-inputs-rows
-returns-then-inputs-rows c = of_count c.requires c.if-kind-eq-NUMERAL.false c.if-kind-eq-METAVARIABLE.false (symbol_some c.args.text.now c.args.symbols.now c.args.count c.requires.lent _ _ (sym c.in-Some.is ∙ c.find_at.ensures)).0 (symbol_some c.args.text.now c.args.symbols.now c.args.count c.requires.lent _ _ (sym c.in-Some.is ∙ c.find_at.ensures)).1 c.if-inputs-eq0.false c.if-inputs-rows.true
+returns-then-inputs-rows c = of_count c.requires c.if-kind-eq-NUMERAL.false c.if-kind-eq-METAVARIABLE.false (found_at _ _ _ c.find_at.ensures c.in-Some.is).0 (found_at _ _ _ c.find_at.ensures c.in-Some.is).1 c.if-inputs-eq0.false c.if-inputs-rows.true
 
 pub is_ground-requires : goal.is_ground-requires
 is_ground-requires c = ground_asked c.requires
 
 pub returns : goal.returns
-returns c = of_call c.requires c.if-kind-eq-NUMERAL.false c.if-kind-eq-METAVARIABLE.false (symbol_some c.args.text.now c.args.symbols.now c.args.count c.requires.lent _ _ (sym c.in-Some.is ∙ c.find_at.ensures)).0 (symbol_some c.args.text.now c.args.symbols.now c.args.count c.requires.lent _ _ (sym c.in-Some.is ∙ c.find_at.ensures)).1 c.if-inputs-eq0.false c.if-symbols-i-ne1.false c.if-inputs-rows.false c.is_ground.ensures
+returns c = of_call c.requires c.if-kind-eq-NUMERAL.false c.if-kind-eq-METAVARIABLE.false (found_at _ _ _ c.find_at.ensures c.in-Some.is).0 (found_at _ _ _ c.find_at.ensures c.in-Some.is).1 c.if-inputs-eq0.false c.if-symbols-i-ne1.false c.if-inputs-rows.false c.is_ground.ensures
