@@ -1,19 +1,17 @@
 -- The tests of the entry points: what fails one is not ready, and what passes all is.
-use Prim.Native.Nat.{ℕ, zero, suc, ◌+◌, ◌≤◌, ◌<◌, min}
+use Prim.Native.Nat.{ℕ, ◌+◌, ◌≤◌, ◌<◌, min}
 use native.Mathlib.Omega.{arith}
 use mathlib.Core.Path.{◌≡◌, refl, sym, ap, ◌∙◌}
 use mathlib.Core.Bool.{Bool, true, false}
 use mathlib.Core.List.{List}
 use lib.Dec.{ltb}
 use lib.ListN.{length, take}
-use lib.Seq.{length-take-le}
-use mathlib.Core.List.{map}
-use Rattle.names.specs.Symbols.{Symbol, symbol_of, symbols_of}
+use Rattle.signature.proofs.UsedLaws.{symbols_used}
 use borrow.Author.Tests.{lt-ltb, le-ltb}
 use Rattle.terms.specs.Numbers.{true_false}
 use Rattle.words.specs.Lexer.{capped_of}
 use Rattle.words.specs.declared.Limits.{Limits}
-use Rattle.names.specs.Symbols.{Rows}
+use Rattle.names.specs.Symbols.{Rows, Symbol, symbols_of}
 use Rattle.term_check.specs.TermRows.{Checking}
 use Rattle.term_check.specs.TermLaws.{term_stands}
 use Rattle.signature.specs.Storage.{SignatureStore, SignatureChecked, symbols_in}
@@ -91,15 +89,7 @@ module _ {text : List ℕ} {sg : SignatureStore} {rows : Rows} {at : ℕ} where
     symbols_within = let a = h.signature.symbols_lent in let c = h.signature.few_symbols in omega arith
 
     symbols_part : symbols_of text (take sg.counts.symbols sg.symbols) (length (take sg.counts.symbols sg.symbols)) ≡ symbols_in text sg
-    unfolding symbols_of
-    symbols_part =
-        let n : length (take sg.counts.symbols sg.symbols) ≡ sg.counts.symbols = (let w = symbols_within in length-take-le sg.counts.symbols sg.symbols w) in
-        ap (map (symbol_of text)) (rw n (take_again sg.counts.symbols sg.symbols))
-      where
-        take_again : (n : ℕ) (xs : Rows) → take n (take n xs) ≡ take n xs
-        take_again zero xs = refl
-        take_again (suc n) [] = refl
-        take_again (suc n) (x ∷ xs) = ap (λ (ys : Rows). x ∷ ys) (take_again n xs)
+    symbols_part = symbols_used sg.symbols sg.counts.symbols symbols_within text
 
     module _ {r : Bool} (a : ForwardAnswered text rows at (take sg.counts.symbols sg.symbols) r) where
       says : (k : Readable text sg rows at) → is_forward_call (symbols_in text sg) (written_in k) ≡ r
