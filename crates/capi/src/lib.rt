@@ -5,7 +5,8 @@ ghost use Rattle.std.specs.Prelude.{◌≡◌, ◌*◌, ◌^◌, ◌≤◌, cond
 ghost use Rattle.std.proofs.lemmas.List.Edits.{sets};
 ghost use Rattle.capi.specs.Declarations.{ParsedAs};
 ghost use Rattle.capi.specs.Checks.{CheckedAs};
-ghost use Rattle.capi.specs.Evaluation.{stored_counts, EvaluatedAs, ForwardAs};
+ghost use Rattle.signature.specs.Storage.{store_of};
+ghost use Rattle.capi.specs.Evaluation.{store_with, stored_counts, EvaluatedAs, ForwardAs};
 ghost use Rattle.capi.specs.Signatures.{LoadedAs};
 ghost use Rattle.capi.specs.Sessions.{OpenedAs, ProvedAs, counts_in, packed_proof, verdict_row, verdict_after, search_limits};
 ghost use Rattle.capi.specs.Unification.{Answered};
@@ -71,6 +72,26 @@ pub fn signature_counts(counts: &[u32]) -> signature::Counts
         symbols: counts[1],
         rules: counts[2],
         words: counts[3],
+    }
+}
+
+// A signature as it is lent, with the first four counts that `horn_load` leaves.
+pub fn stored_signature<'a>(
+    sorts: &'a [[u32; 2]],
+    symbols: &'a [[u32; 24]],
+    rules: &'a [[u32; 154]],
+    words: &'a [u32],
+    counts: &[u32],
+) -> StoredSignature<'a>
+    requires { 4 ≤ length counts.now }
+    ensures { store_of result ≡ store_with sorts.now symbols.now rules.now words.now counts.now }
+{
+    StoredSignature {
+        sorts,
+        symbols,
+        rules,
+        words,
+        counts: signature_counts(counts),
     }
 }
 
@@ -218,13 +239,7 @@ pub fn horn_check_signature(
     if counts.len() < 4 {
         return REFUSED;
     }
-    let signature = StoredSignature {
-        sorts,
-        symbols,
-        rules,
-        words,
-        counts: signature_counts(counts),
-    };
+    let signature = stored_signature(sorts, symbols, rules, words, counts);
     if !signature::check_signature(text, signature) {
         return REFUSED;
     }
@@ -263,13 +278,7 @@ pub fn horn_evaluate(
         words: limit,
         ..NO_LIMITS
     };
-    let signature = StoredSignature {
-        sorts,
-        symbols,
-        rules,
-        words: pattern,
-        counts: signature_counts(counts),
-    };
+    let signature = stored_signature(sorts, symbols, rules, pattern, counts);
     match evaluator::evaluate(text, limits, signature, rows, at, words, links, trees) {
         Err(refusal) => {
             clear_numbers(results, refusal);
@@ -303,13 +312,7 @@ pub fn horn_is_forward_call(
     if counts.len() < 4 {
         return REFUSED;
     }
-    let signature = StoredSignature {
-        sorts,
-        symbols,
-        rules,
-        words: pattern,
-        counts: signature_counts(counts),
-    };
+    let signature = stored_signature(sorts, symbols, rules, pattern, counts);
     match evaluator::is_forward_call(text, signature, rows, at) {
         Ok(true) => 1,
         Ok(false) => 0,
@@ -425,13 +428,7 @@ pub fn horn_prove(
     if results.len() < 6 {
         return REFUSED;
     }
-    let signature = StoredSignature {
-        sorts,
-        symbols,
-        rules,
-        words: pattern,
-        counts: signature_counts(counts),
-    };
+    let signature = stored_signature(sorts, symbols, rules, pattern, counts);
     let query = Query {
         text,
         limits: search_limits(most, variables, limit),
