@@ -77,10 +77,6 @@ module _ {values : List ℕ} {used header from count : ℕ} {values' : List ℕ}
 pub ok_is : {A : Type 0} {a b : A} → ◌≡◌ {A = Result A Refusal} (Ok a) (Ok b) → a ≡ b
 ok_is e = cc
 
--- What a `?` passes on.
-pub passed_on : {T : Type 0} {refusal : Refusal} (r : Result T Refusal) → IsErrAnd r (λ e. e ≡ refusal) → r ≡ Err refusal
-passed_on r h = let p = err_from_is_err_and r h in rw (p.1, p.2)
-
 -- What an answer says of the form: a refusal nothing, any other that it is kept.
 pub unbuilt_forms : (pattern : List ℕ) (refusal : Refusal) (values values' : List ℕ) (used : ℕ)
     → BuiltFormed pattern (Err refusal) values values' used

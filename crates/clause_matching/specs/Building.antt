@@ -1,5 +1,5 @@
 -- What building in storage asks and answers (document 01, "Evaluated terms"; `instantiate_of` of `evaluation`).
-use Rattle.std.specs.Prelude.{ℕ, suc, ◌+◌, ◌≤◌, ◌<◌, ◌≡◌, ◌≢◌, List, length, Result, Ok, IsErrAnd}
+use Rattle.std.specs.Prelude.{ℕ, suc, ◌+◌, ◌≤◌, ◌<◌, ◌≡◌, ◌≢◌, List, length, Result, Ok}
 use Rattle.terms.specs.Term.{Term, Terms}
 use Rattle.terms.specs.Term.Kind.{one as single, many as several}
 use Rattle.terms.specs.Bindings.{Bindings}
@@ -9,12 +9,8 @@ use Rattle.arena.specs.Rows.{Rows}
 use Rattle.evaluation.specs.Matching.{Built, barred, built, instantiate_of}
 use Rattle.clause_matching.specs.Stored.{Value, Values, PatternIn, Holds, Headed, Formed, value_at, pattern_at}
 use Rattle.refusals.specs.declared.Refusal.{Refusal}
-use Rattle.refusals.specs.Refusals.{number_of}
+use Rattle.refusals.specs.Refused.{Refuses}
 use Rattle.clause_matching.specs.declared.building.Built.{Built as Answer}
-
--- An answer is the refusal of a number.
-abbrev pub Refuses : {A : Type 0} → Result A Refusal → ℕ → Type 0
-Refuses r e = IsErrAnd r (λ refusal. number_of refusal ≡ e)
 
 -- It is a value, with the words then used.
 abbrev pub built_at : ℕ → ℕ → Result Answer Refusal

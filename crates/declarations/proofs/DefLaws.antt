@@ -24,7 +24,7 @@ use Rattle.declarations.specs.Steps.{name_at, place_at, NameInside, GoesTo, symb
 use Rattle.declarations.specs.declared.State.{State}
 use Rattle.std.specs.Prelude.{Result}
 use Rattle.refusals.specs.declared.Refusal.{Refusal}
-use Rattle.patterns.specs.Refused.{Refuses}
+use Rattle.refusals.specs.Refused.{Refuses}
 use Rattle.declarations.specs.declared.Progress.{Progress}
 use Rattle.declarations.proofs.ProgressLaws.{goes_on, goes_not}
 use Rattle.declarations.proofs.ClauseLaws.{clause_names}
@@ -63,7 +63,7 @@ module _ {text : List ℕ} {limit : ℕ} {ts : Titles} {s : Signature} {sorts sy
           (one_symbol_more st, goes_on _ r is, record { names = h.1; kept = rules_held held.kept (symbol_named c W 0 0 0 ns) (st.symbols + 1); legal = l })
       go (suc e) (numbers ns) came is n legal =
           let q : next ns ≡ no (suc e) = same ns (n ns refl) ∙ came.0 (λ z. omega arith) in
-          let z : Refuses (suc e) r = goes_not (suc e) _ r (omega arith) is in
+          let z : Refuses r (suc e) = goes_not (suc e) _ r (omega arith) is in
           subst (λ (x : Step). Stepped text limit (symbol_titled ts P) x (p + 2 + k) sorts symbols' rules words r) (sym q) z
 
   -- `def`
@@ -75,7 +75,7 @@ module _ {text : List ℕ} {limit : ℕ} {ts : Titles} {s : Signature} {sorts sy
     F ns = symbol_named false W 1 (first_of s cs) (length cs) ns
 
     -- refused
-    pub def_no : (e q : ℕ) (symbols' rules' : Rows) (words' : List ℕ) (r : Result Progress Refusal) → Refuses e r → def_of limit text s W (names_at text rows (p + 2) k) cs ≡ no e
+    pub def_no : (e q : ℕ) (symbols' rules' : Rows) (words' : List ℕ) (r : Result Progress Refusal) → Refuses r e → def_of limit text s W (names_at text rows (p + 2) k) cs ≡ no e
         → Stepped text limit D (def_of limit text s W (names_at text rows (p + 2) k) cs) q sorts symbols' rules' words' r
     def_no e q symbols' rules' words' r a h = subst (λ (x : Step). Stepped text limit D x q sorts symbols' rules' words' r) (sym h) a
 

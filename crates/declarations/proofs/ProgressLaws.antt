@@ -4,7 +4,7 @@ use native.Mathlib.Omega.{arith}
 use mathlib.Core.Path.{◌≡◌, ap}
 use Rattle.std.specs.Prelude.{Result, Ok, Err}
 use Rattle.refusals.specs.declared.Refusal.{Refusal}
-use Rattle.patterns.specs.Refused.{Refuses}
+use Rattle.refusals.specs.Refused.{Refuses}
 use Rattle.declarations.specs.Steps.{GoesTo}
 use Rattle.declarations.specs.declared.Progress.{Progress}
 
@@ -12,6 +12,6 @@ pub goes_on : (x : Progress) (r : Result Progress Refusal) → GoesTo 0 x r → 
 goes_on x (Ok y) h = ap Ok h.1
 goes_on x (Err e) h = absurd (omega arith)
 
-pub goes_not : (n : ℕ) (x : Progress) (r : Result Progress Refusal) → 0 < n → GoesTo n x r → Refuses n r
+pub goes_not : (n : ℕ) (x : Progress) (r : Result Progress Refusal) → 0 < n → GoesTo n x r → Refuses r n
 goes_not n x (Ok y) l h = absurd (omega arith)
 goes_not n x (Err e) l h = h.0

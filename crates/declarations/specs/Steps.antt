@@ -13,7 +13,7 @@ use Rattle.rules.specs.declared.Title.{Title}
 use Rattle.refusals.specs.declared.Refusal.{Refusal}
 use Rattle.refusals.specs.declared.Refusal.TheVariants.{NoDeclaration}
 use Rattle.refusals.specs.Refusals.{number_of}
-use Rattle.patterns.specs.Refused.{Refuses}
+use Rattle.refusals.specs.Refused.{Refuses}
 use Rattle.clauses.specs.declared.EnteredRule.{EnteredRule}
 use Rattle.loader.specs.Signature.{Signature, Step, no, on, and_then, with_sorts, with_some, numbers_of, first_of, enter_symbol, enter_judgments, enter_clause, enter_clauses, declare}
 use Rattle.loader.specs.Legal.{Legal}
@@ -88,7 +88,7 @@ pub record Filled (text : List ℕ) (limit : ℕ) (ts : List Title) (t : Signatu
   pub symbols : st'.symbols ≡ st.symbols
 
 abbrev pub Advanced : List ℕ → ℕ → List Title → Step → ℕ → Rows → List ℕ → State → Result Progress Refusal → Type 0
-Advanced text limit ts (no e) q rules words st r = Refuses e r
+Advanced text limit ts (no e) q rules words st r = Refuses r e
 Advanced text limit ts (on t) q rules words st r = (st' : State) × (r ≡ Ok (record { next = q; state = st' })) × Filled text limit ts t rules words st st'
 
 -- How an outcome is told, where so many nodes were allowed.
@@ -156,7 +156,7 @@ pub record ClausesDeclared (text : List ℕ) (rows : Rows) (p n start size : ℕ
 
 -- One declaration was entered up to the row q, with these titles in all, or refused.
 abbrev pub Stepped : List ℕ → ℕ → Titles → Step → ℕ → Rows → Rows → Rows → List ℕ → Result Progress Refusal → Type 0
-Stepped text limit ts (no e) q sorts symbols rules words r = Refuses e r
+Stepped text limit ts (no e) q sorts symbols rules words r = Refuses r e
 Stepped text limit ts (on t) q sorts symbols rules words r = (st : State) × (r ≡ Ok (record { next = q; state = st })) × Held text limit ts t sorts symbols rules words st
 
 -- `def` of a name by its sorts' names and its clauses.

@@ -21,7 +21,7 @@ use Rattle.evaluator.specs.Storage.{Results, most_words, too_short, zero_tree, w
 use Rattle.refusals.specs.declared.Refusal.{Refusal}
 use Rattle.refusals.specs.declared.Refusal.TheVariants.{Storage}
 use Rattle.refusals.specs.Refusals.{number_of}
-use Rattle.clause_matching.specs.Building.{Refuses}
+use Rattle.refusals.specs.Refused.{Refuses}
 use Rattle.evaluator.specs.declared.Evaluation.{Evaluation}
 
 -- A value, the number of calls and that of words.

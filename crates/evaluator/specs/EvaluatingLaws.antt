@@ -30,7 +30,7 @@ use Rattle.evaluator.specs.ProgramLaws.{listed_clauses, listed_there}
 use Rattle.evaluator.specs.declared.Evaluation.{Evaluation}
 use Rattle.std.specs.Prelude.{Result, Ok, Err}
 use Rattle.refusals.specs.declared.Refusal.{Refusal}
-use Rattle.clause_matching.specs.Building.{Refuses}
+use Rattle.refusals.specs.Refused.{Refuses}
 use Rattle.clause_matching.proofs.Forming.{ok_is}
 
 -- What stands in storage beside the value of a term.

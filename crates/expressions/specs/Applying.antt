@@ -7,7 +7,8 @@ use Rattle.resolution.specs.Rules.{Rule, leaf}
 use Rattle.rules.specs.PatternLaws.{arities_of}
 use Rattle.evaluation.specs.Expressions.{Evaluated, failed, evaluated, apply_of}
 use Rattle.clause_matching.specs.Stored.{Value, Headed, Formed}
-use Rattle.clause_matching.specs.Building.{Refuses, Stands}
+use Rattle.clause_matching.specs.Building.{Stands}
+use Rattle.refusals.specs.Refused.{Refuses}
 use Rattle.clause_matching.specs.Choice.{values_of}
 use Rattle.function_calls.specs.Calls.{outcome, Program, Working, TreesListed, CallSpent}
 use Rattle.function_calls.specs.declared.calls.Outcome.{Outcome}

@@ -9,7 +9,8 @@ use Rattle.resolution.specs.Rules.{Rule}
 use Rattle.rules.specs.PatternLaws.{arities_of}
 use Rattle.evaluation.specs.Expressions.{Evaluated, failed, evaluated, tower_of, numeral_of}
 use Rattle.clause_matching.specs.Stored.{Values, Formed}
-use Rattle.clause_matching.specs.Building.{Refuses, built_at, Tells, Stands}
+use Rattle.clause_matching.specs.Building.{built_at, Tells, Stands}
+use Rattle.refusals.specs.Refused.{Refuses}
 use Rattle.clause_matching.specs.declared.building.Built.{Built as Answer}
 use Rattle.refusals.specs.declared.Refusal.{Refusal}
 use Rattle.refusals.specs.Refusals.{number_of}

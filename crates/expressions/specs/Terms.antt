@@ -7,7 +7,8 @@ use Rattle.names.specs.Symbols.{Rows, column, row_at, symbols_of, symbol_at}
 use Rattle.resolution.specs.Rules.{Rule}
 use Rattle.rules.specs.PatternLaws.{arities_of}
 use Rattle.evaluation.specs.Expressions.{Evaluated, failed, evaluated, apply_of, expression_of}
-use Rattle.clause_matching.specs.Building.{Refuses, Stands}
+use Rattle.clause_matching.specs.Building.{Stands}
+use Rattle.refusals.specs.Refused.{Refuses}
 use Rattle.clause_matching.specs.Stored.{Headed, Formed}
 use Rattle.function_calls.specs.Calls.{Working, TreesListed}
 use Rattle.expressions.specs.Applying.{Tables}

@@ -12,7 +12,8 @@ use Rattle.tree_rows.specs.Trees.{Lists}
 use Rattle.evaluation.specs.Calls.{Spent, Called, refused, returned, Walked, stopped, walked, max_calls, premises_of, concluded, call_of}
 use Rattle.evaluation.specs.Expressions.{max_depth}
 use Rattle.clause_matching.specs.Stored.{Value, Values, PatternIn, Holds, Links, Headed, Formed, pattern_at}
-use Rattle.clause_matching.specs.Building.{Refuses, rule_words, Stands}
+use Rattle.clause_matching.specs.Building.{rule_words, Stands}
+use Rattle.refusals.specs.Refused.{Refuses}
 use Rattle.clause_matching.specs.Choice.{ConclusionIn, values_of}
 use Rattle.refusals.specs.declared.Refusal.{Refusal}
 use Rattle.function_calls.specs.declared.calls.Outcome.{Outcome}

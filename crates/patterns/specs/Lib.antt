@@ -2,4 +2,3 @@
 pub mod Patterns
 pub mod Laying
 pub mod Promises
-pub mod Refused

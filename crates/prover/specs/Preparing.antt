@@ -12,7 +12,7 @@ use Rattle.resolution.specs.Search.{words, over}
 use Rattle.resolution.specs.Session.{Compiled, refuses, compiles, goal_of, limits_of}
 use Rattle.resolution.specs.Session as theory
 use Rattle.refusals.specs.declared.Refusal.{Refusal}
-use Rattle.patterns.specs.Refused.{Refuses}
+use Rattle.refusals.specs.Refused.{Refuses}
 use Rattle.rules.specs.PatternLaws.{arities_of}
 use Rattle.deepening.specs.Clearing.{ClearFrom}
 use Rattle.sessions.specs.Storage.{SessionStore, session_of, SessionListed, zero_name}
@@ -43,7 +43,7 @@ pub record PrepareAsked (text : List ℕ) (limits : Limits) (symbols : Rows) (co
 
 -- Refused, and nothing was written.
 pub record NotStored (names : Rows) (words : List ℕ) (r : Result StoredGoal Refusal) (names' : Rows) (words' : List ℕ) (e : ℕ) : Type 0 where
-  pub answer : Refuses e r
+  pub answer : Refuses r e
   pub names_are : names' ≡ names
   pub words_are : words' ≡ words
 

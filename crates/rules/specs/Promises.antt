@@ -21,7 +21,7 @@ use Rattle.rules.specs.StoredRows.{titled, Kept}
 use Rattle.rules.specs.Layout.{references, rule_words, row_of}
 use Rattle.refusals.specs.declared.Refusal.{Refusal}
 use Rattle.refusals.specs.Refusals.{number_of}
-use Rattle.patterns.specs.Refused.{Refuses}
+use Rattle.refusals.specs.Refused.{Refuses}
 use Rattle.rules.specs.declared.Space.{Space}
 use Rattle.rules.specs.declared.Title.{Title}
 use Rattle.rules.specs.declared.Body.{Body}
@@ -148,7 +148,7 @@ pub record RuleDone (text arities : List ℕ) (title : Title) (w : List ℕ) (u 
 
 -- What the definition says, and what the code answers and leaves.
 abbrev pub Entering : List ℕ → List ℕ → Title → List ℕ → ℕ → ℕ → Rows → ℕ → List ℕ → Rows → Ruled → Result Space Refusal → Type 0
-Entering text arities title w u room rules number w' rules' (barred e) r = Refuses e r
+Entering text arities title w u room rules number w' rules' (barred e) r = Refuses r e
 Entering text arities title w u room rules number w' rules' (ruled R room') r = RuleDone text arities title w u room rules number w' rules' R room' r
 
 -- What `rule` owes.

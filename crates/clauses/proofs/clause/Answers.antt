@@ -2,7 +2,7 @@
 use mathlib.Core.Path.{refl}
 use Rattle.source_text.specs.Parts.{part_of}
 use Rattle.names.specs.Symbols.{symbols_of}
-use Rattle.patterns.specs.Refused.{handed_on, none_is}
+use Rattle.refusals.specs.Refused.{handed_on, none_is}
 use Rattle.clauses.proofs.ClauseLaws.{seventeenth, clause_is, over_limit, prepared}
 use Rattle.clauses.proofs.clause.Goals as goal
 
@@ -41,7 +41,7 @@ returns-in_err-flat c =
     let heading = c.heading-right in
     let pre = c.requires in
     let flatten = c.flatten in
-    rw (handed_on c.from_residual.result c.in_err-flat.field-0.0 c.from_residual.ensures.1, none_is c.flatten.result c.in_err-flat.ensures.ok_part c.in_err-flat.ensures.value)
+    rw (handed_on c.from_residual.result c.from_residual.ensures.1, none_is c.flatten.result c.in_err-flat.ensures.ok_part c.in_err-flat.ensures.value)
     (record {
       same = λ ts q st sz t q' st' k ck. (tt, rw (seventeenth (symbols_of (args.text.now) (args.symbols.now) (args.count)) (part_of (args.text.now) (args.title.start) (args.title.size)) k ts t (args.space.room) (args.number) (over_limit (args.text.now) (heading.ensures) (pre.out_lent) (pre.later) (symbols_of (args.text.now) (args.symbols.now) (args.count)) _ (rw c.in_err-flat.ensures.ok_part at flatten.ensures) ts q st sz t q' st')) refl);
     })
@@ -53,7 +53,7 @@ returns-in_err-left c =
     let pre = c.requires in
     let flatten = c.flatten in
     let rule = c.rule in
-    rw (handed_on c.from_residual-in_err-left.result c.in_err-left.field-0.0 c.from_residual-in_err-left.ensures.1)
+    rw (handed_on c.from_residual-in_err-left.result c.from_residual-in_err-left.ensures.1)
     (record {
       same = λ ts q st sz t q' st' k ck. let P = prepared (args.text.now) (heading.ensures) (pre.out_lent) (pre.later) (rw c.in_ok-flat.ensures.ok_part at flatten.ensures) ts q st sz t q' st' in
           let d = clause_is (symbols_of (args.text.now) (args.symbols.now) (args.count)) (args.text.now) (args.title.start) (args.title.size) (args.title.clause) k ck ts t (args.space.room) P.is in

@@ -1,6 +1,6 @@
 -- `declare_clauses` meets its contract. The loop's invariant: the clauses before the number i are entered, and the others are left to enter from the row p on.
 use mathlib.Core.Path.{refl, ◌∙◌}
-use Rattle.patterns.specs.Refused.{handed_on}
+use Rattle.refusals.specs.Refused.{handed_on}
 use Rattle.declarations.proofs.ClauseLaws.{going_start, going_clause, going_refused, going_on, going_end}
 use native.Mathlib.Omega.{arith}
 use Rattle.declarations.proofs.declare_clauses.Goals as goal
@@ -33,7 +33,7 @@ returns-in_err-progress c =
     let pre = c.requires in
     let declare-clause = c.declare_clause in
     let loop-test = c.loop-i-test in
-    rw (handed_on c.from_residual.result c.in_err-progress.field-0.0 c.from_residual.ensures.1)
+    rw (handed_on c.from_residual.result c.from_residual.ensures.1)
     (record {
       same = λ limit ts s ready cs q st n. let g = loop.invariant.4 limit ts s ready cs q st n in
           rw (going_refused pre.inside declare-clause.ensures g loop-test.true c.in_err-progress.was) refl;

@@ -2,7 +2,7 @@
 use mathlib.Core.Path.{◌≡◌, refl, sym}
 use Prim.Native.Nat.{◌+◌, ◌<◌}
 use Rattle.names.specs.Symbols.{column, row_at}
-use Rattle.patterns.specs.Refused.{handed_on}
+use Rattle.refusals.specs.Refused.{handed_on}
 use Rattle.declarations.proofs.DefLaws.{def_no, first_is, def_none, def_refused, def_entered, def_ready, def_stepped}
 use native.Mathlib.Omega.{arith}
 use Rattle.declarations.proofs.declare_def.Goals as goal
@@ -25,7 +25,7 @@ returns-in_err-enter_symbol c =
     let first-clause = c.first_clause-first in
     let z : args.at + 1 + 1 ≡ args.at + 2 = omega arith in
     let h = rw z at c.in_err-enter_symbol.ensures in
-    rw (handed_on c.from_residual.result c.in_err-enter_symbol.field-0.0 c.from_residual.ensures.1)
+    rw (handed_on c.from_residual.result c.from_residual.ensures.1)
     (record {
       same = λ limit ts s held cs q st e legal. def_no held args.rows.now args.at pre.inside cs h.number q _ _ _ _ h.answer.0 (def_refused held args.rows.now args.at pre.inside cs (omega (arith, if1.false)) (first_is held args.rows.now args.at pre.inside cs first-clause.ensures e) e h.comes_to (λ y. let l = h.answer.1 in omega arith));
     })

@@ -1,11 +1,11 @@
 -- `declare_sort` meets its contract: the sort is refused, or it is one more.
 use mathlib.Core.Path.{refl}
-use Rattle.patterns.specs.Refused.{handed_on}
+use Rattle.refusals.specs.Refused.{handed_on}
 use Rattle.declarations.proofs.declare_sort.Goals as goal
 
 pub returns-in_err-enter_sort : goal.returns-in_err-enter_sort
 returns-in_err-enter_sort c =
-    rw (handed_on c.from_residual.result c.in_err-enter_sort.field-0.0 c.from_residual.ensures.1)
+    rw (handed_on c.from_residual.result c.from_residual.ensures.1)
     (record { value = c.in_err-enter_sort.ensures.value; sorts_after = c.enter_sort.ensures.sorts_after })
 
 pub returns : goal.returns

@@ -2,14 +2,14 @@
 use mathlib.Core.Path.{◌≡◌, refl}
 use Prim.Native.Nat.{◌+◌}
 use native.Mathlib.Omega.{arith}
-use Rattle.patterns.specs.Refused.{handed_on}
+use Rattle.refusals.specs.Refused.{handed_on}
 use Rattle.declarations.proofs.declare_symbol.Goals as goal
 
 pub returns-in_err-enter_symbol : goal.returns-in_err-enter_symbol
 returns-in_err-enter_symbol c =
     let q : c.args.at + 1 + 1 ≡ c.args.at + 2 = omega arith in
     let h = rw q at c.in_err-enter_symbol.ensures in
-    rw (handed_on c.from_residual.result c.in_err-enter_symbol.field-0.0 c.from_residual.ensures.1)
+    rw (handed_on c.from_residual.result c.from_residual.ensures.1)
     (record { refusal = h.number; is = h.answer; entered = h.comes_to })
 
 pub returns : goal.returns

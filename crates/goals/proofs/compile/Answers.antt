@@ -1,13 +1,13 @@
 -- `compile` meets its contract: one law for each way out.
 use Rattle.std.proofs.Common.{sym, ◌∙◌}
-use Rattle.patterns.specs.Refused.{handed_on}
+use Rattle.refusals.specs.Refused.{handed_on}
 use Rattle.rules.specs.KnownLaws.{known_rows}
 use Rattle.goals.specs.CompilingLaws.{goal_failed, goal_unknown, goal_done}
 use Rattle.goals.proofs.compile.Goals as goal
 
 pub returns-in_err-compiled-clause-goal_made : goal.returns-in_err-compiled-clause-goal_made
 returns-in_err-compiled-clause-goal_made c =
-    rw (handed_on c.from_residual.result c.in_err-compiled.field-0.0 c.from_residual.ensures.1)
+    rw (handed_on c.from_residual.result c.from_residual.ensures.1)
     (goal_failed c.args.names.now (c.copy_names.ensures _) c.pattern.ensures _ c.in_err-compiled.was)
 
 pub returns-then-not-all_known-clause-goal_made : goal.returns-then-not-all_known-clause-goal_made

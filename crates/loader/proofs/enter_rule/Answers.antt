@@ -1,6 +1,6 @@
 -- `enter_rule` meets its contract: the premises are passed over to find the conclusion.
 use Rattle.names.specs.Standing.{parsed_stands}
-use Rattle.patterns.specs.Refused.{handed_on}
+use Rattle.refusals.specs.Refused.{handed_on}
 use Rattle.loader.proofs.JudgmentLaws.{premises_number, premises_few, conclusion_at, rule_ends}
 use Rattle.loader.proofs.enter_rule.Goals as goal
 
@@ -34,7 +34,7 @@ returns-in_err-left c =
     let rule = c.rule in
     let args = c.args in
     let skip = c.skip-here in
-    rw (handed_on c.from_residual.result c.in_err-left.field-0.0 c.from_residual.ensures.1)
+    rw (handed_on c.from_residual.result c.from_residual.ensures.1)
     (record {
       same = λ j js q st kn. (tt, (c.in_err-left.ensures.same _ st.middle (parsed_stands (args.text.now) (args.rows.now) _ _ _ st.premises) (premises_number (args.text.now) (args.rows.now) (args.at) (args.k) j js q st kn) _ _ (parsed_stands (args.text.now) (args.rows.now) _ _ _ (conclusion_at (args.text.now) (args.rows.now) (args.at) (args.k) j js q st kn (skip.result) (skip.ensures)))));
     })

@@ -8,7 +8,7 @@ use Rattle.names.specs.Symbols.{column, row_at, sorts_of, symbols_of}
 use Rattle.loader.specs.Signature.{numbers_of, symbol_refusal}
 use Rattle.loader.specs.Arrows.{names_at}
 use Rattle.loader.specs.SymbolEntry.{arrow_refusal}
-use Rattle.patterns.specs.Refused.{handed_on, none_is}
+use Rattle.refusals.specs.Refused.{handed_on, none_is}
 use Rattle.loader.proofs.SymbolLaws.{arrow_count, arrow_unknown, arrow_known, inputs_count, row_is, not_refused, same_numbers}
 use Rattle.patterns.proofs.Terms.{symbols_length}
 use native.Mathlib.Omega.{arith}
@@ -23,7 +23,7 @@ returns-in_err-check_symbol c =
     let look = arrow_known (numbers_of (sorts_of (args.text.now) (args.sorts.now) (args.many)) (names_at (args.text.now) (args.rows.now) (args.at + 1) (args.k))) (find-arrow.result) _ (args.k) _ (find-arrow.ensures) c.in_ok-last.ensures.ok_part in
     let c₁ = arrow_count (sorts_of (args.text.now) (args.sorts.now) (args.many)) (args.text.now) (args.rows.now) (args.at + 1) (args.k) look.found look.is in
     let n = inputs_count (args.constructor) look.found (args.k) c₁ in
-    rw (handed_on c.from_residual-in_err-check_symbol.result c.in_err-check_symbol.field-0.0 c.from_residual-in_err-check_symbol.ensures.1)
+    rw (handed_on c.from_residual-in_err-check_symbol.result c.from_residual-in_err-check_symbol.ensures.1)
     (record {
       number = _;
       answer = (refl, c.in_err-check_symbol.ensures.1);
@@ -56,7 +56,7 @@ pub returns-in_err-last : goal.returns-in_err-last
 returns-in_err-last c =
     let args = c.args in
     let find-arrow = c.find_arrow in
-    rw (handed_on c.from_residual.result c.in_err-last.field-0.0 c.from_residual.ensures.1, none_is c.find_arrow.result c.in_err-last.ensures.ok_part c.in_err-last.ensures.value)
+    rw (handed_on c.from_residual.result c.from_residual.ensures.1, none_is c.find_arrow.result c.in_err-last.ensures.ok_part c.in_err-last.ensures.value)
     (record {
       number = 18;
       answer = (refl, omega arith);

@@ -11,7 +11,7 @@ use Rattle.names.specs.SearchLaws.{symbol_some, symbol_none}
 use Rattle.names.specs.Symbols.{column, row_at, symbols_of, variables_of}
 use Rattle.patterns.specs.Patterns.{pattern_of, Out}
 use Rattle.patterns.specs.Promises.{stored}
-use Rattle.patterns.specs.Refused.{handed_on}
+use Rattle.refusals.specs.Refused.{handed_on}
 use Rattle.patterns.proofs.Symbols.{misfit_args}
 use Rattle.patterns.proofs.Places.{placed_variable, placed_none, placed_node}
 use Rattle.patterns.proofs.Terms.{input_at, symbols_length, inputs_at, loop_start, loop_refused, loop_turn, loop_done, node_misfit, node_full, node_open, app_refused, node_done, out_of_rows, is_numeral_lem, is_meta, is_node, is_unknown, is_judgment, is_variable}
@@ -22,7 +22,7 @@ pub node-returns-in_err-misfit : goal.node-returns-in_err-misfit
 node-returns-in_err-misfit t c =
     let args = c.args in
     let pre = c.requires in
-    rw (handed_on c.from_residual.result c.in_err-misfit.field-0.0 c.from_residual.ensures.1)
+    rw (handed_on c.from_residual.result c.from_residual.ensures.1)
     (record {
       small = tt;
       placed = tt;
@@ -72,7 +72,7 @@ node-returns-in_err-made t c =
     let if2 = c.if-from-eq0 in
     let b : args.arguments ≡ column (row_at (args.symbols.now) (args.i)) 6 = misfit_args (args.text.now) (row_at (args.symbols.now) (args.i)) (args.want) (args.arguments) (c.in_ok-misfit.ensures args.text.now) in
     let x = pre.0.inputs (args.i) (pre.1.0) in
-    rw (handed_on c.from_residual-in_err-made.result c.in_err-made.field-0.0 c.from_residual-in_err-made.ensures.1)
+    rw (handed_on c.from_residual-in_err-made.result c.from_residual-in_err-made.ensures.1)
     (record {
       small = tt;
       placed = tt;

@@ -1,7 +1,7 @@
 -- `judgments` meets its contract. The loop's invariant: k judgments are done, and the rest comes to what the whole comes to.
 use mathlib.Core.List.{[]}
 use Rattle.names.specs.Symbols.{symbols_of}
-use Rattle.patterns.specs.Refused.{handed_on}
+use Rattle.refusals.specs.Refused.{handed_on}
 use Rattle.patterns.proofs.Terms.{loop_start, loop_refused, loop_turn, loop_done, nothing_asked}
 use native.Mathlib.Omega.{arith}
 use Rattle.patterns.proofs.judgments.Goals as goal
@@ -34,7 +34,7 @@ returns-in_err-made c =
     let loop = c.loop-k in
     let loop-test = c.loop-k-test in
     let pattern = c.pattern in
-    rw (handed_on c.from_residual.result c.in_err-made.field-0.0 c.from_residual.ensures.1)
+    rw (handed_on c.from_residual.result c.from_residual.ensures.1)
     (record {
       small = tt;
       same = λ ts q st cn. (tt, loop_refused (args.text.now) (args.rows.now) (args.from.next) (args.n) (symbols_of (args.text.now) (args.symbols.now) (args.count)) [] (args.variables.now) (args.from.variables) (args.words.now) (args.from.used) (args.from.room) (loop.k) (loop.place.next) (loop.variables) (loop.place.variables) (loop.words) (loop.place.used) (loop.place.room) (loop.heads) (loop.invariant) (loop-test.true) 0 (nothing_asked (loop.k)) (pattern.result) _ _ (pattern.ensures) c.in_err-made.was ts q st cn);

@@ -5,7 +5,7 @@ use lib.ListN.{length}
 use mathlib.Core.List.{[]}
 use Rattle.names.specs.Symbols.{symbols_of, variables_of}
 use Rattle.patterns.specs.Patterns.{zero_name, succ_name}
-use Rattle.patterns.specs.Refused.{handed_on, none_is}
+use Rattle.refusals.specs.Refused.{handed_on, none_is}
 use Rattle.patterns.proofs.Numerals.{constructor_some, constructor_none, no_zero, no_succ, inside, number_refused, number_room, number_done}
 use native.Mathlib.Omega.{arith}
 use Rattle.patterns.proofs.numeral.Goals as goal
@@ -15,7 +15,7 @@ returns-in_err-z c =
     let a = c.args in
     let h : a.count ≤ length a.symbols.now = c.requires.0 in
     let ss = symbols_of a.text.now a.symbols.now a.count in
-    rw (handed_on c.from_residual.result c.in_err-z.field-0.0 c.from_residual.ensures.1, none_is c.constructor.result c.in_err-z.ensures.ok_part c.in_err-z.ensures.value)
+    rw (handed_on c.from_residual.result c.from_residual.ensures.1, none_is c.constructor.result c.in_err-z.ensures.ok_part c.in_err-z.ensures.value)
     (record {
       small = tt;
       going = tt;
@@ -30,7 +30,7 @@ returns-in_err-y c =
     let h : a.count ≤ length a.symbols.now = c.requires.0 in
     let ss = symbols_of a.text.now a.symbols.now a.count in
     let (ez, cz, lz) = constructor_some ss zero_name c.in_ok-z.z (sym c.in_ok-z.ensures.ok_part ∙ c.constructor.ensures) in
-    rw (handed_on c.from_residual-in_err-y.result c.in_err-y.field-0.0 c.from_residual-in_err-y.ensures.1, none_is c.constructor-2.result c.in_err-y.ensures.ok_part c.in_err-y.ensures.value)
+    rw (handed_on c.from_residual-in_err-y.result c.from_residual-in_err-y.ensures.1, none_is c.constructor-2.result c.in_err-y.ensures.ok_part c.in_err-y.ensures.value)
     (record {
       small = tt;
       going = tt;
@@ -57,7 +57,7 @@ returns-in_err-numeral_misfit c =
     let (ez, cz, lz) = constructor_some ss zero_name c.in_ok-z.z (sym c.in_ok-z.ensures.ok_part ∙ c.constructor.ensures) in
     let (ey, cy, ly) = constructor_some ss succ_name c.in_ok-y.y (sym c.in_ok-y.ensures.ok_part ∙ c.constructor-2.ensures) in
     let e = c.in_err-numeral_misfit.ensures a.text.now in
-    rw (handed_on c.from_residual-in_err-numeral_misfit.result c.in_err-numeral_misfit.field-0.0 c.from_residual-in_err-numeral_misfit.ensures.1)
+    rw (handed_on c.from_residual-in_err-numeral_misfit.result c.from_residual-in_err-numeral_misfit.ensures.1)
     (record {
       small = tt;
       going = tt;

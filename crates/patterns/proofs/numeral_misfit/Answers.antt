@@ -3,7 +3,7 @@ use mathlib.Core.Path.{◌≡◌, refl, sym, ap, ◌∙◌}
 use Prim.Native.Nat.{◌-◌, ◌+◌}
 use Rattle.names.specs.Symbols.{Symbol, row_at, symbol_of}
 use Rattle.patterns.specs.Promises.{refusal}
-use Rattle.patterns.specs.Refused.{handed_on}
+use Rattle.refusals.specs.Refused.{handed_on}
 use Rattle.patterns.proofs.Numerals.{refuse_step, full_step, next_step, refuse_end, full_end, none_end, one_input}
 use native.Mathlib.Omega.{arith}
 use Rattle.patterns.proofs.numeral_misfit.Goals as goal
@@ -13,7 +13,7 @@ loop-k-init c = λ text. let e : c.args.n - 0 ≡ c.args.n = omega arith in rw e
 
 pub returns-in_err-misfit : goal.returns-in_err-misfit
 returns-in_err-misfit c =
-    λ text. rw (handed_on c.from_residual.result c.in_err-misfit.field-0.0 c.from_residual.ensures.1) (
+    λ text. rw (handed_on c.from_residual.result c.from_residual.ensures.1) (
       refuse_step (symbol_of text (row_at c.args.symbols.now c.args.y)) (symbol_of text (row_at c.args.symbols.now c.args.z)) c.loop-k.s c.loop-k.m (c.args.n - c.loop-k._k) (c.in_err-misfit.ensures text).0 (c.in_err-misfit.ensures text).1 (omega (arith, c.loop-k-test.true))
           ∙ sym (c.loop-k.invariant text),
       (c.in_err-misfit.ensures text).1,
@@ -43,7 +43,7 @@ returns-in_err-misfit-2 c =
     let f : Symbol = symbol_of text (row_at c.args.symbols.now c.args.y) in
     let g : Symbol = symbol_of text (row_at c.args.symbols.now c.args.z) in
     let z : c.args.n - c.loop-k._k ≡ 0 = omega (arith, c.loop-k-test.false) in
-    rw (handed_on c.from_residual-in_err-misfit-2.result c.in_err-misfit-2.field-0.0 c.from_residual-in_err-misfit-2.ensures.1) (
+    rw (handed_on c.from_residual-in_err-misfit-2.result c.from_residual-in_err-misfit-2.ensures.1) (
       refuse_end f g c.loop-k.s c.loop-k.m (c.in_err-misfit-2.ensures text).0 (c.in_err-misfit-2.ensures text).1
           ∙ ap (λ x. refusal f g x c.loop-k.s c.loop-k.m) (sym z) ∙ sym (c.loop-k.invariant text),
       (c.in_err-misfit-2.ensures text).1,

@@ -1,13 +1,13 @@
 -- `variable` meets its contract: the entry, and then the count of nodes.
 use mathlib.Core.Path.{refl}
 use native.Mathlib.Omega.{arith}
-use Rattle.patterns.specs.Refused.{handed_on}
+use Rattle.refusals.specs.Refused.{handed_on}
 use Rattle.patterns.proofs.Variables.{variable_refused, variable_full, variable_node}
 use Rattle.patterns.proofs.variable.Goals as goal
 
 pub returns-in_err-entered : goal.returns-in_err-entered
 returns-in_err-entered c =
-    rw (handed_on c.from_residual.result c.in_err-entered.field-0.0 c.from_residual.ensures.1)
+    rw (handed_on c.from_residual.result c.from_residual.ensures.1)
     (record { small = tt; by_index = λ w. variable_refused c.args.text.now c.enter.result _ _ c.enter.ensures.variables_after w c.args.from.used c.args.from.room c.in_err-entered.was; next_is = tt; made_placed = tt })
 
 pub returns-then-from-eq0 : goal.returns-then-from-eq0

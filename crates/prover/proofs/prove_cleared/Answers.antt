@@ -1,6 +1,6 @@
 -- `prove_cleared` meets its contract: 38 first, then what the goal's preparation refuses, then what the search leaves.
 use mathlib.Core.Path.{sym, ◌∙◌}
-use Rattle.patterns.specs.Refused.{handed_on}
+use Rattle.refusals.specs.Refused.{handed_on}
 use Rattle.prover.specs.ProvingLaws.{at_answer, allowed_is, prepared_refused, search_asked, search_left}
 use Rattle.prover.proofs.prove_cleared.Goals as goal
 
@@ -11,7 +11,7 @@ search_goal-requires c =
 
 pub returns-in_err-goal-clause-left : goal.returns-in_err-goal-clause-left
 returns-in_err-goal-clause-left c =
-    rw (handed_on c.from_residual.result c.in_err-goal.field-0.0 c.from_residual.ensures.1)
+    rw (handed_on c.from_residual.result c.from_residual.ensures.1)
     (prepared_refused c.requires (sym c.is_too_much.ensures ∙ c.if-is_too_much.false)
     (at_answer c.prepare.ensures c.in_err-goal.was))
 

@@ -2,7 +2,7 @@
 use mathlib.Core.List.{[]}
 use Rattle.names.specs.Symbols.{symbols_of, variables_of}
 use Rattle.patterns.specs.Patterns.{pattern_of}
-use Rattle.patterns.specs.Refused.{handed_on}
+use Rattle.refusals.specs.Refused.{handed_on}
 use Rattle.rules.proofs.JudgmentLaws.{premises_refused, conclusion_refused, both_done}
 use native.Mathlib.Omega.{arith}
 use Rattle.rules.proofs.judgments.Goals as goal
@@ -30,7 +30,7 @@ pub returns-in_err-place : goal.returns-in_err-place
 returns-in_err-place c =
     let args = c.args in
     let judgments = c.judgments in
-    rw (handed_on c.from_residual.result c.in_err-place.field-0.0 c.from_residual.ensures.1)
+    rw (handed_on c.from_residual.result c.from_residual.ensures.1)
     (record {
       bounded = tt;
       same = λ ps q st cn c₁ q' st'. premises_refused (symbols_of (args.text.now) (args.symbols.now) (args.count)) c₁ (pattern_of (symbols_of (args.text.now) (args.symbols.now) (args.count)) ps [] (variables_of (args.text.now) (args.variables.now) 0) (args.space.room)) (args.words.now) (args.space.used) (c.in_err-place.ensures.same ps q st cn).1;
@@ -41,7 +41,7 @@ returns-in_err-made c =
     let args = c.args in
     let judgments = c.judgments in
     let pattern = c.pattern in
-    rw (handed_on c.from_residual-in_err-made.result c.in_err-made.field-0.0 c.from_residual-in_err-made.ensures.1)
+    rw (handed_on c.from_residual-in_err-made.result c.from_residual-in_err-made.ensures.1)
     (record {
       bounded = tt;
       same = λ ps q st cn c₁ q' st'. conclusion_refused (symbols_of (args.text.now) (args.symbols.now) (args.count)) c₁ (pattern_of (symbols_of (args.text.now) (args.symbols.now) (args.count)) ps [] (variables_of (args.text.now) (args.variables.now) 0) (args.space.room)) (args.words.now) (args.space.used) _ _ _ _ _ (c.in_ok-place.ensures.same ps q st cn).1 (c.in_err-made.ensures.same c₁ q' st').1;

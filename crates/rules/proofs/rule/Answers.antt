@@ -6,7 +6,7 @@ use Rattle.term_parser.specs.Standing.{size}
 use Rattle.names.specs.Symbols.{symbols_of, variables_of}
 use Rattle.rules.specs.StoredRows.{titled}
 use Rattle.rules.specs.PatternLaws.{arities_of}
-use Rattle.patterns.specs.Refused.{handed_on}
+use Rattle.refusals.specs.Refused.{handed_on}
 use Rattle.rules.specs.KnownLaws.{known_rows}
 use Rattle.rules.proofs.RuleLaws.{few_inputs, too_many, judgment_refused, bodied, not_known, rule_made, exactly, is_rule, made, lies}
 use native.Mathlib.Omega.{arith}
@@ -80,7 +80,7 @@ returns-in_err-body c =
     let if1 = c.if-n-gt-PREMISES in
     let args = c.args in
     let judgments = c.judgments in
-    rw (handed_on c.from_residual.result c.in_err-body.field-0.0 c.from_residual.ensures.1)
+    rw (handed_on c.from_residual.result c.from_residual.ensures.1)
     (record {
       same = λ ps q st cn c₁ q' st'. let few : size ps ≤ 16 = rw cn (if1.false) in
           rw (judgment_refused (symbols_of (args.text.now) (args.symbols.now) (args.count)) (titled (args.text.now) (args.title.start) (args.title.size) (args.title.clause)) ps c₁ (args.space.room) few (args.words.now) (args.space.used) (c.in_err-body.ensures.same ps q st cn c₁ q' st')) refl;

@@ -1,5 +1,5 @@
 -- `instantiate_arguments` meets its contract.
-use Rattle.clause_matching.proofs.Forming.{passed_on}
+use Rattle.refusals.specs.Refused.{handed_on}
 use Rattle.clause_matching.proofs.Arguments.{turn_start, next_asked, turn_refused, turn_next, turn_done}
 use Rattle.clause_matching.proofs.building.instantiate_arguments.Goals as goal
 
@@ -11,7 +11,7 @@ instantiate-requires c = next_asked c.loop-k.invariant c.loop-k-test.true
 
 pub returns-in_err-built : goal.returns-in_err-built
 returns-in_err-built c =
-    rw (passed_on c.from_residual.result c.from_residual.ensures.1)
+    rw (handed_on c.from_residual.result c.from_residual.ensures.1)
     (turn_refused c.loop-k.invariant c.loop-k-test.true c.instantiate.ensures _ c.in_err-built.was _)
 
 pub loop-k-preserved : goal.loop-k-preserved

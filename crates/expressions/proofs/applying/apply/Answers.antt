@@ -1,5 +1,5 @@
 -- `apply` meets its contract: a function is called, a constructor built.
-use Rattle.clause_matching.proofs.Forming.{passed_on}
+use Rattle.refusals.specs.Refused.{handed_on}
 use Rattle.expressions.proofs.Applications.{call_asked, called, build_asked, not_built, is_built}
 use Rattle.expressions.proofs.applying.apply.Goals as goal
 
@@ -14,7 +14,7 @@ build-requires c = build_asked c.requires c.if-program-i-eq1.false
 
 pub returns-in_err-built : goal.returns-in_err-built
 returns-in_err-built c =
-    rw (passed_on c.from_residual.result c.from_residual.ensures.1)
+    rw (handed_on c.from_residual.result c.from_residual.ensures.1)
     (not_built c.requires c.if-program-i-eq1.false c.build.ensures c.in_err-built.was)
 
 pub returns : goal.returns

@@ -2,24 +2,24 @@
 use native.Mathlib.Omega.{arith}
 use mathlib.Core.Path.{refl, sym}
 use mathlib.Core.List.{[]}
-use Rattle.clause_matching.proofs.Forming.{passed_on}
+use Rattle.refusals.specs.Refused.{handed_on}
 use Rattle.expressions.proofs.Misuses.{found_wrong, found_nothing}
 use Rattle.expressions.proofs.Numbering.{no_zero, no_succ, check_asked, numeral_refused, tower_asked, numeral_built}
 use Rattle.expressions.proofs.numerals.numeral.Goals as goal
 
 pub returns-in_err-z : goal.returns-in_err-z
-returns-in_err-z c = rw (passed_on c.from_residual.result c.from_residual.ensures.1) (no_zero _ _ c.requires c.find_constructor.ensures c.in_err-z.was)
+returns-in_err-z c = rw (handed_on c.from_residual.result c.from_residual.ensures.1) (no_zero _ _ c.requires c.find_constructor.ensures c.in_err-z.was)
 
 pub returns-in_err-y : goal.returns-in_err-y
 returns-in_err-y c =
-    rw (passed_on c.from_residual-in_err-y.result c.from_residual-in_err-y.ensures.1) (no_succ _ _ c.requires c.find_constructor-2.ensures c.in_err-y.was)
+    rw (handed_on c.from_residual-in_err-y.result c.from_residual-in_err-y.ensures.1) (no_succ _ _ c.requires c.find_constructor-2.ensures c.in_err-y.was)
 
 pub check_numeral-requires : goal.check_numeral-requires
 check_numeral-requires c = check_asked _ c.args.n c.requires c.find_constructor.ensures c.in_ok-z.was c.find_constructor-2.ensures c.in_ok-y.was
 
 pub returns-in_err-check_numeral : goal.returns-in_err-check_numeral
 returns-in_err-check_numeral c =
-    rw (passed_on c.from_residual-in_err-check_numeral.result c.from_residual-in_err-check_numeral.ensures.1)
+    rw (handed_on c.from_residual-in_err-check_numeral.result c.from_residual-in_err-check_numeral.ensures.1)
     (numeral_refused _ _ c.requires c.find_constructor.ensures c.in_ok-z.was c.find_constructor-2.ensures c.in_ok-y.was
     (λ l t s. (found_wrong (c.check_numeral.ensures l t s) c.in_err-check_numeral.was).0) refl
     (λ z. let w = found_wrong (c.check_numeral.ensures 0 [] []) c.in_err-check_numeral.was in omega arith))

@@ -1,6 +1,6 @@
 -- `tower` meets its contract.
 use mathlib.Core.Path.{refl, ◌∙◌}
-use Rattle.clause_matching.proofs.Forming.{passed_on}
+use Rattle.refusals.specs.Refused.{handed_on}
 use Rattle.expressions.proofs.Towers.{first_asked, first_refused, turn_start, tower_refused, tower_done, wrong_sort, next_asked, next_refused, turn_next}
 use Rattle.expressions.proofs.numerals.tower.Goals as goal
 
@@ -9,7 +9,7 @@ build-requires c = first_asked c.requires refl
 
 pub returns-in_err-built : goal.returns-in_err-built
 returns-in_err-built c =
-    rw (passed_on c.from_residual.result c.from_residual.ensures.1) (first_refused c.requires refl c.build.ensures c.in_err-built.was)
+    rw (handed_on c.from_residual.result c.from_residual.ensures.1) (first_refused c.requires refl c.build.ensures c.in_err-built.was)
 
 pub loop-k-init : goal.loop-k-init
 loop-k-init c = turn_start c.requires refl c.build.ensures c.in_ok-built.was refl refl
@@ -24,7 +24,7 @@ build-requires-in-loop-k c = next_asked c.loop-k.invariant c.loop-k-test.true c.
 
 pub returns-in_err-built-2 : goal.returns-in_err-built-2
 returns-in_err-built-2 c =
-    rw (passed_on c.from_residual-in_err-built-2.result c.from_residual-in_err-built-2.ensures.1)
+    rw (handed_on c.from_residual-in_err-built-2.result c.from_residual-in_err-built-2.ensures.1)
     (tower_refused c.requires refl c.build.ensures c.in_ok-built.was
     (next_refused c.loop-k.invariant c.loop-k-test.true c.if-sort-want.false c.build-in-loop-k.ensures c.in_err-built-2.was) c.loop-k-test.true
     (c.build-in-loop-k.ensures.kept ∙ c.loop-k.invariant.kept))

@@ -4,7 +4,7 @@ use native.Mathlib.Omega.{arith}
 use mathlib.Core.Path.{refl, sym, ◌∙◌}
 use Rattle.names.specs.SearchLaws.{symbol_some, symbol_none}
 use mathlib.Core.List.{[]}
-use Rattle.clause_matching.proofs.Forming.{passed_on}
+use Rattle.refusals.specs.Refused.{handed_on}
 use Rattle.expressions.proofs.Misuses.{found_wrong, found_nothing}
 use Rattle.expressions.proofs.Reading.{inside, too_deep, numeral_asked, number_refused, number_built, of_meta, of_unknown, misuse_asked, of_misuse, application_asked, applied_to}
 use Rattle.expressions.proofs.Walking.{turn_start, expression_asked, argument_refused, value_inside, wrong_sort, turn_next, apply_asked, apply_refused, apply_done}
@@ -18,7 +18,7 @@ application-expression-requires t c = (let d = c.requires.deep in omega arith, e
 
 pub application-returns-in_err-argument : goal.application-returns-in_err-argument
 application-returns-in_err-argument t c =
-    rw (passed_on c.from_residual.result c.from_residual.ensures.1)
+    rw (handed_on c.from_residual.result c.from_residual.ensures.1)
     (argument_refused c.loop-k.invariant c.loop-k-test.true c.expression.ensures c.in_err-argument.was)
 
 pub application-bounds-words-argument : goal.application-bounds-words-argument
@@ -41,7 +41,7 @@ application-apply-requires t c = apply_asked c.loop-k.invariant c.loop-k-test.fa
 
 pub application-returns-in_err-outcome : goal.application-returns-in_err-outcome
 application-returns-in_err-outcome t c =
-    rw (passed_on c.from_residual-in_err-outcome.result c.from_residual-in_err-outcome.ensures.1)
+    rw (handed_on c.from_residual-in_err-outcome.result c.from_residual-in_err-outcome.ensures.1)
     (apply_refused c.loop-k.invariant c.loop-k-test.false c.apply.ensures c.in_err-outcome.was)
 
 pub application-returns : goal.application-returns
@@ -58,7 +58,7 @@ expression-numeral-requires t c = numeral_asked c.requires c.if-depth-gt-MAX_DEP
 
 pub expression-returns-in_err-built : goal.expression-returns-in_err-built
 expression-returns-in_err-built t c =
-    rw (passed_on c.from_residual.result c.from_residual.ensures.1)
+    rw (handed_on c.from_residual.result c.from_residual.ensures.1)
     (number_refused c.requires c.if-depth-gt-MAX_DEPTH.false c.if-kind-eq-NUMERAL.true c.numeral.ensures c.in_err-built.was)
 
 pub expression-returns-then-kind-eq-NUMERAL : goal.expression-returns-then-kind-eq-NUMERAL
@@ -78,7 +78,7 @@ expression-check_use-requires t c =
 
 pub expression-returns-in_err-check_use : goal.expression-returns-in_err-check_use
 expression-returns-in_err-check_use t c =
-    rw (passed_on c.from_residual-in_err-check_use.result c.from_residual-in_err-check_use.ensures.1)
+    rw (handed_on c.from_residual-in_err-check_use.result c.from_residual-in_err-check_use.ensures.1)
     (of_misuse c.requires c.if-depth-gt-MAX_DEPTH.false c.if-kind-eq-NUMERAL.false c.if-kind-eq-METAVARIABLE.false (symbol_some c.args.text.now c.args.program.symbols.now c.args.count c.requires.tables.lent _ _ (sym c.in-Some.is ∙ c.find_at.ensures)).0 (symbol_some c.args.text.now c.args.program.symbols.now c.args.count c.requires.tables.lent _ _ (sym c.in-Some.is ∙ c.find_at.ensures)).1 refl
     (λ x. (found_wrong (c.check_use.ensures x) c.in_err-check_use.was).0) refl
     (λ z. let w = found_wrong (c.check_use.ensures []) c.in_err-check_use.was in omega arith))

@@ -2,7 +2,7 @@
 -- the environment holds, come to all of them.
 use native.Mathlib.Omega.{arith}
 use mathlib.Core.Path.{refl, ◌∙◌}
-use Rattle.clause_matching.proofs.Forming.{passed_on}
+use Rattle.refusals.specs.Refused.{handed_on}
 use Rattle.function_calls.proofs.Premising.{arguments_asked, arguments_refused, call_asked, call_failed, bind_asked, result_failed, result_fitted}
 use Rattle.function_calls.proofs.Following.{turn_start, referable, no_variable_lem, premise_asked, premise_refused, turn_next, conclusion_asked, conclusion_refused, result_inside, conclusion_built}
 use Rattle.function_calls.proofs.Calling.{too_deep, too_many, clause_asked, no_clause, follow_asked, followed}
@@ -46,7 +46,7 @@ follow-premise-requires t c =
 
 pub follow-returns-in_err-outcome : goal.follow-returns-in_err-outcome
 follow-returns-in_err-outcome t c =
-    rw (passed_on c.from_residual.result c.from_residual.ensures.1)
+    rw (handed_on c.from_residual.result c.from_residual.ensures.1)
     (premise_refused c.loop-j.invariant c.loop-j-test.true _ _ _ c.pattern_at.ensures c.in-Node.is c.premise.ensures _ c.in_err-outcome.was)
 
 pub follow-loop-j-preserved : goal.follow-loop-j-preserved
@@ -71,7 +71,7 @@ follow-bounds-words-built-2 t c =
 
 pub follow-returns-in_err-built : goal.follow-returns-in_err-built
 follow-returns-in_err-built t c =
-    rw (passed_on c.from_residual-in_err-built.result c.from_residual-in_err-built.ensures.1)
+    rw (handed_on c.from_residual-in_err-built.result c.from_residual-in_err-built.ensures.1)
     (conclusion_refused c.loop-j.invariant c.loop-j-test.false c.instantiate.ensures _ c.in_err-built.was)
 
 pub follow-returns : goal.follow-returns
@@ -82,7 +82,7 @@ premise-instantiate_arguments-requires t c = arguments_asked c.requires _ refl
 
 pub premise-returns-in_err-before : goal.premise-returns-in_err-before
 premise-returns-in_err-before t c =
-    rw (passed_on c.from_residual.result c.from_residual.ensures.1)
+    rw (handed_on c.from_residual.result c.from_residual.ensures.1)
     (arguments_refused c.requires c.instantiate_arguments.ensures _ c.in_err-before.was)
 
 pub premise-call-requires : goal.premise-call-requires
@@ -93,7 +93,7 @@ premise-call-requires t c = (
 
 pub premise-returns-in_err-outcome : goal.premise-returns-in_err-outcome
 premise-returns-in_err-outcome t c =
-    rw (passed_on c.from_residual-in_err-outcome.result c.from_residual-in_err-outcome.ensures.1)
+    rw (handed_on c.from_residual-in_err-outcome.result c.from_residual-in_err-outcome.ensures.1)
     (call_failed c.requires c.instantiate_arguments.ensures _ c.in_ok-before.was c.instantiate_arguments.auto.values c.call.ensures _ c.in_err-outcome.was)
 
 pub premise-bind-requires : goal.premise-bind-requires

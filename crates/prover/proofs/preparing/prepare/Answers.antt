@@ -2,7 +2,7 @@
 use native.Mathlib.Omega.{arith}
 use native.Mathlib.Nat.{le_refl}
 use mathlib.Core.Path.{sym, ◌∙◌}
-use Rattle.patterns.specs.Refused.{handed_on}
+use Rattle.refusals.specs.Refused.{handed_on}
 use Rattle.prover.specs.PreparingLaws.{prepare_refused, prepare_over, store_asked, prepare_stored}
 use Rattle.prover.proofs.preparing.prepare.Goals as goal
 
@@ -24,7 +24,7 @@ pub returns-in_err-goal : goal.returns-in_err-goal
 returns-in_err-goal c =
     let compile = c.compile in
     let lent = compile.auto.variables in
-    rw (handed_on c.from_residual.result c.in_err-goal.field-0.0 c.from_residual.ensures.1)
+    rw (handed_on c.from_residual.result c.from_residual.ensures.1)
     (prepare_refused c.requires (omega (arith, lent)) (le_refl 2048) compile.ensures.bounds compile.ensures.goal_made _
     c.in_err-goal.was)
 

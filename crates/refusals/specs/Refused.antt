@@ -7,14 +7,13 @@ use Rattle.refusals.specs.declared.Refusal.{Refusal}
 use Rattle.refusals.specs.Refusals.{number_of}
 
 -- The answer is the refusal with a number.
-abbrev pub Refuses : {T : Type 0} → ℕ → Result T Refusal → Type 0
-Refuses n (Ok x) = ⊥
-Refuses n (Err e) = number_of e ≡ n
+abbrev pub Refuses : {A : Type 0} → Result A Refusal → ℕ → Type 0
+Refuses r n = IsErrAnd r (λ refusal. number_of refusal ≡ n)
 
 -- `?` hands on the refusal that it was given.
-pub handed_on : {T E : Type 0} (r : Result T E) (e : E) → IsErrAnd r (λ x. x ≡ e) → r ≡ Err e
-handed_on (Ok x) e h = absurd h
-handed_on (Err x) e h = ap Err h
+pub handed_on : {T E : Type 0} (r : Result T E) {e : E} → IsErrAnd r (λ x. x ≡ e) → r ≡ Err e
+handed_on (Ok x) h = absurd h
+handed_on (Err x) h = ap Err h
 
 -- What is missing is refused as the caller says.
 pub none_is : {T E : Type 0} (o : Option T) {e x : E} → o ≡ None → Err e ≡ ok_or o x → e ≡ x
