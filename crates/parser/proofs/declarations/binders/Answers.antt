@@ -14,10 +14,11 @@ use Rattle.parser.specs.Source.{Binders}
 use Rattle.parser.specs.Declarations.{behind_open, binders_of}
 use Rattle.parser.specs.Rows.{binders_rows, binders_kind}
 use Rattle.term_parser.proofs.TokenLaws.{token_there}
-use Rattle.term_parser.proofs.Readers.{stopped_err, exits_maybe, got, firm_sign}
+use Rattle.term_parser.proofs.Readers.{stopped_err, exits_maybe, got}
 use Rattle.term_parser.proofs.ListLaws.{firm_names, behind_is, behind_not}
 use Rattle.parser.proofs.PartLaws.{Along, name_part, name_stopped, start, part, part_stopped, sign_part, sign_stopped, finish, room_along}
 use Rattle.term_parser.specs.Steps.{step}
+use Rattle.term_parser.specs.Firmness.{firm_sign}
 use Rattle.parser.proofs.declarations.binders.Goals as goal
 
 module _ (last : ℕ) (xs : List Place) where

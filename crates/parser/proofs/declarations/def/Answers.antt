@@ -10,8 +10,8 @@ use Rattle.term_parser.specs.Rows.{name_rows, rows_of_all}
 use Rattle.parser.specs.Source.{Declaration, def}
 use Rattle.parser.specs.Declarations.{clause_of}
 use Rattle.parser.specs.Rows.{clause_rows}
-use Rattle.term_parser.proofs.Readers.{firm_repeat}
 use Rattle.term_parser.specs.Steps.{step}
+use Rattle.term_parser.specs.Firmness.{firm_repeat}
 use Rattle.term_parser.proofs.Readers.{stopped_err, exits, got}
 use Rattle.parser.proofs.PartLaws.{part, part_stopped, finish, room_along}
 use Rattle.parser.proofs.SortLaws.{title_stops, after_title, sorts_stop, after_sorts, sort_count}

@@ -7,9 +7,9 @@ use Rattle.term_parser.specs.Parsing.{last_line, parsed, plus}
 use Rattle.parser.specs.Declarations.{sort_of}
 use Rattle.parser.specs.Rows.{declaration_rows}
 use Rattle.term_parser.proofs.Readers.{stopped_err, exits}
-use Rattle.term_parser.proofs.ListLaws.{firm_name}
 use Rattle.parser.proofs.PartLaws.{start, part, part_stopped, finish}
 use Rattle.term_parser.specs.Steps.{step}
+use Rattle.term_parser.specs.Firmness.{firm_name}
 use Rattle.parser.proofs.declarations.sort.Goals as goal
 
 pub returns-in_err-n : goal.returns-in_err-n
