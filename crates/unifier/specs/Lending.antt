@@ -1,0 +1,18 @@
+-- What stays of a workspace whatever is written in it: the buffers that are lent with it.
+use Rattle.std.specs.Prelude.{◌≡◌}
+use Rattle.std.proofs.Common.{refl, ◌∙◌}
+use Rattle.unifier.specs.declared.Workspace.{Workspace}
+
+-- The same buffers are lent.
+pub record SameBuffers (w w' : Workspace) : Type 0 where
+  pub links : w'.links.ghost_name ≡ w.links.ghost_name
+  pub marks : w'.marks.ghost_name ≡ w.marks.ghost_name
+  pub stack : w'.stack.ghost_name ≡ w.stack.ghost_name
+
+-- Laws
+
+pub buffers_start : {w : Workspace} → SameBuffers w w
+buffers_start = record { links = refl; marks = refl; stack = refl }
+
+pub buffers_on : {w w' w'' : Workspace} → SameBuffers w w' → SameBuffers w' w'' → SameBuffers w w''
+buffers_on h k = record { links = k.links ∙ h.links; marks = k.marks ∙ h.marks; stack = k.stack ∙ h.stack }
