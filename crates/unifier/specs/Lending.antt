@@ -1,6 +1,8 @@
 -- What stays of a workspace whatever is written in it: the buffers that are lent with it.
-use Rattle.std.specs.Prelude.{◌≡◌}
+use Rattle.std.specs.Prelude.{ℕ, ◌≡◌, Bool, List}
 use Rattle.std.proofs.Common.{refl, ◌∙◌}
+use Rattle.arena.specs.Rows.{Rows}
+use Rattle.unifier.specs.Promises.{Unified}
 use Rattle.unifier.specs.declared.Workspace.{Workspace}
 
 -- The same buffers are lent.
@@ -16,3 +18,8 @@ buffers_start = record { links = refl; marks = refl; stack = refl }
 
 pub buffers_on : {w w' w'' : Workspace} → SameBuffers w w' → SameBuffers w' w'' → SameBuffers w w''
 buffers_on h k = record { links = k.links ∙ h.links; marks = k.marks ∙ h.marks; stack = k.stack ∙ h.stack }
+
+-- What was unified with a workspace was unified with the buffers that it was made of.
+pub unified_lent : {N : ℕ} {w : List ℕ} {b b' l l' l'' m m' m'' s s' s'' : Rows} {variables used k k' r t : ℕ} {answer : Bool} → l'' ≡ l' → m'' ≡ m' → s'' ≡ s'
+    → Unified N w b b' l l' m m' s s' variables used k k' r t answer → Unified N w b b' l l'' m m'' s s'' variables used k k' r t answer
+unified_lent p q o h = rw (p, q, o) h
