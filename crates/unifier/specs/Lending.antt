@@ -1,6 +1,5 @@
 -- What stays of a workspace whatever is written in it: the buffers that are lent with it.
 use Rattle.std.specs.Prelude.{ℕ, ◌≡◌, Bool, List}
-use Rattle.std.proofs.Common.{refl, ◌∙◌}
 use Rattle.arena.specs.Rows.{Rows}
 use Rattle.unifier.specs.Promises.{Unified}
 use Rattle.unifier.specs.declared.Workspace.{Workspace}
@@ -12,12 +11,6 @@ pub record SameBuffers (w w' : Workspace) : Type 0 where
   pub stack : w'.stack.ghost_name ≡ w.stack.ghost_name
 
 -- Laws
-
-pub buffers_start : {w : Workspace} → SameBuffers w w
-buffers_start = record { links = refl; marks = refl; stack = refl }
-
-pub buffers_on : {w w' w'' : Workspace} → SameBuffers w w' → SameBuffers w' w'' → SameBuffers w w''
-buffers_on h k = record { links = k.links ∙ h.links; marks = k.marks ∙ h.marks; stack = k.stack ∙ h.stack }
 
 -- What was unified with a workspace was unified with the buffers that it was made of.
 pub unified_lent : {N : ℕ} {w : List ℕ} {b b' l l' l'' m m' m'' s s' s'' : Rows} {variables used k k' r t : ℕ} {answer : Bool} → l'' ≡ l' → m'' ≡ m' → s'' ≡ s'
