@@ -1,13 +1,13 @@
 // Declarations.
-ghost use Rattle.std.specs.Prelude.{◌≡◌, ◌⊎◌, [], ◌+◌, ◌≤◌, ◌<◌, length, drop, get_or, set};
+ghost use Rattle.std.specs.Prelude.{◌≡◌, ◌⊎◌, [], ◌≤◌, ◌<◌, length, drop, get_or, set};
 ghost use Rattle.source_text.specs.Bytes.{same_bytes};
 ghost use Rattle.source_text.specs.Parts.{part_of};
-ghost use Rattle.term_parser.specs.Parsing.{last_line, plus};
 ghost use Rattle.parser.specs.Source.{Clause, Binders};
-ghost use Rattle.parser.specs.Rows.{clause_rows, binders_rows, tactic_rows, declaration_rows, declared_rows, numbered};
+ghost use Rattle.parser.specs.Rows.{clause_rows, binders_rows, tactic_rows, declared_rows, numbered};
 ghost use Rattle.parser.specs.Declarations.{Declared, prop_name, binders_of, tactic_of, sort_of, ctor_of, clause_of, pred_of, rule_of, def_of, theorem_of, asked_of, body_of, declaration_of, parse_of};
 ghost use Rattle.term_parser.specs.Steps.{step};
-ghost use Rattle.term_parser.specs.Promises.{Room, Answers, Lists};
+ghost use Rattle.term_parser.specs.Promises.{Room, Reads, Lists};
+ghost use Rattle.parser.specs.Promises.{Declares};
 
 use super::{BINDERS, CLAUSE};
 use refusals::{Refusal, Rejection};
@@ -84,8 +84,7 @@ impl Repeated for Binders {
 // `:= by auto`, `:= by induction x`, or nothing
 pub fn tactic(input: Input, from: Position, out: &mut [[u32; 4]]) -> Result<Read, Rejection>
     requires { Room input.tokens.now from.at from.used out.old }
-    ensures { Answers 0 tactic_rows (tactic_of (last_line input.entry.tokens.now) (drop from.at input.entry.tokens.now))
-        input.entry.tokens.now from.at from.used out.old (step result) out.new }
+    ensures { Reads 0 tactic_rows (λ _. tactic_of) input.entry from out.old (step result) out.new }
 {
     if peek(input.tokens, from.at).kind != DEFINES {
         return Ok(Read {
@@ -122,8 +121,7 @@ pub fn sort(
 ) -> Result<Read, Rejection>
     requires fact_1 { Room input.tokens.now from.at from.used out.old }
     requires fact_2 { from.at < length input.tokens.now }
-    ensures { Answers 1 (declaration_rows number) (plus 1 (sort_of (last_line input.entry.tokens.now) (drop (from.at + 1) input.entry.tokens.now)))
-        input.entry.tokens.now from.at from.used out.old (step result) out.new }
+    ensures { Declares number (λ _. sort_of) input.entry from out.old (step result) out.new }
 {
     let behind = Position {
         at: from.at + 1,
@@ -143,8 +141,7 @@ pub fn ctor(
 ) -> Result<Read, Rejection>
     requires fact_1 { Room input.tokens.now from.at from.used out.old }
     requires fact_2 { from.at < length input.tokens.now }
-    ensures { Answers 1 (declaration_rows number) (plus 1 (ctor_of (last_line input.entry.tokens.now) (drop (from.at + 1) input.entry.tokens.now)))
-        input.entry.tokens.now from.at from.used out.old (step result) out.new }
+    ensures { Declares number (λ _. ctor_of) input.entry from out.old (step result) out.new }
 {
     let behind = Position {
         at: from.at + 1,
@@ -173,8 +170,7 @@ pub fn pred(
 ) -> Result<Read, Rejection>
     requires fact_1 { Room input.tokens.now from.at from.used out.old }
     requires fact_2 { from.at < length input.tokens.now }
-    ensures { Answers 1 (declaration_rows number) (plus 1 (pred_of input.entry.text.now (last_line input.entry.tokens.now) (drop (from.at + 1) input.entry.tokens.now)))
-        input.entry.tokens.now from.at from.used out.old (step result) out.new }
+    ensures { Declares number pred_of input.entry from out.old (step result) out.new }
 {
     let behind = Position {
         at: from.at + 1,
@@ -207,8 +203,7 @@ pub fn rule(
 ) -> Result<Read, Rejection>
     requires fact_1 { Room input.tokens.now from.at from.used out.old }
     requires fact_2 { from.at < length input.tokens.now }
-    ensures { Answers 1 (declaration_rows number) (plus 1 (rule_of input.entry.text.now (last_line input.entry.tokens.now) (drop (from.at + 1) input.entry.tokens.now)))
-        input.entry.tokens.now from.at from.used out.old (step result) out.new }
+    ensures { Declares number rule_of input.entry from out.old (step result) out.new }
 {
     let behind = Position {
         at: from.at + 1,
@@ -229,8 +224,7 @@ pub fn def(
 ) -> Result<Read, Rejection>
     requires fact_1 { Room input.tokens.now from.at from.used out.old }
     requires fact_2 { from.at < length input.tokens.now }
-    ensures { Answers 1 (declaration_rows number) (plus 1 (def_of input.entry.text.now (last_line input.entry.tokens.now) (drop (from.at + 1) input.entry.tokens.now)))
-        input.entry.tokens.now from.at from.used out.old (step result) out.new }
+    ensures { Declares number def_of input.entry from out.old (step result) out.new }
 {
     let behind = Position {
         at: from.at + 1,
@@ -264,8 +258,7 @@ pub fn theorem(
 ) -> Result<Read, Rejection>
     requires fact_1 { Room input.tokens.now from.at from.used out.old }
     requires fact_2 { from.at < length input.tokens.now }
-    ensures { Answers 1 (declaration_rows number) (plus 1 (theorem_of input.entry.text.now (last_line input.entry.tokens.now) (drop (from.at + 1) input.entry.tokens.now)))
-        input.entry.tokens.now from.at from.used out.old (step result) out.new }
+    ensures { Declares number theorem_of input.entry from out.old (step result) out.new }
 {
     let behind = Position {
         at: from.at + 1,
@@ -296,8 +289,7 @@ pub fn asked(
     requires fact_1 { Room input.tokens.now from.at from.used out.old }
     requires fact_2 { from.at < length input.tokens.now }
     requires kinds { (kind ≡ EVAL) ⊎ (kind ≡ CHECK) }
-    ensures { Answers 1 (declaration_rows number) (plus 1 (asked_of input.entry.text.now (last_line input.entry.tokens.now) kind (drop (from.at + 1) input.entry.tokens.now)))
-        input.entry.tokens.now from.at from.used out.old (step result) out.new }
+    ensures { Declares number (λ text last. asked_of text last kind) input.entry from out.old (step result) out.new }
 {
     let behind = Position {
         at: from.at + 1,
@@ -319,8 +311,7 @@ pub fn body(
 ) -> Result<Read, Rejection>
     requires fact_1 { Room input.tokens.now from.at from.used out.old }
     requires fact_2 { from.at < length input.tokens.now }
-    ensures { Answers 1 (declaration_rows number) (plus 1 (body_of input.entry.text.now (last_line input.entry.tokens.now) kind (drop from.at input.entry.tokens.now) (drop (from.at + 1) input.entry.tokens.now)))
-        input.entry.tokens.now from.at from.used out.old (step result) out.new }
+    ensures { Declares number (λ text last. body_of text last kind (drop from.at input.entry.tokens.now)) input.entry from out.old (step result) out.new }
 {
     match kind {
         SORT => sort(input, from, out, number),
