@@ -6,10 +6,8 @@ use Rattle.term_parser.specs.Parsing.{Tokens, Parsed, last_line, plus}
 use Rattle.term_parser.specs.Rows.{Rows}
 use Rattle.term_parser.specs.Steps.{Step}
 use Rattle.term_parser.specs.Promises.{Answers}
-use Rattle.parser.specs.Source.{Declaration}
-use Rattle.parser.specs.Rows.{declaration_rows}
 
 -- They start at the keyword's place, and the grammar is that of the tokens behind it.
-abbrev pub Declares : ℕ → (List ℕ → ℕ → Tokens → Parsed Declaration) → Input → Position → Rows → Step → Rows → Type 0
-Declares number grammar input from before r after =
-    Answers 1 (declaration_rows number) (plus 1 (grammar input.text.now (last_line input.tokens.now) (drop (from.at + 1) input.tokens.now))) input.tokens.now from.at from.used before r after
+abbrev pub Declares : {A : Type 0} → (A → Rows) → (List ℕ → ℕ → Tokens → Parsed A) → Input → Position → Rows → Step → Rows → Type 0
+Declares rows grammar input from before r after =
+    Answers 1 rows (plus 1 (grammar input.text.now (last_line input.tokens.now) (drop (from.at + 1) input.tokens.now))) input.tokens.now from.at from.used before r after

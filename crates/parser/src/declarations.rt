@@ -3,15 +3,16 @@ ghost use Rattle.std.specs.Prelude.{◌≡◌, ◌⊎◌, [], ◌≤◌, ◌<◌
 ghost use Rattle.source_text.specs.Bytes.{same_bytes};
 ghost use Rattle.source_text.specs.Parts.{part_of};
 ghost use Rattle.parser.specs.Source.{Clause, Binders};
-ghost use Rattle.parser.specs.Rows.{clause_rows, binders_rows, tactic_rows, declared_rows, numbered};
-ghost use Rattle.parser.specs.Declarations.{Declared, prop_name, binders_of, tactic_of, sort_of, ctor_of, clause_of, pred_of, rule_of, def_of, theorem_of, asked_of, body_of, declaration_of, parse_of};
+ghost use Rattle.parser.specs.Rows.{clause_rows, binders_rows, tactic_rows, titled_rows, declaration_rows, declared_rows, numbered};
+ghost use Rattle.parser.specs.Declarations.{Declared, prop_name, binders_of, tactic_of, titled_of, sort_of, ctor_of, clause_of, pred_of, rule_of, def_of, theorem_of, asked_of, body_of, declaration_of, parse_of};
+ghost use Rattle.term_parser.specs.Lists.{separated};
 ghost use Rattle.term_parser.specs.Steps.{step};
 ghost use Rattle.term_parser.specs.Promises.{Room, Reads, Lists};
 ghost use Rattle.parser.specs.Promises.{Declares};
 
 use super::{BINDERS, CLAUSE};
 use refusals::{Refusal, Rejection};
-use term_parser::items::{Repeated, all};
+use term_parser::items::{Item, Judgment, Name, Repeated, all, list};
 use term_parser::lists::{arrows, judgments, name, names, patterns, title};
 use term_parser::terms::{app, term};
 use term_parser::tokens::{peek, put, rejection, sign};
@@ -121,7 +122,7 @@ pub fn sort(
 ) -> Result<Read, Rejection>
     requires fact_1 { Room input.tokens.now from.at from.used out.old }
     requires fact_2 { from.at < length input.tokens.now }
-    ensures { Declares number (λ _. sort_of) input.entry from out.old (step result) out.new }
+    ensures { Declares (declaration_rows number) (λ _. sort_of) input.entry from out.old (step result) out.new }
 {
     let behind = Position {
         at: from.at + 1,
@@ -130,6 +131,29 @@ pub fn sort(
     let n = name(input, behind, out)?;
     put(out, from.used, [SORT, number, 0, 0]);
     Ok(Read { count: 1, ..n })
+}
+
+// `n : A → B`, from the keyword on, whose number is `kind`.
+pub fn titled<I: Item>(
+    input: Input,
+    from: Position,
+    out: &mut [[u32; 4]],
+    kind: u32,
+    number: u32,
+) -> Result<Read, Rejection>
+    requires fact_1 { Room input.tokens.now from.at from.used out.old }
+    requires fact_2 { from.at < length input.tokens.now }
+    ensures { Declares (titled_rows I.rows kind number) (λ text last. titled_of last (separated I.SIGN (I.grammar text last)))
+        input.entry from out.old (step result) out.new }
+{
+    let behind = Position {
+        at: from.at + 1,
+        used: from.used + 1,
+    };
+    let n = title(input, behind, out)?;
+    let items = list::<I>(input, n.position, out)?;
+    put(out, from.used, [kind, number, items.count, 0]);
+    Ok(Read { count: 1, ..items })
 }
 
 // `ctor n : A → B`
@@ -141,16 +165,9 @@ pub fn ctor(
 ) -> Result<Read, Rejection>
     requires fact_1 { Room input.tokens.now from.at from.used out.old }
     requires fact_2 { from.at < length input.tokens.now }
-    ensures { Declares number (λ _. ctor_of) input.entry from out.old (step result) out.new }
+    ensures { Declares (declaration_rows number) (λ _. ctor_of) input.entry from out.old (step result) out.new }
 {
-    let behind = Position {
-        at: from.at + 1,
-        used: from.used + 1,
-    };
-    let n = title(input, behind, out)?;
-    let sorts = arrows(input, n.position, out)?;
-    put(out, from.used, [CTOR, number, sorts.count, 0]);
-    Ok(Read { count: 1, ..sorts })
+    titled::<Name>(input, from, out, CTOR, number)
 }
 
 // Is a name's row that of `Prop`?
@@ -170,7 +187,7 @@ pub fn pred(
 ) -> Result<Read, Rejection>
     requires fact_1 { Room input.tokens.now from.at from.used out.old }
     requires fact_2 { from.at < length input.tokens.now }
-    ensures { Declares number pred_of input.entry from out.old (step result) out.new }
+    ensures { Declares (declaration_rows number) pred_of input.entry from out.old (step result) out.new }
 {
     let behind = Position {
         at: from.at + 1,
@@ -194,7 +211,6 @@ pub fn pred(
 }
 
 // `rule n : J → J`
-// Stays: what it shares with `ctor` is three calls, and one function of both would take the items, the row's kind and the declaration that they make.
 pub fn rule(
     input: Input,
     from: Position,
@@ -203,16 +219,9 @@ pub fn rule(
 ) -> Result<Read, Rejection>
     requires fact_1 { Room input.tokens.now from.at from.used out.old }
     requires fact_2 { from.at < length input.tokens.now }
-    ensures { Declares number rule_of input.entry from out.old (step result) out.new }
+    ensures { Declares (declaration_rows number) rule_of input.entry from out.old (step result) out.new }
 {
-    let behind = Position {
-        at: from.at + 1,
-        used: from.used + 1,
-    };
-    let n = title(input, behind, out)?;
-    let terms = judgments(input, n.position, out)?;
-    put(out, from.used, [RULE, number, terms.count, 0]);
-    Ok(Read { count: 1, ..terms })
+    titled::<Judgment>(input, from, out, RULE, number)
 }
 
 // `def n : A → B`, and its clauses
@@ -224,7 +233,7 @@ pub fn def(
 ) -> Result<Read, Rejection>
     requires fact_1 { Room input.tokens.now from.at from.used out.old }
     requires fact_2 { from.at < length input.tokens.now }
-    ensures { Declares number def_of input.entry from out.old (step result) out.new }
+    ensures { Declares (declaration_rows number) def_of input.entry from out.old (step result) out.new }
 {
     let behind = Position {
         at: from.at + 1,
@@ -258,7 +267,7 @@ pub fn theorem(
 ) -> Result<Read, Rejection>
     requires fact_1 { Room input.tokens.now from.at from.used out.old }
     requires fact_2 { from.at < length input.tokens.now }
-    ensures { Declares number theorem_of input.entry from out.old (step result) out.new }
+    ensures { Declares (declaration_rows number) theorem_of input.entry from out.old (step result) out.new }
 {
     let behind = Position {
         at: from.at + 1,
@@ -289,7 +298,7 @@ pub fn asked(
     requires fact_1 { Room input.tokens.now from.at from.used out.old }
     requires fact_2 { from.at < length input.tokens.now }
     requires kinds { (kind ≡ EVAL) ⊎ (kind ≡ CHECK) }
-    ensures { Declares number (λ text last. asked_of text last kind) input.entry from out.old (step result) out.new }
+    ensures { Declares (declaration_rows number) (λ text last. asked_of text last kind) input.entry from out.old (step result) out.new }
 {
     let behind = Position {
         at: from.at + 1,
@@ -311,7 +320,7 @@ pub fn body(
 ) -> Result<Read, Rejection>
     requires fact_1 { Room input.tokens.now from.at from.used out.old }
     requires fact_2 { from.at < length input.tokens.now }
-    ensures { Declares number (λ text last. body_of text last kind (drop from.at input.entry.tokens.now)) input.entry from out.old (step result) out.new }
+    ensures { Declares (declaration_rows number) (λ text last. body_of text last kind (drop from.at input.entry.tokens.now)) input.entry from out.old (step result) out.new }
 {
     match kind {
         SORT => sort(input, from, out, number),
