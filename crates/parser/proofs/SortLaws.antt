@@ -11,10 +11,11 @@ use Rattle.term_parser.specs.Rows.{Rows, rows_of_all, name_rows}
 use Rattle.term_parser.specs.Steps.{Step}
 use Rattle.term_parser.specs.Steps.Step.{At}
 use Rattle.term_parser.specs.Promises.{Room, Answers, Lists}
+use Rattle.term_parser.specs.Firmness.{firm_name}
 use Rattle.parser.specs.Source.{Declaration}
 use Rattle.parser.specs.Rows.{declaration_rows}
 use Rattle.term_parser.proofs.Readers.{Stopped, got}
-use Rattle.term_parser.proofs.ListLaws.{firm_name, firm_title, firm_separated}
+use Rattle.term_parser.proofs.ListLaws.{firm_title, firm_separated}
 use Rattle.parser.proofs.PartLaws.{Along, start, part, part_stopped}
 use Rattle.parser.proofs.DeclarationLaws.{separated_some}
 
