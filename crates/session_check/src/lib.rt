@@ -14,6 +14,7 @@ ghost use Rattle.sessions.specs.Storage.{part_in};
 ghost use Rattle.session_check.specs.Parts.{SessionChecked};
 
 use arena::{TERM_ROOM, Terms};
+use bindings::StoredBindings;
 use lengths::is_counted;
 pub use lengths::is_short;
 use naming::are_names_listed;
@@ -70,5 +71,9 @@ pub fn check_session(
         variables: counts.variables,
         used: counts.words,
     };
-    bindings::check_bindings(terms, session.bindings, marks, counts.bound)
+    let held = StoredBindings {
+        rows: session.bindings,
+        bound: counts.bound,
+    };
+    bindings::check_bindings(terms, held, marks)
 }
