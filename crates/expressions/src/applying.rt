@@ -29,9 +29,9 @@ pub fn check_use(symbols: &[SymbolRow], i: usize, arguments: usize) -> Result<()
 // A constructor is built, a function called at the next depth.
 pub fn apply(
     program: Program,
+    depth: u32,
     i: usize,
     values: &[u32],
-    depth: u32,
     spent: Spent,
     store: &mut Store,
 ) -> Result<Outcome, Refusal>

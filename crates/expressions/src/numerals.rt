@@ -77,20 +77,20 @@ fn tower(
     Ok(built)
 }
 
-// The value of the numeral n at a depth.
+// The value of the numeral of a number, at a depth.
 pub fn numeral(
     text: &[u8],
     symbols: &[SymbolRow],
-    n: u32,
+    number: u32,
     depth: u32,
     words: &mut [u32],
     room: Room,
 ) -> Result<Built, Refusal>
     requires { NumeralAsked symbols.now (length symbols.now) depth words.old room.used room.limit }
-    ensures { NumeralAnswered text.now symbols.now (length symbols.now) n depth words.old room.used room.limit result words.new }
+    ensures { NumeralAnswered text.now symbols.now (length symbols.now) number depth words.old room.used room.limit result words.new }
 {
     let z = find_constructor(text, symbols, b"zero")?;
     let y = find_constructor(text, symbols, b"succ")?;
-    check_numeral(symbols, y, z, n, depth)?;
-    tower(symbols, y, z, n, words, room)
+    check_numeral(symbols, y, z, number, depth)?;
+    tower(symbols, y, z, number, words, room)
 }

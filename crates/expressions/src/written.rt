@@ -52,7 +52,7 @@ fn application(
         p = argument.next;
         spent = argument.spent;
     }
-    let outcome = apply(program, i, &values[..arguments], depth, spent, store)?;
+    let outcome = apply(program, depth, i, &values[..arguments], spent, store)?;
     Ok(Expressed {
         value: outcome.value,
         next: p,
