@@ -4,6 +4,6 @@ pub mod TacticLaws
 pub mod DeclarationLaws
 pub mod ClauseLaws
 pub mod BinderLaws
-pub mod SortLaws
+pub mod TitleLaws
 pub mod TheoremLaws
 pub mod StorageLaws

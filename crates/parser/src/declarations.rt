@@ -1,17 +1,18 @@
 // Declarations.
-ghost use Rattle.std.specs.Prelude.{◌≡◌, ◌⊎◌, [], ◌+◌, ◌≤◌, ◌<◌, length, drop, get_or, set};
+ghost use Rattle.std.specs.Prelude.{◌≡◌, ◌⊎◌, [], ◌≤◌, ◌<◌, length, drop, get_or, set};
 ghost use Rattle.source_text.specs.Bytes.{same_bytes};
 ghost use Rattle.source_text.specs.Parts.{part_of};
-ghost use Rattle.term_parser.specs.Parsing.{last_line, plus};
 ghost use Rattle.parser.specs.Source.{Clause, Binders};
-ghost use Rattle.parser.specs.Rows.{clause_rows, binders_rows, tactic_rows, declaration_rows, declared_rows, numbered};
-ghost use Rattle.parser.specs.Declarations.{Declared, prop_name, binders_of, tactic_of, sort_of, ctor_of, clause_of, pred_of, rule_of, def_of, theorem_of, asked_of, body_of, declaration_of, parse_of};
+ghost use Rattle.parser.specs.Rows.{clause_rows, binders_rows, tactic_rows, titled_rows, declaration_rows, declared_rows, numbered};
+ghost use Rattle.parser.specs.Declarations.{Declared, prop_name, binders_of, tactic_of, titled_of, sort_of, ctor_of, clause_of, pred_of, rule_of, def_of, theorem_of, asked_of, body_of, declaration_of, parse_of};
+ghost use Rattle.term_parser.specs.Lists.{separated};
 ghost use Rattle.term_parser.specs.Steps.{step};
-ghost use Rattle.term_parser.specs.Promises.{Room, Answers, Lists};
+ghost use Rattle.term_parser.specs.Promises.{Room, Reads, Lists};
+ghost use Rattle.parser.specs.Promises.{Declares};
 
 use super::{BINDERS, CLAUSE};
 use refusals::{Refusal, Rejection};
-use term_parser::items::{Repeated, all};
+use term_parser::items::{Item, Judgment, Name, Repeated, all, list};
 use term_parser::lists::{arrows, judgments, name, names, patterns, title};
 use term_parser::terms::{app, term};
 use term_parser::tokens::{peek, put, rejection, sign};
@@ -84,8 +85,7 @@ impl Repeated for Binders {
 // `:= by auto`, `:= by induction x`, or nothing
 pub fn tactic(input: Input, from: Position, out: &mut [[u32; 4]]) -> Result<Read, Rejection>
     requires { Room input.tokens.now from.at from.used out.old }
-    ensures { Answers 0 tactic_rows (tactic_of (last_line input.entry.tokens.now) (drop from.at input.entry.tokens.now))
-        input.entry.tokens.now from.at from.used out.old (step result) out.new }
+    ensures { Reads 0 tactic_rows (λ _. tactic_of) input.entry from out.old (step result) out.new }
 {
     if peek(input.tokens, from.at).kind != DEFINES {
         return Ok(Read {
@@ -122,8 +122,7 @@ pub fn sort(
 ) -> Result<Read, Rejection>
     requires fact_1 { Room input.tokens.now from.at from.used out.old }
     requires fact_2 { from.at < length input.tokens.now }
-    ensures { Answers 1 (declaration_rows number) (plus 1 (sort_of (last_line input.entry.tokens.now) (drop (from.at + 1) input.entry.tokens.now)))
-        input.entry.tokens.now from.at from.used out.old (step result) out.new }
+    ensures { Declares (declaration_rows number) (λ _. sort_of) input.entry from out.old (step result) out.new }
 {
     let behind = Position {
         at: from.at + 1,
@@ -132,6 +131,29 @@ pub fn sort(
     let n = name(input, behind, out)?;
     put(out, from.used, [SORT, number, 0, 0]);
     Ok(Read { count: 1, ..n })
+}
+
+// `n : A → B`, from the keyword on, whose number is `kind`.
+pub fn titled<I: Item>(
+    input: Input,
+    from: Position,
+    out: &mut [[u32; 4]],
+    kind: u32,
+    number: u32,
+) -> Result<Read, Rejection>
+    requires fact_1 { Room input.tokens.now from.at from.used out.old }
+    requires fact_2 { from.at < length input.tokens.now }
+    ensures { Declares (titled_rows I.rows kind number) (λ text last. titled_of last (separated I.SIGN (I.grammar text last)))
+        input.entry from out.old (step result) out.new }
+{
+    let behind = Position {
+        at: from.at + 1,
+        used: from.used + 1,
+    };
+    let n = title(input, behind, out)?;
+    let items = list::<I>(input, n.position, out)?;
+    put(out, from.used, [kind, number, items.count, 0]);
+    Ok(Read { count: 1, ..items })
 }
 
 // `ctor n : A → B`
@@ -143,17 +165,9 @@ pub fn ctor(
 ) -> Result<Read, Rejection>
     requires fact_1 { Room input.tokens.now from.at from.used out.old }
     requires fact_2 { from.at < length input.tokens.now }
-    ensures { Answers 1 (declaration_rows number) (plus 1 (ctor_of (last_line input.entry.tokens.now) (drop (from.at + 1) input.entry.tokens.now)))
-        input.entry.tokens.now from.at from.used out.old (step result) out.new }
+    ensures { Declares (declaration_rows number) (λ _. ctor_of) input.entry from out.old (step result) out.new }
 {
-    let behind = Position {
-        at: from.at + 1,
-        used: from.used + 1,
-    };
-    let n = title(input, behind, out)?;
-    let sorts = arrows(input, n.position, out)?;
-    put(out, from.used, [CTOR, number, sorts.count, 0]);
-    Ok(Read { count: 1, ..sorts })
+    titled::<Name>(input, from, out, CTOR, number)
 }
 
 // Is a name's row that of `Prop`?
@@ -173,8 +187,7 @@ pub fn pred(
 ) -> Result<Read, Rejection>
     requires fact_1 { Room input.tokens.now from.at from.used out.old }
     requires fact_2 { from.at < length input.tokens.now }
-    ensures { Answers 1 (declaration_rows number) (plus 1 (pred_of input.entry.text.now (last_line input.entry.tokens.now) (drop (from.at + 1) input.entry.tokens.now)))
-        input.entry.tokens.now from.at from.used out.old (step result) out.new }
+    ensures { Declares (declaration_rows number) pred_of input.entry from out.old (step result) out.new }
 {
     let behind = Position {
         at: from.at + 1,
@@ -198,7 +211,6 @@ pub fn pred(
 }
 
 // `rule n : J → J`
-// Stays: what it shares with `ctor` is three calls, and one function of both would take the items, the row's kind and the declaration that they make.
 pub fn rule(
     input: Input,
     from: Position,
@@ -207,17 +219,9 @@ pub fn rule(
 ) -> Result<Read, Rejection>
     requires fact_1 { Room input.tokens.now from.at from.used out.old }
     requires fact_2 { from.at < length input.tokens.now }
-    ensures { Answers 1 (declaration_rows number) (plus 1 (rule_of input.entry.text.now (last_line input.entry.tokens.now) (drop (from.at + 1) input.entry.tokens.now)))
-        input.entry.tokens.now from.at from.used out.old (step result) out.new }
+    ensures { Declares (declaration_rows number) rule_of input.entry from out.old (step result) out.new }
 {
-    let behind = Position {
-        at: from.at + 1,
-        used: from.used + 1,
-    };
-    let n = title(input, behind, out)?;
-    let terms = judgments(input, n.position, out)?;
-    put(out, from.used, [RULE, number, terms.count, 0]);
-    Ok(Read { count: 1, ..terms })
+    titled::<Judgment>(input, from, out, RULE, number)
 }
 
 // `def n : A → B`, and its clauses
@@ -229,8 +233,7 @@ pub fn def(
 ) -> Result<Read, Rejection>
     requires fact_1 { Room input.tokens.now from.at from.used out.old }
     requires fact_2 { from.at < length input.tokens.now }
-    ensures { Answers 1 (declaration_rows number) (plus 1 (def_of input.entry.text.now (last_line input.entry.tokens.now) (drop (from.at + 1) input.entry.tokens.now)))
-        input.entry.tokens.now from.at from.used out.old (step result) out.new }
+    ensures { Declares (declaration_rows number) def_of input.entry from out.old (step result) out.new }
 {
     let behind = Position {
         at: from.at + 1,
@@ -264,8 +267,7 @@ pub fn theorem(
 ) -> Result<Read, Rejection>
     requires fact_1 { Room input.tokens.now from.at from.used out.old }
     requires fact_2 { from.at < length input.tokens.now }
-    ensures { Answers 1 (declaration_rows number) (plus 1 (theorem_of input.entry.text.now (last_line input.entry.tokens.now) (drop (from.at + 1) input.entry.tokens.now)))
-        input.entry.tokens.now from.at from.used out.old (step result) out.new }
+    ensures { Declares (declaration_rows number) theorem_of input.entry from out.old (step result) out.new }
 {
     let behind = Position {
         at: from.at + 1,
@@ -296,8 +298,7 @@ pub fn asked(
     requires fact_1 { Room input.tokens.now from.at from.used out.old }
     requires fact_2 { from.at < length input.tokens.now }
     requires kinds { (kind ≡ EVAL) ⊎ (kind ≡ CHECK) }
-    ensures { Answers 1 (declaration_rows number) (plus 1 (asked_of input.entry.text.now (last_line input.entry.tokens.now) kind (drop (from.at + 1) input.entry.tokens.now)))
-        input.entry.tokens.now from.at from.used out.old (step result) out.new }
+    ensures { Declares (declaration_rows number) (λ text last. asked_of text last kind) input.entry from out.old (step result) out.new }
 {
     let behind = Position {
         at: from.at + 1,
@@ -319,8 +320,7 @@ pub fn body(
 ) -> Result<Read, Rejection>
     requires fact_1 { Room input.tokens.now from.at from.used out.old }
     requires fact_2 { from.at < length input.tokens.now }
-    ensures { Answers 1 (declaration_rows number) (plus 1 (body_of input.entry.text.now (last_line input.entry.tokens.now) kind (drop from.at input.entry.tokens.now) (drop (from.at + 1) input.entry.tokens.now)))
-        input.entry.tokens.now from.at from.used out.old (step result) out.new }
+    ensures { Declares (declaration_rows number) (λ text last. body_of text last kind (drop from.at input.entry.tokens.now)) input.entry from out.old (step result) out.new }
 {
     match kind {
         SORT => sort(input, from, out, number),

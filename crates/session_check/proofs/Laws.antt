@@ -19,12 +19,13 @@ use Rattle.names.specs.Names.{Distinct, name_in}
 use Rattle.names.specs.Symbols.{Rows, column, row_at, sort_of, sorts_of, symbols_of}
 use Rattle.names.specs.SearchLaws.{table_length, table_at, get_d_any}
 use Rattle.rules.specs.PatternLaws.{arities_of}
+use Rattle.signature.specs.Parts.{place_in}
 use Rattle.signature.proofs.Laws.{same}
 use Rattle.signature.proofs.UsedLaws.{used_length, row_used, used_each, each_used}
 use Rattle.sessions.specs.Storage.{SessionStore, Workspace, NameFormed, too_short}
 use Rattle.sessions.specs.OpeningLaws.{enough_lent}
 use Rattle.sessions.specs.declared.SessionCounts.{SessionCounts}
-use Rattle.session_check.specs.Parts.{SessionCounted, NameKind, NamesFormed, Rising, place_of, word_in}
+use Rattle.session_check.specs.Parts.{SessionCounted, NameKind, NamesFormed, Rising, word_in}
 use Rattle.session_check.specs.Parts.{PlacesDistinct}
 use Rattle.session_check.specs.Parts.{NamesListed, SessionReady, SessionChecked}
 
@@ -37,7 +38,7 @@ names_there limits b s n e f = let l = (enough_lent limits b s e).names in omega
 
 -- The words at the places that were written are those of the names.
 module _ (text : List ℕ) (names places : Rows) (n : ℕ) (long : n ≤ length places) (put : (i : ℕ) → i < n
-    → row_at places i ≡ place_of (row_at names i)) where
+    → row_at places i ≡ place_in (row_at names i) 1) where
   word_at : (i : ℕ) → i < n → get_or (sorts_of text places n) i [] ≡ word_in text (row_at names i)
   unfolding sorts_of
   word_at i l =

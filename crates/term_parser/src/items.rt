@@ -1,13 +1,13 @@
 // Items: what lists are made of, and how a list is read, whatever its items are.
-ghost use Rattle.std.specs.Prelude.{ℕ, List, [], ◌+◌, ◌≤◌, ◌<◌, drop, IfOk};
+ghost use Rattle.std.specs.Prelude.{ℕ, List, [], ◌+◌, ◌≤◌, ◌<◌, IfOk};
 ghost use Rattle.std.proofs.Common.{rules};
 ghost use Rattle.term_parser.specs.Source.{Place, Source, one};
-ghost use Rattle.term_parser.specs.Parsing.{Tokens, Parsed, last_line, repeat, behind};
+ghost use Rattle.term_parser.specs.Parsing.{Tokens, Parsed, repeat, behind};
 ghost use Rattle.term_parser.specs.Grammar.{name_of, parenthesis};
 ghost use Rattle.term_parser.specs.Rows.{Rows, rows_of, name_rows};
 ghost use Rattle.term_parser.specs.Lists.{separated, unless, name, term, app};
 ghost use Rattle.term_parser.specs.Steps.{step, maybe_step};
-ghost use Rattle.term_parser.specs.Promises.{Room, Answers, Lists};
+ghost use Rattle.term_parser.specs.Promises.{Room, Reads, ReadsList};
 ghost use Rattle.term_parser.specs.Firmness.{Firm, firm_name, firm_term, firm_app};
 
 use super::lists::name;
@@ -33,8 +33,7 @@ pub trait Item {
 
     fn read(input: Input, from: Position, out: &mut [[u32; 4]]) -> Result<Read, Rejection>
         requires { Room input.tokens.now from.at from.used out.old }
-        ensures { Answers 1 rows (grammar input.entry.text.now (last_line input.entry.tokens.now) (drop from.at input.entry.tokens.now))
-            input.entry.tokens.now from.at from.used out.old (step result) out.new };
+        ensures { Reads 1 rows grammar input.entry from out.old (step result) out.new };
 
     // It is read or refused, and a sign is a token.
     ghost firm: { (text : List ℕ) (last : ℕ) (ts : Tokens) → Firm (grammar text last ts) };
@@ -52,8 +51,7 @@ pub trait Repeated {
 
     fn read(input: Input, from: Position, out: &mut [[u32; 4]]) -> Result<Option<Read>, Rejection>
         requires { Room input.tokens.now from.at from.used out.old }
-        ensures { Answers 1 rows (grammar input.entry.text.now (last_line input.entry.tokens.now) (drop from.at input.entry.tokens.now))
-            input.entry.tokens.now from.at from.used out.old (maybe_step result) out.new };
+        ensures { Reads 1 rows grammar input.entry from out.old (maybe_step result) out.new };
 }
 
 // A name, a judgment, and a pattern.
@@ -170,8 +168,7 @@ pub fn all<R: Repeated>(
     out: &mut [[u32; 4]],
 ) -> Result<Read, Rejection>
     requires { Room input.tokens.now from.at from.used out.old }
-    ensures list { Lists 0 R.rows (repeat (R.grammar input.entry.text.now (last_line input.entry.tokens.now)) (drop from.at input.entry.tokens.now) 0 0 [])
-        input.entry.tokens.now from.at from.used out.old (step result) out.new }
+    ensures list { ReadsList 0 R.rows (λ text last ts. repeat (R.grammar text last) ts 0 0 []) input.entry from out.old (step result) out.new }
     ensures few { IfOk result (λ read. read.count + from.at ≤ read.position.at) }
 {
     let mut next = from;
@@ -189,8 +186,7 @@ pub fn all<R: Repeated>(
 // A first item, and others behind signs.
 pub fn list<I: Item>(input: Input, from: Position, out: &mut [[u32; 4]]) -> Result<Read, Rejection>
     requires { Room input.tokens.now from.at from.used out.old }
-    ensures { Lists 1 I.rows (separated I.SIGN (I.grammar input.entry.text.now (last_line input.entry.tokens.now)) (drop from.at input.entry.tokens.now))
-        input.entry.tokens.now from.at from.used out.old (step result) out.new }
+    ensures { ReadsList 1 I.rows (λ text last. separated I.SIGN (I.grammar text last)) input.entry from out.old (step result) out.new }
 {
     let first = I::read(input, from, out)?;
     let rest = all::<Next<I>>(input, first.position, out)?;

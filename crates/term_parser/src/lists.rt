@@ -1,11 +1,9 @@
 // Names, and lists of items.
-ghost use Rattle.std.specs.Prelude.{drop};
-ghost use Rattle.term_parser.specs.Parsing.{last_line};
 ghost use Rattle.term_parser.specs.Grammar.{name_of};
 ghost use Rattle.term_parser.specs.Rows.{rows_of, name_rows};
 ghost use Rattle.term_parser.specs.Lists.{arrows_of, names_of, title_of, judgments_of, patterns_of};
 ghost use Rattle.term_parser.specs.Steps.{step};
-ghost use Rattle.term_parser.specs.Promises.{Room, Answers, Lists};
+ghost use Rattle.term_parser.specs.Promises.{Room, Reads, ReadsList};
 
 use super::items::{Bound, Judgment, Name, Pattern, all, list};
 use super::tokens::{peek, push, rejection, sign};
@@ -16,8 +14,7 @@ use words::{COLON, DOUBLE_ARROW, NAME};
 // A name that must be there.
 pub fn name(input: Input, from: Position, out: &mut [[u32; 4]]) -> Result<Read, Rejection>
     requires { Room input.tokens.now from.at from.used out.old }
-    ensures { Answers 1 name_rows (name_of (last_line input.entry.tokens.now) (drop from.at input.entry.tokens.now))
-        input.entry.tokens.now from.at from.used out.old (step result) out.new }
+    ensures { Reads 1 name_rows (λ _. name_of) input.entry from out.old (step result) out.new }
 {
     let t = peek(input.tokens, from.at);
     if t.kind == NAME {
@@ -29,8 +26,7 @@ pub fn name(input: Input, from: Position, out: &mut [[u32; 4]]) -> Result<Read, 
 // `n :`
 pub fn title(input: Input, from: Position, out: &mut [[u32; 4]]) -> Result<Read, Rejection>
     requires { Room input.tokens.now from.at from.used out.old }
-    ensures { Answers 2 name_rows (title_of (last_line input.entry.tokens.now) (drop from.at input.entry.tokens.now))
-        input.entry.tokens.now from.at from.used out.old (step result) out.new }
+    ensures { Reads 2 name_rows (λ _. title_of) input.entry from out.old (step result) out.new }
 {
     let n = name(input, from, out)?;
     sign(input, COLON, n.position)
@@ -39,8 +35,7 @@ pub fn title(input: Input, from: Position, out: &mut [[u32; 4]]) -> Result<Read,
 // `A → B → C`
 pub fn arrows(input: Input, from: Position, out: &mut [[u32; 4]]) -> Result<Read, Rejection>
     requires { Room input.tokens.now from.at from.used out.old }
-    ensures { Lists 1 name_rows (arrows_of (last_line input.entry.tokens.now) (drop from.at input.entry.tokens.now))
-        input.entry.tokens.now from.at from.used out.old (step result) out.new }
+    ensures { ReadsList 1 name_rows (λ _. arrows_of) input.entry from out.old (step result) out.new }
 {
     list::<Name>(input, from, out)
 }
@@ -48,8 +43,7 @@ pub fn arrows(input: Input, from: Position, out: &mut [[u32; 4]]) -> Result<Read
 // `x y z`, up to a colon
 pub fn names(input: Input, from: Position, out: &mut [[u32; 4]]) -> Result<Read, Rejection>
     requires { Room input.tokens.now from.at from.used out.old }
-    ensures { Lists 1 name_rows (names_of (last_line input.entry.tokens.now) (drop from.at input.entry.tokens.now))
-        input.entry.tokens.now from.at from.used out.old (step result) out.new }
+    ensures { ReadsList 1 name_rows (λ _. names_of) input.entry from out.old (step result) out.new }
 {
     let first = name(input, from, out)?;
     let rest = all::<Bound>(input, first.position, out)?;
@@ -62,8 +56,7 @@ pub fn names(input: Input, from: Position, out: &mut [[u32; 4]]) -> Result<Read,
 // `J → J → J`
 pub fn judgments(input: Input, from: Position, out: &mut [[u32; 4]]) -> Result<Read, Rejection>
     requires { Room input.tokens.now from.at from.used out.old }
-    ensures { Lists 1 rows_of (judgments_of input.entry.text.now (last_line input.entry.tokens.now) (drop from.at input.entry.tokens.now))
-        input.entry.tokens.now from.at from.used out.old (step result) out.new }
+    ensures { ReadsList 1 rows_of judgments_of input.entry from out.old (step result) out.new }
 {
     list::<Judgment>(input, from, out)
 }
@@ -71,8 +64,7 @@ pub fn judgments(input: Input, from: Position, out: &mut [[u32; 4]]) -> Result<R
 // `p, p, p`, or nothing before `=>`
 pub fn patterns(input: Input, from: Position, out: &mut [[u32; 4]]) -> Result<Read, Rejection>
     requires { Room input.tokens.now from.at from.used out.old }
-    ensures { Lists 0 rows_of (patterns_of input.entry.text.now (last_line input.entry.tokens.now) (drop from.at input.entry.tokens.now))
-        input.entry.tokens.now from.at from.used out.old (step result) out.new }
+    ensures { ReadsList 0 rows_of patterns_of input.entry from out.old (step result) out.new }
 {
     if peek(input.tokens, from.at).kind == DOUBLE_ARROW {
         return Ok(Read {

@@ -1,10 +1,9 @@
 // Terms: the cycle of calls.
-ghost use Rattle.std.specs.Prelude.{◌≡◌, [], ◌<◌, length, drop, get_or};
-ghost use Rattle.term_parser.specs.Parsing.{last_line};
-ghost use Rattle.term_parser.specs.Grammar.{atom_of, app_of, term_of};
+ghost use Rattle.std.specs.Prelude.{◌≡◌, [], ◌<◌, length, get_or};
+ghost use Rattle.term_parser.specs.Grammar.{atom_of, app_of, term_of, parenthesis};
 ghost use Rattle.term_parser.specs.Rows.{application_kind, rows_of};
 ghost use Rattle.term_parser.specs.Steps.{step, maybe_step};
-ghost use Rattle.term_parser.specs.Promises.{Room, Answers, Applying, Equating, inside, kind_at};
+ghost use Rattle.term_parser.specs.Promises.{Room, Reads, Applying, Equating, kind_at};
 
 use super::tokens::{peek, push, rejection, saturated, sign};
 use super::{APPLICATION, Input, Position, Read};
@@ -73,9 +72,7 @@ pub fn atom(
     out: &mut [[u32; 4]],
 ) -> Result<Option<Read>, Rejection>
     requires { Room input.tokens.now from.at from.used out.old }
-    ensures { Answers 1 rows_of
-        (atom_of input.entry.text.now (last_line input.entry.tokens.now) (inside input.entry.text.now input.entry.tokens.now left) (drop from.at input.entry.tokens.now))
-        input.entry.tokens.now from.at from.used out.old (maybe_step result) out.new }
+    ensures { Reads 1 rows_of (λ text last. atom_of text last (parenthesis text last left)) input.entry from out.old (maybe_step result) out.new }
 {
     let t = peek(input.tokens, from.at);
     if t.kind == NAME {
@@ -106,9 +103,7 @@ pub fn atom(
 #[cycle(app_atom_term)]
 pub fn app(input: Input, from: Position, left: u32, out: &mut [[u32; 4]]) -> Result<Read, Rejection>
     requires { Room input.tokens.now from.at from.used out.old }
-    ensures { Answers 1 rows_of
-        (app_of input.entry.text.now (last_line input.entry.tokens.now) (inside input.entry.text.now input.entry.tokens.now left) (drop from.at input.entry.tokens.now))
-        input.entry.tokens.now from.at from.used out.old (step result) out.new }
+    ensures { Reads 1 rows_of (λ text last. app_of text last (parenthesis text last left)) input.entry from out.old (step result) out.new }
 {
     let mut next = from;
     let mut n = 0;
@@ -131,9 +126,7 @@ pub fn term(
     out: &mut [[u32; 4]],
 ) -> Result<Read, Rejection>
     requires { Room input.tokens.now from.at from.used out.old }
-    ensures { Answers 1 rows_of
-        (term_of input.entry.text.now (last_line input.entry.tokens.now) (inside input.entry.text.now input.entry.tokens.now left) (drop from.at input.entry.tokens.now))
-        input.entry.tokens.now from.at from.used out.old (step result) out.new }
+    ensures { Reads 1 rows_of (λ text last. term_of text last (parenthesis text last left)) input.entry from out.old (step result) out.new }
 {
     let first = app(input, from, left, out)?;
     let next = first.position;

@@ -1,7 +1,7 @@
--- `frame_at` meets its contract: the row's eight numbers, or zeros past the end.
+-- `frame` meets its contract: the row's eight numbers, or zeros past the end.
 use Rattle.std.proofs.Common.{[], ap, ◌∙◌, le_refl}
 use Rattle.search_machine.specs.State.{frame_at, frame_of}
-use Rattle.search_machine.proofs.frames.frame_at.Goals as goal
+use Rattle.search_machine.proofs.Store.frame.Goals as goal
 
 pub returns-in-Some : goal.returns-in-Some
 unfolding frame_at
