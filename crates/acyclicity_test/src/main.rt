@@ -68,7 +68,7 @@ fn two_variables(name: &[u8], first: u32, second: u32) {
 // Variables that are each bound to the next, and the last by the word given.
 fn chain(name: &[u8], last: u32) {
     let mut bindings = [[0u32; 2]; 50000];
-    bind_chain(&mut bindings, MOST - 1);
+    bind_chain(&mut bindings[..49999]);
     put(&mut bindings, MOST - 1, [last, 0]);
     check(name, &[0], &bindings, MOST, 0);
 }

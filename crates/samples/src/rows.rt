@@ -4,15 +4,10 @@ ghost use Rattle.arena.specs.Rows.{column as column_of};
 ghost use Rattle.samples.specs.Same.{Same};
 ghost use Rattle.bindings.specs.Promises.{Tells};
 
-use super::build::put;
-
-// Binds each of the first `count` variables to the next one, in order.
-pub fn bind_chain(rows: &mut [[u32; 2]], count: u32) {
-    for i in 0..count {
-        if 1000000 < i {
-            return;
-        }
-        put(rows, i, [i + 2, i]);
+// Binds each variable that has a row to the next one, in order, the first 1,000,000 at most.
+pub fn bind_chain(rows: &mut [[u32; 2]]) {
+    for (row, i) in rows.iter_mut().zip(0..1000000u32) {
+        *row = [i.saturating_add(2), i];
     }
 }
 

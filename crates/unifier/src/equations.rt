@@ -59,6 +59,7 @@ fn decide(
     Decision::Open(p, q)
 }
 
+// Stays: `decide` reads the links while it is lent the marks, which no generated proof covers behind a workspace; and `bound` counts bindings.
 // Makes r and t equal under the first `bound` bindings, if that can be, the pairs in the Rust's order; each pair of nodes is opened at most once.
 pub fn equate(
     terms: Terms,

@@ -192,7 +192,7 @@ pub fn check_three(name: &[u8], first: [u32; 2], second: [u32; 2], third: [u32; 
 // Checks variables that are each bound to the next, and a last row.
 pub fn check_chain(name: &[u8], last: u32, listed: u32, bound: u32) {
     let mut bindings = [[0u32; 2]; 50000];
-    rows::bind_chain(&mut bindings, MANY - 1);
+    rows::bind_chain(&mut bindings[..49999]);
     build::put(&mut bindings, MANY - 1, [last, listed]);
     check(name, &bindings, MANY, bound);
 }
