@@ -17,6 +17,7 @@ ghost use Rattle.words.specs.Lexer.{lex_answer, lex_rows};
 
 use arena::{TERM_ROOM, Terms};
 use bindings::StoredBindings;
+use forward_calls::WrittenTerm;
 use prover::Query;
 use refusals::{Refusal, Rejection};
 use sessions::Verdict;
@@ -284,12 +285,20 @@ pub fn horn_evaluate(
     if results.len() < 3 {
         return REFUSED;
     }
-    let limits = words::Limits {
-        words: limit,
-        ..NO_LIMITS
+    let query = evaluator::Query {
+        signature: stored_signature(sorts, symbols, rules, pattern, counts),
+        term: WrittenTerm { text, rows, at },
+        limits: words::Limits {
+            words: limit,
+            ..NO_LIMITS
+        },
     };
-    let signature = stored_signature(sorts, symbols, rules, pattern, counts);
-    match evaluator::evaluate(text, limits, signature, rows, at, words, links, trees) {
+    let mut buffers = evaluator::Buffers {
+        words,
+        links,
+        trees,
+    };
+    match evaluator::evaluate(query, &mut buffers) {
         Err(refusal) => {
             clear_numbers(results, refusal);
             packed_refusal(refusal)
@@ -323,7 +332,8 @@ pub fn horn_is_forward_call(
         return REFUSED;
     }
     let signature = stored_signature(sorts, symbols, rules, pattern, counts);
-    match evaluator::is_forward_call(text, signature, rows, at) {
+    let term = WrittenTerm { text, rows, at };
+    match evaluator::is_forward_call(signature, term) {
         Ok(true) => 1,
         Ok(false) => 0,
         Err(refusal) => packed_refusal(refusal),
