@@ -117,12 +117,11 @@ fn are_names_distinct(text: &[u8], sorts: &[SortRow], symbols: &[SymbolRow]) -> 
     ensures { Tells result (Distinct (names_of (sorts_of text.now sorts.now (length sorts.now)) (symbols_of text.now symbols.now (length symbols.now)))) }
 {
     let mut places = [[0u32; 2]; NAMES];
-    let mut spare = [[0u32; 2]; NAMES];
     let n = sorts.len();
     let m = symbols.len();
     places[..n].copy_from_slice(sorts);
     put_places(symbols, 0, &mut places[n..n + m]);
-    distinct::are_distinct(text, &mut places, &mut spare, n + m)
+    distinct::are_distinct(text, &mut places[..n + m])
 }
 
 // Are a symbol's output, number of inputs and free column in form?
