@@ -16,6 +16,7 @@ ghost use Rattle.sessions.specs.Answers.{answer_in};
 ghost use Rattle.words.specs.Lexer.{lex_answer, lex_rows};
 
 use arena::{TERM_ROOM, Terms};
+use evaluator::{Buffers, WrittenTerm};
 use prover::Query;
 use refusals::{Refusal, Rejection};
 use sessions::Verdict;
@@ -279,7 +280,13 @@ pub fn horn_evaluate(
         ..NO_LIMITS
     };
     let signature = stored_signature(sorts, symbols, rules, pattern, counts);
-    match evaluator::evaluate(text, limits, signature, rows, at, words, links, trees) {
+    let term = WrittenTerm { text, rows, at };
+    let mut buffers = Buffers {
+        words,
+        links,
+        trees,
+    };
+    match evaluator::evaluate(signature, term, limits, &mut buffers) {
         Err(refusal) => {
             clear_numbers(results, refusal);
             packed_refusal(refusal)
@@ -313,7 +320,8 @@ pub fn horn_is_forward_call(
         return REFUSED;
     }
     let signature = stored_signature(sorts, symbols, rules, pattern, counts);
-    match evaluator::is_forward_call(text, signature, rows, at) {
+    let term = WrittenTerm { text, rows, at };
+    match evaluator::is_forward_call(signature, term) {
         Ok(true) => 1,
         Ok(false) => 0,
         Err(refusal) => packed_refusal(refusal),
