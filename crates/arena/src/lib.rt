@@ -31,6 +31,7 @@ pub struct Terms<'a> {
 }
 
 // Writes a node, its header and its arguments, from the address `used` on.
+// Stays: it is written behind the words in use, so that those lent go on past them.
 pub fn push_node(words: &mut [u32], used: u32, header: u32, arguments: &[u32])
     // The node has room: the caller counts words before it writes.
     requires { used + 1 + length arguments.now ≤ length words.old }

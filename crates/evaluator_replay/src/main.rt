@@ -10,7 +10,7 @@ use evaluation_tests_kit::lent::{self, Query};
 use evaluation_tests_kit::refused;
 use evaluator::{Buffers, Evaluation, WrittenTerm};
 use listing::recorded;
-use load::EvalRow;
+use load::{EvalRow, LentBuffers};
 use names::TermRow;
 use refusals::Refusal;
 use signature::StoredSignature;
@@ -219,18 +219,17 @@ fn list_text(text: &[u8], limits: Limits) {
     let mut rules = [[0u32; 154]; 1024];
     let mut pattern = [0u32; 8192];
     let mut evals = [[0u32; 2]; 8192];
-    match load::load(
-        text,
-        limits,
-        &mut tokens,
-        &mut rows,
-        &mut calls,
-        &mut sorts,
-        &mut symbols,
-        &mut rules,
-        &mut pattern,
-        &mut evals,
-    ) {
+    let mut lent = LentBuffers {
+        tokens: &mut tokens,
+        rows: &mut rows,
+        calls: &mut calls,
+        sorts: &mut sorts,
+        symbols: &mut symbols,
+        rules: &mut rules,
+        words: &mut pattern,
+        evals: &mut evals,
+    };
+    match load::load(text, limits, &mut lent) {
         Err(rejection) => listing::write_refusal(rejection),
         Ok(loaded) => {
             let signature = StoredSignature {
@@ -241,8 +240,8 @@ fn list_text(text: &[u8], limits: Limits) {
                 counts: loaded.counts,
             };
             let count = usize::min(loaded.evals as usize, evals.len());
-            let loaded = loaded_text(text, signature, &rows, &evals[..count], limits);
-            list_loaded(loaded);
+            let listed = loaded_text(text, signature, &rows, &evals[..count], limits);
+            list_loaded(listed);
         }
     }
 }

@@ -31,6 +31,7 @@ fn place_variable(places: &mut [u32], x: u32, count: u32) -> u32
 
 // Meets the variables of a pattern's term from left to right; none if the term takes more than `most` words. The first `count` places are given, and the
 // stack has a row for each word, since a node takes at least one.
+// Stays: `count` is how many places were given, and the table has one for each variable.
 pub fn meet(
     words: &[u32],
     reference: u32,

@@ -13,7 +13,8 @@ ghost use Rattle.search_machine.specs.Groups.{IsLent};
 ghost use Rattle.signature.specs.Storage.{store_of};
 ghost use Rattle.sessions.specs.Answers.{answer_in};
 ghost use Rattle.sessions.specs.Promises.{ProveReady, Proving};
-ghost use Rattle.prover.specs.Queries.{asked_of, asked_in, session_of, session_in, given_of, given_in};
+ghost use Rattle.sessions.specs.Storage.{session_store};
+ghost use Rattle.prover.specs.Queries.{asked_of, asked_in, session_in, given_of, given_in};
 ghost use Rattle.prover.specs.Proving.{ClearedReady, ProveLeft};
 
 use clearing::clear_past;
@@ -22,7 +23,7 @@ use preparing::{is_too_much, prepare};
 use refusals::Refusal;
 use search_machine::{Allowed, Program, Store};
 use searching::search_goal;
-use sessions::{NameRow, SessionCounts, Verdict};
+use sessions::{NameRow, SessionCounts, StoredSession, Verdict};
 use signature::StoredSignature;
 use testing::is_ready;
 use words::Limits;
@@ -112,12 +113,16 @@ pub fn prove(
     proof: &mut [ProofRow],
 ) -> Result<Verdict, Refusal>
     ensures { Proving (store_of signature.entry) (asked_of query.entry proof.old links.old marks.old stack.old)
-        (session_of names.old words.old bindings.old) session
+        (session_store names.old words.old bindings.old) session
         (given_of (answer_in result) names.new words.new bindings.new proof.new links.new marks.new stack.new) }
 {
-    if !is_ready(
-        signature, query, names, words, bindings, session, links, marks, stack, proof,
-    ) {
+    let stored = StoredSession {
+        names,
+        words,
+        bindings,
+        counts: session,
+    };
+    if !is_ready(signature, query, stored, links, marks, stack, proof) {
         return Err(Refusal::Storage);
     }
     let mut store = Store {

@@ -30,6 +30,10 @@ use Rattle.search_machine.specs.declared.Mode.TheVariants.{Enter, Try, Fail, Pro
 
 -- The goal's header
 
+-- The goal leads to a variable.
+pub heads_nothing : {W : List ℕ} {T : Rows} {v u t g : ℕ} → Heads W T v u t g 0
+heads_nothing = record { clash = λ P s h n z d. absurd (z refl) }
+
 module _ {W : List ℕ} {T : Rows} {v u t g q : ℕ} (walked : Walked term_room W T v u t g q) (node : term_room ≤ q) where
   -- It leads to a node.
   pub heads_node : Heads W T v u t g (cells W (q - term_room))

@@ -296,6 +296,13 @@ module _ {a : Allowed} {P : List ℕ} {R F : Rows} {W : List ℕ} {T L M S : Row
   pub ready_known : Ready a P R F W T L M S m → m.mode ≡ Fail → Known a F T m
   ready_known r e = record { mode = e; pattern = P; rules = R; words = W; start = r.start; result = r.result; holds = r.holds }
 
+-- A mode is live or stopped.
+pub live_goes : (k : Mode) → Live k → (◌≡◌ {A = Bool} true true → Live k) × (◌≡◌ {A = Bool} true false → Stopped k)
+live_goes k l = (λ _. l, λ q. true_false {b = true} refl q)
+
+pub live_stops : (k : Mode) → Stopped k → (◌≡◌ {A = Bool} false true → Live k) × (◌≡◌ {A = Bool} false false → Stopped k)
+live_stops k l = (λ q. true_false {b = false} q refl, λ _. l)
+
 -- The loop's invariant: what the state means is what the first one meant.
 pub record Going (a : Allowed) (P : List ℕ) (R F₀ F : Rows) (W₀ W : List ℕ) (T₀ T L₀ L M₀ M S₀ S : Rows) (m₀ m : Machine) : Type 0 where
   pub ready : Ready a P R F W T L M S m

@@ -24,9 +24,13 @@ pub record SessionStore : Type 0 where
   pub words : List ℕ
   pub bindings : Rows
 
--- What a struct of references to it holds.
+-- That of buffers that are lent one by one,
+abbrev pub session_store : Rows → List ℕ → Rows → SessionStore
+session_store names words bindings = record { names = names; words = words; bindings = bindings }
+
+-- and of a struct of references to them.
 abbrev pub part_in : StoredSession → SessionStore
-part_in s = record { names = s.names.now; words = s.words.now; bindings = s.bindings.now }
+part_in s = session_store s.names.now s.words.now s.bindings.now
 
 -- Scratch, zero before and after each call: links and marks by reference, and a stack.
 pub record Workspace : Type 0 where
