@@ -17,7 +17,7 @@ ghost use Rattle.words.specs.Lexer.{lex_answer, lex_rows};
 
 use arena::{TERM_ROOM, Terms};
 use bindings::StoredBindings;
-use forward_calls::WrittenTerm;
+use evaluator::{Buffers, WrittenTerm};
 use prover::Query;
 use refusals::{Refusal, Rejection};
 use sessions::Verdict;
@@ -285,20 +285,18 @@ pub fn horn_evaluate(
     if results.len() < 3 {
         return REFUSED;
     }
-    let query = evaluator::Query {
-        signature: stored_signature(sorts, symbols, rules, pattern, counts),
-        term: WrittenTerm { text, rows, at },
-        limits: words::Limits {
-            words: limit,
-            ..NO_LIMITS
-        },
+    let limits = words::Limits {
+        words: limit,
+        ..NO_LIMITS
     };
-    let mut buffers = evaluator::Buffers {
+    let signature = stored_signature(sorts, symbols, rules, pattern, counts);
+    let term = WrittenTerm { text, rows, at };
+    let mut buffers = Buffers {
         words,
         links,
         trees,
     };
-    match evaluator::evaluate(query, &mut buffers) {
+    match evaluator::evaluate(signature, term, limits, &mut buffers) {
         Err(refusal) => {
             clear_numbers(results, refusal);
             packed_refusal(refusal)

@@ -3,9 +3,19 @@ ghost use Rattle.std.specs.Prelude.{replicate};
 ghost use Rattle.signature_tests.specs.Rows.{junk, Filled};
 ghost use Rattle.evaluator.specs.Storage.{AreLent};
 
-use evaluator::{Buffers, Evaluation, Query};
+use evaluator::{Buffers, Evaluation, WrittenTerm};
 use refusals::Refusal;
+use signature::StoredSignature;
 use signature_tests::buffers;
+use words::Limits;
+
+// What is evaluated: a term, over a signature, under limits.
+#[derive(Clone, Copy)]
+pub struct Query<'a> {
+    pub signature: StoredSignature<'a>,
+    pub term: WrittenTerm<'a>,
+    pub limits: Limits,
+}
 
 // Fills the buffers with junk.
 fn fill(storage: &mut Buffers)
@@ -23,7 +33,7 @@ pub fn evaluate(query: Query, storage: &mut Buffers) -> Result<Evaluation, Refus
     ensures { AreLent storage.old storage.new }
 {
     fill(storage);
-    evaluator::evaluate(query, storage)
+    evaluator::evaluate(query.signature, query.term, query.limits, storage)
 }
 
 // Tests that the words past those used and the rows past those of the calls hold the value, and the links throughout.

@@ -3,8 +3,8 @@ ghost use Rattle.std.specs.Prelude.{◌≡◌};
 ghost use Rattle.evaluation_tests_kit.specs.Refusals.{is_refused};
 ghost use Rattle.evaluator.specs.Storage.{AreLent};
 
-use crate::lent;
-use evaluator::{Buffers, Query, WrittenTerm};
+use crate::lent::{self, Query};
+use evaluator::{Buffers, WrittenTerm};
 use function_calls::TreeRow;
 use refusals::Refusal;
 use signature::{Counts, StoredSignature};

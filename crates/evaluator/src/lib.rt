@@ -28,14 +28,6 @@ pub struct Evaluation {
     pub words: u32,
 }
 
-// What is evaluated: a term, over a signature, under limits.
-#[derive(Clone, Copy)]
-pub struct Query<'a> {
-    pub signature: StoredSignature<'a>,
-    pub term: WrittenTerm<'a>,
-    pub limits: Limits,
-}
-
 // What an evaluation is lent to write: words for values, links for comparing them, and rows for the trees of its calls.
 #[derive(Drop)]
 pub struct Buffers<'a> {
@@ -79,15 +71,18 @@ impl Buffers<'_> {
 }
 
 // The value of a term, and the trees of its calls, where all that is read is in form and the buffers are long enough.
-pub fn evaluate_listed(query: Query, buffers: &mut Buffers) -> Result<Evaluation, Refusal>
-    requires { Ready query.term.text.now query.limits (store_of query.signature) query.term.rows.now query.term.at (results_in buffers.old) }
-    ensures left { EvaluationLeft query.entry.term.text.now query.entry.limits (store_of query.entry.signature)
-        query.entry.term.rows.now query.entry.term.at
+pub fn evaluate_listed(
+    signature: StoredSignature,
+    term: WrittenTerm,
+    limits: Limits,
+    buffers: &mut Buffers,
+) -> Result<Evaluation, Refusal>
+    requires { Ready term.text.now limits (store_of signature) term.rows.now term.at (results_in buffers.old) }
+    ensures left { EvaluationLeft term.entry.text.now limits (store_of signature.entry) term.entry.rows.now term.entry.at
         (results_in buffers.old) result (results_in buffers.new) }
     ensures lent { AreLent buffers.old buffers.new }
 {
-    let signature = query.signature;
-    let most = query.limits.capped().words;
+    let most = limits.capped().words;
     let program = Program {
         symbols: &signature.symbols[..signature.counts.symbols as usize],
         rules: signature.rules,
@@ -103,7 +98,7 @@ pub fn evaluate_listed(query: Query, buffers: &mut Buffers) -> Result<Evaluation
         stack: &mut stack,
     };
     let nothing = Spent { calls: 0, used: 0 };
-    match expressions::expression(query.term, program, 0, nothing, &mut store) {
+    match expressions::expression(term, program, 0, nothing, &mut store) {
         Err(refusal) => {
             buffers.wipe();
             Err(refusal)
@@ -122,23 +117,26 @@ pub fn evaluate_listed(query: Query, buffers: &mut Buffers) -> Result<Evaluation
 }
 
 // The value of a term, and the trees of its calls.
-pub fn evaluate(query: Query, buffers: &mut Buffers) -> Result<Evaluation, Refusal>
-    ensures evaluating { Evaluating query.entry.term.text.now query.entry.limits (store_of query.entry.signature)
-        query.entry.term.rows.now query.entry.term.at
+pub fn evaluate(
+    signature: StoredSignature,
+    term: WrittenTerm,
+    limits: Limits,
+    buffers: &mut Buffers,
+) -> Result<Evaluation, Refusal>
+    ensures evaluating { Evaluating term.entry.text.now limits (store_of signature.entry) term.entry.rows.now term.entry.at
         (results_in buffers.old) result (results_in buffers.new) }
     ensures lent { AreLent buffers.old buffers.new }
 {
-    if buffers.are_short(query.limits.capped().words) {
+    if buffers.are_short(limits.capped().words) {
         return Err(Refusal::Storage);
     }
-    let term = query.term;
-    if !signature::check_signature(term.text, query.signature) {
+    if !signature::check_signature(term.text, signature) {
         return Err(Refusal::Storage);
     }
     let Some(_) = term_check::check_term(term.text, term.rows, term.at) else {
         return Err(Refusal::Storage);
     };
-    evaluate_listed(query, buffers)
+    evaluate_listed(signature, term, limits, buffers)
 }
 
 // Whether a term is evaluated, as an `#eval`: a function's name with all arguments but its result, and no metavariable.
