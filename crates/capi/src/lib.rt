@@ -201,9 +201,17 @@ pub fn horn_load(
         nodes,
         ..NO_LIMITS
     };
-    match load::load(
-        text, limits, tokens, rows, calls, sorts, symbols, rules, words, evals,
-    ) {
+    let mut buffers = load::LentBuffers {
+        tokens,
+        rows,
+        calls,
+        sorts,
+        symbols,
+        rules,
+        words,
+        evals,
+    };
+    match load::load(text, limits, &mut buffers) {
         Err(rejection) => {
             clear_numbers(counts, rejection.refusal);
             packed_rejection(rejection)

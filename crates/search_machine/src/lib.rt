@@ -90,6 +90,7 @@ impl Mode {
 }
 
 // The machine's state beside its storage.
+// Stays: `cut` tells of the whole search; no field has its meaning from it alone, so that an option would hold nothing.
 #[derive(Clone, Copy)]
 pub struct Machine {
     pub mode: Mode,
@@ -101,7 +102,6 @@ pub struct Machine {
     pub frames: u32,
     // Steps left, and whether a goal was cut off.
     pub steps: u32,
-    // Stays: it tells of the whole search, no other field means something only with it, and an option would hold nothing.
     pub cut: bool,
     // Variables, bindings and words in use.
     pub counter: u32,
