@@ -3,6 +3,8 @@
 
 #![tactic(auto)]
 
+use arena::Terms;
+
 // A term that was built: the first free address behind it, and its reference.
 #[derive(Clone, Copy)]
 struct Built {
@@ -58,7 +60,13 @@ fn compare(words: &[u32], links: &mut [u32], used: u32, a: u32, b: u32) -> u8 {
         return b'x';
     }
     arena::clear(links, 0);
-    if arena::equal(words, links, 64, 2, used, a, b) {
+    let terms = Terms {
+        words,
+        room: 64,
+        variables: 2,
+        used,
+    };
+    if arena::equal(terms, links, a, b) {
         return b'y';
     }
     b'n'

@@ -6,7 +6,7 @@ ghost use Rattle.arena.specs.Copies.{pattern_room};
 ghost use Rattle.clause_matching.specs.Stored.{pattern_at};
 ghost use Rattle.clause_matching.specs.Matching.{Lent, Matched, BindAsked};
 
-use arena::{PATTERN_ROOM, SYMBOL_STEP};
+use arena::{PATTERN_ROOM, SYMBOL_STEP, Terms};
 
 // Values: words of stored terms, of which so many are in use.
 #[derive(Clone, Copy)]
@@ -32,7 +32,13 @@ fn take(
         environment[i] = value + 1;
         return true;
     }
-    arena::equal(values.words, links, 0, 0, values.used, old - 1, value)
+    let terms = Terms {
+        words: values.words,
+        room: 0,
+        variables: 0,
+        used: values.used,
+    };
+    arena::equal(terms, links, old - 1, value)
 }
 
 // As `bind`, of a pattern that is a node.

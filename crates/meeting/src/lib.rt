@@ -86,13 +86,12 @@ pub fn meet(
     }
 }
 
-// Whether the first `count` variables have their own numbers as places: they were met in order.
-pub fn is_in_order(places: &[u32], count: u32) -> bool
-    requires { count ≤ length places.now }
-    ensures { result ≡ in_order places.now count }
+// Whether these variables have their own numbers as places: they were met in order.
+pub fn is_in_order(places: &[u32]) -> bool
+    ensures { result ≡ in_order places.now (length places.now) }
 {
-    for x in 0..count {
-        if places[x as usize] != x {
+    for x in 0..places.len() {
+        if places[x] as usize != x {
             return false;
         }
     }

@@ -245,7 +245,7 @@ fn is_in_order(rule: PlacedRule, stack: &mut [[u32; 2]]) -> bool
     if all != row[3] {
         return false;
     }
-    meeting::is_in_order(&places, all)
+    meeting::is_in_order(&places[..all as usize])
 }
 
 // Meets the variables of a row's premises from the last to the first, behind those met before.

@@ -1,6 +1,12 @@
 -- `is_ready` meets its contract: what the tests tell together is what `unify` asks.
-use Rattle.checks.proofs.Laws.{ready_told}
+use Rattle.bindings.specs.Checking.{tells_false}
+use Rattle.checks.specs.ReadyLaws.{free_zeros}
+use Rattle.checks.proofs.Laws.{ready_no, ready_told}
 use Rattle.checks.proofs.is_ready.Goals as goal
+
+pub returns-then-not-are_zero : goal.returns-then-not-are_zero
+returns-then-not-are_zero c =
+    ready_no c.is_form.ensures.kept (λ r. tells_false c.are_zero.ensures c.if-not-are_zero.true (free_zeros r.scratch.links_free))
 
 pub returns : goal.returns
 returns c =
