@@ -16,10 +16,13 @@ ghost use Rattle.sessions.specs.Answers.{answer_in};
 ghost use Rattle.words.specs.Lexer.{lex_answer, lex_rows};
 
 use arena::{TERM_ROOM, Terms};
+use bindings::StoredBindings;
+use evaluator::{Buffers, WrittenTerm};
 use prover::Query;
 use refusals::{Refusal, Rejection};
 use sessions::Verdict;
 use signature::StoredSignature;
+use unifier::Workspace;
 
 // A refusal is told as so many times its number: more than any count and any line.
 const REFUSAL: u64 = 0x1_0000_0000;
@@ -205,9 +208,17 @@ pub fn horn_load(
         nodes,
         ..NO_LIMITS
     };
-    match load::load(
-        text, limits, tokens, rows, calls, sorts, symbols, rules, words, evals,
-    ) {
+    let mut buffers = load::LentBuffers {
+        tokens,
+        rows,
+        calls,
+        sorts,
+        symbols,
+        rules,
+        words,
+        evals,
+    };
+    match load::load(text, limits, &mut buffers) {
         Err(rejection) => {
             clear_numbers(counts, rejection.refusal);
             packed_rejection(rejection)
@@ -286,7 +297,13 @@ pub fn horn_evaluate(
         ..NO_LIMITS
     };
     let signature = stored_signature(sorts, symbols, rules, pattern, counts);
-    match evaluator::evaluate(text, limits, signature, rows, at, words, links, trees) {
+    let term = WrittenTerm { text, rows, at };
+    let mut buffers = Buffers {
+        words,
+        links,
+        trees,
+    };
+    match evaluator::evaluate(signature, term, limits, &mut buffers) {
         Err(refusal) => {
             clear_numbers(results, refusal);
             packed_refusal(refusal)
@@ -320,7 +337,8 @@ pub fn horn_is_forward_call(
         return REFUSED;
     }
     let signature = stored_signature(sorts, symbols, rules, pattern, counts);
-    match evaluator::is_forward_call(text, signature, rows, at) {
+    let term = WrittenTerm { text, rows, at };
+    match evaluator::is_forward_call(signature, term) {
         Ok(true) => 1,
         Ok(false) => 0,
         Err(refusal) => packed_refusal(refusal),
@@ -471,17 +489,24 @@ pub fn horn_unify(
     ensures { Answered words.now bindings.old bindings.new links.old links.new
         marks.old marks.new stack.old stack.new variables used bound left right result }
 {
-    if !checks::is_ready(
-        words, bindings, links, marks, stack, variables, used, bound, left, right,
-    ) {
-        return REFUSED;
-    }
     let terms = Terms {
         words,
         room: TERM_ROOM,
         variables,
         used,
     };
-    let ended = unifier::unify(terms, bindings, links, marks, stack, bound, left, right);
+    let held = StoredBindings {
+        rows: bindings,
+        bound,
+    };
+    if !checks::is_ready(terms, held, links, marks, stack, left, right) {
+        return REFUSED;
+    }
+    let mut workspace = Workspace {
+        links,
+        marks,
+        stack,
+    };
+    let ended = unifier::unify(terms, bindings, &mut workspace, bound, left, right);
     unifier::packed(ended, bound)
 }

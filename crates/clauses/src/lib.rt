@@ -8,10 +8,18 @@ ghost use Rattle.names.specs.Symbols.{symbols_of};
 ghost use Rattle.clauses.specs.Promises.{Skipped, HeadingAsked, Headed, ClauseAsked, ClauseEntered};
 
 use flattening::Place;
-use names::{SymbolRow, TermRow};
+use names::{SourceTerms, TermRow};
 use refusals::Refusal;
-use rules::{RuleRow, Space, Title};
+use rules::{RuleRow, SourceRule, Space, Title};
 use term_parser::APPLICATION;
+
+// A clause of a function: source terms, among which its n patterns stand from the row `at` on, with the right side behind them.
+#[derive(Clone, Copy)]
+pub struct SourceClause<'a> {
+    pub source: SourceTerms<'a>,
+    pub at: usize,
+    pub n: usize,
+}
 
 // A rule that is entered: the row behind it, and the space left then.
 #[derive(Clone, Copy)]
@@ -56,14 +64,9 @@ fn heading(
     end
 }
 
-// Enters the clause whose n patterns stand from a row on, with the right side behind them, as the rule with a number.
+// Enters a clause as the rule with a number. Its rows are flattened in `out` and `calls`, which are scratch.
 pub fn clause(
-    text: &[u8],
-    rows: &[TermRow],
-    at: usize,
-    n: usize,
-    symbols: &[SymbolRow],
-    count: usize,
+    clause: SourceClause,
     words: &mut [u32],
     space: Space,
     rules: &mut [RuleRow],
@@ -72,34 +75,28 @@ pub fn clause(
     out: &mut [TermRow],
     calls: &mut [TermRow],
 ) -> Result<EnteredRule, Refusal>
-    requires { ClauseAsked text.now rows.now at n symbols.now count words.old space.used space.room rules.old out.old calls.old }
-    ensures { ClauseEntered text.now rows.now at n (symbols_of text.now symbols.now count) title words.old space.used space.room rules.old number result words.new rules.new }
+    requires { ClauseAsked clause.source.text.now clause.source.rows.now clause.at clause.n clause.source.symbols.now (length clause.source.symbols.now) words.old space.used space.room rules.old out.old calls.old }
+    ensures { ClauseEntered clause.entry.source.text.now clause.entry.source.rows.now clause.entry.at clause.entry.n (symbols_of clause.entry.source.text.now clause.entry.source.symbols.now (length clause.entry.source.symbols.now)) title words.old space.used space.room rules.old number result words.new rules.new }
 {
-    let right = heading(rows, at, n, title.start, title.size, out);
+    let SourceClause { source, at, n } = clause;
+    let right = heading(source.rows, at, n, title.start, title.size, out);
     let from = Place {
         next: right,
         top: right - at + 1,
         end: 0,
         number: 0,
     };
-    let flat = flattening::flatten(text, rows, symbols, count, out, calls, from).ok_or(
-        Refusal::Full,
-    )?;
-    let left = rules::rule(
-        text,
-        calls,
-        0,
-        flat.number,
-        out,
-        0,
-        symbols,
-        count,
-        words,
-        space,
-        rules,
-        number,
-        title,
-    )?;
+    let flat = flattening::flatten(source, out, calls, from).ok_or(Refusal::Full)?;
+    let rule = SourceRule {
+        text: source.text,
+        symbols: source.symbols,
+        premises: calls,
+        at: 0,
+        n: flat.number,
+        conclusions: out,
+        here: 0,
+    };
+    let left = rules::rule(rule, words, space, rules, number, title)?;
     Ok(EnteredRule {
         next: flat.next,
         space: left,

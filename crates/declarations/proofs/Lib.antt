@@ -1,4 +1,5 @@
 -- The laws that several proofs cite.
+pub mod UsedLaws
 pub mod ProgressLaws
 pub mod StoredLaws
 pub mod FilledLaws

@@ -1,3 +1,4 @@
 -- What the contracts of `declarations` cite, in reading order.
 pub mod Held
 pub mod Steps
+pub mod Lent

@@ -9,9 +9,11 @@ ghost use Rattle.names.specs.Symbols.{column, row_at, sorts_of, symbols_of};
 ghost use Rattle.loader.specs.Signature.{sort_refusal};
 ghost use Rattle.loader.specs.Rows.{entered};
 ghost use Rattle.declarations.specs.Steps.{name_at, GoesTo, sort_progress, SymbolAsked, SymbolDeclared, Told, progress_of, RuleAsked, RuleDeclared, ClauseAsked, ClauseDeclared, ClausesAsked, ClausesDeclared, DefAsked, DefDeclared, DeclareAsked, DeclareDone};
+ghost use Rattle.declarations.specs.Lent.{IsLent};
 
-use clauses::EnteredRule;
-use names::{SortRow, SymbolRow, TermRow};
+use clauses::{EnteredRule, SourceClause};
+use loader::{FUNCTION, Kind, NO_FUNCTION, Part, Word};
+use names::{SortRow, SourceTerms, SymbolRow, TermRow};
 use refusals::Refusal;
 use rules::{RuleRow, Space, Title};
 use words::{CTOR, DEF, EVAL, PRED, RULE, SORT};
@@ -33,6 +35,23 @@ pub struct Progress {
     pub state: State,
 }
 
+// A declaration in rows: their text, and the row at which it stands.
+#[derive(Clone, Copy)]
+pub struct Source<'a> {
+    pub text: &'a [u8],
+    pub rows: &'a [TermRow],
+    pub at: usize,
+}
+
+// What rules are written to: their rows and words, and scratch in which clauses are flattened.
+#[derive(Drop)]
+pub struct Store<'a> {
+    pub rules: &'a mut [RuleRow],
+    pub words: &'a mut [u32],
+    pub out: &'a mut [TermRow],
+    pub calls: &'a mut [TermRow],
+}
+
 // The room for the nodes of a rule, where so many are left in all.
 fn room(left: usize) -> usize
     ensures { result ≡ min 1024 left }
@@ -42,27 +61,19 @@ fn room(left: usize) -> usize
 
 // `sort`: the name stands in the row behind the declaration's.
 fn declare_sort(
-    text: &[u8],
-    rows: &[TermRow],
-    at: usize,
+    source: Source,
     sorts: &mut [SortRow],
     symbols: &[SymbolRow],
     state: State,
 ) -> Result<Progress, Refusal>
-    requires { (at + 2 ≤ length rows.now) × (length rows.now ≤ 65536) × (256 ≤ length sorts.old) × (state.sorts ≤ 256) × (state.symbols ≤ length symbols.now) }
-    ensures value { GoesTo (sort_refusal (sorts_of text.now sorts.old state.sorts) (symbols_of text.now symbols.now state.symbols) (name_at text.now rows.now (at + 1))) (sort_progress at state) result }
-    ensures sorts_after { sorts.new ≡ entered (sort_refusal (sorts_of text.now sorts.old state.sorts) (symbols_of text.now symbols.now state.symbols) (name_at text.now rows.now (at + 1))) sorts.old state.sorts (column (row_at rows.now (at + 1)) 1 ∷ column (row_at rows.now (at + 1)) 2 ∷ []) }
+    requires { (source.at + 2 ≤ length source.rows.now) × (length source.rows.now ≤ 65536) × (256 ≤ length sorts.old) × (state.sorts ≤ 256) × (state.symbols ≤ length symbols.now) }
+    ensures value { GoesTo (sort_refusal (sorts_of source.entry.text.now sorts.old state.sorts) (symbols_of source.entry.text.now symbols.now state.symbols) (name_at source.entry.text.now source.entry.rows.now (source.entry.at + 1))) (sort_progress source.entry.at state) result }
+    ensures sorts_after { sorts.new ≡ entered (sort_refusal (sorts_of source.entry.text.now sorts.old state.sorts) (symbols_of source.entry.text.now symbols.now state.symbols) (name_at source.entry.text.now source.entry.rows.now (source.entry.at + 1))) sorts.old state.sorts (column (row_at source.entry.rows.now (source.entry.at + 1)) 1 ∷ column (row_at source.entry.rows.now (source.entry.at + 1)) 2 ∷ []) }
 {
+    let Source { text, rows, at } = source;
     let [_, start, size, _] = rows[at + 1];
-    loader::enter_sort(
-        text,
-        sorts,
-        state.sorts,
-        symbols,
-        state.symbols,
-        start,
-        size,
-    )?;
+    let word = Word { start, size };
+    loader::enter_sort(text, sorts, state.sorts, &symbols[..state.symbols], word)?;
     Ok(Progress {
         next: at + 2,
         state: State {
@@ -74,32 +85,30 @@ fn declare_sort(
 
 // `ctor` and `pred`: the sorts stand behind the row of the name.
 fn declare_symbol(
-    text: &[u8],
-    rows: &[TermRow],
-    at: usize,
+    source: Source,
     constructor: bool,
     sorts: &[SortRow],
     symbols: &mut [SymbolRow],
     state: State,
 ) -> Result<Progress, Refusal>
-    requires { SymbolAsked rows.now at sorts.now symbols.old state }
-    ensures { SymbolDeclared text.now rows.now at constructor sorts.now symbols.old state result symbols.new }
+    requires { SymbolAsked source.rows.now source.at sorts.now symbols.old state }
+    ensures { SymbolDeclared source.entry.text.now source.entry.rows.now source.entry.at constructor sorts.now symbols.old state result symbols.new }
 {
+    let Source { text, rows, at } = source;
     let k = rows[at][2] as usize;
-    loader::enter_symbol(
+    let part = Part {
         text,
         rows,
-        at + 1,
+        at: at + 1,
         k,
+    };
+    let kind = Kind {
         constructor,
-        0,
-        0,
-        0,
-        sorts,
-        state.sorts,
-        symbols,
-        state.symbols,
-    )?;
+        function: NO_FUNCTION,
+        first: 0,
+        clauses: 0,
+    };
+    loader::enter_symbol(part, kind, &sorts[..state.sorts], symbols, state.symbols)?;
     Ok(Progress {
         next: at + 2 + k,
         state: State {
@@ -128,17 +137,16 @@ fn told(state: State, m: usize, outcome: Result<EnteredRule, Refusal>) -> Result
 
 // `rule`: the judgments stand behind the row of the name.
 fn declare_rule(
-    text: &[u8],
-    rows: &[TermRow],
-    at: usize,
+    source: Source,
     symbols: &[SymbolRow],
-    rules: &mut [RuleRow],
-    words: &mut [u32],
+    store: &mut Store,
     state: State,
 ) -> Result<Progress, Refusal>
-    requires { RuleAsked text.now rows.now at symbols.now rules.old words.old state }
-    ensures { RuleDeclared text.now rows.now at symbols.now rules.old words.old state result rules.new words.new }
+    requires { RuleAsked source.text.now source.rows.now source.at symbols.now store.old.rules.now store.old.words.now state }
+    ensures declared { RuleDeclared source.entry.text.now source.entry.rows.now source.entry.at symbols.now store.old.rules.now store.old.words.now state result store.new.rules.now store.new.words.now }
+    ensures lent { IsLent store.old store.new }
 {
+    let Source { text, rows, at } = source;
     let k = rows[at][2] as usize;
     if k == 0 {
         return Err(Refusal::NoDeclaration);
@@ -149,18 +157,19 @@ fn declare_rule(
         used: state.used,
         room: m,
     };
-    let outcome = loader::enter_rule(
+    let part = Part {
         text,
         rows,
-        at + 2,
+        at: at + 2,
         k,
-        start,
-        size,
-        symbols,
-        state.symbols,
-        words,
+    };
+    let outcome = loader::enter_rule(
+        part,
+        Word { start, size },
+        &symbols[..state.symbols],
+        store.words,
         space,
-        rules,
+        store.rules,
         state.rules,
     );
     told(state, m, outcome)
@@ -168,22 +177,18 @@ fn declare_rule(
 
 // The clause with a number of the function whose name stands at a place.
 fn declare_clause(
-    text: &[u8],
-    rows: &[TermRow],
-    at: usize,
+    source: Source,
     number: usize,
-    start: u32,
-    size: u32,
+    word: Word,
     symbols: &[SymbolRow],
-    rules: &mut [RuleRow],
-    words: &mut [u32],
-    out: &mut [TermRow],
-    calls: &mut [TermRow],
+    store: &mut Store,
     state: State,
 ) -> Result<Progress, Refusal>
-    requires { ClauseAsked text.now rows.now at number symbols.now rules.old words.old out.old calls.old state }
-    ensures { ClauseDeclared text.now rows.now at number start size symbols.now rules.old words.old state result rules.new words.new }
+    requires { ClauseAsked source.text.now source.rows.now source.at number symbols.now store.old.rules.now store.old.words.now store.old.out.now store.old.calls.now state }
+    ensures declared { ClauseDeclared source.entry.text.now source.entry.rows.now source.entry.at number word.start word.size symbols.now store.old.rules.now store.old.words.now state result store.new.rules.now store.new.words.now }
+    ensures lent { IsLent store.old store.new }
 {
+    let Source { text, rows, at } = source;
     let n = rows[at][3] as usize;
     let m = room(state.left);
     let space = Space {
@@ -191,62 +196,55 @@ fn declare_clause(
         room: m,
     };
     let title = Title {
-        start: start,
-        size: size,
+        start: word.start,
+        size: word.size,
         clause: number as u32 + 1,
     };
-    let outcome = clauses::clause(
+    let terms = SourceTerms {
         text,
         rows,
-        at + 1,
+        symbols: &symbols[..state.symbols],
+    };
+    let clause = SourceClause {
+        source: terms,
+        at: at + 1,
         n,
-        symbols,
-        state.symbols,
-        words,
+    };
+    let outcome = clauses::clause(
+        clause,
+        store.words,
         space,
-        rules,
+        store.rules,
         state.rules,
         title,
-        out,
-        calls,
+        store.out,
+        store.calls,
     );
     told(state, m, outcome)
 }
 
 // The n clauses, from a row on, of the function whose name stands at a place.
 fn declare_clauses(
-    text: &[u8],
-    rows: &[TermRow],
-    at: usize,
+    source: Source,
     n: usize,
-    start: u32,
-    size: u32,
+    word: Word,
     symbols: &[SymbolRow],
-    rules: &mut [RuleRow],
-    words: &mut [u32],
-    out: &mut [TermRow],
-    calls: &mut [TermRow],
+    store: &mut Store,
     state: State,
 ) -> Result<Progress, Refusal>
-    requires { ClausesAsked text.now rows.now at n start size symbols.now rules.old words.old out.old calls.old state }
-    ensures { ClausesDeclared text.now rows.now at n start size symbols.now rules.old words.old state result rules.new words.new }
+    requires { ClausesAsked source.text.now source.rows.now source.at n word.start word.size symbols.now store.old.rules.now store.old.words.now store.old.out.now store.old.calls.now state }
+    ensures declared { ClausesDeclared source.entry.text.now source.entry.rows.now source.entry.at n word.start word.size symbols.now store.old.rules.now store.old.words.now state result store.new.rules.now store.new.words.now }
+    ensures lent { IsLent store.old store.new }
 {
+    let Source { text, rows, at } = source;
     let mut progress = Progress { next: at, state };
     for i in 0..n {
-        progress = declare_clause(
+        let clause = Source {
             text,
             rows,
-            progress.next,
-            i,
-            start,
-            size,
-            symbols,
-            rules,
-            words,
-            out,
-            calls,
-            progress.state,
-        )?;
+            at: progress.next,
+        };
+        progress = declare_clause(clause, i, word, symbols, store, progress.state)?;
     }
     Ok(progress)
 }
@@ -265,90 +263,72 @@ fn first_clause(n: usize, number: usize) -> u32
 
 // `def`: the symbol first, and then its clauses.
 fn declare_def(
-    text: &[u8],
-    rows: &[TermRow],
-    at: usize,
+    source: Source,
     sorts: &[SortRow],
     symbols: &mut [SymbolRow],
-    rules: &mut [RuleRow],
-    words: &mut [u32],
-    out: &mut [TermRow],
-    calls: &mut [TermRow],
+    store: &mut Store,
     state: State,
 ) -> Result<Progress, Refusal>
-    requires { DefAsked text.now rows.now at sorts.now symbols.old rules.old words.old out.old calls.old state }
-    ensures { DefDeclared text.now rows.now at sorts.now symbols.old rules.old words.old state result symbols.new rules.new words.new }
+    requires { DefAsked source.text.now source.rows.now source.at sorts.now symbols.old store.old.rules.now store.old.words.now store.old.out.now store.old.calls.now state }
+    ensures declared { DefDeclared source.entry.text.now source.entry.rows.now source.entry.at sorts.now symbols.old store.old.rules.now store.old.words.now state result symbols.new store.new.rules.now store.new.words.now }
+    ensures lent { IsLent store.old store.new }
 {
+    let Source { text, rows, at } = source;
     let k = rows[at][2] as usize;
     if k == 0 {
         return Err(Refusal::NoDeclaration);
     }
     let n = rows[at][3] as usize;
     let [_, start, size, _] = rows[at + 1];
-    let first = first_clause(n, state.rules);
-    loader::enter_symbol(
+    let part = Part {
         text,
         rows,
-        at + 1,
+        at: at + 1,
         k,
-        false,
-        1,
-        first,
-        n as u32,
-        sorts,
-        state.sorts,
-        symbols,
-        state.symbols,
-    )?;
+    };
+    let kind = Kind {
+        constructor: false,
+        function: FUNCTION,
+        first: first_clause(n, state.rules),
+        clauses: n as u32,
+    };
+    loader::enter_symbol(part, kind, &sorts[..state.sorts], symbols, state.symbols)?;
     let with = State {
         symbols: state.symbols + 1,
         ..state
     };
-    declare_clauses(
+    let clauses = Source {
         text,
         rows,
-        at + 2 + k,
-        n,
-        start,
-        size,
-        symbols,
-        rules,
-        words,
-        out,
-        calls,
-        with,
-    )
+        at: at + 2 + k,
+    };
+    declare_clauses(clauses, n, Word { start, size }, symbols, store, with)
 }
 
 // One declaration, by the keyword in its row. An `#eval` waits.
 pub fn declare(
-    text: &[u8],
-    rows: &[TermRow],
-    at: usize,
+    source: Source,
     sorts: &mut [SortRow],
     symbols: &mut [SymbolRow],
-    rules: &mut [RuleRow],
-    words: &mut [u32],
-    out: &mut [TermRow],
-    calls: &mut [TermRow],
+    store: &mut Store,
     state: State,
 ) -> Result<Progress, Refusal>
-    requires { DeclareAsked text.now rows.now at sorts.old symbols.old rules.old words.old out.old calls.old state }
-    ensures { DeclareDone text.now rows.now at sorts.old symbols.old rules.old words.old state result sorts.new symbols.new rules.new words.new }
+    requires { DeclareAsked source.text.now source.rows.now source.at sorts.old symbols.old store.old.rules.now store.old.words.now store.old.out.now store.old.calls.now state }
+    ensures declared { DeclareDone source.entry.text.now source.entry.rows.now source.entry.at sorts.old symbols.old store.old.rules.now store.old.words.now state result sorts.new symbols.new store.new.rules.now store.new.words.now }
+    ensures lent { IsLent store.old store.new }
 {
+    let Source { text: _, rows, at } = source;
     match rows[at][0] {
-        SORT => declare_sort(text, rows, at, sorts, symbols, state),
+        SORT => declare_sort(source, sorts, symbols, state),
         CTOR => {
             if rows[at][2] == 0 {
                 return Err(Refusal::NoDeclaration);
             }
-            declare_symbol(text, rows, at, true, sorts, symbols, state)
+            declare_symbol(source, true, sorts, symbols, state)
         }
-        PRED => declare_symbol(text, rows, at, false, sorts, symbols, state),
-        RULE => declare_rule(text, rows, at, symbols, rules, words, state),
-        DEF => declare_def(
-            text, rows, at, sorts, symbols, rules, words, out, calls, state,
-        ),
+        PRED => declare_symbol(source, false, sorts, symbols, state),
+        RULE => declare_rule(source, symbols, store, state),
+        DEF => declare_def(source, sorts, symbols, store, state),
         EVAL => Ok(Progress {
             next: clauses::skip(rows, at + 1, 1),
             state,

@@ -1,5 +1,3 @@
--- The laws that several proofs cite.
-pub mod OrderLaws
+-- The laws that the proofs cite.
 pub mod TallyLaws
-pub mod MergeLaws
 pub mod SortLaws

@@ -10,7 +10,7 @@ ghost use Rattle.names.specs.Symbols.{symbols_of};
 ghost use Rattle.flattening.specs.Flattening.{is_function};
 ghost use Rattle.flattening.specs.Promises.{call_limit, arity_of, is_call, Copied, Finishes, Room, Flattens};
 
-use names::{SymbolRow, TermRow};
+use names::{SourceTerms, SymbolRow, TermRow};
 
 // How far flattening is: the next row of the source, where the next row of the term and of the premises goes, and how many calls were made.
 #[derive(Clone, Copy)]
@@ -33,27 +33,18 @@ pub fn move_rows(source: &[TermRow], from: usize, n: usize, to: &mut [TermRow], 
 }
 
 // Is the word at a place of the text the name of a function?
-fn is_function(text: &[u8], symbols: &[SymbolRow], count: usize, start: u32, size: u32) -> bool
-    requires { count ≤ length symbols.now }
-    ensures { result ≡ is_function (symbols_of text.now symbols.now count) (part_of text.now start size) }
+fn is_function(text: &[u8], symbols: &[SymbolRow], start: u32, size: u32) -> bool
+    ensures { result ≡ is_function (symbols_of text.now symbols.now (length symbols.now)) (part_of text.now start size) }
 {
-    match names::find(text, &symbols[..count], names::part(text, start, size)) {
+    match names::find(text, symbols, names::part(text, start, size)) {
         Some(i) => symbols[i][3] == 1,
         None => false,
     }
 }
 
 // Does a row stand for a call?
-fn is_call(
-    text: &[u8],
-    symbols: &[SymbolRow],
-    count: usize,
-    kind: u32,
-    start: u32,
-    size: u32,
-) -> bool
-    requires { count ≤ length symbols.now }
-    ensures { result ≡ is_call (symbols_of text.now symbols.now count) kind (part_of text.now start size) }
+fn is_call(text: &[u8], symbols: &[SymbolRow], kind: u32, start: u32, size: u32) -> bool
+    ensures { result ≡ is_call (symbols_of text.now symbols.now (length symbols.now)) kind (part_of text.now start size) }
 {
     if kind == words::METAVARIABLE {
         return false;
@@ -61,7 +52,7 @@ fn is_call(
     if kind == words::NUMERAL {
         return false;
     }
-    is_function(text, symbols, count, start, size)
+    is_function(text, symbols, start, size)
 }
 
 // How many arguments follow a row.
@@ -82,22 +73,25 @@ fn result_length(j: usize) -> u32
     if j < 9 { 8 } else { 9 }
 }
 
-// The call whose arguments stand in `out` from `top + 1` on and before `last` becomes a premise; its result variable takes its place.
+// The call whose arguments stand in `out` from `top + 1` on and before `from.top` becomes a premise; its result variable takes its place.
 fn finish(
     out: &mut [TermRow],
     top: usize,
-    last: usize,
     calls: &mut [TermRow],
-    end: usize,
-    number: usize,
+    from: Place,
     start: u32,
     size: u32,
     args: usize,
-    next: usize,
 ) -> Option<Place>
-    requires { (top < last) × (last ≤ length out.old) × (end + last + 2 * (call_limit - number) ≤ length calls.old) × (number ≤ call_limit) × (args ≤ 65536) }
-    ensures { Finishes out.old top last calls.old end number start size args next out.new calls.new result }
+    requires { (top < from.top) × (from.top ≤ length out.old) × (from.end + from.top + 2 * (call_limit - from.number) ≤ length calls.old) × (from.number ≤ call_limit) × (args ≤ 65536) }
+    ensures { Finishes out.old top from.top calls.old from.end from.number start size args from.next out.new calls.new result }
 {
+    let Place {
+        next,
+        top: last,
+        end,
+        number,
+    } = from;
     if number == CALLS {
         return None;
     }
@@ -109,7 +103,7 @@ fn finish(
     calls[stop] = [names::RESULT, place, n, 0];
     out[top] = [names::RESULT, place, n, 0];
     Some(Place {
-        next: next,
+        next,
         top: top + 1,
         end: stop + 1,
         number: number + 1,
@@ -119,17 +113,19 @@ fn finish(
 // The term at the row `from.next`, flattened: its rows go to `out`, its calls to `calls`, each from the place on that `from` says. No term may need more
 // calls than a rule has premises.
 pub fn flatten(
-    text: &[u8],
-    rows: &[TermRow],
-    symbols: &[SymbolRow],
-    count: usize,
+    source: SourceTerms,
     out: &mut [TermRow],
     calls: &mut [TermRow],
     from: Place,
 ) -> Option<Place>
-    requires { Room rows.now from.next symbols.now count out.old from.top calls.old from.end from.number }
-    ensures { Flattens text.now rows.now from.next (symbols_of text.now symbols.now count) out.old from.top calls.old from.end from.number out.new calls.new result }
+    requires { Room source.rows.now from.next source.symbols.now (length source.symbols.now) out.old from.top calls.old from.end from.number }
+    ensures { Flattens source.entry.text.now source.entry.rows.now from.next (symbols_of source.entry.text.now source.entry.symbols.now (length source.entry.symbols.now)) out.old from.top calls.old from.end from.number out.new calls.new result }
 {
+    let SourceTerms {
+        text,
+        rows,
+        symbols,
+    } = source;
     let at = from.next;
     let top = from.top;
     // No term stands past the last row, so that any answer serves there.
@@ -142,25 +138,13 @@ pub fn flatten(
     let mut place = Place {
         next: at + 1,
         top: top + 1,
-        end: from.end,
-        number: from.number,
+        ..from
     };
     for _i in 0..n {
-        place = flatten(text, rows, symbols, count, out, calls, place)?;
+        place = flatten(source, out, calls, place)?;
     }
-    if is_call(text, symbols, count, kind, start, size) {
-        return finish(
-            out,
-            top,
-            place.top,
-            calls,
-            place.end,
-            place.number,
-            start,
-            size,
-            n,
-            place.next,
-        );
+    if is_call(text, symbols, kind, start, size) {
+        return finish(out, top, calls, place, start, size, n);
     }
     Some(place)
 }

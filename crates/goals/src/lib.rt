@@ -12,16 +12,19 @@ ghost use Rattle.patterns.specs.Promises.{Ready};
 ghost use Rattle.sessions.specs.Goals.{variable_for};
 ghost use Rattle.sessions.specs.Storage.{names_in};
 ghost use Rattle.goals.specs.Compiling.{Bounds, GoalMade};
-ghost use Rattle.goals.specs.Storing.{NamesEntered, PlacesPut, StoreAsked, GoalStored};
+ghost use Rattle.goals.specs.Storing.{NamesEntered, StoreAsked, GoalStored};
 
 use arena::{PATTERN_ROOM, TERM_ROOM};
-use names::{SymbolRow, TermRow, VariableRow};
+use names::{SourceTerms, VariableRow};
 use patterns::Place;
 use refusals::Refusal;
 use sessions::{NameRow, SessionCounts};
 
 // How many nodes a goal may have.
 const NODES: usize = 1024;
+
+// The column of a name's row that has its variable.
+const VARIABLE: usize = 4;
 
 // A compiled goal: its reference, how many variables there are with it, the session's names first, and how many words it has.
 #[derive(Clone, Copy)]
@@ -45,18 +48,15 @@ fn copy_names(names: &[NameRow], variables: &mut [VariableRow])
 // Compiles the goal at a row against the names of a session, which are only read: its variables go to a table of 64 rows, the session's
 // names first, and its words to a buffer for 1,024 nodes.
 pub fn compile(
-    text: &[u8],
-    rows: &[TermRow],
+    source: SourceTerms,
     at: usize,
-    symbols: &[SymbolRow],
-    count: usize,
     names: &[NameRow],
     variables: &mut [VariableRow],
     words: &mut [u32],
 ) -> Result<Goal, Refusal>
-    requires { Ready symbols.now count variables.old (length names.now) words.old 0 1024 }
+    requires { Ready source.symbols.now (length source.symbols.now) variables.old (length names.now) words.old 0 1024 }
     ensures bounds { Bounds (length names.now) result }
-    ensures goal_made { GoalMade text.now rows.now at (symbols_of text.now symbols.now count)
+    ensures goal_made { GoalMade source.entry.text.now source.entry.rows.now at (symbols_of source.entry.text.now source.entry.symbols.now (length source.entry.symbols.now))
         names.now words.old result variables.new words.new }
 {
     copy_names(names, variables);
@@ -66,7 +66,7 @@ pub fn compile(
         used: 0,
         room: NODES,
     };
-    let compiled = patterns::pattern(text, rows, symbols, count, 0, variables, words, start)?;
+    let compiled = patterns::pattern(source, 0, variables, words, start)?;
     let place = compiled.place;
     if !rules::all_known(&variables[..place.variables]) {
         return Err(Refusal::SortNotKnown);
@@ -90,17 +90,8 @@ fn enter_names(variables: &[VariableRow], names: &mut [NameRow], n: usize, count
     }
 }
 
-// The variables of names, as a table of places.
-fn put_places(names: &[NameRow], places: &mut [u32])
-    requires { length names.now ≤ length places.old }
-    ensures { PlacesPut names.now (length names.now) places.new }
-{
-    for (i, row) in names.iter().enumerate() {
-        places[i] = row[4];
-    }
-}
-
 // Copies a goal's words behind the used words of a session, and answers the goal's reference there.
+// Stays: the words behind those in use are written, so a part in use would not do.
 fn copy_goal(pattern: &[u32], goal: Goal, places: &[u32], words: &mut [u32], used: u32) -> u32
     requires { (Copyable pattern.now 0 goal.words places.now words.old term_room used 0) × (Movable places.now 0 pattern_room (term_room + used) goal.node) }
     ensures value { result ≡ moved places.now 0 pattern_room (term_room + used) goal.node }
@@ -128,6 +119,6 @@ pub fn store(
     let n = counts.names as usize;
     let v = goal.variables as usize;
     enter_names(&variables[..v], names, n, counts.variables);
-    put_places(&names[..v], &mut places);
+    signature::put_column(&names[..v], VARIABLE, &mut places);
     copy_goal(pattern, goal, &places, words, counts.words)
 }

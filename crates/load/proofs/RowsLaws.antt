@@ -38,10 +38,6 @@ pub record AllEntered (text : List ℕ) (limit : ℕ) (ts : Titles) (waiting : R
   pub lent : k ≤ length evals
   pub waits : take k evals ≡ waiting
 
--- The part of the rows that is lent.
-pub part_is : {A : Type 0} (n : ℕ) (l : List A) → take (n - 0) l ≡ take n l
-part_is n l = let e : n - 0 ≡ n = omega arith in ap (λ (k : ℕ). take k l) e
-
 pub came_done : (text : List ℕ) (limit : ℕ) (ts : Titles) (waiting : Rows) (r : Walk) (sorts symbols rules : Rows) (words : List ℕ) (evals : Rows) {en : Entered} (x : Loaded)
     → Came text limit ts waiting x r sorts symbols rules words evals → r ≡ Ok en → AllEntered text limit ts waiting x en.state en.evals sorts symbols rules words evals
 came_done text limit ts waiting r sorts symbols rules words evals (refused f l) h z = absurd (subst (RejectedBy f l) z h)

@@ -3,16 +3,18 @@
 // The entry point is `load`. It asks nothing of its caller, and its contract fixes the answer and every lent buffer on all inputs.
 #![tactic(auto)]
 
-ghost use Rattle.std.specs.Prelude.{◌≡◌, cond, [], ◌∷◌, ◌+◌, ◌-◌, ◌≤◌, eqb, set};
+ghost use Rattle.std.specs.Prelude.{◌≡◌, cond, [], ◌∷◌, ◌+◌, ◌≤◌, eqb, length, set, take};
 ghost use Rattle.load.specs.Load.{noted, WalkAsked, Walked};
 ghost use Rattle.load.specs.Loading.{LoadingText};
 ghost use Rattle.load.specs.Clearing.{RowsAsked, RowsLoaded};
+ghost use Rattle.load_storage.specs.Lent.{buffers_of, IsLent};
+ghost use Rattle.declarations.specs.Lent.{IsLent as IsLentFor};
 
-use declarations::{Progress, State};
-pub use load_storage::EvalRow;
+use declarations::{Progress, Source, State, Store};
+use load_storage::Used;
+pub use load_storage::{EvalRow, LentBuffers};
 use names::{SortRow, SymbolRow, TermRow};
 use refusals::{Refusal, Rejection};
-use rules::RuleRow;
 use signature::Counts;
 use words::EVAL;
 
@@ -26,6 +28,7 @@ fn put(evals: &mut [EvalRow], i: usize, line: u32, row: u32)
 }
 
 // Keeps the line and the row of an `#eval`, whose kind is `EVAL`; answers how many there are then.
+// Stays: the row behind those in use is written, so a part in use would not do.
 fn note(evals: &mut [EvalRow], count: usize, kind: u32, line: u32, at: usize) -> usize
     requires { (at ≤ 65536) × (count ≤ 65536) }
     ensures { (result ≡ cond (eqb kind 10) (count + 1) count) × (evals.new ≡ noted evals.old count kind line at) }
@@ -44,23 +47,30 @@ struct Entered {
     evals: usize,
 }
 
-// Enters the n declarations of the rows, in text order, with so many nodes allowed in all.
-fn enter_all(
-    text: &[u8],
+// What is entered: n declarations, in the first rows of a text, with so many nodes allowed in all.
+#[derive(Clone, Copy)]
+struct Walk<'a> {
+    text: &'a [u8],
     limit: usize,
+    n: u32,
+    used: usize,
+}
+
+// Enters the declarations in text order.
+fn enter_all(
+    walk: Walk,
     rows: &[TermRow],
-    n: usize,
     sorts: &mut [SortRow],
     symbols: &mut [SymbolRow],
-    rules: &mut [RuleRow],
-    words: &mut [u32],
+    store: &mut Store,
     evals: &mut [EvalRow],
-    out: &mut [TermRow],
-    calls: &mut [TermRow],
 ) -> Result<Entered, Rejection>
-    requires { WalkAsked text.now limit rows.now n sorts.old symbols.old rules.old words.old evals.old out.old calls.old }
-    ensures { Walked text.now limit rows.now n result sorts.new symbols.new rules.new words.new evals.new }
+    requires { (walk.used ≤ length rows.now) × WalkAsked walk.text.now walk.limit (take walk.used rows.now) walk.n sorts.old symbols.old store.old.rules.now store.old.words.now evals.old store.old.out.now store.old.calls.now }
+    ensures walked { Walked walk.entry.text.now walk.entry.limit (take walk.entry.used rows.now) walk.entry.n result sorts.new symbols.new store.new.rules.now store.new.words.now evals.new }
+    ensures lent { IsLentFor store.old store.new }
 {
+    let text = walk.text;
+    let rows = &rows[..walk.used];
     let mut progress = Progress {
         next: 0,
         state: State {
@@ -68,25 +78,19 @@ fn enter_all(
             symbols: 0,
             rules: 0,
             used: 0,
-            left: limit,
+            left: walk.limit,
         },
     };
     let mut count = 0;
-    for _i in 0..n {
+    for _i in 0..walk.n {
         let [kind, line, _, _] = rows[progress.next];
         count = note(evals, count, kind, line, progress.next);
-        match declarations::declare(
+        let source = Source {
             text,
             rows,
-            progress.next,
-            sorts,
-            symbols,
-            rules,
-            words,
-            out,
-            calls,
-            progress.state,
-        ) {
+            at: progress.next,
+        };
+        match declarations::declare(source, sorts, symbols, store, progress.state) {
             Ok(further) => progress = further,
             Err(refusal) => return Err(Rejection { refusal, line }),
         }
@@ -105,58 +109,41 @@ pub struct Loaded {
     pub counts: Counts,
 }
 
-// Enters the n declarations in the first `used` rows, and clears what is past the counts; or clears everything.
-fn load_rows(
-    text: &[u8],
-    limit: usize,
-    n: u32,
-    used: usize,
-    tokens: &mut [TermRow],
-    rows: &mut [TermRow],
-    calls: &mut [TermRow],
-    sorts: &mut [SortRow],
-    symbols: &mut [SymbolRow],
-    rules: &mut [RuleRow],
-    words: &mut [u32],
-    evals: &mut [EvalRow],
-) -> Result<Loaded, Rejection>
-    requires { RowsAsked text.now limit n used tokens.old rows.old calls.old sorts.old symbols.old rules.old words.old evals.old }
-    ensures { RowsLoaded text.now limit n used (record { tokens = tokens.old; rows = rows.old; calls = calls.old; sorts = sorts.old; symbols = symbols.old; rules = rules.old; words = words.old; evals = evals.old }) result (record { tokens = tokens.new; rows = rows.new; calls = calls.new; sorts = sorts.new; symbols = symbols.new; rules = rules.new; words = words.new; evals = evals.new }) }
+// Enters the declarations, and clears what is past the counts; or clears everything.
+fn load_rows(walk: Walk, buffers: &mut LentBuffers) -> Result<Loaded, Rejection>
+    requires { RowsAsked walk.text.now walk.limit walk.n walk.used buffers.old.tokens.now buffers.old.rows.now buffers.old.calls.now buffers.old.sorts.now buffers.old.symbols.now buffers.old.rules.now buffers.old.words.now buffers.old.evals.now }
+    ensures loaded { RowsLoaded walk.entry.text.now walk.entry.limit walk.entry.n walk.entry.used (buffers_of buffers.old) result (buffers_of buffers.new) }
+    ensures lent { IsLent buffers.old buffers.new }
 {
+    let rows = &mut *buffers.rows;
+    let mut store = Store {
+        rules: &mut *buffers.rules,
+        words: &mut *buffers.words,
+        out: &mut *buffers.tokens,
+        calls: &mut *buffers.calls,
+    };
     match enter_all(
-        text,
-        limit,
-        &rows[0..used],
-        n as usize,
-        sorts,
-        symbols,
-        rules,
-        words,
-        evals,
-        tokens,
-        calls,
+        walk,
+        rows,
+        buffers.sorts,
+        buffers.symbols,
+        &mut store,
+        buffers.evals,
     ) {
         Err(rejection) => {
-            load_storage::leave_nothing(tokens, rows, calls, sorts, symbols, rules, words, evals);
+            load_storage::leave_nothing(buffers);
             Err(rejection)
         }
         Ok(Entered { state, evals: k }) => {
-            load_storage::leave(
-                tokens,
-                calls,
-                sorts,
-                state.sorts,
-                symbols,
-                state.symbols,
-                rules,
-                state.rules,
-                words,
-                state.used,
-                evals,
-                k,
-            );
+            let used = Used {
+                sorts: state.sorts,
+                symbols: state.symbols,
+                rules: state.rules,
+                words: state.used,
+            };
+            load_storage::leave(buffers, used, k);
             Ok(Loaded {
-                declarations: n,
+                declarations: walk.n,
                 evals: k as u32,
                 counts: Counts {
                     sorts: state.sorts as u32,
@@ -173,51 +160,30 @@ fn load_rows(
 pub fn load(
     text: &[u8],
     limits: words::Limits,
-    tokens: &mut [TermRow],
-    rows: &mut [TermRow],
-    calls: &mut [TermRow],
-    sorts: &mut [SortRow],
-    symbols: &mut [SymbolRow],
-    rules: &mut [RuleRow],
-    words: &mut [u32],
-    evals: &mut [EvalRow],
+    buffers: &mut LentBuffers,
 ) -> Result<Loaded, Rejection>
-    ensures { LoadingText text.now limits (record { tokens = tokens.old; rows = rows.old; calls = calls.old; sorts = sorts.old; symbols = symbols.old; rules = rules.old; words = words.old; evals = evals.old }) result (record { tokens = tokens.new; rows = rows.new; calls = calls.new; sorts = sorts.new; symbols = symbols.new; rules = rules.new; words = words.new; evals = evals.new }) }
+    ensures loaded { LoadingText text.now limits (buffers_of buffers.old) result (buffers_of buffers.new) }
+    ensures lent { IsLent buffers.old buffers.new }
 {
-    if load_storage::is_short(
-        limits,
-        tokens.len(),
-        rows.len(),
-        calls.len(),
-        sorts.len(),
-        symbols.len(),
-        rules.len(),
-        words.len(),
-        evals.len(),
-    ) {
+    if load_storage::is_short(buffers, limits) {
         return Err(Rejection {
             refusal: Refusal::Storage,
             line: 0,
         });
     }
-    match parser::parse_text(text, limits, tokens, rows) {
+    match parser::parse_text(text, limits, buffers.tokens, buffers.rows) {
         Err(rejection) => {
-            load_storage::leave_nothing(tokens, rows, calls, sorts, symbols, rules, words, evals);
+            load_storage::leave_nothing(buffers);
             Err(rejection)
         }
-        Ok(parsed) => load_rows(
-            text,
-            limits.capped().nodes as usize,
-            parsed.declarations,
-            parsed.rows,
-            tokens,
-            rows,
-            calls,
-            sorts,
-            symbols,
-            rules,
-            words,
-            evals,
-        ),
+        Ok(parsed) => {
+            let walk = Walk {
+                text,
+                limit: limits.capped().nodes as usize,
+                n: parsed.declarations,
+                used: parsed.rows,
+            };
+            load_rows(walk, buffers)
+        }
     }
 }

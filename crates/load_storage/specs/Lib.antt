@@ -1,2 +1,3 @@
 -- What the contracts of `load_storage` cite.
 pub mod Storage
+pub mod Lent

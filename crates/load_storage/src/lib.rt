@@ -4,13 +4,36 @@
 #![tactic(auto)]
 
 ghost use Rattle.std.specs.Prelude.{◌≡◌, ◌≤◌, length, replicate};
-ghost use Rattle.load_storage.specs.Storage.{is_short, cleared_from, Clearable, SignatureCleared, ScratchCleared, Wiped};
+ghost use Rattle.load_storage.specs.Storage.{too_short, cleared_from, Clearable, SignatureCleared, ScratchCleared, Wiped};
+ghost use Rattle.load_storage.specs.Lent.{buffers_of, IsLent};
 
 use names::{SortRow, SymbolRow, TermRow};
 use rules::RuleRow;
 
 // An `#eval` that waits: its line, and the row of its term.
 pub type EvalRow = [u32; 2];
+
+// All that a caller of `load` lends: scratch and rows for reading a text, storage for a signature, and rows for the `#eval` that wait.
+#[derive(Drop)]
+pub struct LentBuffers<'a> {
+    pub tokens: &'a mut [TermRow],
+    pub rows: &'a mut [TermRow],
+    pub calls: &'a mut [TermRow],
+    pub sorts: &'a mut [SortRow],
+    pub symbols: &'a mut [SymbolRow],
+    pub rules: &'a mut [RuleRow],
+    pub words: &'a mut [u32],
+    pub evals: &'a mut [EvalRow],
+}
+
+// How much of a signature's storage is in use.
+#[derive(Clone, Copy)]
+pub struct Used {
+    pub sorts: usize,
+    pub symbols: usize,
+    pub rules: usize,
+    pub words: usize,
+}
 
 // Zeroes rows from a place on.
 pub fn clear_rows<const N: usize>(rows: &mut [[u32; N]], from: usize)
@@ -20,101 +43,59 @@ pub fn clear_rows<const N: usize>(rows: &mut [[u32; N]], from: usize)
     rows[from..].fill([0u32; N]);
 }
 
-// Zeroes a signature's storage from the counts on.
-fn clear_signature(
-    sorts: &mut [SortRow],
-    n: usize,
-    symbols: &mut [SymbolRow],
-    m: usize,
-    rules: &mut [RuleRow],
-    k: usize,
-    words: &mut [u32],
-    u: usize,
-)
-    requires { (Clearable sorts.old symbols.old rules.old words.old n m k u) × (u ≤ 65536) }
-    ensures { SignatureCleared sorts.old symbols.old rules.old words.old n m k u sorts.new symbols.new rules.new words.new }
+// Zeroes words from a place on.
+fn clear_words(words: &mut [u32], from: usize)
+    requires { from ≤ length words.old }
+    ensures { words.new ≡ cleared_from 0 from words.old }
 {
-    clear_rows(sorts, n);
-    clear_rows(symbols, m);
-    clear_rows(rules, k);
-    words[u..].fill(0);
-}
-
-// Zeroes the scratch, and the rows of `#eval` from a count on.
-fn clear_scratch(tokens: &mut [TermRow], calls: &mut [TermRow], evals: &mut [EvalRow], n: usize)
-    requires { n ≤ length evals.old }
-    ensures { ScratchCleared tokens.old calls.old evals.old n tokens.new calls.new evals.new }
-{
-    clear_rows(tokens, 0);
-    clear_rows(calls, 0);
-    clear_rows(evals, n);
+    words[from..].fill(0);
 }
 
 // Zeroes the scratch, and the rest of the storage from the counts on.
-pub fn leave(
-    tokens: &mut [TermRow],
-    calls: &mut [TermRow],
-    sorts: &mut [SortRow],
-    n: usize,
-    symbols: &mut [SymbolRow],
-    m: usize,
-    rules: &mut [RuleRow],
-    k: usize,
-    words: &mut [u32],
-    u: usize,
-    evals: &mut [EvalRow],
-    waiting: usize,
-)
-    requires { (Clearable sorts.old symbols.old rules.old words.old n m k u) × ((u ≤ 65536) × (waiting ≤ length evals.old)) }
-    ensures scratch_cleared { ScratchCleared tokens.old calls.old evals.old waiting tokens.new calls.new evals.new }
-    ensures signature_cleared { SignatureCleared sorts.old symbols.old rules.old words.old n m k u sorts.new symbols.new rules.new words.new }
+pub fn leave(buffers: &mut LentBuffers, used: Used, waiting: usize)
+    requires { (Clearable buffers.old.sorts.now buffers.old.symbols.now buffers.old.rules.now buffers.old.words.now used.sorts used.symbols used.rules used.words) × (waiting ≤ length buffers.old.evals.now) }
+    ensures scratch_cleared { ScratchCleared buffers.old.tokens.now buffers.old.calls.now buffers.old.evals.now waiting buffers.new.tokens.now buffers.new.calls.now buffers.new.evals.now }
+    ensures signature_cleared { SignatureCleared buffers.old.sorts.now buffers.old.symbols.now buffers.old.rules.now buffers.old.words.now used.sorts used.symbols used.rules used.words buffers.new.sorts.now buffers.new.symbols.now buffers.new.rules.now buffers.new.words.now }
+    ensures rows { buffers.new.rows.now ≡ buffers.old.rows.now }
+    ensures lent { IsLent buffers.old buffers.new }
 {
-    clear_scratch(tokens, calls, evals, waiting);
-    clear_signature(sorts, n, symbols, m, rules, k, words, u);
+    clear_rows(buffers.tokens, 0);
+    clear_rows(buffers.calls, 0);
+    clear_rows(buffers.evals, waiting);
+    clear_rows(buffers.sorts, used.sorts);
+    clear_rows(buffers.symbols, used.symbols);
+    clear_rows(buffers.rules, used.rules);
+    clear_words(buffers.words, used.words);
 }
 
 // Zeroes everything.
-pub fn leave_nothing(
-    tokens: &mut [TermRow],
-    rows: &mut [TermRow],
-    calls: &mut [TermRow],
-    sorts: &mut [SortRow],
-    symbols: &mut [SymbolRow],
-    rules: &mut [RuleRow],
-    words: &mut [u32],
-    evals: &mut [EvalRow],
-)
-    ensures { Wiped (record { tokens = tokens.old; rows = rows.old; calls = calls.old; sorts = sorts.old; symbols = symbols.old; rules = rules.old; words = words.old; evals = evals.old }) (record { tokens = tokens.new; rows = rows.new; calls = calls.new; sorts = sorts.new; symbols = symbols.new; rules = rules.new; words = words.new; evals = evals.new }) }
+pub fn leave_nothing(buffers: &mut LentBuffers)
+    ensures wiped { Wiped (buffers_of buffers.old) (buffers_of buffers.new) }
+    ensures lent { IsLent buffers.old buffers.new }
 {
-    clear_rows(rows, 0);
-    leave(
-        tokens, calls, sorts, 0, symbols, 0, rules, 0, words, 0, evals, 0,
-    );
+    clear_rows(buffers.rows, 0);
+    let none = Used {
+        sorts: 0,
+        symbols: 0,
+        rules: 0,
+        words: 0,
+    };
+    leave(buffers, none, 0);
 }
 
-// Are buffers of these lengths shorter than docs/STORAGE.md lists?
-pub fn is_short(
-    limits: words::Limits,
-    tokens: usize,
-    rows: usize,
-    calls: usize,
-    sorts: usize,
-    symbols: usize,
-    rules: usize,
-    words: usize,
-    evals: usize,
-) -> bool
-    ensures { result ≡ is_short limits tokens rows calls sorts symbols rules words evals }
+// Are these buffers shorter than docs/STORAGE.md lists?
+pub fn is_short(buffers: &LentBuffers, limits: words::Limits) -> bool
+    ensures { result ≡ too_short limits (buffers_of buffers.now) }
 {
     let capped = limits.capped();
     let text = capped.text as usize;
     let nodes = capped.nodes as usize;
-    tokens < text
-        || rows < text
-        || calls < text + 32
-        || sorts < 256
-        || symbols < 1024
-        || rules < 1024
-        || words < 2 * nodes
-        || evals < text / 2
+    buffers.tokens.len() < text
+        || buffers.rows.len() < text
+        || buffers.calls.len() < text + 32
+        || buffers.sorts.len() < 256
+        || buffers.symbols.len() < 1024
+        || buffers.rules.len() < 1024
+        || buffers.words.len() < 2 * nodes
+        || buffers.evals.len() < text / 2
 }

@@ -10,12 +10,16 @@ use lib.Seq.{take-set-le, take-append-le, take-suc-set, take_all}
 use borrow.Author.Tests.{lt-ltb, le-ltb, leb-true, leb-false}
 use Rattle.source_text.specs.Parts.{part_of}
 use Rattle.names.specs.Names.{Name}
-use Rattle.names.specs.Symbols.{Rows, column, row_at, sort_number, sorts_of}
-use Rattle.names.specs.SearchLaws.{sorts_length}
+use Rattle.names.specs.Symbols.{Rows, column, row_at, sort_of, sort_number, sorts_of}
+use Rattle.names.specs.SearchLaws.{sorts_length, sort_some, sort_none}
 use Rattle.patterns.specs.Patterns.{when}
 use Rattle.loader.specs.Signature.{Numbers, unknown, numbers, prepend, numbers_of, last_of}
 use Rattle.loader.specs.Arrows.{names_at, Arrowing}
 use Rattle.std.specs.Prelude.{Some, None}
+use Rattle.std.specs.List.{position}
+use Rattle.std.proofs.Common.{le_refl}
+use Rattle.std.proofs.Math.Seq.{take-length}
+use Rattle.source_text.specs.Bytes.{same_bytes}
 
 -- The name in a row.
 abbrev pub name_at : List ℕ → Rows → ℕ → Name
@@ -120,9 +124,17 @@ sofar_next S ws w last inputs inputs' i v s l q d =
       wide = ap length d ∙ length-set inputs i v ∙ s.wide;
     }
 
-module _ (text : List ℕ) (rows : Rows) (at k : ℕ) (sorts : Rows) (many : ℕ) (lent : many ≤ length sorts) where
+-- The search in all sorts that are lent.
+module _ (text : List ℕ) (sorts : Rows) (w : Name) where
+  pub some_sort : (i : ℕ) → Some i ≡ position (λ row. same_bytes (sort_of text row) w) sorts → (i ≡ sort_number (sorts_of text sorts (length sorts)) w) × (i < length sorts)
+  some_sort i e = sort_some text sorts (length sorts) (le_refl _) w i (e ∙ ap (position (λ row. same_bytes (sort_of text row) w)) (sym (take-length sorts)))
+
+  pub unknown_sort : None ≡ position (λ row. same_bytes (sort_of text row) w) sorts → length sorts ≤ sort_number (sorts_of text sorts (length sorts)) w
+  unknown_sort e = sort_none text sorts (length sorts) (le_refl _) w (e ∙ ap (position (λ row. same_bytes (sort_of text row) w)) (sym (take-length sorts)))
+
+module _ (text : List ℕ) (rows : Rows) (at k : ℕ) (sorts : Rows) where
   abbrev S : List Name
-  S = sorts_of text sorts many
+  S = sorts_of text sorts (length sorts)
 
   -- before the first name
   pub sofar_none : (inputs : List ℕ) → length inputs ≡ 16 → Sofar S (names_at text rows at 0) 0 inputs 0
@@ -134,11 +146,11 @@ module _ (text : List ℕ) (rows : Rows) (at k : ℕ) (sorts : Rows) (many : ℕ
       none (suc n) l m = absurd (omega arith)
 
   -- one more is known
-  pub sofar_more : {s i last : ℕ} {inputs inputs' : List ℕ} → Sofar S (names_at text rows at i) last inputs i → s ≡ sort_number S (name_at text rows (at + i)) → s < many
+  pub sofar_more : {s i last : ℕ} {inputs inputs' : List ℕ} → Sofar S (names_at text rows at i) last inputs i → s ≡ sort_number S (name_at text rows (at + i)) → s < length sorts
       → inputs' ≡ set inputs i (s + 1) → Sofar S (names_at text rows at (i + 1)) (s + 1) inputs' (i + 1)
   unfolding names_at
   sofar_more {s} {i} {last} {inputs} {inputs'} h e l d =
-      let n : length S ≡ many = sorts_length text sorts many lent in
+      let n : length S ≡ length sorts = sorts_length text sorts (length sorts) (le_refl _) in
       let b : s + 1 ≡ suc (sort_number S (name_at text rows (at + i))) = omega arith in
       let m : i + 1 ≡ suc i = omega arith in
       let ws : List Name = names_at text rows at i ++ (name_at text rows (at + i) ∷ []) in
@@ -147,10 +159,10 @@ module _ (text : List ℕ) (rows : Rows) (at k : ℕ) (sorts : Rows) (many : ℕ
       subst (λ (z : List Name). Sofar S z (s + 1) inputs' (i + 1)) (sym (names_split text rows at i 1)) y
 
   -- one is unknown
-  pub one_unknown : {s i : ℕ} (inputs : List ℕ) → s ≡ sort_number S (name_at text rows (at + i)) → many ≤ s → i < k → Arrowing (numbers_of S (names_at text rows at k)) None inputs k
+  pub one_unknown : {s i : ℕ} (inputs : List ℕ) → s ≡ sort_number S (name_at text rows (at + i)) → length sorts ≤ s → i < k → Arrowing (numbers_of S (names_at text rows at k)) None inputs k
   unfolding names_at
   one_unknown {s} {i} inputs e l h =
-      let n : length S ≡ many = sorts_length text sorts many lent in
+      let n : length S ≡ length sorts = sorts_length text sorts (length sorts) (le_refl _) in
       let q : i + suc (k - suc i) ≡ k = omega arith in
       let a : numbers_of S (names_at text rows at k) ≡ unknown =
       ap (λ (j : ℕ). numbers_of S (names_at text rows at j)) (sym q)

@@ -1,4 +1,5 @@
 -- What the contracts of `loader` cite, in reading order.
+pub mod Known
 pub mod Signature
 pub mod Legal
 pub mod Rows

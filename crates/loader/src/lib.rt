@@ -3,10 +3,11 @@
 // All functions here serve the crates above: they ask for storage of the listed sizes.
 #![tactic(auto)]
 
-ghost use Rattle.std.specs.Prelude.{◌≡◌, [], ◌∷◌, ◌+◌, ◌-◌, ◌≤◌, ◌<◌, length, take, set, cond};
+ghost use Rattle.std.specs.Prelude.{◌≡◌, [], ◌∷◌, ◌+◌, ◌-◌, ◌≤◌, ◌<◌, length, set, cond};
 ghost use Rattle.source_text.specs.Parts.{part_of};
 ghost use Rattle.std.proofs.lemmas.List.Edits.{sets};
 ghost use Rattle.names.specs.Symbols.{column, row_at, sorts_of, symbols_of};
+ghost use Rattle.loader.specs.Known.{sorts_known, symbols_known};
 ghost use Rattle.patterns.specs.Promises.{RefusedFor};
 ghost use Rattle.loader.specs.Signature.{is_taken, sort_refusal, symbol_refusal, numbers_of};
 ghost use Rattle.loader.specs.Rows.{symbol_row, entered};
@@ -17,7 +18,7 @@ ghost use Rattle.loader.specs.SymbolEntry.{SymbolAnswered};
 use clauses::EnteredRule;
 use names::{SortRow, SymbolRow, TermRow};
 use refusals::Refusal;
-use rules::{RuleRow, Space, Title};
+use rules::{RuleRow, SourceRule, Space, Title};
 
 // How many sorts, symbols and inputs there may be.
 const SORTS: usize = 256;
@@ -26,70 +27,84 @@ const SYMBOLS: usize = 1024;
 
 const INPUTS: usize = 16;
 
-// Is the name at a place of the text that of a sort or a symbol?
-fn is_taken(
-    text: &[u8],
-    sorts: &[SortRow],
-    many: usize,
-    symbols: &[SymbolRow],
-    count: usize,
-    start: u32,
-    size: u32,
-) -> bool
-    requires { (many ≤ length sorts.now) × (count ≤ length symbols.now) }
-    ensures { result ≡ is_taken (sorts_of text.now sorts.now many) (symbols_of text.now symbols.now count) (part_of text.now start size) }
+// The marks in a symbol's row: of a constructor or predicate, and of a function.
+pub const NO_FUNCTION: u32 = 0;
+
+pub const FUNCTION: u32 = 1;
+
+// The names that there are: the rows of the sorts and symbols in use, and the text in which their names stand.
+#[derive(Clone, Copy)]
+pub struct Known<'a> {
+    pub text: &'a [u8],
+    pub sorts: &'a [SortRow],
+    pub symbols: &'a [SymbolRow],
+}
+
+// Where a word stands in the text.
+#[derive(Clone, Copy)]
+pub struct Word {
+    pub start: u32,
+    pub size: u32,
+}
+
+// A part of a declaration: its text and rows, the row at which the part begins, and how many items it has.
+#[derive(Clone, Copy)]
+pub struct Part<'a> {
+    pub text: &'a [u8],
+    pub rows: &'a [TermRow],
+    pub at: usize,
+    pub k: usize,
+}
+
+// Is a word the name of a sort or a symbol?
+fn is_taken(known: Known, word: &[u8]) -> bool
+    ensures { result ≡ is_taken (sorts_known known.entry) (symbols_known known.entry) word.now }
 {
-    let w = names::part(text, start, size);
-    if names::find(text, &sorts[..many], w).is_some() {
+    if names::find(known.text, known.sorts, word).is_some() {
         return true;
     }
-    names::find(text, &symbols[..count], w).is_some()
+    names::find(known.text, known.symbols, word).is_some()
 }
 
 // Enters the sort whose name stands at a place.
+// Stays: the row behind those in use is written, so a part in use would not do.
 pub fn enter_sort(
     text: &[u8],
     sorts: &mut [SortRow],
     many: usize,
     symbols: &[SymbolRow],
-    count: usize,
-    start: u32,
-    size: u32,
+    word: Word,
 ) -> Result<(), Refusal>
-    requires { (256 ≤ length sorts.old) × (many ≤ 256) × (count ≤ length symbols.now) }
-    ensures value { RefusedFor (sort_refusal (sorts_of text.now sorts.old many) (symbols_of text.now symbols.now count) (part_of text.now start size)) result }
-    ensures sorts_after { sorts.new ≡ entered (sort_refusal (sorts_of text.now sorts.old many) (symbols_of text.now symbols.now count) (part_of text.now start size)) sorts.old many (start ∷ size ∷ []) }
+    requires { (256 ≤ length sorts.old) × (many ≤ 256) }
+    ensures value { RefusedFor (sort_refusal (sorts_of text.now sorts.old many) (symbols_of text.now symbols.now (length symbols.now)) (part_of text.now word.start word.size)) result }
+    ensures sorts_after { sorts.new ≡ entered (sort_refusal (sorts_of text.now sorts.old many) (symbols_of text.now symbols.now (length symbols.now)) (part_of text.now word.start word.size)) sorts.old many (word.start ∷ word.size ∷ []) }
 {
-    if is_taken(text, sorts, many, symbols, count, start, size) {
+    let known = Known {
+        text,
+        sorts: &sorts[..many],
+        symbols,
+    };
+    if is_taken(known, names::part(text, word.start, word.size)) {
         return Err(Refusal::AlreadyDeclared);
     }
     if many < SORTS {
-        sorts[many] = [start, size];
+        sorts[many] = [word.start, word.size];
         return Ok(());
     }
     Err(Refusal::Full)
 }
 
-// May a symbol with k inputs, whose name stands at a place, be entered?
-pub fn check_symbol(
-    text: &[u8],
-    sorts: &[SortRow],
-    many: usize,
-    symbols: &[SymbolRow],
-    count: usize,
-    start: u32,
-    size: u32,
-    k: usize,
-) -> Result<(), Refusal>
-    requires { (many ≤ length sorts.now) × (count ≤ length symbols.now) }
-    ensures { RefusedFor (symbol_refusal (sorts_of text.now sorts.now many) (symbols_of text.now symbols.now count) (part_of text.now start size) k) result }
+// May a symbol with k inputs be entered by a name?
+pub fn check_symbol(known: Known, word: &[u8], k: usize) -> Result<(), Refusal>
+    ensures { RefusedFor (symbol_refusal (sorts_known known.entry) (symbols_known known.entry) word.now k) result }
 {
-    if is_taken(text, sorts, many, symbols, count, start, size) {
+    if is_taken(known, word) {
         return Err(Refusal::AlreadyDeclared);
     }
     if INPUTS < k {
         return Err(Refusal::Full);
     }
+    let count = known.symbols.len();
     if count < SYMBOLS {
         return Ok(());
     }
@@ -104,25 +119,32 @@ fn put_inputs(symbols: &mut [SymbolRow], i: usize, inputs: &[u32])
     symbols[i][8..8 + inputs.len()].copy_from_slice(inputs);
 }
 
+// A symbol but for its inputs: where its name stands, its output, its function mark, and its clauses.
+#[derive(Clone, Copy)]
+pub struct SymbolHead {
+    pub word: Word,
+    pub output: u32,
+    pub function: u32,
+    pub first: u32,
+    pub clauses: u32,
+}
+
 // Writes a symbol's row.
-pub fn put_symbol(
-    symbols: &mut [SymbolRow],
-    i: usize,
-    start: u32,
-    size: u32,
-    output: u32,
-    function: u32,
-    first: u32,
-    clauses: u32,
-    inputs: &[u32],
-)
+pub fn put_symbol(symbols: &mut [SymbolRow], i: usize, symbol: SymbolHead, inputs: &[u32])
     requires { (i < length symbols.old) × (length inputs.now ≤ 16) }
-    ensures { symbols.new ≡ set symbols.old i (symbol_row start size output function first clauses (length inputs.now) inputs.now) }
+    ensures { symbols.new ≡ set symbols.old i (symbol_row symbol.word.start symbol.word.size symbol.output symbol.function symbol.first symbol.clauses (length inputs.now) inputs.now) }
 {
     let n = inputs.len() as u32;
+    let SymbolHead {
+        word,
+        output,
+        function,
+        first,
+        clauses,
+    } = symbol;
     symbols[i] = [
-        start, size, output, function, first, clauses, n, 0, 0, 0, 0, 0, 0, 0, 0, 0, 0, 0, 0, 0, 0,
-        0, 0, 0,
+        word.start, word.size, output, function, first, clauses, n, 0, 0, 0, 0, 0, 0, 0, 0, 0, 0,
+        0, 0, 0, 0, 0, 0, 0,
     ];
     put_inputs(symbols, i, inputs);
 }
@@ -136,24 +158,17 @@ fn put_input(inputs: &mut [u32], i: usize, v: u32)
     }
 }
 
-// Looks up the sorts whose names stand in k rows from a row on; the numbers of the first 16 go to `inputs`, and that of the last is answered, if all are
+// Looks up the sorts whose names stand in the rows of a part; the numbers of the first 16 go to `inputs`, and that of the last is answered, if all are
 // known.
-pub fn find_arrow(
-    text: &[u8],
-    rows: &[TermRow],
-    at: usize,
-    k: usize,
-    sorts: &[SortRow],
-    many: usize,
-    inputs: &mut [u32],
-) -> Option<u32>
-    requires { (many ≤ length sorts.now) × (many ≤ 256) × (at + k ≤ length rows.now) × (length rows.now ≤ 65536) × (length inputs.old ≡ 16) }
-    ensures { Arrowing (numbers_of (sorts_of text.now sorts.now many) (names_at text.now rows.now at k)) result inputs.new k }
+pub fn find_arrow(part: Part, sorts: &[SortRow], inputs: &mut [u32]) -> Option<u32>
+    requires { (length sorts.now ≤ 256) × (part.at + part.k ≤ length part.rows.now) × (length part.rows.now ≤ 65536) × (length inputs.old ≡ 16) }
+    ensures { Arrowing (numbers_of (sorts_of part.entry.text.now sorts.now (length sorts.now)) (names_at part.entry.text.now part.entry.rows.now part.entry.at part.entry.k)) result inputs.new part.entry.k }
 {
+    let Part { text, rows, at, k } = part;
     let mut last = 0;
     for i in 0..k {
         let [_, start, size, _] = rows[at + i];
-        let s = names::find(text, &sorts[..many], names::part(text, start, size))?;
+        let s = names::find(text, sorts, names::part(text, start, size))?;
         last = s as u32 + 1;
         put_input(inputs, i, last);
     }
@@ -174,73 +189,86 @@ fn output(constructor: bool, last: u32) -> u32
     if constructor { last } else { 0 }
 }
 
-// Enters a symbol whose name stands in a row and whose k sorts stand in the rows behind it.
+// What a symbol is: a constructor or not, its function mark, and its clauses.
+#[derive(Clone, Copy)]
+pub struct Kind {
+    pub constructor: bool,
+    pub function: u32,
+    pub first: u32,
+    pub clauses: u32,
+}
+
+// Enters a symbol whose name stands at the row of a part and whose k sorts stand in the rows behind it.
+// Stays: the row behind those in use is written, so a part in use would not do.
 pub fn enter_symbol(
-    text: &[u8],
-    rows: &[TermRow],
-    at: usize,
-    k: usize,
-    constructor: bool,
-    function: u32,
-    first: u32,
-    clauses: u32,
+    part: Part,
+    kind: Kind,
     sorts: &[SortRow],
-    many: usize,
     symbols: &mut [SymbolRow],
     count: usize,
 ) -> Result<(), Refusal>
-    requires { (at + 1 + k ≤ length rows.now) × (length rows.now ≤ 65536) × (many ≤ length sorts.now) × (many ≤ 256) × (count ≤ 1024) × (1024 ≤ length symbols.old) }
-    ensures { SymbolAnswered text.now rows.now (at + 1) k (column (row_at rows.now at) 1) (column (row_at rows.now at) 2) constructor function first clauses sorts.now many symbols.old count result symbols.new }
+    requires { (part.at + 1 + part.k ≤ length part.rows.now) × (length part.rows.now ≤ 65536) × (length sorts.now ≤ 256) × (count ≤ 1024) × (1024 ≤ length symbols.old) }
+    ensures { SymbolAnswered part.entry.text.now part.entry.rows.now (part.entry.at + 1) part.entry.k (column (row_at part.entry.rows.now part.entry.at) 1) (column (row_at part.entry.rows.now part.entry.at) 2) kind.constructor kind.function kind.first kind.clauses sorts.now (length sorts.now) symbols.old count result symbols.new }
 {
+    let Part { text, rows, at, k } = part;
     let mut inputs = [0u32; 16];
-    let last = find_arrow(text, rows, at + 1, k, sorts, many, &mut inputs).ok_or(
-        Refusal::UnknownSort,
-    )?;
+    let behind = Part {
+        text,
+        rows,
+        at: at + 1,
+        k,
+    };
+    let last = find_arrow(behind, sorts, &mut inputs).ok_or(Refusal::UnknownSort)?;
     let [_, start, size, _] = rows[at];
-    let n = input_count(constructor, k);
-    check_symbol(text, sorts, many, symbols, count, start, size, n)?;
-    put_symbol(
-        symbols,
-        count,
-        start,
-        size,
-        output(constructor, last),
-        function,
-        first,
-        clauses,
-        &inputs[..n],
-    );
+    let n = input_count(kind.constructor, k);
+    let known = Known {
+        text,
+        sorts,
+        symbols: &symbols[..count],
+    };
+    check_symbol(known, names::part(text, start, size), n)?;
+    let symbol = SymbolHead {
+        word: Word { start, size },
+        output: output(kind.constructor, last),
+        function: kind.function,
+        first: kind.first,
+        clauses: kind.clauses,
+    };
+    put_symbol(symbols, count, symbol, &inputs[..n]);
     Ok(())
 }
 
-// Enters a rule whose name stands at a place and whose k judgments stand from a row on, as the rule with a number.
+// Enters a rule whose name stands at a place and whose judgments are a part, as the rule with a number.
 pub fn enter_rule(
-    text: &[u8],
-    rows: &[TermRow],
-    at: usize,
-    k: usize,
-    start: u32,
-    size: u32,
+    part: Part,
+    word: Word,
     symbols: &[SymbolRow],
-    count: usize,
     words: &mut [u32],
     space: Space,
     rules: &mut [RuleRow],
     number: usize,
 ) -> Result<EnteredRule, Refusal>
-    requires { RuleAsked text.now rows.now at k symbols.now count words.old space.used space.room rules.old }
-    ensures { RuleEntered text.now rows.now at k start size (symbols_of text.now symbols.now count) words.old space.used space.room rules.old number result words.new rules.new }
+    requires { RuleAsked part.text.now part.rows.now part.at part.k symbols.now (length symbols.now) words.old space.used space.room rules.old }
+    ensures { RuleEntered part.entry.text.now part.entry.rows.now part.entry.at part.entry.k word.start word.size (symbols_of part.entry.text.now symbols.now (length symbols.now)) words.old space.used space.room rules.old number result words.new rules.new }
 {
+    let Part { text, rows, at, k } = part;
     let n = k - 1;
     let here = clauses::skip(rows, at, n);
     let next = clauses::skip(rows, here, 1);
+    let rule = SourceRule {
+        text,
+        symbols,
+        premises: rows,
+        at,
+        n,
+        conclusions: rows,
+        here,
+    };
     let title = Title {
-        start,
-        size,
+        start: word.start,
+        size: word.size,
         clause: 0,
     };
-    let left = rules::rule(
-        text, rows, at, n, rows, here, symbols, count, words, space, rules, number, title,
-    )?;
+    let left = rules::rule(rule, words, space, rules, number, title)?;
     Ok(EnteredRule { next, space: left })
 }

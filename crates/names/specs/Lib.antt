@@ -4,3 +4,4 @@ pub mod NamePlaces
 pub mod Symbols
 pub mod Standing
 pub mod SearchLaws
+pub mod UsedLaws

@@ -19,6 +19,14 @@ pub type TermRow = [u32; 4];
 // A variable: kind, start, length, sort.
 pub type VariableRow = [u32; 4];
 
+// Source terms: the text, the rows in which they stand, and the symbols that they may name.
+#[derive(Clone, Copy)]
+pub struct SourceTerms<'a> {
+    pub text: &'a [u8],
+    pub rows: &'a [TermRow],
+    pub symbols: &'a [SymbolRow],
+}
+
 // The kind of a row that stands for a variable of flattening, whose place is in `RESULT_NAMES`.
 // Stays: C callers lend the rows, so a kind is a number there, and may be none of these; a type of kinds would be converted at each read and write.
 pub const RESULT: u32 = 27;

@@ -2,3 +2,4 @@
 pub mod Patterns
 pub mod Laying
 pub mod Promises
+pub mod UsedLaws

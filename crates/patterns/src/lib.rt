@@ -12,7 +12,7 @@ ghost use Rattle.patterns.specs.Promises.{stored, entry_of, Grew, answer, Small,
 ghost use Rattle.patterns.specs.Promises.{LiesAt, EntryPlaced, MadePlaced};
 
 use arena::{HEADERS, PATTERN_ROOM, SYMBOL_STEP};
-use names::{SymbolRow, TermRow, VariableRow};
+use names::{SourceTerms, SymbolRow, VariableRow};
 use refusals::Refusal;
 
 // How many variables a rule may have.
@@ -26,6 +26,7 @@ pub struct EnteredVariable {
 }
 
 // The number of the variable whose name stands at a place, entered if it is new. Its sort is checked, and set where it was not known.
+// Stays: a new variable's row is written behind those that there are, so that the table is lent with their number.
 pub fn enter(
     text: &[u8],
     variables: &mut [VariableRow],
@@ -165,6 +166,7 @@ fn numeral_misfit(
 }
 
 // Writes n times y on z behind the used words.
+// Stays: the words are written behind the used ones, so that they are lent with their number.
 fn numeral_words(words: &mut [u32], used: usize, y: usize, z: usize, n: usize) -> u32
     requires { (used + 1 + 2 * n ≤ length words.old) × (used + 2 * n ≤ 65536) × (y < 1024) × (z < 1024) }
     ensures { lay (tower y z n) words.old used ≡ laid (result ∷ []) words.new (used + 1 + 2 * n) }
@@ -183,11 +185,10 @@ fn numeral_words(words: &mut [u32], used: usize, y: usize, z: usize, n: usize) -
 }
 
 // The number of the constructor that is called w.
-fn constructor(text: &[u8], symbols: &[SymbolRow], count: usize, w: &[u8]) -> Option<usize>
-    requires { count ≤ length symbols.now }
-    ensures { result ≡ constructor_of (symbols_of text.now symbols.now count) w.now }
+fn constructor(text: &[u8], symbols: &[SymbolRow], w: &[u8]) -> Option<usize>
+    ensures { result ≡ constructor_of (symbols_of text.now symbols.now (length symbols.now)) w.now }
 {
-    match names::find(text, &symbols[..count], w) {
+    match names::find(text, symbols, w) {
         Some(i) => {
             if symbols[i][2] == 0 {
                 return None;
@@ -202,17 +203,16 @@ fn constructor(text: &[u8], symbols: &[SymbolRow], count: usize, w: &[u8]) -> Op
 fn numeral(
     text: &[u8],
     symbols: &[SymbolRow],
-    count: usize,
     n: usize,
     want: u32,
     words: &mut [u32],
     from: Place,
 ) -> Result<CompiledTerm, Refusal>
-    requires { (count ≤ length symbols.now) × (count ≤ 1024) × (from.variables ≤ 64) × (from.used + 2 * from.room ≤ length words.old) × (from.used + 2 * from.room ≤ 65536) }
-    ensures { Numbered text.now (symbols_of text.now symbols.now count) n want from.variables from.next words.old from.used from.room result words.new }
+    requires { (length symbols.now ≤ 1024) × (from.variables ≤ 64) × (from.used + 2 * from.room ≤ length words.old) × (from.used + 2 * from.room ≤ 65536) }
+    ensures { Numbered text.now (symbols_of text.now symbols.now (length symbols.now)) n want from.variables from.next words.old from.used from.room result words.new }
 {
-    let z = constructor(text, symbols, count, b"zero").ok_or(Refusal::NoNumerals)?;
-    let y = constructor(text, symbols, count, b"succ").ok_or(Refusal::NoNumerals)?;
+    let z = constructor(text, symbols, b"zero").ok_or(Refusal::NoNumerals)?;
+    let y = constructor(text, symbols, b"succ").ok_or(Refusal::NoNumerals)?;
     numeral_misfit(symbols, y, z, n, want, from.room)?;
     let r = numeral_words(words, from.used, y, z, n);
     Ok(CompiledTerm {
@@ -229,47 +229,36 @@ fn numeral(
 // The pattern of the source term at a row, at a place of the sort want (0: a judgment).
 #[cycle(node_pattern)]
 pub fn pattern(
-    text: &[u8],
-    rows: &[TermRow],
-    symbols: &[SymbolRow],
-    count: usize,
+    source: SourceTerms,
     want: u32,
     variables: &mut [VariableRow],
     words: &mut [u32],
     from: Place,
 ) -> Result<CompiledTerm, Refusal>
-    requires { Ready symbols.now count variables.old from.variables words.old from.used from.room }
-    ensures { Compiled text.now rows.now from.next (symbols_of text.now symbols.now count) want variables.old from.variables words.old from.used from.room result variables.new words.new }
+    requires { Ready source.symbols.now (length source.symbols.now) variables.old from.variables words.old from.used from.room }
+    ensures { Compiled source.entry.text.now source.entry.rows.now from.next (symbols_of source.entry.text.now source.entry.symbols.now (length source.entry.symbols.now)) want variables.old from.variables words.old from.used from.room result variables.new words.new }
 {
+    let SourceTerms {
+        text,
+        rows,
+        symbols,
+    } = source;
     if rows.len() <= from.next {
         return Err(Refusal::UnknownSymbol);
     }
     let [kind, start, size, more] = rows[from.next];
     let behind = Place {
         next: from.next + 1,
-        variables: from.variables,
-        used: from.used,
-        room: from.room,
+        ..from
     };
     if kind == words::NUMERAL {
-        return numeral(text, symbols, count, more as usize, want, words, behind);
+        return numeral(text, symbols, more as usize, want, words, behind);
     }
     if kind == words::METAVARIABLE {
         return variable(text, variables, kind, start, size, want, behind);
     }
-    match names::find_at(text, &symbols[..count], kind, start, size) {
-        Some(i) => node(
-            text,
-            rows,
-            more as usize,
-            symbols,
-            count,
-            i,
-            want,
-            variables,
-            words,
-            behind,
-        ),
+    match names::find_at(text, symbols, kind, start, size) {
+        Some(i) => node(source, more as usize, i, want, variables, words, behind),
         None => {
             if kind == term_parser::APPLICATION {
                 return Err(Refusal::UnknownSymbol);
@@ -285,42 +274,29 @@ pub fn pattern(
 // A node of the symbol i, with its arguments from a row on.
 #[cycle(node_pattern)]
 fn node(
-    text: &[u8],
-    rows: &[TermRow],
+    source: SourceTerms,
     arguments: usize,
-    symbols: &[SymbolRow],
-    count: usize,
     i: usize,
     want: u32,
     variables: &mut [VariableRow],
     words: &mut [u32],
     from: Place,
 ) -> Result<CompiledTerm, Refusal>
-    requires { (Ready symbols.now count variables.old from.variables words.old from.used from.room) × ((i < count) × (from.next ≤ length rows.now)) }
-    ensures { NodeMade text.now rows.now from.next arguments (symbols_of text.now symbols.now count) i want variables.old from.variables words.old from.used from.room result variables.new words.new }
+    requires { (Ready source.symbols.now (length source.symbols.now) variables.old from.variables words.old from.used from.room) × ((i < length source.symbols.now) × (from.next ≤ length source.rows.now)) }
+    ensures { NodeMade source.entry.text.now source.entry.rows.now from.next arguments (symbols_of source.entry.text.now source.entry.symbols.now (length source.entry.symbols.now)) i want variables.old from.variables words.old from.used from.room result variables.new words.new }
 {
+    let symbols = source.symbols;
     misfit(symbols, i, want, arguments)?;
     if from.room == 0 {
         return Err(Refusal::Full);
     }
     let mut refs = [0u32; 16];
     let mut place = Place {
-        next: from.next,
-        variables: from.variables,
-        used: from.used,
         room: from.room - 1,
+        ..from
     };
     for k in 0..arguments {
-        let made = pattern(
-            text,
-            rows,
-            symbols,
-            count,
-            symbols[i][8 + k],
-            variables,
-            words,
-            place,
-        )?;
+        let made = pattern(source, symbols[i][8 + k], variables, words, place)?;
         refs[k] = made.node;
         place = made.place;
     }
@@ -329,33 +305,28 @@ fn node(
     Ok(CompiledTerm {
         node: PATTERN_ROOM + (place.used as u32),
         place: Place {
-            next: place.next,
-            variables: place.variables,
             used: place.used + 1 + arguments,
-            room: place.room,
+            ..place
         },
     })
 }
 
 // The patterns of several judgments from a row on; their references go to `heads`.
 pub fn judgments(
-    text: &[u8],
-    rows: &[TermRow],
+    source: SourceTerms,
     n: usize,
-    symbols: &[SymbolRow],
-    count: usize,
     variables: &mut [VariableRow],
     words: &mut [u32],
     heads: &mut [u32],
     from: Place,
 ) -> Result<Place, Refusal>
-    requires fact_1 { Ready symbols.now count variables.old from.variables words.old from.used from.room }
+    requires fact_1 { Ready source.symbols.now (length source.symbols.now) variables.old from.variables words.old from.used from.room }
     requires fact_2 { (n ≤ 16) × (length heads.old ≡ 16) }
-    ensures { Judged text.now rows.now from.next n (symbols_of text.now symbols.now count) variables.old from.variables words.old from.used from.room result variables.new words.new heads.new }
+    ensures { Judged source.entry.text.now source.entry.rows.now from.next n (symbols_of source.entry.text.now source.entry.symbols.now (length source.entry.symbols.now)) variables.old from.variables words.old from.used from.room result variables.new words.new heads.new }
 {
     let mut place = from;
     for k in 0..n {
-        let made = pattern(text, rows, symbols, count, 0, variables, words, place)?;
+        let made = pattern(source, 0, variables, words, place)?;
         heads[k] = made.node;
         place = made.place;
     }

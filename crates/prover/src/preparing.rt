@@ -6,6 +6,7 @@ ghost use Rattle.sessions.specs.Promises.{allowance_of};
 ghost use Rattle.prover.specs.Preparing.{PrepareAsked, Preparing};
 
 use super::Query;
+use names::SourceTerms;
 use refusals::Refusal;
 use sessions::{NameRow, SessionCounts};
 use words::Limits;
@@ -52,12 +53,14 @@ pub fn prepare(
     let mut variables = [[0u32; 4]; 64];
     let mut pattern = [0u32; 2048];
     let n = session.names as usize;
+    let source = SourceTerms {
+        text: query.text,
+        rows: query.rows,
+        symbols: &query.signature.symbols[..query.signature.counts.symbols as usize],
+    };
     let goal = goals::compile(
-        query.text,
-        query.rows,
+        source,
         query.at,
-        query.signature.symbols,
-        query.signature.counts.symbols as usize,
         &names[..n],
         &mut variables,
         &mut pattern,

@@ -1,5 +1,9 @@
 -- Laws of a part of a list, as a slice of it is lent: what holds of each number of the part holds of each number at its places.
-use Rattle.std.proofs.Common.{◌≡◌, ℕ, ◌+◌, ◌-◌, ◌≤◌, ◌<◌, List, length, get_or, take, drop, sym, ap, subst, ◌∙◌, arith, EachIndex, length-take, length-drop, get_or-take, get_or-drop}
+use Rattle.std.specs.Prelude.{IsTrue, ◌↔◌, slice_index}
+use Rattle.std.specs.List.{list_all}
+use Rattle.std.proofs.Common.{◌≡◌, ℕ, ◌+◌, ◌-◌, ◌≤◌, ◌<◌, Bool, true, List, length, get_or, take, drop, sym, ap, subst, ◌∙◌, arith, EachIndex, length-take, length-drop, get_or-take, get_or-drop}
+use Rattle.std.proofs.lemmas.List.Sums.{AllPass-from_list_all, list_all-from_AllPass}
+use Rattle.names.specs.SearchLaws.{get_d_any}
 
 module _ (xs : List ℕ) (from to : ℕ) where
   pub part_length : to ≤ length xs → length (take (to - from) (drop from xs)) ≡ to - from
@@ -31,3 +35,11 @@ module _ (row : List ℕ) (at n m : ℕ) (P : ℕ → Type 0) (long : at + m ≤
       → EachIndex (take (at + m - (at + n)) (drop (at + n) row)) (λ k. P (get_or (take (at + m - (at + n)) (drop (at + n) row)) k 0))
   each_columns h = each_part row (at + n) (at + m) P long
       (λ i a b. let e : at + (i - at) ≡ i = omega arith in subst (λ x. P (get_or row x 0)) e (h (i - at) (omega arith) (omega arith)))
+
+-- Each number of a list passes a test exactly where it has P.
+pub each_passes : (test : ℕ → Bool) (P : ℕ → Type 0) → ((x : ℕ) → test x ≡ true → P x) → ((x : ℕ) → P x → test x ≡ true) → (xs : List ℕ) (r : Bool)
+    → r ≡ list_all test xs → IsTrue r ↔ EachIndex xs (λ k. P (slice_index xs k))
+each_passes test P right left xs r e = (
+  λ t i l. right _ (AllPass-from_list_all test xs (sym e ∙ t) i 0 l),
+  λ h. e ∙ list_all-from_AllPass test xs (λ i d l. ap test (get_d_any xs i d 0 l) ∙ left _ (h i l)),
+)

@@ -57,7 +57,7 @@ fn are_sizes(left: u32, body: u32, head: u32) -> bool
 }
 
 // Whether the numbers of a row are in form, where the rule's words start at `from`.
-fn are_numbers(text: &[u8], used: u32, from: u32, rule: &RuleRow) -> bool
+fn are_numbers(text: &[u8], rule: &RuleRow, from: u32, used: u32) -> bool
     requires { from ≤ used }
     ensures { Tells result (Numbers text.now used from rule.now) }
 {
@@ -87,6 +87,7 @@ pub fn are_zeros(columns: &[u32]) -> bool
 }
 
 // Whether sorts are there, of which there are so many.
+// Stays: `sorts` is how many sorts there are, not how many columns.
 pub fn are_sorts(columns: &[u32], sorts: u32) -> bool
     ensures { IsTrue result ↔ EachIndex columns.now (λ k. (0 < slice_index columns.now k) × (slice_index columns.now k ≤ sorts)) }
 {
@@ -186,6 +187,7 @@ fn walk_premises(
 }
 
 // Meets the variables of one term; answers how many have places then, where the term takes `size` words.
+// Stays: `count` is how many variables are met, and any of the places may be theirs.
 fn walk_term(
     words: &[u32],
     reference: u32,
@@ -243,28 +245,11 @@ fn is_in_order(rule: PlacedRule, stack: &mut [[u32; 2]]) -> bool
     if all != row[3] {
         return false;
     }
-    meeting::is_in_order(&places, all)
-}
-
-// Meets the variables of a term that is not too large; answers how many have places then.
-fn walk(
-    words: &[u32],
-    reference: u32,
-    end: u32,
-    places: &mut [u32],
-    count: u32,
-    stack: &mut [[u32; 2]],
-) -> u32
-    requires { TermAsked words.now end reference × Lent places.old stack.old × ((e : List ℕ) × Records e places.old count) }
-    ensures { (e : List ℕ) → Records e places.old count → Records (met (term_of words.now reference) e) places.new result }
-{
-    match meeting::meet(words, reference, end, places, count, MOST, stack) {
-        Some(walked) => walked.places,
-        None => count,
-    }
+    meeting::is_in_order(&places[..all as usize])
 }
 
 // Meets the variables of a row's premises from the last to the first, behind those met before.
+// Stays: `count` is how many variables are met, and any of the places may be theirs.
 fn walk_back(
     words: &[u32],
     end: u32,
@@ -278,7 +263,7 @@ fn walk_back(
 {
     let mut all = count;
     for k in (0..rule[4] as usize).rev() {
-        all = walk(words, rule[10 + k], end, places, all, stack);
+        all = rules::walk(words, rule[10 + k], end, places, all, MOST, stack);
     }
 }
 
@@ -304,7 +289,7 @@ fn is_in_places(rule: PlacedRule, stack: &mut [[u32; 2]]) -> bool
         end,
     } = rule;
     let mut places = [64u32; 64];
-    let met = walk(words, row[5], end, &mut places, 0, stack);
+    let met = rules::walk(words, row[5], end, &mut places, 0, MOST, stack);
     if met != row[9] {
         return false;
     }
@@ -331,7 +316,7 @@ pub fn check_rule(
     requires fact_2 { 2048 ≤ length stack.old }
     ensures { RuleChecked text.now arities.now words.now sorts used rule.now from result }
 {
-    if !are_numbers(text, used, from, rule) {
+    if !are_numbers(text, rule, from, used) {
         return None;
     }
     if !are_columns(rule, sorts) {

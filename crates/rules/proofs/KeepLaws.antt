@@ -32,34 +32,33 @@ same_at zero v k l = absurd (omega arith)
 same_at (suc n) v zero l = refl
 same_at (suc n) v (suc k) l = same_at n v k (omega arith)
 
-module _ (n : ℕ) (heads : List ℕ) {arities : List ℕ} {R : Rule} {pattern : List ℕ} {from middle used conclusion : ℕ}
-    (lying : RuleLying arities R pattern from (take n heads) middle conclusion used) where
+module _ (heads : List ℕ) {arities : List ℕ} {R : Rule} {pattern : List ℕ} {from middle used conclusion : ℕ}
+    (lying : RuleLying arities R pattern from heads middle conclusion used) where
   pub conclusion_is : term_of pattern conclusion ≡ R.conclusion
   conclusion_is = lying_one lying.conclusion
 
-  pub premises_are : terms_of (term_of pattern) (take n heads) ≡ R.premises
+  pub premises_are : terms_of (term_of pattern) heads ≡ R.premises
   premises_are = lying.premises.denotes
 
-  module _ (up : from ≤ middle) (lent : n ≤ length heads) where
+  module _ (up : from ≤ middle) where
     head_met : RootAsked pattern used conclusion (used - from)
     head_met =
         let u = lying.conclusion.used in
         record { root = lying.conclusion.reference 0 (omega arith); small = rw conclusion_is (omega arith) }
 
-    body_met : (i : ℕ) → i < n → RootAsked pattern used (get_or heads i 0) (used - from)
+    body_met : (i : ℕ) → i < length heads → RootAsked pattern used (get_or heads i 0) (used - from)
     body_met i l =
-        let k : i < length (take n heads) = rw (length-take-le n heads lent) l in
-        let e : get_or (take n heads) i 0 ≡ get_or heads i 0 = get_or-take n heads i 0 l in
         let u = lying.premises.used in
         let v = lying.conclusion.used in
-        let w : words (term_of pattern (get_or (take n heads) i 0)) ≤ words (terms_of (term_of pattern) (take n heads)) = words_one (term_of pattern) (take n heads) i k in
-        let w' : words (term_of pattern (get_or (take n heads) i 0)) ≤ words R.premises = rw premises_are at w in
-        let s : words (term_of pattern (get_or (take n heads) i 0)) ≤ used - from = omega arith in
-        let r : Reference pattern_room (cells pattern) pattern_room used (get_or (take n heads) i 0) = reference_up pattern_room (omega arith) (omega arith) (lying.premises.reference i k) in
-        record { root = rw e at r; small = rw e at s }
+        let w : words (term_of pattern (get_or heads i 0)) ≤ words (terms_of (term_of pattern) heads) = words_one (term_of pattern) heads i l in
+        let w' : words (term_of pattern (get_or heads i 0)) ≤ words R.premises = rw premises_are at w in
+        record {
+          root = reference_up pattern_room (omega arith) (omega arith) (lying.premises.reference i l);
+          small = omega arith;
+        }
 
     -- A rule's terms take no more words than lie between its first and its last.
-    pub order_asked : OrderAsked pattern used heads n conclusion (replicate 64 64) (used - from)
+    pub order_asked : OrderAsked pattern used heads conclusion (replicate 64 64) (used - from)
     order_asked =
         record {
           walkable = record {
@@ -68,14 +67,13 @@ module _ (n : ℕ) (heads : List ℕ) {arities : List ℕ} {R : Rule} {pattern :
             formed = lying.conclusion.formed;
             long = rw (length-replicate {A = ℕ} 64 64) (omega arith);
           };
-          lent = lent;
           head = head_met;
           body = body_met;
           blank = λ x l. same_at 64 64 x l;
         }
 
   -- The places that the walk left.
-  pub all_recorded : {table table' : List ℕ} {r : Counts} → Ordered pattern heads n conclusion table r table' → (r.met ≡ length (head_vars R)) × Records (all_vars R) table' r.all
+  pub all_recorded : {table table' : List ℕ} {r : Counts} → Ordered pattern heads conclusion table r table' → (r.met ≡ length (head_vars R)) × Records (all_vars R) table' r.all
   all_recorded {table} {table'} {r} h = (
     h.counted ∙ ap (λ (t : Term). length (met t [])) conclusion_is,
     subst (λ (t : Term). Records (met_back R.premises (met t [])) table' r.all) conclusion_is
@@ -83,41 +81,37 @@ module _ (n : ℕ) (heads : List ℕ) {arities : List ℕ} {R : Rule} {pattern :
   )
 
   -- The row.
-  module _ (text : List ℕ) (v start size clause : ℕ) (sorts table' : List ℕ) (r : Counts) (rising : (from ≤ middle) × (middle ≤ used)) (n-few : n ≤ 16) (lent : n ≤ length heads)
+  module _ (text : List ℕ) (v start size clause : ℕ) (sorts table' : List ℕ) (r : Counts) (rising : (from ≤ middle) × (middle ≤ used)) (n-few : length heads ≤ 16)
       (v-few : v ≤ 64) (long : length table' ≡ 64) (many : length sorts ≡ v) (named : titled text start size clause ≡ R.name) (sorted : sorts ≡ R.sorts)
       (appear : met R.conclusion (met R.premises []) ≡ numbers_below v) (counts : r.met ≡ length (head_vars R)) (recorded : Records (all_vars R) table' r.all) where
     abbrev numbers : List ℕ
-    numbers = start ∷ size ∷ clause ∷ v ∷ n ∷ conclusion ∷ from ∷ (middle - from) ∷ (used - middle) ∷ r.met ∷ []
+    numbers = start ∷ size ∷ clause ∷ v ∷ length heads ∷ conclusion ∷ from ∷ (middle - from) ∷ (used - middle) ∷ r.met ∷ []
 
     abbrev row : List ℕ
-    row = filled numbers (take n heads) sorts (take v table') refl (rw (length-take-le n heads lent) n-few) (rw many v-few)
+    row = filled numbers heads sorts (take v table') refl n-few (rw many v-few)
         (rw (length-take-le v table' (rw long v-few)) v-few)
-
-    heads_long : length (take n heads) ≡ n
-    heads_long = length-take-le n heads lent
 
     places_long : length (take v table') ≡ v
     places_long = length-take-le v table' (rw long v-few)
 
     at : (k : ℕ) → k < 10 → column row k ≡ get_or numbers k 0
-    at k l = number_at numbers (take n heads) sorts (take v table') refl (rw heads_long n-few) (rw many v-few) (rw places_long v-few) k l
+    at k l = number_at numbers heads sorts (take v table') refl n-few (rw many v-few) (rw places_long v-few) k l
 
-    heads_are : heads_in row ≡ take n heads
-    heads_are = ap (columns row 10) (at 4 (omega arith) ∙ sym heads_long) ∙ heads_at numbers (take n heads) sorts (take v table') refl (rw heads_long n-few) (rw many v-few) (rw places_long v-few)
+    heads_are : heads_in row ≡ heads
+    heads_are = ap (columns row 10) (at 4 (omega arith)) ∙ heads_at numbers heads sorts (take v table') refl n-few (rw many v-few) (rw places_long v-few)
 
     places_are : places_in row ≡ take v table'
-    places_are = ap (columns row 90) (at 3 (omega arith) ∙ sym places_long) ∙ places_at numbers (take n heads) sorts (take v table') refl (rw heads_long n-few) (rw many v-few) (rw places_long v-few)
+    places_are = ap (columns row 90) (at 3 (omega arith) ∙ sym places_long) ∙ places_at numbers heads sorts (take v table') refl n-few (rw many v-few) (rw places_long v-few)
 
     sorts_are_lem : columns row 26 (column row 3) ≡ sorts
-    sorts_are_lem = ap (columns row 26) (at 3 (omega arith) ∙ sym many) ∙ sorts_at numbers (take n heads) sorts (take v table') refl (rw heads_long n-few) (rw many v-few) (rw places_long v-few)
+    sorts_are_lem = ap (columns row 26) (at 3 (omega arith) ∙ sym many) ∙ sorts_at numbers heads sorts (take v table') refl n-few (rw many v-few) (rw places_long v-few)
 
     pub row_kept : Kept text arities pattern row R from used
     row_kept =
         let a3 : column row 3 ≡ v = at 3 (omega arith) in
-        let a4 : column row 4 ≡ n = at 4 (omega arith) in
+        let a4 : column row 4 ≡ length heads = at 4 (omega arith) in
         let a7 : column row 7 ≡ middle - from = at 7 (omega arith) in
         let a8 : column row 8 ≡ used - middle = at 8 (omega arith) in
-        let hl = heads_long in
         let pl = places_long in
         record {
           named = rw (at 0 (omega arith), at 1 (omega arith), at 2 (omega arith)) named;
@@ -130,15 +124,14 @@ module _ (n : ℕ) (heads : List ℕ) {arities : List ℕ} {R : Rule} {pattern :
           few = omega arith;
           placed = λ x h. ap (λ (l : List ℕ). get_or l x 0) places_are ∙ get_or-take v table' x 0 (all_below R v appear x h) ∙ records_placed R table' r.all recorded x h;
           premises = omega arith;
-          heads_clear = λ j l k. heads_past numbers (take n heads) sorts (take v table') refl (rw heads_long n-few) (rw many v-few) (rw places_long v-few) j (omega arith) k;
-          sorts_clear_lem = λ j l k. sorts_past numbers (take n heads) sorts (take v table') refl (rw heads_long n-few) (rw many v-few) (rw places_long v-few) j (omega arith) k;
-          places_clear = λ j l k. places_past numbers (take n heads) sorts (take v table') refl (rw heads_long n-few) (rw many v-few) (rw places_long v-few) j (omega arith) k;
+          heads_clear = λ j l k. heads_past numbers heads sorts (take v table') refl n-few (rw many v-few) (rw places_long v-few) j (omega arith) k;
+          sorts_clear_lem = λ j l k. sorts_past numbers heads sorts (take v table') refl n-few (rw many v-few) (rw places_long v-few) j (omega arith) k;
+          places_clear = λ j l k. places_past numbers heads sorts (take v table') refl n-few (rw many v-few) (rw places_long v-few) j (omega arith) k;
         }
 
 -- The numbers at the row's beginning.
-pub title_at_lem : (n v : ℕ) (numbers heads sorts table : List ℕ) → length numbers ≡ 10 → n ≤ 16 → n ≤ length heads → length sorts ≡ v → v ≤ 64 → length table ≡ 64 → (k : ℕ) → k < 10
-    → column (rule_row numbers (take n heads) sorts (take v table)) k ≡ get_or numbers k 0
-title_at_lem n v numbers heads sorts table ten few lent many small long k l =
-    let a : length (take n heads) ≡ n = length-take-le n heads lent in
+pub title_at_lem : (v : ℕ) (numbers heads sorts table : List ℕ) → length numbers ≡ 10 → length heads ≤ 16 → length sorts ≡ v → v ≤ 64 → length table ≡ 64 → (k : ℕ) → k < 10
+    → column (rule_row numbers heads sorts (take v table)) k ≡ get_or numbers k 0
+title_at_lem v numbers heads sorts table ten few many small long k l =
     let b : length (take v table) ≡ v = length-take-le v table (omega arith) in
-    number_at numbers (take n heads) sorts (take v table) ten (omega arith) (omega arith) (omega arith) k l
+    number_at numbers heads sorts (take v table) ten few (omega arith) (omega arith) k l

@@ -9,4 +9,5 @@ pub mod StoredLaws
 pub mod Layout
 pub mod LayoutLaws
 pub mod Promises
+pub mod UsedLaws
 mod Examples

@@ -67,47 +67,44 @@ pub record Walkable (pattern : List ℕ) (used : ℕ) (table : List ℕ) : Type 
   pub formed : WellFormed pattern_room (cells pattern) pattern_room used
   pub long : pattern_room ≤ length table
 
--- What `order` asks beside the stack: a table without places, and the references of the conclusion and of n premises, terms of at most `most` words each.
-pub record OrderAsked (pattern : List ℕ) (used : ℕ) (heads : List ℕ) (n conclusion : ℕ) (table : List ℕ) (most : ℕ) : Type 0 where
+-- What `order` asks beside the stack: a table without places, and the references of the conclusion and of the premises, terms of at most `most` words each.
+pub record OrderAsked (pattern : List ℕ) (used : ℕ) (heads : List ℕ) (conclusion : ℕ) (table : List ℕ) (most : ℕ) : Type 0 where
   pub walkable : Walkable pattern used table
-  pub lent : n ≤ length heads
   pub head : RootAsked pattern used conclusion most
-  pub body : (i : ℕ) → i < n → RootAsked pattern used (get_or heads i 0) most
+  pub body : (i : ℕ) → i < length heads → RootAsked pattern used (get_or heads i 0) most
   pub blank : (x : ℕ) → x < pattern_room → get_or table x 0 ≡ pattern_room
 
 -- What it owes: the variables of the conclusion counted, and the places of all in the table.
-pub record Ordered (pattern heads : List ℕ) (n conclusion : ℕ) (table : List ℕ) (r : Counts) (table' : List ℕ) : Type 0 where
+pub record Ordered (pattern heads : List ℕ) (conclusion : ℕ) (table : List ℕ) (r : Counts) (table' : List ℕ) : Type 0 where
   pub counted : r.met ≡ length (met (term_of pattern conclusion) [])
-  pub recorded : Records (met_back (terms_of (term_of pattern) (take n heads)) (met (term_of pattern conclusion) [])) table' r.all
+  pub recorded : Records (met_back (terms_of (term_of pattern) heads) (met (term_of pattern conclusion) [])) table' r.all
   pub kept : length table' ≡ length table
 
 -- What `keep` asks: a rule whose premises lie in the words from `from` up to `middle` and whose conclusion lies from there up to `used`, and storage for it.
-pub record KeepAsked (pattern : List ℕ) (from middle used : ℕ) (heads : List ℕ) (n conclusion : ℕ) (variables : Rows) (v : ℕ) (rules : Rows) (i : ℕ) : Type 0 where
-  pub rule : (arities : List ℕ) × (R : Rule) × RuleLying arities R pattern from (take n heads) middle conclusion used
+pub record KeepAsked (pattern : List ℕ) (from middle used : ℕ) (heads : List ℕ) (conclusion : ℕ) (variables : Rows) (rules : Rows) (i : ℕ) : Type 0 where
+  pub rule : (arities : List ℕ) × (R : Rule) × RuleLying arities R pattern from heads middle conclusion used
   pub rising : (from ≤ middle) × (middle ≤ used)
   -- 2 words for each of 1,024 nodes
   pub small : used ≤ from + 2048
   pub low : used ≤ 65536
-  pub few : n ≤ 16
-  pub references : n ≤ length heads
-  pub vars : v ≤ 64
-  pub lent : v ≤ length variables
+  pub few : length heads ≤ 16
+  pub vars : length variables ≤ 64
   pub row : i < length rules
 
 -- What it owes: a row that keeps that rule, where the variables are those of the rule and the title is its name.
-pub record Keeping (pattern : List ℕ) (from middle used : ℕ) (heads : List ℕ) (n conclusion : ℕ) (variables : Rows) (v : ℕ) (title : Title) (rules : Rows) (i : ℕ) (rules' : Rows) : Type 0 where
+pub record Keeping (pattern : List ℕ) (from middle used : ℕ) (heads : List ℕ) (conclusion : ℕ) (variables : Rows) (title : Title) (rules : Rows) (i : ℕ) (rules' : Rows) : Type 0 where
   pub row : List ℕ
   pub written : rules' ≡ set rules i row
   pub placed : (column row 0 ≡ title.start) × (column row 1 ≡ title.size) × (column row 2 ≡ title.clause)
-  pub kept : (text arities : List ℕ) (R : Rule) → RuleLying arities R pattern from (take n heads) middle conclusion used
-      → titled text title.start title.size title.clause ≡ R.name → map (λ x. x.sort) (variables_of text variables v) ≡ R.sorts
+  pub kept : (text arities : List ℕ) (R : Rule) → RuleLying arities R pattern from heads middle conclusion used
+      → titled text title.start title.size title.clause ≡ R.name → map (λ x. x.sort) (variables_of text variables (length variables)) ≡ R.sorts
       → met R.conclusion (met R.premises []) ≡ numbers_below (length R.sorts)
       → Kept text arities pattern row R from used
   -- It is the row of that rule, where the references are those of its terms.
-  pub exact : (text arities : List ℕ) (R : Rule) → RuleLying arities R pattern from (take n heads) middle conclusion used
-      → map (λ x. x.sort) (variables_of text variables v) ≡ R.sorts
+  pub exact : (text arities : List ℕ) (R : Rule) → RuleLying arities R pattern from heads middle conclusion used
+      → map (λ x. x.sort) (variables_of text variables (length variables)) ≡ R.sorts
       → met R.conclusion (met R.premises []) ≡ numbers_below (length R.sorts)
-      → take n heads ≡ references R.premises from → conclusion ∷ [] ≡ references R.conclusion middle → row ≡ row_of title from R
+      → heads ≡ references R.premises from → conclusion ∷ [] ≡ references R.conclusion middle → row ≡ row_of title from R
 
 -- What stands in the rows: n premises from the row p on, and a conclusion at a row of its own.
 pub record Source (text : List ℕ) (premises : Rows) (p n : ℕ) (conclusions : Rows) (here : ℕ) : Type 0 where

@@ -15,7 +15,7 @@ ghost use Rattle.patterns.specs.Promises.{Ready};
 ghost use Rattle.rules.specs.StoredRows.{rule_row};
 ghost use Rattle.rules.specs.Promises.{Judging, RootAsked, Walkable, OrderAsked, Ordered, Keeping, KeepAsked, RuleAsked, RuleEntered};
 
-use names::{SymbolRow, TermRow, VariableRow};
+use names::{SourceTerms, SymbolRow, TermRow, VariableRow};
 use patterns::Place;
 use refusals::Refusal;
 
@@ -38,6 +38,19 @@ pub struct Space {
     pub room: usize,
 }
 
+// The judgments of a rule in rows: n premises from the row `at` on, and the conclusion at the row `here` of its own rows; their text and the symbols that
+// they may name.
+#[derive(Clone, Copy)]
+pub struct SourceRule<'a> {
+    pub text: &'a [u8],
+    pub symbols: &'a [SymbolRow],
+    pub premises: &'a [TermRow],
+    pub at: usize,
+    pub n: usize,
+    pub conclusions: &'a [TermRow],
+    pub here: usize,
+}
+
 // A rule's judgments: the conclusion's reference, the words used before the conclusion, how many variables there are, and the space behind them.
 #[derive(Clone, Copy)]
 struct Body {
@@ -47,41 +60,61 @@ struct Body {
     space: Space,
 }
 
-// Compiles n premises, and then the conclusion; their variables are numbered together.
+// Compiles the premises, and then the conclusion; their variables are numbered together.
 fn judgments(
-    text: &[u8],
-    premises: &[TermRow],
-    at: usize,
-    n: usize,
-    conclusions: &[TermRow],
-    here: usize,
-    symbols: &[SymbolRow],
-    count: usize,
+    source: SourceRule,
     variables: &mut [VariableRow],
     words: &mut [u32],
     space: Space,
     heads: &mut [u32],
 ) -> Result<Body, Refusal>
-    requires fact_1 { Ready symbols.now count variables.old 0 words.old space.used space.room }
-    requires fact_2 { (n ≤ 16) × (length heads.old ≡ 16) }
-    ensures { Judging text.now premises.now at n conclusions.now here (symbols_of text.now symbols.now count) variables.old words.old space.used space.room result variables.new words.new heads.new }
+    requires fact_1 { Ready source.symbols.now (length source.symbols.now) variables.old 0 words.old space.used space.room }
+    requires fact_2 { (source.n ≤ 16) × (length heads.old ≡ 16) }
+    ensures { Judging source.entry.text.now source.entry.premises.now source.entry.at source.entry.n source.entry.conclusions.now source.entry.here (symbols_of source.entry.text.now source.entry.symbols.now (length source.entry.symbols.now)) variables.old words.old space.used space.room result variables.new words.new heads.new }
 {
+    let SourceRule {
+        text,
+        symbols,
+        premises,
+        at,
+        n,
+        conclusions,
+        here,
+    } = source;
     let from = Place {
         next: at,
         variables: 0,
         used: space.used,
         room: space.room,
     };
+    let rows = premises;
     let place = patterns::judgments(
-        text, premises, n, symbols, count, variables, words, heads, from,
+        SourceTerms {
+            text,
+            rows,
+            symbols,
+        },
+        n,
+        variables,
+        words,
+        heads,
+        from,
     )?;
-    let last = Place {
-        next: here,
-        variables: place.variables,
-        used: place.used,
-        room: place.room,
-    };
-    let made = patterns::pattern(text, conclusions, symbols, count, 0, variables, words, last)?;
+    let rows = conclusions;
+    let made = patterns::pattern(
+        SourceTerms {
+            text,
+            rows,
+            symbols,
+        },
+        0,
+        variables,
+        words,
+        Place {
+            next: here,
+            ..place
+        },
+    )?;
     Ok(Body {
         conclusion: made.node,
         middle: place.used,
@@ -101,7 +134,8 @@ pub fn all_known(variables: &[VariableRow]) -> bool
 }
 
 // Meets the variables of a term of at most `most` words; answers how many have places then.
-fn walk(
+// Stays: `count` is how many variables are met, not how many places are used: any of them may have its place.
+pub fn walk(
     words: &[u32],
     reference: u32,
     used: u32,
@@ -129,102 +163,100 @@ pub struct Counts {
 }
 
 // Gives the variables of a rule their places in meeting order: the conclusion's from left to right, then those of the premises from the last to the first.
+// Stays: `meet` below asks for the words with the number of those in use.
 fn order(
     words: &[u32],
     used: u32,
     heads: &[u32],
-    n: usize,
     conclusion: u32,
     places: &mut [u32],
     most: u32,
     stack: &mut [[u32; 2]],
 ) -> Counts
-    requires fact_1 { OrderAsked words.now used heads.now n conclusion places.old most }
+    requires fact_1 { OrderAsked words.now used heads.now conclusion places.old most }
     requires fact_2 { most ≤ length stack.old }
-    ensures { Ordered words.now heads.now n conclusion places.old result places.new }
+    ensures { Ordered words.now heads.now conclusion places.old result places.new }
 {
     let met = walk(words, conclusion, used, places, 0, most, stack);
     let mut all = met;
-    for k in (0..n).rev() {
+    for k in (0..heads.len()).rev() {
         all = walk(words, heads[k], used, places, all, most, stack);
     }
-    Counts { met: met, all: all }
+    Counts { met, all }
 }
 
 // The same with a stack of its own, for terms of at most N words.
+// Stays: `meet` below asks for the words with the number of those in use.
 fn order_within<const N: usize>(
     words: &[u32],
     used: u32,
     heads: &[u32],
-    n: usize,
     conclusion: u32,
     places: &mut [u32],
     most: u32,
 ) -> Counts
-    requires { (OrderAsked words.now used heads.now n conclusion places.old most) × (most ≤ N) × (N ≤ 2048) }
-    ensures { Ordered words.now heads.now n conclusion places.old result places.new }
+    requires { (OrderAsked words.now used heads.now conclusion places.old most) × (most ≤ N) × (N ≤ 2048) }
+    ensures { Ordered words.now heads.now conclusion places.old result places.new }
 {
     let mut stack = [[0u32; 2]; N];
-    order(words, used, heads, n, conclusion, places, most, &mut stack)
+    order(words, used, heads, conclusion, places, most, &mut stack)
 }
 
 // The same with a stack for as many words as the rule has, at most 2 for each of 1,024 nodes: laying out the large one takes longer than the walk through
 // a small rule.
+// Stays: `meet` below asks for the words with the number of those in use.
 fn order_sized(
     words: &[u32],
     used: u32,
     heads: &[u32],
-    n: usize,
     conclusion: u32,
     places: &mut [u32],
     most: u32,
 ) -> Counts
-    requires { (OrderAsked words.now used heads.now n conclusion places.old most) × (most ≤ 2048) }
-    ensures { Ordered words.now heads.now n conclusion places.old result places.new }
+    requires { (OrderAsked words.now used heads.now conclusion places.old most) × (most ≤ 2048) }
+    ensures { Ordered words.now heads.now conclusion places.old result places.new }
 {
     if most <= FEW {
-        return order_within::<64>(words, used, heads, n, conclusion, places, most);
+        return order_within::<64>(words, used, heads, conclusion, places, most);
     }
-    order_within::<2048>(words, used, heads, n, conclusion, places, most)
+    order_within::<2048>(words, used, heads, conclusion, places, most)
 }
 
-// Writes the first n of some values into the row i, from a column on.
-fn put_columns(rules: &mut [RuleRow], i: usize, at: usize, values: &[u32], n: usize)
-    requires { (i < length rules.old) × (at + n ≤ 154) × (n ≤ length values.now) }
-    ensures { rules.new ≡ set rules.old i (sets (row_at rules.old i) at (take n values.now)) }
+// Writes values into the row i, from a column on.
+fn put_columns(rules: &mut [RuleRow], i: usize, at: usize, values: &[u32])
+    requires { (i < length rules.old) × (at + length values.now ≤ 154) }
+    ensures { rules.new ≡ set rules.old i (sets (row_at rules.old i) at values.now) }
 {
-    rules[i][at..at + n].copy_from_slice(&values[..n]);
+    rules[i][at..at + values.len()].copy_from_slice(values);
 }
 
-// Writes the sorts of n variables into the row i, from column 26 on.
-fn put_sorts(rules: &mut [RuleRow], i: usize, variables: &[VariableRow], n: usize)
-    requires { (i < length rules.old) × (n ≤ 64) × (n ≤ length variables.now) }
-    ensures { (text : List ℕ) → rules.new ≡ set rules.old i (sets (row_at rules.old i) 26 (mathlib.Core.List.map (λ v. v.sort) (variables_of text variables.now n))) }
+// Writes the sorts of variables into the row i, from column 26 on.
+fn put_sorts(rules: &mut [RuleRow], i: usize, variables: &[VariableRow])
+    requires { (i < length rules.old) × (length variables.now ≤ 64) }
+    ensures { (text : List ℕ) → rules.new ≡ set rules.old i (sets (row_at rules.old i) 26 (mathlib.Core.List.map (λ v. v.sort) (variables_of text variables.now (length variables.now)))) }
 {
-    for j in 0..n {
+    for j in 0..variables.len() {
         rules[i][26 + j] = variables[j][3];
     }
 }
 
-// Writes the row i: ten numbers, n references, the sorts of v variables and their places.
+// Writes the row i: ten numbers, the references, and the sorts of the variables and their places.
 fn store(
     rules: &mut [RuleRow],
     i: usize,
     numbers: &[u32],
     heads: &[u32],
-    n: usize,
     variables: &[VariableRow],
-    v: usize,
     places: &[u32],
 )
-    requires { (i < length rules.old) × (length numbers.now ≡ 10) × (n ≤ 16) × (n ≤ length heads.now) × (v ≤ 64) × (v ≤ length variables.now) × (v ≤ length places.now) }
-    ensures { (text : List ℕ) → rules.new ≡ set rules.old i (rule_row numbers.now (take n heads.now) (mathlib.Core.List.map (λ v. v.sort) (variables_of text variables.now v)) (take v places.now)) }
+    requires { (i < length rules.old) × (length numbers.now ≡ 10) × (length heads.now ≤ 16) × (length variables.now ≤ 64) × (length places.now ≤ 64) }
+    ensures { (text : List ℕ) → rules.new ≡ set rules.old i (rule_row numbers.now heads.now (mathlib.Core.List.map (λ v. v.sort) (variables_of text variables.now (length variables.now))) places.now) }
 {
     rules[i] = [0u32; 154];
-    put_columns(rules, i, 0, numbers, 10);
-    put_columns(rules, i, 10, heads, n);
-    put_sorts(rules, i, variables, v);
-    put_columns(rules, i, 90, places, v);
+    put_columns(rules, i, 0, numbers);
+    put_columns(rules, i, 10, heads);
+    put_sorts(rules, i, variables);
+    put_columns(rules, i, 90, places);
 }
 
 // Where a rule's name stands, and the number of its clause + 1; 0 for a written rule.
@@ -235,30 +267,32 @@ pub struct Title {
     pub clause: u32,
 }
 
-// Keeps a rule whose judgments lie in the words: gives its variables their places, and writes its row.
+// Keeps a rule whose judgments lie in the words from `from` on: gives its variables their places, and writes its row.
 fn keep(
     words: &[u32],
     from: usize,
-    middle: usize,
-    used: usize,
+    body: Body,
     heads: &[u32],
-    n: usize,
-    conclusion: u32,
     variables: &[VariableRow],
-    v: usize,
     rules: &mut [RuleRow],
     i: usize,
     title: Title,
 )
-    requires { KeepAsked words.now from middle used heads.now n conclusion variables.now v rules.old i }
-    ensures { Keeping words.now from middle used heads.now n conclusion variables.now v title rules.old i rules.new }
+    requires { KeepAsked words.now from body.middle body.space.used heads.now body.conclusion variables.now rules.old i }
+    ensures { Keeping words.now from body.middle body.space.used heads.now body.conclusion variables.now title rules.old i rules.new }
 {
+    let Body {
+        conclusion,
+        middle,
+        ..
+    } = body;
+    let used = body.space.used;
+    let v = variables.len();
     let mut places = [64u32; 64];
     let counts = order_sized(
         words,
         used as u32,
         heads,
-        n,
         conclusion,
         &mut places,
         (used - from) as u32,
@@ -268,54 +302,35 @@ fn keep(
         title.size,
         title.clause,
         v as u32,
-        n as u32,
+        heads.len() as u32,
         conclusion,
         from as u32,
         (middle - from) as u32,
         (used - middle) as u32,
         counts.met,
     ];
-    store(rules, i, &numbers, heads, n, variables, v, &places);
+    store(rules, i, &numbers, heads, variables, &places[..v]);
 }
 
-// Compiles a rule of n premises from a row on and a conclusion at a row of its own, and keeps it as the rule with a number.
+// Compiles a rule, and keeps it as the rule with a number.
 pub fn rule(
-    text: &[u8],
-    premises: &[TermRow],
-    at: usize,
-    n: usize,
-    conclusions: &[TermRow],
-    here: usize,
-    symbols: &[SymbolRow],
-    count: usize,
+    source: SourceRule,
     words: &mut [u32],
     space: Space,
     rules: &mut [RuleRow],
     number: usize,
     title: Title,
 ) -> Result<Space, Refusal>
-    requires { RuleAsked text.now premises.now at n conclusions.now here symbols.now count words.old space.used space.room rules.old }
-    ensures { RuleEntered text.now premises.now at n conclusions.now here (symbols_of text.now symbols.now count) title words.old space.used space.room rules.old number result words.new rules.new }
+    requires { RuleAsked source.text.now source.premises.now source.at source.n source.conclusions.now source.here source.symbols.now (length source.symbols.now) words.old space.used space.room rules.old }
+    ensures { RuleEntered source.entry.text.now source.entry.premises.now source.entry.at source.entry.n source.entry.conclusions.now source.entry.here (symbols_of source.entry.text.now source.entry.symbols.now (length source.entry.symbols.now)) title words.old space.used space.room rules.old number result words.new rules.new }
 {
+    let n = source.n;
     if PREMISES < n {
         return Err(Refusal::Full);
     }
     let mut variables = [[0u32; 4]; 64];
     let mut heads = [0u32; 16];
-    let body = judgments(
-        text,
-        premises,
-        at,
-        n,
-        conclusions,
-        here,
-        symbols,
-        count,
-        &mut variables,
-        words,
-        space,
-        &mut heads,
-    )?;
+    let body = judgments(source, &mut variables, words, space, &mut heads)?;
     let v = body.variables;
     if !all_known(&variables[..v]) {
         return Err(Refusal::SortNotKnown);
@@ -326,13 +341,9 @@ pub fn rule(
     keep(
         words,
         space.used,
-        body.middle,
-        body.space.used,
-        &heads,
-        n,
-        body.conclusion,
-        &variables,
-        v,
+        body,
+        &heads[..n],
+        &variables[..v],
         rules,
         number,
         title,

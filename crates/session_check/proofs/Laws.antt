@@ -1,5 +1,5 @@
 -- Laws of the parts of a session's form: lengths, names, words, and all together.
-use Prim.Native.Nat.{ℕ, ◌≤◌, ◌<◌}
+use Prim.Native.Nat.{ℕ, ◌+◌, ◌-◌, ◌≤◌, ◌<◌}
 use native.Mathlib.Omega.{arith}
 use mathlib.Core.Path.{◌≡◌, refl, sym, ap, ◌∙◌}
 use mathlib.Core.Bool.{Bool, false, not}
@@ -7,6 +7,7 @@ use mathlib.Core.Logic.{inl, inr}
 use mathlib.Core.List.{List, [], map}
 use lib.ListN.{length, get_or, take}
 use borrow.Author.Tests.{not-false}
+use Rattle.terms.specs.Numbers.{by_same}
 use Rattle.words.specs.declared.Limits.{Limits}
 use Rattle.arena.specs.Cells.{cells, WellFormed}
 use Rattle.arena.specs.Copies.{term_room}
@@ -19,12 +20,13 @@ use Rattle.names.specs.Names.{Distinct, name_in}
 use Rattle.names.specs.Symbols.{Rows, column, row_at, sort_of, sorts_of, symbols_of}
 use Rattle.names.specs.SearchLaws.{table_length, table_at, get_d_any}
 use Rattle.rules.specs.PatternLaws.{arities_of}
+use Rattle.signature.specs.Parts.{place_in}
 use Rattle.signature.proofs.Laws.{same}
 use Rattle.signature.proofs.UsedLaws.{used_length, row_used, used_each, each_used}
 use Rattle.sessions.specs.Storage.{SessionStore, Workspace, NameFormed, too_short}
 use Rattle.sessions.specs.OpeningLaws.{enough_lent}
 use Rattle.sessions.specs.declared.SessionCounts.{SessionCounts}
-use Rattle.session_check.specs.Parts.{SessionCounted, NameKind, NamesFormed, Rising, place_of, word_in}
+use Rattle.session_check.specs.Parts.{SessionCounted, NameKind, NamesFormed, Rising, word_in}
 use Rattle.session_check.specs.Parts.{PlacesDistinct}
 use Rattle.session_check.specs.Parts.{NamesListed, SessionReady, SessionChecked}
 
@@ -37,7 +39,7 @@ names_there limits b s n e f = let l = (enough_lent limits b s e).names in omega
 
 -- The words at the places that were written are those of the names.
 module _ (text : List ℕ) (names places : Rows) (n : ℕ) (long : n ≤ length places) (put : (i : ℕ) → i < n
-    → row_at places i ≡ place_of (row_at names i)) where
+    → row_at places i ≡ place_in (row_at names i) 1) where
   word_at : (i : ℕ) → i < n → get_or (sorts_of text places n) i [] ≡ word_in text (row_at names i)
   unfolding sorts_of
   word_at i l =
@@ -53,6 +55,15 @@ module _ (text : List ℕ) (names places : Rows) (n : ℕ) (long : n ≤ length 
       (λ d i j l m e. let w = words_long in d i j l (omega arith) (word_at i (omega arith) ∙ e ∙ sym (word_at j m)))
       (λ d i j l m e. let w = words_long in let k : j < n = omega arith in d i j l k (sym (word_at i (omega arith)) ∙ e ∙ word_at j k))
       t
+
+-- One more variable that is above the last one.
+pub rising_more : (rows : Rows) (i : ℕ) → 0 < i → Rising rows i → column (row_at rows (i - 1)) 4 < column (row_at rows i) 4 → Rising rows (i + 1)
+rising_more rows i p h l a b m n =
+    by_same b i
+    (λ e _. by_same a (i - 1)
+    (λ d _. rw (d, e) l)
+    (λ d _. let k = h a (i - 1) (omega arith) (omega arith) in let t : column (row_at rows a) 4 < column (row_at rows i) 4 = omega arith in rw e t))
+    (λ e _. h a b m (omega arith))
 
 -- A name of these kinds is the word at its place.
 plain_name : (text row : List ℕ) → NameKind (column row 0) → name_in text row ≡ word_in text row

@@ -1,5 +1,5 @@
 -- What `check_session` decides, and its parts, each decided by a function of its own.
-use Rattle.std.specs.Prelude.{ℕ, ◌≤◌, ◌<◌, ◌≡◌, Bool, false, ◌⊎◌, List, [], ◌∷◌}
+use Rattle.std.specs.Prelude.{ℕ, ◌≤◌, ◌<◌, ◌≡◌, Bool, false, ◌⊎◌, List}
 use Rattle.source_text.specs.Parts.{part_of}
 use Rattle.words.specs.Names.{name_kind, metavariable_kind}
 use Rattle.words.specs.declared.Limits.{Limits}
@@ -40,9 +40,6 @@ abbrev pub Rising : Rows → ℕ → Type 0
 Rising rows n = (i j : ℕ) → i < j → j < n → column (row_at rows i) 4 < column (row_at rows j) 4
 
 -- no word stands twice at their places;
-abbrev pub place_of : List ℕ → List ℕ
-place_of row = column row 1 ∷ column row 2 ∷ []
-
 abbrev pub word_in : List ℕ → List ℕ → List ℕ
 word_in text row = part_of text (column row 1) (column row 2)
 

@@ -14,9 +14,10 @@ ghost use Rattle.sessions.specs.Storage.{part_in};
 ghost use Rattle.session_check.specs.Parts.{SessionChecked};
 
 use arena::{TERM_ROOM, Terms};
+use bindings::StoredBindings;
 use lengths::is_counted;
 pub use lengths::is_short;
-use naming::are_names_listed;
+use naming::{Known, are_names_listed};
 use nodes::are_words_formed;
 use scratch::is_scratch_zero;
 use sessions::StoredSession;
@@ -54,21 +55,29 @@ pub fn check_session(
         return false;
     }
     let names = &session.names[..counts.names as usize];
-    if !are_names_listed(text, names, signature.counts.sorts, counts.variables) {
+    let known = Known {
+        sorts: signature.counts.sorts,
+        variables: counts.variables,
+    };
+    if !are_names_listed(text, names, known) {
         return false;
     }
     let symbols = &signature.symbols[..signature.counts.symbols as usize];
-    if !are_words_formed(symbols, words, counts.words, counts.variables) {
-        return false;
-    }
-    if !is_scratch_zero(links, marks, stack, counts.words) {
-        return false;
-    }
     let terms = Terms {
         words,
         room: TERM_ROOM,
         variables: counts.variables,
         used: counts.words,
     };
-    bindings::check_bindings(terms, session.bindings, marks, counts.bound)
+    if !are_words_formed(symbols, terms) {
+        return false;
+    }
+    if !is_scratch_zero(terms, links, marks, stack) {
+        return false;
+    }
+    let held = StoredBindings {
+        rows: session.bindings,
+        bound: counts.bound,
+    };
+    bindings::check_bindings(terms, held, marks)
 }

@@ -1,11 +1,9 @@
 // The rows of names: each in form, no name twice, variables that rise.
-ghost use Rattle.std.specs.Prelude.{ℕ, ◌≤◌, ◌<◌, ◌≡◌, length};
+ghost use Rattle.std.specs.Prelude.{◌≤◌, length};
 ghost use Rattle.bindings.specs.Promises.{Tells};
-ghost use Rattle.names.specs.Symbols.{row_at};
 ghost use Rattle.sessions.specs.Storage.{NameFormed};
-ghost use Rattle.session_check.specs.Parts.{NameKind, NameNumbersFormed, NamesFormed, Rising, place_of, PlacesDistinct, NamesListed};
+ghost use Rattle.session_check.specs.Parts.{NameKind, NameNumbersFormed, NamesFormed, Rising, PlacesDistinct, NamesListed};
 
-use names::SortRow;
 use sessions::NameRow;
 
 // How many names there may be.
@@ -18,28 +16,35 @@ fn is_name_kind(kind: u32) -> bool
     kind == words::NAME || kind == words::METAVARIABLE
 }
 
+// How many sorts there are, and how many variables were made.
+#[derive(Clone, Copy)]
+pub struct Known {
+    pub sorts: u32,
+    pub variables: u32,
+}
+
 // Are a name's sort and variable in form?
-fn are_numbers_formed(sort: u32, variable: u32, sorts: u32, variables: u32) -> bool
-    ensures { Tells result (NameNumbersFormed sort variable sorts variables) }
+fn are_numbers_formed(sort: u32, variable: u32, known: Known) -> bool
+    ensures { Tells result (NameNumbersFormed sort variable known.sorts known.variables) }
 {
-    sort != 0 && sort <= sorts && variable < variables
+    sort != 0 && sort <= known.sorts && variable < known.variables
 }
 
 // Is a name's row in form?
-fn is_name_formed(text: &[u8], row: &NameRow, sorts: u32, variables: u32) -> bool
-    ensures { Tells result (NameFormed text.now sorts variables row.now) }
+fn is_name_formed(text: &[u8], row: &NameRow, known: Known) -> bool
+    ensures { Tells result (NameFormed text.now known.sorts known.variables row.now) }
 {
     is_name_kind(row[0])
         && rule_checks::is_name(text, row[1], row[2])
-        && are_numbers_formed(row[3], row[4], sorts, variables)
+        && are_numbers_formed(row[3], row[4], known)
 }
 
 // Are the rows of names in form?
-fn are_names_formed(text: &[u8], names: &[NameRow], sorts: u32, variables: u32) -> bool
-    ensures { Tells result (NamesFormed text.now sorts variables names.now (length names.now)) }
+fn are_names_formed(text: &[u8], names: &[NameRow], known: Known) -> bool
+    ensures { Tells result (NamesFormed text.now known.sorts known.variables names.now (length names.now)) }
 {
     for row in names {
-        if !is_name_formed(text, row, sorts, variables) {
+        if !is_name_formed(text, row, known) {
             return false;
         }
     }
@@ -58,33 +63,22 @@ fn are_rising(names: &[NameRow]) -> bool
     true
 }
 
-// Writes the places of names.
-fn put_places(names: &[NameRow], places: &mut [SortRow])
-    requires { length names.now ≤ length places.old }
-    ensures { (i : ℕ) → i < length names.now → row_at places.new i ≡ place_of (row_at names.now i) }
-{
-    for (i, row) in names.iter().enumerate() {
-        places[i] = [row[1], row[2]];
-    }
-}
-
 // Do the words of names all differ? Their places are sorted by their words.
 fn are_places_distinct(text: &[u8], names: &[NameRow]) -> bool
     requires { length names.now ≤ 64 }
     ensures { Tells result (PlacesDistinct text.now names.now (length names.now)) }
 {
     let mut places = [[0u32; 2]; MOST];
-    let mut spare = [[0u32; 2]; MOST];
-    put_places(names, &mut places);
-    distinct::are_distinct(text, &mut places, &mut spare, names.len())
+    signature::put_places(names, 1, &mut places);
+    distinct::are_distinct(text, &mut places[..names.len()])
 }
 
 // Are names in form, all different, with variables that rise?
-pub fn are_names_listed(text: &[u8], names: &[NameRow], sorts: u32, variables: u32) -> bool
+pub fn are_names_listed(text: &[u8], names: &[NameRow], known: Known) -> bool
     requires { length names.now ≤ 64 }
-    ensures { Tells result (NamesListed text.now sorts variables names.now (length names.now)) }
+    ensures { Tells result (NamesListed text.now known.sorts known.variables names.now (length names.now)) }
 {
-    if !are_names_formed(text, names, sorts, variables) {
+    if !are_names_formed(text, names, known) {
         return false;
     }
     if !are_rising(names) {

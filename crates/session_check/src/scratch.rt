@@ -1,22 +1,25 @@
 // Scratch that is zero.
-ghost use Rattle.std.specs.Prelude.{◌≤◌};
-ghost use Rattle.arena.specs.Copies.{term_room};
 ghost use Rattle.bindings.specs.Promises.{Tells};
 ghost use Rattle.unifier.specs.Promises.{Scratch};
 
-use arena::TERM_ROOM;
+use arena::Terms;
 use checks::are_zero;
 
 // Are links, marks and stack zero, and long enough for the words in use?
 pub fn is_scratch_zero(
+    terms: Terms,
     links: &[[u32; 2]],
     marks: &[[u32; 2]],
     stack: &[[u32; 3]],
-    used: u32,
 ) -> bool
-    requires { used ≤ 262144 }
-    ensures { Tells result (Scratch term_room used links.now marks.now stack.now) }
+    ensures { Tells result (Scratch terms.entry.room terms.entry.used links.now marks.now stack.now) }
 {
-    let references = (TERM_ROOM + used) as usize;
-    are_zero(links, references) && are_zero(marks, references) && are_zero(stack, used as usize)
+    let references = terms.room as usize + terms.used as usize;
+    if !are_zero(links, references) {
+        return false;
+    }
+    if !are_zero(marks, references) {
+        return false;
+    }
+    are_zero(stack, terms.used as usize)
 }

@@ -1,4 +1,4 @@
--- The names of sorts and symbols together are those at the places that `put_sorts` and `put_symbols` write.
+-- The names of sorts and symbols together are those at the places that `put_places` writes.
 use Rattle.std.proofs.Common.{◌≡◌, ℕ, ◌+◌, ◌<◌, Bool, List, ◌∷◌, [], ◌++◌, map, length, take, refl, sym, ap, subst, ◌∙◌, arith, append_assoc, length-append}
 use Rattle.std.proofs.Math.ListN.{get_or-map}
 use Rattle.std.proofs.Math.Seq.{take-length}
@@ -19,7 +19,7 @@ names_map text (row ∷ rows) = ap (λ (l : List Name). sort_of text row ∷ l) 
 
 -- The places Q of the symbols' names stand behind those of the sorts, which are the sorts' rows.
 module _ (text : List ℕ) (sorts symbols placed Q zeros rest : Rows) (first : placed ≡ sorts) (as_many : length Q ≡ length symbols)
-    (each : (i : ℕ) → i < length symbols → row_at Q i ≡ place_in (row_at symbols i)) where
+    (each : (i : ℕ) → i < length symbols → row_at Q i ≡ place_in (row_at symbols i) 0) where
   sorts_placed : take (length sorts) (placed ++ zeros) ≡ sorts
   sorts_placed = rw first (take_at sorts zeros (length sorts) refl)
 

@@ -10,6 +10,7 @@ ghost use Rattle.loader.specs.Legal.{Calls, ClauseFormed};
 ghost use Rattle.unifier.specs.Promises.{Tells};
 ghost use Rattle.signature.specs.Parts.{ClausesAsked, ClausesOf, ClausesListed};
 
+use loader::FUNCTION;
 use names::SymbolRow;
 use rules::RuleRow;
 
@@ -21,22 +22,17 @@ const HEADERS: u32 = 1048576;
 
 const SYMBOL: u32 = 32;
 
-// The symbol of the node at an address: that of its header, and 0 where there is none.
-fn symbol_at(words: &[u32], at: usize) -> u32
+// The symbol of the node at an address: that of its header. A word that is no header, or is not there, is read as one of symbol 0.
+// Stays: the definition gives such a word the symbol 0, and an option would be turned into it at once.
+fn symbol_at(words: &[u32], at: usize) -> usize
     ensures { result ≡ symbol_of (get_or words.now at 0) }
 {
-    if words.len() <= at {
-        return 0;
-    }
-    let header = words[at];
-    if header < HEADERS {
-        return 0;
-    }
-    (header - HEADERS) / SYMBOL
+    let header = words.get(at).copied().unwrap_or(0);
+    (header.saturating_sub(HEADERS) / SYMBOL) as usize
 }
 
 // Is the term of a reference a node of the symbol i?
-fn is_node_of(words: &[u32], reference: u32, i: u32) -> bool
+fn is_node_of(words: &[u32], reference: u32, i: usize) -> bool
     ensures { Tells result ((ts : Terms) × (term_of words.now reference ≡ app i ts)) }
 {
     if reference < ROOM {
@@ -53,8 +49,8 @@ fn is_call(words: &[u32], reference: u32, symbols: &[SymbolRow]) -> bool
     if reference < ROOM {
         return false;
     }
-    match symbols.get(symbol_at(words, (reference - ROOM) as usize) as usize) {
-        Some(symbol) => symbol[3] == 1,
+    match symbols.get(symbol_at(words, (reference - ROOM) as usize)) {
+        Some(symbol) => symbol[3] == FUNCTION,
         None => false,
     }
 }
@@ -74,7 +70,7 @@ fn are_calls(words: &[u32], rule: &RuleRow, symbols: &[SymbolRow]) -> bool
 }
 
 // Is a rule a clause in form of the symbol i?
-fn is_clause(words: &[u32], rule: &RuleRow, symbols: &[SymbolRow], i: u32) -> bool
+fn is_clause(words: &[u32], rule: &RuleRow, symbols: &[SymbolRow], i: usize) -> bool
     requires { column rule.now 4 ≤ 16 }
     ensures { (text : List ℕ) → Tells result (ClauseFormed (symbols_of text symbols.now (length symbols.now)) i
         (rule_in text words.now rule.now)) }
@@ -83,12 +79,12 @@ fn is_clause(words: &[u32], rule: &RuleRow, symbols: &[SymbolRow], i: u32) -> bo
 }
 
 // Are all clauses of the symbol i in form?
-fn are_clauses_of(words: &[u32], rules: &[RuleRow], symbols: &[SymbolRow], i: u32) -> bool
+fn are_clauses_of(words: &[u32], rules: &[RuleRow], symbols: &[SymbolRow], i: usize) -> bool
     requires { ClausesAsked symbols.now rules.now × (i < length symbols.now) }
     ensures { (text : List ℕ) → Tells result (ClausesOf text symbols.now (length symbols.now) rules.now words.now i) }
 {
-    let first = symbols[i as usize][4] as usize;
-    let n = symbols[i as usize][5] as usize;
+    let first = symbols[i][4] as usize;
+    let n = symbols[i][5] as usize;
     for rule in &rules[first..first + n] {
         if !is_clause(words, rule, symbols, i) {
             return false;
@@ -99,10 +95,10 @@ fn are_clauses_of(words: &[u32], rules: &[RuleRow], symbols: &[SymbolRow], i: u3
 
 // Are the clauses of all symbols in form? Clauses of two functions cannot be the same rule, so each rule is read once.
 pub fn are_listed(words: &[u32], rules: &[RuleRow], symbols: &[SymbolRow]) -> bool
-    requires { ClausesAsked symbols.now rules.now × (length symbols.now ≤ 1024) }
+    requires { ClausesAsked symbols.now rules.now }
     ensures { (text : List ℕ) → Tells result (ClausesListed text symbols.now (length symbols.now) rules.now words.now) }
 {
-    for i in 0..symbols.len() as u32 {
+    for i in 0..symbols.len() {
         if !are_clauses_of(words, rules, symbols, i) {
             return false;
         }

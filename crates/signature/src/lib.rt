@@ -15,6 +15,7 @@ ghost use Rattle.signature.specs.Storage.{store_of, SignatureChecked};
 
 mod functions;
 
+use loader::{FUNCTION, NO_FUNCTION};
 use names::{SortRow, SymbolRow};
 use rules::RuleRow;
 
@@ -29,6 +30,9 @@ const NAMES: usize = SORTS + SYMBOLS;
 const RULES: usize = 1024;
 
 const INPUTS: usize = 16;
+
+// The column of a symbol's row that has the number of its inputs.
+pub const ARITY: usize = 6;
 
 // How many words there may be: 2 for each of 32,768 nodes.
 const WORDS: usize = 65536;
@@ -87,13 +91,23 @@ fn are_sorts_named(text: &[u8], sorts: &[SortRow]) -> bool
     true
 }
 
-// Writes the places of the names of symbols.
-fn put_symbols(symbols: &[SymbolRow], places: &mut [SortRow])
-    requires { length symbols.now ≤ length places.old }
-    ensures { (i : ℕ) → i < length symbols.now → row_at places.new i ≡ place_in (row_at symbols.now i) }
+// Writes the numbers in one column of rows.
+pub fn put_column<const N: usize>(rows: &[[u32; N]], at: usize, numbers: &mut [u32])
+    requires { (at < N) × (length rows.now ≤ length numbers.old) }
+    ensures { (i : ℕ) → i < length rows.now → get_or numbers.new i 0 ≡ column (row_at rows.now i) at }
 {
-    for (i, row) in symbols.iter().enumerate() {
-        places[i] = [row[0], row[1]];
+    for (i, row) in rows.iter().enumerate() {
+        numbers[i] = row[at];
+    }
+}
+
+// Writes the places of names: where they start and how long they are, which stand in rows from a column on.
+pub fn put_places<const N: usize>(rows: &[[u32; N]], at: usize, places: &mut [SortRow])
+    requires { (at + 1 < N) × (length rows.now ≤ length places.old) }
+    ensures { (i : ℕ) → i < length rows.now → row_at places.new i ≡ place_in (row_at rows.now i) at }
+{
+    for (i, row) in rows.iter().enumerate() {
+        places[i] = [row[at], row[at + 1]];
     }
 }
 
@@ -103,12 +117,11 @@ fn are_names_distinct(text: &[u8], sorts: &[SortRow], symbols: &[SymbolRow]) -> 
     ensures { Tells result (Distinct (names_of (sorts_of text.now sorts.now (length sorts.now)) (symbols_of text.now symbols.now (length symbols.now)))) }
 {
     let mut places = [[0u32; 2]; NAMES];
-    let mut spare = [[0u32; 2]; NAMES];
     let n = sorts.len();
     let m = symbols.len();
     places[..n].copy_from_slice(sorts);
-    put_symbols(symbols, &mut places[n..n + m]);
-    distinct::are_distinct(text, &mut places, &mut spare, n + m)
+    put_places(symbols, 0, &mut places[n..n + m]);
+    distinct::are_distinct(text, &mut places[..n + m])
 }
 
 // Are a symbol's output, number of inputs and free column in form?
@@ -123,8 +136,8 @@ fn is_mark_formed(output: u32, mark: u32, clauses: u32, inputs: u32) -> bool
     ensures { Tells result (MarkFormed output mark clauses inputs) }
 {
     match mark {
-        0 => clauses == 0,
-        1 => output == 0 && 0 < inputs,
+        NO_FUNCTION => clauses == 0,
+        FUNCTION => output == 0 && 0 < inputs,
         _ => false,
     }
 }
@@ -176,16 +189,6 @@ fn are_symbols_formed(text: &[u8], sorts: u32, rules: u32, symbols: &[SymbolRow]
     true
 }
 
-// Writes the number of inputs of each symbol.
-pub fn put_arities(symbols: &[SymbolRow], arities: &mut [u32])
-    requires { length symbols.now ≤ length arities.old }
-    ensures { (i : ℕ) → i < length symbols.now → get_or arities.new i 0 ≡ column (row_at symbols.now i) 6 }
-{
-    for (i, row) in symbols.iter().enumerate() {
-        arities[i] = row[6];
-    }
-}
-
 // Are the rules in form, one behind the other in the words in use, and do they end where these end? The stack is scratch.
 fn are_rules_listed(
     text: &[u8],
@@ -222,7 +225,7 @@ fn are_rules_of(text: &[u8], symbols: &[SymbolRow], signature: StoredSignature) 
     ensures { Tells result (RulesListed text.now (arities_of (symbols_of text.now symbols.now (length symbols.now))) signature.entry.words.now signature.entry.counts.sorts signature.entry.rules.now signature.entry.counts.rules signature.entry.counts.words) }
 {
     let mut arities = [0u32; SYMBOLS];
-    put_arities(symbols, &mut arities);
+    put_column(symbols, ARITY, &mut arities);
     let mut stack = [[0u32; 2]; RULE_WORDS];
     are_rules_listed(text, &arities[..symbols.len()], signature, &mut stack)
 }

@@ -1,5 +1,5 @@
 -- Laws of prefixes, of equality byte by byte, of `up_to` and of `lines`, at a place of a list.
-use mathlib.Core.Path.{◌≡◌, refl, sym, ap, ap₂, ◌∙◌}
+use mathlib.Core.Path.{◌≡◌, refl, sym, ap, ◌∙◌}
 use mathlib.Core.Bool.{Bool, true, false, ◌&&◌, ◌||◌, and-true}
 use mathlib.Core.List.{List, [], ◌∷◌}
 use Prim.Native.Nat.{ℕ, zero, suc, ◌+◌, ◌-◌, ◌≤◌, ◌<◌}
@@ -10,24 +10,21 @@ use lib.Seq.{drop-cons, drop-drop, length-take-le}
 use lib.Dec.{eqb}
 use borrow.Author.Tests.{eq-eqb, ne_eqb, eqb-true}
 use Rattle.std.specs.List.{starts_with as begins}
+use Rattle.std.specs.Cmp.Lexicographic.{pointwise}
 use Rattle.source_text.specs.Bytes.{starts_with, same_bytes, up_to}
-use Rattle.source_text.specs.ByteLaws.{same_is}
 use Rattle.source_text.specs.Lines.{lines, line_of, code_of, ends_code}
 
 pub by_bool {ℓ} : {P : Type ℓ} (b : Bool) → (b ≡ true → P) → (b ≡ false → P) → P
 by_bool true f g = f refl
 by_bool false f g = g refl
 
--- Two words: they differ, or are equal from place i on.
-pub same_not : (v w : List ℕ) → (v ≡ w → ⊥) → same_bytes v w ≡ false
-same_not v w n = by_bool (same_bytes v w) (λ e. absurd (n (same_is v w e))) (λ e. e)
-
-module _ (v w : List ℕ) where
-  pub same_end : (i : ℕ) → length v ≤ i → length w ≤ i → drop i v ≡ drop i w
-  same_end i hv hw = drop_of_length-le v hv ∙ sym (drop_of_length-le w hw)
-
-  pub same_before : (i : ℕ) → i < length v → i < length w → get_or v i 0 ≡ get_or w i 0 → drop (suc i) v ≡ drop (suc i) w → drop i v ≡ drop i w
-  same_before i hv hw e h = rw (drop-cons v i 0 hv, drop-cons w i 0 hw) (ap₂ (λ a l. a ∷ l) e h)
+-- The library's test of equality.
+pub pointwise_same : (v w : List ℕ) → pointwise eqb v w ≡ same_bytes v w
+unfolding same_bytes
+pointwise_same [] [] = refl
+pointwise_same [] (b ∷ w) = refl
+pointwise_same (a ∷ v) [] = refl
+pointwise_same (a ∷ v) (b ∷ w) = ap (λ r. eqb a b && r) (pointwise_same v w)
 
 -- The library's test of a prefix.
 pub prefix_is : (w s : List ℕ) → begins eqb s w ≡ starts_with w s

@@ -9,22 +9,11 @@ pub fn byte(text: &[u8], at: usize) -> u8
     text.get(at).copied().unwrap_or(0)
 }
 
-// Are two words the same, byte by byte? Names in a text differ at their ends more often than at their beginnings, so the last bytes come first.
-// Stays: the order is for speed, and the library's `==` begins at the first bytes.
+// Are two words the same, byte by byte?
 pub fn same(v: &[u8], w: &[u8]) -> bool
     ensures { result ≡ same_bytes v.now w.now }
 {
-    if v.len() != w.len() {
-        return false;
-    }
-    let mut i = v.len();
-    while 0 < i {
-        i -= 1;
-        if v[i] != w[i] {
-            return false;
-        }
-    }
-    true
+    v == w
 }
 
 // Does w stand at a place of a text?

@@ -30,6 +30,7 @@ fn lead_of(a: u8) -> Option<Lead>
 }
 
 // Are the next `count` bytes tails, the first from low to high?
+// Stays: `count` is how many tails the first byte asks for, and there may be fewer bytes.
 fn tails(rest: &[u8], count: usize, low: u8, high: u8) -> bool
     ensures { result ≡ tails_of count low high rest.now }
 {

@@ -29,8 +29,8 @@ offset_bounds-rows-at-in-2 c = let w = (first_row c.requires.stand.2).within in 
 pub bounds-rows-at-in-2 : goal.bounds-rows-at-in-2
 bounds-rows-at-in-2 c = let w = (first_row c.requires.stand.2).within in omega arith
 
-pub returns-then-rows-at-eq0 : goal.returns-then-rows-at-eq0
-returns-then-rows-at-eq0 c = record { same = λ limit ts s held d q st. ctor_none held st _ _ _ _ c.in-2.is c.if-rows-at-eq0.true }
+pub returns-then-rows-at-eq0-clause-declared : goal.returns-then-rows-at-eq0-clause-declared
+returns-then-rows-at-eq0-clause-declared c = record { same = λ limit ts s held d q st. ctor_none held st _ _ _ _ c.in-2.is c.if-rows-at-eq0.true }
 
 pub declare_symbol-requires : goal.declare_symbol-requires
 declare_symbol-requires c =
@@ -58,44 +58,44 @@ overflow_add-at c = let w = (first_row c.requires.stand.2).within in omega (arit
 pub skip-requires : goal.skip-requires
 skip-requires c = (c.requires.short, omega arith)
 
-pub returns-in-1 : goal.returns-in-1
-returns-in-1 c =
+pub returns-in-1-clause-declared : goal.returns-in-1-clause-declared
+returns-in-1-clause-declared c =
     record {
       same = λ limit ts s held d q st. sort_done held st _ _ c.in-1.is c.declare_sort.ensures.value c.declare_sort.ensures.sorts_after;
     }
 
-pub returns-else-rows-at-eq0 : goal.returns-else-rows-at-eq0
-returns-else-rows-at-eq0 c =
+pub returns-else-rows-at-eq0-clause-declared : goal.returns-else-rows-at-eq0-clause-declared
+returns-else-rows-at-eq0-clause-declared c =
     let if1 = c.if-rows-at-eq0 in
     let declare-symbol = c.declare_symbol in
     record {
       same = λ limit ts s held d q st. ctor_done held st _ _ c.in-2.is (omega (arith, if1.false)) declare-symbol.ensures;
     }
 
-pub returns-in-3 : goal.returns-in-3
-returns-in-3 c =
+pub returns-in-3-clause-declared : goal.returns-in-3-clause-declared
+returns-in-3-clause-declared c =
     record {
       same = λ limit ts s held d q st. pred_done held st _ _ c.in-3.is c.declare_symbol-in-3.ensures;
     }
 
-pub returns-in-4 : goal.returns-in-4
-returns-in-4 c =
+pub returns-in-4-clause-declared : goal.returns-in-4-clause-declared
+returns-in-4-clause-declared c =
     record {
-      same = λ limit ts s held d q st. rule_done held st _ _ _ c.in-4.is c.declare_rule.ensures;
+      same = λ limit ts s held d q st. rule_done held st _ _ _ c.in-4.is c.declare_rule.ensures.declared;
     }
 
-pub returns-in-5 : goal.returns-in-5
-returns-in-5 c =
+pub returns-in-5-clause-declared : goal.returns-in-5-clause-declared
+returns-in-5-clause-declared c =
     let declare-def = c.declare_def in
     record {
-      same = λ limit ts s held d q st. def_done held st _ _ _ _ c.in-5.is declare-def.ensures;
+      same = λ limit ts s held d q st. def_done held st _ _ _ _ c.in-5.is declare-def.ensures.declared;
     }
 
-pub returns-in-10 : goal.returns-in-10
-returns-in-10 c = record { same = λ limit ts s held d q st. eval_done held st _ c.in-10.is c.skip.ensures }
+pub returns-in-10-clause-declared : goal.returns-in-10-clause-declared
+returns-in-10-clause-declared c = record { same = λ limit ts s held d q st. eval_done held st _ c.in-10.is c.skip.ensures }
 
-pub returns-in_default : goal.returns-in_default
-returns-in_default c =
+pub returns-in_default-clause-declared : goal.returns-in_default-clause-declared
+returns-in_default-clause-declared c =
     record {
       same = λ limit ts s held d q st. others_done held st _ _ _ _ c.in_default.in_default-own.rest.0.0.0.0.0.1 c.in_default.in_default-own.rest.0.0.0.0.1 c.in_default.in_default-own.rest.0.0.0.1 c.in_default.in_default-own.rest.0.0.1 c.in_default.in_default-own.rest.0.1 c.in_default.in_default-own.rest.1;
     }

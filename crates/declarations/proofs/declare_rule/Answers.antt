@@ -7,13 +7,15 @@ use Rattle.term_parser.specs.Standing.{spelled}
 use Rattle.names.specs.Symbols.{Symbol, column, row_at}
 use Rattle.rules.specs.Rules.{rule_of}
 use Rattle.loader.specs.Signature.{front_of, last_judgment}
+use Rattle.names.specs.UsedLaws.{symbols_used}
 use Rattle.declarations.specs.Steps.{name_at}
+use Rattle.declarations.proofs.UsedLaws.{storage_used}
 use Rattle.declarations.proofs.FilledLaws.{storage, told_by, advanced_by}
 use native.Mathlib.Omega.{arith}
 use Rattle.declarations.proofs.declare_rule.Goals as goal
 
-pub returns-then-k-eq0 : goal.returns-then-k-eq0
-returns-then-k-eq0 c =
+pub returns-then-k-eq0-clause-declared : goal.returns-then-k-eq0-clause-declared
+returns-then-k-eq0-clause-declared c =
     record {
       none = λ z. refl;
       same = λ limit ts s ready inside j js q st kn. absurd (let z = c.if-k-eq0.true in
@@ -36,21 +38,23 @@ enter_rule-outcome-requires c =
       here = here;
       later = omega arith;
       short = pre.short;
-      storage = rw (room.ensures) (storage (pre.ready.3));
+      storage = rw (room.ensures) (storage_used (storage (pre.ready.3)));
     }
 
 pub told-requires : goal.told-requires
 told-requires c =
+    let known = symbols_used c.args.symbols.now c.args.state.symbols (omega (arith, c.requires.ready.3.lent, c.requires.ready.3.few)) c.args.source.text.now in
     let pre = c.requires in
     let if1 = c.if-k-eq0 in
     let args = c.args in
     let room = c.room-m in
     let enter-rule = c.enter_rule-outcome in
     let st = pre.stand (omega (arith, if1.false)) in
-    told_by pre.ready.3 (record { start = column (row_at args.rows.now (args.at + 1)) 1; size = column (row_at args.rows.now (args.at + 1)) 2; clause = 0 }) (λ (F : List Symbol) (m : ℕ). rule_of F (name_at args.text.now args.rows.now (args.at + 1)) (spelled args.text.now (all_of (front_of (st.0 ∷ st.1)))) (spelled args.text.now (last_judgment st.0 st.1)) m) room.result room.ensures (enter-rule.new.rules) (enter-rule.new.words) enter-rule.result (enter-rule.ensures.same st.0 st.1 st.2 st.3 st.4).1
+    told_by pre.ready.3 (record { start = column (row_at args.source.rows.now (args.source.at + 1)) 1; size = column (row_at args.source.rows.now (args.source.at + 1)) 2; clause = 0 }) (λ (F : List Symbol) (m : ℕ). rule_of F (name_at args.source.text.now args.source.rows.now (args.source.at + 1)) (spelled args.source.text.now (all_of (front_of (st.0 ∷ st.1)))) (spelled args.source.text.now (last_judgment st.0 st.1)) m) room.result room.ensures (enter-rule.new.rules) (enter-rule.new.words) enter-rule.result ((rw known at enter-rule.ensures).same st.0 st.1 st.2 st.3 st.4).1
 
-pub returns : goal.returns
-returns c =
+pub returns-clause-declared : goal.returns-clause-declared
+returns-clause-declared c =
+    let known = symbols_used c.args.symbols.now c.args.state.symbols (omega (arith, c.requires.ready.3.lent, c.requires.ready.3.few)) c.args.source.text.now in
     let if1 = c.if-k-eq0 in
     let enter-rule = c.enter_rule-outcome in
     let args = c.args in
@@ -58,6 +62,6 @@ returns c =
     let told = c.told in
     record {
       none = λ z. absurd (if1.false z);
-      same = λ limit ts s ready inside j js q st kn. let h = enter-rule.ensures.same j js q st kn in
-          advanced_by ready (record { start = column (row_at args.rows.now (args.at + 1)) 1; size = column (row_at args.rows.now (args.at + 1)) 2; clause = 0 }) inside (omega arith) (enter-rule.new.rules) (enter-rule.new.words) (enter-rule.auto.rules) (enter-rule.auto.words) (λ (F : List Symbol) (m : ℕ). rule_of F (name_at args.text.now args.rows.now (args.at + 1)) (spelled args.text.now (all_of (front_of (j ∷ js)))) (spelled args.text.now (last_judgment j js)) m) room.result room.ensures q enter-rule.result told.result h.0 h.1 told.ensures;
+      same = λ limit ts s ready inside j js q st kn. let h = (rw known at enter-rule.ensures).same j js q st kn in
+          advanced_by ready (record { start = column (row_at args.source.rows.now (args.source.at + 1)) 1; size = column (row_at args.source.rows.now (args.source.at + 1)) 2; clause = 0 }) inside (omega arith) (enter-rule.new.rules) (enter-rule.new.words) (enter-rule.auto.rules) (enter-rule.auto.words) (λ (F : List Symbol) (m : ℕ). rule_of F (name_at args.source.text.now args.source.rows.now (args.source.at + 1)) (spelled args.source.text.now (all_of (front_of (j ∷ js)))) (spelled args.source.text.now (last_judgment j js)) m) room.result room.ensures q enter-rule.result told.result h.0 h.1 told.ensures;
     }

@@ -2,15 +2,16 @@
 use Rattle.names.specs.Symbols.{symbols_of}
 use Rattle.flattening.proofs.FlatteningLaws.{past_rows, loop_start, argument_room, turn_over, turn, end_plain, finish_room, end_call}
 use native.Mathlib.Omega.{arith}
+use lib.ListN.{length}
 use mathlib.Core.Path.{sym, ◌∙◌}
 use Rattle.flattening.proofs.+flatten.Goals as goal
 
 pub returns-then-rows-at : goal.returns-then-rows-at
 returns-then-rows-at t c =
-    past_rows c.args.text.now c.args.rows.now c.args.from.next (symbols_of c.args.text.now c.args.symbols.now c.args.count) c.args.calls.now c.args.from.end c.args.from.number c.if-rows-at.true
+    past_rows c.args.source.text.now c.args.source.rows.now c.args.from.next (symbols_of c.args.source.text.now c.args.source.symbols.now (length c.args.source.symbols.now)) c.args.calls.now c.args.from.end c.args.from.number c.if-rows-at.true
 
 pub loop-i-init : goal.loop-i-init
-loop-i-init t c = loop_start c.args.text.now c.requires c.if-rows-at.false c.arity-n.result
+loop-i-init t c = loop_start c.args.source.text.now c.requires c.if-rows-at.false c.arity-n.result
 
 pub flatten-requires : goal.flatten-requires
 flatten-requires t c =

@@ -1,5 +1,6 @@
 -- `is_call` meets its contract: metavariables and numerals are no calls.
 use mathlib.Core.Path.{sym, ◌∙◌}
+use lib.ListN.{length}
 use borrow.Author.Tests.{eq-eqb, ne_eqb}
 use Rattle.source_text.specs.Parts.{part_of}
 use Rattle.names.specs.Symbols.{symbols_of}
@@ -19,4 +20,4 @@ returns c =
     let if1 = c.if-kind-eq-METAVARIABLE in
     let if2 = c.if-kind-eq-NUMERAL in
     is-function.ensures
-    ∙ sym (call_of_lem (symbols_of args.text.now args.symbols.now args.count) args.kind (part_of args.text.now args.start args.size) if1.false if2.false)
+    ∙ sym (call_of_lem (symbols_of args.text.now args.symbols.now (length args.symbols.now)) args.kind (part_of args.text.now args.start args.size) if1.false if2.false)

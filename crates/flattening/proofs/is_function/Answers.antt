@@ -1,16 +1,18 @@
 -- `is_function` meets its contract: the symbol that is found has the mark of a function.
+use lib.ListN.{length}
 use Rattle.source_text.specs.Parts.{part_of}
-use Rattle.names.specs.SearchLaws.{symbol_some, symbol_none}
+use Rattle.names.specs.UsedLaws.{some_symbol, no_symbol}
 use Rattle.flattening.proofs.SymbolLaws.{function_found, function_absent}
 use mathlib.Core.Path.{refl}
+use native.Mathlib.Omega.{arith}
 use Rattle.flattening.proofs.is_function.Goals as goal
 
 pub returns-in-Some : goal.returns-in-Some
 returns-in-Some c =
-    let (e, l) = symbol_some c.args.text.now c.args.symbols.now c.args.count c.requires (part_of c.args.text.now c.args.start c.args.size) c.in-Some.i (rw c.part.ensures at c.in-Some.ensures) in
-    function_found c.args.text.now c.args.symbols.now c.args.count c.requires _ c.in-Some.i e l
+    let (e, l) = some_symbol c.args.text.now c.args.symbols.now (part_of c.args.text.now c.args.start c.args.size) c.in-Some.i (rw c.part.ensures at c.in-Some.ensures) in
+    function_found c.args.text.now c.args.symbols.now (length c.args.symbols.now) (omega arith) _ c.in-Some.i e l
 
 pub returns-in-None : goal.returns-in-None
 returns-in-None c =
-    let l = symbol_none c.args.text.now c.args.symbols.now c.args.count c.requires (part_of c.args.text.now c.args.start c.args.size) (rw c.part.ensures at c.in-None.ensures) in
-    function_absent c.args.text.now c.args.symbols.now c.args.count c.requires _ _ refl l
+    let l = no_symbol c.args.text.now c.args.symbols.now (part_of c.args.text.now c.args.start c.args.size) (rw c.part.ensures at c.in-None.ensures) in
+    function_absent c.args.text.now c.args.symbols.now (length c.args.symbols.now) (omega arith) _ _ refl l

@@ -13,9 +13,9 @@ returns-in_err-compiled-clause-goal_made c =
 pub returns-then-not-all_known-clause-goal_made : goal.returns-then-not-all_known-clause-goal_made
 returns-then-not-all_known-clause-goal_made c =
     goal_unknown c.args.names.now (c.copy_names.ensures _) c.pattern.ensures c.in_ok-compiled.was
-    (sym (known_rows c.args.text.now _ _) ∙ sym c.all_known.ensures ∙ c.if-not-all_known.true)
+    (sym (known_rows c.args.source.text.now _ _) ∙ sym c.all_known.ensures ∙ c.if-not-all_known.true)
 
 pub returns-clause-goal_made : goal.returns-clause-goal_made
 returns-clause-goal_made c =
     goal_done c.args.names.now (c.copy_names.ensures _) c.pattern.ensures c.in_ok-compiled.was
-    (sym (known_rows c.args.text.now _ _) ∙ sym c.all_known.ensures ∙ c.if-not-all_known.false)
+    (sym (known_rows c.args.source.text.now _ _) ∙ sym c.all_known.ensures ∙ c.if-not-all_known.false)

@@ -6,11 +6,11 @@ use Rattle.goals.proofs.store.Goals as goal
 pub copy_goal-requires : goal.copy_goal-requires
 copy_goal-requires c =
     let pre = c.requires in
-    let places = c.put_places.new.places in
-    let long = c.put_places.auto.places in
+    let places = c.put_column.new.numbers in
+    let long = c.put_column.auto.numbers in
     let entered = entered_used pre.variables c.enter_names.ensures in
     let lent : c.args.goal.variables ≤ length c.enter_names.new.names = omega (arith, pre.lent, entered.long) in
-    let put = put_used c.enter_names.new.names _ c.put_places.new.places lent c.put_places.ensures in
+    let put = put_used c.enter_names.new.names _ c.put_column.new.numbers lent c.put_column.ensures in
     (store_copyable pre entered places long put, store_movable pre entered places long put)
 
 pub returns : goal.returns
@@ -20,9 +20,9 @@ returns c =
     let lent : c.args.goal.variables ≤ length c.enter_names.new.names = omega (arith, pre.lent, entered.long) in
     record {
       entered = entered;
-      places = c.put_places.new.places;
-      long = c.put_places.auto.places;
-      put = put_used c.enter_names.new.names _ c.put_places.new.places lent c.put_places.ensures;
+      places = c.put_column.new.numbers;
+      long = c.put_column.auto.numbers;
+      put = put_used c.enter_names.new.names _ c.put_column.new.numbers lent c.put_column.ensures;
       is = c.copy_goal.ensures.value;
       written = c.copy_goal.ensures.words_after;
     }

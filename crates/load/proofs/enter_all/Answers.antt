@@ -1,5 +1,6 @@
 -- `enter_all` meets its contract. The loop's invariant: the declarations before the number i are entered, and the others are left from the row `at` on.
 use mathlib.Core.Path.{refl, ◌∙◌}
+use Rattle.declarations.specs.Lent.{lent_start, lent_on}
 use Rattle.load.proofs.WalkLaws.{held_none, sofar_start, sofar_declaration, sofar_stops, sofar_on, sofar_end}
 use Rattle.declarations.proofs.DeclarationLaws.{first_row}
 use native.Mathlib.Omega.{arith}
@@ -7,16 +8,16 @@ use Rattle.load.proofs.enter_all.Goals as goal
 
 pub loop-i-init : goal.loop-i-init
 loop-i-init c =
-    let pre = c.requires in
+    let pre = c.requires.1 in
     let args = c.args in
-    (refl, refl, refl, refl, refl, refl, refl, sofar_start pre.evals_lent (held_none args.text.now args.limit args.sorts.now args.symbols.now args.rules.now args.words.now pre.sorts_lent pre.symbols_lent pre.rules_lent pre.words_lent pre.limited))
+    (refl, refl, refl, lent_start, sofar_start pre.evals_lent (held_none args.walk.text.now args.walk.limit args.sorts.now args.symbols.now args.store.now.rules.now args.store.now.words.now pre.sorts_lent pre.symbols_lent pre.rules_lent pre.words_lent pre.limited))
 
 pub offset_bounds-rows-progress : goal.offset_bounds-rows-progress
 offset_bounds-rows-progress c =
     let loop = c.loop-i in
-    let pre = c.requires in
+    let pre = c.requires.1 in
     let loop-test = c.loop-i-test in
-    let g = loop.invariant.7 pre.declared.0 pre.declared.1 pre.declared.2 pre.declared.3 in
+    let g = loop.invariant.4 pre.declared.0 pre.declared.1 pre.declared.2 pre.declared.3 in
     let d = sofar_declaration g loop-test.true in
     let w = (first_row d.2).within in
     let s = pre.short in
@@ -25,9 +26,9 @@ offset_bounds-rows-progress c =
 pub bounds-rows-progress : goal.bounds-rows-progress
 bounds-rows-progress c =
     let loop = c.loop-i in
-    let pre = c.requires in
+    let pre = c.requires.1 in
     let loop-test = c.loop-i-test in
-    let g = loop.invariant.7 pre.declared.0 pre.declared.1 pre.declared.2 pre.declared.3 in
+    let g = loop.invariant.4 pre.declared.0 pre.declared.1 pre.declared.2 pre.declared.3 in
     let d = sofar_declaration g loop-test.true in
     let w = (first_row d.2).within in
     let s = pre.short in
@@ -36,9 +37,9 @@ bounds-rows-progress c =
 pub bounds-rows-progress-in-loop-i : goal.bounds-rows-progress-in-loop-i
 bounds-rows-progress-in-loop-i c =
     let loop = c.loop-i in
-    let pre = c.requires in
+    let pre = c.requires.1 in
     let loop-test = c.loop-i-test in
-    let g = loop.invariant.7 pre.declared.0 pre.declared.1 pre.declared.2 pre.declared.3 in
+    let g = loop.invariant.4 pre.declared.0 pre.declared.1 pre.declared.2 pre.declared.3 in
     let d = sofar_declaration g loop-test.true in
     let w = (first_row d.2).within in
     let s = pre.short in
@@ -47,9 +48,9 @@ bounds-rows-progress-in-loop-i c =
 pub note-count-requires : goal.note-count-requires
 note-count-requires c =
     let loop = c.loop-i in
-    let pre = c.requires in
+    let pre = c.requires.1 in
     let loop-test = c.loop-i-test in
-    let g = loop.invariant.7 pre.declared.0 pre.declared.1 pre.declared.2 pre.declared.3 in
+    let g = loop.invariant.4 pre.declared.0 pre.declared.1 pre.declared.2 pre.declared.3 in
     let d = sofar_declaration g loop-test.true in
     let w = (first_row d.2).within in
     let s = pre.short in
@@ -59,10 +60,10 @@ note-count-requires c =
 pub declare-requires : goal.declare-requires
 declare-requires c =
     let loop = c.loop-i in
-    let pre = c.requires in
+    let pre = c.requires.1 in
     let loop-test = c.loop-i-test in
     let args = c.args in
-    let g = loop.invariant.7 pre.declared.0 pre.declared.1 pre.declared.2 pre.declared.3 in
+    let g = loop.invariant.4 pre.declared.0 pre.declared.1 pre.declared.2 pre.declared.3 in
     let d = sofar_declaration g loop-test.true in
     let w = (first_row d.2).within in
     let s = pre.short in
@@ -70,19 +71,19 @@ declare-requires c =
     let b = pre.calls_lent in
     record {
       short = s;
-      out_lent = omega (arith, loop.invariant.5);
-      calls_lent = omega (arith, loop.invariant.6);
-      ready = (args.limit, g.titles, g.signature, g.held);
+      out_lent = omega (arith, loop.invariant.3.out_long);
+      calls_lent = omega (arith, loop.invariant.3.calls_long);
+      ready = (args.walk.limit, g.titles, g.signature, g.held);
       stand = d;
     }
 
-pub returns-in-Err : goal.returns-in-Err
-returns-in-Err c =
+pub returns-in-Err-clause-walked : goal.returns-in-Err-clause-walked
+returns-in-Err-clause-walked c =
     let declare = c.declare in
     let loop = c.loop-i in
     let loop-test = c.loop-i-test in
     record {
-      same = λ ds a b t. sofar_stops declare.ensures (loop.invariant.7 ds a b t) loop-test.true c.in-Err.is _ _ _ _ _;
+      same = λ ds a b t. sofar_stops declare.ensures.declared (loop.invariant.4 ds a b t) loop-test.true c.in-Err.is _ _ _ _ _;
     }
 
 pub loop-i-preserved : goal.loop-i-preserved
@@ -91,22 +92,15 @@ loop-i-preserved c =
     let declare = c.declare in
     let loop = c.loop-i in
     let note = c.note-count in (
-      declare.auto.sorts
-          ∙ loop.invariant.0,
-      declare.auto.symbols
-          ∙ loop.invariant.1,
-      declare.auto.rules
-          ∙ loop.invariant.2,
-      declare.auto.words
-          ∙ loop.invariant.3,
-      note.auto.evals
-          ∙ loop.invariant.4,
-      declare.auto.out
-          ∙ loop.invariant.5,
-      declare.auto.calls
-          ∙ loop.invariant.6,
-      λ ds a b t. rw (note.ensures.0, note.ensures.1) (sofar_on declare.ensures {next = c.in-Ok.further.next} {st' = c.in-Ok.further.state} (loop.invariant.7 ds a b t) loop-test.true c.in-Ok.is),
+      declare.auto.sorts ∙ loop.invariant.0,
+      declare.auto.symbols ∙ loop.invariant.1,
+      note.auto.evals ∙ loop.invariant.2,
+      lent_on loop.invariant.3 declare.ensures.lent,
+      λ ds a b t. rw (note.ensures.0, note.ensures.1) (sofar_on declare.ensures.declared {next = c.in-Ok.further.next} {st' = c.in-Ok.further.state} (loop.invariant.4 ds a b t) loop-test.true c.in-Ok.is),
     )
 
-pub returns : goal.returns
-returns c = record { same = λ ds a b t. sofar_end (c.loop-i.invariant.7 ds a b t) (omega (arith, c.loop-i-test.false)) }
+pub returns-in-Err-clause-lent : goal.returns-in-Err-clause-lent
+returns-in-Err-clause-lent c = lent_on c.loop-i.invariant.3 c.declare.ensures.lent
+
+pub returns-clause-walked : goal.returns-clause-walked
+returns-clause-walked c = record { same = λ ds a b t. sofar_end (c.loop-i.invariant.4 ds a b t) (omega (arith, c.loop-i-test.false)) }

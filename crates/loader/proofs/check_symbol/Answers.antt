@@ -1,53 +1,23 @@
 -- `check_symbol` meets its contract: one law for each way out.
-use mathlib.Core.Path.{sym, ◌∙◌}
-use native.Mathlib.Omega.{arith}
-use Rattle.source_text.specs.Parts.{part_of}
+use Rattle.std.proofs.Common.{length, arith, le_refl}
+use Rattle.patterns.proofs.Terms.{symbols_length}
 use Rattle.loader.proofs.EntryLaws.{symbol_taken, symbol_wide, symbol_new, symbol_full}
 use Rattle.loader.proofs.check_symbol.Goals as goal
 
 pub returns-then-is_taken : goal.returns-then-is_taken
-returns-then-is_taken c =
-    let args = c.args in
-    let pre = c.requires in
-    let is-taken = c.is_taken in
-    let if1 = c.if-is_taken in (
-      symbol_taken (args.text.now) (args.sorts.now) (args.many) (args.symbols.now) (args.count) (pre.0) (pre.1) (part_of (args.text.now) (args.start) (args.size)) (sym (is-taken.ensures)
-          ∙ if1.true) (args.k),
-      omega arith,
-    )
+returns-then-is_taken c = (symbol_taken _ _ _ c.is_taken.ensures c.if-is_taken.true c.args.k, omega arith)
 
 pub returns-then-k-gt-INPUTS : goal.returns-then-k-gt-INPUTS
-returns-then-k-gt-INPUTS c =
-    let args = c.args in
-    let pre = c.requires in
-    let is-taken = c.is_taken in
-    let if1 = c.if-is_taken in
-    let if2 = c.if-k-gt-INPUTS in (
-      symbol_wide (args.text.now) (args.sorts.now) (args.many) (args.symbols.now) (args.count) (pre.0) (pre.1) (part_of (args.text.now) (args.start) (args.size)) (sym (is-taken.ensures)
-          ∙ if1.false) (args.k) if2.true,
-      omega arith,
-    )
+returns-then-k-gt-INPUTS c = (symbol_wide _ _ _ c.is_taken.ensures c.if-is_taken.false c.args.k c.if-k-gt-INPUTS.true, omega arith)
 
 pub returns-then-count-lt-SYMBOLS : goal.returns-then-count-lt-SYMBOLS
 returns-then-count-lt-SYMBOLS c =
-    let args = c.args in
-    let pre = c.requires in
-    let is-taken = c.is_taken in
-    let if1 = c.if-is_taken in
-    let if2 = c.if-k-gt-INPUTS in
-    let if3 = c.if-count-lt-SYMBOLS in
-    symbol_new (args.text.now) (args.sorts.now) (args.many) (args.symbols.now) (args.count) (pre.0) (pre.1) (part_of (args.text.now) (args.start) (args.size)) (sym (is-taken.ensures)
-    ∙ if1.false) (args.k) if2.false if3.true
+    let k = c.args.known in
+    let long = symbols_length k.text.now k.symbols.now (length k.symbols.now) (le_refl _) in
+    symbol_new _ _ _ c.is_taken.ensures c.if-is_taken.false c.args.k c.if-k-gt-INPUTS.false (omega (arith, long, c.if-count-lt-SYMBOLS.true))
 
 pub returns : goal.returns
 returns c =
-    let args = c.args in
-    let pre = c.requires in
-    let is-taken = c.is_taken in
-    let if1 = c.if-is_taken in
-    let if2 = c.if-k-gt-INPUTS in
-    let if3 = c.if-count-lt-SYMBOLS in (
-      symbol_full (args.text.now) (args.sorts.now) (args.many) (args.symbols.now) (args.count) (pre.0) (pre.1) (part_of (args.text.now) (args.start) (args.size)) (sym (is-taken.ensures)
-          ∙ if1.false) (args.k) if2.false if3.false,
-      omega arith,
-    )
+    let k = c.args.known in
+    let long = symbols_length k.text.now k.symbols.now (length k.symbols.now) (le_refl _) in
+    (symbol_full _ _ _ c.is_taken.ensures c.if-is_taken.false c.args.k c.if-k-gt-INPUTS.false (omega (arith, long, c.if-count-lt-SYMBOLS.false)), omega arith)

@@ -1,47 +1,31 @@
 -- `enter_sort` meets its contract: one law for each way out.
-use mathlib.Core.Path.{refl, sym, ◌∙◌}
-use Rattle.source_text.specs.Parts.{part_of}
+use Rattle.std.proofs.Common.{refl, ◌≤◌, length, arith}
+use Rattle.names.specs.SearchLaws.{sorts_length}
+use Rattle.names.specs.UsedLaws.{sorts_used}
 use Rattle.loader.proofs.EntryLaws.{sort_taken, sort_new, sort_full}
-use native.Mathlib.Omega.{arith}
 use Rattle.loader.proofs.enter_sort.Goals as goal
 
 pub returns-then-is_taken : goal.returns-then-is_taken
 returns-then-is_taken c =
-    let args = c.args in
-    let pre = c.requires in
-    let is-taken = c.is_taken in
-    let if1 = c.if-is_taken in record {
-      value = (
-        sort_taken (args.text.now) (args.sorts.now) (args.many) (args.symbols.now) (args.count) (omega arith) (pre.2) (part_of (args.text.now) (args.start) (args.size)) (sym (is-taken.ensures)
-            ∙ if1.true),
-        omega arith,
-      );
-      sorts_after = rw (← sort_taken (args.text.now) (args.sorts.now) (args.many) (args.symbols.now) (args.count) (omega arith) (pre.2) (part_of (args.text.now) (args.start) (args.size)) (sym is-taken.ensures ∙ if1.true)) refl;
-    }
+    let a = c.args in
+    let lent : a.many ≤ length a.sorts.now = omega arith in
+    let told = rw (sorts_used a.sorts.now a.many lent a.text.now, c.part.ensures) at c.is_taken.ensures in
+    record { value = (sort_taken _ _ _ told c.if-is_taken.true, omega arith); sorts_after = rw (← sort_taken _ _ _ told c.if-is_taken.true) refl }
 
 pub returns-then-many-lt-SORTS : goal.returns-then-many-lt-SORTS
 returns-then-many-lt-SORTS c =
-    let args = c.args in
-    let pre = c.requires in
-    let is-taken = c.is_taken in
-    let if1 = c.if-is_taken in
-    let if2 = c.if-many-lt-SORTS in record {
-      value = sort_new (args.text.now) (args.sorts.now) (args.many) (args.symbols.now) (args.count) (omega arith) (pre.2) (part_of (args.text.now) (args.start) (args.size)) (sym (is-taken.ensures)
-          ∙ if1.false) if2.true;
-      sorts_after = rw (← sort_new (args.text.now) (args.sorts.now) (args.many) (args.symbols.now) (args.count) (omega arith) (pre.2) (part_of (args.text.now) (args.start) (args.size)) (sym is-taken.ensures ∙ if1.false) if2.true) refl;
-    }
+    let a = c.args in
+    let lent : a.many ≤ length a.sorts.now = omega arith in
+    let told = rw (sorts_used a.sorts.now a.many lent a.text.now, c.part.ensures) at c.is_taken.ensures in
+    let long = sorts_length a.text.now a.sorts.now a.many lent in
+    let new = sort_new _ _ _ told c.if-is_taken.false (omega (arith, long, c.if-many-lt-SORTS.true)) in
+    record { value = new; sorts_after = rw (← new) refl }
 
 pub returns : goal.returns
 returns c =
-    let args = c.args in
-    let pre = c.requires in
-    let is-taken = c.is_taken in
-    let if1 = c.if-is_taken in
-    let if2 = c.if-many-lt-SORTS in record {
-      value = (
-        sort_full (args.text.now) (args.sorts.now) (args.many) (args.symbols.now) (args.count) (omega arith) (pre.2) (part_of (args.text.now) (args.start) (args.size)) (sym (is-taken.ensures)
-            ∙ if1.false) if2.false,
-        omega arith,
-      );
-      sorts_after = rw (← sort_full (args.text.now) (args.sorts.now) (args.many) (args.symbols.now) (args.count) (omega arith) (pre.2) (part_of (args.text.now) (args.start) (args.size)) (sym is-taken.ensures ∙ if1.false) if2.false) refl;
-    }
+    let a = c.args in
+    let lent : a.many ≤ length a.sorts.now = omega arith in
+    let told = rw (sorts_used a.sorts.now a.many lent a.text.now, c.part.ensures) at c.is_taken.ensures in
+    let long = sorts_length a.text.now a.sorts.now a.many lent in
+    let full = sort_full _ _ _ told c.if-is_taken.false (omega (arith, long, c.if-many-lt-SORTS.false)) in
+    record { value = (full, omega arith); sorts_after = rw (← full) refl }

@@ -7,7 +7,7 @@ use lib.ListN.{length, take}
 use lib.Seq.{length-take-le}
 use Rattle.term_parser.specs.Source.{one}
 use Rattle.names.specs.Names.{name_of}
-use Rattle.names.specs.SearchLaws.{symbol_some, symbol_none}
+use Rattle.names.specs.UsedLaws.{some_symbol, no_symbol}
 use Rattle.names.specs.Symbols.{column, row_at, symbols_of, variables_of}
 use Rattle.patterns.specs.Patterns.{pattern_of, Out}
 use Rattle.patterns.specs.Promises.{stored}
@@ -26,7 +26,7 @@ node-returns-in_err-misfit t c =
     (record {
       small = tt;
       placed = tt;
-      same = λ ts q st cn. (tt, node_misfit (args.text.now) (args.symbols.now) (args.count) (pre.0.lent) (args.i) (pre.1.0) (args.want) (variables_of (args.text.now) (args.variables.now) (args.from.variables)) (args.from.room) (c.in_err-misfit.ensures args.text.now).0 (λ z. let l = (c.in_err-misfit.ensures args.text.now).1 in omega arith) ts cn (args.words.now) (args.from.used));
+      same = λ ts q st cn. (tt, node_misfit (args.source.text.now) (args.source.symbols.now) (length args.source.symbols.now) (pre.0.lent) (args.i) (pre.1.0) (args.want) (variables_of (args.source.text.now) (args.variables.now) (args.from.variables)) (args.from.room) (c.in_err-misfit.ensures args.source.text.now).0 (λ z. let l = (c.in_err-misfit.ensures args.source.text.now).1 in omega arith) ts cn (args.words.now) (args.from.used));
     })
 
 pub node-returns-then-from-eq0 : goal.node-returns-then-from-eq0
@@ -37,20 +37,20 @@ node-returns-then-from-eq0 t c =
     record {
       small = tt;
       placed = tt;
-      same = λ ts q st cn. (tt, node_full (args.text.now) (args.symbols.now) (args.count) (pre.0.lent) (args.i) (pre.1.0) (args.want) (variables_of (args.text.now) (args.variables.now) (args.from.variables)) (args.from.room) (c.in_ok-misfit.ensures args.text.now) refl ts cn (if2.true) (args.words.now) (args.from.used));
+      same = λ ts q st cn. (tt, node_full (args.source.text.now) (args.source.symbols.now) (length args.source.symbols.now) (pre.0.lent) (args.i) (pre.1.0) (args.want) (variables_of (args.source.text.now) (args.variables.now) (args.from.variables)) (args.from.room) (c.in_ok-misfit.ensures args.source.text.now) refl ts cn (if2.true) (args.words.now) (args.from.used));
     }
 
 pub node-loop-k-init : goal.node-loop-k-init
 node-loop-k-init t c =
     let args = c.args in
     let pre = c.requires in
-    loop_start (args.text.now) (args.rows.now) (args.from.next) (args.arguments) (symbols_of (args.text.now) (args.symbols.now) (args.count)) (inputs_at (args.text.now) (args.symbols.now) (args.count) (args.i)) (args.variables.now) (args.from.variables) (args.words.now) (args.from.used) (args.from.room - 1) _ (pre.0.entered) refl
+    loop_start (args.source.text.now) (args.source.rows.now) (args.from.next) (args.arguments) (symbols_of (args.source.text.now) (args.source.symbols.now) (length args.source.symbols.now)) (inputs_at (args.source.text.now) (args.source.symbols.now) (length args.source.symbols.now) (args.i)) (args.variables.now) (args.from.variables) (args.words.now) (args.from.used) (args.from.room - 1) _ (pre.0.entered) refl
 
 pub node-bounds-symbols-k : goal.node-bounds-symbols-k
 node-bounds-symbols-k t c =
     let args = c.args in
     let pre = c.requires in
-    let b : args.arguments ≡ column (row_at (args.symbols.now) (args.i)) 6 = misfit_args (args.text.now) (row_at (args.symbols.now) (args.i)) (args.want) (args.arguments) (c.in_ok-misfit.ensures args.text.now) in
+    let b : args.arguments ≡ column (row_at (args.source.symbols.now) (args.i)) 6 = misfit_args (args.source.text.now) (row_at (args.source.symbols.now) (args.i)) (args.want) (args.arguments) (c.in_ok-misfit.ensures args.source.text.now) in
     let x = pre.0.inputs (args.i) (pre.1.0) in
     omega arith
 
@@ -70,7 +70,7 @@ node-returns-in_err-made t c =
     let loop-test = c.loop-k-test in
     let pattern = c.pattern in
     let if2 = c.if-from-eq0 in
-    let b : args.arguments ≡ column (row_at (args.symbols.now) (args.i)) 6 = misfit_args (args.text.now) (row_at (args.symbols.now) (args.i)) (args.want) (args.arguments) (c.in_ok-misfit.ensures args.text.now) in
+    let b : args.arguments ≡ column (row_at (args.source.symbols.now) (args.i)) 6 = misfit_args (args.source.text.now) (row_at (args.source.symbols.now) (args.i)) (args.want) (args.arguments) (c.in_ok-misfit.ensures args.source.text.now) in
     let x = pre.0.inputs (args.i) (pre.1.0) in
     rw (handed_on c.from_residual-in_err-made.result c.from_residual-in_err-made.ensures.1)
     (record {
@@ -78,8 +78,8 @@ node-returns-in_err-made t c =
       placed = tt;
       same = λ ts q st cn. (
         tt,
-        app_refused (pattern_of (symbols_of (args.text.now) (args.symbols.now) (args.count)) ts (inputs_at (args.text.now) (args.symbols.now) (args.count) (args.i)) (variables_of (args.text.now) (args.variables.now) (args.from.variables)) (args.from.room - 1)) (args.i) (args.words.now) (args.from.used) (loop_refused (args.text.now) (args.rows.now) (args.from.next) (args.arguments) (symbols_of (args.text.now) (args.symbols.now) (args.count)) (inputs_at (args.text.now) (args.symbols.now) (args.count) (args.i)) (args.variables.now) (args.from.variables) (args.words.now) (args.from.used) (args.from.room - 1) (loop.k) (loop.place.next) (loop.variables) (loop.place.variables) (loop.words) (loop.place.used) (loop.place.room) (loop.refs) (loop.invariant) (loop-test.true) (column (row_at (args.symbols.now) (args.i)) (8 + loop.k)) (input_at (args.text.now) (args.symbols.now) (args.count) (pre.0.lent) (args.i) (pre.1.0) 0 [] 0 (loop.k) (rw b at (loop-test.true))) (pattern.result) _ _ (pattern.ensures) c.in_err-made.was ts q st cn)
-            ∙ ap (λ (x : Out one). stored [] x (args.words.now) (args.from.used)) (sym (node_open (args.text.now) (args.symbols.now) (args.count) (pre.0.lent) (args.i) (pre.1.0) (args.want) (variables_of (args.text.now) (args.variables.now) (args.from.variables)) (args.from.room) (c.in_ok-misfit.ensures args.text.now) refl ts cn (omega (arith, if2.false)))),
+        app_refused (pattern_of (symbols_of (args.source.text.now) (args.source.symbols.now) (length args.source.symbols.now)) ts (inputs_at (args.source.text.now) (args.source.symbols.now) (length args.source.symbols.now) (args.i)) (variables_of (args.source.text.now) (args.variables.now) (args.from.variables)) (args.from.room - 1)) (args.i) (args.words.now) (args.from.used) (loop_refused (args.source.text.now) (args.source.rows.now) (args.from.next) (args.arguments) (symbols_of (args.source.text.now) (args.source.symbols.now) (length args.source.symbols.now)) (inputs_at (args.source.text.now) (args.source.symbols.now) (length args.source.symbols.now) (args.i)) (args.variables.now) (args.from.variables) (args.words.now) (args.from.used) (args.from.room - 1) (loop.k) (loop.place.next) (loop.variables) (loop.place.variables) (loop.words) (loop.place.used) (loop.place.room) (loop.refs) (loop.invariant) (loop-test.true) (column (row_at (args.source.symbols.now) (args.i)) (8 + loop.k)) (input_at (args.source.text.now) (args.source.symbols.now) (length args.source.symbols.now) (pre.0.lent) (args.i) (pre.1.0) 0 [] 0 (loop.k) (rw b at (loop-test.true))) (pattern.result) _ _ (pattern.ensures) c.in_err-made.was ts q st cn)
+            ∙ ap (λ (x : Out one). stored [] x (args.words.now) (args.from.used)) (sym (node_open (args.source.text.now) (args.source.symbols.now) (length args.source.symbols.now) (pre.0.lent) (args.i) (pre.1.0) (args.want) (variables_of (args.source.text.now) (args.variables.now) (args.from.variables)) (args.from.room) (c.in_ok-misfit.ensures args.source.text.now) refl ts cn (omega (arith, if2.false)))),
       );
     })
 
@@ -88,7 +88,7 @@ node-bounds-refs-k t c =
     let args = c.args in
     let pre = c.requires in
     let loop = c.loop-k in
-    let b : args.arguments ≡ column (row_at (args.symbols.now) (args.i)) 6 = misfit_args (args.text.now) (row_at (args.symbols.now) (args.i)) (args.want) (args.arguments) (c.in_ok-misfit.ensures args.text.now) in
+    let b : args.arguments ≡ column (row_at (args.source.symbols.now) (args.i)) 6 = misfit_args (args.source.text.now) (row_at (args.source.symbols.now) (args.i)) (args.want) (args.arguments) (c.in_ok-misfit.ensures args.source.text.now) in
     let x = pre.0.inputs (args.i) (pre.1.0) in
     omega (arith, loop.invariant.sixteen)
 
@@ -99,16 +99,16 @@ node-loop-k-preserved t c =
     let loop = c.loop-k in
     let loop-test = c.loop-k-test in
     let pattern = c.pattern in
-    let b : args.arguments ≡ column (row_at (args.symbols.now) (args.i)) 6 = misfit_args (args.text.now) (row_at (args.symbols.now) (args.i)) (args.want) (args.arguments) (c.in_ok-misfit.ensures args.text.now) in
+    let b : args.arguments ≡ column (row_at (args.source.symbols.now) (args.i)) 6 = misfit_args (args.source.text.now) (row_at (args.source.symbols.now) (args.i)) (args.want) (args.arguments) (c.in_ok-misfit.ensures args.source.text.now) in
     let x = pre.0.inputs (args.i) (pre.1.0) in
-    loop_turn (args.text.now) (args.rows.now) (args.from.next) (args.arguments) (symbols_of (args.text.now) (args.symbols.now) (args.count)) (inputs_at (args.text.now) (args.symbols.now) (args.count) (args.i)) (args.variables.now) (args.from.variables) (args.words.now) (args.from.used) (args.from.room - 1) (loop.k) (loop.place.next) (loop.variables) (loop.place.variables) (loop.words) (loop.place.used) (loop.place.room) (loop.refs) (loop.invariant) (loop-test.true) (column (row_at (args.symbols.now) (args.i)) (8 + loop.k)) (input_at (args.text.now) (args.symbols.now) (args.count) (pre.0.lent) (args.i) (pre.1.0) 0 [] 0 (loop.k) (rw b at (loop-test.true))) (pattern.result) _ _ (pattern.ensures) c.in_ok-made.was (pattern.auto.variables) (pattern.auto.words) (omega arith)
+    loop_turn (args.source.text.now) (args.source.rows.now) (args.from.next) (args.arguments) (symbols_of (args.source.text.now) (args.source.symbols.now) (length args.source.symbols.now)) (inputs_at (args.source.text.now) (args.source.symbols.now) (length args.source.symbols.now) (args.i)) (args.variables.now) (args.from.variables) (args.words.now) (args.from.used) (args.from.room - 1) (loop.k) (loop.place.next) (loop.variables) (loop.place.variables) (loop.words) (loop.place.used) (loop.place.room) (loop.refs) (loop.invariant) (loop-test.true) (column (row_at (args.source.symbols.now) (args.i)) (8 + loop.k)) (input_at (args.source.text.now) (args.source.symbols.now) (length args.source.symbols.now) (pre.0.lent) (args.i) (pre.1.0) 0 [] 0 (loop.k) (rw b at (loop-test.true))) (pattern.result) _ _ (pattern.ensures) c.in_ok-made.was (pattern.auto.variables) (pattern.auto.words) (omega arith)
 
 pub node-slice_bounds-refs-end : goal.node-slice_bounds-refs-end
 node-slice_bounds-refs-end t c =
     let args = c.args in
     let pre = c.requires in
     let loop = c.loop-k in
-    let b : args.arguments ≡ column (row_at (args.symbols.now) (args.i)) 6 = misfit_args (args.text.now) (row_at (args.symbols.now) (args.i)) (args.want) (args.arguments) (c.in_ok-misfit.ensures args.text.now) in
+    let b : args.arguments ≡ column (row_at (args.source.symbols.now) (args.i)) 6 = misfit_args (args.source.text.now) (row_at (args.source.symbols.now) (args.i)) (args.want) (args.arguments) (c.in_ok-misfit.ensures args.source.text.now) in
     let x = pre.0.inputs (args.i) (pre.1.0) in
     omega (arith, loop.invariant.sixteen)
 
@@ -117,7 +117,7 @@ node-slice_bounds-push_node-end t c =
     let args = c.args in
     let pre = c.requires in
     let loop = c.loop-k in
-    let b : args.arguments ≡ column (row_at (args.symbols.now) (args.i)) 6 = misfit_args (args.text.now) (row_at (args.symbols.now) (args.i)) (args.want) (args.arguments) (c.in_ok-misfit.ensures args.text.now) in
+    let b : args.arguments ≡ column (row_at (args.source.symbols.now) (args.i)) 6 = misfit_args (args.source.text.now) (row_at (args.source.symbols.now) (args.i)) (args.want) (args.arguments) (c.in_ok-misfit.ensures args.source.text.now) in
     let x = pre.0.inputs (args.i) (pre.1.0) in
     let six = loop.invariant.sixteen in
     let n : length (take (args.arguments) (loop.refs)) ≡ args.arguments = length-take-le (args.arguments) (loop.refs) (omega arith) in
@@ -128,7 +128,7 @@ node-push_node-requires t c =
     let args = c.args in
     let pre = c.requires in
     let loop = c.loop-k in
-    let b : args.arguments ≡ column (row_at (args.symbols.now) (args.i)) 6 = misfit_args (args.text.now) (row_at (args.symbols.now) (args.i)) (args.want) (args.arguments) (c.in_ok-misfit.ensures args.text.now) in
+    let b : args.arguments ≡ column (row_at (args.source.symbols.now) (args.i)) 6 = misfit_args (args.source.text.now) (row_at (args.source.symbols.now) (args.i)) (args.want) (args.arguments) (c.in_ok-misfit.ensures args.source.text.now) in
     let x = pre.0.inputs (args.i) (pre.1.0) in
     let L = loop.invariant in
     let six = L.sixteen in
@@ -144,16 +144,16 @@ node-returns t c =
     let loop-test = c.loop-k-test in
     let push-node = c.push_node in
     let if2 = c.if-from-eq0 in
-    let b : args.arguments ≡ column (row_at (args.symbols.now) (args.i)) 6 = misfit_args (args.text.now) (row_at (args.symbols.now) (args.i)) (args.want) (args.arguments) (c.in_ok-misfit.ensures args.text.now) in
+    let b : args.arguments ≡ column (row_at (args.source.symbols.now) (args.i)) 6 = misfit_args (args.source.text.now) (row_at (args.source.symbols.now) (args.i)) (args.want) (args.arguments) (c.in_ok-misfit.ensures args.source.text.now) in
     let x = pre.0.inputs (args.i) (pre.1.0) in
     let L = loop.invariant in
     record {
       small = (L.from, L.grown, L.bound, omega arith, omega arith);
       placed = L.placed;
-      same = λ ts q st cn. let d = loop_done (args.text.now) (args.rows.now) (args.from.next) (args.arguments) (symbols_of (args.text.now) (args.symbols.now) (args.count)) (inputs_at (args.text.now) (args.symbols.now) (args.count) (args.i)) (args.variables.now) (args.from.variables) (args.words.now) (args.from.used) (args.from.room - 1) (loop.k) (loop.place.next) (loop.variables) (loop.place.variables) (loop.words) (loop.place.used) (loop.place.room) (loop.refs) (loop.invariant) (loop-test.false) ts q st cn in (
+      same = λ ts q st cn. let d = loop_done (args.source.text.now) (args.source.rows.now) (args.from.next) (args.arguments) (symbols_of (args.source.text.now) (args.source.symbols.now) (length args.source.symbols.now)) (inputs_at (args.source.text.now) (args.source.symbols.now) (length args.source.symbols.now) (args.i)) (args.variables.now) (args.from.variables) (args.words.now) (args.from.used) (args.from.room - 1) (loop.k) (loop.place.next) (loop.variables) (loop.place.variables) (loop.words) (loop.place.used) (loop.place.room) (loop.refs) (loop.invariant) (loop-test.false) ts q st cn in (
         d.0,
-        node_done (pattern_of (symbols_of (args.text.now) (args.symbols.now) (args.count)) ts (inputs_at (args.text.now) (args.symbols.now) (args.count) (args.i)) (variables_of (args.text.now) (args.variables.now) (args.from.variables)) (args.from.room - 1)) (args.i) (args.words.now) (args.from.used) (loop.refs) (args.arguments) (loop.words) (loop.place.used) _ (loop.place.room) _ (omega (arith, L.sixteen)) (push-node.ensures) d.1
-            ∙ ap (λ (x : Out one). stored [] x (args.words.now) (args.from.used)) (sym (node_open (args.text.now) (args.symbols.now) (args.count) (pre.0.lent) (args.i) (pre.1.0) (args.want) (variables_of (args.text.now) (args.variables.now) (args.from.variables)) (args.from.room) (c.in_ok-misfit.ensures args.text.now) refl ts cn (omega (arith, if2.false)))),
+        node_done (pattern_of (symbols_of (args.source.text.now) (args.source.symbols.now) (length args.source.symbols.now)) ts (inputs_at (args.source.text.now) (args.source.symbols.now) (length args.source.symbols.now) (args.i)) (variables_of (args.source.text.now) (args.variables.now) (args.from.variables)) (args.from.room - 1)) (args.i) (args.words.now) (args.from.used) (loop.refs) (args.arguments) (loop.words) (loop.place.used) _ (loop.place.room) _ (omega (arith, L.sixteen)) (push-node.ensures) d.1
+            ∙ ap (λ (x : Out one). stored [] x (args.words.now) (args.from.used)) (sym (node_open (args.source.text.now) (args.source.symbols.now) (length args.source.symbols.now) (pre.0.lent) (args.i) (pre.1.0) (args.want) (variables_of (args.source.text.now) (args.variables.now) (args.from.variables)) (args.from.room) (c.in_ok-misfit.ensures args.source.text.now) refl ts cn (omega (arith, if2.false)))),
       );
     }
 
@@ -162,7 +162,7 @@ pattern-returns-then-rows-from t c =
     record {
       small = tt;
       placed = tt;
-      same = λ t q st. out_of_rows (c.args.text.now) (c.args.rows.now) (c.args.from.next) (c.if-rows-from.true) t q st;
+      same = λ t q st. out_of_rows (c.args.source.text.now) (c.args.source.rows.now) (c.args.from.next) (c.if-rows-from.true) t q st;
     }
 
 pub pattern-returns-then-kind-eq-NUMERAL : goal.pattern-returns-then-kind-eq-NUMERAL
@@ -174,8 +174,8 @@ pattern-returns-then-kind-eq-NUMERAL t c =
     let low = pre.low in
     record {
       small = numeral.ensures.small;
-      placed = placed_none args.rows.now args.from.next args.variables.now args.from.variables numeral.result numeral.ensures.none_new;
-      same = λ t q st. let x = is_numeral_lem (args.text.now) (args.rows.now) (args.from.next) (symbols_of (args.text.now) (args.symbols.now) (args.count)) (args.want) (variables_of (args.text.now) (args.variables.now) (args.from.variables)) (args.from.room) t q st (omega arith) (if2.true) in (
+      placed = placed_none args.source.rows.now args.from.next args.variables.now args.from.variables numeral.result numeral.ensures.none_new;
+      same = λ t q st. let x = is_numeral_lem (args.source.text.now) (args.source.rows.now) (args.from.next) (symbols_of (args.source.text.now) (args.source.symbols.now) (length args.source.symbols.now)) (args.want) (variables_of (args.source.text.now) (args.variables.now) (args.from.variables)) (args.from.room) t q st (omega arith) (if2.true) in (
         rw x.0 at (numeral.ensures.going),
         numeral.ensures.same args.variables.now
             ∙ ap (λ (y : Out one). stored [] y (args.words.now) (args.from.used)) x.1,
@@ -190,9 +190,9 @@ pattern-returns-then-kind-eq-METAVARIABLE t c =
     record {
       small = variable.ensures.small;
       placed = let k = if3.true in
-          placed_variable args.rows.now args.from.next args.variables.now args.from.variables _ variable.result (λ e. omega arith) (λ e. omega arith)
+          placed_variable args.source.rows.now args.from.next args.variables.now args.from.variables _ variable.result (λ e. omega arith) (λ e. omega arith)
           variable.ensures.next_is variable.ensures.made_placed;
-      same = λ t q st. let x = is_meta (args.text.now) (args.rows.now) (args.from.next) (symbols_of (args.text.now) (args.symbols.now) (args.count)) (args.want) (variables_of (args.text.now) (args.variables.now) (args.from.variables)) (args.from.room) t q st (if3.true) in (
+      same = λ t q st. let x = is_meta (args.source.text.now) (args.source.rows.now) (args.from.next) (symbols_of (args.source.text.now) (args.source.symbols.now) (length args.source.symbols.now)) (args.want) (variables_of (args.source.text.now) (args.variables.now) (args.from.variables)) (args.from.room) t q st (if3.true) in (
         rw x.0 at (variable.ensures.next_is),
         variable.ensures.by_index (args.words.now)
             ∙ ap (λ (y : Out one). stored [] y (args.words.now) (args.from.used)) x.1,
@@ -203,7 +203,7 @@ pub pattern-node-requires : goal.pattern-node-requires
 pattern-node-requires t c =
     let args = c.args in
     let pre = c.requires in
-    let e = symbol_some args.text.now args.symbols.now args.count pre.lent (name_of args.text.now (column (row_at args.rows.now args.from.next) 0) (column (row_at args.rows.now args.from.next) 1) (column (row_at args.rows.now args.from.next) 2)) c.in-Some.i c.in-Some.ensures in
+    let e = some_symbol args.source.text.now args.source.symbols.now (name_of args.source.text.now (column (row_at args.source.rows.now args.from.next) 0) (column (row_at args.source.rows.now args.from.next) 1) (column (row_at args.source.rows.now args.from.next) 2)) c.in-Some.i c.in-Some.ensures in
     (omega arith, (pre, (e.1, omega arith)))
 
 pub pattern-returns-in-Some : goal.pattern-returns-in-Some
@@ -213,12 +213,12 @@ pattern-returns-in-Some t c =
     let node = c.node in
     let if2 = c.if-kind-eq-NUMERAL in
     let if3 = c.if-kind-eq-METAVARIABLE in
-    let e = symbol_some args.text.now args.symbols.now args.count pre.lent (name_of args.text.now (column (row_at args.rows.now args.from.next) 0) (column (row_at args.rows.now args.from.next) 1) (column (row_at args.rows.now args.from.next) 2)) c.in-Some.i c.in-Some.ensures in
-    let n = symbols_length (args.text.now) (args.symbols.now) (args.count) (pre.lent) in
+    let e = some_symbol args.source.text.now args.source.symbols.now (name_of args.source.text.now (column (row_at args.source.rows.now args.from.next) 0) (column (row_at args.source.rows.now args.from.next) 1) (column (row_at args.source.rows.now args.from.next) 2)) c.in-Some.i c.in-Some.ensures in
+    let n = symbols_length (args.source.text.now) (args.source.symbols.now) (length args.source.symbols.now) (pre.lent) in
     record {
       small = node.ensures.small;
-      placed = placed_node args.rows.now args.from.next args.variables.now args.from.variables _ node.result node.ensures.placed;
-      same = λ t q st. let x = is_node (args.text.now) (args.rows.now) (args.from.next) (symbols_of (args.text.now) (args.symbols.now) (args.count)) (args.want) (variables_of (args.text.now) (args.variables.now) (args.from.variables)) (args.from.room) t q st c.in-Some.i e.0 (if2.false) (if3.false) (rw n e.1) in
+      placed = placed_node args.source.rows.now args.from.next args.variables.now args.from.variables _ node.result node.ensures.placed;
+      same = λ t q st. let x = is_node (args.source.text.now) (args.source.rows.now) (args.from.next) (symbols_of (args.source.text.now) (args.source.symbols.now) (length args.source.symbols.now)) (args.want) (variables_of (args.source.text.now) (args.variables.now) (args.from.variables)) (args.from.room) t q st c.in-Some.i e.0 (if2.false) (if3.false) (rw n e.1) in
           let y = node.ensures.same x.0 q x.1 x.2 in
           (y.0, y.1 ∙ ap (λ (z : Out one). stored [] z (args.words.now) (args.from.used)) x.3);
     }
@@ -230,12 +230,12 @@ pattern-returns-then-kind-eq-APPLICATION t c =
     let if2 = c.if-kind-eq-NUMERAL in
     let if3 = c.if-kind-eq-METAVARIABLE in
     let if5 = c.if-kind-eq-APPLICATION in
-    let l = symbol_none args.text.now args.symbols.now args.count pre.lent (name_of args.text.now (column (row_at args.rows.now args.from.next) 0) (column (row_at args.rows.now args.from.next) 1) (column (row_at args.rows.now args.from.next) 2)) c.in-None.ensures in
-    let n = symbols_length (args.text.now) (args.symbols.now) (args.count) (pre.lent) in
+    let l = no_symbol args.source.text.now args.source.symbols.now (name_of args.source.text.now (column (row_at args.source.rows.now args.from.next) 0) (column (row_at args.source.rows.now args.from.next) 1) (column (row_at args.source.rows.now args.from.next) 2)) c.in-None.ensures in
+    let n = symbols_length (args.source.text.now) (args.source.symbols.now) (length args.source.symbols.now) (pre.lent) in
     record {
       small = tt;
       placed = tt;
-      same = λ t q st. (tt, ap (λ (z : Out one). stored [] z (args.words.now) (args.from.used)) (is_unknown (args.text.now) (args.rows.now) (args.from.next) (symbols_of (args.text.now) (args.symbols.now) (args.count)) (args.want) (variables_of (args.text.now) (args.variables.now) (args.from.variables)) (args.from.room) t q st _ refl (if2.false) (if3.false) (rw n l) (if5.true)));
+      same = λ t q st. (tt, ap (λ (z : Out one). stored [] z (args.words.now) (args.from.used)) (is_unknown (args.source.text.now) (args.source.rows.now) (args.from.next) (symbols_of (args.source.text.now) (args.source.symbols.now) (length args.source.symbols.now)) (args.want) (variables_of (args.source.text.now) (args.variables.now) (args.from.variables)) (args.from.room) t q st _ refl (if2.false) (if3.false) (rw n l) (if5.true)));
     }
 
 pub pattern-returns-then-want-eq0 : goal.pattern-returns-then-want-eq0
@@ -246,12 +246,12 @@ pattern-returns-then-want-eq0 t c =
     let if3 = c.if-kind-eq-METAVARIABLE in
     let if5 = c.if-kind-eq-APPLICATION in
     let if6 = c.if-want-eq0 in
-    let l = symbol_none args.text.now args.symbols.now args.count pre.lent (name_of args.text.now (column (row_at args.rows.now args.from.next) 0) (column (row_at args.rows.now args.from.next) 1) (column (row_at args.rows.now args.from.next) 2)) c.in-None.ensures in
-    let n = symbols_length (args.text.now) (args.symbols.now) (args.count) (pre.lent) in
+    let l = no_symbol args.source.text.now args.source.symbols.now (name_of args.source.text.now (column (row_at args.source.rows.now args.from.next) 0) (column (row_at args.source.rows.now args.from.next) 1) (column (row_at args.source.rows.now args.from.next) 2)) c.in-None.ensures in
+    let n = symbols_length (args.source.text.now) (args.source.symbols.now) (length args.source.symbols.now) (pre.lent) in
     record {
       small = tt;
       placed = tt;
-      same = λ t q st. (tt, ap (λ (z : Out one). stored [] z (args.words.now) (args.from.used)) (is_judgment (args.text.now) (args.rows.now) (args.from.next) (symbols_of (args.text.now) (args.symbols.now) (args.count)) (args.want) (variables_of (args.text.now) (args.variables.now) (args.from.variables)) (args.from.room) t q st _ refl (if2.false) (if3.false) (rw n l) (if5.false) (if6.true)));
+      same = λ t q st. (tt, ap (λ (z : Out one). stored [] z (args.words.now) (args.from.used)) (is_judgment (args.source.text.now) (args.source.rows.now) (args.from.next) (symbols_of (args.source.text.now) (args.source.symbols.now) (length args.source.symbols.now)) (args.want) (variables_of (args.source.text.now) (args.variables.now) (args.from.variables)) (args.from.room) t q st _ refl (if2.false) (if3.false) (rw n l) (if5.false) (if6.true)));
     }
 
 pub pattern-returns-else-want-eq0 : goal.pattern-returns-else-want-eq0
@@ -263,13 +263,13 @@ pattern-returns-else-want-eq0 t c =
     let if3 = c.if-kind-eq-METAVARIABLE in
     let if5 = c.if-kind-eq-APPLICATION in
     let if6 = c.if-want-eq0 in
-    let l = symbol_none args.text.now args.symbols.now args.count pre.lent (name_of args.text.now (column (row_at args.rows.now args.from.next) 0) (column (row_at args.rows.now args.from.next) 1) (column (row_at args.rows.now args.from.next) 2)) c.in-None.ensures in
-    let n = symbols_length (args.text.now) (args.symbols.now) (args.count) (pre.lent) in
+    let l = no_symbol args.source.text.now args.source.symbols.now (name_of args.source.text.now (column (row_at args.source.rows.now args.from.next) 0) (column (row_at args.source.rows.now args.from.next) 1) (column (row_at args.source.rows.now args.from.next) 2)) c.in-None.ensures in
+    let n = symbols_length (args.source.text.now) (args.source.symbols.now) (length args.source.symbols.now) (pre.lent) in
     record {
       small = variable2.ensures.small;
-      placed = placed_variable args.rows.now args.from.next args.variables.now args.from.variables _ variable2.result if2.false if5.false
+      placed = placed_variable args.source.rows.now args.from.next args.variables.now args.from.variables _ variable2.result if2.false if5.false
           variable2.ensures.next_is variable2.ensures.made_placed;
-      same = λ t q st. let x = is_variable (args.text.now) (args.rows.now) (args.from.next) (symbols_of (args.text.now) (args.symbols.now) (args.count)) (args.want) (variables_of (args.text.now) (args.variables.now) (args.from.variables)) (args.from.room) t q st _ refl (if2.false) (if3.false) (rw n l) (if5.false) (if6.false) in (
+      same = λ t q st. let x = is_variable (args.source.text.now) (args.source.rows.now) (args.from.next) (symbols_of (args.source.text.now) (args.source.symbols.now) (length args.source.symbols.now)) (args.want) (variables_of (args.source.text.now) (args.variables.now) (args.from.variables)) (args.from.room) t q st _ refl (if2.false) (if3.false) (rw n l) (if5.false) (if6.false) in (
         rw x.0 at (variable2.ensures.next_is),
         variable2.ensures.by_index (args.words.now)
             ∙ ap (λ (y : Out one). stored [] y (args.words.now) (args.from.used)) x.1,

@@ -7,10 +7,10 @@ use Rattle.patterns.proofs.Terms.{Looped, inputs_at}
 use Rattle.patterns.proofs.+node_pattern.Given as goal
 
 abbrev pub decreases-node : goal.decreases-node
-decreases-node l = 2 * (length l.rows.now - l.from.next) + 1
+decreases-node l = 2 * (length l.source.rows.now - l.from.next) + 1
 
 abbrev pub decreases-pattern : goal.decreases-pattern
-decreases-pattern l = 2 * (length l.rows.now - l.from.next)
+decreases-pattern l = 2 * (length l.source.rows.now - l.from.next)
 
 abbrev pub invariant-node-loop-k : goal.invariant-node-loop-k
-invariant-node-loop-k l = Looped l.text l.rows l.fn.from.next l.arguments (symbols_of l.text l.symbols l.count) (inputs_at l.text l.symbols l.count l.i) l.initial.variables l.fn.from.variables l.initial.words l.fn.from.used (l.fn.from.room - 1) l.k l.place.next l.variables l.place.variables l.words l.place.used l.place.room l.refs
+invariant-node-loop-k l = Looped l.source.text.now l.source.rows.now l.fn.from.next l.arguments (symbols_of l.source.text.now l.source.symbols.now (length l.source.symbols.now)) (inputs_at l.source.text.now l.source.symbols.now (length l.source.symbols.now) l.i) l.initial.variables l.fn.from.variables l.initial.words l.fn.from.used (l.fn.from.room - 1) l.k l.place.next l.variables l.place.variables l.words l.place.used l.place.room l.refs

@@ -13,47 +13,47 @@ use Rattle.patterns.proofs.numeral.Goals as goal
 pub returns-in_err-z : goal.returns-in_err-z
 returns-in_err-z c =
     let a = c.args in
-    let h : a.count ≤ length a.symbols.now = c.requires.0 in
-    let ss = symbols_of a.text.now a.symbols.now a.count in
+    let h : length a.symbols.now ≤ length a.symbols.now = omega arith in
+    let ss = symbols_of a.text.now a.symbols.now (length a.symbols.now) in
     rw (handed_on c.from_residual.result c.from_residual.ensures.1, none_is c.constructor.result c.in_err-z.ensures.ok_part c.in_err-z.ensures.value)
     (record {
       small = tt;
       going = tt;
       none_new = tt;
-      same = λ vx. no_zero a.text.now a.symbols.now a.count h a.n a.want (variables_of a.text.now vx a.from.variables) a.from.room a.words.now a.from.used
+      same = λ vx. no_zero a.text.now a.symbols.now (length a.symbols.now) h a.n a.want (variables_of a.text.now vx a.from.variables) a.from.room a.words.now a.from.used
           (constructor_none ss zero_name (sym c.in_err-z.ensures.ok_part ∙ c.constructor.ensures));
     })
 
 pub returns-in_err-y : goal.returns-in_err-y
 returns-in_err-y c =
     let a = c.args in
-    let h : a.count ≤ length a.symbols.now = c.requires.0 in
-    let ss = symbols_of a.text.now a.symbols.now a.count in
+    let h : length a.symbols.now ≤ length a.symbols.now = omega arith in
+    let ss = symbols_of a.text.now a.symbols.now (length a.symbols.now) in
     let (ez, cz, lz) = constructor_some ss zero_name c.in_ok-z.z (sym c.in_ok-z.ensures.ok_part ∙ c.constructor.ensures) in
     rw (handed_on c.from_residual-in_err-y.result c.from_residual-in_err-y.ensures.1, none_is c.constructor-2.result c.in_err-y.ensures.ok_part c.in_err-y.ensures.value)
     (record {
       small = tt;
       going = tt;
       none_new = tt;
-      same = λ vx. no_succ a.text.now a.symbols.now a.count h a.n a.want (variables_of a.text.now vx a.from.variables) a.from.room a.words.now a.from.used ez cz lz
+      same = λ vx. no_succ a.text.now a.symbols.now (length a.symbols.now) h a.n a.want (variables_of a.text.now vx a.from.variables) a.from.room a.words.now a.from.used ez cz lz
           (constructor_none ss succ_name (sym c.in_err-y.ensures.ok_part ∙ c.constructor-2.ensures));
     })
 
 pub numeral_misfit-requires : goal.numeral_misfit-requires
 numeral_misfit-requires c =
     let a = c.args in
-    let h : a.count ≤ length a.symbols.now = c.requires.0 in
-    let ss = symbols_of a.text.now a.symbols.now a.count in
+    let h : length a.symbols.now ≤ length a.symbols.now = omega arith in
+    let ss = symbols_of a.text.now a.symbols.now (length a.symbols.now) in
     let (ez, cz, lz) = constructor_some ss zero_name c.in_ok-z.z (sym c.in_ok-z.ensures.ok_part ∙ c.constructor.ensures) in
     let (ey, cy, ly) = constructor_some ss succ_name c.in_ok-y.y (sym c.in_ok-y.ensures.ok_part ∙ c.constructor-2.ensures) in
-    let (b, d) = inside a.text.now a.symbols.now a.count h a.n a.want [] a.from.room a.words.now a.from.used ez cz lz ey cy ly in
+    let (b, d) = inside a.text.now a.symbols.now (length a.symbols.now) h a.n a.want [] a.from.room a.words.now a.from.used ez cz lz ey cy ly in
     (omega arith, omega arith)
 
 pub returns-in_err-numeral_misfit : goal.returns-in_err-numeral_misfit
 returns-in_err-numeral_misfit c =
     let a = c.args in
-    let h : a.count ≤ length a.symbols.now = c.requires.0 in
-    let ss = symbols_of a.text.now a.symbols.now a.count in
+    let h : length a.symbols.now ≤ length a.symbols.now = omega arith in
+    let ss = symbols_of a.text.now a.symbols.now (length a.symbols.now) in
     let (ez, cz, lz) = constructor_some ss zero_name c.in_ok-z.z (sym c.in_ok-z.ensures.ok_part ∙ c.constructor.ensures) in
     let (ey, cy, ly) = constructor_some ss succ_name c.in_ok-y.y (sym c.in_ok-y.ensures.ok_part ∙ c.constructor-2.ensures) in
     let e = c.in_err-numeral_misfit.ensures a.text.now in
@@ -62,72 +62,72 @@ returns-in_err-numeral_misfit c =
       small = tt;
       going = tt;
       none_new = tt;
-      same = λ vx. number_refused a.text.now a.symbols.now a.count h a.n a.want (variables_of a.text.now vx a.from.variables) a.from.room a.words.now a.from.used ez cz lz ey cy ly e.0 e.1;
+      same = λ vx. number_refused a.text.now a.symbols.now (length a.symbols.now) h a.n a.want (variables_of a.text.now vx a.from.variables) a.from.room a.words.now a.from.used ez cz lz ey cy ly e.0 e.1;
     })
 
 pub numeral_words-r-requires : goal.numeral_words-r-requires
 numeral_words-r-requires c =
     let a = c.args in
-    let h : a.count ≤ length a.symbols.now = c.requires.0 in
-    let ss = symbols_of a.text.now a.symbols.now a.count in
+    let h : length a.symbols.now ≤ length a.symbols.now = omega arith in
+    let ss = symbols_of a.text.now a.symbols.now (length a.symbols.now) in
     let (ez, cz, lz) = constructor_some ss zero_name c.in_ok-z.z (sym c.in_ok-z.ensures.ok_part ∙ c.constructor.ensures) in
     let (ey, cy, ly) = constructor_some ss succ_name c.in_ok-y.y (sym c.in_ok-y.ensures.ok_part ∙ c.constructor-2.ensures) in
-    let (b, d) = inside a.text.now a.symbols.now a.count h a.n a.want [] a.from.room a.words.now a.from.used ez cz lz ey cy ly in
-    let l : a.n < a.from.room = number_room a.text.now a.symbols.now a.count h a.n a.want [] a.from.room a.words.now a.from.used ez cz lz ey cy ly (c.in_ok-numeral_misfit.ensures a.text.now) in
+    let (b, d) = inside a.text.now a.symbols.now (length a.symbols.now) h a.n a.want [] a.from.room a.words.now a.from.used ez cz lz ey cy ly in
+    let l : a.n < a.from.room = number_room a.text.now a.symbols.now (length a.symbols.now) h a.n a.want [] a.from.room a.words.now a.from.used ez cz lz ey cy ly (c.in_ok-numeral_misfit.ensures a.text.now) in
     (omega arith, omega arith, omega arith, omega arith)
 
 pub overflow_mul-result : goal.overflow_mul-result
 overflow_mul-result c =
     let a = c.args in
-    let h : a.count ≤ length a.symbols.now = c.requires.0 in
-    let ss = symbols_of a.text.now a.symbols.now a.count in
+    let h : length a.symbols.now ≤ length a.symbols.now = omega arith in
+    let ss = symbols_of a.text.now a.symbols.now (length a.symbols.now) in
     let (ez, cz, lz) = constructor_some ss zero_name c.in_ok-z.z (sym c.in_ok-z.ensures.ok_part ∙ c.constructor.ensures) in
     let (ey, cy, ly) = constructor_some ss succ_name c.in_ok-y.y (sym c.in_ok-y.ensures.ok_part ∙ c.constructor-2.ensures) in
-    let l : a.n < a.from.room = number_room a.text.now a.symbols.now a.count h a.n a.want [] a.from.room a.words.now a.from.used ez cz lz ey cy ly (c.in_ok-numeral_misfit.ensures a.text.now) in
+    let l : a.n < a.from.room = number_room a.text.now a.symbols.now (length a.symbols.now) h a.n a.want [] a.from.room a.words.now a.from.used ez cz lz ey cy ly (c.in_ok-numeral_misfit.ensures a.text.now) in
     omega arith
 
 pub overflow_add-result-2 : goal.overflow_add-result-2
 overflow_add-result-2 c =
     let a = c.args in
-    let h : a.count ≤ length a.symbols.now = c.requires.0 in
-    let ss = symbols_of a.text.now a.symbols.now a.count in
+    let h : length a.symbols.now ≤ length a.symbols.now = omega arith in
+    let ss = symbols_of a.text.now a.symbols.now (length a.symbols.now) in
     let (ez, cz, lz) = constructor_some ss zero_name c.in_ok-z.z (sym c.in_ok-z.ensures.ok_part ∙ c.constructor.ensures) in
     let (ey, cy, ly) = constructor_some ss succ_name c.in_ok-y.y (sym c.in_ok-y.ensures.ok_part ∙ c.constructor-2.ensures) in
-    let l : a.n < a.from.room = number_room a.text.now a.symbols.now a.count h a.n a.want [] a.from.room a.words.now a.from.used ez cz lz ey cy ly (c.in_ok-numeral_misfit.ensures a.text.now) in
+    let l : a.n < a.from.room = number_room a.text.now a.symbols.now (length a.symbols.now) h a.n a.want [] a.from.room a.words.now a.from.used ez cz lz ey cy ly (c.in_ok-numeral_misfit.ensures a.text.now) in
     omega arith
 
 pub overflow_sub-result : goal.overflow_sub-result
 overflow_sub-result c =
     let a = c.args in
-    let h : a.count ≤ length a.symbols.now = c.requires.0 in
-    let ss = symbols_of a.text.now a.symbols.now a.count in
+    let h : length a.symbols.now ≤ length a.symbols.now = omega arith in
+    let ss = symbols_of a.text.now a.symbols.now (length a.symbols.now) in
     let (ez, cz, lz) = constructor_some ss zero_name c.in_ok-z.z (sym c.in_ok-z.ensures.ok_part ∙ c.constructor.ensures) in
     let (ey, cy, ly) = constructor_some ss succ_name c.in_ok-y.y (sym c.in_ok-y.ensures.ok_part ∙ c.constructor-2.ensures) in
-    let l : a.n < a.from.room = number_room a.text.now a.symbols.now a.count h a.n a.want [] a.from.room a.words.now a.from.used ez cz lz ey cy ly (c.in_ok-numeral_misfit.ensures a.text.now) in
+    let l : a.n < a.from.room = number_room a.text.now a.symbols.now (length a.symbols.now) h a.n a.want [] a.from.room a.words.now a.from.used ez cz lz ey cy ly (c.in_ok-numeral_misfit.ensures a.text.now) in
     omega arith
 
 pub overflow_sub-result-2 : goal.overflow_sub-result-2
 overflow_sub-result-2 c =
     let a = c.args in
-    let h : a.count ≤ length a.symbols.now = c.requires.0 in
-    let ss = symbols_of a.text.now a.symbols.now a.count in
+    let h : length a.symbols.now ≤ length a.symbols.now = omega arith in
+    let ss = symbols_of a.text.now a.symbols.now (length a.symbols.now) in
     let (ez, cz, lz) = constructor_some ss zero_name c.in_ok-z.z (sym c.in_ok-z.ensures.ok_part ∙ c.constructor.ensures) in
     let (ey, cy, ly) = constructor_some ss succ_name c.in_ok-y.y (sym c.in_ok-y.ensures.ok_part ∙ c.constructor-2.ensures) in
-    let l : a.n < a.from.room = number_room a.text.now a.symbols.now a.count h a.n a.want [] a.from.room a.words.now a.from.used ez cz lz ey cy ly (c.in_ok-numeral_misfit.ensures a.text.now) in
+    let l : a.n < a.from.room = number_room a.text.now a.symbols.now (length a.symbols.now) h a.n a.want [] a.from.room a.words.now a.from.used ez cz lz ey cy ly (c.in_ok-numeral_misfit.ensures a.text.now) in
     omega arith
 
 pub returns : goal.returns
 returns c =
     let a = c.args in
-    let h : a.count ≤ length a.symbols.now = c.requires.0 in
-    let ss = symbols_of a.text.now a.symbols.now a.count in
+    let h : length a.symbols.now ≤ length a.symbols.now = omega arith in
+    let ss = symbols_of a.text.now a.symbols.now (length a.symbols.now) in
     let (ez, cz, lz) = constructor_some ss zero_name c.in_ok-z.z (sym c.in_ok-z.ensures.ok_part ∙ c.constructor.ensures) in
     let (ey, cy, ly) = constructor_some ss succ_name c.in_ok-y.y (sym c.in_ok-y.ensures.ok_part ∙ c.constructor-2.ensures) in
     let q = c.in_ok-numeral_misfit.ensures a.text.now in
-    let l : a.n < a.from.room = number_room a.text.now a.symbols.now a.count h a.n a.want [] a.from.room a.words.now a.from.used ez cz lz ey cy ly q in
+    let l : a.n < a.from.room = number_room a.text.now a.symbols.now (length a.symbols.now) h a.n a.want [] a.from.room a.words.now a.from.used ez cz lz ey cy ly q in
     record {
       small = (omega arith, omega arith, omega arith, omega arith, omega arith);
       going = refl;
       none_new = refl;
-      same = λ vx. number_done a.text.now a.symbols.now a.count h a.n a.want (variables_of a.text.now vx a.from.variables) a.from.room a.words.now a.from.used ez cz lz ey cy ly q c.numeral_words-r.result _ c.numeral_words-r.ensures;
+      same = λ vx. number_done a.text.now a.symbols.now (length a.symbols.now) h a.n a.want (variables_of a.text.now vx a.from.variables) a.from.room a.words.now a.from.used ez cz lz ey cy ly q c.numeral_words-r.result _ c.numeral_words-r.ensures;
     }

@@ -4,6 +4,7 @@ use Rattle.names.specs.Symbols.{symbols_of, variables_of}
 use Rattle.patterns.specs.Patterns.{pattern_of}
 use Rattle.refusals.specs.Refused.{handed_on}
 use Rattle.rules.proofs.JudgmentLaws.{premises_refused, conclusion_refused, both_done}
+use lib.ListN.{length}
 use native.Mathlib.Omega.{arith}
 use Rattle.rules.proofs.judgments.Goals as goal
 
@@ -33,7 +34,7 @@ returns-in_err-place c =
     rw (handed_on c.from_residual.result c.from_residual.ensures.1)
     (record {
       bounded = tt;
-      same = λ ps q st cn c₁ q' st'. premises_refused (symbols_of (args.text.now) (args.symbols.now) (args.count)) c₁ (pattern_of (symbols_of (args.text.now) (args.symbols.now) (args.count)) ps [] (variables_of (args.text.now) (args.variables.now) 0) (args.space.room)) (args.words.now) (args.space.used) (c.in_err-place.ensures.same ps q st cn).1;
+      same = λ ps q st cn c₁ q' st'. premises_refused (symbols_of (args.source.text.now) (args.source.symbols.now) (length args.source.symbols.now)) c₁ (pattern_of (symbols_of (args.source.text.now) (args.source.symbols.now) (length args.source.symbols.now)) ps [] (variables_of (args.source.text.now) (args.variables.now) 0) (args.space.room)) (args.words.now) (args.space.used) (c.in_err-place.ensures.same ps q st cn).1;
     })
 
 pub returns-in_err-made : goal.returns-in_err-made
@@ -44,7 +45,7 @@ returns-in_err-made c =
     rw (handed_on c.from_residual-in_err-made.result c.from_residual-in_err-made.ensures.1)
     (record {
       bounded = tt;
-      same = λ ps q st cn c₁ q' st'. conclusion_refused (symbols_of (args.text.now) (args.symbols.now) (args.count)) c₁ (pattern_of (symbols_of (args.text.now) (args.symbols.now) (args.count)) ps [] (variables_of (args.text.now) (args.variables.now) 0) (args.space.room)) (args.words.now) (args.space.used) _ _ _ _ _ (c.in_ok-place.ensures.same ps q st cn).1 (c.in_err-made.ensures.same c₁ q' st').1;
+      same = λ ps q st cn c₁ q' st'. conclusion_refused (symbols_of (args.source.text.now) (args.source.symbols.now) (length args.source.symbols.now)) c₁ (pattern_of (symbols_of (args.source.text.now) (args.source.symbols.now) (length args.source.symbols.now)) ps [] (variables_of (args.source.text.now) (args.variables.now) 0) (args.space.room)) (args.words.now) (args.space.used) _ _ _ _ _ (c.in_ok-place.ensures.same ps q st cn).1 (c.in_err-made.ensures.same c₁ q' st').1;
     })
 
 pub returns : goal.returns
@@ -56,5 +57,5 @@ returns c =
     let k = c.in_ok-made.ensures.small in
     record {
       bounded = (k.2, j.3, k.3, omega arith);
-      same = λ ps q st cn c₁ q' st'. both_done (symbols_of (args.text.now) (args.symbols.now) (args.count)) c₁ (pattern_of (symbols_of (args.text.now) (args.symbols.now) (args.count)) ps [] (variables_of (args.text.now) (args.variables.now) 0) (args.space.room)) (args.words.now) (args.space.used) _ _ _ _ _ (c.in_ok-place.ensures.same ps q st cn).1 _ _ _ _ _ (c.in_ok-made.ensures.same c₁ q' st').1;
+      same = λ ps q st cn c₁ q' st'. both_done (symbols_of (args.source.text.now) (args.source.symbols.now) (length args.source.symbols.now)) c₁ (pattern_of (symbols_of (args.source.text.now) (args.source.symbols.now) (length args.source.symbols.now)) ps [] (variables_of (args.source.text.now) (args.variables.now) 0) (args.space.room)) (args.words.now) (args.space.used) _ _ _ _ _ (c.in_ok-place.ensures.same ps q st cn).1 _ _ _ _ _ (c.in_ok-made.ensures.same c₁ q' st').1;
     }

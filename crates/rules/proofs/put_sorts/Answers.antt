@@ -1,7 +1,7 @@
 -- `put_sorts` meets its contract. The loop's invariant: the sorts of the first j variables are written.
 use mathlib.Core.Path.{◌≡◌, sym, ap, ◌∙◌}
 use mathlib.Core.List.{[]}
-use lib.ListN.{set, length-set}
+use lib.ListN.{length, set, length-set}
 use lib.Seq.{set-get_or}
 use Rattle.names.specs.Symbols.{row_at, variables_of}
 use Rattle.rules.proofs.RowLaws.{sorts_next, column_written}
@@ -24,4 +24,4 @@ loop-j-preserved c =
     ∙ ap (set (args.rules.now) (args.i)) (sorts_next text (row_at (args.rules.now) (args.i)) (args.variables.now) 26 (loop.j) (omega arith)))
 
 pub returns : goal.returns
-returns c = let e : c.loop-j.j ≡ c.args.n = omega (arith, c.loop-j-test.false) in λ text. rw e at (c.loop-j.invariant text)
+returns c = let e : c.loop-j.j ≡ length c.args.variables.now = omega (arith, c.loop-j-test.false) in λ text. rw e at (c.loop-j.invariant text)

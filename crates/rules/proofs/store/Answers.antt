@@ -2,8 +2,8 @@
 use mathlib.Core.Path.{◌≡◌, refl}
 use mathlib.Core.List.{List, []}
 use Prim.Native.Nat.{ℕ, ◌<◌}
-use lib.ListN.{length, take, replicate}
-use lib.Seq.{sets, take_all}
+use lib.ListN.{length, replicate}
+use lib.Seq.{sets}
 use Rattle.rules.proofs.RowLaws.{over, still_there, sorts_in}
 use native.Mathlib.Omega.{arith}
 use Rattle.rules.proofs.store.Goals as goal
@@ -14,7 +14,7 @@ put_columns-requires c =
     let pre = c.requires in
     let l : args.i < length (args.rules.now) = pre.0 in
     let z : List ℕ = replicate 154 0 in
-    (still_there (args.rules.now) _ (args.i) l z refl, omega arith, omega arith)
+    (still_there (args.rules.now) _ (args.i) l z refl, omega arith)
 
 pub put_columns-requires-2 : goal.put_columns-requires-2
 put_columns-requires-2 c =
@@ -23,8 +23,8 @@ put_columns-requires-2 c =
     let put-columns = c.put_columns in
     let l : args.i < length (args.rules.now) = pre.0 in
     let z : List ℕ = replicate 154 0 in
-    let s2 = over (args.rules.now) _ _ (args.i) l z (λ (x : List ℕ). sets x 0 (take 10 (args.numbers.now))) refl (put-columns.ensures) in
-    (still_there (args.rules.now) _ (args.i) l _ s2, omega arith, omega arith)
+    let s2 = over (args.rules.now) _ _ (args.i) l z (λ (x : List ℕ). sets x 0 (args.numbers.now)) refl (put-columns.ensures) in
+    (still_there (args.rules.now) _ (args.i) l _ s2, omega arith)
 
 pub put_sorts-requires : goal.put_sorts-requires
 put_sorts-requires c =
@@ -34,9 +34,9 @@ put_sorts-requires c =
     let put-columns2 = c.put_columns-2 in
     let l : args.i < length (args.rules.now) = pre.0 in
     let z : List ℕ = replicate 154 0 in
-    let s2 = over (args.rules.now) _ _ (args.i) l z (λ (x : List ℕ). sets x 0 (take 10 (args.numbers.now))) refl (put-columns.ensures) in
-    let s3 = over (args.rules.now) _ _ (args.i) l _ (λ (x : List ℕ). sets x 10 (take (args.n) (args.heads.now))) s2 (put-columns2.ensures) in
-    (still_there (args.rules.now) _ (args.i) l _ s3, omega arith, omega arith)
+    let s2 = over (args.rules.now) _ _ (args.i) l z (λ (x : List ℕ). sets x 0 (args.numbers.now)) refl (put-columns.ensures) in
+    let s3 = over (args.rules.now) _ _ (args.i) l _ (λ (x : List ℕ). sets x 10 (args.heads.now)) s2 (put-columns2.ensures) in
+    (still_there (args.rules.now) _ (args.i) l _ s3, omega arith)
 
 pub put_columns-requires-3 : goal.put_columns-requires-3
 put_columns-requires-3 c =
@@ -47,10 +47,10 @@ put_columns-requires-3 c =
     let put-sorts = c.put_sorts in
     let l : args.i < length (args.rules.now) = pre.0 in
     let z : List ℕ = replicate 154 0 in
-    let s2 = over (args.rules.now) _ _ (args.i) l z (λ (x : List ℕ). sets x 0 (take 10 (args.numbers.now))) refl (put-columns.ensures) in
-    let s3 = over (args.rules.now) _ _ (args.i) l _ (λ (x : List ℕ). sets x 10 (take (args.n) (args.heads.now))) s2 (put-columns2.ensures) in
-    let s4 = over (args.rules.now) _ _ (args.i) l _ (λ (x : List ℕ). sets x 26 (sorts_in [] (args.variables.now) (args.v))) s3 (put-sorts.ensures []) in
-    (still_there (args.rules.now) _ (args.i) l _ s4, omega arith, omega arith)
+    let s2 = over (args.rules.now) _ _ (args.i) l z (λ (x : List ℕ). sets x 0 (args.numbers.now)) refl (put-columns.ensures) in
+    let s3 = over (args.rules.now) _ _ (args.i) l _ (λ (x : List ℕ). sets x 10 (args.heads.now)) s2 (put-columns2.ensures) in
+    let s4 = over (args.rules.now) _ _ (args.i) l _ (λ (x : List ℕ). sets x 26 (sorts_in [] (args.variables.now) (length args.variables.now))) s3 (put-sorts.ensures []) in
+    (still_there (args.rules.now) _ (args.i) l _ s4, omega arith)
 
 pub returns : goal.returns
 returns c =
@@ -62,8 +62,7 @@ returns c =
     let put-columns3 = c.put_columns-3 in
     let l : args.i < length (args.rules.now) = pre.0 in
     let z : List ℕ = replicate 154 0 in
-    let s2 = over (args.rules.now) _ _ (args.i) l z (λ (x : List ℕ). sets x 0 (take 10 (args.numbers.now))) refl (put-columns.ensures) in
-    let s3 = over (args.rules.now) _ _ (args.i) l _ (λ (x : List ℕ). sets x 10 (take (args.n) (args.heads.now))) s2 (put-columns2.ensures) in
-    let n10 : take 10 (args.numbers.now) ≡ args.numbers.now = take_all 10 _ (omega arith) in
-    λ text. let s4 = over (args.rules.now) _ _ (args.i) l _ (λ (x : List ℕ). sets x 26 (sorts_in text (args.variables.now) (args.v))) s3 (put-sorts.ensures text) in
-    rw n10 at (over (args.rules.now) _ _ (args.i) l _ (λ (x : List ℕ). sets x 90 (take (args.v) (args.places.now))) s4 (put-columns3.ensures))
+    let s2 = over (args.rules.now) _ _ (args.i) l z (λ (x : List ℕ). sets x 0 (args.numbers.now)) refl (put-columns.ensures) in
+    let s3 = over (args.rules.now) _ _ (args.i) l _ (λ (x : List ℕ). sets x 10 (args.heads.now)) s2 (put-columns2.ensures) in
+    λ text. let s4 = over (args.rules.now) _ _ (args.i) l _ (λ (x : List ℕ). sets x 26 (sorts_in text (args.variables.now) (length args.variables.now))) s3 (put-sorts.ensures text) in
+    over (args.rules.now) _ _ (args.i) l _ (λ (x : List ℕ). sets x 90 (args.places.now)) s4 (put-columns3.ensures)

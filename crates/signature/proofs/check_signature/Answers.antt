@@ -1,13 +1,13 @@
 -- `check_signature` meets its contract: each test is one part of the form.
 -- Each way out is one part that does not hold.
-use Rattle.std.proofs.Common.{ℕ, List, arith}
+use Rattle.std.proofs.Common.{ℕ, List}
 use Rattle.names.specs.Symbols.{column}
 use Rattle.names.specs.NamePlaces.{NamePlace}
 use Rattle.unifier.specs.Checking.{tells_no, tells_false}
 use Rattle.signature.specs.Form.{SymbolFormed}
 use Rattle.signature.proofs.Laws.{holds, same}
 use Rattle.signature.proofs.FormLaws.{sorts_there_lem, symbols_there_lem, rules_there_lem, listed, clauses_asked, checked, listed_lent, listed_counted, listed_rules}
-use Rattle.signature.proofs.UsedLaws.{used_length, each_used, used_each, sorts_used, symbols_used, clauses_listed, clauses_used}
+use Rattle.signature.proofs.UsedLaws.{each_used, used_each, sorts_used, symbols_used, clauses_listed, clauses_used}
 use Rattle.signature.proofs.check_signature.Goals as goal
 
 -- A sort's row is named.
@@ -47,13 +47,9 @@ are_listed-requires c =
     let lent = holds c.is_lent.ensures c.if-not-is_lent.false-raw in
     let counted = holds c.is_counted.ensures c.if-not-is_counted.false-raw in
     let there = symbols_there_lem lent counted in
-    let n = used_length sg.symbols.now sg.counts.symbols there in
-    let few = counted.few_symbols in (
-      clauses_asked lent counted
-          (each_used sg.symbols.now sg.counts.symbols there (SymbolFormed c.args.text.now sg.counts.sorts sg.counts.rules) (holds c.are_symbols_formed.ensures c.if-not-are_symbols_formed.false-raw))
-          (holds c.are_rules_of.ensures c.if-not-are_rules_of.false-raw),
-      omega arith,
-    )
+    clauses_asked lent counted
+    (each_used sg.symbols.now sg.counts.symbols there (SymbolFormed c.args.text.now sg.counts.sorts sg.counts.rules) (holds c.are_symbols_formed.ensures c.if-not-are_symbols_formed.false-raw))
+    (holds c.are_rules_of.ensures c.if-not-are_rules_of.false-raw)
 
 pub returns : goal.returns
 returns c =

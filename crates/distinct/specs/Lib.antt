@@ -1,3 +1,0 @@
--- What the contracts of `distinct` cite, in reading order.
-pub mod Order
-pub mod Sorting
