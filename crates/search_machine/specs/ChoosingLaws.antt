@@ -31,8 +31,8 @@ use Rattle.search_machine.specs.declared.Mode.TheVariants.{Enter, Try, Fail, Pro
 -- The goal's header
 
 -- The goal leads to a variable: there is no header, of which nothing is known.
-pub heads_nothing : {W : List ℕ} {T : Rows} {v u t g : ℕ} → IfSome None (Heads W T v u t g)
-heads_nothing = tt
+pub heads_nothing : (W : List ℕ) (T : Rows) (v u t g : ℕ) → IfSome None (Heads W T v u t g)
+heads_nothing W T v u t g = tt
 
 module _ {W : List ℕ} {T : Rows} {v u t g q : ℕ} (walked : Walked term_room W T v u t g q) (node : term_room ≤ q) where
   -- It leads to a node.
