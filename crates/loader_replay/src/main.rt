@@ -5,27 +5,12 @@
 ghost use Rattle.std.specs.Prelude.{◌+◌, ◌^◌, ◌≤◌, ◌<◌};
 
 use listing::recorded;
-use load::{EvalRow, Loaded};
-use names::{SortRow, SymbolRow, TermRow};
+use load::{LentBuffers as Lent, Loaded};
 use parser::Parsed;
 use refusals::{Refusal, Rejection};
-use rules::RuleRow;
 use signature::{Counts, StoredSignature};
 use signature_tests::{buffers, damage};
 use words::Limits;
-
-// What is lent for one text after another.
-#[derive(Drop)]
-struct Lent<'a> {
-    tokens: &'a mut [TermRow],
-    rows: &'a mut [TermRow],
-    calls: &'a mut [TermRow],
-    sorts: &'a mut [SortRow],
-    symbols: &'a mut [SymbolRow],
-    rules: &'a mut [RuleRow],
-    words: &'a mut [u32],
-    evals: &'a mut [EvalRow],
-}
 
 // What a text has by the parser: how many declarations and how many rows of them, 0 where it is refused.
 fn parse(text: &[u8], limits: Limits, lent: &mut Lent) -> Parsed {
@@ -102,18 +87,7 @@ fn list_answer(text: &[u8], answer: Result<Loaded, Rejection>, parsed: Parsed, l
 fn load_text(text: &[u8], limits: Limits, lent: &mut Lent) -> Result<Loaded, Rejection> {
     buffers::fill_scratch(lent.tokens, lent.rows, lent.calls, lent.evals);
     buffers::fill_signature(lent.sorts, lent.symbols, lent.rules, lent.words);
-    load::load(
-        text,
-        limits,
-        lent.tokens,
-        lent.rows,
-        lent.calls,
-        lent.sorts,
-        lent.symbols,
-        lent.rules,
-        lent.words,
-        lent.evals,
-    )
+    load::load(text, limits, lent)
 }
 
 // Parses a text, loads it, lists the answer, and damages what was loaded.
