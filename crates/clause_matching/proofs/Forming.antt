@@ -13,8 +13,7 @@ use Rattle.arena.specs.Form.{is_header, is_argument, in_form}
 use Rattle.arena.specs.FormLaws.{reference_accepted}
 use Rattle.arena.specs.FormKept.{place, form_same, push_form}
 use Rattle.clause_matching.specs.Stored.{Value, Headed, Formed}
-use Rattle.std.specs.Prelude.{Result, Ok, Err, IsErrAnd}
-use Rattle.std.proofs.lemmas.Result.{err_from_is_err_and}
+use Rattle.std.specs.Prelude.{Result, Ok, Err}
 use Rattle.refusals.specs.declared.Refusal.{Refusal}
 use Rattle.clause_matching.specs.declared.building.Built.{Built as Answer}
 use Rattle.clause_matching.specs.Building.{Pushed, BuiltFormed, ArgumentsFormed, built_at}

@@ -1,6 +1,6 @@
 -- `is_forward_call` meets its contract: one law for each way out.
 use native.Mathlib.Omega.{arith}
-use Rattle.std.proofs.Common.{refl, sym, ◌∙◌}
+use Rattle.std.proofs.Common.{refl}
 use Rattle.forward_calls.proofs.Forwarding.{some_symbol, no_symbol, inside, of_numeral, of_meta, of_unknown, of_other, of_none, of_count, of_call, ground_asked}
 use Rattle.forward_calls.proofs.is_forward_call.Goals as goal
 

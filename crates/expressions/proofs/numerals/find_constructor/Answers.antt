@@ -1,5 +1,5 @@
 -- `find_constructor` meets its contract: one law for each way out.
-use Rattle.std.proofs.Common.{refl, ℕ, ◌≤◌, length, arith}
+use Rattle.std.proofs.Common.{refl, ◌≤◌, length, arith}
 use Rattle.forward_calls.proofs.Forwarding.{some_symbol, no_symbol}
 use Rattle.expressions.proofs.Numbering.{found_unknown, found_none, found_some}
 use Rattle.expressions.proofs.numerals.find_constructor.Goals as goal

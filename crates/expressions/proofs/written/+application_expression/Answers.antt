@@ -1,7 +1,7 @@
 -- `expression` and `application` meet their contracts. What falls is 130 less the depth. The loop's invariant of `application`: the values so far, in front of what the
 -- arguments that are left come to, are what all of them come to, and the rows list the trees of those so far.
 use native.Mathlib.Omega.{arith}
-use mathlib.Core.Path.{refl, sym, ◌∙◌}
+use mathlib.Core.Path.{refl, sym}
 use Rattle.forward_calls.proofs.Forwarding.{some_symbol, no_symbol}
 use Rattle.function_calls.proofs.Lending.{lent_start, lent_on}
 use mathlib.Core.List.{[]}
