@@ -20,4 +20,4 @@ returns c =
     let if1 = c.if-kind-eq-METAVARIABLE in
     let if2 = c.if-kind-eq-NUMERAL in
     is-function.ensures
-    ∙ sym (call_of_lem (symbols_of args.text.now args.symbols.now (length args.symbols.now)) args.kind (part_of args.text.now args.start args.size) if1.false if2.false)
+    ∙ sym (call_of_lem (symbols_of args.text.now args.symbols.now (length args.symbols.now)) args.kind (part_of args.text.now args.word.start args.word.size) if1.false if2.false)
