@@ -12,7 +12,7 @@ ghost use Rattle.patterns.specs.Promises.{stored, entry_of, Grew, answer, Small,
 ghost use Rattle.patterns.specs.Promises.{LiesAt, EntryPlaced, MadePlaced};
 
 use arena::{HEADERS, PATTERN_ROOM, SYMBOL_STEP};
-use names::{SourceTerms, SymbolRow, VariableRow};
+use names::{SourceTerms, SymbolRow, VariableRow, Word};
 use refusals::Refusal;
 
 // How many variables a rule may have.
@@ -32,16 +32,15 @@ pub fn enter(
     variables: &mut [VariableRow],
     count: usize,
     kind: u32,
-    start: u32,
-    size: u32,
+    word: Word,
     sort: u32,
 ) -> Result<EnteredVariable, Refusal>
     requires { (count ≤ 64) × (64 ≤ length variables.old) }
     ensures grew { Grew count result }
-    ensures variables_after { entry_of text.now result variables.new ≡ enterOf (variables_of text.now variables.old count) (name_of text.now kind start size) sort }
-    ensures entry_placed { EntryPlaced (LiesAt kind start size) variables.old count result variables.new }
+    ensures variables_after { entry_of text.now result variables.new ≡ enterOf (variables_of text.now variables.old count) (name_of text.now kind word.start word.size) sort }
+    ensures entry_placed { EntryPlaced (LiesAt kind word.start word.size) variables.old count result variables.new }
 {
-    match names::find_at(text, &variables[..count], kind, start, size) {
+    match names::find_at(text, &variables[..count], kind, word) {
         Some(index) => {
             let [k, s, l, old] = variables[index];
             if old == 0 {
@@ -58,7 +57,7 @@ pub fn enter(
         }
         None => {
             if count < VARIABLES {
-                variables[count] = [kind, start, size, sort];
+                variables[count] = [kind, word.start, word.size, sort];
                 return Ok(EnteredVariable {
                     index: count,
                     count: count + 1,
@@ -90,18 +89,17 @@ fn variable(
     text: &[u8],
     variables: &mut [VariableRow],
     kind: u32,
-    start: u32,
-    size: u32,
+    word: Word,
     want: u32,
     from: Place,
 ) -> Result<CompiledTerm, Refusal>
     requires { (from.variables ≤ 64) × (64 ≤ length variables.old) }
     ensures small { Small from.next from.variables from.used from.room result }
-    ensures by_index { (w : List ℕ) → answer text.now result variables.new w ≡ stored [] (counted (enterOf (variables_of text.now variables.old from.variables) (name_of text.now kind start size) want) from.room) w from.used }
+    ensures by_index { (w : List ℕ) → answer text.now result variables.new w ≡ stored [] (counted (enterOf (variables_of text.now variables.old from.variables) (name_of text.now kind word.start word.size) want) from.room) w from.used }
     ensures next_is { NextIs from.next result }
-    ensures made_placed { MadePlaced (λ _. LiesAt kind start size) variables.old from.variables result variables.new }
+    ensures made_placed { MadePlaced (λ _. LiesAt kind word.start word.size) variables.old from.variables result variables.new }
 {
-    let entered = enter(text, variables, from.variables, kind, start, size, want)?;
+    let entered = enter(text, variables, from.variables, kind, word, want)?;
     if from.room == 0 {
         return Err(Refusal::Full);
     }
@@ -247,6 +245,7 @@ pub fn pattern(
         return Err(Refusal::UnknownSymbol);
     }
     let [kind, start, size, more] = rows[from.next];
+    let word = Word { start, size };
     let behind = Place {
         next: from.next + 1,
         ..from
@@ -255,9 +254,9 @@ pub fn pattern(
         return numeral(text, symbols, more as usize, want, words, behind);
     }
     if kind == words::METAVARIABLE {
-        return variable(text, variables, kind, start, size, want, behind);
+        return variable(text, variables, kind, word, want, behind);
     }
-    match names::find_at(text, symbols, kind, start, size) {
+    match names::find_at(text, symbols, kind, word) {
         Some(i) => node(source, more as usize, i, want, variables, words, behind),
         None => {
             if kind == term_parser::APPLICATION {
@@ -266,7 +265,7 @@ pub fn pattern(
             if want == 0 {
                 return Err(Refusal::UnknownPredicate);
             }
-            variable(text, variables, kind, start, size, want, behind)
+            variable(text, variables, kind, word, want, behind)
         }
     }
 }
