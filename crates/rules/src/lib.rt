@@ -162,21 +162,29 @@ pub struct Counts {
     pub all: u32,
 }
 
-// Gives the variables of a rule their places in meeting order: the conclusion's from left to right, then those of the premises from the last to the first.
-// Stays: `meet` below asks for the words with the number of those in use.
-fn order(
-    words: &[u32],
+// The terms of a rule: the words in use, the references of its premises and of its conclusion, and how many words each takes at most.
+#[derive(Clone, Copy)]
+struct RuleTerms<'a> {
+    words: &'a [u32],
     used: u32,
-    heads: &[u32],
+    heads: &'a [u32],
     conclusion: u32,
-    places: &mut [u32],
     most: u32,
-    stack: &mut [[u32; 2]],
-) -> Counts
-    requires fact_1 { OrderAsked words.now used heads.now conclusion places.old most }
-    requires fact_2 { most ≤ length stack.old }
-    ensures { Ordered words.now heads.now conclusion places.old result places.new }
+}
+
+// Gives the variables of a rule their places in meeting order: the conclusion's from left to right, then those of the premises from the last to the first.
+fn order(terms: RuleTerms, places: &mut [u32], stack: &mut [[u32; 2]]) -> Counts
+    requires fact_1 { OrderAsked terms.words.now terms.used terms.heads.now terms.conclusion places.old terms.most }
+    requires fact_2 { terms.most ≤ length stack.old }
+    ensures { Ordered terms.entry.words.now terms.entry.heads.now terms.entry.conclusion places.old result places.new }
 {
+    let RuleTerms {
+        words,
+        used,
+        heads,
+        conclusion,
+        most,
+    } = terms;
     let met = walk(words, conclusion, used, places, 0, most, stack);
     let mut all = met;
     for k in (0..heads.len()).rev() {
@@ -186,40 +194,24 @@ fn order(
 }
 
 // The same with a stack of its own, for terms of at most N words.
-// Stays: `meet` below asks for the words with the number of those in use.
-fn order_within<const N: usize>(
-    words: &[u32],
-    used: u32,
-    heads: &[u32],
-    conclusion: u32,
-    places: &mut [u32],
-    most: u32,
-) -> Counts
-    requires { (OrderAsked words.now used heads.now conclusion places.old most) × (most ≤ N) × (N ≤ 2048) }
-    ensures { Ordered words.now heads.now conclusion places.old result places.new }
+fn order_within<const N: usize>(terms: RuleTerms, places: &mut [u32]) -> Counts
+    requires { (OrderAsked terms.words.now terms.used terms.heads.now terms.conclusion places.old terms.most) × (terms.most ≤ N) × (N ≤ 2048) }
+    ensures { Ordered terms.entry.words.now terms.entry.heads.now terms.entry.conclusion places.old result places.new }
 {
     let mut stack = [[0u32; 2]; N];
-    order(words, used, heads, conclusion, places, most, &mut stack)
+    order(terms, places, &mut stack)
 }
 
 // The same with a stack for as many words as the rule has, at most 2 for each of 1,024 nodes: laying out the large one takes longer than the walk through
 // a small rule.
-// Stays: `meet` below asks for the words with the number of those in use.
-fn order_sized(
-    words: &[u32],
-    used: u32,
-    heads: &[u32],
-    conclusion: u32,
-    places: &mut [u32],
-    most: u32,
-) -> Counts
-    requires { (OrderAsked words.now used heads.now conclusion places.old most) × (most ≤ 2048) }
-    ensures { Ordered words.now heads.now conclusion places.old result places.new }
+fn order_sized(terms: RuleTerms, places: &mut [u32]) -> Counts
+    requires { (OrderAsked terms.words.now terms.used terms.heads.now terms.conclusion places.old terms.most) × (terms.most ≤ 2048) }
+    ensures { Ordered terms.entry.words.now terms.entry.heads.now terms.entry.conclusion places.old result places.new }
 {
-    if most <= FEW {
-        return order_within::<64>(words, used, heads, conclusion, places, most);
+    if terms.most <= FEW {
+        return order_within::<64>(terms, places);
     }
-    order_within::<2048>(words, used, heads, conclusion, places, most)
+    order_within::<2048>(terms, places)
 }
 
 // Writes values into the row i, from a column on.
@@ -289,14 +281,14 @@ fn keep(
     let used = body.space.used;
     let v = variables.len();
     let mut places = [64u32; 64];
-    let counts = order_sized(
+    let terms = RuleTerms {
         words,
-        used as u32,
+        used: used as u32,
         heads,
         conclusion,
-        &mut places,
-        (used - from) as u32,
-    );
+        most: (used - from) as u32,
+    };
+    let counts = order_sized(terms, &mut places);
     let numbers = [
         title.start,
         title.size,
@@ -312,18 +304,26 @@ fn keep(
     store(rules, i, &numbers, heads, variables, &places[..v]);
 }
 
-// Compiles a rule, and keeps it as the rule with a number.
+// Where a rule is entered: its number, and the space for its words.
+#[derive(Clone, Copy)]
+pub struct RulePlace {
+    pub number: usize,
+    pub space: Space,
+}
+
+// Compiles a rule, and keeps it at a place.
+// Stays: the buffers that are written are lent apart, as the store of declarations holds them; a struct of the two would be made for each call.
 pub fn rule(
     source: SourceRule,
-    words: &mut [u32],
-    space: Space,
-    rules: &mut [RuleRow],
-    number: usize,
     title: Title,
+    words: &mut [u32],
+    rules: &mut [RuleRow],
+    place: RulePlace,
 ) -> Result<Space, Refusal>
-    requires { RuleAsked source.text.now source.premises.now source.at source.n source.conclusions.now source.here source.symbols.now (length source.symbols.now) words.old space.used space.room rules.old }
-    ensures { RuleEntered source.entry.text.now source.entry.premises.now source.entry.at source.entry.n source.entry.conclusions.now source.entry.here (symbols_of source.entry.text.now source.entry.symbols.now (length source.entry.symbols.now)) title words.old space.used space.room rules.old number result words.new rules.new }
+    requires { RuleAsked source.text.now source.premises.now source.at source.n source.conclusions.now source.here source.symbols.now (length source.symbols.now) words.old place.space.used place.space.room rules.old }
+    ensures { RuleEntered source.entry.text.now source.entry.premises.now source.entry.at source.entry.n source.entry.conclusions.now source.entry.here (symbols_of source.entry.text.now source.entry.symbols.now (length source.entry.symbols.now)) title words.old place.space.used place.space.room rules.old place.number result words.new rules.new }
 {
+    let RulePlace { number, space } = place;
     let n = source.n;
     if PREMISES < n {
         return Err(Refusal::Full);
