@@ -12,7 +12,7 @@ pub loop-k-init : goal.loop-k-init
 loop-k-init c = (
   refl,
   omega arith,
-  λ v e. tower_start v (c.args.used) (c.args.y) (c.args.z)
+  λ v e. tower_start v (c.args.used) (c.args.numerals.succ) (c.args.numerals.zero)
       ∙ ap (λ x. laid ((64 + c.args.used) ∷ []) x (c.args.used + 1)) (sym e),
 )
 
@@ -50,7 +50,7 @@ loop-k-preserved c =
           ∙ length-set (loop.words) (loop.u) _
           ∙ loop.invariant.0,
       omega (arith, loop.invariant.1),
-      λ v e. tower_step v (args.used) (args.y) (args.z) (loop._k) (loop.r) (loop.words) (loop.u) (loop.invariant.2 v e),
+      λ v e. tower_step v (args.used) (args.numerals.succ) (args.numerals.zero) (loop._k) (loop.r) (loop.words) (loop.u) (loop.invariant.2 v e),
     )
 
 pub returns : goal.returns
