@@ -12,10 +12,10 @@ ghost use Rattle.declarations.specs.Steps.{name_at, GoesTo, sort_progress, Symbo
 ghost use Rattle.declarations.specs.Lent.{IsLent};
 
 use clauses::{EnteredRule, SourceClause};
-use loader::{FUNCTION, Kind, NO_FUNCTION, Part, Word};
-use names::{SortRow, SourceTerms, SymbolRow, TermRow};
+use loader::{FUNCTION, Kind, NO_FUNCTION, Part};
+use names::{SortRow, SourceTerms, SymbolRow, TermRow, Word};
 use refusals::Refusal;
-use rules::{RuleRow, Space, Title};
+use rules::{RulePlace, RuleRow, Space, Title};
 use words::{CTOR, DEF, EVAL, PRED, RULE, SORT};
 
 // How many sorts, symbols and rules there are, how many words are in use, and how many nodes are left.
@@ -153,9 +153,12 @@ fn declare_rule(
     }
     let [_, start, size, _] = rows[at + 1];
     let m = room(state.left);
-    let space = Space {
-        used: state.used,
-        room: m,
+    let place = RulePlace {
+        number: state.rules,
+        space: Space {
+            used: state.used,
+            room: m,
+        },
     };
     let part = Part {
         text,
@@ -168,9 +171,8 @@ fn declare_rule(
         Word { start, size },
         &symbols[..state.symbols],
         store.words,
-        space,
         store.rules,
-        state.rules,
+        place,
     );
     told(state, m, outcome)
 }
@@ -191,9 +193,12 @@ fn declare_clause(
     let Source { text, rows, at } = source;
     let n = rows[at][3] as usize;
     let m = room(state.left);
-    let space = Space {
-        used: state.used,
-        room: m,
+    let place = RulePlace {
+        number: state.rules,
+        space: Space {
+            used: state.used,
+            room: m,
+        },
     };
     let title = Title {
         start: word.start,
@@ -212,11 +217,10 @@ fn declare_clause(
     };
     let outcome = clauses::clause(
         clause,
-        store.words,
-        space,
-        store.rules,
-        state.rules,
         title,
+        store.words,
+        store.rules,
+        place,
         store.out,
         store.calls,
     );
