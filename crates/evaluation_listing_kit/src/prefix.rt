@@ -4,7 +4,7 @@ ghost use Rattle.evaluation_listing_kit.specs.Headers.{header_at, arity_of};
 
 use super::output::{put, put_byte};
 use arena::{HEADERS, SYMBOL_STEP};
-use names::SymbolRow;
+use names::{SymbolRow, Word};
 
 // The column of a symbol's row that has its output, 0 for a predicate.
 const OUTPUT: usize = 2;
@@ -66,11 +66,11 @@ fn argument_at(words: &[u32], address: u32, number: u32) -> u32
 }
 
 // Writes a name of the text.
-pub fn put_name(text: &[u8], start: u32, size: u32, out: &mut [u8], at: usize) -> usize
+pub fn put_name(text: &[u8], word: Word, out: &mut [u8], at: usize) -> usize
     requires { at ≤ length out.old }
     ensures { (at ≤ result) × (result ≤ length out.old) }
 {
-    put(words::word(text, start as usize, size as usize), out, at)
+    put(names::part(text, word), out, at)
 }
 
 // Writes the name of the symbol of a header.
@@ -82,13 +82,11 @@ fn put_symbol(terms: StoredTerms, header: u32, out: &mut [u8], at: usize) -> usi
     if terms.symbols.len() <= i {
         return put(b"wrong: no such symbol", out, at);
     }
-    put_name(
-        terms.text,
-        terms.symbols[i][0],
-        terms.symbols[i][1],
-        out,
-        at,
-    )
+    let word = Word {
+        start: terms.symbols[i][0],
+        size: terms.symbols[i][1],
+    };
+    put_name(terms.text, word, out, at)
 }
 
 // Is the node with a header written without parentheses, as a constructor that has no arguments?

@@ -79,6 +79,7 @@ pub fn compile(
 }
 
 // Writes the rows of a goal's new names behind the n names of a session, with variables from `counter` on.
+// Stays: the rows behind those in use are written, so a part in use would not do.
 fn enter_names(variables: &[VariableRow], names: &mut [NameRow], n: usize, counter: u32)
     requires { (n ≤ length variables.now) × (length variables.now ≤ 64) × (length variables.now ≤ length names.old) × (counter + (length variables.now - n) ≤ term_room) }
     ensures { NamesEntered variables.now n (length variables.now) counter names.old names.new }
