@@ -69,9 +69,8 @@ fn are_places_distinct(text: &[u8], names: &[NameRow]) -> bool
     ensures { Tells result (PlacesDistinct text.now names.now (length names.now)) }
 {
     let mut places = [[0u32; 2]; MOST];
-    let mut spare = [[0u32; 2]; MOST];
     signature::put_places(names, 1, &mut places);
-    distinct::are_distinct(text, &mut places, &mut spare, names.len())
+    distinct::are_distinct(text, &mut places[..names.len()])
 }
 
 // Are names in form, all different, with variables that rise?
