@@ -31,6 +31,7 @@ pub struct Terms<'a> {
 }
 
 // Writes a node, its header and its arguments, from the address `used` on.
+// Stays: it is written behind the words in use, so that those lent go on past them.
 pub fn push_node(words: &mut [u32], used: u32, header: u32, arguments: &[u32])
     // The node has room: the caller counts words before it writes.
     requires { used + 1 + length arguments.now ≤ length words.old }
@@ -108,29 +109,17 @@ pub fn clear(words: &mut [u32], from: u32)
 }
 
 // Whether two references denote the same term, in one pass from the greater one's address down to the least that is linked; the links are zero before and after.
-pub fn equal(
-    words: &[u32],
-    links: &mut [u32],
-    room: u32,
-    variables: u32,
-    used: u32,
-    a: u32,
-    b: u32,
-) -> bool
+pub fn equal(terms: Terms, links: &mut [u32], a: u32, b: u32) -> bool
     // The words and both references are in form, and there is a link for each address in use.
-    requires { Ready room words.now links.old variables used a b }
-    ensures { Compared room (cells words.now) links.old links.new a b result }
+    requires { Ready terms.room terms.words.now links.old terms.variables terms.used a b }
+    ensures { Compared terms.entry.room (cells terms.entry.words.now) links.old links.new a b result }
 {
-    let mut at = past(room, a.max(b));
-    let first = link(links, room, a, b, at);
-    let mut same = first.same;
-    let mut low = first.low;
+    let mut at = past(terms.room, a.max(b));
+    let mut linked = link(links, terms.room, a, b, at);
     // Stays: `low` moves while the loop goes down, so no range is known at the start.
-    while at > low {
+    while at > linked.low {
         at -= 1;
-        let step = settle(words, links, room, variables, used, at, same, low);
-        same = step.same;
-        low = step.low;
+        linked = settle(terms, links, at, linked);
     }
-    same
+    linked.same
 }

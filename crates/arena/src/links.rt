@@ -3,6 +3,7 @@ ghost use Rattle.std.specs.Prelude.{◌≡◌, suc, ◌+◌, ◌-◌, ◌<◌};
 ghost use Rattle.arena.specs.Cells.{headers, cells};
 ghost use Rattle.arena.specs.Links.{Linkable, Arguments, Comparable, Joined, Settled};
 
+use super::Terms;
 use super::format::SYMBOL_STEP;
 
 // Whether what was linked so far can be the same, and an address below which there are no links.
@@ -46,24 +47,29 @@ pub fn link(links: &mut [u32], room: u32, a: u32, b: u32, low: u32) -> Linked
 
 // Links the first `count` arguments of the nodes at the addresses a and b, each with its like.
 pub fn link_arguments(
-    words: &[u32],
+    terms: Terms,
     links: &mut [u32],
-    room: u32,
     a: u32,
     b: u32,
     count: u32,
     low: u32,
 ) -> Linked
     // Both nodes are in form.
-    requires { Arguments room words.now links.old a b count }
-    ensures { Joined room links.old links.new count (λ i. cells words.now (a + suc i)) (λ i. cells words.now (b + suc i)) low result.low result.same }
+    requires { Arguments terms.room terms.words.now links.old a b count }
+    ensures { Joined terms.entry.room links.old links.new count (λ i. cells terms.entry.words.now (a + suc i)) (λ i. cells terms.entry.words.now (b + suc i)) low result.low result.same }
 {
     let left = a as usize + 1;
     let right = b as usize + 1;
     let end = count as usize;
     let mut floor = low;
     for i in 0..end {
-        let step = link(links, room, words[left + i], words[right + i], floor);
+        let step = link(
+            links,
+            terms.room,
+            terms.words[left + i],
+            terms.words[right + i],
+            floor,
+        );
         if !step.same {
             return step;
         }
@@ -76,32 +82,24 @@ pub fn link_arguments(
 }
 
 // Takes up the link of the node at the address `at`: removes it, and links the node's arguments with those of the node to which it led.
-pub fn settle(
-    words: &[u32],
-    links: &mut [u32],
-    room: u32,
-    variables: u32,
-    used: u32,
-    at: u32,
-    same: bool,
-    low: u32,
-) -> Linked
+pub fn settle(terms: Terms, links: &mut [u32], at: u32, linked: Linked) -> Linked
     // The words are in form, and the links join references in form.
-    requires fact_1 { Comparable room words.now links.old variables used }
-    requires fact_2 { at < used }
-    ensures { Settled room words.now links.old links.new variables used at same low result.low result.same }
+    requires fact_1 { Comparable terms.room terms.words.now links.old terms.variables terms.used }
+    requires fact_2 { at < terms.used }
+    ensures { Settled terms.entry.room terms.entry.words.now links.old links.new terms.entry.variables terms.entry.used at linked.same linked.low result.low result.same }
 {
     let i = at as usize;
     let next = links[i];
     if next == 0 {
-        return Linked { same, low };
+        return linked;
     }
     links[i] = 0;
-    if same {
-        let other = next - 1 - room;
-        let header = words[i];
-        if header == words[other as usize] {
-            return link_arguments(words, links, room, at, other, header % SYMBOL_STEP, low);
+    let low = linked.low;
+    if linked.same {
+        let other = next - 1 - terms.room;
+        let header = terms.words[i];
+        if header == terms.words[other as usize] {
+            return link_arguments(terms, links, at, other, header % SYMBOL_STEP, low);
         }
     }
     Linked { same: false, low }

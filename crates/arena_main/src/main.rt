@@ -3,7 +3,7 @@
 
 #![tactic(auto)]
 
-ghost use Rattle.std.specs.Prelude.{◌≤◌};
+use arena::Terms;
 
 // A term that was built: the first free address behind it, and its reference.
 #[derive(Clone, Copy)]
@@ -12,10 +12,9 @@ struct Built {
     root: u32,
 }
 
-// A tower of nodes with `arity` arguments on a leaf, all arguments of a node the one below, as far as there is room.
-fn tower(words: &mut [u32], at: u32, height: u32, leaf: u32, arity: u32) -> Built
-    requires { arity ≤ 2 }
-{
+// A tower of nodes with `arity` arguments, two at most, on a leaf, all arguments of a node the one below, as far as there is room.
+fn tower(words: &mut [u32], at: u32, height: u32, leaf: u32, arity: u32) -> Built {
+    let arity = arity.min(2);
     let mut next = at;
     let mut root = leaf;
     for _ in 0..height {
@@ -39,6 +38,7 @@ fn tower(words: &mut [u32], at: u32, height: u32, leaf: u32, arity: u32) -> Buil
 }
 
 // Whether two references denote the same term, if the words and both are in form.
+// Stays: `used` is what the builders say, and is tested against both slices here.
 fn compare(words: &[u32], links: &mut [u32], used: u32, a: u32, b: u32) -> u8 {
     let arities = [0u32, 1, 2];
     if used > 262144 {
@@ -60,27 +60,24 @@ fn compare(words: &[u32], links: &mut [u32], used: u32, a: u32, b: u32) -> u8 {
         return b'x';
     }
     arena::clear(links, 0);
-    if arena::equal(words, links, 64, 2, used, a, b) {
+    let terms = Terms {
+        words,
+        room: 64,
+        variables: 2,
+        used,
+    };
+    if arena::equal(terms, links, a, b) {
         return b'y';
     }
     b'n'
 }
 
-// Two towers of the heights m and n, the second on the leaf given.
-fn towers(m: u32, n: u32, leaf: u32) -> u8 {
+// Two towers of the heights m and n with `arity` arguments in a node, the second on the leaf given; with two arguments they are shared terms.
+fn towers(m: u32, n: u32, leaf: u32, arity: u32) -> u8 {
     let mut words = [0u32; 262144];
     let mut links = [0u32; 262144];
-    let first = tower(&mut words, 0, m, 0, 1);
-    let second = tower(&mut words, first.next, n, leaf, 1);
-    compare(&words, &mut links, second.next, first.root, second.root)
-}
-
-// Two shared terms of the heights m and n, the second on the leaf given.
-fn twins(m: u32, n: u32, leaf: u32) -> u8 {
-    let mut words = [0u32; 9000];
-    let mut links = [0u32; 9000];
-    let first = tower(&mut words, 0, m, 0, 2);
-    let second = tower(&mut words, first.next, n, leaf, 2);
+    let first = tower(&mut words, 0, m, 0, arity);
+    let second = tower(&mut words, first.next, n, leaf, arity);
     compare(&words, &mut links, second.next, first.root, second.root)
 }
 
@@ -99,12 +96,12 @@ fn changed(place: usize, word: u32) -> u8 {
 
 fn main() {
     let letters = [
-        towers(65000, 65000, 0),
-        towers(65000, 64999, 0),
-        towers(65000, 65000, 1),
-        twins(1000, 1000, 0),
-        twins(1000, 999, 0),
-        twins(1000, 1000, 1),
+        towers(65000, 65000, 0, 1),
+        towers(65000, 64999, 0, 1),
+        towers(65000, 65000, 1, 1),
+        towers(1000, 1000, 0, 2),
+        towers(1000, 999, 0, 2),
+        towers(1000, 1000, 1, 2),
         b'\n',
         changed(6, 0),
         changed(0, 64),

@@ -4,12 +4,13 @@
 ghost use Rattle.std.specs.Prelude.{◌≡◌, ◌+◌, ◌<◌, true};
 ghost use Rattle.resolution.specs.Search.{within, over};
 ghost use Rattle.attempts.specs.Clashes.{Comparable, Clashes};
+ghost use Rattle.unifier.specs.Lending.{SameBuffers};
 ghost use Rattle.attempts.specs.Promises.{Asked, Attempted, HeadAsked, HeadTried, BodyAsked, BodyTried};
 
 use arena::{PATTERN_ROOM, SYMBOL_STEP, TERM_ROOM, Terms, inst, moved_word};
-use bindings::{undo, walk};
+use bindings::{StoredBindings, undo, walk};
 use refusals::Refusal;
-use unifier::unify;
+use unifier::{Workspace, unify};
 
 // A stored rule: where its words start among the pattern's, how many its conclusion takes and how many its premises before them, the reference of its
 // conclusion, and how many variables are met in the conclusion and in all.
@@ -23,6 +24,36 @@ pub struct Stored {
     pub variables: u32,
 }
 
+// A stored rule with the parts of storage that are lent with it: the words of the patterns, the references of its premises, and the places of its variables.
+#[derive(Clone, Copy)]
+pub struct LentRule<'a> {
+    pub pattern: &'a [u32],
+    pub premises: &'a [u32],
+    pub places: &'a [u32],
+    pub stored: Stored,
+}
+
+// Where a search stands: how many variables and words it may use, how many variables, words and bindings are in use, and the goal.
+#[derive(Clone, Copy)]
+pub struct SearchState {
+    pub most: u32,
+    pub limit: u32,
+    pub counter: u32,
+    pub used: u32,
+    pub bound: u32,
+    pub goal: u32,
+}
+
+impl SearchState {
+    // Whether so many variables and words are too many (document 01, refusal 37).
+    pub fn exceeds(self, variables: u32, words: u32) -> bool
+        ensures { result ≡ over (within self.most self.limit) variables words }
+    {
+        let many = self.most < variables;
+        many || self.limit < words
+    }
+}
+
 // What came of an attempt that the limits allow.
 #[derive(Clone, Copy)]
 pub enum Tried {
@@ -32,26 +63,16 @@ pub enum Tried {
     Entered { counter: u32, bound: u32, used: u32 },
 }
 
-// Whether so many variables and words are too many (document 01, refusal 37).
-pub fn exceeds(most: u32, limit: u32, variables: u32, words: u32) -> bool
-    ensures { result ≡ over (within most limit) variables words }
-{
-    most < variables || limit < words
-}
-
-// Whether two heads differ: where the bindings lead from a reference, and a pattern's, both nodes.
+// Whether two heads differ: where the bindings lead from the goal, and a pattern's, both nodes.
 fn heads_differ(
     pattern: &[u32],
     words: &[u32],
     bindings: &[[u32; 2]],
-    variables: u32,
-    used: u32,
-    bound: u32,
-    reference: u32,
+    at: SearchState,
     other: u32,
 ) -> bool
-    requires { Comparable pattern.now words.now bindings.now variables used bound reference other }
-    ensures { result ≡ true → Clashes pattern.now words.now bindings.now bound reference other }
+    requires { Comparable pattern.now words.now bindings.now at.counter at.used at.bound at.goal other }
+    ensures { result ≡ true → Clashes pattern.now words.now bindings.now at.bound at.goal other }
 {
     if other < PATTERN_ROOM {
         return false;
@@ -59,16 +80,20 @@ fn heads_differ(
     let terms = Terms {
         words,
         room: TERM_ROOM,
-        variables,
-        used,
+        variables: at.counter,
+        used: at.used,
     };
-    let end = walk(terms, bindings, bound, reference);
+    let held = StoredBindings {
+        rows: bindings,
+        bound: at.bound,
+    };
+    let end = walk(terms, held, at.goal);
     if end < TERM_ROOM {
         return false;
     }
-    let at = (end - TERM_ROOM) as usize;
+    let node = (end - TERM_ROOM) as usize;
     let from = (other - PATTERN_ROOM) as usize;
-    words[at] != pattern[from]
+    words[node] != pattern[from]
 }
 
 // Whether the goal and a conclusion clash by their heads or by those of their arguments. A rule that cannot serve is mostly found out here, before
@@ -77,14 +102,11 @@ pub fn clashes(
     pattern: &[u32],
     words: &[u32],
     bindings: &[[u32; 2]],
-    variables: u32,
-    used: u32,
-    bound: u32,
-    goal: u32,
+    at: SearchState,
     conclusion: u32,
 ) -> bool
-    requires { Comparable pattern.now words.now bindings.now variables used bound goal conclusion }
-    ensures { result ≡ true → Clashes pattern.now words.now bindings.now bound goal conclusion }
+    requires { Comparable pattern.now words.now bindings.now at.counter at.used at.bound at.goal conclusion }
+    ensures { result ≡ true → Clashes pattern.now words.now bindings.now at.bound at.goal conclusion }
 {
     if conclusion < PATTERN_ROOM {
         return false;
@@ -92,31 +114,30 @@ pub fn clashes(
     let terms = Terms {
         words,
         room: TERM_ROOM,
-        variables,
-        used,
+        variables: at.counter,
+        used: at.used,
     };
-    let end = walk(terms, bindings, bound, goal);
+    let held = StoredBindings {
+        rows: bindings,
+        bound: at.bound,
+    };
+    let end = walk(terms, held, at.goal);
     if end < TERM_ROOM {
         return false;
     }
-    let at = (end - TERM_ROOM) as usize;
+    let node = (end - TERM_ROOM) as usize;
     let from = (conclusion - PATTERN_ROOM) as usize;
-    let header = words[at];
+    let header = words[node];
     if header != pattern[from] {
         return true;
     }
     let count = (header % SYMBOL_STEP) as usize;
     for i in 0..count {
-        if heads_differ(
-            pattern,
-            words,
-            bindings,
-            variables,
-            used,
-            bound,
-            words[at + 1 + i],
-            pattern[from + 1 + i],
-        ) {
+        let argument = SearchState {
+            goal: words[node + 1 + i],
+            ..at
+        };
+        if heads_differ(pattern, words, bindings, argument, pattern[from + 1 + i]) {
             return true;
         }
     }
@@ -126,57 +147,47 @@ pub fn clashes(
 // Copies the conclusion behind the used words, if the limits allow it, and unifies the goal with it; the answer is how many bindings there are then, where
 // they unify.
 fn try_head(
-    pattern: &[u32],
-    stored: Stored,
-    places: &[u32],
+    rule: LentRule,
     words: &mut [u32],
     bindings: &mut [[u32; 2]],
-    links: &mut [[u32; 2]],
-    marks: &mut [[u32; 2]],
-    stack: &mut [[u32; 3]],
-    most: u32,
-    limit: u32,
-    counter: u32,
-    used: u32,
-    bound: u32,
-    goal: u32,
+    workspace: &mut Workspace,
+    at: SearchState,
 ) -> Result<Option<u32>, Refusal>
-    requires { HeadAsked most limit pattern.now places.now stored words.old bindings.old
-        links.old marks.old stack.old counter used bound goal }
-    ensures { HeadTried most limit pattern.now places.now stored words.old words.new
-        bindings.old bindings.new links.old links.new marks.old marks.new
-        stack.old stack.new counter used bound goal result }
+    requires { HeadAsked at.most at.limit rule.pattern.now rule.places.now rule.stored words.old bindings.old
+        workspace.old.links.now workspace.old.marks.now workspace.old.stack.now at.counter at.used at.bound at.goal }
+    ensures tried { HeadTried at.most at.limit rule.entry.pattern.now rule.entry.places.now rule.entry.stored words.old words.new
+        bindings.old bindings.new workspace.old.links.now workspace.new.links.now workspace.old.marks.now workspace.new.marks.now
+        workspace.old.stack.now workspace.new.stack.now at.counter at.used at.bound at.goal result }
+    ensures lent { SameBuffers workspace.old workspace.new }
 {
+    let stored = rule.stored;
     let from = stored.from + stored.body;
-    let count = stored.head;
-    let variables = counter + stored.met;
-    let top = used + count;
-    if exceeds(most, limit, variables, top) {
+    let variables = at.counter + stored.met;
+    let top = at.used + stored.head;
+    if at.exceeds(variables, top) {
         return Err(Refusal::OverLimit);
     }
-    if clashes(
-        pattern,
-        words,
-        bindings,
-        counter,
-        used,
-        bound,
-        goal,
-        stored.conclusion,
-    ) {
+    if clashes(rule.pattern, words, bindings, at, stored.conclusion) {
         return Ok(None);
     }
     // Of two variables the first is bound: the goal's.
-    let first = goal;
+    let first = at.goal;
     let second = moved_word(
         stored.conclusion,
-        places,
-        counter,
+        rule.places,
+        at.counter,
         PATTERN_ROOM + from,
-        TERM_ROOM + used,
+        TERM_ROOM + at.used,
     );
     inst(
-        pattern, from, count, places, words, TERM_ROOM, used, counter,
+        rule.pattern,
+        from,
+        stored.head,
+        rule.places,
+        words,
+        TERM_ROOM,
+        at.used,
+        at.counter,
     );
     let terms = Terms {
         words,
@@ -184,82 +195,70 @@ fn try_head(
         variables,
         used: top,
     };
-    Ok(unify(terms, bindings, links, marks, stack, bound, first, second))
+    Ok(unify(terms, bindings, workspace, at.bound, first, second))
 }
 
-// Copies the premises behind the conclusion, if the limits allow it; else the bindings are undone to the mark.
+// Copies the premises behind the conclusion, if the limits allow it; else the bindings, `bound` by now, are undone to those before the attempt.
 fn try_body(
-    pattern: &[u32],
-    stored: Stored,
-    places: &[u32],
+    rule: LentRule,
     words: &mut [u32],
     bindings: &mut [[u32; 2]],
-    most: u32,
-    limit: u32,
-    counter: u32,
-    used: u32,
-    mark: u32,
+    at: SearchState,
     bound: u32,
 ) -> Result<(), Refusal>
-    requires { BodyAsked most limit pattern.now places.now stored words.old bindings.old counter used mark bound }
-    ensures { BodyTried most limit pattern.now places.now stored words.old words.new
-        bindings.old bindings.new counter used mark bound result }
+    requires { BodyAsked at.most at.limit rule.pattern.now rule.places.now rule.stored words.old bindings.old at.counter at.used at.bound bound }
+    ensures { BodyTried at.most at.limit rule.entry.pattern.now rule.entry.places.now rule.entry.stored words.old words.new
+        bindings.old bindings.new at.counter at.used at.bound bound result }
 {
-    let from = stored.from;
-    let count = stored.body;
-    let behind = used + stored.head;
-    let variables = counter + stored.variables;
-    let end = behind + count;
-    if exceeds(most, limit, variables, end) {
-        undo(bindings, bound, mark);
+    let stored = rule.stored;
+    let behind = at.used + stored.head;
+    let variables = at.counter + stored.variables;
+    let end = behind + stored.body;
+    if at.exceeds(variables, end) {
+        undo(bindings, bound, at.bound);
         return Err(Refusal::OverLimit);
     }
     inst(
-        pattern, from, count, places, words, TERM_ROOM, behind, counter,
+        rule.pattern,
+        stored.from,
+        stored.body,
+        rule.places,
+        words,
+        TERM_ROOM,
+        behind,
+        at.counter,
     );
     Ok(())
 }
 
-// One attempt: the goal with a rule, under the first `bound` bindings, with new variables from the counter on; at most `most` variables and `limit`
-// words, and else it is refused. The premises' references are named only in the contract: what they become is `premise_at`, which `arena::moved_word` computes.
+// One attempt: the goal with a rule, under the bindings that stand, with new variables from the counter on; where it takes more variables or words than
+// the search may use, it is refused. The premises' references are named only in the contract: what they become is `premise_at`, which `arena::moved_word` computes.
 pub fn try_rule(
-    pattern: &[u32],
-    stored: Stored,
-    premises: &[u32],
-    places: &[u32],
+    rule: LentRule,
     words: &mut [u32],
     bindings: &mut [[u32; 2]],
-    links: &mut [[u32; 2]],
-    marks: &mut [[u32; 2]],
-    stack: &mut [[u32; 3]],
-    most: u32,
-    limit: u32,
-    counter: u32,
-    used: u32,
-    bound: u32,
-    goal: u32,
+    workspace: &mut Workspace,
+    at: SearchState,
 ) -> Result<Tried, Refusal>
-    requires { Asked most limit pattern.now premises.now places.now stored words.old bindings.old
-        links.old marks.old stack.old counter used bound goal }
-    ensures { Attempted most limit pattern.now premises.now places.now stored
-        words.old words.new bindings.old bindings.new links.old links.new marks.old marks.new
-        stack.old stack.new counter used bound goal result }
+    requires { Asked at.most at.limit rule.pattern.now rule.premises.now rule.places.now rule.stored words.old bindings.old
+        workspace.old.links.now workspace.old.marks.now workspace.old.stack.now at.counter at.used at.bound at.goal }
+    ensures tried { Attempted at.most at.limit rule.entry.pattern.now rule.entry.premises.now rule.entry.places.now rule.entry.stored
+        words.old words.new bindings.old bindings.new workspace.old.links.now workspace.new.links.now
+        workspace.old.marks.now workspace.new.marks.now workspace.old.stack.now workspace.new.stack.now
+        at.counter at.used at.bound at.goal result }
+    ensures lent { SameBuffers workspace.old workspace.new }
 {
-    let met = counter + stored.met;
-    let unified = try_head(
-        pattern, stored, places, words, bindings, links, marks, stack, most, limit, counter, used,
-        bound, goal,
-    )?;
+    let counter = at.counter;
+    let met = counter + rule.stored.met;
+    let unified = try_head(rule, words, bindings, workspace, at)?;
     match unified {
         None => Ok(Tried::Missed { counter: met }),
         Some(n) => {
-            try_body(
-                pattern, stored, places, words, bindings, most, limit, counter, used, bound, n,
-            )?;
+            try_body(rule, words, bindings, at, n)?;
             Ok(Tried::Entered {
-                counter: counter + stored.variables,
+                counter: counter + rule.stored.variables,
                 bound: n,
-                used: used + stored.head + stored.body,
+                used: at.used + rule.stored.head + rule.stored.body,
             })
         }
     }

@@ -5,7 +5,7 @@ use Rattle.arena.specs.Copies.{term_room}
 use Rattle.arena.specs.Rows.{Rows}
 use Rattle.unifier.specs.Promises.{Scratch}
 use Rattle.attempts.specs.Promises as contracts
-use Rattle.attempts_test.specs.declared.attempt.State.{State}
+use Rattle.attempts.specs.declared.SearchState.{SearchState}
 
 -- There is room for what the limits allow, and the scratch is zero.
 pub record Room (most limit : ℕ) (words : List ℕ) (rows links marks stack : Rows) : Type 0 where
@@ -16,7 +16,7 @@ pub record Room (most limit : ℕ) (words : List ℕ) (rows links marks stack : 
   pub low : term_room + limit ≤ headers
 
 -- The storage is what an attempt asks, if the answer is yes, and the marks are as they were.
-pub record StateTold (s : State) (words : List ℕ) (rows links marks marks' stack : Rows) (answer : Bool) : Type 0 where
+pub record StateTold (s : SearchState) (words : List ℕ) (rows links marks marks' stack : Rows) (answer : Bool) : Type 0 where
   pub state : answer ≡ true → contracts.State s.most s.limit words rows links marks stack s.counter s.used s.bound
   pub refers : answer ≡ true → Reference term_room (cells words) s.counter s.used s.goal
   pub kept : marks' ≡ marks

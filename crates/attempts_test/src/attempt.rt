@@ -4,21 +4,12 @@ ghost use Rattle.attempts_test.specs.Told.{Room, StateTold};
 ghost use Rattle.std.specs.Prelude.{◌≡◌, true};
 
 use arena::{HEADERS, PATTERN_ROOM, TERM_ROOM, Terms};
-use attempts::{Stored, Tried};
+use attempts::{LentRule, SearchState, Stored, Tried};
+use bindings::StoredBindings;
 use refusals::Refusal;
 use samples::unification;
 use samples::unification::Fault;
-
-// The counts of a search, and a goal.
-#[derive(Clone, Copy)]
-pub struct State {
-    pub most: u32,
-    pub limit: u32,
-    pub counter: u32,
-    pub used: u32,
-    pub bound: u32,
-    pub goal: u32,
-}
+use unifier::Workspace;
 
 // Whether storage has room for what the limits allow, and the scratch is zero.
 fn has_room(
@@ -27,30 +18,29 @@ fn has_room(
     links: &[[u32; 2]],
     marks: &[[u32; 2]],
     stack: &[[u32; 3]],
-    most: u32,
-    limit: u32,
+    state: SearchState,
 ) -> bool
-    ensures { result ≡ true → Room most limit words.now bindings.now links.now marks.now stack.now }
+    ensures { result ≡ true → Room state.most state.limit words.now bindings.now links.now marks.now stack.now }
 {
-    if TERM_ROOM < most {
+    if TERM_ROOM < state.most {
         return false;
     }
-    if HEADERS - TERM_ROOM < limit {
+    if HEADERS - TERM_ROOM < state.limit {
         return false;
     }
-    if words.len() < limit as usize {
+    if words.len() < state.limit as usize {
         return false;
     }
-    if bindings.len() < most as usize {
+    if bindings.len() < state.most as usize {
         return false;
     }
-    if !checks::are_zero(links, (TERM_ROOM + limit) as usize) {
+    if !checks::are_zero(links, (TERM_ROOM + state.limit) as usize) {
         return false;
     }
-    if !checks::are_zero(marks, (TERM_ROOM + limit) as usize) {
+    if !checks::are_zero(marks, (TERM_ROOM + state.limit) as usize) {
         return false;
     }
-    checks::are_zero(stack, limit as usize)
+    checks::are_zero(stack, state.limit as usize)
 }
 
 // Whether storage is what an attempt asks; the marks are left as they are.
@@ -60,46 +50,41 @@ fn is_state(
     links: &[[u32; 2]],
     marks: &mut [[u32; 2]],
     stack: &[[u32; 3]],
-    state: State,
+    state: SearchState,
 ) -> bool
     ensures { StateTold state words.now bindings.now links.now marks.old marks.new stack.now result }
 {
-    let counter = state.counter;
-    let used = state.used;
-    let bound = state.bound;
-    let goal = state.goal;
-    if !checks::is_form(words, bindings, marks, counter, used, bound) {
-        return false;
-    }
     let terms = Terms {
         words,
         room: TERM_ROOM,
-        variables: counter,
-        used,
+        variables: state.counter,
+        used: state.used,
     };
-    if !bindings::is_reference(terms, goal) {
+    let held = StoredBindings {
+        rows: bindings,
+        bound: state.bound,
+    };
+    if !checks::is_form(terms, held, marks) {
         return false;
     }
-    has_room(
-        words,
-        bindings,
-        links,
-        marks,
-        stack,
-        state.most,
-        state.limit,
-    )
+    if !bindings::is_reference(terms, state.goal) {
+        return false;
+    }
+    has_room(words, bindings, links, marks, stack, state)
 }
 
 // Tries the rule: as `try_rule` answers.
 pub fn attempt(
     words: &mut [u32],
     bindings: &mut [[u32; 2]],
-    links: &mut [[u32; 2]],
-    marks: &mut [[u32; 2]],
-    stack: &mut [[u32; 3]],
-    state: State,
+    workspace: Workspace,
+    state: SearchState,
 ) -> Result<Result<Tried, Refusal>, Fault> {
+    let Workspace {
+        links,
+        marks,
+        stack,
+    } = workspace;
     if !is_state(words, bindings, links, marks, stack, state) {
         return Err(Fault::NotReady);
     }
@@ -116,31 +101,26 @@ pub fn attempt(
         met: 1,
         variables: 2,
     };
-    let tried = attempts::try_rule(
-        &pattern,
+    let rule = LentRule {
+        pattern: &pattern,
+        premises: &premises,
+        places: &places,
         stored,
-        &premises,
-        &places,
-        words,
-        bindings,
+    };
+    let mut lent = Workspace {
         links,
         marks,
         stack,
-        state.most,
-        state.limit,
-        state.counter,
-        state.used,
-        state.bound,
-        state.goal,
-    );
-    if !unification::is_clean(links, marks, stack) {
+    };
+    let tried = attempts::try_rule(rule, words, bindings, &mut lent, state);
+    if !unification::is_clean(&lent) {
         return Err(Fault::ScratchLeft);
     }
     Ok(tried)
 }
 
 // What a premise's reference becomes by an attempt; 0 where no sum is sure to fit.
-pub fn premise(reference: u32, state: State) -> u32 {
+pub fn premise(reference: u32, state: SearchState) -> u32 {
     let counter = state.counter;
     let used = state.used;
     if reference < 64 {

@@ -2,11 +2,11 @@
 #![tactic(auto)]
 
 use arena::TERM_ROOM;
-use attempt::State;
-use attempts::Tried;
+use attempts::{SearchState, Tried};
 use refusals::Refusal;
 use samples::unification::{Case, Fault};
 use samples::{build, report, rows, unification};
+use unifier::Workspace;
 
 mod attempt; // one attempt
 
@@ -26,7 +26,7 @@ fn put_goal(
     most: u32,
     height: u32,
     spare: u32,
-) -> State {
+) -> SearchState {
     build::put_constants(words);
     let used = build::put_tower(words, 2, 100000, TERM_ROOM, 1);
     if 100000 < height {
@@ -38,8 +38,8 @@ fn put_goal(
     if 262144 < used {
         return no_state();
     }
-    rows::put(bindings, 0, TERM_ROOM + 2 * height + 1, 0);
-    State {
+    build::put(bindings, 0, [TERM_ROOM + 2 * height + 1, 0]);
+    SearchState {
         most: most,
         limit: used + spare,
         counter: 2,
@@ -50,8 +50,8 @@ fn put_goal(
 }
 
 // A state that is not in form: it has a goal and no variables.
-fn no_state() -> State {
-    State {
+fn no_state() -> SearchState {
+    SearchState {
         most: 0,
         limit: 0,
         counter: 0,
@@ -62,11 +62,11 @@ fn no_state() -> State {
 }
 
 // Writes the references of the premises.
-fn report_premises(state: State) {
+fn report_premises(state: SearchState) {
     report::text(b", premises ");
-    report::number(attempt::premise(64, state));
+    report::decimal(attempt::premise(64, state));
     report::text(b" and ");
-    report::number(attempt::premise(67, state));
+    report::decimal(attempt::premise(67, state));
 }
 
 // Writes the line of an attempt.
@@ -75,7 +75,7 @@ fn report_attempt(
     bindings: &mut [[u32; 2]],
     marks: &mut [[u32; 2]],
     before: &[[u32; 2]],
-    state: State,
+    state: SearchState,
     came: Result<Result<Tried, Refusal>, Fault>,
 ) {
     match came {
@@ -91,7 +91,7 @@ fn report_attempt(
         }
         Ok(Ok(Tried::Missed { counter })) => {
             report::text(b": missed, counter ");
-            report::number(counter);
+            report::decimal(counter);
             unification::compare(bindings, before);
         }
         Ok(
@@ -104,9 +104,9 @@ fn report_attempt(
             ),
         ) => {
             report::text(b": entered, counter ");
-            report::number(counter);
+            report::decimal(counter);
             report::text(b", words ");
-            report::number(used);
+            report::decimal(used);
             report_premises(state);
             let after = Case {
                 variables: counter,
@@ -126,16 +126,18 @@ fn try_rule(name: &[u8], most: u32, height: u32, spare: u32) {
     let mut bindings = [[0u32; 2]; 64];
     let state = put_goal(&mut words, &mut bindings, most, height, spare);
     let mut before = [[0u32; 2]; 64];
-    rows::put(&mut before, 0, rows::number(&bindings, 0, 0), 0);
+    build::put(&mut before, 0, [rows::number_at(&bindings, 0, 0), 0]);
     let mut links = [[0u32; 2]; REFERENCES];
     let mut marks = [[0u32; 2]; REFERENCES];
     let mut stack = [[0u32; 3]; WORDS];
     let came = attempt::attempt(
         &mut words,
         &mut bindings,
-        &mut links,
-        &mut marks,
-        &mut stack,
+        Workspace {
+            links: &mut links,
+            marks: &mut marks,
+            stack: &mut stack,
+        },
         state,
     );
     report::text(name);

@@ -1,7 +1,7 @@
 // Bindings over stored terms (the Rust's `walk`, `occurs` and the undoing of its trail), on lent slices.
 //
-// `b` are the rows of the bindings with their trail, `m` lent marks that are left as they were, `k` how many bindings there are. The terms have any room,
-// since no law here asks for more than that it holds the variables; that of the crates above is `arena::TERM_ROOM`.
+// `marks` are lent and left as they were. The terms have any room, since no law here asks for more than that it holds the variables; that of the crates
+// above is `arena::TERM_ROOM`.
 #![tactic(auto)]
 
 pub use tables::{enter, undo};
@@ -22,15 +22,23 @@ use arena::Terms;
 use trails::{check_rest, check_trail};
 use visits::{visit, visit_edges};
 
-// Where the bindings lead from r; only `b` and `room` are read, the rest serves the contract.
-pub fn walk(terms: Terms, b: &[[u32; 2]], k: u32, r: u32) -> u32
-    requires fact_1 { Form terms.room terms.words.now b.now terms.variables terms.used k }
+// Bindings in lent rows: by variable the value, 0 or 1 + a reference, and beside it the trail, whose first `bound` entries are the bound variables in
+// their order.
+#[derive(Clone, Copy)]
+pub struct StoredBindings<'a> {
+    pub rows: &'a [[u32; 2]],
+    pub bound: u32,
+}
+
+// Where the bindings lead from r; only the rows and the room are read, the rest serves the contract.
+pub fn walk(terms: Terms, bindings: StoredBindings, r: u32) -> u32
+    requires fact_1 { Form terms.room terms.words.now bindings.rows.now terms.variables terms.used bindings.bound }
     requires fact_2 { Reference terms.room (cells terms.words.now) terms.variables terms.used r }
-    ensures { Walked terms.entry.room terms.entry.words.now b.now terms.entry.variables terms.entry.used k r result }
+    ensures { Walked terms.entry.room terms.entry.words.now bindings.entry.rows.now terms.entry.variables terms.entry.used bindings.entry.bound r result }
 {
     let mut q = r;
     while q < terms.room {
-        let value = b[q as usize][0];
+        let value = bindings.rows[q as usize][0];
         if value == 0 {
             return q;
         }
@@ -40,45 +48,52 @@ pub fn walk(terms: Terms, b: &[[u32; 2]], k: u32, r: u32) -> u32
 }
 
 // Whether the unbound variable x occurs in what r denotes, the bindings put in: a search that visits each reachable reference once.
-pub fn occurs(terms: Terms, b: &[[u32; 2]], m: &mut [[u32; 2]], k: u32, x: u32, r: u32) -> bool
-    requires fact_1 { Form terms.room terms.words.now b.now terms.variables terms.used k }
+pub fn occurs(
+    terms: Terms,
+    bindings: StoredBindings,
+    marks: &mut [[u32; 2]],
+    x: u32,
+    r: u32,
+) -> bool
+    requires fact_1 { Form terms.room terms.words.now bindings.rows.now terms.variables terms.used bindings.bound }
     requires fact_2 { Reference terms.room (cells terms.words.now) terms.variables terms.used r }
-    requires fact_3 { (x < terms.variables) × (column 0 b.now x ≡ 0) }
-    requires fact_4 { Free terms.room terms.used m.old }
-    ensures { Checked terms.entry.room terms.entry.words.now b.now m.old m.new k x r result }
+    requires fact_3 { (x < terms.variables) × (column 0 bindings.rows.now x ≡ 0) }
+    requires fact_4 { Free terms.room terms.used marks.old }
+    ensures { Checked terms.entry.room terms.entry.words.now bindings.entry.rows.now marks.old marks.new bindings.entry.bound x r result }
 {
-    let mut t = visit(m, terms.room + terms.used, 0, r);
+    let mut t = visit(terms, marks, 0, r);
     let mut h = 0;
     // Stays: the queue grows while it is gone through, so no range is known at the start.
     while h < t {
-        let y = m[h as usize][1];
+        let y = marks[h as usize][1];
         if y == x {
-            undo(m, t, 0);
+            undo(marks, t, 0);
             return true;
         }
-        t = visit_edges(terms, b, m, k, t, y);
+        t = visit_edges(terms, bindings, marks, t, y);
         h += 1;
     }
-    undo(m, t, 0);
+    undo(marks, t, 0);
     false
 }
 
 // Whether rows of any contents are bindings in form over words in form.
-pub fn check_bindings(terms: Terms, b: &[[u32; 2]], m: &mut [[u32; 2]], k: u32) -> bool
+pub fn check_bindings(terms: Terms, bindings: StoredBindings, marks: &mut [[u32; 2]]) -> bool
     requires fact_1 { WellFormed terms.room (cells terms.words.now) terms.variables terms.used }
     requires fact_2 { (terms.variables ≤ terms.room) × (terms.room + terms.used ≤ headers) × (terms.used ≤ length terms.words.now) }
-    requires fact_3 { Free terms.room terms.used m.old }
-    ensures { BindingsChecked terms.entry.room terms.entry.words.now b.now m.old m.new terms.entry.variables terms.entry.used k result }
+    requires fact_3 { Free terms.room terms.used marks.old }
+    ensures { BindingsChecked terms.entry.room terms.entry.words.now bindings.entry.rows.now marks.old marks.new
+        terms.entry.variables terms.entry.used bindings.entry.bound result }
 {
-    if b.len() < terms.variables as usize {
+    if bindings.rows.len() < terms.variables as usize {
         return false;
     }
-    if terms.variables < k {
+    if terms.variables < bindings.bound {
         return false;
     }
-    if check_trail(terms, b, m, k) {
-        if check_rest(b, k) {
-            return is_acyclic(terms, b, m);
+    if check_trail(terms, bindings, marks) {
+        if check_rest(bindings) {
+            return is_acyclic(terms, bindings.rows, marks);
         }
         return false;
     }

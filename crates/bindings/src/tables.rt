@@ -14,6 +14,7 @@ fn set_value(t: &mut [[u32; 2]], key: u32, value: u32)
 }
 
 // Sets the key at position n of the list.
+// Stays: the values of all keys stand in the rows beside the list, so that no part up to the list's end can be lent.
 fn set_listed(t: &mut [[u32; 2]], n: u32, key: u32)
     requires { n < length t.old }
     ensures { Replaced t.old t.new n 2 (listed t.old n key) }
@@ -24,6 +25,7 @@ fn set_listed(t: &mut [[u32; 2]], n: u32, key: u32)
 }
 
 // Enters a key at position n of the list, with its value.
+// Stays: the values of all keys stand in the rows beside the list, so that no part up to the list's end can be lent.
 pub fn enter(t: &mut [[u32; 2]], n: u32, key: u32, value: u32)
     requires { (n < length t.old) × (key < length t.old) }
     ensures { Entered t.old t.new n key value }
@@ -33,6 +35,7 @@ pub fn enter(t: &mut [[u32; 2]], n: u32, key: u32, value: u32)
 }
 
 // Takes the entries from position n on down to the mark back, the last first.
+// Stays: the values of all keys stand in the rows beside the list, so that no part up to the list's end can be lent.
 pub fn undo(t: &mut [[u32; 2]], n: u32, mark: u32)
     requires { Undoable t.old n mark }
     ensures { t.new ≡ undone t.old mark (n - mark) }

@@ -1,6 +1,6 @@
 -- Laws of bytes written into a buffer: one more byte, and bytes behind bytes.
-use Rattle.std.specs.Prelude.{ℕ, suc, ◌+◌, ◌≤◌, ◌≡◌, List, [], ◌∷◌, ◌++◌, length, set}
-use Rattle.std.proofs.Common.{arith, ap, ◌∙◌, length-append}
+use Rattle.std.specs.Prelude.{ℕ, suc, ◌+◌, ◌≤◌, ◌<◌, ◌≡◌, List, [], ◌∷◌, ◌++◌, get_or, length, set, take}
+use Rattle.std.proofs.Common.{arith, sym, ap, ◌∙◌, length-append, take-suc, length-take-le}
 use Rattle.std.proofs.lemmas.List.Edits.{sets}
 use Rattle.std.proofs.Math.Seq.{length-sets}
 use Rattle.byte_output.specs.Output.{Written}
@@ -10,6 +10,12 @@ sets_append l i [] ys = let e : i + 0 ≡ i = omega arith in ap (λ (k : ℕ). s
 sets_append l i (x ∷ xs) ys =
     let e : i + suc (length xs) ≡ suc i + length xs = omega arith in
     ap (λ (k : ℕ). sets (sets (set l i x) (suc i) xs) k ys) e ∙ sets_append (set l i x) (suc i) xs ys
+
+-- The first i + 1 bytes, after the first i.
+pub sets_more : (l : List ℕ) (at : ℕ) (xs : List ℕ) (i : ℕ) → i < length xs → set (sets l at (take i xs)) (at + i) (get_or xs i 0) ≡ sets l at (take (suc i) xs)
+sets_more l at xs i h =
+    let e : at + i ≡ at + length (take i xs) = ap (λ (k : ℕ). at + k) (sym (length-take-le i xs (omega arith))) in
+    ap (λ (k : ℕ). set (sets l at (take i xs)) k (get_or xs i 0)) e ∙ sets_append l at (take i xs) (get_or xs i 0 ∷ []) ∙ ap (sets l at) (sym (take-suc xs i 0 h))
 
 module _ {out out' : List ℕ} {at : ℕ} {xs : List ℕ} {next : ℕ} (v : Written out at xs next out') where
   -- The buffer keeps its length.

@@ -2,6 +2,7 @@
 use Rattle.std.specs.Prelude.{ℕ, ◌+◌, ◌*◌, ◌^◌, ◌<◌, ◌≡◌, Bool, true, false, List, leb}
 use Rattle.std.proofs.Common.{arith, sym, ap, ◌∙◌, le-leb}
 use Rattle.std.proofs.lemmas.Bool.{lt-leb}
+use Rattle.arena.specs.Copies.{term_room}
 use Rattle.arena.specs.Rows.{Rows}
 use Rattle.unifier.specs.Packing.{packed_unify, UnifiedAs}
 use Rattle.bindings.specs.Checking.{form_few}
@@ -21,21 +22,21 @@ pub record RefusedAs (b b' l l' m m' s s' : Rows) (answer : ℕ) : Type 0 where
 
 -- Storage that is what `unify` asks is unified over, and any other is refused.
 pub data Answered (w : List ℕ) (b b' l l' m m' s s' : Rows) (variables used k r t answer : ℕ) : Type 0 where
-  accepted : Ready w b l m s variables used k r t → UnifiedAs w b b' l l' m m' s s' variables used k r t answer
+  accepted : Ready term_room w b l m s variables used k r t → UnifiedAs w b b' l l' m m' s s' variables used k r t answer
       → Answered w b b' l l' m m' s s' variables used k r t answer
-  refused : (Ready w b l m s variables used k r t → ⊥) → RefusedAs b b' l l' m m' s s' answer
+  refused : (Ready term_room w b l m s variables used k r t → ⊥) → RefusedAs b b' l l' m m' s s' answer
       → Answered w b b' l l' m m' s s' variables used k r t answer
 
 -- Laws
 
 module _ {w : List ℕ} {b b' l l' m m' s s' : Rows} {variables used k r t answer : ℕ} where
   -- By the storage alone it is known which of the two holds.
-  pub ready_answered : Answered w b b' l l' m m' s s' variables used k r t answer → Ready w b l m s variables used k r t
+  pub ready_answered : Answered w b b' l l' m m' s s' variables used k r t answer → Ready term_room w b l m s variables used k r t
       → UnifiedAs w b b' l l' m m' s s' variables used k r t answer
   ready_answered (accepted h u) x = u
   ready_answered (refused n h) x = absurd (n x)
 
-  pub other_answered : Answered w b b' l l' m m' s s' variables used k r t answer → (Ready w b l m s variables used k r t → ⊥) → RefusedAs b b' l l' m m' s s' answer
+  pub other_answered : Answered w b b' l l' m m' s s' variables used k r t answer → (Ready term_room w b l m s variables used k r t → ⊥) → RefusedAs b b' l l' m m' s s' answer
   other_answered (accepted h u) x = absurd (x h)
   other_answered (refused n h) x = h
 

@@ -11,7 +11,6 @@ use borrow.Author.Count.{below_more}
 use borrow.Author.Tests.{eqb-true, eq-eqb}
 use Rattle.arena.specs.Cells.{cells, Reference}
 use Rattle.bindings.specs.Orders.{by_order}
-use Rattle.arena.specs.Copies.{term_room}
 use Rattle.arena.specs.Rows.{Rows}
 use Rattle.bindings.specs.Tables.{Empty}
 use Rattle.bindings.specs.TableLaws.{column_past}
@@ -79,28 +78,28 @@ seen_all {rows} {i} {seen} l m h = record {
 
 -- What the tests told together
 
-pub form_stored : {w : List ℕ} {b : Rows} {variables used bound : ℕ} → Form term_room w b variables used bound → Stored w variables used
+pub form_stored : {N : ℕ} {w : List ℕ} {b : Rows} {variables used bound : ℕ} → Form N w b variables used bound → Stored N w variables used
 form_stored f = record { formed = f.words; few = f.few; low = f.low; lent = f.lent_words }
 
 -- What `is_form` tells.
-module _ {w : List ℕ} {b m : Rows} {variables used bound : ℕ} where
-  pub form_no : (Formed w b m variables used bound → ⊥) → FormTold w b m m variables used bound false
+module _ {N : ℕ} {w : List ℕ} {b m : Rows} {variables used bound : ℕ} where
+  pub form_no : (Formed N w b m variables used bound → ⊥) → FormTold N w b m m variables used bound false
   form_no n = record { tells = tells_no n; kept = refl }
 
-  pub form_told : {m' : Rows} {answer : Bool} → Zeros m (term_room + used) → BindingsChecked term_room w b m m' variables used bound answer
-      → FormTold w b m m' variables used bound answer
+  pub form_told : {m' : Rows} {answer : Bool} → Zeros m (N + used) → BindingsChecked N w b m m' variables used bound answer
+      → FormTold N w b m m' variables used bound answer
   form_told z h = record {
     tells = record { yes = λ e. record { form = h.tells.yes e; free = zeros_free z }; back = λ f. h.tells.back f.form };
     kept = h.marks;
   }
 
 -- What `is_ready` tells.
-module _ {w : List ℕ} {b l m m' s : Rows} {variables used bound left right : ℕ} (kept : m' ≡ m) where
-  pub ready_no : (Ready w b l m s variables used bound left right → ⊥) → ReadyTold w b l m m' s variables used bound left right false
+module _ {N : ℕ} {w : List ℕ} {b l m m' s : Rows} {variables used bound left right : ℕ} (kept : m' ≡ m) where
+  pub ready_no : (Ready N w b l m s variables used bound left right → ⊥) → ReadyTold N w b l m m' s variables used bound left right false
   ready_no n = record { tells = tells_no n; kept = kept }
 
-  pub ready_told : {answer : Bool} → Formed w b m variables used bound → Reference term_room (cells w) variables used left → Reference term_room (cells w) variables used right
-      → Zeros l (term_room + used) → Tells answer (Zeros s used) → ReadyTold w b l m m' s variables used bound left right answer
+  pub ready_told : {answer : Bool} → Formed N w b m variables used bound → Reference N (cells w) variables used left → Reference N (cells w) variables used right
+      → Zeros l (N + used) → Tells answer (Zeros s used) → ReadyTold N w b l m m' s variables used bound left right answer
   ready_told f x y z h = record {
     tells = record {
       yes = λ e. record {

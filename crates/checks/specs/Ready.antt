@@ -1,7 +1,6 @@
 -- What `unifier` asks of lent storage, part by part, as the tests decide it.
 use Rattle.std.specs.Prelude.{ℕ, suc, ◌+◌, ◌≤◌, ◌<◌, ◌≡◌, Bool, List, get_or, length}
 use Rattle.arena.specs.Cells.{Cells, cells, headers, arity_of, Reference, WellFormed}
-use Rattle.arena.specs.Copies.{term_room}
 use Rattle.arena.specs.Rows.{Rows}
 use Rattle.bindings.specs.Tables.{Empty}
 use Rattle.bindings.specs.Stored.{Form}
@@ -24,38 +23,38 @@ pub record Zeros (rows : Rows) (least : ℕ) : Type 0 where
   pub empty : Empty rows
 
 -- If the word at the address a is a header, its node is in form.
-pub record NodeFormed (w : Cells) (variables used a : ℕ) : Type 0 where
+pub record NodeFormed (N : ℕ) (w : Cells) (variables used a : ℕ) : Type 0 where
   pub fits : headers ≤ w a → a + arity_of (w a) < used
-  pub arguments : (i : ℕ) → headers ≤ w a → i < arity_of (w a) → Reference term_room w variables a (w (a + suc i))
+  pub arguments : (i : ℕ) → headers ≤ w a → i < arity_of (w a) → Reference N w variables a (w (a + suc i))
 
--- The words in use are terms in form: what `check_bindings` asks of them.
-pub record Stored (words : List ℕ) (variables used : ℕ) : Type 0 where
-  pub formed : WellFormed term_room (cells words) variables used
+-- The words in use are terms in form, in room for N variables: what `check_bindings` asks of them.
+pub record Stored (N : ℕ) (words : List ℕ) (variables used : ℕ) : Type 0 where
+  pub formed : WellFormed N (cells words) variables used
   -- there is room for the variables
-  pub few : variables ≤ term_room
+  pub few : variables ≤ N
   -- references are below headers
-  pub low : term_room + used ≤ headers
+  pub low : N + used ≤ headers
   -- there are so many words
   pub lent : used ≤ length words
 
 -- Words and bindings in form, and marks for every reference, all 0: what `occurs` asks of storage.
-pub record Formed (words : List ℕ) (bindings marks : Rows) (variables used bound : ℕ) : Type 0 where
-  pub form : Form term_room words bindings variables used bound
-  pub free : Free term_room used marks
+pub record Formed (N : ℕ) (words : List ℕ) (bindings marks : Rows) (variables used bound : ℕ) : Type 0 where
+  pub form : Form N words bindings variables used bound
+  pub free : Free N used marks
 
 -- `is_form` told so, and left the marks as they were.
-pub record FormTold (words : List ℕ) (bindings marks marks' : Rows) (variables used bound : ℕ) (answer : Bool) : Type 0 where
-  pub tells : Tells answer (Formed words bindings marks variables used bound)
+pub record FormTold (N : ℕ) (words : List ℕ) (bindings marks marks' : Rows) (variables used bound : ℕ) (answer : Bool) : Type 0 where
+  pub tells : Tells answer (Formed N words bindings marks variables used bound)
   pub kept : marks' ≡ marks
 
 -- Storage and two references in form, and scratch with nothing in it: what `unify` asks.
-pub record Ready (words : List ℕ) (bindings links marks stack : Rows) (variables used bound left right : ℕ) : Type 0 where
-  pub form : Form term_room words bindings variables used bound
-  pub left_refers : Reference term_room (cells words) variables used left
-  pub right_refers : Reference term_room (cells words) variables used right
-  pub scratch : Scratch term_room used links marks stack
+pub record Ready (N : ℕ) (words : List ℕ) (bindings links marks stack : Rows) (variables used bound left right : ℕ) : Type 0 where
+  pub form : Form N words bindings variables used bound
+  pub left_refers : Reference N (cells words) variables used left
+  pub right_refers : Reference N (cells words) variables used right
+  pub scratch : Scratch N used links marks stack
 
 -- `is_ready` told so, and left the marks as they were.
-pub record ReadyTold (words : List ℕ) (bindings links marks marks' stack : Rows) (variables used bound left right : ℕ) (answer : Bool) : Type 0 where
-  pub tells : Tells answer (Ready words bindings links marks stack variables used bound left right)
+pub record ReadyTold (N : ℕ) (words : List ℕ) (bindings links marks marks' stack : Rows) (variables used bound left right : ℕ) (answer : Bool) : Type 0 where
+  pub tells : Tells answer (Ready N words bindings links marks stack variables used bound left right)
   pub kept : marks' ≡ marks

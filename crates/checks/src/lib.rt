@@ -6,70 +6,49 @@ mod zeros; // rows that are zero
 
 ghost use Rattle.checks.specs.Ready.{FormTold, ReadyTold};
 
-use arena::{TERM_ROOM, Terms};
-use bindings::is_reference;
+use arena::Terms;
+use bindings::{StoredBindings, is_reference};
 pub use nodes::are_terms;
 pub use zeros::are_zero;
 
 // Whether words and bindings are in form and the marks are zero; these are left as they are.
-pub fn is_form(
-    words: &[u32],
-    bindings: &[[u32; 2]],
-    marks: &mut [[u32; 2]],
-    variables: u32,
-    used: u32,
-    bound: u32,
-) -> bool
-    ensures { FormTold words.now bindings.now marks.old marks.new variables used bound result }
+pub fn is_form(terms: Terms, bindings: StoredBindings, marks: &mut [[u32; 2]]) -> bool
+    ensures { FormTold terms.entry.room terms.entry.words.now bindings.entry.rows.now marks.old marks.new
+        terms.entry.variables terms.entry.used bindings.entry.bound result }
 {
-    if !are_terms(words, variables, used) {
+    if !are_terms(terms) {
         return false;
     }
-    if !are_zero(marks, (TERM_ROOM + used) as usize) {
+    if !are_zero(marks, (terms.room + terms.used) as usize) {
         return false;
     }
-    let terms = Terms {
-        words,
-        room: TERM_ROOM,
-        variables,
-        used,
-    };
-    bindings::check_bindings(terms, bindings, marks, bound)
+    bindings::check_bindings(terms, bindings, marks)
 }
 
 // Whether storage and two references are what `unifier::unify` asks; the marks are left as they are.
 pub fn is_ready(
-    words: &[u32],
-    bindings: &[[u32; 2]],
+    terms: Terms,
+    bindings: StoredBindings,
     links: &[[u32; 2]],
     marks: &mut [[u32; 2]],
     stack: &[[u32; 3]],
-    variables: u32,
-    used: u32,
-    bound: u32,
     left: u32,
     right: u32,
 ) -> bool
-    ensures { ReadyTold words.now bindings.now links.now marks.old marks.new
-        stack.now variables used bound left right result }
+    ensures { ReadyTold terms.entry.room terms.entry.words.now bindings.entry.rows.now links.now marks.old marks.new
+        stack.now terms.entry.variables terms.entry.used bindings.entry.bound left right result }
 {
-    if !is_form(words, bindings, marks, variables, used, bound) {
+    if !is_form(terms, bindings, marks) {
         return false;
     }
-    let terms = Terms {
-        words,
-        room: TERM_ROOM,
-        variables,
-        used,
-    };
     if !is_reference(terms, left) {
         return false;
     }
     if !is_reference(terms, right) {
         return false;
     }
-    if !are_zero(links, (TERM_ROOM + used) as usize) {
+    if !are_zero(links, (terms.room + terms.used) as usize) {
         return false;
     }
-    are_zero(stack, used as usize)
+    are_zero(stack, terms.used as usize)
 }

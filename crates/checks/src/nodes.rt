@@ -1,34 +1,31 @@
 // Whether words are terms in form.
 ghost use Rattle.std.specs.Prelude.{◌+◌, ◌<◌, ◌≤◌, length};
 ghost use Rattle.arena.specs.Cells.{cells, headers, WellFormed};
-ghost use Rattle.arena.specs.Copies.{term_room};
 ghost use Rattle.bindings.specs.Promises.{Tells};
 ghost use Rattle.checks.specs.Ready.{NodeFormed, Stored};
 
-use arena::{HEADERS, SYMBOL_STEP, TERM_ROOM, Terms};
+use arena::{HEADERS, SYMBOL_STEP, Terms};
 use bindings::is_reference;
 
 // Whether the word at an address is no header, or that of a node in form.
-fn is_node(words: &[u32], variables: u32, used: u32, address: u32) -> bool
-    requires { (address < used) × (used ≤ length words.now) × (used ≤ headers) }
-    ensures { Tells result (NodeFormed (cells words.now) variables used address) }
+fn is_node(terms: Terms, address: u32) -> bool
+    requires { (address < terms.used) × (terms.used ≤ length terms.words.now) × (terms.used ≤ headers) }
+    ensures { Tells result (NodeFormed terms.entry.room (cells terms.entry.words.now) terms.entry.variables terms.entry.used address) }
 {
-    let header = words[address as usize];
+    let header = terms.words[address as usize];
     if header < HEADERS {
         return true;
     }
     let arity = header % SYMBOL_STEP;
-    if used <= address + arity {
+    if terms.used <= address + arity {
         return false;
     }
     let before = Terms {
-        words,
-        room: TERM_ROOM,
-        variables,
         used: address,
+        ..terms
     };
     for i in 0..arity {
-        let argument = words[(address + 1 + i) as usize];
+        let argument = terms.words[(address + 1 + i) as usize];
         if !is_reference(before, argument) {
             return false;
         }
@@ -37,12 +34,12 @@ fn is_node(words: &[u32], variables: u32, used: u32, address: u32) -> bool
 }
 
 // Whether all nodes of the words in use are in form.
-fn are_nodes(words: &[u32], variables: u32, used: u32) -> bool
-    requires { (used ≤ length words.now) × (used ≤ headers) }
-    ensures { Tells result (WellFormed term_room (cells words.now) variables used) }
+fn are_nodes(terms: Terms) -> bool
+    requires { (terms.used ≤ length terms.words.now) × (terms.used ≤ headers) }
+    ensures { Tells result (WellFormed terms.entry.room (cells terms.entry.words.now) terms.entry.variables terms.entry.used) }
 {
-    for a in 0..used {
-        if !is_node(words, variables, used, a) {
+    for a in 0..terms.used {
+        if !is_node(terms, a) {
             return false;
         }
     }
@@ -50,17 +47,17 @@ fn are_nodes(words: &[u32], variables: u32, used: u32) -> bool
 }
 
 // Whether the words in use are terms in form, there is room for the variables, and all references are below the headers.
-pub fn are_terms(words: &[u32], variables: u32, used: u32) -> bool
-    ensures { Tells result (Stored words.now variables used) }
+pub fn are_terms(terms: Terms) -> bool
+    ensures { Tells result (Stored terms.entry.room terms.entry.words.now terms.entry.variables terms.entry.used) }
 {
-    if TERM_ROOM < variables {
+    if terms.room < terms.variables {
         return false;
     }
-    if HEADERS - TERM_ROOM < used {
+    if HEADERS < terms.room || HEADERS - terms.room < terms.used {
         return false;
     }
-    if words.len() < used as usize {
+    if terms.words.len() < terms.used as usize {
         return false;
     }
-    are_nodes(words, variables, used)
+    are_nodes(terms)
 }

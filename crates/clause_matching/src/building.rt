@@ -13,36 +13,43 @@ pub struct Built {
     pub used: u32,
 }
 
-// Writes a node from the address `used` on, whose arguments stand from `from` on, and then its reference in the first one's place.
-fn push_values(words: &mut [u32], used: u32, header: u32, from: u32, count: u32)
-    requires { (used + suc count ≤ from) × (from + suc count ≤ length words.old) }
-    ensures { Pushed words.old used header from count words.new }
+// Where values are built: behind the words in use, up to a limit.
+#[derive(Clone, Copy)]
+pub struct Room {
+    pub used: u32,
+    pub limit: u32,
+}
+
+// Writes a node at an address, whose arguments stand from `from` on, and then its reference in the first one's place.
+fn push_values(words: &mut [u32], address: u32, header: u32, from: u32, count: u32)
+    requires { (address + suc count ≤ from) × (from + suc count ≤ length words.old) }
+    ensures { Pushed words.old address header from count words.new }
 {
-    let at = used as usize;
+    let at = address as usize;
     let source = from as usize;
     words[at] = header;
     words.copy_within(source..source + count as usize, at + 1);
-    words[source] = used;
+    words[source] = address;
 }
 
-// A pattern that is a node, with the values of its variables put in. The words from `limit` on are scratch: references of arguments whose node is open.
+// A pattern that is a node, with the values of its variables put in. The words from the limit on are scratch: references of arguments whose node is open.
 fn instantiate_node(
     pattern: &[u32],
     reference: u32,
     environment: &[u32],
     words: &mut [u32],
-    used: u32,
-    limit: u32,
+    room: Room,
     stack: &mut [[u32; 3]],
 ) -> Result<Built, Refusal>
-    requires { (pattern_room ≤ reference) × InstantiateAsked pattern.now reference environment.now words.old used limit stack.old }
-    ensures { Instantiated pattern.now reference environment.now words.old used limit result words.new }
+    requires { (pattern_room ≤ reference) × InstantiateAsked pattern.now reference environment.now words.old room.used room.limit stack.old }
+    ensures { Instantiated pattern.now reference environment.now words.old room.used room.limit result words.new }
 {
     // A row of the stack is an open node: its address in the pattern, how many arguments were taken, and where the first one's reference stands.
-    stack[0] = [reference - PATTERN_ROOM, 0, limit];
+    stack[0] = [reference - PATTERN_ROOM, 0, room.limit];
     let mut depth: usize = 1;
-    let mut top = limit;
-    let mut spent = used;
+    let mut top = room.limit;
+    let mut spent = room.used;
+    // Stays: the stack grows and shrinks, so no range is known at the start.
     while depth != 0 {
         let row = depth - 1;
         let address = stack[row][0];
@@ -65,7 +72,7 @@ fn instantiate_node(
                 depth += 1;
             }
         } else {
-            if limit - spent <= arity {
+            if room.limit - spent <= arity {
                 return Err(Refusal::OverLimit);
             }
             push_values(words, spent, header, base, arity);
@@ -75,7 +82,7 @@ fn instantiate_node(
         }
     }
     Ok(Built {
-        value: words[limit as usize],
+        value: words[room.limit as usize],
         used: spent,
     })
 }
@@ -86,12 +93,11 @@ pub fn instantiate(
     reference: u32,
     environment: &[u32],
     words: &mut [u32],
-    used: u32,
-    limit: u32,
+    room: Room,
     stack: &mut [[u32; 3]],
 ) -> Result<Built, Refusal>
-    requires { InstantiateAsked pattern.now reference environment.now words.old used limit stack.old }
-    ensures { Instantiated pattern.now reference environment.now words.old used limit result words.new }
+    requires { InstantiateAsked pattern.now reference environment.now words.old room.used room.limit stack.old }
+    ensures { Instantiated pattern.now reference environment.now words.old room.used room.limit result words.new }
 {
     if reference < PATTERN_ROOM {
         let entry = environment[reference as usize];
@@ -100,10 +106,10 @@ pub fn instantiate(
         }
         return Ok(Built {
             value: entry - 1,
-            used,
+            used: room.used,
         });
     }
-    instantiate_node(pattern, reference, environment, words, used, limit, stack)
+    instantiate_node(pattern, reference, environment, words, room, stack)
 }
 
 // The arguments of a pattern's node, `count` of them from the address `first` on, built from left to right: how many words are then used. Their references go to `values`.
@@ -113,26 +119,21 @@ pub fn instantiate_arguments(
     count: usize,
     environment: &[u32],
     words: &mut [u32],
-    used: u32,
-    limit: u32,
+    room: Room,
     stack: &mut [[u32; 3]],
     values: &mut [u32],
 ) -> Result<u32, Refusal>
-    requires { ArgumentsAsked pattern.now first count environment.now words.old used limit stack.old values.old }
-    ensures { ArgumentsBuilt pattern.now first count environment.now words.old used limit result words.new values.new }
+    requires { ArgumentsAsked pattern.now first count environment.now words.old room.used room.limit stack.old values.old }
+    ensures { ArgumentsBuilt pattern.now first count environment.now words.old room.used room.limit result words.new values.new }
 {
     let base = first as usize;
-    let mut spent = used;
+    let mut spent = room.used;
     for k in 0..count {
-        let built = instantiate(
-            pattern,
-            pattern[base + k],
-            environment,
-            words,
-            spent,
-            limit,
-            stack,
-        )?;
+        let left = Room {
+            used: spent,
+            ..room
+        };
+        let built = instantiate(pattern, pattern[base + k], environment, words, left, stack)?;
         values[k] = built.value;
         spent = built.used;
     }

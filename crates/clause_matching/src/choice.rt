@@ -5,7 +5,7 @@ ghost use Rattle.terms.specs.Bindings.{start};
 ghost use Rattle.evaluation.specs.Matching.{misfit, bind_of};
 ghost use Rattle.clause_matching.specs.Choice.{pattern_from, patterns_from, values_of, Referable, ApartAsked, ClauseAsked, Chosen};
 
-use super::matching::bind;
+use super::matching::{Values, bind};
 use arena::PATTERN_ROOM;
 use rules::RuleRow;
 
@@ -47,38 +47,46 @@ fn is_apart(pattern: &[u32], base: usize, words: &[u32], values: &[u32]) -> bool
     pattern[(reference - PATTERN_ROOM) as usize] != words[values[0] as usize]
 }
 
-// The first of the rules from `from` up to `end` whose conclusion fits the values, by its number; the environment then holds those of its variables.
+// The clauses of a function: the rules from one on up to another, and the words of their patterns.
+#[derive(Clone, Copy)]
+pub struct Clauses<'a> {
+    pub rules: &'a [RuleRow],
+    pub pattern: &'a [u32],
+    pub from: usize,
+    pub end: usize,
+}
+
+// The first of the clauses whose conclusion fits the arguments, which are values, by its number; the environment then holds those of its variables.
 pub fn find_clause(
-    rules: &[RuleRow],
-    pattern: &[u32],
-    from: usize,
-    end: usize,
-    values: &[u32],
-    words: &[u32],
-    used: u32,
+    clauses: Clauses,
+    arguments: &[u32],
+    values: Values,
     environment: &mut [u32],
     links: &mut [u32],
     stack: &mut [[u32; 3]],
 ) -> Option<usize>
-    requires { ClauseAsked rules.now pattern.now from end values.now words.now used environment.old links.old stack.old }
-    ensures { Chosen rules.now pattern.now from end values.now words.now used environment.old links.old result environment.new links.new }
+    requires { ClauseAsked clauses.rules.now clauses.pattern.now clauses.from clauses.end arguments.now values.words.now values.used
+        environment.old links.old stack.old }
+    ensures { Chosen clauses.entry.rules.now clauses.entry.pattern.now clauses.entry.from clauses.entry.end arguments.now
+        values.entry.words.now values.entry.used environment.old links.old result environment.new links.new }
 {
-    'clauses: for i in from..end {
-        let Pattern::Node { header: _, first } = pattern_at(pattern, rules[i][5]) else {
+    'clauses: for i in clauses.from..clauses.end {
+        let Pattern::Node { header: _, first } = pattern_at(clauses.pattern, clauses.rules[i][5])
+        else {
             return None;
         };
         let base = first as usize;
-        if is_apart(pattern, base, words, values) {
+        if is_apart(clauses.pattern, base, values.words, arguments) {
             continue 'clauses;
         }
         environment.fill(0);
-        for k in 0..values.len() {
+        for k in 0..arguments.len() {
+            let reference = clauses.pattern[base + k];
             if !bind(
-                pattern,
-                pattern[base + k],
-                words,
-                used,
-                values[k],
+                clauses.pattern,
+                reference,
+                values,
+                arguments[k],
                 environment,
                 links,
                 stack,

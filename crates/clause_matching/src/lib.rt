@@ -8,6 +8,6 @@ mod matching; // patterns against values
 mod building; // values from patterns
 mod choice; // the clause that fits values
 
-pub use building::{Built, instantiate, instantiate_arguments};
-pub use choice::{Pattern, find_clause, pattern_at};
-pub use matching::bind;
+pub use building::{Built, Room, instantiate, instantiate_arguments};
+pub use choice::{Clauses, Pattern, find_clause, pattern_at};
+pub use matching::{Values, bind};

@@ -6,19 +6,25 @@ ghost use Rattle.arena.specs.Copies.{pattern_room};
 ghost use Rattle.clause_matching.specs.Stored.{pattern_at};
 ghost use Rattle.clause_matching.specs.Matching.{Lent, Matched, BindAsked};
 
-use arena::{PATTERN_ROOM, SYMBOL_STEP};
+use arena::{PATTERN_ROOM, SYMBOL_STEP, Terms};
+
+// Values: words of stored terms, of which so many are in use.
+#[derive(Clone, Copy)]
+pub struct Values<'a> {
+    pub words: &'a [u32],
+    pub used: u32,
+}
 
 // Gives a variable its value if it has none; whether the value is then the variable's.
 fn take(
-    words: &[u32],
-    used: u32,
+    values: Values,
     value: u32,
     environment: &mut [u32],
     variable: u32,
     links: &mut [u32],
 ) -> bool
-    requires { (variable < pattern_room) × Lent words.now used value environment.old links.old }
-    ensures { Matched (var variable) words.now used value environment.old links.old result environment.new links.new }
+    requires { (variable < pattern_room) × Lent values.words.now values.used value environment.old links.old }
+    ensures { Matched (var variable) values.entry.words.now values.entry.used value environment.old links.old result environment.new links.new }
 {
     let i = variable as usize;
     let old = environment[i];
@@ -26,22 +32,27 @@ fn take(
         environment[i] = value + 1;
         return true;
     }
-    arena::equal(words, links, 0, 0, used, old - 1, value)
+    let terms = Terms {
+        words: values.words,
+        room: 0,
+        variables: 0,
+        used: values.used,
+    };
+    arena::equal(terms, links, old - 1, value)
 }
 
 // As `bind`, of a pattern that is a node.
 fn bind_node(
     pattern: &[u32],
     reference: u32,
-    words: &[u32],
-    used: u32,
+    values: Values,
     value: u32,
     environment: &mut [u32],
     links: &mut [u32],
     stack: &mut [[u32; 3]],
 ) -> bool
-    requires { (pattern_room ≤ reference) × BindAsked pattern.now reference words.now used value environment.old links.old stack.old }
-    ensures { Matched (pattern_at pattern.now reference) words.now used value environment.old links.old result environment.new links.new }
+    requires { (pattern_room ≤ reference) × BindAsked pattern.now reference values.words.now values.used value environment.old links.old stack.old }
+    ensures { Matched (pattern_at pattern.now reference) values.entry.words.now values.entry.used value environment.old links.old result environment.new links.new }
 {
     // A row of the stack is an open node: the addresses of its next argument in the pattern and in the value, and how many are left. The node `next` is to
     // fit `other` if `waiting`.
@@ -54,7 +65,7 @@ fn bind_node(
             waiting = false;
             let address = next - PATTERN_ROOM;
             let header = pattern[address as usize];
-            if header != words[other as usize] {
+            if header != values.words[other as usize] {
                 return false;
             }
             stack[depth] = [address + 1, other + 1, header % SYMBOL_STEP];
@@ -72,9 +83,9 @@ fn bind_node(
             } else {
                 stack[row] = [at + 1, across + 1, left - 1];
                 next = pattern[at as usize];
-                other = words[across as usize];
+                other = values.words[across as usize];
                 if next < PATTERN_ROOM {
-                    if !take(words, used, other, environment, next, links) {
+                    if !take(values, other, environment, next, links) {
                         return false;
                     }
                 } else {
@@ -89,27 +100,17 @@ fn bind_node(
 pub fn bind(
     pattern: &[u32],
     reference: u32,
-    words: &[u32],
-    used: u32,
+    values: Values,
     value: u32,
     environment: &mut [u32],
     links: &mut [u32],
     stack: &mut [[u32; 3]],
 ) -> bool
-    requires { BindAsked pattern.now reference words.now used value environment.old links.old stack.old }
-    ensures { Matched (pattern_at pattern.now reference) words.now used value environment.old links.old result environment.new links.new }
+    requires { BindAsked pattern.now reference values.words.now values.used value environment.old links.old stack.old }
+    ensures { Matched (pattern_at pattern.now reference) values.entry.words.now values.entry.used value environment.old links.old result environment.new links.new }
 {
     if reference < PATTERN_ROOM {
-        return take(words, used, value, environment, reference, links);
+        return take(values, value, environment, reference, links);
     }
-    bind_node(
-        pattern,
-        reference,
-        words,
-        used,
-        value,
-        environment,
-        links,
-        stack,
-    )
+    bind_node(pattern, reference, values, value, environment, links, stack)
 }

@@ -37,6 +37,28 @@ cleared_all {from = from} to h le lt = record {
   behind = λ i p. by_less i from (λ x e. h.before i x) (λ x e. h.behind i (omega arith));
 }
 
+-- Up to the number, or to the end of the list.
+pub cleared_stop : {A : Type 0} {d z : A} {l l' : List A} {from at : ℕ} (to : ℕ) → Cleared d z l l' from at → at ≤ from + (to - from)
+    → to ≤ at
+    → Cleared d z l l' from to
+cleared_stop {from = from} to h le lt = record {
+  long = h.long;
+  before = h.before;
+  between = λ i p q r. h.between i p (omega arith) r;
+  behind = λ i p. by_less i from (λ x e. h.before i x) (λ x e. h.behind i (omega arith));
+}
+
+pub cleared_end : {A : Type 0} {d z : A} {l l' : List A} {from at : ℕ} (to : ℕ) → Cleared d z l l' from at → length l' ≤ at → at ≤ to
+    → Cleared d z l l' from to
+cleared_end to h le lt =
+    let n = h.long in
+    record {
+      long = h.long;
+      before = h.before;
+      between = λ i p q r. h.between i p (omega arith) r;
+      behind = λ i p. h.behind i (omega arith);
+    }
+
 -- A list that is z from a place on, by its elements.
 replicate_at : {A : Type 0} (d z : A) (n i : ℕ) → i < n → get_or (replicate n z) i d ≡ z
 replicate_at d z zero i l = absurd (let x : ⊥ = omega arith in x)

@@ -8,6 +8,7 @@ use mathlib.Core.List.{List, [], ◌∷◌, ◌++◌, append_assoc, append-nil}
 use Rattle.std.specs.Prelude.{length}
 use Rattle.std.proofs.Math.ListN.{get_or, set, length-set}
 use Rattle.std.proofs.Math.Seq.{get_or-set_same, get_or-set_other}
+use Rattle.std.proofs.lemmas.List.{set_past}
 use Rattle.terms.specs.Numbers.{by_same}
 use Rattle.terms.specs.Term.{Kind, Term, var}
 use Rattle.terms.specs.Term.Kind.{one as single}
@@ -51,6 +52,15 @@ module _ (D : ℕ) (F : Rows) where
       h ∙ ap₂ (λ (r : Rows) (k : ℕ). set r n (tree_row k x.rule x.goal)) e g
       ∙ ap (λ (x : Frame). set (tree_rows D F n) n (tree_row (D - x.depth) x.rule x.goal)) y
       ∙ ap (tree_rows D F) one
+
+  -- There is nothing to turn past the end.
+  pub tree_end : (n k : ℕ) → k ≤ n → (k < n → length F ≤ k) → tree_rows D F k ≡ tree_rows D F n
+  unfolding tree_rows
+  tree_end zero k l h = ap (tree_rows D F) (let e : k ≡ 0 = omega arith in e)
+  tree_end (suc n) k l h =
+      by_same k (suc n) (λ p e. ap (tree_rows D F) p)
+      (λ p e. tree_end n k (omega arith) (λ m. h (omega arith))
+      ∙ sym (set_past (tree_rows D F n) n _ (let q = tree_length n in let r : length F ≤ k = h (omega arith) in omega arith)))
 
   pub tree_row_lem : (n k : ℕ) → k < n → n ≤ length F → get_or (tree_rows D F n) k []
       ≡ tree_row (D - (frame_at F k).depth) (frame_at F k).rule (frame_at F k).goal

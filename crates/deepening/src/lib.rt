@@ -29,6 +29,7 @@ pub struct Question {
 }
 
 // The answer to a goal that the limits allow.
+// Stays: no case is an error, each has its counts, and document 01 has these three verdicts.
 #[derive(Clone, Copy)]
 pub enum Answer {
     // Proved: the number of the proof's applications, steps used, and variables, bindings and words in use.

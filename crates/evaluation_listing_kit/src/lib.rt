@@ -10,9 +10,8 @@ mod prefix; // terms in prefix form
 ghost use Rattle.std.specs.Prelude.{◌≤◌, length};
 
 use function_calls::TreeRow;
-use names::SymbolRow;
 use output::{put, put_byte, put_decimal};
-pub use prefix::OpenRow;
+pub use prefix::{OpenRow, StoredTerms};
 use prefix::{put_name, put_term};
 use rules::RuleRow;
 
@@ -29,16 +28,9 @@ fn write_line(out: &[u8], end: usize) {
 }
 
 // Writes the line of a value.
-pub fn list_value(
-    text: &[u8],
-    symbols: &[SymbolRow],
-    words: &[u32],
-    value: u32,
-    stack: &mut [OpenRow],
-    out: &mut [u8],
-) {
+pub fn list_value(terms: StoredTerms, value: u32, stack: &mut [OpenRow], out: &mut [u8]) {
     let term = put(b"value ", out, 0);
-    let last = put_term(text, symbols, words, value, stack, out, term);
+    let last = put_term(terms, value, stack, out, term);
     let end = put_byte(out, last, b'\n');
     write_line(out, end);
 }
@@ -63,35 +55,30 @@ fn put_rule(text: &[u8], rules: &[RuleRow], number: u32, out: &mut [u8], at: usi
 
 // Writes the line of a call.
 fn list_call(
-    text: &[u8],
-    symbols: &[SymbolRow],
+    terms: StoredTerms,
     rules: &[RuleRow],
-    words: &[u32],
     row: TreeRow,
     stack: &mut [OpenRow],
     out: &mut [u8],
 ) {
     let height = put_decimal(row[0], out, 0);
     let rule = put_byte(out, height, b' ');
-    let name = put_rule(text, rules, row[2], out, rule);
+    let name = put_rule(terms.text, rules, row[2], out, rule);
     let goal = put_byte(out, name, b' ');
-    let last = put_term(text, symbols, words, row[3], stack, out, goal);
+    let last = put_term(terms, row[3], stack, out, goal);
     let end = put_byte(out, last, b'\n');
     write_line(out, end);
 }
 
-// Writes the lines of so many calls.
+// Writes the lines of calls.
 pub fn list_calls(
-    text: &[u8],
-    symbols: &[SymbolRow],
+    terms: StoredTerms,
     rules: &[RuleRow],
-    words: &[u32],
     trees: &[TreeRow],
-    count: usize,
     stack: &mut [OpenRow],
     out: &mut [u8],
 ) {
-    for row in trees.iter().take(count) {
-        list_call(text, symbols, rules, words, *row, stack, out);
+    for row in trees {
+        list_call(terms, rules, *row, stack, out);
     }
 }

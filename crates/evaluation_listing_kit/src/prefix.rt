@@ -1,6 +1,6 @@
 // Terms in prefix form, as the Rust's `pat_text` prints them. A term may be as deep as it has nodes, so it is written by a loop over a stack of open nodes.
-ghost use Rattle.std.specs.Prelude.{◌≡◌, ◌+◌, ◌%◌, ◌≤◌, ◌<◌, length, get_or};
-ghost use Rattle.evaluation_listing_kit.specs.Headers.{header_at};
+ghost use Rattle.std.specs.Prelude.{◌≡◌, ◌+◌, ◌≤◌, ◌<◌, length, get_or, IfSome};
+ghost use Rattle.evaluation_listing_kit.specs.Headers.{header_at, arity_of};
 
 use super::output::{put, put_byte};
 use arena::{HEADERS, SYMBOL_STEP};
@@ -12,11 +12,19 @@ const OUTPUT: usize = 2;
 // An open node: its address, and how many of its arguments are written or begun.
 pub type OpenRow = [u32; 2];
 
+// Stored terms: words over symbols whose names stand in a text.
+#[derive(Clone, Copy)]
+pub struct StoredTerms<'a> {
+    pub text: &'a [u8],
+    pub symbols: &'a [SymbolRow],
+    pub words: &'a [u32],
+}
+
 // How far a term is written: the place in the buffer, and the number of open nodes.
 #[derive(Clone, Copy)]
 struct Progress {
     at: usize,
-    open: usize,
+    depth: usize,
 }
 
 // The word at an address, 0 where there is none.
@@ -30,20 +38,24 @@ fn word_at(words: &[u32], address: usize) -> u32
     words[address]
 }
 
-// The header at an address, 0 where there is none.
-fn header_at(words: &[u32], address: u32) -> u32
-    ensures { result ≡ header_at words.now address }
+// The header at an address, if one stands there.
+fn header_at(words: &[u32], address: u32) -> Option<u32>
+    ensures is { result ≡ header_at words.now address }
+    ensures high { IfSome result (λ header. 1048576 ≤ header) }
 {
     let word = word_at(words, address as usize);
-    if word < HEADERS { 0 } else { word }
+    if word < HEADERS { None } else { Some(word) }
 }
 
 // How many arguments the node at an address has.
 fn arity_at(words: &[u32], address: u32) -> u32
-    ensures is { result ≡ header_at words.now address % 32 }
+    ensures is { result ≡ arity_of (header_at words.now address) }
     ensures small { result < 32 }
 {
-    header_at(words, address) % SYMBOL_STEP
+    match header_at(words, address) {
+        Some(header) => header % SYMBOL_STEP,
+        None => 0,
+    }
 }
 
 // The address of an argument of the node at an address.
@@ -62,15 +74,21 @@ pub fn put_name(text: &[u8], start: u32, size: u32, out: &mut [u8], at: usize) -
 }
 
 // Writes the name of the symbol of a header.
-fn put_symbol(text: &[u8], symbols: &[SymbolRow], header: u32, out: &mut [u8], at: usize) -> usize
+fn put_symbol(terms: StoredTerms, header: u32, out: &mut [u8], at: usize) -> usize
     requires { (1048576 ≤ header) × (at ≤ length out.old) }
     ensures { (at ≤ result) × (result ≤ length out.old) }
 {
     let i = ((header - HEADERS) / SYMBOL_STEP) as usize;
-    if symbols.len() <= i {
+    if terms.symbols.len() <= i {
         return put(b"wrong: no such symbol", out, at);
     }
-    put_name(text, symbols[i][0], symbols[i][1], out, at)
+    put_name(
+        terms.text,
+        terms.symbols[i][0],
+        terms.symbols[i][1],
+        out,
+        at,
+    )
 }
 
 // Is the node with a header written without parentheses, as a constructor that has no arguments?
@@ -89,105 +107,87 @@ fn is_bare(symbols: &[SymbolRow], header: u32) -> bool
 
 // Writes the start of a node that has parentheses, and opens it.
 fn open_node(
-    text: &[u8],
-    symbols: &[SymbolRow],
+    terms: StoredTerms,
     header: u32,
     address: u32,
     stack: &mut [OpenRow],
     out: &mut [u8],
     done: Progress,
 ) -> Progress
-    requires { (1048576 ≤ header) × (done.at ≤ length out.old) × (done.open ≤ length stack.old) }
-    ensures { (done.at ≤ result.at) × (result.at ≤ length out.old) × (result.open ≤ length stack.old) }
+    requires { (1048576 ≤ header) × (done.at ≤ length out.old) × (done.depth ≤ length stack.old) }
+    ensures { (done.at ≤ result.at) × (result.at ≤ length out.old) × (result.depth ≤ length stack.old) }
 {
-    let open = done.open;
-    if stack.len() <= open {
+    let depth = done.depth;
+    if stack.len() <= depth {
         return Progress {
             at: out.len(),
-            open: open,
+            depth,
         };
     }
-    stack[open] = [address, 0];
+    stack[depth] = [address, 0];
     let name = put_byte(out, done.at, b'(');
-    let next = put_symbol(text, symbols, header, out, name);
+    let next = put_symbol(terms, header, out, name);
     Progress {
         at: next,
-        open: open + 1,
+        depth: depth + 1,
     }
 }
 
 // Writes the start of the node at an address, which is all of one without parentheses.
 fn enter(
-    text: &[u8],
-    symbols: &[SymbolRow],
-    words: &[u32],
+    terms: StoredTerms,
     address: u32,
     stack: &mut [OpenRow],
     out: &mut [u8],
     done: Progress,
 ) -> Progress
-    requires { (done.at ≤ length out.old) × (done.open ≤ length stack.old) }
-    ensures { (done.at ≤ result.at) × (result.at ≤ length out.old) × (result.open ≤ length stack.old) }
+    requires { (done.at ≤ length out.old) × (done.depth ≤ length stack.old) }
+    ensures { (done.at ≤ result.at) × (result.at ≤ length out.old) × (result.depth ≤ length stack.old) }
 {
-    let header = header_at(words, address);
-    if header < HEADERS {
+    let Some(header) = header_at(terms.words, address) else {
         let next = put(b"wrong: no node", out, done.at);
         return Progress {
             at: next,
-            open: done.open,
+            depth: done.depth,
         };
-    }
-    if is_bare(symbols, header) {
-        let next = put_symbol(text, symbols, header, out, done.at);
+    };
+    if is_bare(terms.symbols, header) {
+        let next = put_symbol(terms, header, out, done.at);
         return Progress {
             at: next,
-            open: done.open,
+            depth: done.depth,
         };
     }
-    open_node(text, symbols, header, address, stack, out, done)
+    open_node(terms, header, address, stack, out, done)
 }
 
 // Writes on at the innermost open node: the start of its next argument, or its end.
-fn step(
-    text: &[u8],
-    symbols: &[SymbolRow],
-    words: &[u32],
-    stack: &mut [OpenRow],
-    out: &mut [u8],
-    done: Progress,
-) -> Progress
-    requires { (done.at < length out.old) × (0 < done.open) × (done.open ≤ length stack.old) }
-    ensures { (done.at < result.at) × (result.at ≤ length out.old) × (result.open ≤ length stack.old) }
+fn step(terms: StoredTerms, stack: &mut [OpenRow], out: &mut [u8], done: Progress) -> Progress
+    requires { (done.at < length out.old) × (0 < done.depth) × (done.depth ≤ length stack.old) }
+    ensures { (done.at < result.at) × (result.at ≤ length out.old) × (result.depth ≤ length stack.old) }
 {
-    let top = done.open - 1;
+    let top = done.depth - 1;
     let address = stack[top][0];
     let next = stack[top][1];
-    if arity_at(words, address) <= next {
+    if arity_at(terms.words, address) <= next {
         let end = put_byte(out, done.at, b')');
-        return Progress { at: end, open: top };
+        return Progress {
+            at: end,
+            depth: top,
+        };
     }
     stack[top] = [address, next + 1];
-    let argument = argument_at(words, address, next);
-    let start = put_byte(out, done.at, b' ');
-    enter(
-        text,
-        symbols,
-        words,
-        argument,
-        stack,
-        out,
-        Progress {
-            at: start,
-            open: done.open,
-        },
-    )
+    let argument = argument_at(terms.words, address, next);
+    let begun = Progress {
+        at: put_byte(out, done.at, b' '),
+        depth: done.depth,
+    };
+    enter(terms, argument, stack, out, begun)
 }
 
 // Writes the term whose root is at an address.
 pub fn put_term(
-    text: &[u8],
-    symbols: &[SymbolRow],
-    words: &[u32],
+    terms: StoredTerms,
     address: u32,
     stack: &mut [OpenRow],
     out: &mut [u8],
@@ -196,20 +196,12 @@ pub fn put_term(
     requires { at ≤ length out.old }
     ensures { (at ≤ result) × (result ≤ length out.old) }
 {
-    let mut done = enter(
-        text,
-        symbols,
-        words,
-        address,
-        stack,
-        out,
-        Progress { at: at, open: 0 },
-    );
-    while 0 < done.open {
+    let mut done = enter(terms, address, stack, out, Progress { at, depth: 0 });
+    while 0 < done.depth {
         if out.len() <= done.at {
             return out.len();
         }
-        done = step(text, symbols, words, stack, out, done);
+        done = step(terms, stack, out, done);
     }
     done.at
 }

@@ -1,56 +1,53 @@
 // The buffers that are lent to an evaluation: what they hold before it, and the tests of what they hold afterwards.
 ghost use Rattle.std.specs.Prelude.{replicate};
 ghost use Rattle.signature_tests.specs.Rows.{junk, Filled};
+ghost use Rattle.evaluator.specs.Storage.{AreLent};
 
-use evaluator::Evaluation;
-use function_calls::TreeRow;
-use names::TermRow;
+use evaluator::{Buffers, Evaluation, WrittenTerm};
 use refusals::Refusal;
 use signature::StoredSignature;
 use signature_tests::buffers;
 use words::Limits;
 
+// What is evaluated: a term, over a signature, under limits.
+#[derive(Clone, Copy)]
+pub struct Query<'a> {
+    pub signature: StoredSignature<'a>,
+    pub term: WrittenTerm<'a>,
+    pub limits: Limits,
+}
+
 // Fills the buffers with junk.
-fn fill(words: &mut [u32], links: &mut [u32], trees: &mut [TreeRow])
-    ensures { Filled junk words.old words.new × Filled junk links.old links.new
-        × Filled (replicate 8 junk) trees.old trees.new }
+fn fill(storage: &mut Buffers)
+    ensures filled { Filled junk storage.old.words.now storage.new.words.now × Filled junk storage.old.links.now storage.new.links.now
+        × Filled (replicate 8 junk) storage.old.trees.now storage.new.trees.now }
+    ensures lent { AreLent storage.old storage.new }
 {
-    buffers::fill_words(words, buffers::JUNK);
-    buffers::fill_words(links, buffers::JUNK);
-    trees.fill([buffers::JUNK; 8]);
+    buffers::fill_words(storage.words, buffers::JUNK);
+    buffers::fill_words(storage.links, buffers::JUNK);
+    storage.trees.fill([buffers::JUNK; 8]);
 }
 
 // Evaluates a term into buffers that hold junk.
-pub fn evaluate(
-    text: &[u8],
-    limits: Limits,
-    signature: StoredSignature,
-    rows: &[TermRow],
-    at: usize,
-    words: &mut [u32],
-    links: &mut [u32],
-    trees: &mut [TreeRow],
-) -> Result<Evaluation, Refusal> {
-    fill(words, links, trees);
-    evaluator::evaluate(text, limits, signature, rows, at, words, links, trees)
+pub fn evaluate(query: Query, storage: &mut Buffers) -> Result<Evaluation, Refusal>
+    ensures { AreLent storage.old storage.new }
+{
+    fill(storage);
+    evaluator::evaluate(query.signature, query.term, query.limits, storage)
 }
 
 // Tests that the words past those used and the rows past those of the calls hold the value, and the links throughout.
-pub fn test(
-    words: &[u32],
-    used: usize,
-    links: &[u32],
-    trees: &[TreeRow],
-    calls: usize,
-    value: u32,
-) {
+pub fn test(storage: &Buffers, used: usize, calls: usize, value: u32) {
     buffers::expect(
-        buffers::is_all(words, used, value),
+        buffers::is_all(storage.words, used, value),
         b"words of values as lent or zero",
     );
-    buffers::expect(buffers::is_all(links, 0, value), b"links as lent or zero");
     buffers::expect(
-        buffers::are_rows(trees, calls, value),
+        buffers::is_all(storage.links, 0, value),
+        b"links as lent or zero",
+    );
+    buffers::expect(
+        buffers::are_rows(storage.trees, calls, value),
         b"rows of trees as lent or zero",
     );
 }

@@ -68,6 +68,14 @@ module _ {A : Type 0} (z : A) where
   cleared_below d (suc n) (x ∷ xs) zero l m = ap (λ (ys : List A). get_or ys 0 d) (cleared_step n x xs)
   cleared_below d (suc n) (x ∷ xs) (suc i) l m = ap (λ (ys : List A). get_or ys (suc i) d) (cleared_step n x xs) ∙ cleared_below d n xs i (omega arith) (omega arith)
 
+-- Buffers that were lent on hold what the store holds that they were lent in.
+pub given_enough : {n : ℕ} {rows rows' : Rows} → n ≤ length rows' → rows ≡ rows' → n ≤ length rows
+given_enough h e = rw e h
+
+pub given_wiped : {b : Results} {words words' links links' : List ℕ} {trees trees' : Rows} → b ≡ wiped (record { words = words; links = links; trees = trees })
+    → words ≡ words' → links ≡ links' → trees ≡ trees' → b ≡ wiped (record { words = words'; links = links'; trees = trees' })
+given_wiped h e f g = rw (← e, ← f, ← g) h
+
 -- Sizes
 
 pub record Enough (most words links trees : ℕ) : Type 0 where
@@ -222,11 +230,13 @@ module _ {text : List ℕ} {limits : Limits} {sg : SignatureStore} {rows : Rows}
         let z = (enough (most_words limits) (length b.words) (length b.links) (length b.trees) h₀.lent).trees_enough in
         omega arith
 
-    pub left_valued : (words'' : List ℕ) (trees'' : Rows) → words'' ≡ cleared_from 0 used words' → trees'' ≡ cleared_from zero_tree calls trees'
-        → EvaluationLeft text limits sg rows at b (evaluation value calls used) (record { words = words''; links = links'; trees = trees'' })
-    left_valued words'' trees'' e₁ e₂ h =
-        let b' : Results = record { words = words''; links = links'; trees = trees'' } in
-        let e : b' ≡ ending = together e₁ e₂ in
+    pub left_valued : {words'' links'' given_words : List ℕ} {trees'' given_trees : Rows}
+        → words'' ≡ cleared_from 0 used given_words → trees'' ≡ cleared_from zero_tree calls given_trees
+        → given_words ≡ words' → links'' ≡ links' → given_trees ≡ trees'
+        → EvaluationLeft text limits sg rows at b (evaluation value calls used) (record { words = words''; links = links''; trees = trees'' })
+    left_valued {words''} {links''} {given_words} {trees''} {given_trees} e₁ e₃ f₁ e₂ f₃ h =
+        let b' : Results = record { words = words''; links = links''; trees = trees'' } in
+        let e : b' ≡ ending = together (e₁ ∙ ap (cleared_from 0 used) f₁) e₂ (e₃ ∙ ap (cleared_from zero_tree calls) f₃) in
         let f = ways h in
         let k = x.kept in
         let s = f.stands.stored in
@@ -254,8 +264,9 @@ module _ {text : List ℕ} {limits : Limits} {sg : SignatureStore} {rows : Rows}
           links_zero = x.restored ∙ cleared;
         }))
       where
-        together : {u u' : List ℕ} {t t' : Rows} → u' ≡ u → t' ≡ t → ◌≡◌ {A = Results} (record { words = u'; links = links'; trees = t' }) (record { words = u; links = links'; trees = t })
-        together f g = rw (f, g)
+        together : {u u' l l' : List ℕ} {t t' : Rows} → u' ≡ u → l' ≡ l → t' ≡ t
+            → ◌≡◌ {A = Results} (record { words = u'; links = l'; trees = t' }) (record { words = u; links = l; trees = t })
+        together f g k = rw (f, g, k)
 
         -- Rows past the end are empty, cleared or not.
         cleared_row : (j : ℕ) → j < calls → get_or (cleared_from zero_tree calls trees') j [] ≡ get_or trees' j []

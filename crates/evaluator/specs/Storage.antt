@@ -1,15 +1,25 @@
 -- What an evaluation is lent to write (docs/STORAGE.md, "Evaluation"), how much of it, and what clearing leaves.
-use Rattle.std.specs.Prelude.{ℕ, ◌+◌, Bool, ◌||◌, List, ltb, length, replicate}
+use Rattle.std.specs.Prelude.{ℕ, ◌+◌, ◌≡◌, Bool, ◌||◌, List, ltb, length, replicate}
 use Rattle.words.specs.Lexer.{capped_of}
 use Rattle.words.specs.declared.Limits.{Limits}
 use Rattle.names.specs.Symbols.{Rows}
 use Rattle.function_calls.specs.Calls.{tree_rows}
+use Rattle.evaluator.specs.declared.Buffers.{Buffers}
 
 -- The words of values, links for comparing them, and the rows of trees.
 pub record Results : Type 0 where
   pub words : List ℕ
   pub links : List ℕ
   pub trees : Rows
+
+-- What the buffers hold, and that the same ones are lent.
+abbrev pub results_in : Buffers → Results
+results_in b = record { words = b.words.now; links = b.links.now; trees = b.trees.now }
+
+pub record AreLent (b b' : Buffers) : Type 0 where
+  pub words : b'.words.ghost_name ≡ b.words.ghost_name
+  pub links : b'.links.ghost_name ≡ b.links.ghost_name
+  pub trees : b'.trees.ghost_name ≡ b.trees.ghost_name
 
 -- The most words of an evaluation: the caller's limit, or document 01's.
 abbrev pub most_words : Limits → ℕ

@@ -8,11 +8,11 @@
 ghost use Rattle.std.specs.Prelude.{◌≡◌, ◌≤◌, length};
 ghost use Rattle.function_calls.specs.Calls.{tree_rows};
 ghost use Rattle.signature.specs.Storage.{store_of};
-ghost use Rattle.evaluator.specs.Storage.{is_short, wiped};
+ghost use Rattle.evaluator.specs.Storage.{is_short, wiped, results_in, AreLent};
 ghost use Rattle.evaluator.specs.Evaluating.{Ready, EvaluationLeft, Evaluating, Forwarding};
 
-use function_calls::{MAX_CALLS, MAX_DEPTH, Program, TreeRow};
-use names::TermRow;
+pub use forward_calls::WrittenTerm;
+use function_calls::{MAX_CALLS, MAX_DEPTH, Program, Spent, Store, TreeRow};
 use refusals::Refusal;
 use signature::StoredSignature;
 use words::Limits;
@@ -28,6 +28,14 @@ pub struct Evaluation {
     pub words: u32,
 }
 
+// What an evaluation is lent to write: words for values, links for comparing them, and rows for the trees of its calls.
+#[derive(Drop)]
+pub struct Buffers<'a> {
+    pub words: &'a mut [u32],
+    pub links: &'a mut [u32],
+    pub trees: &'a mut [TreeRow],
+}
+
 // How many rows of trees so many words ask: at most 128 calls are open, and each other one has taken two words at least.
 fn tree_rows(most: u32) -> usize
     ensures { result ≡ tree_rows most }
@@ -35,127 +43,112 @@ fn tree_rows(most: u32) -> usize
     u32::min(MAX_CALLS, most / 2 + MAX_DEPTH) as usize
 }
 
-// Is a buffer shorter than so many words ask?
-fn is_short(most: u32, words: &[u32], links: &[u32], trees: &[TreeRow]) -> bool
-    requires { most ≤ 262144 }
-    ensures { result ≡ is_short most (length words.now) (length links.now) (length trees.now) }
-{
-    if words.len() < most as usize + SCRATCH {
-        return true;
+impl Buffers<'_> {
+    // Is one of them shorter than so many words ask?
+    fn are_short(&self, most: u32) -> bool
+        requires { most ≤ 262144 }
+        ensures { result ≡ is_short most (length self.now.words.now) (length self.now.links.now) (length self.now.trees.now) }
+    {
+        if self.words.len() < most as usize + SCRATCH {
+            return true;
+        }
+        if self.links.len() < most as usize {
+            return true;
+        }
+        let rows = tree_rows(most);
+        self.trees.len() < rows
     }
-    if links.len() < most as usize {
-        return true;
+
+    // Zeroes all.
+    fn wipe(&mut self)
+        ensures wiped { results_in self.new ≡ wiped (results_in self.old) }
+        ensures lent { AreLent self.old self.new }
+    {
+        self.words.fill(0);
+        self.links.fill(0);
+        self.trees.fill([0; 8]);
     }
-    let rows = tree_rows(most);
-    trees.len() < rows
 }
 
-// Zeroes all that was lent to write.
-fn wipe(words: &mut [u32], links: &mut [u32], trees: &mut [TreeRow])
-    ensures { record { words = words.new; links = links.new; trees = trees.new }
-        ≡ wiped (record { words = words.old; links = links.old; trees = trees.old }) }
-{
-    words.fill(0);
-    links.fill(0);
-    trees.fill([0; 8]);
-}
-
-// The value of the term whose rows start at a place, and the trees of its calls, where all that is read is in form and the buffers are long enough.
+// The value of a term, and the trees of its calls, where all that is read is in form and the buffers are long enough.
 pub fn evaluate_listed(
-    text: &[u8],
-    limits: Limits,
     signature: StoredSignature,
-    rows: &[TermRow],
-    at: usize,
-    words: &mut [u32],
-    links: &mut [u32],
-    trees: &mut [TreeRow],
+    term: WrittenTerm,
+    limits: Limits,
+    buffers: &mut Buffers,
 ) -> Result<Evaluation, Refusal>
-    requires { Ready text.now limits (store_of signature) rows.now at (record { words = words.old; links = links.old; trees = trees.old }) }
-    ensures { EvaluationLeft text.now limits (store_of signature.entry) rows.now at (record { words = words.old; links = links.old; trees = trees.old }) result
-        (record { words = words.new; links = links.new; trees = trees.new }) }
+    requires { Ready term.text.now limits (store_of signature) term.rows.now term.at (results_in buffers.old) }
+    ensures left { EvaluationLeft term.entry.text.now limits (store_of signature.entry) term.entry.rows.now term.entry.at
+        (results_in buffers.old) result (results_in buffers.new) }
+    ensures lent { AreLent buffers.old buffers.new }
 {
     let most = limits.capped().words;
     let program = Program {
-        symbols: signature.symbols,
+        symbols: &signature.symbols[..signature.counts.symbols as usize],
         rules: signature.rules,
         pattern: &signature.words[..signature.counts.words as usize],
+        limit: most,
     };
     let mut stack = [[0u32; 3]; 2049];
-    links.fill(0);
-    match expressions::expression(
-        text,
-        rows,
-        at,
-        program,
-        signature.counts.symbols as usize,
-        0,
-        0,
-        0,
-        most,
-        words,
-        links,
-        trees,
-        &mut stack,
-    ) {
+    buffers.links.fill(0);
+    let mut store = Store {
+        words: buffers.words,
+        links: buffers.links,
+        trees: buffers.trees,
+        stack: &mut stack,
+    };
+    let nothing = Spent { calls: 0, used: 0 };
+    match expressions::expression(term, program, 0, nothing, &mut store) {
         Err(refusal) => {
-            wipe(words, links, trees);
+            buffers.wipe();
             Err(refusal)
         }
         Ok(expressed) => {
-            arena::clear(words, expressed.used);
-            load_storage::clear_rows(trees, expressed.calls as usize);
+            let spent = expressed.spent;
+            arena::clear(buffers.words, spent.used);
+            load_storage::clear_rows(buffers.trees, spent.calls as usize);
             Ok(Evaluation {
                 value: expressed.value,
-                calls: expressed.calls,
-                words: expressed.used,
+                calls: spent.calls,
+                words: spent.used,
             })
         }
     }
 }
 
-// The value of the term whose rows start at a place, and the trees of its calls.
+// The value of a term, and the trees of its calls.
 pub fn evaluate(
-    text: &[u8],
-    limits: Limits,
     signature: StoredSignature,
-    rows: &[TermRow],
-    at: usize,
-    words: &mut [u32],
-    links: &mut [u32],
-    trees: &mut [TreeRow],
+    term: WrittenTerm,
+    limits: Limits,
+    buffers: &mut Buffers,
 ) -> Result<Evaluation, Refusal>
-    ensures { Evaluating text.now limits (store_of signature.entry) rows.now at (record { words = words.old; links = links.old; trees = trees.old }) result
-        (record { words = words.new; links = links.new; trees = trees.new }) }
+    ensures evaluating { Evaluating term.entry.text.now limits (store_of signature.entry) term.entry.rows.now term.entry.at
+        (results_in buffers.old) result (results_in buffers.new) }
+    ensures lent { AreLent buffers.old buffers.new }
 {
-    let most = limits.capped().words;
-    if is_short(most, words, links, trees) {
+    if buffers.are_short(limits.capped().words) {
         return Err(Refusal::Storage);
     }
-    if !signature::check_signature(text, signature) {
+    if !signature::check_signature(term.text, signature) {
         return Err(Refusal::Storage);
     }
-    let Some(_) = term_check::check_term(text, rows, at) else {
+    let Some(_) = term_check::check_term(term.text, term.rows, term.at) else {
         return Err(Refusal::Storage);
     };
-    evaluate_listed(text, limits, signature, rows, at, words, links, trees)
+    evaluate_listed(signature, term, limits, buffers)
 }
 
-// Whether the term whose rows start at a place is evaluated, as an `#eval`: a function's name with all arguments but its result, and no metavariable.
-pub fn is_forward_call(
-    text: &[u8],
-    signature: StoredSignature,
-    rows: &[TermRow],
-    at: usize,
-) -> Result<bool, Refusal>
-    ensures { Forwarding text.now (store_of signature.entry) rows.now at result }
+// Whether a term is evaluated, as an `#eval`: a function's name with all arguments but its result, and no metavariable.
+pub fn is_forward_call(signature: StoredSignature, term: WrittenTerm) -> Result<bool, Refusal>
+    ensures { Forwarding term.entry.text.now (store_of signature.entry) term.entry.rows.now term.entry.at result }
 {
-    if !signature::check_signature(text, signature) {
+    if !signature::check_signature(term.text, signature) {
         return Err(Refusal::Storage);
     }
-    let Some(_) = term_check::check_term(text, rows, at) else {
+    let Some(_) = term_check::check_term(term.text, term.rows, term.at) else {
         return Err(Refusal::Storage);
     };
     let symbols = &signature.symbols[..signature.counts.symbols as usize];
-    Ok(forward_calls::is_forward_call(text, rows, at, symbols))
+    Ok(forward_calls::is_forward_call(term, symbols))
 }

@@ -5,14 +5,14 @@
 
 ghost use Rattle.std.specs.Prelude.{◌+◌, ◌^◌, ◌≤◌, ◌<◌};
 
-use evaluation_tests_kit::{lent, refused};
-use evaluator::Evaluation;
-use function_calls::TreeRow;
+use evaluation_listing_kit::StoredTerms;
+use evaluation_tests_kit::lent::{self, Query};
+use evaluation_tests_kit::refused;
+use evaluator::{Buffers, Evaluation, WrittenTerm};
 use listing::recorded;
-use load::{EvalRow, Loaded};
-use names::{SortRow, SymbolRow, TermRow};
-use refusals::{Refusal, Rejection};
-use rules::RuleRow;
+use load::{EvalRow, LentBuffers};
+use names::TermRow;
+use refusals::Refusal;
 use signature::StoredSignature;
 use signature_tests::buffers;
 use words::Limits;
@@ -34,40 +34,55 @@ fn write_number(number: u32) {
     io::print_decimal(STDOUT_FILENO, number as u64);
 }
 
+// A loaded text: its signature, the rows of its terms, its `#eval`, and the limits to evaluate them under.
+#[derive(Clone, Copy)]
+struct LoadedText<'a> {
+    text: &'a [u8],
+    signature: StoredSignature<'a>,
+    rows: &'a [TermRow],
+    evals: &'a [EvalRow],
+    limits: Limits,
+}
+
+fn loaded_text<'a>(
+    text: &'a [u8],
+    signature: StoredSignature<'a>,
+    rows: &'a [TermRow],
+    evals: &'a [EvalRow],
+    limits: Limits,
+) -> LoadedText<'a> {
+    LoadedText {
+        text,
+        signature,
+        rows,
+        evals,
+        limits,
+    }
+}
+
 // Lists a value and its calls.
-fn list_value(
-    text: &[u8],
-    signature: StoredSignature,
-    words: &[u32],
-    value: u32,
-    trees: &[TreeRow],
-    calls: u32,
-) {
-    let symbols = signature.symbols;
+fn list_value(loaded: LoadedText, evaluation: Evaluation, storage: &Buffers) {
+    let signature = loaded.signature;
+    let terms = StoredTerms {
+        text: loaded.text,
+        symbols: signature.symbols,
+        words: storage.words,
+    };
+    let calls = usize::min(evaluation.calls as usize, storage.trees.len());
     let mut stack = [[0u32; 2]; 1024];
     let mut out = [0u8; 16384];
-    evaluation_listing_kit::list_value(text, symbols, words, value, &mut stack, &mut out);
+    evaluation_listing_kit::list_value(terms, evaluation.value, &mut stack, &mut out);
     evaluation_listing_kit::list_calls(
-        text,
-        symbols,
+        terms,
         signature.rules,
-        words,
-        trees,
-        calls as usize,
+        &storage.trees[..calls],
         &mut stack,
         &mut out,
     );
 }
 
 // Lists an answer, and tests the buffers: zero past what is used, zero throughout after a refusal, and after refusal 1 as they were.
-fn list_evaluation(
-    text: &[u8],
-    signature: StoredSignature,
-    answer: Result<Evaluation, Refusal>,
-    words: &[u32],
-    links: &[u32],
-    trees: &[TreeRow],
-) {
+fn list_evaluation(loaded: LoadedText, answer: Result<Evaluation, Refusal>, storage: &Buffers) {
     match answer {
         Err(refusal) => {
             let number = u32::from(refusal);
@@ -75,36 +90,14 @@ fn list_evaluation(
             write_number(number);
             write(b"\n");
             let value = if number == 1 { buffers::JUNK } else { 0 };
-            lent::test(words, 0, links, trees, 0, value);
+            lent::test(storage, 0, 0, value);
         }
         Ok(evaluation) => {
-            let calls = evaluation.calls;
-            list_value(text, signature, words, evaluation.value, trees, calls);
-            lent::test(
-                words,
-                evaluation.words as usize,
-                links,
-                trees,
-                calls as usize,
-                0,
-            );
+            list_value(loaded, evaluation, storage);
+            let used = evaluation.words as usize;
+            lent::test(storage, used, evaluation.calls as usize, 0);
         }
     }
-}
-
-// Evaluates a term and lists the answer.
-fn list_call(
-    text: &[u8],
-    limits: Limits,
-    signature: StoredSignature,
-    rows: &[TermRow],
-    at: usize,
-    words: &mut [u32],
-    links: &mut [u32],
-    trees: &mut [TreeRow],
-) {
-    let answer = lent::evaluate(text, limits, signature, rows, at, words, links, trees);
-    list_evaluation(text, signature, answer, words, links, trees);
 }
 
 // The row of an `#eval`'s term.
@@ -119,9 +112,18 @@ fn write_eval(eval: EvalRow) {
     write(b" ");
 }
 
+// The term whose rows start at a place.
+fn term_at(loaded: LoadedText, at: usize) -> WrittenTerm {
+    WrittenTerm {
+        text: loaded.text,
+        rows: loaded.rows,
+        at,
+    }
+}
+
 // Is a term evaluated? A goal is listed as such.
-fn is_call(text: &[u8], signature: StoredSignature, rows: &[TermRow], at: usize) -> bool {
-    match evaluator::is_forward_call(text, signature, rows, at) {
+fn is_call(signature: StoredSignature, term: WrittenTerm) -> bool {
+    match evaluator::is_forward_call(signature, term) {
         Ok(true) => true,
         Ok(false) => {
             write(b"goal\n");
@@ -135,88 +137,46 @@ fn is_call(text: &[u8], signature: StoredSignature, rows: &[TermRow], at: usize)
 }
 
 // Lists one `#eval`.
-fn list_eval(
-    text: &[u8],
-    limits: Limits,
-    signature: StoredSignature,
-    rows: &[TermRow],
-    eval: EvalRow,
-    words: &mut [u32],
-    links: &mut [u32],
-    trees: &mut [TreeRow],
-) {
+fn list_eval(loaded: LoadedText, eval: EvalRow, storage: &mut Buffers) {
     write_eval(eval);
-    let at = term_row(eval);
-    if !is_call(text, signature, rows, at) {
+    let query = Query {
+        signature: loaded.signature,
+        term: term_at(loaded, term_row(eval)),
+        limits: loaded.limits,
+    };
+    if !is_call(query.signature, query.term) {
         return;
     }
-    list_call(text, limits, signature, rows, at, words, links, trees);
-}
-
-// Lists each of the n `#eval`.
-fn list_evals(
-    text: &[u8],
-    limits: Limits,
-    signature: StoredSignature,
-    rows: &[TermRow],
-    evals: &[EvalRow],
-    n: usize,
-    words: &mut [u32],
-    links: &mut [u32],
-    trees: &mut [TreeRow],
-) {
-    for eval in evals.iter().take(n) {
-        list_eval(text, limits, signature, rows, *eval, words, links, trees);
-    }
+    let answer = lent::evaluate(query, storage);
+    list_evaluation(loaded, answer, storage);
 }
 
 // The row of the first `#eval`; 0, where no term stands, if there is none.
 fn first_row(evals: &[EvalRow]) -> usize {
-    if evals.len() == 0 {
-        return 0;
+    match evals.first() {
+        Some(eval) => term_row(*eval),
+        None => 0,
     }
-    term_row(evals[0])
 }
 
-// Tests calls that must be refused.
-fn test_refused(
-    text: &[u8],
-    limits: Limits,
-    signature: StoredSignature,
-    rows: &[TermRow],
-    at: usize,
-    words: &mut [u32],
-    links: &mut [u32],
-    trees: &mut [TreeRow],
-) {
-    refused::test_unlisted_forward(text, signature, rows, at);
-    refused::test_short(text, limits, signature, rows, at, words, links, trees);
-    refused::test_unlisted(text, limits, signature, rows, at, words, links, trees);
+// Tests calls that must be refused, with the first `#eval`.
+fn test_refused(loaded: LoadedText, storage: &mut Buffers) {
+    let query = Query {
+        signature: loaded.signature,
+        term: term_at(loaded, first_row(loaded.evals)),
+        limits: loaded.limits,
+    };
+    refused::test_unlisted_forward(query.signature, query.term);
+    refused::test_short(query, storage.words, storage.links, storage.trees);
+    refused::test_unlisted(query, storage);
 }
 
-// Lists the `#eval` of a loaded text, with so much lent for the results as the limits ask.
-fn list_lent(
-    text: &[u8],
-    limits: Limits,
-    signature: StoredSignature,
-    rows: &[TermRow],
-    evals: &[EvalRow],
-    n: usize,
-    words: &mut [u32],
-    links: &mut [u32],
-    trees: &mut [TreeRow],
-) {
-    list_evals(text, limits, signature, rows, evals, n, words, links, trees);
-    test_refused(
-        text,
-        limits,
-        signature,
-        rows,
-        first_row(evals),
-        words,
-        links,
-        trees,
-    );
+// Lists each `#eval` of a loaded text, with so much lent for the results as the limits ask.
+fn list_lent(loaded: LoadedText, storage: &mut Buffers) {
+    for eval in loaded.evals {
+        list_eval(loaded, *eval, storage);
+    }
+    test_refused(loaded, storage);
 }
 
 // For how many words there is room under a limit.
@@ -234,58 +194,19 @@ fn most_rows(words: usize) -> usize
 }
 
 // Lends the buffers for the results.
-fn list_loaded(
-    text: &[u8],
-    limits: Limits,
-    signature: StoredSignature,
-    rows: &[TermRow],
-    evals: &[EvalRow],
-    n: usize,
-) {
+fn list_loaded(loaded: LoadedText) {
     let mut words = [0u32; 67585];
     let mut links = [0u32; 65536];
     let mut trees = [[0u32; 8]; 10000];
-    let most = most_words(limits);
+    let most = most_words(loaded.limits);
     let end = most + SCRATCH;
     let calls = most_rows(most);
-    list_lent(
-        text,
-        limits,
-        signature,
-        rows,
-        evals,
-        n,
-        &mut words[..end],
-        &mut links[..most],
-        &mut trees[..calls],
-    );
-}
-
-// Lists what a text comes to.
-fn list_answer(
-    text: &[u8],
-    limits: Limits,
-    answer: Result<Loaded, Rejection>,
-    rows: &[TermRow],
-    sorts: &[SortRow],
-    symbols: &[SymbolRow],
-    rules: &[RuleRow],
-    pattern: &[u32],
-    evals: &[EvalRow],
-) {
-    match answer {
-        Err(rejection) => listing::write_refusal(rejection),
-        Ok(loaded) => {
-            let signature = StoredSignature {
-                sorts,
-                symbols,
-                rules,
-                words: pattern,
-                counts: loaded.counts,
-            };
-            list_loaded(text, limits, signature, rows, evals, loaded.evals as usize);
-        }
-    }
+    let mut storage = Buffers {
+        words: &mut words[..end],
+        links: &mut links[..most],
+        trees: &mut trees[..calls],
+    };
+    list_lent(loaded, &mut storage);
 }
 
 // Loads a text and lists what it comes to. What is lent is exactly enough for texts of 16,384 bytes and for 4,096 nodes.
@@ -298,21 +219,31 @@ fn list_text(text: &[u8], limits: Limits) {
     let mut rules = [[0u32; 154]; 1024];
     let mut pattern = [0u32; 8192];
     let mut evals = [[0u32; 2]; 8192];
-    let answer = load::load(
-        text,
-        limits,
-        &mut tokens,
-        &mut rows,
-        &mut calls,
-        &mut sorts,
-        &mut symbols,
-        &mut rules,
-        &mut pattern,
-        &mut evals,
-    );
-    list_answer(
-        text, limits, answer, &rows, &sorts, &symbols, &rules, &pattern, &evals,
-    );
+    let mut lent = LentBuffers {
+        tokens: &mut tokens,
+        rows: &mut rows,
+        calls: &mut calls,
+        sorts: &mut sorts,
+        symbols: &mut symbols,
+        rules: &mut rules,
+        words: &mut pattern,
+        evals: &mut evals,
+    };
+    match load::load(text, limits, &mut lent) {
+        Err(rejection) => listing::write_refusal(rejection),
+        Ok(loaded) => {
+            let signature = StoredSignature {
+                sorts: &sorts,
+                symbols: &symbols,
+                rules: &rules,
+                words: &pattern,
+                counts: loaded.counts,
+            };
+            let count = usize::min(loaded.evals as usize, evals.len());
+            let listed = loaded_text(text, signature, &rows, &evals[..count], limits);
+            list_loaded(listed);
+        }
+    }
 }
 
 // Limits on a text's bytes, on nodes and on words; the others matter only to the search.

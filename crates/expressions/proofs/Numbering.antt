@@ -98,8 +98,8 @@ module _ (text : List ℕ) (n : ℕ) {symbols : Rows} {count depth : ℕ} {words
     found_y : (y ≡ symbol_number names succ_name) × (y < count) × (is_ctor names succ_name ≡ true)
     found_y = rw qy at fy
 
-    pub check_asked : (count ≤ length symbols) × (y < count) × (z < count) × (depth ≤ 128)
-    check_asked = (h.lent, found_y.1, found_z.1, h.deep)
+    pub check_asked : (y < count) × (z < count) × (depth ≤ 128)
+    check_asked = (found_y.1, found_z.1, h.deep)
 
     module _ {e : ℕ} (m : (limit : ℕ) (text : List ℕ) (rules : List Rule) → e ≡ numeral_misuse limit (symbols_of text symbols count) rules y z n depth) where
       abbrev a : ℕ
@@ -109,7 +109,7 @@ module _ (text : List ℕ) (n : ℕ) {symbols : Rows} {count depth : ℕ} {words
       b = column (row_at symbols z) 6
 
       in_numbers : (v : ℕ) (rules : List Rule) → numeral_misuse limit names rules y z v depth ≡ refusal_of a b v depth
-      in_numbers v rules = misuse_is text symbols count y z v depth check_asked limit rules
+      in_numbers v rules = misuse_is text symbols count y z v depth (h.lent, found_y.1, found_z.1, h.deep) limit rules
 
       refusal : List Rule → e ≡ refusal_of a b n depth
       refusal rules = m limit text rules ∙ in_numbers n rules

@@ -206,9 +206,9 @@ module _ {text : List ℕ} {rows : Rows} {at : ℕ} {symbol_rows : Rows} {count 
           ∙ rw (numbered (head_of text rows at q t s n m), symbols_length text symbol_rows count h.tables.lent, le-ltb i count b))
 
       module _ (b : i < count) {k : ℕ} (c : k ≡ column (row_at rows at) 3) where
-        pub misuse_asked : (count ≤ length symbol_rows) × (i < count) × (column (row_at symbol_rows i) 3 ≤ 1)
+        pub misuse_asked : (i < count) × (column (row_at symbol_rows i) 3 ≤ 1)
             × (column (row_at symbol_rows i) 3 ≤ column (row_at symbol_rows i) 6) × (column (row_at symbol_rows i) 6 ≤ 16)
-        misuse_asked = (h.tables.lent, b, h.tables.marks i b, h.tables.results i b, h.tables.inputs i b)
+        misuse_asked = (b, h.tables.marks i b, h.tables.results i b, h.tables.inputs i b)
 
         module _ {e : ℕ} (v : (text : List ℕ) → e ≡ misuse (symbol_at (symbols_of text symbol_rows count) i) k) where
           known : (rules : List Rule) (t : Written one) (q : ℕ) (s : standing.Stands text rows at t q) (sorts : List ℕ) → expression_of limit S rules t sorts depth counts

@@ -2,23 +2,19 @@
 ghost use Rattle.std.specs.Prelude.{List, ℕ, ◌≤◌, ◌<◌, length};
 ghost use Rattle.names.specs.Symbols.{symbol_at, symbols_of, column, row_at};
 ghost use Rattle.evaluation.specs.Expressions.{misuse};
+ghost use Rattle.function_calls.specs.Calls.{IsLent};
 ghost use Rattle.expressions.specs.Nodes.{Finds};
 ghost use Rattle.expressions.specs.Applying.{ApplyAsked, ApplyAnswered};
 
 use super::nodes::build;
-use function_calls::{Outcome, Program, TreeRow, call};
+use function_calls::{Level, Outcome, Program, Room, Spent, Store, call};
 use names::SymbolRow;
 use refusals::Refusal;
 
 // What a symbol on so many arguments is refused for, if it is.
-pub fn check_use(
-    symbols: &[SymbolRow],
-    count: usize,
-    i: usize,
-    arguments: usize,
-) -> Result<(), Refusal>
-    requires { (count ≤ length symbols.now) × (i < count) × (column (row_at symbols.now i) 3 ≤ 1) × (column (row_at symbols.now i) 3 ≤ column (row_at symbols.now i) 6) × (column (row_at symbols.now i) 6 ≤ 16) }
-    ensures { (text : List ℕ) → Finds result (misuse (symbol_at (symbols_of text symbols.now count) i) arguments) }
+pub fn check_use(symbols: &[SymbolRow], i: usize, arguments: usize) -> Result<(), Refusal>
+    requires { (i < length symbols.now) × (column (row_at symbols.now i) 3 ≤ 1) × (column (row_at symbols.now i) 3 ≤ column (row_at symbols.now i) 6) × (column (row_at symbols.now i) 6 ≤ 16) }
+    ensures { (text : List ℕ) → Finds result (misuse (symbol_at (symbols_of text symbols.now (length symbols.now)) i) arguments) }
 {
     if symbols[i][3] == 0 && symbols[i][2] == 0 {
         return Err(Refusal::NoExpression);
@@ -33,42 +29,36 @@ pub fn check_use(
 // A constructor is built, a function called at the next depth.
 pub fn apply(
     program: Program,
+    depth: u32,
     i: usize,
     values: &[u32],
-    depth: u32,
-    calls: u32,
-    used: u32,
-    limit: u32,
-    words: &mut [u32],
-    links: &mut [u32],
-    trees: &mut [TreeRow],
-    stack: &mut [[u32; 3]],
+    spent: Spent,
+    store: &mut Store,
 ) -> Result<Outcome, Refusal>
-    requires { ApplyAsked program.symbols.now program.rules.now program.pattern.now i values.now depth calls used limit
-        words.old links.old trees.old stack.old }
-    ensures { ApplyAnswered program.entry.symbols.now program.entry.rules.now program.entry.pattern.now i values.now depth calls used limit
-        words.old links.old trees.old result words.new links.new trees.new }
+    requires { ApplyAsked program.symbols.now program.rules.now program.pattern.now i values.now depth spent.calls spent.used program.limit
+        store.old.words.now store.old.links.now store.old.trees.now store.old.stack.now }
+    ensures answered { ApplyAnswered program.entry.symbols.now program.entry.rules.now program.entry.pattern.now i values.now
+        depth spent.calls spent.used program.entry.limit
+        store.old.words.now store.old.links.now store.old.trees.now result store.new.words.now store.new.links.now store.new.trees.now }
+    ensures lent { IsLent store.old store.new }
 {
     if program.symbols[i][3] == 1 {
-        return call(
-            program,
-            i,
-            values,
-            depth + 1,
-            1,
-            calls,
-            used,
-            limit,
-            words,
-            links,
-            trees,
-            stack,
-        );
+        let level = Level {
+            depth: depth + 1,
+            height: 1,
+        };
+        return call(program, i, values, level, spent, store);
     }
-    let built = build(words, used, limit, i, values)?;
+    let room = Room {
+        used: spent.used,
+        limit: program.limit,
+    };
+    let built = build(store.words, room, i, values)?;
     Ok(Outcome {
         value: built.value,
-        calls,
-        used: built.used,
+        spent: Spent {
+            calls: spent.calls,
+            used: built.used,
+        },
     })
 }

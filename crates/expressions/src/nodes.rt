@@ -5,42 +5,36 @@ ghost use Rattle.names.specs.Symbols.{symbol_at, symbols_of};
 ghost use Rattle.expressions.specs.Nodes.{BuildAsked, BuildAnswered};
 
 use arena::{HEADERS, SYMBOL_STEP};
-use function_calls::Built;
+use function_calls::{Built, Room};
 use names::SymbolRow;
 use refusals::Refusal;
 
 // The sort of a value by its header: the output of its symbol.
 // Stays: the definition gives no symbol the output 0, and an option would be turned into it at once.
-pub fn sort_of(symbols: &[SymbolRow], count: usize, header: u32) -> u32
-    requires { (count ≤ length symbols.now) × (headers ≤ header) }
-    ensures { (text : List ℕ) → result ≡ (symbol_at (symbols_of text symbols.now count) (symbolIn header)).output }
+pub fn sort_of(symbols: &[SymbolRow], header: u32) -> u32
+    requires { headers ≤ header }
+    ensures { (text : List ℕ) → result ≡ (symbol_at (symbols_of text symbols.now (length symbols.now)) (symbolIn header)).output }
 {
     let f = ((header - HEADERS) / SYMBOL_STEP) as usize;
-    if f < count {
+    if f < symbols.len() {
         return symbols[f][2];
     }
     0
 }
 
 // A node of a symbol on values.
-pub fn build(
-    words: &mut [u32],
-    used: u32,
-    limit: u32,
-    symbol: usize,
-    values: &[u32],
-) -> Result<Built, Refusal>
-    requires { BuildAsked words.old used limit symbol values.now }
-    ensures { BuildAnswered words.old used limit symbol values.now result words.new }
+pub fn build(words: &mut [u32], room: Room, symbol: usize, values: &[u32]) -> Result<Built, Refusal>
+    requires { BuildAsked words.old room.used room.limit symbol values.now }
+    ensures { BuildAnswered words.old room.used room.limit symbol values.now result words.new }
 {
     let count = values.len() as u32;
-    if limit - used <= count {
+    if room.limit - room.used <= count {
         return Err(Refusal::OverLimit);
     }
     let header = HEADERS + SYMBOL_STEP * (symbol as u32) + count;
-    arena::push_node(words, used, header, values);
+    arena::push_node(words, room.used, header, values);
     Ok(Built {
-        value: used,
-        used: used + 1 + count,
+        value: room.used,
+        used: room.used + 1 + count,
     })
 }

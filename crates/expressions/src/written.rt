@@ -1,172 +1,114 @@
 // Written terms: the Rust's `Evaluator::expression`.
+ghost use Rattle.std.specs.Prelude.{length};
+ghost use Rattle.function_calls.specs.Calls.{IsLent};
 ghost use Rattle.expressions.specs.Terms.{ExpressionAsked, ExpressionAnswered, ApplicationAsked, ApplicationAnswered};
 
 use super::applying::{apply, check_use};
 use super::nodes::sort_of;
 use super::numerals::numeral;
-use function_calls::{MAX_DEPTH, Program, TreeRow};
-use names::TermRow;
+use forward_calls::WrittenTerm;
+use function_calls::{MAX_DEPTH, Program, Room, Spent, Store};
 use refusals::Refusal;
 
-// A term that has a value: the value, the row behind the term, the calls made and the words used then.
+// A term that has a value: the value, the row behind the term, and what is spent then.
 #[derive(Clone, Copy)]
 pub struct Expressed {
     pub value: u32,
     pub next: usize,
-    pub calls: u32,
-    pub used: u32,
+    pub spent: Spent,
 }
 
-// A symbol on the arguments whose rows start at a place, each at the next depth; the sort of each is tested at once.
+// A symbol on so many arguments, of which the first is given, each at the next depth; the sort of each is tested at once.
 #[cycle(application_expression)]
 fn application(
-    text: &[u8],
-    rows: &[TermRow],
-    at: usize,
+    first: WrittenTerm,
     arguments: usize,
     program: Program,
-    count: usize,
     i: usize,
     depth: u32,
-    calls: u32,
-    used: u32,
-    limit: u32,
-    words: &mut [u32],
-    links: &mut [u32],
-    trees: &mut [TreeRow],
-    stack: &mut [[u32; 3]],
+    before: Spent,
+    store: &mut Store,
 ) -> Result<Expressed, Refusal>
-    requires { ApplicationAsked text.now rows.now at arguments program.symbols.now count i program.rules.now program.pattern.now depth calls used limit
-        words.old links.old trees.old stack.old }
-    ensures { ApplicationAnswered text.now rows.now at arguments program.entry.symbols.now count i
-        program.entry.rules.now program.entry.pattern.now depth calls used limit
-        words.old links.old trees.old result words.new links.new trees.new }
+    requires { ApplicationAsked first.text.now first.rows.now first.at arguments program.symbols.now (length program.symbols.now) i
+        program.rules.now program.pattern.now depth before.calls before.used program.limit
+        store.old.words.now store.old.links.now store.old.trees.now store.old.stack.now }
+    ensures answered { ApplicationAnswered first.entry.text.now first.entry.rows.now first.entry.at arguments
+        program.entry.symbols.now (length program.entry.symbols.now) i
+        program.entry.rules.now program.entry.pattern.now depth before.calls before.used program.entry.limit
+        store.old.words.now store.old.links.now store.old.trees.now result store.new.words.now store.new.links.now store.new.trees.now }
+    ensures lent { IsLent store.old store.new }
 {
     let mut values = [0u32; 16];
-    let mut p = at;
-    let mut made = calls;
-    let mut spent = used;
+    let mut p = first.at;
+    let mut spent = before;
     for k in 0..arguments {
-        let argument = expression(
-            text,
-            rows,
-            p,
-            program,
-            count,
-            depth + 1,
-            made,
-            spent,
-            limit,
-            words,
-            links,
-            trees,
-            stack,
-        )?;
-        if sort_of(program.symbols, count, words[argument.value as usize])
-            != program.symbols[i][8 + k]
-        {
+        let term = WrittenTerm { at: p, ..first };
+        let argument = expression(term, program, depth + 1, spent, store)?;
+        let header = store.words[argument.value as usize];
+        if sort_of(program.symbols, header) != program.symbols[i][8 + k] {
             return Err(Refusal::WrongSort);
         }
         values[k] = argument.value;
         p = argument.next;
-        made = argument.calls;
-        spent = argument.used;
+        spent = argument.spent;
     }
-    let outcome = apply(
-        program,
-        i,
-        &values[..arguments],
-        depth,
-        made,
-        spent,
-        limit,
-        words,
-        links,
-        trees,
-        stack,
-    )?;
+    let outcome = apply(program, depth, i, &values[..arguments], spent, store)?;
     Ok(Expressed {
         value: outcome.value,
         next: p,
-        calls: outcome.calls,
-        used: outcome.used,
+        spent: outcome.spent,
     })
 }
 
-// The value of the term whose rows start at a place, at a depth.
+// The value of a term at a depth, where so much is spent.
 #[cycle(application_expression)]
 pub fn expression(
-    text: &[u8],
-    rows: &[TermRow],
-    at: usize,
+    term: WrittenTerm,
     program: Program,
-    count: usize,
     depth: u32,
-    calls: u32,
-    used: u32,
-    limit: u32,
-    words: &mut [u32],
-    links: &mut [u32],
-    trees: &mut [TreeRow],
-    stack: &mut [[u32; 3]],
+    spent: Spent,
+    store: &mut Store,
 ) -> Result<Expressed, Refusal>
-    requires { ExpressionAsked text.now rows.now at program.symbols.now count program.rules.now program.pattern.now depth calls used limit
-        words.old links.old trees.old stack.old }
-    ensures { ExpressionAnswered text.now rows.now at program.entry.symbols.now count
-        program.entry.rules.now program.entry.pattern.now depth calls used limit
-        words.old links.old trees.old result words.new links.new trees.new }
+    requires { ExpressionAsked term.text.now term.rows.now term.at program.symbols.now (length program.symbols.now)
+        program.rules.now program.pattern.now depth spent.calls spent.used program.limit
+        store.old.words.now store.old.links.now store.old.trees.now store.old.stack.now }
+    ensures answered { ExpressionAnswered term.entry.text.now term.entry.rows.now term.entry.at
+        program.entry.symbols.now (length program.entry.symbols.now)
+        program.entry.rules.now program.entry.pattern.now depth spent.calls spent.used program.entry.limit
+        store.old.words.now store.old.links.now store.old.trees.now result store.new.words.now store.new.links.now store.new.trees.now }
+    ensures lent { IsLent store.old store.new }
 {
     if MAX_DEPTH < depth {
         return Err(Refusal::TooDeep);
     }
-    let kind = rows[at][0];
+    let row = &term.rows[term.at];
+    let kind = row[0];
     if kind == words::NUMERAL {
-        let built = numeral(
-            text,
-            program.symbols,
-            count,
-            rows[at][3],
-            depth,
-            words,
-            used,
-            limit,
-        )?;
+        let room = Room {
+            used: spent.used,
+            limit: program.limit,
+        };
+        let built = numeral(term.text, program.symbols, row[3], depth, store.words, room)?;
         return Ok(Expressed {
             value: built.value,
-            next: at + 1,
-            calls,
-            used: built.used,
+            next: term.at + 1,
+            spent: Spent {
+                used: built.used,
+                ..spent
+            },
         });
     }
     if kind == words::METAVARIABLE {
         return Err(Refusal::NotGround);
     }
-    let Some(i) = names::find_at(
-        text,
-        &program.symbols[..count],
-        kind,
-        rows[at][1],
-        rows[at][2],
-    ) else {
+    let Some(i) = names::find_at(term.text, program.symbols, kind, row[1], row[2]) else {
         return Err(Refusal::UnknownSymbol);
     };
-    let arguments = rows[at][3] as usize;
-    check_use(program.symbols, count, i, arguments)?;
-    application(
-        text,
-        rows,
-        at + 1,
-        arguments,
-        program,
-        count,
-        i,
-        depth,
-        calls,
-        used,
-        limit,
-        words,
-        links,
-        trees,
-        stack,
-    )
+    let arguments = row[3] as usize;
+    check_use(program.symbols, i, arguments)?;
+    let first = WrittenTerm {
+        at: term.at + 1,
+        ..term
+    };
+    application(first, arguments, program, i, depth, spent, store)
 }

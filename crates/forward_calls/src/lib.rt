@@ -8,14 +8,22 @@ ghost use Rattle.forward_calls.specs.Forward.{ForwardAsked, ForwardAnswered};
 
 use names::{SymbolRow, TermRow};
 
-// Whether the term whose rows start at a place has no metavariable: its rows stand in preorder, so one pass over them sees every part.
-pub fn is_ground(text: &[u8], rows: &[TermRow], at: usize) -> bool
-    requires { GroundAsked text.now rows.now at }
-    ensures { GroundAnswered text.now rows.now at result }
+// A written term: the text, rows in preorder, and where the term's rows start.
+#[derive(Clone, Copy)]
+pub struct WrittenTerm<'a> {
+    pub text: &'a [u8],
+    pub rows: &'a [TermRow],
+    pub at: usize,
+}
+
+// Whether a term has no metavariable: its rows stand in preorder, so one pass over them sees every part.
+pub fn is_ground(term: WrittenTerm) -> bool
+    requires { GroundAsked term.text.now term.rows.now term.at }
+    ensures { GroundAnswered term.entry.text.now term.entry.rows.now term.entry.at result }
 {
     // How many terms are still to be seen from the row on; there is one at least.
     let mut left: usize = 1;
-    for row in &rows[at..] {
+    for row in &term.rows[term.at..] {
         if row[0] == words::METAVARIABLE {
             return false;
         }
@@ -30,19 +38,20 @@ pub fn is_ground(text: &[u8], rows: &[TermRow], at: usize) -> bool
     true
 }
 
-// Whether the term whose rows start at a place is a function's name with all arguments but its result, and has no metavariable. Every other one is a goal.
-pub fn is_forward_call(text: &[u8], rows: &[TermRow], at: usize, symbols: &[SymbolRow]) -> bool
-    requires { ForwardAsked text.now rows.now at symbols.now }
-    ensures { ForwardAnswered text.now rows.now at symbols.now result }
+// Whether a term is a function's name with all arguments but its result, and has no metavariable. Every other one is a goal.
+pub fn is_forward_call(term: WrittenTerm, symbols: &[SymbolRow]) -> bool
+    requires { ForwardAsked term.text.now term.rows.now term.at symbols.now }
+    ensures { ForwardAnswered term.entry.text.now term.entry.rows.now term.entry.at symbols.now result }
 {
-    let kind = rows[at][0];
+    let row = &term.rows[term.at];
+    let kind = row[0];
     if kind == words::NUMERAL {
         return false;
     }
     if kind == words::METAVARIABLE {
         return false;
     }
-    let Some(i) = names::find_at(text, symbols, kind, rows[at][1], rows[at][2]) else {
+    let Some(i) = names::find_at(term.text, symbols, kind, row[1], row[2]) else {
         return false;
     };
     if symbols[i][3] != 1 {
@@ -52,8 +61,8 @@ pub fn is_forward_call(text: &[u8], rows: &[TermRow], at: usize, symbols: &[Symb
     if inputs == 0 {
         return false;
     }
-    if inputs - 1 != rows[at][3] {
+    if inputs - 1 != row[3] {
         return false;
     }
-    is_ground(text, rows, at)
+    is_ground(term)
 }

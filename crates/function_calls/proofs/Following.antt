@@ -336,8 +336,8 @@ module _ {symbol_rows rule_rows : Rows} {pattern : List ℕ} {rule depth height 
         steps : (o : Walked) (value after then : ℕ) → Said o (outcome value after then) → Stepping o after then
         steps (stopped e) value after then s = absurd s
         steps (walked γ ps c) value after then s =
-            let a : c.calls ≡ after = ap (λ (o : Outcome). o.calls) (sym (ok_is s.is)) in
-            let b : c.words ≡ then = ap (λ (o : Outcome). o.used) (sym (ok_is s.is)) in
+            let a : c.calls ≡ after = ap (λ (o : Outcome). o.spent.calls) (sym (ok_is s.is)) in
+            let b : c.words ≡ then = ap (λ (o : Outcome). o.spent.used) (sym (ok_is s.is)) in
             let e : c ≡ spent_of after then = ap₂ spent_of a b in
             record {
               γ = γ;

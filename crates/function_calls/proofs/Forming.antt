@@ -18,13 +18,13 @@ refused_forms pattern refusal words words' used arities d f value calls u e = ab
 pub answer_forms : (pattern : List ℕ) (value calls spent : ℕ) (words words' : List ℕ) (used : ℕ) → FormsKept pattern words used words' spent
     → CallFormed pattern (outcome value calls spent) words words' used
 answer_forms pattern value calls spent words words' used k arities d f v m u e =
-    subst (λ (n : ℕ). Formed arities words' n) (ap (λ (o : Outcome). o.used) (ok_is e)) (k arities d f)
+    subst (λ (n : ℕ). Formed arities words' n) (ap (λ (o : Outcome). o.spent.used) (ok_is e)) (k arities d f)
 
 pub refused_spent : (refusal : Refusal) (calls used : ℕ) → CallSpent (Err refusal) calls used
 refused_spent refusal calls used value made u e = absurd (let z : ⊥ = cc in z)
 
 pub answer_spent : (value made spent calls used : ℕ) → 2 * made + used ≤ 2 * calls + spent → CallSpent (outcome value made spent) calls used
 answer_spent value made spent calls used l v m u e =
-    let x : made ≡ m = ap (λ (o : Outcome). o.calls) (ok_is e) in
-    let y : spent ≡ u = ap (λ (o : Outcome). o.used) (ok_is e) in
+    let x : made ≡ m = ap (λ (o : Outcome). o.spent.calls) (ok_is e) in
+    let y : spent ≡ u = ap (λ (o : Outcome). o.spent.used) (ok_is e) in
     omega arith

@@ -82,9 +82,9 @@ module _ (words : List ℕ) (trees : Rows) (words' : List ℕ) (trees' : Rows) (
       → Answers o (outcome value calls used') words trees words' trees' used limit before height → Returned o value calls used'
   call_returned (refused e) value calls used' h = absurd h
   call_returned (returned v p c) value calls used' (x, e, s, t) =
-      let a : c.words ≡ used' = ap (λ (o : Outcome). o.used) (sym (ok_is e)) in
+      let a : c.words ≡ used' = ap (λ (o : Outcome). o.spent.used) (sym (ok_is e)) in
       let b : x ≡ value = ap (λ (o : Outcome). o.value) (sym (ok_is e)) in
-      let d : c.calls ≡ calls = ap (λ (o : Outcome). o.calls) (sym (ok_is e)) in
+      let d : c.calls ≡ calls = ap (λ (o : Outcome). o.spent.calls) (sym (ok_is e)) in
       let spent : c ≡ spent_of calls used' = ap₂ spent_of d a in
       record {
         result = v;

@@ -17,10 +17,20 @@ use Rattle.refusals.specs.Refused.{Refuses}
 use Rattle.clause_matching.specs.Choice.{ConclusionIn, values_of}
 use Rattle.refusals.specs.declared.Refusal.{Refusal}
 use Rattle.function_calls.specs.declared.calls.Outcome.{Outcome}
+use Rattle.function_calls.specs.declared.calls.Store.{Store}
 
 -- A value, with the calls made and the words used then.
 abbrev pub outcome : ℕ → ℕ → ℕ → Result Outcome Refusal
-outcome value calls used = Ok (record { value = value; calls = calls; used = used })
+outcome value calls used = Ok (record { value = value; spent = record { calls = calls; used = used } })
+
+-- The same buffers are lent, and the rows of trees and of the stack are as many as before.
+pub record IsLent (s s' : Store) : Type 0 where
+  pub words : s'.words.ghost_name ≡ s.words.ghost_name
+  pub links : s'.links.ghost_name ≡ s.links.ghost_name
+  pub trees : s'.trees.ghost_name ≡ s.trees.ghost_name
+  pub stack : s'.stack.ghost_name ≡ s.stack.ghost_name
+  pub trees_kept : length s'.trees.now ≡ length s.trees.now
+  pub stack_kept : length s'.stack.now ≡ length s.stack.now
 
 -- A premise in storage: a node of a function, with all its inputs.
 pub record PremiseIn (symbols : List Symbol) (pattern : List ℕ) (size reference : ℕ) : Type 0 where

@@ -1,8 +1,11 @@
 // Calls of functions: the Rust's `Evaluator::call`.
-ghost use Rattle.function_calls.specs.Calls.{CallAsked, CallAnswered, FollowAsked, Followed, PremiseAsked, PremiseAnswered};
+ghost use Rattle.function_calls.specs.Calls.{CallAsked, CallAnswered, FollowAsked, Followed, PremiseAsked, PremiseAnswered, IsLent};
 
 use arena::{HEADERS, SYMBOL_STEP};
-use clause_matching::{Pattern, bind, find_clause, instantiate, instantiate_arguments, pattern_at};
+use clause_matching::{
+    Clauses, Pattern, Room, Values, bind, find_clause, instantiate, instantiate_arguments,
+    pattern_at,
+};
 use names::SymbolRow;
 use refusals::Refusal;
 use rules::RuleRow;
@@ -16,20 +19,43 @@ pub const MAX_CALLS: u32 = 10000;
 // A node of a tree: height, kind (0: a rule), rule, reference of the goal; the others are zero.
 pub type TreeRow = [u32; 8];
 
-// The outcome of a call: its value, with the calls made and the words used then.
+// What an evaluation has spent: the calls made and the words used.
 #[derive(Clone, Copy)]
-pub struct Outcome {
-    pub value: u32,
+pub struct Spent {
     pub calls: u32,
     pub used: u32,
 }
 
-// A program: its symbols, its rules, and the words of their patterns.
+// The outcome of a call: its value, and what is spent then.
+#[derive(Clone, Copy)]
+pub struct Outcome {
+    pub value: u32,
+    pub spent: Spent,
+}
+
+// Where a call stands: its depth, and the height of its row among the trees.
+#[derive(Clone, Copy)]
+pub struct Level {
+    pub depth: u32,
+    pub height: u32,
+}
+
+// A program: its symbols, its rules, the words of their patterns, and how many words its values may take.
 #[derive(Clone, Copy)]
 pub struct Program<'a> {
     pub symbols: &'a [SymbolRow],
     pub rules: &'a [RuleRow],
     pub pattern: &'a [u32],
+    pub limit: u32,
+}
+
+// What an evaluation writes: the words of values, links for comparing them, a row of trees for each call, and a row of the stack for each node that is open.
+#[derive(Drop)]
+pub struct Store<'a> {
+    pub words: &'a mut [u32],
+    pub links: &'a mut [u32],
+    pub trees: &'a mut [TreeRow],
+    pub stack: &'a mut [[u32; 3]],
 }
 
 // One premise of a clause, a node by its header and the address of its first argument: its call, whose value has to fit its last argument.
@@ -38,61 +64,59 @@ fn premise(
     program: Program,
     header: u32,
     first: u32,
-    depth: u32,
-    height: u32,
-    calls: u32,
-    used: u32,
-    limit: u32,
+    level: Level,
+    spent: Spent,
     environment: &mut [u32],
-    words: &mut [u32],
-    links: &mut [u32],
-    trees: &mut [TreeRow],
-    stack: &mut [[u32; 3]],
+    store: &mut Store,
 ) -> Result<Outcome, Refusal>
-    requires { PremiseAsked program.symbols.now program.rules.now program.pattern.now header first depth height calls used limit
-        environment.old words.old links.old trees.old stack.old }
-    ensures { PremiseAnswered program.entry.symbols.now program.entry.rules.now program.entry.pattern.now header first depth height calls used limit
-        environment.old words.old links.old trees.old result
-        environment.new words.new links.new trees.new }
+    requires { PremiseAsked program.symbols.now program.rules.now program.pattern.now header first level.depth level.height spent.calls spent.used program.limit
+        environment.old store.old.words.now store.old.links.now store.old.trees.now store.old.stack.now }
+    ensures answered { PremiseAnswered program.entry.symbols.now program.entry.rules.now program.entry.pattern.now header first
+        level.depth level.height spent.calls spent.used program.entry.limit
+        environment.old store.old.words.now store.old.links.now store.old.trees.now result
+        environment.new store.new.words.now store.new.links.now store.new.trees.now }
+    ensures lent { IsLent store.old store.new }
 {
     let count = (header % SYMBOL_STEP - 1) as usize;
+    let room = Room {
+        used: spent.used,
+        limit: program.limit,
+    };
     let mut values = [0u32; 16];
     let before = instantiate_arguments(
         program.pattern,
         first,
         count,
         environment,
-        words,
-        used,
-        limit,
-        stack,
+        store.words,
+        room,
+        store.stack,
         &mut values,
     )?;
     let symbol = ((header - HEADERS) / SYMBOL_STEP) as usize;
-    let outcome = call(
-        program,
-        symbol,
-        &values[..count],
-        depth + 1,
-        height + 1,
-        calls,
-        before,
-        limit,
-        words,
-        links,
-        trees,
-        stack,
-    )?;
+    let below = Level {
+        depth: level.depth + 1,
+        height: level.height + 1,
+    };
+    let from = Spent {
+        calls: spent.calls,
+        used: before,
+    };
+    let outcome = call(program, symbol, &values[..count], below, from, store)?;
     let last = program.pattern[first as usize + count];
+    let words = &mut *store.words;
+    let among = Values {
+        words,
+        used: outcome.spent.used,
+    };
     if !bind(
         program.pattern,
         last,
-        words,
-        outcome.used,
+        among,
         outcome.value,
         environment,
-        links,
-        stack,
+        store.links,
+        store.stack,
     ) {
         return Err(Refusal::Inconsistent);
     }
@@ -104,25 +128,23 @@ fn premise(
 fn follow(
     program: Program,
     rule: usize,
-    depth: u32,
-    height: u32,
-    calls: u32,
-    used: u32,
-    limit: u32,
+    level: Level,
+    before: Spent,
     environment: &mut [u32],
-    words: &mut [u32],
-    links: &mut [u32],
-    trees: &mut [TreeRow],
-    stack: &mut [[u32; 3]],
+    store: &mut Store,
 ) -> Result<Outcome, Refusal>
-    requires { FollowAsked program.symbols.now program.rules.now program.pattern.now rule depth height calls used limit
-        environment.old words.old links.old trees.old stack.old }
-    ensures { Followed program.entry.symbols.now program.entry.rules.now program.entry.pattern.now rule depth height calls used limit
-        environment.old words.old links.old trees.old result
-        words.new links.new trees.new }
+    requires { FollowAsked program.symbols.now program.rules.now program.pattern.now rule level.depth level.height before.calls before.used program.limit
+        environment.old store.old.words.now store.old.links.now store.old.trees.now store.old.stack.now }
+    ensures answered { Followed program.entry.symbols.now program.entry.rules.now program.entry.pattern.now rule
+        level.depth level.height before.calls before.used program.entry.limit
+        environment.old store.old.words.now store.old.links.now store.old.trees.now result
+        store.new.words.now store.new.links.now store.new.trees.now }
+    ensures lent { IsLent store.old store.new }
 {
-    let mut made = calls + 1;
-    let mut spent = used;
+    let mut spent = Spent {
+        calls: before.calls + 1,
+        ..before
+    };
     for j in 0..program.rules[rule][4] as usize {
         let Pattern::Node { header, first } = pattern_at(
             program.pattern,
@@ -130,39 +152,29 @@ fn follow(
         ) else {
             return Err(Refusal::Storage);
         };
-        let outcome = premise(
-            program,
-            header,
-            first,
-            depth,
-            height,
-            made,
-            spent,
-            limit,
-            environment,
-            words,
-            links,
-            trees,
-            stack,
-        )?;
-        made = outcome.calls;
-        spent = outcome.used;
+        let outcome = premise(program, header, first, level, spent, environment, store)?;
+        spent = outcome.spent;
     }
+    let room = Room {
+        used: spent.used,
+        limit: program.limit,
+    };
     let built = instantiate(
         program.pattern,
         program.rules[rule][5],
         environment,
-        words,
-        spent,
-        limit,
-        stack,
+        store.words,
+        room,
+        store.stack,
     )?;
-    trees[calls as usize] = [height, 0, rule as u32, built.value, 0, 0, 0, 0];
-    let header = words[built.value as usize];
+    store.trees[before.calls as usize] = [level.height, 0, rule as u32, built.value, 0, 0, 0, 0];
+    let header = store.words[built.value as usize];
     Ok(Outcome {
-        value: words[(built.value + header % SYMBOL_STEP) as usize],
-        calls: made,
-        used: built.used,
+        value: store.words[(built.value + header % SYMBOL_STEP) as usize],
+        spent: Spent {
+            calls: spent.calls,
+            used: built.used,
+        },
     })
 }
 
@@ -172,56 +184,45 @@ pub fn call(
     program: Program,
     symbol: usize,
     values: &[u32],
-    depth: u32,
-    height: u32,
-    calls: u32,
-    used: u32,
-    limit: u32,
-    words: &mut [u32],
-    links: &mut [u32],
-    trees: &mut [TreeRow],
-    stack: &mut [[u32; 3]],
+    level: Level,
+    spent: Spent,
+    store: &mut Store,
 ) -> Result<Outcome, Refusal>
-    requires { CallAsked program.symbols.now program.rules.now program.pattern.now symbol values.now depth height calls used limit
-        words.old links.old trees.old stack.old }
-    ensures { CallAnswered program.entry.symbols.now program.entry.rules.now program.entry.pattern.now symbol values.now depth height calls used limit
-        words.old links.old trees.old result words.new links.new trees.new }
+    requires { CallAsked program.symbols.now program.rules.now program.pattern.now symbol values.now level.depth level.height spent.calls spent.used program.limit
+        store.old.words.now store.old.links.now store.old.trees.now store.old.stack.now }
+    ensures answered { CallAnswered program.entry.symbols.now program.entry.rules.now program.entry.pattern.now symbol values.now
+        level.depth level.height spent.calls spent.used program.entry.limit
+        store.old.words.now store.old.links.now store.old.trees.now result store.new.words.now store.new.links.now store.new.trees.now }
+    ensures lent { IsLent store.old store.new }
 {
-    if MAX_DEPTH < depth {
+    if MAX_DEPTH < level.depth {
         return Err(Refusal::TooDeep);
     }
-    if MAX_CALLS <= calls {
+    if MAX_CALLS <= spent.calls {
         return Err(Refusal::TooManyCalls);
     }
     let from = program.symbols[symbol][4] as usize;
-    let end = from + program.symbols[symbol][5] as usize;
-    let mut environment = [0u32; 64];
-    let Some(rule) = find_clause(
-        program.rules,
-        program.pattern,
+    let clauses = Clauses {
+        rules: program.rules,
+        pattern: program.pattern,
         from,
-        end,
-        values,
+        end: from + program.symbols[symbol][5] as usize,
+    };
+    let mut environment = [0u32; 64];
+    let words = &mut *store.words;
+    let among = Values {
         words,
-        used,
+        used: spent.used,
+    };
+    let Some(rule) = find_clause(
+        clauses,
+        values,
+        among,
         &mut environment,
-        links,
-        stack,
+        store.links,
+        store.stack,
     ) else {
         return Err(Refusal::NoClause);
     };
-    follow(
-        program,
-        rule,
-        depth,
-        height,
-        calls,
-        used,
-        limit,
-        &mut environment,
-        words,
-        links,
-        trees,
-        stack,
-    )
+    follow(program, rule, level, spent, &mut environment, store)
 }

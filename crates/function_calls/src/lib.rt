@@ -5,5 +5,5 @@
 
 mod calls; // calls of functions
 
-pub use calls::{MAX_CALLS, MAX_DEPTH, Outcome, Program, TreeRow, call};
-pub use clause_matching::Built;
+pub use calls::{Level, MAX_CALLS, MAX_DEPTH, Outcome, Program, Spent, Store, TreeRow, call};
+pub use clause_matching::{Built, Room};

@@ -1,6 +1,7 @@
 -- Laws of recorded lists: a digit by its byte, a number digit by digit, and a text by the three numbers of its line.
 use Prim.Native.Nat.{ℕ, zero, suc, ◌+◌, ◌*◌, ◌-◌, ◌≤◌, ◌<◌, min}
-use Rattle.std.proofs.Common.{arith, sym, ap₂, ◌∙◌, lt-ltb, le-ltb, ltb-true, ltb-false}
+use Rattle.std.proofs.Common.{arith, sym, ap₂, ◌∙◌, lt-ltb, le-ltb, le-leb, ltb-true, ltb-false}
+use Rattle.std.proofs.lemmas.Bool.{lt-leb}
 use Rattle.terms.specs.Numbers.{by_bool}
 use Rattle.source_text.specs.Bytes.{within}
 use Rattle.std.specs.Prelude.{Some, None, true, false, ltb, ◌≡◌, List, [], ◌∷◌, get_or, length}
@@ -12,8 +13,17 @@ module _ (list : List ℕ) (at : ℕ) where
   pub digit_none : within 48 57 (get_or list at 0) ≡ false → digit_at list at ≡ 10
   digit_none e = rw e refl
 
-  pub digit_is : within 48 57 (get_or list at 0) ≡ true → digit_at list at ≡ get_or list at 0 - 48
-  digit_is e = rw e refl
+  pub digit_within : within 48 57 (get_or list at 0) ≡ true → digit_at list at ≡ get_or list at 0 - 48
+  digit_within e = rw e refl
+
+  pub digit_low : get_or list at 0 < 48 → digit_at list at ≡ 10
+  digit_low h = rw (lt-leb 48 (get_or list at 0) h)
+
+  pub digit_high : 57 < get_or list at 0 → digit_at list at ≡ 10
+  digit_high h = let l : 48 ≤ get_or list at 0 = omega arith in rw (le-leb 48 (get_or list at 0) l, lt-leb (get_or list at 0) 57 h)
+
+  pub digit_is : 48 ≤ get_or list at 0 → get_or list at 0 ≤ 57 → digit_at list at ≡ get_or list at 0 - 48
+  digit_is l h = rw (le-leb 48 (get_or list at 0) l, le-leb (get_or list at 0) 57 h)
 
 past : (list : List ℕ) (at : ℕ) → length list ≤ at → get_or list at 0 ≡ 0
 past [] at h = refl

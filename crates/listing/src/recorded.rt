@@ -107,3 +107,19 @@ pub fn write_heading(number: u32) {
     io::print_decimal(STDOUT_FILENO, number as u64);
     io::write_all(STDOUT_FILENO, b"\n");
 }
+
+// Goes through a list from text to text, with a heading for each, and hands on its bytes and what the list says of it.
+pub fn replay<F: FnMut(&[u8], Recorded)>(list: &[u8], mut each: F)
+    requires { F.IsAlwaysCallable each }
+{
+    let end = end(list);
+    let mut at = 0;
+    let mut number = 1;
+    while at < end {
+        write_heading(number);
+        let text = read(list, at);
+        each(words::word(list, text.start, text.length), text);
+        at = text.next;
+        number += 1;
+    }
+}

@@ -1,7 +1,8 @@
 -- Laws of tables of places: a table for no variables, one variable met, and which variables were met in the order of their numbers.
-use Rattle.std.specs.Prelude.{ℕ, zero, suc, ◌+◌, ◌≤◌, ◌<◌, ◌≡◌, refl, ◌≢◌, Bool, true, false, ◌||◌, cond, List, [], ◌∷◌, ◌++◌, get_or, length}
-use Rattle.std.proofs.Common.{arith, not-suc-le-zero, sym, ap, ◌∙◌, length-set, length-append, get_or-set_same, get_or-set_other, ext_get_or}
+use Rattle.std.specs.Prelude.{ℕ, zero, suc, ◌+◌, ◌≤◌, ◌<◌, ◌≡◌, refl, ◌≢◌, Bool, true, false, ◌||◌, ◌&&◌, cond, List, [], ◌∷◌, ◌++◌, get_or, length, take}
+use Rattle.std.proofs.Common.{arith, le_refl, not-suc-le-zero, sym, ap, ◌∙◌, length-set, length-append, get_or-set_same, get_or-set_other, ext_get_or}
 use Rattle.std.proofs.Math.ListN.{get_or-append}
+use Rattle.std.proofs.lemmas.List.{get_or-take, length-take-le}
 use Rattle.std.proofs.Math.Seq.{get_or-append_seam}
 use Rattle.terms.specs.Numbers.{same, by_bool, true_false, same_refl, same_true, same_ne, by_same, by_less, or_false}
 use Rattle.terms.specs.Term.{Kind, Syn, var, app, nil, cons, Below}
@@ -136,6 +137,15 @@ each_order table (suc n) h = rw (h n (omega arith), same_refl n) (each_order tab
 
 pub order_fails : (table : List ℕ) (n x : ℕ) → x < n → get_or table x 0 ≢ x → in_order table n ≡ false
 order_fails table n x l d = by_bool (in_order table n) (λ p. absurd (d (order_each table n p x l))) (λ p. p)
+
+-- Of a table's first places it is the same to ask by the part of the table that has them.
+order_take : (table : List ℕ) (k n : ℕ) → n ≤ k → in_order (take k table) n ≡ in_order table n
+unfolding in_order
+order_take table k zero l = refl
+order_take table k (suc n) l = rw (get_or-take k table n 0 (omega arith)) (ap (λ (b : Bool). same (get_or table n 0) n && b) (order_take table k n (omega arith)))
+
+pub used_order : (table : List ℕ) (n : ℕ) → n ≤ length table → in_order (take n table) (length (take n table)) ≡ in_order table n
+used_order table n l = ap (in_order (take n table)) (length-take-le n table l) ∙ order_take table n n (le_refl n)
 
 length_numbers : (n : ℕ) → length (numbers_below n) ≡ n
 length_numbers zero = refl

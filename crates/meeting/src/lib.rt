@@ -31,6 +31,7 @@ fn place_variable(places: &mut [u32], x: u32, count: u32) -> u32
 
 // Meets the variables of a pattern's term from left to right; none if the term takes more than `most` words. The first `count` places are given, and the
 // stack has a row for each word, since a node takes at least one.
+// Stays: `count` is how many places were given, and the table has one for each variable.
 pub fn meet(
     words: &[u32],
     reference: u32,
@@ -85,13 +86,12 @@ pub fn meet(
     }
 }
 
-// Whether the first `count` variables have their own numbers as places: they were met in order.
-pub fn is_in_order(places: &[u32], count: u32) -> bool
-    requires { count ≤ length places.now }
-    ensures { result ≡ in_order places.now count }
+// Whether these variables have their own numbers as places: they were met in order.
+pub fn is_in_order(places: &[u32]) -> bool
+    ensures { result ≡ in_order places.now (length places.now) }
 {
-    for x in 0..count {
-        if places[x as usize] != x {
+    for x in 0..places.len() {
+        if places[x] as usize != x {
             return false;
         }
     }

@@ -1,7 +1,7 @@
 -- Searching the first n rows of a table by name, for every way of reading a row; and columns of a row.
-use Rattle.std.specs.Prelude.{◌≡◌, refl, Bool, true, false, cond, Some, None, List, [], ◌∷◌, ◌++◌, map, ℕ, zero, suc, ◌+◌, ◌≤◌, ◌<◌, ltb, length, get_or, take, set, replicate}
+use Rattle.std.specs.Prelude.{◌≡◌, refl, Bool, true, false, cond, Some, None, List, [], ◌∷◌, ◌++◌, map, ℕ, zero, suc, ◌+◌, ◌≤◌, ◌<◌, ltb, length, get_or, drop, take, set, replicate}
 use Rattle.std.specs.List.{position, position_or_len}
-use Rattle.std.proofs.Common.{sym, ap, ap₂, ◌∙◌, add-one, arith, get_or-take, length-take-le, take-suc-set, ltb-true, ltb-false}
+use Rattle.std.proofs.Common.{sym, ap, ap₂, ◌∙◌, add-one, arith, drop_of_length-le, drop-cons, get_or-take, length-take-le, take-suc-set, ltb-true, ltb-false}
 use Rattle.std.proofs.lemmas.List.Recursion.{is_position_or_len}
 use Rattle.std.proofs.Math.ListN.{get_or-map}
 use Rattle.std.proofs.Math.Seq.{take-set-lt}
@@ -35,6 +35,20 @@ found_none n k e = go (ltb k n) refl e
     go : (b : Bool) → ltb k n ≡ b → None ≡ cond b (Some k) None → n ≤ k
     go true h e = absurd (let z : None ≡ Some k = e in cc)
     go false h e = ltb-false _ _ h
+
+-- A search from the front.
+module _ {A : Type 0} (name : A → Name) (xs : List A) (w : Name) (d : A) where
+  find_hit : (i : ℕ) → i < length xs → same_bytes (name (get_or xs i d)) w ≡ true → find name (drop i xs) w ≡ 0
+  unfolding find
+  find_hit i l e = simp (drop-cons xs i d l, e)
+
+  find_step : (i : ℕ) → i < length xs → same_bytes (name (get_or xs i d)) w ≡ false → find name (drop i xs) w ≡ suc (find name (drop (i + 1) xs) w)
+  unfolding find
+  find_step i l e = simp (drop-cons xs i d l, e, add-one)
+
+  find_end : (i : ℕ) → length xs ≤ i → find name (drop i xs) w ≡ 0
+  unfolding find
+  find_end i l = simp (drop_of_length-le xs l)
 
 pub find_within : {A : Type 0} (name : A → Name) (xs : List A) (w : Name) → find name xs w ≤ length xs
 unfolding find
@@ -92,6 +106,27 @@ module _ (text : List ℕ) (rows : Rows) (n : ℕ) (h : n ≤ length rows) (w : 
 
   pub variable_none : None ≡ position (λ row. same_bytes (name_in text row) w) (take n rows) → n ≤ variable_number (variables_of text rows n) w
   variable_none e = found_none n _ (e ∙ variable_found)
+
+-- The search in a table: i rows are passed.
+module _ {A : Type 0} (f : List ℕ → A) (name : A → Name) (rows : Rows) (n : ℕ) (h : n ≤ length rows) (w : Name) (i : ℕ)
+    (inv : find name (map f (take n rows)) w ≡ i + find name (drop i (map f (take n rows))) w) where
+  pub row_hit : i < n → same_bytes (name (f (row_at rows i))) w ≡ true → i ≡ find name (map f (take n rows)) w
+  row_hit l e =
+      let m : i < length (map f (take n rows)) = rw (table_length f rows n h) l in
+      let k : find name (drop i (map f (take n rows))) w ≡ 0 = find_hit name (map f (take n rows)) w (f []) i m (rw (table_at f rows n h i l) e) in
+      omega arith
+
+  pub row_step : i < n → same_bytes (name (f (row_at rows i))) w ≡ false → find name (map f (take n rows)) w ≡ i + 1 + find name (drop (i + 1) (map f (take n rows))) w
+  row_step l e =
+      let m : i < length (map f (take n rows)) = rw (table_length f rows n h) l in
+      let k : find name (drop i (map f (take n rows))) w ≡ suc (find name (drop (i + 1) (map f (take n rows))) w) = find_step name (map f (take n rows)) w (f []) i m (rw (table_at f rows n h i l) e) in
+      omega arith
+
+  pub row_end : n ≤ i → i ≡ find name (map f (take n rows)) w
+  row_end l =
+      let m : length (map f (take n rows)) ≤ i = rw (table_length f rows n h) l in
+      let k : find name (drop i (map f (take n rows))) w ≡ 0 = find_end name (map f (take n rows)) w (f []) i m in
+      omega arith
 
 -- A row changed, and a row more.
 map_set : {A B : Type 0} (f : A → B) (l : List A) (i : ℕ) (a : A) → map f (set l i a) ≡ set (map f l) i (f a)

@@ -11,11 +11,12 @@ use Rattle.term_parser.specs.Rows.{Rows, rows_of, rows_of_all}
 use Rattle.term_parser.specs.Steps.{Step}
 use Rattle.term_parser.specs.Steps.Step.{At}
 use Rattle.term_parser.specs.Promises.{Room, Answers, Lists, Signed}
+use Rattle.term_parser.specs.Firmness.{firm_sign}
 use Rattle.parser.specs.Source.{Clause}
 use Rattle.parser.specs.Declarations.{behind_bar, clause_of}
 use Rattle.parser.specs.Rows.{clause_rows, clause_kind}
 use Rattle.term_parser.proofs.TokenLaws.{token_there}
-use Rattle.term_parser.proofs.Readers.{Stopped, got, firm_sign}
+use Rattle.term_parser.proofs.Readers.{Stopped, got}
 use Rattle.term_parser.proofs.TermLaws.{firm_app}
 use Rattle.term_parser.proofs.ListLaws.{firm_patterns, behind_is}
 use Rattle.parser.proofs.PartLaws.{Along, start, part, part_stopped, sign_part, sign_stopped, finish}

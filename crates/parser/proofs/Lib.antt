@@ -3,6 +3,7 @@ pub mod PartLaws
 pub mod TacticLaws
 pub mod DeclarationLaws
 pub mod ClauseLaws
-pub mod SortLaws
+pub mod BinderLaws
+pub mod TitleLaws
 pub mod TheoremLaws
 pub mod StorageLaws

@@ -18,7 +18,8 @@ use Rattle.term_parser.proofs.TokenLaws.{token_there}
 use Rattle.term_parser.specs.Parsing.{Tokens, kind_of, place_of, line_of, last_line, Parsed, parsed, absent, refused, plus, follow, sign_of}
 use Rattle.term_parser.specs.Rows.{Rows}
 use Rattle.term_parser.specs.Promises.{on, no, told, signed, Answers, Room, Signed}
-use Rattle.term_parser.proofs.Readers.{no_path, Firm, Stopped, got, moved, goes_on, passed, within_stopped, is_absent, told_plus}
+use Rattle.term_parser.specs.Firmness.{Firm}
+use Rattle.term_parser.proofs.Readers.{no_path, Stopped, got, moved, goes_on, passed, within_stopped, is_absent, told_plus}
 
 -- From place p and u rows on, a reader took the tokens before q and wrote the rows in `body` behind a free one; what it comes to is what `rest` comes to.
 pub record Along {D : Type 0} (rowsD : D → Rows) (reader : Parsed D) (ts : Tokens) (p u : ℕ) (before : Rows) (q k : ℕ) (out : Rows) (rest : Parsed D) (body : Rows) : Type 0 where

@@ -20,9 +20,9 @@ use Rattle.parser.specs.Declarations.{by_of, tactic_of}
 use Rattle.term_parser.specs.Rows.{Rows, name_rows}
 use Rattle.parser.specs.Rows.{tactic_rows}
 use Rattle.term_parser.specs.Promises.{on, no, told, Within, Answers}
+use Rattle.term_parser.specs.Firmness.{Firm, firm_plus, firm_parsed, firm_refused, firm_when, firm_follow, firm_name}
 use Rattle.term_parser.proofs.TokenLaws.{token_there}
-use Rattle.term_parser.proofs.Readers.{no_path, Firm, firm_plus, firm_parsed, firm_refused, firm_when, firm_follow, told_plus}
-use Rattle.term_parser.proofs.ListLaws.{firm_name}
+use Rattle.term_parser.proofs.Readers.{no_path, told_plus}
 
 -- the name's rows are the tactic's
 made_told : (q : ℕ) (before : Rows) (us : Tokens) (x : Parsed Place) → told tactic_rows q before (follow x us (λ y vs. parsed (induction y) 0)) ≡ told name_rows q before x

@@ -11,12 +11,13 @@ use Rattle.term_parser.specs.Rows.{Rows, rows_of, rows_of_all, name_rows}
 use Rattle.term_parser.specs.Steps.{Step}
 use Rattle.term_parser.specs.Steps.Step.{At}
 use Rattle.term_parser.specs.Promises.{Room, Answers, Lists, Signed}
+use Rattle.term_parser.specs.Firmness.{firm_repeat, firm_sign, firm_name}
 use Rattle.parser.specs.Source.{Binders, Declaration, theorem}
 use Rattle.parser.specs.Declarations.{theorem_of, tactic_of, binders_of}
 use Rattle.parser.specs.Rows.{declaration_rows, binders_rows, tactic_rows, numbered}
-use Rattle.term_parser.proofs.Readers.{Stopped, got, firm_repeat, firm_sign}
+use Rattle.term_parser.proofs.Readers.{Stopped, got}
 use Rattle.term_parser.proofs.TermLaws.{firm_term, term_at}
-use Rattle.term_parser.proofs.ListLaws.{firm_name, firm_separated}
+use Rattle.term_parser.proofs.ListLaws.{firm_separated}
 use Rattle.parser.proofs.PartLaws.{Along, start, part, part_stopped, sign_part, sign_stopped, finish}
 use Rattle.parser.proofs.DeclarationLaws.{marked, tactic_rows_lem, theorem_rows}
 use Rattle.parser.proofs.TacticLaws.{firm_tactic}

@@ -6,7 +6,7 @@ use Rattle.term_parser.specs.Source.{Place, place, Source, one}
 use Rattle.term_parser.specs.Parsing.{Tokens, kind_of, line_of, last_line, when, Parsed, parsed, absent, refused, plus, follow, sign_of, behind, repeat}
 use Rattle.term_parser.specs.Lists.{name, title_of, arrows_of, names_of, term, app, judgments_of, patterns_of}
 use Rattle.refusals.specs.declared.Refusal.TheVariants.{DeclarationExpected, NoProp, ByForm, OtherKeyword}
-use Rattle.parser.specs.Source.{Clause, Binders, Tactic, auto, induction, Declaration, sort, ctor, pred, rule, def, theorem, eval, check}
+use Rattle.parser.specs.Source.{Clause, Binders, Tactic, auto, induction, Titled, Declaration, sort, ctor, pred, rule, def, theorem, eval, check}
 
 abbrev pub prop_name : List ℕ
 prop_name = 80 ∷ 114 ∷ 111 ∷ 112 ∷ []
@@ -46,6 +46,10 @@ module _ (last : ℕ) where
   -- `:= by …`; without it the tactic is `auto`
   abbrev pub tactic_of : Tokens → Parsed Tactic
   tactic_of ts = when (eqb (kind_of ts) 17) (λ _. plus 1 (by_of (drop 1 ts))) (λ _. parsed auto 0)
+
+  -- `n : A → B`
+  abbrev pub titled_of : {A : Type 0} → (Tokens → Parsed (List A)) → Tokens → Parsed (Titled A)
+  titled_of list ts = follow (title_of last ts) ts (λ n us. follow (list us) us (λ l vs. parsed (record { title = n; items = l }) 0))
 
   abbrev pub sort_of : Tokens → Parsed Declaration
   sort_of ts = follow (name last ts) ts (λ n us. parsed (sort n) 0)

@@ -4,3 +4,4 @@ pub mod Declarations
 pub mod Rows
 pub mod Parser
 pub mod Depth
+pub mod Promises

@@ -3,7 +3,7 @@
 use Rattle.std.specs.Prelude.{ℕ, List, [], ◌∷◌, ◌++◌, length, get_or}
 use Rattle.words.specs.Names.{name_kind}
 use Rattle.term_parser.specs.Rows.{Rows, row, rows_of, rows_of_all, name_rows}
-use Rattle.parser.specs.Source.{Clause, Binders, Tactic, auto, induction, Declaration, sort, ctor, pred, rule, def, theorem, eval, check}
+use Rattle.parser.specs.Source.{Clause, Binders, Tactic, auto, induction, Titled, Declaration, sort, ctor, pred, rule, def, theorem, eval, check}
 use Rattle.parser.specs.Declarations.{Declared}
 
 -- The kinds of rows beside those of tokens and terms.
@@ -25,6 +25,10 @@ binders_rows b = row binders_kind b.sort (length b.names) ∷ rows_of_all name_r
 abbrev pub tactic_rows : Tactic → Rows
 tactic_rows auto = []
 tactic_rows (induction p) = name_rows p
+
+-- A title and a list behind it, under a keyword's number: the number of items, the title, the items.
+abbrev pub titled_rows : {A : Type 0} → (A → Rows) → ℕ → ℕ → Titled A → Rows
+titled_rows rows kind line t = (kind ∷ line ∷ length t.items ∷ 0 ∷ []) ∷ (name_rows t.title ++ rows_of_all rows t.items)
 
 -- The number in the row of a theorem's name counts its tactic's rows.
 abbrev pub declaration_rows : ℕ → Declaration → Rows

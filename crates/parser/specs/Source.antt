@@ -16,6 +16,11 @@ pub data Tactic : Type 0 where
   auto : Tactic
   induction : Place → Tactic
 
+-- What a title and a list behind it declare.
+pub record Titled (A : Type 0) : Type 0 where
+  pub title : Place
+  pub items : List A
+
 -- A declaration. Of a constructor's and a function's sorts the last is the result, of a rule's and a theorem's judgments the last is the conclusion.
 pub data Declaration : Type 0 where
   sort : Place → Declaration

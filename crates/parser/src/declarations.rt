@@ -1,183 +1,173 @@
 // Declarations.
-ghost use Rattle.std.specs.Prelude.{◌≡◌, ◌⊎◌, [], ◌+◌, ◌≤◌, ◌<◌, length, drop, get_or, set};
+ghost use Rattle.std.specs.Prelude.{◌≡◌, ◌⊎◌, [], ◌≤◌, ◌<◌, length, drop, get_or, set};
 ghost use Rattle.source_text.specs.Bytes.{same_bytes};
 ghost use Rattle.source_text.specs.Parts.{part_of};
-ghost use Rattle.term_parser.specs.Parsing.{last_line, repeat, plus};
-ghost use Rattle.parser.specs.Rows.{clause_rows, binders_rows, tactic_rows, declaration_rows, declared_rows, numbered};
-ghost use Rattle.parser.specs.Declarations.{prop_name, binders_of, tactic_of, sort_of, ctor_of, clause_of, pred_of, rule_of, def_of, theorem_of, asked_of, body_of, declaration_of, parse_of};
-ghost use Rattle.term_parser.specs.Steps.{step, maybe_step};
-ghost use Rattle.term_parser.specs.Promises.{Room, Answers, Lists};
+ghost use Rattle.parser.specs.Source.{Clause, Binders};
+ghost use Rattle.parser.specs.Rows.{clause_rows, binders_rows, tactic_rows, titled_rows, declaration_rows, declared_rows, numbered};
+ghost use Rattle.parser.specs.Declarations.{Declared, prop_name, binders_of, tactic_of, titled_of, sort_of, ctor_of, clause_of, pred_of, rule_of, def_of, theorem_of, asked_of, body_of, declaration_of, parse_of};
+ghost use Rattle.term_parser.specs.Lists.{separated};
+ghost use Rattle.term_parser.specs.Steps.{step};
+ghost use Rattle.term_parser.specs.Promises.{Room, Reads, Lists};
+ghost use Rattle.parser.specs.Promises.{Declares};
 
 use super::{BINDERS, CLAUSE};
 use refusals::{Refusal, Rejection};
+use term_parser::items::{Item, Judgment, Name, Repeated, all, list};
 use term_parser::lists::{arrows, judgments, name, names, patterns, title};
 use term_parser::terms::{app, term};
 use term_parser::tokens::{peek, put, rejection, sign};
-use term_parser::{PARENTHESES, Read};
+use term_parser::{Input, PARENTHESES, Position, Read};
 use words::{
     AUTO, BAR, BY, CHECK, CLOSE, COLON, CTOR, DEF, DEFINES, DOUBLE_ARROW, EVAL, INDUCTION, NAME,
     OPEN, PRED, RULE, SORT, THEOREM,
 };
 
 // `| p, p => t`
-pub fn clause(
-    text: &[u8],
-    tokens: &[[u32; 4]],
-    at: usize,
-    out: &mut [[u32; 4]],
-    used: usize,
-) -> Result<Option<Read>, Rejection>
-    requires { Room tokens.now at used out.old }
-    ensures { Answers 1 clause_rows (clause_of text.now (last_line tokens.now) (drop at tokens.now)) tokens.now at used out.old (maybe_step result) out.new }
-{
-    if peek(tokens, at).kind != BAR {
-        return Ok(None);
-    }
-    let list = patterns(text, tokens, at + 1, out, used + 1)?;
-    let arrow = sign(tokens, DOUBLE_ARROW, list.at, list.used)?;
-    let body = app(text, tokens, arrow.at, PARENTHESES, out, arrow.used)?;
-    put(out, used, [CLAUSE, 0, 0, list.count]);
-    Ok(Some(Read { count: 1, ..body }))
-}
+pub struct Clause;
 
-// The clauses from a place on.
-pub fn clauses(
-    text: &[u8],
-    tokens: &[[u32; 4]],
-    at: usize,
-    out: &mut [[u32; 4]],
-    used: usize,
-) -> Result<Read, Rejection>
-    requires { Room tokens.now at used out.old }
-    ensures { Lists 0 clause_rows (repeat (clause_of text.now (last_line tokens.now)) (drop at tokens.now) 0 0 []) tokens.now at used out.old (step result) out.new }
-{
-    let mut p = at;
-    let mut u = used;
-    let mut n = 0;
-    while let Some(more) = clause(text, tokens, p, out, u)? {
-        p = more.at;
-        u = more.used;
-        n += 1;
+impl Repeated for Clause {
+    ghost Of = { Clause };
+
+    ghost rows = { clause_rows };
+
+    ghost grammar = { clause_of };
+
+    fn read(input: Input, from: Position, out: &mut [[u32; 4]]) -> Result<Option<Read>, Rejection> {
+        if peek(input.tokens, from.at).kind != BAR {
+            return Ok(None);
+        }
+        let behind = Position {
+            at: from.at + 1,
+            used: from.used + 1,
+        };
+        let list = patterns(input, behind, out)?;
+        let arrow = sign(input, DOUBLE_ARROW, list.position)?;
+        let body = app(input, arrow.position, PARENTHESES, out)?;
+        put(out, from.used, [CLAUSE, 0, 0, list.count]);
+        Ok(Some(Read { count: 1, ..body }))
     }
-    Ok(Read {
-        at: p,
-        used: u,
-        count: n,
-    })
 }
 
 // `(x y z : S)`
-pub fn binders(
-    tokens: &[[u32; 4]],
-    at: usize,
-    out: &mut [[u32; 4]],
-    used: usize,
-) -> Result<Option<Read>, Rejection>
-    requires { Room tokens.now at used out.old }
-    ensures { Answers 1 binders_rows (binders_of (last_line tokens.now) (drop at tokens.now)) tokens.now at used out.old (maybe_step result) out.new }
-{
-    if peek(tokens, at).kind != OPEN {
-        return Ok(None);
-    }
-    let bound = names(tokens, at + 1, out, used + 1)?;
-    let colon = sign(tokens, COLON, bound.at, bound.used)?;
-    let t = peek(tokens, colon.at);
-    if t.kind != NAME {
-        return Err(rejection(Refusal::NameExpected, tokens, colon.at));
-    }
-    let close = sign(tokens, CLOSE, colon.at + 1, colon.used)?;
-    put(out, used, [BINDERS, t.start, t.length, bound.count]);
-    Ok(Some(Read { count: 1, ..close }))
-}
+pub struct Binders;
 
-// The binders from a place on.
-pub fn all_binders(
-    tokens: &[[u32; 4]],
-    at: usize,
-    out: &mut [[u32; 4]],
-    used: usize,
-) -> Result<Read, Rejection>
-    requires { Room tokens.now at used out.old }
-    ensures { Lists 0 binders_rows (repeat (binders_of (last_line tokens.now)) (drop at tokens.now) 0 0 []) tokens.now at used out.old (step result) out.new }
-{
-    let mut p = at;
-    let mut u = used;
-    let mut n = 0;
-    while let Some(more) = binders(tokens, p, out, u)? {
-        p = more.at;
-        u = more.used;
-        n += 1;
+impl Repeated for Binders {
+    ghost Of = { Binders };
+
+    ghost rows = { binders_rows };
+
+    ghost grammar = { λ text last. binders_of last };
+
+    fn read(input: Input, from: Position, out: &mut [[u32; 4]]) -> Result<Option<Read>, Rejection> {
+        if peek(input.tokens, from.at).kind != OPEN {
+            return Ok(None);
+        }
+        let behind = Position {
+            at: from.at + 1,
+            used: from.used + 1,
+        };
+        let bound = names(input, behind, out)?;
+        let colon = sign(input, COLON, bound.position)?;
+        let t = peek(input.tokens, colon.position.at);
+        if t.kind != NAME {
+            return Err(rejection(Refusal::NameExpected, input.tokens, colon.position.at));
+        }
+        let sort = Position {
+            at: colon.position.at + 1,
+            ..colon.position
+        };
+        let close = sign(input, CLOSE, sort)?;
+        put(out, from.used, [BINDERS, t.start, t.length, bound.count]);
+        Ok(Some(Read { count: 1, ..close }))
     }
-    Ok(Read {
-        at: p,
-        used: u,
-        count: n,
-    })
 }
 
 // `:= by auto`, `:= by induction x`, or nothing
-pub fn tactic(
-    tokens: &[[u32; 4]],
-    at: usize,
-    out: &mut [[u32; 4]],
-    used: usize,
-) -> Result<Read, Rejection>
-    requires { Room tokens.now at used out.old }
-    ensures { Answers 0 tactic_rows (tactic_of (last_line tokens.now) (drop at tokens.now)) tokens.now at used out.old (step result) out.new }
+pub fn tactic(input: Input, from: Position, out: &mut [[u32; 4]]) -> Result<Read, Rejection>
+    requires { Room input.tokens.now from.at from.used out.old }
+    ensures { Reads 0 tactic_rows (λ _. tactic_of) input.entry from out.old (step result) out.new }
 {
-    if peek(tokens, at).kind != DEFINES {
-        return Ok(Read { at, used, count: 0 });
+    if peek(input.tokens, from.at).kind != DEFINES {
+        return Ok(Read {
+            position: from,
+            count: 0,
+        });
     }
-    if peek(tokens, at + 1).kind != BY {
-        return Err(rejection(Refusal::ByForm, tokens, at + 1));
+    if peek(input.tokens, from.at + 1).kind != BY {
+        return Err(rejection(Refusal::ByForm, input.tokens, from.at + 1));
     }
-    let k = peek(tokens, at + 2).kind;
+    let k = peek(input.tokens, from.at + 2).kind;
+    let behind = Position {
+        at: from.at + 3,
+        ..from
+    };
     if k == AUTO {
         return Ok(Read {
-            at: at + 3,
-            used,
+            position: behind,
             count: 0,
         });
     }
     if k == INDUCTION {
-        return name(tokens, at + 3, out, used);
+        return name(input, behind, out);
     }
-    Err(rejection(Refusal::ByForm, tokens, at + 1))
+    Err(rejection(Refusal::ByForm, input.tokens, from.at + 1))
 }
 
 // `sort n`, from its keyword on, as each declaration below.
 pub fn sort(
-    tokens: &[[u32; 4]],
-    at: usize,
+    input: Input,
+    from: Position,
     out: &mut [[u32; 4]],
-    used: usize,
     number: u32,
 ) -> Result<Read, Rejection>
-    requires fact_1 { Room tokens.now at used out.old }
-    requires fact_2 { at < length tokens.now }
-    ensures { Answers 1 (declaration_rows number) (plus 1 (sort_of (last_line tokens.now) (drop (at + 1) tokens.now))) tokens.now at used out.old (step result) out.new }
+    requires fact_1 { Room input.tokens.now from.at from.used out.old }
+    requires fact_2 { from.at < length input.tokens.now }
+    ensures { Declares (declaration_rows number) (λ _. sort_of) input.entry from out.old (step result) out.new }
 {
-    let n = name(tokens, at + 1, out, used + 1)?;
-    put(out, used, [SORT, number, 0, 0]);
+    let behind = Position {
+        at: from.at + 1,
+        used: from.used + 1,
+    };
+    let n = name(input, behind, out)?;
+    put(out, from.used, [SORT, number, 0, 0]);
     Ok(Read { count: 1, ..n })
+}
+
+// `n : A → B`, from the keyword on, whose number is `kind`.
+pub fn titled<I: Item>(
+    input: Input,
+    from: Position,
+    out: &mut [[u32; 4]],
+    kind: u32,
+    number: u32,
+) -> Result<Read, Rejection>
+    requires fact_1 { Room input.tokens.now from.at from.used out.old }
+    requires fact_2 { from.at < length input.tokens.now }
+    ensures { Declares (titled_rows I.rows kind number) (λ text last. titled_of last (separated I.SIGN (I.grammar text last)))
+        input.entry from out.old (step result) out.new }
+{
+    let behind = Position {
+        at: from.at + 1,
+        used: from.used + 1,
+    };
+    let n = title(input, behind, out)?;
+    let items = list::<I>(input, n.position, out)?;
+    put(out, from.used, [kind, number, items.count, 0]);
+    Ok(Read { count: 1, ..items })
 }
 
 // `ctor n : A → B`
 pub fn ctor(
-    tokens: &[[u32; 4]],
-    at: usize,
+    input: Input,
+    from: Position,
     out: &mut [[u32; 4]],
-    used: usize,
     number: u32,
 ) -> Result<Read, Rejection>
-    requires fact_1 { Room tokens.now at used out.old }
-    requires fact_2 { at < length tokens.now }
-    ensures { Answers 1 (declaration_rows number) (plus 1 (ctor_of (last_line tokens.now) (drop (at + 1) tokens.now))) tokens.now at used out.old (step result) out.new }
+    requires fact_1 { Room input.tokens.now from.at from.used out.old }
+    requires fact_2 { from.at < length input.tokens.now }
+    ensures { Declares (declaration_rows number) (λ _. ctor_of) input.entry from out.old (step result) out.new }
 {
-    let n = title(tokens, at + 1, out, used + 1)?;
-    let sorts = arrows(tokens, n.at, out, n.used)?;
-    put(out, used, [CTOR, number, sorts.count, 0]);
-    Ok(Read { count: 1, ..sorts })
+    titled::<Name>(input, from, out, CTOR, number)
 }
 
 // Is a name's row that of `Prop`?
@@ -190,68 +180,73 @@ pub fn is_prop(text: &[u8], row: [u32; 4]) -> bool
 
 // `pred n : A → Prop`
 pub fn pred(
-    text: &[u8],
-    tokens: &[[u32; 4]],
-    at: usize,
+    input: Input,
+    from: Position,
     out: &mut [[u32; 4]],
-    used: usize,
     number: u32,
 ) -> Result<Read, Rejection>
-    requires fact_1 { Room tokens.now at used out.old }
-    requires fact_2 { at < length tokens.now }
-    ensures { Answers 1 (declaration_rows number) (plus 1 (pred_of text.now (last_line tokens.now) (drop (at + 1) tokens.now))) tokens.now at used out.old (step result) out.new }
+    requires fact_1 { Room input.tokens.now from.at from.used out.old }
+    requires fact_2 { from.at < length input.tokens.now }
+    ensures { Declares (declaration_rows number) pred_of input.entry from out.old (step result) out.new }
 {
-    let n = title(tokens, at + 1, out, used + 1)?;
-    let sorts = arrows(tokens, n.at, out, n.used)?;
-    let row = out[sorts.used - 1];
-    if is_prop(text, row) {
-        put(out, used, [PRED, number, sorts.count - 1, 0]);
+    let behind = Position {
+        at: from.at + 1,
+        used: from.used + 1,
+    };
+    let n = title(input, behind, out)?;
+    let sorts = arrows(input, n.position, out)?;
+    let last = sorts.position.used - 1;
+    let row = out[last];
+    if is_prop(input.text, row) {
+        put(out, from.used, [PRED, number, sorts.count - 1, 0]);
         return Ok(Read {
-            at: sorts.at,
-            used: sorts.used - 1,
+            position: Position {
+                used: last,
+                ..sorts.position
+            },
             count: 1,
         });
     }
-    Err(rejection(Refusal::NoProp, tokens, sorts.at))
+    Err(rejection(Refusal::NoProp, input.tokens, sorts.position.at))
 }
 
 // `rule n : J → J`
 pub fn rule(
-    text: &[u8],
-    tokens: &[[u32; 4]],
-    at: usize,
+    input: Input,
+    from: Position,
     out: &mut [[u32; 4]],
-    used: usize,
     number: u32,
 ) -> Result<Read, Rejection>
-    requires fact_1 { Room tokens.now at used out.old }
-    requires fact_2 { at < length tokens.now }
-    ensures { Answers 1 (declaration_rows number) (plus 1 (rule_of text.now (last_line tokens.now) (drop (at + 1) tokens.now))) tokens.now at used out.old (step result) out.new }
+    requires fact_1 { Room input.tokens.now from.at from.used out.old }
+    requires fact_2 { from.at < length input.tokens.now }
+    ensures { Declares (declaration_rows number) rule_of input.entry from out.old (step result) out.new }
 {
-    let n = title(tokens, at + 1, out, used + 1)?;
-    let terms = judgments(text, tokens, n.at, out, n.used)?;
-    put(out, used, [RULE, number, terms.count, 0]);
-    Ok(Read { count: 1, ..terms })
+    titled::<Judgment>(input, from, out, RULE, number)
 }
 
 // `def n : A → B`, and its clauses
 pub fn def(
-    text: &[u8],
-    tokens: &[[u32; 4]],
-    at: usize,
+    input: Input,
+    from: Position,
     out: &mut [[u32; 4]],
-    used: usize,
     number: u32,
 ) -> Result<Read, Rejection>
-    requires fact_1 { Room tokens.now at used out.old }
-    requires fact_2 { at < length tokens.now }
-    ensures { Answers 1 (declaration_rows number) (plus 1 (def_of text.now (last_line tokens.now) (drop (at + 1) tokens.now))) tokens.now at used out.old (step result) out.new }
+    requires fact_1 { Room input.tokens.now from.at from.used out.old }
+    requires fact_2 { from.at < length input.tokens.now }
+    ensures { Declares (declaration_rows number) def_of input.entry from out.old (step result) out.new }
 {
-    let n = title(tokens, at + 1, out, used + 1)?;
-    let sorts = arrows(tokens, n.at, out, n.used)?;
-    let all = clauses(text, tokens, sorts.at, out, sorts.used)?;
-    put(out, used, [DEF, number, sorts.count, all.count]);
-    Ok(Read { count: 1, ..all })
+    let behind = Position {
+        at: from.at + 1,
+        used: from.used + 1,
+    };
+    let n = title(input, behind, out)?;
+    let sorts = arrows(input, n.position, out)?;
+    let clauses = all::<Clause>(input, sorts.position, out)?;
+    put(out, from.used, [DEF, number, sorts.count, clauses.count]);
+    Ok(Read {
+        count: 1,
+        ..clauses
+    })
 }
 
 // Puts a number at the end of a row.
@@ -265,113 +260,104 @@ pub fn mark(out: &mut [[u32; 4]], at: usize, number: u32)
 
 // `theorem n (x : S) : J → J := by …`
 pub fn theorem(
-    text: &[u8],
-    tokens: &[[u32; 4]],
-    at: usize,
+    input: Input,
+    from: Position,
     out: &mut [[u32; 4]],
-    used: usize,
     number: u32,
 ) -> Result<Read, Rejection>
-    requires fact_1 { Room tokens.now at used out.old }
-    requires fact_2 { at < length tokens.now }
-    ensures { Answers 1 (declaration_rows number) (plus 1 (theorem_of text.now (last_line tokens.now) (drop (at + 1) tokens.now))) tokens.now at used out.old (step result) out.new }
+    requires fact_1 { Room input.tokens.now from.at from.used out.old }
+    requires fact_2 { from.at < length input.tokens.now }
+    ensures { Declares (declaration_rows number) theorem_of input.entry from out.old (step result) out.new }
 {
-    let n = name(tokens, at + 1, out, used + 1)?;
-    let bound = all_binders(tokens, n.at, out, n.used)?;
-    let colon = sign(tokens, COLON, bound.at, bound.used)?;
-    let terms = judgments(text, tokens, colon.at, out, colon.used)?;
-    let proof = tactic(tokens, terms.at, out, terms.used)?;
-    mark(out, used + 1, (proof.used - terms.used) as u32);
-    put(out, used, [THEOREM, number, bound.count, terms.count]);
+    let behind = Position {
+        at: from.at + 1,
+        used: from.used + 1,
+    };
+    let n = name(input, behind, out)?;
+    let bound = all::<Binders>(input, n.position, out)?;
+    let colon = sign(input, COLON, bound.position)?;
+    let terms = judgments(input, colon.position, out)?;
+    let proof = tactic(input, terms.position, out)?;
+    mark(
+        out,
+        from.used + 1,
+        (proof.position.used - terms.position.used) as u32,
+    );
+    put(out, from.used, [THEOREM, number, bound.count, terms.count]);
     Ok(Read { count: 1, ..proof })
 }
 
 // `#eval t` or `#check t`: the keyword's number says which.
 pub fn asked(
-    text: &[u8],
-    tokens: &[[u32; 4]],
-    at: usize,
+    input: Input,
+    from: Position,
     out: &mut [[u32; 4]],
-    used: usize,
     kind: u32,
     number: u32,
 ) -> Result<Read, Rejection>
-    requires fact_1 { Room tokens.now at used out.old }
-    requires fact_2 { at < length tokens.now }
+    requires fact_1 { Room input.tokens.now from.at from.used out.old }
+    requires fact_2 { from.at < length input.tokens.now }
     requires kinds { (kind ≡ EVAL) ⊎ (kind ≡ CHECK) }
-    ensures { Answers 1 (declaration_rows number) (plus 1 (asked_of text.now (last_line tokens.now) kind (drop (at + 1) tokens.now))) tokens.now at used out.old (step result) out.new }
+    ensures { Declares (declaration_rows number) (λ text last. asked_of text last kind) input.entry from out.old (step result) out.new }
 {
-    let t = term(text, tokens, at + 1, PARENTHESES, out, used + 1)?;
-    put(out, used, [kind, number, 0, 0]);
+    let behind = Position {
+        at: from.at + 1,
+        used: from.used + 1,
+    };
+    let t = term(input, behind, PARENTHESES, out)?;
+    put(out, from.used, [kind, number, 0, 0]);
     Ok(Read { count: 1, ..t })
 }
 
 // What a keyword starts, from the keyword on: its number says which declaration.
+// Stays: the number is that of a token's row, which C callers may lend, and may be none of these; a type of kinds would be made for this one `match`.
 pub fn body(
-    text: &[u8],
-    tokens: &[[u32; 4]],
-    at: usize,
+    input: Input,
+    from: Position,
     out: &mut [[u32; 4]],
-    used: usize,
     kind: u32,
     number: u32,
 ) -> Result<Read, Rejection>
-    requires fact_1 { Room tokens.now at used out.old }
-    requires fact_2 { at < length tokens.now }
-    ensures { Answers 1 (declaration_rows number) (plus 1 (body_of text.now (last_line tokens.now) kind (drop at tokens.now) (drop (at + 1) tokens.now)))
-        tokens.now at used out.old (step result) out.new }
+    requires fact_1 { Room input.tokens.now from.at from.used out.old }
+    requires fact_2 { from.at < length input.tokens.now }
+    ensures { Declares (declaration_rows number) (λ text last. body_of text last kind (drop from.at input.entry.tokens.now)) input.entry from out.old (step result) out.new }
 {
     match kind {
-        SORT => sort(tokens, at, out, used, number),
-        CTOR => ctor(tokens, at, out, used, number),
-        PRED => pred(text, tokens, at, out, used, number),
-        RULE => rule(text, tokens, at, out, used, number),
-        DEF => def(text, tokens, at, out, used, number),
-        THEOREM => theorem(text, tokens, at, out, used, number),
-        BY | AUTO | INDUCTION => Err(rejection(Refusal::OtherKeyword, tokens, at + 1)),
-        EVAL | CHECK => asked(text, tokens, at, out, used, kind, number),
-        _ => Err(rejection(Refusal::DeclarationExpected, tokens, at)),
+        SORT => sort(input, from, out, number),
+        CTOR => ctor(input, from, out, number),
+        PRED => pred(input, from, out, number),
+        RULE => rule(input, from, out, number),
+        DEF => def(input, from, out, number),
+        THEOREM => theorem(input, from, out, number),
+        BY | AUTO | INDUCTION => Err(rejection(Refusal::OtherKeyword, input.tokens, from.at + 1)),
+        EVAL | CHECK => asked(input, from, out, kind, number),
+        _ => Err(rejection(Refusal::DeclarationExpected, input.tokens, from.at)),
     }
 }
 
 // A declaration, if there are tokens left.
-pub fn declaration(
-    text: &[u8],
-    tokens: &[[u32; 4]],
-    at: usize,
-    out: &mut [[u32; 4]],
-    used: usize,
-) -> Result<Option<Read>, Rejection>
-    requires { Room tokens.now at used out.old }
-    ensures { Answers 1 declared_rows (declaration_of text.now (last_line tokens.now) (drop at tokens.now)) tokens.now at used out.old (maybe_step result) out.new }
-{
-    if at == tokens.len() {
-        return Ok(None);
+pub struct Declaration;
+
+impl Repeated for Declaration {
+    ghost Of = { Declared };
+
+    ghost rows = { declared_rows };
+
+    ghost grammar = { declaration_of };
+
+    fn read(input: Input, from: Position, out: &mut [[u32; 4]]) -> Result<Option<Read>, Rejection> {
+        if from.at == input.tokens.len() {
+            return Ok(None);
+        }
+        let t = peek(input.tokens, from.at);
+        Ok(Some(body(input, from, out, t.kind, t.line)?))
     }
-    let t = peek(tokens, at);
-    Ok(Some(body(text, tokens, at, out, used, t.kind, t.line)?))
 }
 
 // All declarations.
-pub fn declarations(
-    text: &[u8],
-    tokens: &[[u32; 4]],
-    out: &mut [[u32; 4]],
-) -> Result<Read, Rejection>
-    requires { (length tokens.now ≤ length out.old) × (length tokens.now ≤ 65536) }
-    ensures { Lists 0 declared_rows (parse_of text.now tokens.now) tokens.now 0 0 out.old (step result) out.new }
+pub fn declarations(input: Input, out: &mut [[u32; 4]]) -> Result<Read, Rejection>
+    requires { (length input.tokens.now ≤ length out.old) × (length input.tokens.now ≤ 65536) }
+    ensures { Lists 0 declared_rows (parse_of input.entry.text.now input.entry.tokens.now) input.entry.tokens.now 0 0 out.old (step result) out.new }
 {
-    let mut p = 0;
-    let mut u = 0;
-    let mut n = 0;
-    while let Some(more) = declaration(text, tokens, p, out, u)? {
-        p = more.at;
-        u = more.used;
-        n += 1;
-    }
-    Ok(Read {
-        at: p,
-        used: u,
-        count: n,
-    })
+    all::<Declaration>(input, Position { at: 0, used: 0 }, out)
 }

@@ -10,6 +10,7 @@ ghost use Rattle.parser.specs.Parser.{Parsing, ParsingText};
 
 use declarations::declarations;
 use refusals::{Refusal, Rejection};
+use term_parser::Input;
 
 // The kinds of rows beside those of tokens and terms.
 // Stays: C callers lend the rows, so a kind is a number there, and may be none of these; a type of kinds would be converted at each read and write.
@@ -41,12 +42,12 @@ pub fn parse(text: &[u8], tokens: &[[u32; 4]], rows: &mut [[u32; 4]]) -> Result<
             line: 0,
         });
     }
-    match declarations(text, tokens, rows) {
+    match declarations(Input { text, tokens }, rows) {
         Ok(read) => {
-            words::clear(rows, read.used);
+            words::clear(rows, read.position.used);
             Ok(Parsed {
                 declarations: read.count,
-                rows: read.used,
+                rows: read.position.used,
             })
         }
         Err(rejection) => {

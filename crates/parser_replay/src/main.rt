@@ -2,12 +2,12 @@
 // afterwards. A test that fails writes a line that begins with `wrong`.
 #![tactic(auto)]
 
-ghost use Rattle.std.specs.Prelude.{◌&&◌, ◌≡◌, ◌+◌, ◌^◌, ◌≤◌, ◌<◌, leb, drop, length};
+ghost use Rattle.std.specs.Prelude.{◌&&◌, ◌≡◌, leb, drop, length};
 ghost use Rattle.parser_replay.specs.Rows.{are_all, is_all};
 
-use listing::recorded;
+use listing::recorded::{self, Recorded};
 use parser::Parsed;
-use refusals::{Refusal, Rejection};
+use refusals::Refusal;
 use words::{Limits, Row};
 
 // Standard output.
@@ -43,11 +43,6 @@ fn expect_all(name: &[u8], rows: &[Row], from: usize, value: u32) {
     io::write_all(STDOUT_FILENO, b"\n");
 }
 
-fn expect_both(tokens: &[Row], count: usize, rows: &[Row], used: usize, value: u32) {
-    expect_all(b"token", tokens, count, value);
-    expect_all(b"declaration", rows, used, value);
-}
-
 // Writes the four numbers of a row.
 fn list_row(row: Row) {
     io::print_decimal(STDOUT_FILENO, row[0] as u64);
@@ -60,22 +55,28 @@ fn list_row(row: Row) {
     io::write_all(STDOUT_FILENO, b"\n");
 }
 
-fn list_rows(rows: &[Row], used: usize) {
-    for row in rows.iter().take(used) {
+// Lists the declarations, and their rows.
+fn list_declarations(parsed: Parsed, rows: &[Row]) {
+    io::write_all(STDOUT_FILENO, b"declarations ");
+    io::print_decimal(STDOUT_FILENO, u64::from(parsed.declarations));
+    io::write_all(STDOUT_FILENO, b"\n");
+    for row in rows.iter().take(parsed.rows) {
         list_row(*row);
     }
 }
 
-// Lists an answer for a text of `count` tokens, and tests the rows: zero past the tokens and past the declarations, zero throughout after a refusal,
+// Parses a text, lists the answer, and tests the rows: zero past the tokens and past the declarations, zero throughout after a refusal,
 // and after refusal 1 as they were.
-fn list_answer(answer: Result<Parsed, Rejection>, tokens: &[Row], count: usize, rows: &[Row]) {
-    match answer {
+fn list(text: &[u8], limits: Limits, tokens: &mut [Row], rows: &mut [Row]) {
+    // A refused text has no tokens.
+    let count = words::lex(text, limits, tokens).unwrap_or(0);
+    tokens.fill([JUNK; 4]);
+    rows.fill([JUNK; 4]);
+    match parser::parse_text(text, limits, tokens, rows) {
         Ok(parsed) => {
-            io::write_all(STDOUT_FILENO, b"declarations ");
-            io::print_decimal(STDOUT_FILENO, u64::from(parsed.declarations));
-            io::write_all(STDOUT_FILENO, b"\n");
-            list_rows(rows, parsed.rows);
-            expect_both(tokens, count, rows, parsed.rows, 0);
+            list_declarations(parsed, rows);
+            expect_all(b"token", tokens, count, 0);
+            expect_all(b"declaration", rows, parsed.rows, 0);
         }
         Err(rejection) => {
             listing::write_refusal(rejection);
@@ -84,55 +85,23 @@ fn list_answer(answer: Result<Parsed, Rejection>, tokens: &[Row], count: usize, 
             } else {
                 0
             };
-            expect_both(tokens, 0, rows, 0, value);
+            expect_all(b"token", tokens, 0, value);
+            expect_all(b"declaration", rows, 0, value);
         }
     }
 }
 
-// Parses a text and lists the answer.
-fn list(text: &[u8], limits: Limits, tokens: &mut [Row], rows: &mut [Row]) {
-    // A refused text has no tokens.
-    let count = words::lex(text, limits, tokens).unwrap_or(0);
-    tokens.fill([JUNK; 4]);
-    rows.fill([JUNK; 4]);
-    let answer = parser::parse_text(text, limits, tokens, rows);
-    list_answer(answer, tokens, count, rows);
-}
-
-// Lists a text with the first `count` rows of each kind lent.
-fn list_lent(text: &[u8], limits: Limits, tokens: &mut [Row], rows: &mut [Row], count: usize) {
-    if tokens.len() < count {
+// Lists a text with the first rows of each kind lent, as many as the list says.
+fn list_lent(text: &[u8], recorded: Recorded, tokens: &mut [Row], rows: &mut [Row]) {
+    let Some(tokens) = tokens.get_mut(..recorded.rows) else {
         io::write_all(STDOUT_FILENO, b"wrong: too few token rows to lend\n");
         return;
-    }
-    if rows.len() < count {
+    };
+    let Some(rows) = rows.get_mut(..recorded.rows) else {
         io::write_all(STDOUT_FILENO, b"wrong: too few rows to lend\n");
         return;
-    }
-    list(text, limits, &mut tokens[..count], &mut rows[..count]);
-}
-
-// Lists the text whose line is at a place, and answers the place of the next one's.
-fn replay_one(list: &[u8], at: usize, tokens: &mut [Row], rows: &mut [Row]) -> usize
-    requires { at < 2 ^ 61 }
-    ensures { (at < result) × (result ≤ at + 2000000) }
-{
-    let text = recorded::read(list, at);
-    let limits = text.limits;
-    let bytes = words::word(list, text.start, text.length);
-    list_lent(bytes, limits, tokens, rows, text.rows);
-    text.next
-}
-
-fn replay(list: &[u8], tokens: &mut [Row], rows: &mut [Row]) {
-    let end = recorded::end(list);
-    let mut at = 0;
-    let mut number = 1;
-    while at < end {
-        recorded::write_heading(number);
-        at = replay_one(list, at, tokens, rows);
-        number += 1;
-    }
+    };
+    list(text, recorded.limits, tokens, rows);
 }
 
 fn main() {
@@ -140,5 +109,7 @@ fn main() {
     let n = io::read_full(0, &mut list);
     let mut tokens = [[0u32; 4]; 1024];
     let mut rows = [[0u32; 4]; 1024];
-    replay(&list[..n], &mut tokens, &mut rows);
+    recorded::replay(&list[..n], |text, recorded| {
+        list_lent(text, recorded, &mut tokens, &mut rows);
+    });
 }

@@ -15,15 +15,12 @@ use Rattle.refusals.specs.declared.Refusal.{Refusal}
 use Rattle.refusals.specs.Refused.{Refuses}
 use Rattle.rules.specs.PatternLaws.{arities_of}
 use Rattle.deepening.specs.Clearing.{ClearFrom}
-use Rattle.sessions.specs.Storage.{SessionStore, session_of, SessionListed, zero_name}
+use Rattle.sessions.specs.Storage.{SessionStore, session_store, session_of, SessionListed, zero_name}
 use Rattle.sessions.specs.Goals.{goal_in, goal_compiled}
 use Rattle.sessions.specs.Promises.{allowance_of, Continued}
 use Rattle.sessions.specs.Leaving.{SessionMade}
 use Rattle.sessions.specs.declared.SessionCounts.{SessionCounts}
 use Rattle.prover.specs.declared.preparing.StoredGoal.{StoredGoal}
-
-abbrev pub store_of : Rows → List ℕ → Rows → SessionStore
-store_of names words bindings = record { names = names; words = words; bindings = bindings }
 
 -- The symbols are there, the session and the goal's rows are in form, and all past the counts is zero.
 pub record PrepareAsked (text : List ℕ) (limits : Limits) (symbols : Rows) (count : ℕ) (rows : Rows) (at : ℕ) (names : Rows)
@@ -33,7 +30,7 @@ pub record PrepareAsked (text : List ℕ) (limits : Limits) (symbols : Rows) (co
   pub inputs : (i : ℕ) → i < count → column (row_at symbols i) 6 ≤ 16
   pub sorts : ℕ
   pub bindings : Rows
-  pub session : SessionListed text (arities_of (symbols_of text symbols count)) sorts (store_of names words bindings) n
+  pub session : SessionListed text (arities_of (symbols_of text symbols count)) sorts (session_store names words bindings) n
   pub next : ℕ
   pub goal : TermAt text rows at next
   pub names_lent : 64 ≤ length names
@@ -58,7 +55,7 @@ pub record GoalStands (text arities : List ℕ) (b : SessionStore) (n : SessionC
   pub numbered : g.variables ≡ n.variables + length new
   pub used : g.words ≡ n.words + words (goal_of (session_of text b n) p)
   -- the session is in form with it;
-  pub made : SessionMade text arities b n (store_of names' words' b.bindings) (counts_with n g) new
+  pub made : SessionMade text arities b n (session_store names' words' b.bindings) (counts_with n g) new
   -- its reference denotes it over the session's variables;
   pub denotes : denote term_room (cells words') g.node ≡ goal_of (session_of text b n) p
   pub refers : Reference term_room (cells words') g.variables g.words g.node
@@ -88,7 +85,7 @@ Prepares text limits arities b n r names' words' (compiles new p) =
 pub record Preparing (text : List ℕ) (limits : Limits) (symbols : Rows) (count : ℕ) (rows : Rows) (at : ℕ) (names : Rows)
     (words : List ℕ) (n : SessionCounts) (r : Result StoredGoal Refusal) (names' : Rows) (words' : List ℕ) : Type 0 where
   pub says : (sorts : ℕ) (bindings : Rows) → (capped_of limits).variables ≤ length bindings
-      → SessionListed text (arities_of (symbols_of text symbols count)) sorts (store_of names words bindings) n
+      → SessionListed text (arities_of (symbols_of text symbols count)) sorts (session_store names words bindings) n
       → (q : ℕ) (g : TermAt text rows at q)
-      → Prepares text limits (arities_of (symbols_of text symbols count)) (store_of names words bindings) n r names' words'
-      (goal_compiled (symbols_of text symbols count) (goal_in g) (session_of text (store_of names words bindings) n).names)
+      → Prepares text limits (arities_of (symbols_of text symbols count)) (session_store names words bindings) n r names' words'
+      (goal_compiled (symbols_of text symbols count) (goal_in g) (session_of text (session_store names words bindings) n).names)

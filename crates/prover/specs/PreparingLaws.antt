@@ -25,7 +25,7 @@ use Rattle.resolution.specs.Session.{Named, Compiled, refuses, compiles, goal_of
 use Rattle.resolution.specs.Session as theory
 use Rattle.rules.specs.PatternLaws.{arities_of, FewInputs}
 use Rattle.deepening.specs.ClearingLaws.{clear_at, clear_from}
-use Rattle.sessions.specs.Storage.{SessionStore, names_in, session_of, SessionListed, zero_name}
+use Rattle.sessions.specs.Storage.{SessionStore, names_in, session_store, session_of, SessionListed, zero_name}
 use Rattle.sessions.specs.Goals.{goal_in, goal_compiled}
 use Rattle.sessions.specs.Promises.{allowance_of, Continued}
 use Rattle.sessions.specs.Leaving.{SessionMade}
@@ -39,7 +39,7 @@ use Rattle.goals.specs.SessionLaws.{new_count, goal_size, session_asked, session
 use Rattle.goals.specs.declared.Goal.{Goal}
 use Rattle.refusals.specs.declared.Refusal.{Refusal}
 use Rattle.refusals.specs.declared.Refusal.TheVariants.{OverLimit}
-use Rattle.prover.specs.Preparing.{store_of, PrepareAsked, IsStored, Within, Prepares, Preparing}
+use Rattle.prover.specs.Preparing.{PrepareAsked, IsStored, Within, Prepares, Preparing}
 
 -- The limits
 
@@ -193,7 +193,7 @@ module _ {text : List ℕ} {limits : Limits} {symbols : Rows} {count : ℕ} {row
     }
       where
         go : (bindings : Rows) (q : ℕ) (c : Compiled) → Agrees text rows at q n.names w c (Err e) vx wx
-            → Prepares text limits arities (store_of names ws bindings) n (Err e) names ws c
+            → Prepares text limits arities (session_store names ws bindings) n (Err e) names ws c
         go bindings q (refuses f) h = record { answer = h; names_are = refl; words_are = refl }
         go bindings q (compiles new p) h = absurd h
 
@@ -233,13 +233,13 @@ module _ {text : List ℕ} {limits : Limits} {symbols : Rows} {count : ℕ} {row
       abbrev used : ℕ
       used = n.words + g.words
 
-      module _ {sorts : ℕ} {bindings : Rows} (listed : SessionListed text arities sorts (store_of names ws bindings) n) (q : ℕ)
+      module _ {sorts : ℕ} {bindings : Rows} (listed : SessionListed text arities sorts (session_store names ws bindings) n) (q : ℕ)
           (t : TermAt text rows at q) where
         abbrev c : CompiledAs q t
         c = compiled_as q t
 
         abbrev b : SessionStore
-        b = store_of names ws bindings
+        b = session_store names ws bindings
 
         counted : n.names + length c.new ≡ g.variables
         counted = let a = goal_counts.1 in new_count listed c.good c.laid goal_counts.0 (omega arith) long
@@ -261,9 +261,9 @@ module _ {text : List ℕ} {limits : Limits} {symbols : Rows} {count : ℕ} {row
           → Preparing text limits symbols count rows at names ws n (Err OverLimit) names ws
       prepare_over e = record {
         says = λ sorts bindings room listed q t.
-            subst (λ (k : Compiled). Prepares text limits arities (store_of names ws bindings) n (Err OverLimit) names ws k)
+            subst (λ (k : Compiled). Prepares text limits arities (session_store names ws bindings) n (Err OverLimit) names ws k)
             (sym (compiled_as q t).compiled)
-            (subst (λ (v : Bool). Within text arities (store_of names ws bindings) n (Err OverLimit) names ws (compiled_as q t).new
+            (subst (λ (v : Bool). Within text arities (session_store names ws bindings) n (Err OverLimit) names ws (compiled_as q t).new
             (compiled_as q t).term v) (sym (over_is listed q t true e))
             (record { answer = refl; names_are = refl; words_are = refl }));
       }
@@ -288,9 +288,9 @@ module _ {text : List ℕ} {limits : Limits} {symbols : Rows} {count : ℕ} {row
         prepare_stored {node} {names'} {ws'} stored = record {
           says = λ sorts bindings room listed q t.
               let c = compiled_as q t in
-              subst (λ (k : Compiled). Prepares text limits arities (store_of names ws bindings) n
+              subst (λ (k : Compiled). Prepares text limits arities (session_store names ws bindings) n
               (Ok (record { node = node; names = g.variables; variables = total; words = used })) names' ws' k) (sym c.compiled)
-              (subst (λ (v : Bool). Within text arities (store_of names ws bindings) n
+              (subst (λ (v : Bool). Within text arities (session_store names ws bindings) n
               (Ok (record { node = node; names = g.variables; variables = total; words = used })) names' ws' c.new c.term v)
               (sym (over_is listed q t false fits)) (is_stored sorts bindings room listed q t));
         }
@@ -308,8 +308,8 @@ module _ {text : List ℕ} {limits : Limits} {symbols : Rows} {count : ℕ} {row
                 asked.words_clear stored.written)
 
             is_stored : (sorts : ℕ) (bindings : Rows) → (capped_of limits).variables ≤ length bindings
-                → (listed : SessionListed text arities sorts (store_of names ws bindings) n) (q : ℕ) (t : TermAt text rows at q)
-                → IsStored text arities (store_of names ws bindings) n
+                → (listed : SessionListed text arities sorts (session_store names ws bindings) n) (q : ℕ) (t : TermAt text rows at q)
+                → IsStored text arities (session_store names ws bindings) n
                 (Ok (record { node = node; names = g.variables; variables = total; words = used })) names' ws'
                 (compiled_as q t).new (compiled_as q t).term
             is_stored sorts bindings room listed q t =
@@ -327,7 +327,7 @@ module _ {text : List ℕ} {limits : Limits} {symbols : Rows} {count : ℕ} {row
                     named = sym (counted listed q t);
                     numbered = sym e;
                     used = sym (used_is listed q t);
-                    made = subst (λ (v : ℕ). SessionMade text arities (store_of names ws bindings) n (store_of names' ws' bindings)
+                    made = subst (λ (v : ℕ). SessionMade text arities (session_store names ws bindings) n (session_store names' ws' bindings)
                         (record { names = g.variables; variables = v; bound = n.bound; words = used }) c.new) e
                         (session_made listed c.good c.laid goal_counts.0 lent' long t store_asked stored
                         (omega arith) (omega arith) (omega arith));

@@ -39,7 +39,7 @@ use Rattle.search_machine.specs.declared.Store.{Store}
 use Rattle.deepening.specs.Bounds.{prove_of, Counted}
 use Rattle.refusals.specs.declared.Refusal.{Refusal}
 use Rattle.refusals.specs.Refusals.{number_of}
-use Rattle.sessions.specs.Storage.{SessionStore, session_of, is_short, zero_name, zero_tree}
+use Rattle.sessions.specs.Storage.{SessionStore, session_store, session_of, is_short, zero_name, zero_tree}
 use Rattle.sessions.specs.Goals.{goal_in, goal_compiled}
 use Rattle.sessions.specs.Promises.{Asked, Given, ProveReady, allowance_of, query_of, answer_to, Continued, ProofListed}
 use Rattle.sessions.specs.Promises.{ProofLeft, ProveLeaves}
@@ -52,7 +52,7 @@ use Rattle.sessions.specs.Answers.{Answer, Refused, Proved, Nothing, Undecided}
 use Rattle.prover.specs.Queries.{asked_in, session_in, given_of, given_in}
 use Rattle.prover.specs.Clearing.{PastCleared, ClearsPast}
 use Rattle.prover.specs.declared.Query.{Query}
-use Rattle.prover.specs.Preparing.{store_of, PrepareAsked, GoalStands, Within, Prepares, Preparing}
+use Rattle.prover.specs.Preparing.{PrepareAsked, GoalStands, Within, Prepares, Preparing}
 use Rattle.prover.specs.Searching.{SearchAsked, Unproved, counts_then, Failing, Finding, SearchSays, SearchLeft}
 use Rattle.prover.specs.Proving.{ClearedReady, ProveLeft}
 use Rattle.prover.specs.PreparingLaws.{capped_variables, capped_words, capped_steps}
@@ -416,7 +416,7 @@ module _ {sg : SignatureStore} {k : Asked} {b : SessionStore} {n : SessionCounts
 
         -- Without a proof
         part : (c : ℕ) → Counted (allowed_of sg k.limits) W₁ b.bindings g.variables n.bound g.words c
-            → PartUnproved b n (store_of N₁ (cleared_from 0 n.words W₁) b.bindings) c
+            → PartUnproved b n (session_store N₁ (cleared_from 0 n.words W₁) b.bindings) c
         part c d =
             let y = continued_again 0 n.words g.words b.words W₁ words_lent_lem x.words in
             let yl = y.long in
@@ -506,7 +506,7 @@ module _ {sg : SignatureStore} {k : Asked} {b : SessionStore} {n : SessionCounts
                 nodes_are = sym (entries_length W F 0 nodes)
                     ∙ ap length (listing_is F W m.variables m.words tree nodes f.proven.lists)
 
-                made_with : SessionMade k.text arities b n (store_of N₁ W T) m new
+                made_with : SessionMade k.text arities b n (session_store N₁ W T) m new
                 made_with =
                     let y = f.proven.extended in
                     record {
@@ -554,7 +554,7 @@ module _ {sg : SignatureStore} {k : Asked} {b : SessionStore} {n : SessionCounts
                     subst (λ (q : Given). ProveLeaves sg k b n A q)
                     (given_same (ap (λ (i : ℕ). Proved s i m) (sym nodes_are)) (sym f.names_are) refl refl refl
                     (sym lm) (sym mm) (sym rm))
-                    (proved_leaves sg k b n r.session {b' = store_of N₁ W T} {n' = m} {new = new} made_with names_fit names words_more
+                    (proved_leaves sg k b n r.session {b' = session_store N₁ W T} {n' = m} {new = new} made_with names_fit names words_more
                     (omega arith) long y.added A β (tree ◂ leaf) s F refl proof_listed found_is)
 
       -- What the search leaves.
@@ -633,11 +633,11 @@ module _ {sg : SignatureStore} {k : Asked} {b : SessionStore} {n : SessionCounts
   }
 
   pub cleared_ready : {N : Rows} {W : List ℕ} {F : Rows} → PastCleared n b.names b.words k.proof N W F
-      → ClearedReady sg (with_proof k F) (store_of N W b.bindings) n
+      → ClearedReady sg (with_proof k F) (session_store N W b.bindings) n
   cleared_ready {N} {W} {F} p =
-      subst (λ (F : Rows). ClearedReady sg (with_proof k F) (store_of N W b.bindings) n) (sym p.proof_is)
-      (subst (λ (W : List ℕ). ClearedReady sg (with_proof k zeros) (store_of N W b.bindings) n) (sym p.words_are)
-      (subst (λ (N : Rows). ClearedReady sg (with_proof k zeros) (store_of N (cleared_from 0 n.words b.words) b.bindings) n)
+      subst (λ (F : Rows). ClearedReady sg (with_proof k F) (session_store N W b.bindings) n) (sym p.proof_is)
+      (subst (λ (W : List ℕ). ClearedReady sg (with_proof k zeros) (session_store N W b.bindings) n) (sym p.words_are)
+      (subst (λ (N : Rows). ClearedReady sg (with_proof k zeros) (session_store N (cleared_from 0 n.words b.words) b.bindings) n)
       (sym p.names_are) all_cleared))
 
 -- and what it leaves then is what it has to leave.
@@ -687,14 +687,14 @@ module _ {sg : SignatureStore} {k : Asked} {b : SessionStore} {n : SessionCounts
       }
 
   pub cleared_left : {N : Rows} {W : List ℕ} {F : Rows} → PastCleared n b.names b.words k.proof N W F
-      → ProveLeft sg (with_proof k F) (store_of N W b.bindings) n g → ProveLeft sg k b n g
+      → ProveLeft sg (with_proof k F) (session_store N W b.bindings) n g → ProveLeft sg k b n g
   cleared_left {N} {W} {F} p f =
       all_left
       (subst (λ (N : Rows). ProveLeft sg (with_proof k (replicate (length k.proof) zero_tree))
-      (store_of N (cleared_from 0 n.words b.words) b.bindings) n g) p.names_are
-      (subst (λ (W : List ℕ). ProveLeft sg (with_proof k (replicate (length k.proof) zero_tree)) (store_of N W b.bindings) n g)
+      (session_store N (cleared_from 0 n.words b.words) b.bindings) n g) p.names_are
+      (subst (λ (W : List ℕ). ProveLeft sg (with_proof k (replicate (length k.proof) zero_tree)) (session_store N W b.bindings) n g)
       p.words_are
-      (subst (λ (F : Rows). ProveLeft sg (with_proof k F) (store_of N W b.bindings) n g) p.proof_is f)))
+      (subst (λ (F : Rows). ProveLeft sg (with_proof k F) (session_store N W b.bindings) n g) p.proof_is f)))
 
 -- The same with a store.
 module _ (q : Query) {sg : SignatureStore} {N N' : Rows} {s s' : Store} {n : SessionCounts} (c : ClearsPast n N s N' s') where

@@ -2,7 +2,7 @@
 use Rattle.std.specs.Prelude.{ℕ, List}
 use Rattle.names.specs.Symbols.{Rows}
 use Rattle.search_machine.specs.declared.Store.{Store}
-use Rattle.sessions.specs.Storage.{SessionStore}
+use Rattle.sessions.specs.Storage.{SessionStore, session_store}
 use Rattle.sessions.specs.Promises.{Asked, Given}
 use Rattle.sessions.specs.Answers.{Answer}
 use Rattle.prover.specs.declared.Query.{Query}
@@ -20,14 +20,11 @@ asked_of q proof links marks stack =
       space = record { links = links; marks = marks; stack = stack };
     }
 
-abbrev pub session_of : Rows → List ℕ → Rows → SessionStore
-session_of names words bindings = record { names = names; words = words; bindings = bindings }
-
 abbrev pub given_of : Answer → Rows → List ℕ → Rows → Rows → Rows → Rows → Rows → Given
 given_of answer names words bindings proof links marks stack =
     record {
       answer = answer;
-      store = session_of names words bindings;
+      store = session_store names words bindings;
       proof = proof;
       space = record { links = links; marks = marks; stack = stack };
     }
@@ -37,7 +34,7 @@ abbrev pub asked_in : Query → Store → Asked
 asked_in q s = asked_of q s.frames.now s.links.now s.marks.now s.stack.now
 
 abbrev pub session_in : Rows → Store → SessionStore
-session_in names s = session_of names s.words.now s.bindings.now
+session_in names s = session_store names s.words.now s.bindings.now
 
 abbrev pub given_in : Answer → Rows → Store → Given
 given_in answer names s = given_of answer names s.words.now s.bindings.now s.frames.now s.links.now s.marks.now s.stack.now

@@ -1,49 +1,38 @@
 // Whether a call of `prove` is ready (document 01, refusal 1): nothing is written before this is known.
 ghost use Rattle.signature.specs.Storage.{store_of};
-ghost use Rattle.prover.specs.Queries.{session_of};
+ghost use Rattle.sessions.specs.Storage.{part_in};
 ghost use Rattle.prover.specs.Proving.{ReadyTold};
 
-use super::Query;
-use sessions::{NameRow, SessionCounts, StoredSession};
-use signature::StoredSignature;
+use super::{ProofRow, Query};
+use sessions::StoredSession;
 
 // Are signature, goal, session and scratch in form, and is enough lent? The marks are left as they are.
 pub fn is_ready(
-    signature: StoredSignature,
     query: Query,
-    names: &[NameRow],
-    words: &[u32],
-    bindings: &[[u32; 2]],
-    session: SessionCounts,
+    session: StoredSession,
     links: &[[u32; 2]],
     marks: &mut [[u32; 2]],
     stack: &[[u32; 3]],
-    proof: &[[u32; 8]],
+    proof: &[ProofRow],
 ) -> bool
-    ensures { ReadyTold (store_of signature.entry) query.entry.text.now query.entry.limits query.entry.rows.now query.entry.at proof.now
+    ensures { ReadyTold (store_of query.entry.signature) query.entry.text.now query.entry.limits query.entry.rows.now query.entry.at proof.now
         (record { links = links.now; marks = marks.old; stack = stack.now })
-        (session_of names.now words.now bindings.now) session marks.new result }
+        (part_in session.entry) session.entry.counts marks.new result }
 {
     let capped = query.limits.capped();
     if proof.len() < capped.steps as usize {
         return false;
     }
-    if !signature::check_signature(query.text, signature) {
+    if !signature::check_signature(query.text, query.signature) {
         return false;
     }
     let Some(_) = term_check::check_term(query.text, query.rows, query.at) else {
         return false;
     };
-    let session = StoredSession {
-        names,
-        words,
-        bindings,
-        counts: session,
-    };
     session_check::check_session(
         query.text,
         query.limits,
-        signature,
+        query.signature,
         session,
         links,
         marks,

@@ -1,5 +1,5 @@
 // Words of terms: two constants, and towers of nodes on a leaf.
-ghost use Rattle.std.specs.Prelude.{◌≡◌, ◌≤◌, set};
+ghost use Rattle.std.specs.Prelude.{◌≡◌, ◌≤◌, set, length};
 ghost use Rattle.arena.specs.Form.{inputs};
 
 use arena::{HEADERS, SYMBOL_STEP, TERM_ROOM};
@@ -16,13 +16,13 @@ pub const BINARY: u32 = 0x10_0000 + 64 + 2;
 // The most words.
 const MOST: u32 = 262144;
 
-// Writes a word, unless there is no such address.
-pub fn put(words: &mut [u32], at: u32, word: u32)
-    ensures { words.new ≡ set words.old at word }
+// Writes an item at a place, unless there is no such place.
+pub fn put<T: Copy>(items: &mut [T], at: u32, item: T)
+    ensures { items.new ≡ set items.old at item }
 {
     let i = at as usize;
-    if i < words.len() {
-        words[i] = word;
+    if i < items.len() {
+        items[i] = item;
     }
 }
 
@@ -32,6 +32,22 @@ pub fn put_constants(words: &mut [u32])
 {
     put(words, 0, CONSTANT);
     put(words, 1, OTHER);
+}
+
+// Writes a node with these arguments, unless there is no room; the address behind it.
+pub fn put_node(words: &mut [u32], at: u32, arguments: &[u32]) -> u32
+    requires { length arguments.now ≤ inputs }
+{
+    if MOST < at {
+        return at;
+    }
+    let arity = arguments.len() as u32;
+    let next = at + 1 + arity;
+    if next as usize <= words.len() {
+        let header = HEADERS + (SYMBOL_STEP + 1) * arity;
+        arena::push_node(words, at, header, arguments);
+    }
+    next
 }
 
 // Writes a tower of nodes with `arity` arguments, all arguments of a node the one below, from an address on; the address behind it.
@@ -44,23 +60,9 @@ pub fn put_tower(words: &mut [u32], at: u32, height: u32, leaf: u32, arity: u32)
         if MOST < next {
             break;
         }
-        put(words, next, HEADERS + (SYMBOL_STEP + 1) * arity);
-        for i in 0..arity {
-            put(words, next + 1 + i, below);
-        }
+        let arguments = [below; 16];
         below = TERM_ROOM + next;
-        next += 1 + arity;
+        next = put_node(words, next, &arguments[..arity as usize]);
     }
     next
-}
-
-// Writes a node with two arguments; the address behind it.
-pub fn put_pair(words: &mut [u32], at: u32, left: u32, right: u32) -> u32 {
-    if MOST < at {
-        return at;
-    }
-    put(words, at, BINARY);
-    put(words, at + 1, left);
-    put(words, at + 2, right);
-    at + 3
 }

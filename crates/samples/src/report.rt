@@ -10,22 +10,22 @@ pub fn text(bytes: &[u8]) {
 }
 
 // Writes a number.
-pub fn number(n: u32) {
+pub fn decimal(n: u32) {
     io::print_decimal(STDOUT_FILENO, n as u64);
 }
 
 // Writes the bindings at the positions from `from` up to `to` of the trail, each as a variable and the reference that it is bound to.
 pub fn bindings(table: &[[u32; 2]], from: u32, to: u32) {
     for i in from..to {
-        let variable = rows::number(table, 1, i);
-        let value = rows::number(table, 0, variable);
+        let variable = rows::number_at(table, 1, i);
+        let value = rows::number_at(table, 0, variable);
         text(b", ");
-        number(variable);
+        decimal(variable);
         text(b" is ");
         if value == 0 {
             text(b"unbound");
             return;
         }
-        number(value - 1);
+        decimal(value - 1);
     }
 }

@@ -4,6 +4,8 @@ ghost use Rattle.bindings.specs.Promises.{Tells};
 
 use super::{report, rows};
 use arena::{TERM_ROOM, Terms};
+use bindings::StoredBindings;
+use unifier::Workspace;
 
 // The counts of storage, and two references.
 #[derive(Clone, Copy)]
@@ -25,45 +27,52 @@ pub enum Fault {
 }
 
 // Whether all scratch is zero.
-pub fn is_clean(links: &[[u32; 2]], marks: &[[u32; 2]], stack: &[[u32; 3]]) -> bool
-    ensures { Tells result (Clean links.now marks.now stack.now) }
+pub fn is_clean(workspace: &Workspace) -> bool
+    ensures { Tells result (Clean workspace.now.links.now workspace.now.marks.now workspace.now.stack.now) }
 {
-    if !checks::are_zero(links, 0) {
+    if !checks::are_zero(workspace.links, 0) {
         return false;
     }
-    if !checks::are_zero(marks, 0) {
+    if !checks::are_zero(workspace.marks, 0) {
         return false;
     }
-    checks::are_zero(stack, 0)
+    checks::are_zero(workspace.stack, 0)
 }
 
 // Whether the two references unify: how many bindings there are then.
 pub fn solve(
     words: &[u32],
     bindings: &mut [[u32; 2]],
-    links: &mut [[u32; 2]],
-    marks: &mut [[u32; 2]],
-    stack: &mut [[u32; 3]],
+    workspace: Workspace,
     case: Case,
 ) -> Result<Option<u32>, Fault> {
-    let variables = case.variables;
-    let used = case.used;
-    let bound = case.bound;
-    let left = case.left;
-    let right = case.right;
-    if !checks::is_ready(
-        words, bindings, links, marks, stack, variables, used, bound, left, right,
-    ) {
-        return Err(Fault::NotReady);
-    }
+    let Workspace {
+        links,
+        marks,
+        stack,
+    } = workspace;
     let terms = Terms {
         words,
         room: TERM_ROOM,
-        variables,
-        used,
+        variables: case.variables,
+        used: case.used,
     };
-    let ended = unifier::unify(terms, bindings, links, marks, stack, bound, left, right);
-    if !is_clean(links, marks, stack) {
+    let held = StoredBindings {
+        rows: bindings,
+        bound: case.bound,
+    };
+    if !checks::is_ready(terms, held, links, marks, stack, case.left, case.right) {
+        return Err(Fault::NotReady);
+    }
+    let mut lent = Workspace {
+        links,
+        marks,
+        stack,
+    };
+    let ended = unifier::unify(
+        terms, bindings, &mut lent, case.bound, case.left, case.right,
+    );
+    if !is_clean(&lent) {
         return Err(Fault::ScratchLeft);
     }
     Ok(ended)
@@ -76,30 +85,31 @@ pub fn ask(
     marks: &mut [[u32; 2]],
     case: Case,
 ) -> Result<bool, Fault> {
-    let variables = case.variables;
-    let used = case.used;
-    let bound = case.bound;
     let x = case.left;
     let r = case.right;
-    if !checks::is_form(words, bindings, marks, variables, used, bound) {
-        return Err(Fault::NotReady);
-    }
     let terms = Terms {
         words,
         room: TERM_ROOM,
-        variables,
-        used,
+        variables: case.variables,
+        used: case.used,
     };
+    let held = StoredBindings {
+        rows: bindings,
+        bound: case.bound,
+    };
+    if !checks::is_form(terms, held, marks) {
+        return Err(Fault::NotReady);
+    }
     if !bindings::is_reference(terms, r) {
         return Err(Fault::NotReady);
     }
-    if variables <= x {
+    if case.variables <= x {
         return Err(Fault::NotReady);
     }
     if bindings[x as usize][0] != 0 {
         return Err(Fault::NotReady);
     }
-    let answer = bindings::occurs(terms, bindings, marks, bound, x, r);
+    let answer = bindings::occurs(terms, held, marks, x, r);
     if !checks::are_zero(marks, 0) {
         return Err(Fault::ScratchLeft);
     }
@@ -113,22 +123,23 @@ pub fn check(
     marks: &mut [[u32; 2]],
     case: Case,
 ) -> Result<bool, Fault> {
-    let variables = case.variables;
-    let used = case.used;
-    let bound = case.bound;
-    if !checks::are_terms(words, variables, used) {
-        return Err(Fault::NotReady);
-    }
-    if !checks::are_zero(marks, (TERM_ROOM + used) as usize) {
-        return Err(Fault::NotReady);
-    }
     let terms = Terms {
         words,
         room: TERM_ROOM,
-        variables,
-        used,
+        variables: case.variables,
+        used: case.used,
     };
-    let answer = bindings::check_bindings(terms, bindings, marks, bound);
+    if !checks::are_terms(terms) {
+        return Err(Fault::NotReady);
+    }
+    if !checks::are_zero(marks, (TERM_ROOM + case.used) as usize) {
+        return Err(Fault::NotReady);
+    }
+    let held = StoredBindings {
+        rows: bindings,
+        bound: case.bound,
+    };
+    let answer = bindings::check_bindings(terms, held, marks);
     if !checks::are_zero(marks, 0) {
         return Err(Fault::ScratchLeft);
     }
@@ -143,16 +154,23 @@ pub fn take_back(
     case: Case,
     mark: u32,
 ) -> bool {
-    let variables = case.variables;
-    let used = case.used;
-    let bound = case.bound;
-    if !checks::is_form(words, bindings, marks, variables, used, bound) {
+    let terms = Terms {
+        words,
+        room: TERM_ROOM,
+        variables: case.variables,
+        used: case.used,
+    };
+    let held = StoredBindings {
+        rows: bindings,
+        bound: case.bound,
+    };
+    if !checks::is_form(terms, held, marks) {
         return false;
     }
-    if bound < mark {
+    if case.bound < mark {
         return false;
     }
-    bindings::undo(bindings, bound, mark);
+    bindings::undo(bindings, case.bound, mark);
     checks::are_zero(marks, 0)
 }
 

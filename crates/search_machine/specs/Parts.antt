@@ -59,6 +59,13 @@ module _ {most limit : ℕ} {pattern : List ℕ} {rules : Rows} {words : List �
         (take (90 + column (row_at rules r) 3 - 90) (drop 90
         (row_at rules r))) s words words' rows rows' links links' marks marks' stack stack' counter used bound goal answer) is h))
 
+-- What was tried with a workspace was tried with the buffers that it was made of.
+pub tried_lent : {most limit : ℕ} {pattern premises places : List ℕ} {stored : Stored} {words words' : List ℕ} {rows rows' links links' links'' marks marks' marks'' stack stack' stack'' : Rows}
+    {counter used bound goal : ℕ} {answer : Attempt} → links'' ≡ links' → marks'' ≡ marks' → stack'' ≡ stack'
+    → Attempted most limit pattern premises places stored words words' rows rows' links links' marks marks' stack stack' counter used bound goal answer
+    → Attempted most limit pattern premises places stored words words' rows rows' links links'' marks marks'' stack stack'' counter used bound goal answer
+tried_lent p q o h = rw (p, q, o) h
+
 -- The word of a premise, moved by the part of the row that has the places.
 module _ {rules : Rows} {x : Frame} {k : ℕ} (asked : PremiseAsked rules x k) (long : length (row_at rules x.rule) ≡ 154) where
   moving_places : take (90 + column (row_at rules x.rule) 3 - 90) (drop 90 (row_at rules x.rule)) ≡ places_in (row_at rules x.rule)

@@ -8,8 +8,8 @@ ghost use Rattle.search_machine.specs.Choosing.{Goal, Heads, Readable, Differs, 
 
 use super::{Allowed, Machine, Mode, Program, Store};
 use arena::{PATTERN_ROOM, TERM_ROOM, Terms};
-use attempts::clashes;
-use bindings::walk;
+use attempts::{SearchState, clashes};
+use bindings::{StoredBindings, walk};
 
 // The header that the bindings lead to from the goal; none where they lead to a variable.
 fn goal_header(store: &Store, m: Machine) -> Option<u32>
@@ -22,7 +22,11 @@ fn goal_header(store: &Store, m: Machine) -> Option<u32>
         variables: m.counter,
         used: m.used,
     };
-    let end = walk(terms, store.bindings, m.bound, m.goal);
+    let held = StoredBindings {
+        rows: store.bindings,
+        bound: m.bound,
+    };
+    let end = walk(terms, held, m.goal);
     if end < TERM_ROOM {
         return None;
     }
@@ -54,16 +58,15 @@ fn is_candidate(program: Program, store: &Store, m: Machine, header: Option<u32>
         return false;
     }
     let conclusion = program.rules[rule as usize][5];
-    !clashes(
-        program.pattern,
-        store.words,
-        store.bindings,
-        m.counter,
-        m.used,
-        m.bound,
-        m.goal,
-        conclusion,
-    )
+    let at = SearchState {
+        most: program.allowed.variables,
+        limit: program.allowed.words,
+        counter: m.counter,
+        used: m.used,
+        bound: m.bound,
+        goal: m.goal,
+    };
+    !clashes(program.pattern, store.words, store.bindings, at, conclusion)
 }
 
 impl Allowed {

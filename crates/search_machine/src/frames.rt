@@ -1,6 +1,6 @@
 // A frame for each rule that is entered: what is tried next if it fails, and how its premises are found.
-ghost use Rattle.std.specs.Prelude.{◌≡◌, set};
-ghost use Rattle.search_machine.specs.State.{frame_at, frame_of, row_of};
+ghost use Rattle.std.specs.Prelude.{◌≡◌};
+ghost use Rattle.search_machine.specs.State.{frame_of, row_of};
 
 // One application of a rule: the rule, its goal, the depth that its premises get; the place that it takes, a premise of its parent; and the
 // variables, bindings and words in use before it.
@@ -41,25 +41,5 @@ impl From<Frame> for [u32; 8] {
         [
             x.rule, x.goal, x.depth, x.parent, x.place, x.counter, x.bound, x.used,
         ]
-    }
-}
-
-// The frame at a number; past the end all is 0.
-pub fn frame_at(frames: &[[u32; 8]], at: u32) -> Frame
-    ensures { result ≡ frame_at frames.now at }
-{
-    match frames.get(at as usize) {
-        Some(row) => Frame::from(*row),
-        None => Frame::from([0; 8]),
-    }
-}
-
-// Writes a row; nothing past the end.
-pub fn put_row(frames: &mut [[u32; 8]], at: u32, row: [u32; 8])
-    ensures { frames.new ≡ set frames.old at row }
-{
-    let k = at as usize;
-    if k < frames.len() {
-        frames[k] = row;
     }
 }

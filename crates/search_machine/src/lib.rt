@@ -20,7 +20,7 @@ ghost use Rattle.search_machine.specs.declared.Mode.TheVariants.{Enter, Try, Fai
 use attempts::Tried;
 use bindings::undo;
 use candidates::next_candidate;
-pub use frames::{Frame, frame_at, put_row};
+pub use frames::Frame;
 use rules::RuleRow;
 use stored::{arity_of, premise, try_stored};
 
@@ -57,7 +57,10 @@ impl Store<'_> {
     fn frame(&self, at: u32) -> Frame
         ensures { result ≡ frame_at self.now.frames.now at }
     {
-        frame_at(self.frames, at)
+        match self.frames.get(at as usize) {
+            Some(row) => Frame::from(*row),
+            None => Frame::from([0; 8]),
+        }
     }
 }
 
@@ -87,6 +90,7 @@ impl Mode {
 }
 
 // The machine's state beside its storage.
+// Stays: `cut` tells of the whole search; no field has its meaning from it alone, so that an option would hold nothing.
 #[derive(Clone, Copy)]
 pub struct Machine {
     pub mode: Mode,
@@ -154,7 +158,8 @@ fn attempt(program: Program, store: &mut Store, m: Machine) -> Machine
                 used,
             },
         ) => {
-            put_row(store.frames, m.frames, m.frame().into());
+            let row: [u32; 8] = m.frame().into();
+            store.frames[m.frames as usize] = row;
             let high = m.high.max(m.frames + 1);
             m.at_body(counter, bound, used, high)
         }
@@ -191,6 +196,7 @@ fn back(allowed: Allowed, store: &mut Store, m: Machine) -> Machine
 }
 
 // One step of the machine.
+// Stays: the program is read, the store written, and the state comes in and goes out by value; as one struct, each step would have to promise besides that the program stands.
 fn step(program: Program, store: &mut Store, m: Machine) -> Machine
     requires ready { ReadyIn program store.old m }
     requires live { Live m.mode }

@@ -86,6 +86,7 @@ impl Machine {
     }
 
     // The same goal with a rule, from a counter on; words were written below a number.
+    // Stays: it sets other fields than `at_place`, so one function of both would take them all and say at no call which move it is.
     pub fn at_rule(self, rule: u32, counter: u32, top: u32) -> Machine
         ensures { result ≡ to_rule self rule counter top }
     {

@@ -8,9 +8,10 @@ ghost use Rattle.search_machine.specs.State.{arity, premise_ref};
 use super::frames::Frame;
 use super::{Machine, Program, Store};
 use arena::{PATTERN_ROOM, TERM_ROOM, moved_word};
-use attempts::{Stored, Tried, try_rule};
+use attempts::{LentRule, SearchState, Stored, Tried, try_rule};
 use refusals::Refusal;
 use rules::RuleRow;
+use unifier::Workspace;
 
 // What a row says of its rule.
 // Stays: neither the row nor what it says is a type of this crate, so that no `From` can stand here.
@@ -61,21 +62,24 @@ pub fn try_stored(program: Program, store: &mut Store, m: Machine) -> Result<Tri
     let stored = stored_in(row);
     let heads = 10 + row[4] as usize;
     let places = 90 + row[3] as usize;
-    try_rule(
-        program.pattern,
+    let rule = LentRule {
+        pattern: program.pattern,
+        premises: &row[10..heads],
+        places: &row[90..places],
         stored,
-        &row[10..heads],
-        &row[90..places],
-        store.words,
-        store.bindings,
-        store.links,
-        store.marks,
-        store.stack,
-        program.allowed.variables,
-        program.allowed.words,
-        m.counter,
-        m.used,
-        m.bound,
-        m.goal,
-    )
+    };
+    let at = SearchState {
+        most: program.allowed.variables,
+        limit: program.allowed.words,
+        counter: m.counter,
+        used: m.used,
+        bound: m.bound,
+        goal: m.goal,
+    };
+    let mut workspace = Workspace {
+        links: store.links,
+        marks: store.marks,
+        stack: store.stack,
+    };
+    try_rule(rule, store.words, store.bindings, &mut workspace, at)
 }

@@ -14,6 +14,7 @@ ghost use Rattle.sessions.specs.Storage.{part_in};
 ghost use Rattle.session_check.specs.Parts.{SessionChecked};
 
 use arena::{TERM_ROOM, Terms};
+use bindings::StoredBindings;
 use lengths::is_counted;
 pub use lengths::is_short;
 use naming::{Known, are_names_listed};
@@ -74,5 +75,9 @@ pub fn check_session(
     if !is_scratch_zero(terms, links, marks, stack) {
         return false;
     }
-    bindings::check_bindings(terms, session.bindings, marks, counts.bound)
+    let held = StoredBindings {
+        rows: session.bindings,
+        bound: counts.bound,
+    };
+    bindings::check_bindings(terms, held, marks)
 }

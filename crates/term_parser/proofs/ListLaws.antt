@@ -9,7 +9,10 @@ use lib.Dec.{eqb}
 use lib.ListN.{length, take, drop, set}
 use lib.Seq.{drop-drop}
 use Rattle.refusals.specs.declared.Refusal.{Refusal}
-use Rattle.term_parser.specs.Steps.{Step}
+use Rattle.std.specs.Prelude.{Result, Err}
+use Rattle.refusals.specs.declared.Rejection.{Rejection}
+use Rattle.term_parser.specs.declared.Read.{Read}
+use Rattle.term_parser.specs.Steps.{Step, step}
 use Rattle.term_parser.specs.Steps.Step.{At, Absent, Refused}
 use Rattle.term_parser.specs.Parsing.{Tokens, token_of, kind_of, place_of, line_of, last_line, sign_of, Parsed, parsed, absent, refused, plus, follow, behind, repeat}
 use Rattle.words.specs.Names.{name_kind}
@@ -22,7 +25,8 @@ use Rattle.term_parser.proofs.TermLaws.{leaf, closes, app_at, firm_app}
 use Rattle.term_parser.specs.Rows.{Rows, rows_of, rows_of_all, name_rows}
 use Rattle.term_parser.specs.Source.{Source, one}
 use Rattle.term_parser.specs.Promises.{on, no, shown, told, Within, Answers, Lists, Room, Signed}
-use Rattle.term_parser.proofs.Readers.{no_path, Firm, firmly, firm_plus, firm_follow, firm_repeat, firm_when, firm_sign, firm_parsed, firm_refused, Stopped, got, moved, goes_on, passed, within_stopped, is_absent, is_refused_lem, told_plus, Looped, repeat_end, repeat_refused}
+use Rattle.term_parser.specs.Firmness.{Firm, firm_follow, firm_repeat, firm_when, firm_sign, firm_name, firm_parsed}
+use Rattle.term_parser.proofs.Readers.{no_path, firmly, Stopped, got, moved, goes_on, passed, within_stopped, is_absent, is_refused_lem, told_plus, Looped, onto, repeat_onto, repeat_end, repeat_refused}
 
 -- An item behind a sign.
 module _ {A : Type 0} (kind : ℕ) (item : Tokens → Parsed A) (ts : Tokens) (p : ℕ) where
@@ -34,9 +38,6 @@ module _ {A : Type 0} (kind : ℕ) (item : Tokens → Parsed A) (ts : Tokens) (p
 
   pub behind_not : kind_of (drop p ts) ≢ kind → behind kind item (drop p ts) ≡ absent
   behind_not e = simp (ne_eqb _ _ e)
-
-  pub behind_firm : kind_of (drop p ts) ≡ kind → Firm (item (drop (p + 1) ts)) → Firm (behind kind item (drop p ts))
-  behind_firm e f = subst Firm (sym (behind_is e)) (firm_plus 1 (item (drop (p + 1) ts)) f)
 
   pub behind_answers : {rows : A → Rows} {d u : ℕ} {before : Rows} {r : Step} {out : Rows} → kind_of (drop p ts) ≡ kind → Answers d rows (item (drop (p + 1) ts)) ts (p + 1) u before r out
       → Answers 1 rows (behind kind item (drop p ts)) ts p u before r out
@@ -53,22 +54,13 @@ module _ {A : Type 0} (kind : ℕ) (item : Tokens → Parsed A) (ts : Tokens) (p
 
 -- An item, unless a sign stands there.
 module _ {A : Type 0} (kind : ℕ) (item : Tokens → Parsed A) (us : Tokens) where
-  pub unless_there : kind_of us ≡ kind → unless kind item us ≡ absent
-  unless_there e = simp (eq-eqb _ _ e)
-
   pub unless_not : kind_of us ≢ kind → unless kind item us ≡ item us
   unless_not e = simp (ne_eqb _ _ e)
 
   pub unless_answers : {rows : A → Rows} {ts : Tokens} {p u : ℕ} {before : Rows} {r : Step} {out : Rows} → kind_of us ≢ kind → Answers 1 rows (item us) ts p u before r out → Answers 1 rows (unless kind item us) ts p u before r out
   unless_answers {rows} {ts} {p} {u} {before} {r} {out} e h = subst (λ (x : Parsed A). Answers 1 rows x ts p u before r out) (sym (unless_not e)) h
 
-  pub unless_firm : kind_of us ≢ kind → Firm (item us) → Firm (unless kind item us)
-  unless_firm e f = subst Firm (sym (unless_not e)) f
-
 -- Names.
-pub firm_name : (last : ℕ) (us : Tokens) → Firm (name_of last us)
-firm_name last us = firm_when (eqb (kind_of us) name_kind) (λ _. parsed (place_of us) 1) (λ _. refused NameExpected (line_of last us)) (firm_parsed (place_of us) 1) (firm_refused NameExpected (line_of last us))
-
 module _ (ts : Tokens) {p u : ℕ} {out : Rows} (room : Room ts p u out) {t : Token} (te : t ≡ token_of (drop p ts)) where
   kind_of_lem : {k : ℕ} → t.kind ≡ k → kind_of (drop p ts) ≡ k
   kind_of_lem e = sym (ap (λ x. x.kind) te) ∙ e
@@ -119,15 +111,35 @@ pub firm_title : (last : ℕ) (us : Tokens) → Firm (title_of last us)
 firm_title last us = firm_follow (name_of last us) us (λ n vs. follow (sign_of last 20 vs) vs (λ _ ws. parsed n 0)) (firm_name last us)
     (λ n vs. firm_follow (sign_of last 20 vs) vs (λ _ ws. parsed n 0) (firm_sign last 20 vs) (λ _ ws. firm_parsed n 0))
 
+-- A step that read one item more.
+abbrev pub one_more_item : Step → Step
+one_more_item (At next used n) = At next used (n + 1)
+one_more_item Absent = Absent
+one_more_item (Refused v l) = Refused v l
+
+shown_more : (s : Step) (out : Rows) → shown (one_more_item s) out ≡ shown s out
+shown_more (At next used n) out = refl
+shown_more Absent out = refl
+shown_more (Refused v l) out = refl
+
+-- a refusal reads no item more
+pub handed_more : (r : Result Read Rejection) {f : Rejection} → r ≡ Err f → step r ≡ one_more_item (step r)
+handed_more r e = rw e refl
+
+told_onto : {A : Type 0} (rows : A → Rows) (q : ℕ) (before : Rows) (a : A) (y : Parsed (List A)) → told (rows_of_all rows) q before (onto (a ∷ []) y) ≡ told (rows_of_all rows) q (before ++ rows a) y
+unfolding rows_of_all
+told_onto rows q before a (parsed l n) = ap (on (q + n)) (sym (append_assoc before (rows a) (rows_of_all rows l)))
+told_onto rows q before a absent = refl
+told_onto rows q before a (refused v l) = refl
+
+more_items : {A : Type 0} (a : A) (k : ℕ) (y : Parsed (List A)) {m : ℕ} → ((items : List A) (taken : ℕ) → y ≡ parsed items taken → m ≡ length items)
+    → {items : List A} {taken : ℕ} → plus k (onto (a ∷ []) y) ≡ parsed items taken → m + 1 ≡ length items
+more_items a k (parsed l n) {m} c {items} e = let v : items ≡ a ∷ l = cc in let w : length items ≡ suc (length l) = ap length v in let d = c l n refl in omega arith
+more_items a k absent c e = no_path cc
+more_items a k (refused v l) c e = no_path cc
+
 -- Items as long as there are some.
 module _ {A : Type 0} (item : Tokens → Parsed A) (rows : A → Rows) (ts : Tokens) where
-  -- a refusal of the next one
-  refusal_is : {p u : ℕ} {before : Rows} {r : Step} {out : Rows} {x : Parsed A} → Answers 1 rows x ts p u before r out → Stopped r → Firm x → (q : ℕ) (base out' : Rows)
-      → (y : Parsed (List A)) → ((s : Refusal) (l : ℕ) → x ≡ refused s l → y ≡ refused s l) → shown r out' ≡ told (rows_of_all rows) q base y
-  refusal_is {r = At _ _ _} h s f q base out' y g = absurd s
-  refusal_is {r = Absent} h s f q base out' y g = absurd (f (is_absent h refl))
-  refusal_is {r = Refused v l} h s f q base out' y g = sym (ap (told (rows_of_all rows) q base) (g v l (is_refused_lem h refl)))
-
   module _ {q k : ℕ} {out₀ : Rows} {p u n : ℕ} {out : Rows} (l : Looped item rows ts q k 0 out₀ p u n out) where
     pub list_end : item (drop p ts) ≡ absent → Lists 0 rows (repeat item (drop q ts) 0 0 []) ts q k out₀ (At p u n) out
     list_end e =
@@ -169,37 +181,40 @@ module _ {A : Type 0} (item : Tokens → Parsed A) (rows : A → Rows) (ts : Tok
           counted = λ _ _ _ g. absurd (subst Stopped g s);
         }
 
-        module _ {q k i : ℕ} (e : r ≡ At q k i) {p' u' n : ℕ} {out₁ : Rows} (l : Looped item rows ts q k 1 out p' u' n out₁) where
-          rest_is : told (rows_of_all rows) p (take u before) (chain (drop p ts)) ≡ told (rows_of_all rows) q (take u before) (repeat item (drop p' ts) 0 (p' - q) ((got h e).item ∷ l.new))
-          rest_is = goes_on h e (rows_of_all rows) (λ a vs. repeat item vs 0 0 (a ∷ [])) (take u before) ∙ ap (told (rows_of_all rows) q (take u before)) (l.same ((got h e).item ∷ []))
+        -- the others were read, or one was refused
+        module _ {q k i : ℕ} (e : r ≡ At q k i) {s : Step} {out₁ : Rows} (l : Lists 0 rows (repeat item (drop q ts) 0 0 []) ts q k out s out₁) where
+          abbrev others : Parsed (List A)
+          others = repeat item (drop q ts) 0 0 []
 
-          pub chain_end : item (drop p' ts) ≡ absent → Lists 1 rows (chain (drop p ts)) ts p u before (At p' u' n) out₁
-          unfolding rows_of_all
-          chain_end f =
-              let g = got h e in
-              let m = moved h e in
-              let lf = l.from in let la = l.above in let lfi = l.fits in
-              let d : p' ≡ q + (p' - q) = omega arith in
-              let x : repeat item (drop p' ts) 0 (p' - q) (g.item ∷ l.new) ≡ parsed (g.item ∷ l.new) (p' - q) = repeat_end item (drop p' ts) (p' - q) (g.item ∷ l.new) f in
-              let w : take u' out₁ ≡ take u before ++ (rows g.item ++ rows_of_all rows l.new) = l.wrote ∙ ap (λ z. z ++ rows_of_all rows l.new) g.written ∙ append_assoc (take u before) _ _ in
-              record {
-                answers = firmly 1 (rows_of_all rows) (chain (drop p ts)) ts p u before (At p' u' n) out₁ (firm_chain (drop p ts))
-                    (ap₂ on d w ∙ sym (rest_is ∙ ap (told (rows_of_all rows) q (take u before)) x)) (omega (arith, m), l.to, omega (arith, m), omega (arith, m));
-                counted = λ next used j eq a t z.
-                    let whole : chain (drop p ts) ≡ parsed (g.item ∷ l.new) (g.taken + (p' - q)) =
-                    ap (λ y. follow y (drop p ts) (λ b vs. repeat item vs 0 0 (b ∷ []))) g.is
-                    ∙ ap (λ us. plus g.taken (repeat item us 0 0 (g.item ∷ []))) (drop-drop g.taken p ts ∙ ap (λ o. drop o ts) (sym g.place))
-                    ∙ ap (plus g.taken) (l.same (g.item ∷ []) ∙ x) in
-                    let c = l.counted in let o : j ≡ n = cc in let v : a ≡ g.item ∷ l.new = cc in let y : length a ≡ suc (length l.new) = ap length v in omega arith;
-              }
+          chain_is : told (rows_of_all rows) p (take u before) (chain (drop p ts)) ≡ told (rows_of_all rows) q (take k out) others
+          chain_is = goes_on h e (rows_of_all rows) (λ a vs. repeat item vs 0 0 (a ∷ [])) (take u before)
+              ∙ ap (told (rows_of_all rows) q (take u before)) (repeat_onto item (drop q ts) 0 0 ((got h e).item ∷ []) [])
+              ∙ told_onto rows q (take u before) (got h e).item others
+              ∙ ap (λ z. told (rows_of_all rows) q z others) (sym (got h e).written)
 
-          pub chain_refused : {s : Step} {out₂ : Rows} → Answers 1 rows (item (drop p' ts)) ts p' u' out₁ s out₂ → Stopped s → Firm (item (drop p' ts)) → Lists 1 rows (chain (drop p ts)) ts p u before s out₂
-          chain_refused {s} {out₂} a st f = record {
-            answers = firmly 1 (rows_of_all rows) (chain (drop p ts)) ts p u before s out₂ (firm_chain (drop p ts))
-                (refusal_is a st f q (take u before) out₂ (repeat item (drop p' ts) 0 (p' - q) ((got h e).item ∷ l.new))
-                (λ _ _ z. repeat_refused item (drop p' ts) (p' - q) ((got h e).item ∷ l.new) z) ∙ sym rest_is) (within_stopped 1 ts p u s st);
-            counted = λ _ _ _ g. absurd (subst Stopped g st);
+          pub chain_goes_on : Lists 1 rows (chain (drop p ts)) ts p u before (one_more_item s) out₁
+          chain_goes_on = record {
+            answers = firmly 1 (rows_of_all rows) (chain (drop p ts)) ts p u before (one_more_item s) out₁ (firm_chain (drop p ts))
+                (shown_more s out₁ ∙ l.answers.is ∙ sym chain_is) (further s l.answers.within);
+            counted = counts s l.counted;
           }
+            where
+              further : (z : Step) → Within 0 ts q k z → Within 1 ts p u (one_more_item z)
+              further (At next used n) (a, b, c, d) = (omega (arith, moved h e), b, omega (arith, moved h e), omega (arith, moved h e))
+              further Absent w = tt
+              further (Refused v m) w = tt
+
+              whole : chain (drop p ts) ≡ plus (got h e).taken (onto ((got h e).item ∷ []) others)
+              whole =
+                  ap (λ y. follow y (drop p ts) (λ b vs. repeat item vs 0 0 (b ∷ []))) (got h e).is
+                  ∙ ap (λ us. plus (got h e).taken (repeat item us 0 0 ((got h e).item ∷ []))) (drop-drop (got h e).taken p ts ∙ ap (λ o. drop o ts) (sym (got h e).place))
+                  ∙ ap (plus (got h e).taken) (repeat_onto item (drop q ts) 0 0 ((got h e).item ∷ []) [])
+
+              counts : (z : Step) → ((next used n : ℕ) → z ≡ At next used n → (items : List A) (taken : ℕ) → others ≡ parsed items taken → n ≡ length items)
+                  → (next used n : ℕ) → one_more_item z ≡ At next used n → (items : List A) (taken : ℕ) → chain (drop p ts) ≡ parsed items taken → n ≡ length items
+              counts (At next used m) c next' used' n f items taken g = let w : n ≡ m + 1 = cc in w ∙ more_items (got h e).item (got h e).taken others (c next used m refl) (sym whole ∙ g)
+              counts Absent c next used n f items taken g = no_path cc
+              counts (Refused v m) c next used n f items taken g = no_path cc
 
 pub firm_separated : {A : Type 0} (kind : ℕ) (item : Tokens → Parsed A) → ((us : Tokens) → Firm (item us)) → (us : Tokens) → Firm (separated kind item us)
 firm_separated kind item f us = firm_follow (item us) us (λ a vs. repeat (behind kind item) vs 0 0 (a ∷ [])) (f us) (λ a vs. firm_repeat (behind kind item) vs 0 0 (a ∷ []))

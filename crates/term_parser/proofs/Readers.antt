@@ -7,17 +7,16 @@ use lib.ListN.{length, take, drop, length-append, length-drop}
 use lib.Seq.{drop-drop}
 use Rattle.std.specs.Prelude.{Option, Result, Err}
 use Rattle.std.specs.Result.{IsErrAnd}
-use Rattle.std.proofs.lemmas.Result.{err_from_is_err_and}
+use Rattle.refusals.specs.Refused.{handed_on}
 use Rattle.refusals.specs.declared.Rejection.{Rejection}
 use Rattle.term_parser.specs.declared.Read.{Read}
 use Rattle.refusals.specs.declared.Refusal.{Refusal}
-use Rattle.refusals.specs.declared.Refusal.TheVariants.{TermExpected, SignExpected}
+use Rattle.refusals.specs.declared.Refusal.TheVariants.{TermExpected}
 use Rattle.term_parser.specs.Steps.{Step, step, maybe_step}
 use Rattle.term_parser.specs.Steps.Step.{At, Absent, Refused}
-use mathlib.Core.Bool.{Bool, true, false}
-use lib.Dec.{eqb}
-use Rattle.term_parser.specs.Parsing.{Tokens, kind_of, line_of, when, Parsed, parsed, absent, refused, plus, follow, required, continued, repeat, sign_of}
+use Rattle.term_parser.specs.Parsing.{Tokens, Parsed, parsed, absent, refused, plus, follow, required, continued, repeat}
 use Rattle.term_parser.specs.Rows.{Rows, rows_of_all}
+use Rattle.term_parser.specs.Firmness.{Firm, firm_required}
 use Rattle.term_parser.specs.Promises.{on, nothing, no, shown, told, Within, Answers}
 
 pub no_path : {A : Type 0} → ◌≡◌ {A = ℕ} 0 1 → A
@@ -39,17 +38,14 @@ Stopped (Refused r line) = Unit {0}
 pub stopped_err : (r : Result Read Rejection) {f : Rejection} → r ≡ Err f → Stopped (step r)
 stopped_err r e = rw e tt
 
-pub stopped_maybe : (r : Result (Option Read) Rejection) {f : Rejection} → r ≡ Err f → Stopped (maybe_step r)
-stopped_maybe r e = rw e tt
-
 pub exits : (r s : Result Read Rejection) {f : Rejection} → r ≡ Err f → IsErrAnd s (λ y. y ≡ f) → step s ≡ step r
-exits r s {f} e h = let p = err_from_is_err_and s h in ap step (p.1 ∙ ap Err p.2 ∙ sym e)
+exits r s e h = ap step (handed_on s h ∙ sym e)
 
 pub exits_maybe : (r : Result Read Rejection) (s : Result (Option Read) Rejection) {f : Rejection} → r ≡ Err f → IsErrAnd s (λ y. y ≡ f) → maybe_step s ≡ step r
-exits_maybe r s {f} e h = let p = err_from_is_err_and s h in ap maybe_step (p.1 ∙ ap Err p.2) ∙ sym (ap step e)
+exits_maybe r s e h = ap maybe_step (handed_on s h) ∙ sym (ap step e)
 
 pub maybe_exits : (r : Result (Option Read) Rejection) (s : Result Read Rejection) {f : Rejection} → r ≡ Err f → IsErrAnd s (λ y. y ≡ f) → step s ≡ maybe_step r
-maybe_exits r s {f} e h = let p = err_from_is_err_and s h in ap step (p.1 ∙ ap Err p.2) ∙ sym (ap maybe_step e)
+maybe_exits r s e h = ap step (handed_on s h) ∙ sym (ap maybe_step e)
 
 -- What a reader read that went on to the place `next`.
 pub record Got {A : Type 0} (rows : A → Rows) (p : ℕ) (before : Rows) (x : Parsed A) (next : ℕ) (after : Rows) : Type 0 where
@@ -102,54 +98,14 @@ told_plus rows p n before (parsed a m) = let e : p + (n + m) ≡ p + n + m = ome
 told_plus rows p n before absent = refl
 told_plus rows p n before (refused r l) = refl
 
--- readers that always read something or refuse
-abbrev pub Firm : {A : Type 0} → Parsed A → Type 0
-Firm x = x ≡ absent → ⊥
-
-pub firm_required : {A : Type 0} (r : Refusal) (l : ℕ) (x : Parsed A) → Firm (required r l x)
-firm_required r l (parsed a n) e = no_path cc
-firm_required r l absent e = no_path cc
-firm_required r l (refused q m) e = no_path cc
-
-pub firm_plus : {A : Type 0} (n : ℕ) (x : Parsed A) → Firm x → Firm (plus n x)
-firm_plus n (parsed a m) f e = no_path cc
-firm_plus n absent f e = f refl
-firm_plus n (refused q m) f e = no_path cc
-
-pub firm_follow : {A B : Type 0} (x : Parsed A) (ts : Tokens) (next : A → Tokens → Parsed B) → Firm x → ((a : A) (us : Tokens) → Firm (next a us)) → Firm (follow x ts next)
-firm_follow (parsed a n) ts next f g e = firm_plus n (next a (drop n ts)) (g a (drop n ts)) e
-firm_follow absent ts next f g e = f refl
-firm_follow (refused q m) ts next f g e = no_path cc
-
-firm_continued : {A B : Type 0} (x : Parsed A) (next : A → ℕ → Parsed B) (end : Parsed B) → ((a : A) (m : ℕ) → Firm (next a m)) → Firm end → Firm (continued x next end)
-firm_continued (parsed a m) next end f g e = f a m e
-firm_continued absent next end f g e = g e
-firm_continued (refused q m) next end f g e = no_path cc
-
-pub firm_parsed : {A : Type 0} (a : A) (n : ℕ) → Firm (parsed a n)
-firm_parsed a n e = no_path cc
-
-pub firm_refused : {A : Type 0} (r : Refusal) (l : ℕ) → Firm {A = A} (refused r l)
-firm_refused r l e = no_path cc
-
-pub firm_repeat : {A : Type 0} (item : Tokens → Parsed A) (ts : Tokens) (k n : ℕ) (done : List A) → Firm (repeat item ts k n done)
-unfolding repeat
-firm_repeat item [] k n done = firm_continued (item []) (λ a m. parsed done n) (parsed done n) (λ a m. firm_parsed done n) (firm_parsed done n)
-firm_repeat item (t ∷ ts) (suc k) n done = firm_repeat item ts k n done
-firm_repeat item (t ∷ ts) zero n done =
-    firm_continued (item (t ∷ ts)) (λ a m. repeat item ts (m - 1) (n + m) (done ++ (a ∷ []))) (parsed done n) (λ a m. firm_repeat item ts (m - 1) (n + m) (done ++ (a ∷ []))) (firm_parsed done n)
-
-pub firm_when : {A : Type 0} (b : Bool) (x y : Unit {0} → Parsed A) → Firm (x tt) → Firm (y tt) → Firm (when b x y)
-firm_when true x y f g = f
-firm_when false x y f g = g
-
-pub firm_sign : (last kind : ℕ) (ts : Tokens) → Firm (sign_of last kind ts)
-firm_sign last kind ts = firm_when (eqb (kind_of ts) kind) (λ _. parsed tt 1) (λ _. refused SignExpected (line_of last ts)) (firm_parsed tt 1) (firm_refused SignExpected (line_of last ts))
-
 absent_is : {A : Type 0} (rows : A → Rows) (p : ℕ) (before : Rows) (x : Parsed A) → nothing ≡ told rows p before x → x ≡ absent
 absent_is rows p before (parsed a n) e = no_path cc
 absent_is rows p before absent e = refl
 absent_is rows p before (refused q m) e = no_path cc
+
+-- what a reader owes where there is no such item
+pub none_there : {A : Type 0} (d : ℕ) (rows : A → Rows) (x : Parsed A) (ts : Tokens) (p u : ℕ) (before : Rows) → x ≡ absent → Answers d rows x ts p u before Absent before
+none_there d rows x ts p u before e = record { is = sym (ap (told rows p (take u before)) e); within = tt; still = λ _. refl }
 
 -- what a firm reader owes
 pub firmly : {A : Type 0} (d : ℕ) (rows : A → Rows) (x : Parsed A) (ts : Tokens) (p u : ℕ) (before : Rows) (r : Step) (out : Rows) → Firm x
@@ -229,6 +185,26 @@ pub rows_snoc : {A : Type 0} (rows : A → Rows) (l : List A) (a : A) → rows_o
 unfolding rows_of_all
 rows_snoc rows [] a = append-nil _
 rows_snoc rows (b ∷ l) a = ap (λ z. rows b ++ z) (rows_snoc rows l a) ∙ sym (append_assoc (rows b) _ _)
+
+-- The items that come after some that are done.
+abbrev pub onto : {A : Type 0} → List A → Parsed (List A) → Parsed (List A)
+onto done (parsed l n) = parsed (done ++ l) n
+onto done absent = absent
+onto done (refused r l) = refused r l
+
+continued_onto : {A B : Type 0} (o : Parsed A) (done : List B) (f g : A → ℕ → Parsed (List B)) (x y : Parsed (List B)) → ((a : A) (m : ℕ) → f a m ≡ onto done (g a m)) → x ≡ onto done y
+    → continued o f x ≡ onto done (continued o g y)
+continued_onto (parsed a m) done f g x y h e = h a m
+continued_onto absent done f g x y h e = e
+continued_onto (refused r l) done f g x y h e = refl
+
+pub repeat_onto : {A : Type 0} (item : Tokens → Parsed A) (ts : Tokens) (k n : ℕ) (done l : List A) → repeat item ts k n (done ++ l) ≡ onto done (repeat item ts k n l)
+unfolding repeat
+repeat_onto item [] k n done l = continued_onto (item []) done (λ a m. parsed (done ++ l) n) (λ a m. parsed l n) (parsed (done ++ l) n) (parsed l n) (λ a m. refl) refl
+repeat_onto item (t ∷ ts) (suc k) n done l = repeat_onto item ts k n done l
+repeat_onto item (t ∷ ts) zero n done l =
+    continued_onto (item (t ∷ ts)) done (λ a m. repeat item ts (m - 1) (n + m) ((done ++ l) ++ (a ∷ []))) (λ a m. repeat item ts (m - 1) (n + m) (l ++ (a ∷ []))) (parsed (done ++ l) n) (parsed l n)
+    (λ a m. ap (repeat item ts (m - 1) (n + m)) (append_assoc done l (a ∷ [])) ∙ repeat_onto item ts (m - 1) (n + m) done (l ++ (a ∷ []))) refl
 
 -- A loop over items: from place q, k rows and the count c on, the items in `new` were read.
 pub record Looped {A : Type 0} (item : Tokens → Parsed A) (rows : A → Rows) (ts : Tokens) (q k c : ℕ) (out₀ : Rows) (p u n : ℕ) (out : Rows) : Type 0 where

@@ -23,8 +23,9 @@ use Rattle.term_parser.specs.Parsing.{Tokens, token_of, kind_of, place_of, line_
 use Rattle.term_parser.specs.Grammar.{value, value_at, applied, equated, atom_of, app_of, term_of, parenthesis}
 use Rattle.term_parser.specs.Rows.{Rows, row, application_kind, rows_of, rows_of_all}
 use Rattle.term_parser.specs.Promises.{on, no, shown, told, Within, Answers, Room, Signed, signed, inside, kind_at, grown, Applying, Equating}
+use Rattle.term_parser.specs.Firmness.{firm_app as app_firm, firm_term as term_firm, Firm, firm_sign}
 use Rattle.term_parser.proofs.TokenLaws.{token_there}
-use Rattle.term_parser.proofs.Readers.{no_path, Looped, loop_start, loop_turn, required_step, required_answers, Firm, firmly, firm_required, firm_plus, firm_follow, firm_repeat, firm_sign, firm_when, firm_parsed, Stopped, got, moved, goes_on, passed, within_stopped, is_absent, is_refused_lem, told_plus, repeat_end, repeat_refused}
+use Rattle.term_parser.proofs.Readers.{no_path, none_there, Looped, loop_start, loop_turn, required_step, required_answers, firmly, Stopped, got, moved, goes_on, passed, within_stopped, is_absent, is_refused_lem, told_plus, repeat_end, repeat_refused}
 
 -- One row for one token.
 module _ {A : Type 0} (rows : A → Rows) {ts : Tokens} {p u : ℕ} {out : Rows} (room : Room ts p u out) (here : p < length ts) where
@@ -98,7 +99,7 @@ module _ (text : List ℕ) (ts : Tokens) (left : ℕ) {p u : ℕ} {out : Rows} (
     is_open k = atom_inner text (last_line ts) (inside text ts left) (drop p ts) (kind_not a) (kind_not b) (kind_not c) (kind_is k)
 
     pub is_none : t.kind ≢ 18 → Answers 1 rows_of reader ts p u out Absent out
-    is_none k = record { is = sym (ap (told rows_of p (take u out)) (atom_absent text (last_line ts) (inside text ts left) (drop p ts) (kind_not a) (kind_not b) (kind_not c) (kind_not k))); within = tt; still = λ _. refl }
+    is_none k = none_there 1 rows_of reader ts p u out (atom_absent text (last_line ts) (inside text ts left) (drop p ts) (kind_not a) (kind_not b) (kind_not c) (kind_not k))
 
 -- Parentheses.
 module _ (text : List ℕ) (last : ℕ) where
@@ -200,19 +201,6 @@ pub rows_extend : (us : Source many) (t : Source one) → rows_of (extend us t) 
 unfolding rows_of extend
 rows_extend none t = append-nil _
 rows_extend (more u us) t = ap (λ z. rows_of u ++ z) (rows_extend us t) ∙ sym (append_assoc (rows_of u) _ _)
-
-firm_applied : (line : ℕ) (t : Source one) (args : List (Source one)) → Firm (applied line t args)
-firm_applied line t [] e = no_path cc
-firm_applied line (name f) (a ∷ l) e = no_path cc
-firm_applied line (numeral p v) (a ∷ l) e = no_path cc
-firm_applied line (metavariable p) (a ∷ l) e = no_path cc
-firm_applied line (application f ts) (a ∷ l) e = no_path cc
-
-firm_equated : (line : ℕ) (t a : Source one) → Firm (equated line t a)
-firm_equated line (name f) a e = no_path cc
-firm_equated line (application f ts) a e = no_path cc
-firm_equated line (numeral p v) a e = no_path cc
-firm_equated line (metavariable p) a e = no_path cc
 
 -- How a step ended that may have changed the root's row: it went to p with u' rows, or was refused.
 abbrev pub Stays : ℕ → ℕ → Step → Type 0
@@ -333,9 +321,7 @@ module _ (text : List ℕ) (ts : Tokens) (left : ℕ) where
   app_is p = refl
 
   pub firm_app : (us : Tokens) → Firm (app_at us)
-  unfolding app_of
-  firm_app us = firm_follow (required TermExpected (line_of (last_line ts) us) (atom_at us)) us arguments (firm_required TermExpected (line_of (last_line ts) us) (atom_at us))
-      (λ t vs. firm_follow (repeat atom_at vs 0 0 []) vs (λ args ws. applied (line_of (last_line ts) ws) t args) (firm_repeat atom_at vs 0 0 []) (λ args ws. firm_applied (line_of (last_line ts) ws) t args))
+  firm_app us = app_firm text (last_line ts) (inside text ts left) us
 
   -- The ways out of `app`: no first atom,
   module _ {p u : ℕ} {before : Rows} (room : Room ts p u before) {r : Step} {out : Rows} (h : Answers 1 rows_of (head_at p) ts p u before r out) where
@@ -430,10 +416,6 @@ module _ (text : List ℕ) (ts : Tokens) (left : ℕ) where
     atoms_few (inl (a, b, c, d)) = omega arith
     atoms_few (inr s) = let m = moved s.head s.went in let f = s.loop.few in omega (arith, m)
 
-    pub atoms_length : Atoms p u before p' u' n out → length out ≡ length before
-    atoms_length (inl (a, b, c, d)) = ap length d
-    atoms_length (inr s) = s.loop.long ∙ s.long
-
     -- The next atom is read, is not there, or is refused.
     module _ {r : Step} {out' : Rows} (h : Answers 1 rows_of (atom_at (drop p' ts)) ts p' u' out r out') where
       start : (p' ≡ p) × (u' ≡ u) × (n ≡ 0) × (out ≡ before) → Answers 1 rows_of (head_at p) ts p u before (required_step (line_of (last_line ts) (drop p ts)) r) out'
@@ -500,12 +482,7 @@ module _ (text : List ℕ) (ts : Tokens) (left : ℕ) where
   term_is p = refl
 
   pub firm_term : (us : Tokens) → Firm (term_at us)
-  unfolding term_of
-  firm_term us = firm_follow (app_at us) us equation (firm_app us) (λ t vs. firm_when (eqb (kind_of vs) 23)
-      (λ _. plus 1 (follow (app_at (drop 1 vs)) (drop 1 vs) (λ a ws. equated (line_of (last_line ts) ws) t a))) (λ _. parsed t 0)
-      (firm_plus 1 (follow (app_at (drop 1 vs)) (drop 1 vs) (λ a ws. equated (line_of (last_line ts) ws) t a))
-      (firm_follow (app_at (drop 1 vs)) (drop 1 vs) (λ a ws. equated (line_of (last_line ts) ws) t a) (firm_app (drop 1 vs)) (λ a ws. firm_equated (line_of (last_line ts) ws) t a)))
-      (firm_parsed t 0))
+  firm_term us = term_firm text (last_line ts) (inside text ts left) us
 
   module _ {p u : ℕ} {before : Rows} (room : Room ts p u before) {r : Step} {out : Rows} (h : Answers 1 rows_of (app_at (drop p ts)) ts p u before r out) where
     pub term_stopped : Stopped r → Answers 1 rows_of (term_at (drop p ts)) ts p u before r out

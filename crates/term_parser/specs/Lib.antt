@@ -4,6 +4,7 @@ pub mod Parsing
 pub mod Steps
 pub mod Grammar
 pub mod Lists
+pub mod Firmness
 pub mod Rows
 pub mod Standing
 pub mod ReaderLaws

@@ -7,6 +7,8 @@ use Rattle.term_parser.specs.Rows.{Rows, application_kind, rows_of_all}
 use Rattle.words.specs.Names.{name_kind}
 use Rattle.refusals.specs.declared.Refusal.{Refusal}
 use Rattle.refusals.specs.declared.Refusal.TheVariants.{OnlyNames, LeftOfEquals}
+use Rattle.term_parser.specs.declared.Input.{Input}
+use Rattle.term_parser.specs.declared.Position.{Position}
 use Rattle.term_parser.specs.Steps.{Step}
 use Rattle.term_parser.specs.Steps.Step.{At, Absent, Refused}
 
@@ -48,6 +50,15 @@ pub record Counted {A : Type 0} (count : A → ℕ) (d : ℕ) (rows : A → Rows
 -- The same of a list of items.
 abbrev pub Lists : {A : Type 0} → ℕ → (A → Rows) → Parsed (List A) → Tokens → ℕ → ℕ → Rows → Step → Rows → Type 0
 Lists d rows reader ts p u before r after = Counted length d (rows_of_all rows) reader ts p u before r after
+
+-- The same of what reads an input from a position on, by its grammar in the text and in the line of the last token.
+abbrev pub Reads : {A : Type 0} → ℕ → (A → Rows) → (List ℕ → ℕ → Tokens → Parsed A) → Input → Position → Rows → Step → Rows → Type 0
+Reads d rows grammar input from before r after =
+    Answers d rows (grammar input.text.now (last_line input.tokens.now) (drop from.at input.tokens.now)) input.tokens.now from.at from.used before r after
+
+abbrev pub ReadsList : {A : Type 0} → ℕ → (A → Rows) → (List ℕ → ℕ → Tokens → Parsed (List A)) → Input → Position → Rows → Step → Rows → Type 0
+ReadsList d rows grammar input from before r after =
+    Lists d rows (grammar input.text.now (last_line input.tokens.now) (drop from.at input.tokens.now)) input.tokens.now from.at from.used before r after
 
 -- What it asks: a row for each token, and no more rows in use than tokens taken.
 pub record Room (ts : Tokens) (p u : ℕ) (out : Rows) : Type 0 where

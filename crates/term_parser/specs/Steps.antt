@@ -13,13 +13,13 @@ pub data Step : Type 0 where
 
 -- The step of an answer that is never absent.
 abbrev pub step : Result Read Rejection → Step
-step (Ok r) = At r.at r.used r.count
+step (Ok r) = At r.position.at r.position.used r.count
 step (Err e) = Refused e.refusal e.line
 
 -- The step of an answer.
 abbrev pub maybe_step : Result (Option Read) Rejection → Step
 maybe_step (Ok None) = Absent
-maybe_step (Ok (Some r)) = At r.at r.used r.count
+maybe_step (Ok (Some r)) = At r.position.at r.position.used r.count
 maybe_step (Err e) = Refused e.refusal e.line
 
 -- The refusal of the token at a place.

@@ -1,10 +1,12 @@
 // Term parser: from tokens to terms, to names, and to lists of them, as rows. The Rust's `Parser` without its declarations, with the refusals 7 to 12.
 //
 // A reader starts at a token's place with some rows in use. It asks for a row for each token, and its contract fixes what it answers and writes.
+// What comes in lists is an item of a kind, which says how it is read.
 #![tactic(auto)]
 
 pub mod tokens; // reading tokens and writing rows
 pub mod terms; // terms: the cycle of calls
+pub mod items; // what lists are made of, and how they are read
 pub mod lists; // names, and lists of items
 
 // The kind of an application's row, beside the kinds of tokens.
@@ -23,10 +25,23 @@ pub struct Token {
     pub line: u32,
 }
 
-// Where a reader stands: the place of the next token, how many rows there are, and how many items it read.
+// What is read: a text, and its tokens.
 #[derive(Clone, Copy)]
-pub struct Read {
+pub struct Input<'a> {
+    pub text: &'a [u8],
+    pub tokens: &'a [[u32; 4]],
+}
+
+// Where a reader stands: the place of the next token, and how many rows are in use.
+#[derive(Clone, Copy)]
+pub struct Position {
     pub at: usize,
     pub used: usize,
+}
+
+// Where a reader came to, and how many items it read.
+#[derive(Clone, Copy)]
+pub struct Read {
+    pub position: Position,
     pub count: u32,
 }

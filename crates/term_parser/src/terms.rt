@@ -1,145 +1,142 @@
 // Terms: the cycle of calls.
-ghost use Rattle.std.specs.Prelude.{◌≡◌, [], ◌<◌, length, drop, get_or};
-ghost use Rattle.term_parser.specs.Parsing.{last_line};
-ghost use Rattle.term_parser.specs.Grammar.{atom_of, app_of, term_of};
+ghost use Rattle.std.specs.Prelude.{◌≡◌, [], ◌<◌, length, get_or};
+ghost use Rattle.term_parser.specs.Grammar.{atom_of, app_of, term_of, parenthesis};
 ghost use Rattle.term_parser.specs.Rows.{application_kind, rows_of};
 ghost use Rattle.term_parser.specs.Steps.{step, maybe_step};
-ghost use Rattle.term_parser.specs.Promises.{Room, Answers, Applying, Equating, inside, kind_at};
+ghost use Rattle.term_parser.specs.Promises.{Room, Reads, Applying, Equating, kind_at};
 
 use super::tokens::{peek, push, rejection, saturated, sign};
-use super::{APPLICATION, Read};
+use super::{APPLICATION, Input, Position, Read};
 use refusals::{Refusal, Rejection};
 use words::{CLOSE, EQUALS, METAVARIABLE, NAME, NUMERAL, OPEN};
 
-// The term whose rows start at `root`, applied to the terms behind it, of which there are `more`; the next token is at `at`.
+// The term whose rows start at `root`, applied to the terms behind it, of which there are `more`, up to the place `from`.
 pub fn apply(
-    tokens: &[[u32; 4]],
-    at: usize,
+    input: Input,
+    from: Position,
     out: &mut [[u32; 4]],
     root: usize,
-    used: usize,
     more: u32,
 ) -> Result<Read, Rejection>
     requires { root < length out.old }
-    ensures { Applying tokens.now at out.old root used more (step result) out.new }
+    ensures { Applying input.entry.tokens.now from.at out.old root from.used more (step result) out.new }
 {
+    let read = Read {
+        position: from,
+        count: 1,
+    };
     if more == 0 {
-        return Ok(Read { at, used, count: 1 });
+        return Ok(read);
     }
     let row = out[root];
     if row[0] == NAME {
         out[root] = [APPLICATION, row[1], row[2], more];
-        return Ok(Read { at, used, count: 1 });
+        return Ok(read);
     }
-    Err(rejection(Refusal::OnlyNames, tokens, at))
+    Err(rejection(Refusal::OnlyNames, input.tokens, from.at))
 }
 
-// The term whose rows start at `root`, with the term behind it as its last argument; the next token is at `at`.
+// The term whose rows start at `root`, with the term behind it, up to the place `from`, as its last argument.
 pub fn equate(
-    tokens: &[[u32; 4]],
-    at: usize,
+    input: Input,
+    from: Position,
     out: &mut [[u32; 4]],
     root: usize,
-    used: usize,
 ) -> Result<Read, Rejection>
     requires fact_1 { root < length out.old }
     requires fact_2 { (kind_at out.old root ≡ application_kind → get_or (get_or out.old root []) 3 0 < 65536) }
-    ensures { Equating tokens.now at out.old root used (step result) out.new }
+    ensures { Equating input.entry.tokens.now from.at out.old root from.used (step result) out.new }
 {
+    let read = Read {
+        position: from,
+        count: 1,
+    };
     let row = out[root];
     if row[0] == NAME {
         out[root] = [APPLICATION, row[1], row[2], 1];
-        return Ok(Read { at, used, count: 1 });
+        return Ok(read);
     }
     if row[0] == APPLICATION {
         out[root] = [APPLICATION, row[1], row[2], row[3] + 1];
-        return Ok(Read { at, used, count: 1 });
+        return Ok(read);
     }
-    Err(rejection(Refusal::LeftOfEquals, tokens, at))
+    Err(rejection(Refusal::LeftOfEquals, input.tokens, from.at))
 }
 
 // A name, a metavariable, a numeral, or a term in parentheses, of which `left` more may be open.
 #[cycle(app_atom_term)]
 pub fn atom(
-    text: &[u8],
-    tokens: &[[u32; 4]],
-    at: usize,
+    input: Input,
+    from: Position,
     left: u32,
     out: &mut [[u32; 4]],
-    used: usize,
 ) -> Result<Option<Read>, Rejection>
-    requires { Room tokens.now at used out.old }
-    ensures { Answers 1 rows_of (atom_of text.now (last_line tokens.now) (inside text.now tokens.now left) (drop at tokens.now))
-        tokens.now at used out.old (maybe_step result) out.new }
+    requires { Room input.tokens.now from.at from.used out.old }
+    ensures { Reads 1 rows_of (λ text last. atom_of text last (parenthesis text last left)) input.entry from out.old (maybe_step result) out.new }
 {
-    let t = peek(tokens, at);
+    let t = peek(input.tokens, from.at);
     if t.kind == NAME {
-        return Ok(Some(push(out, used, at, [NAME, t.start, t.length, 0])));
+        return Ok(Some(push(out, from, [NAME, t.start, t.length, 0])));
     }
     if t.kind == METAVARIABLE {
-        return Ok(Some(push(out, used, at, [METAVARIABLE, t.start, t.length, 0])));
+        return Ok(Some(push(out, from, [METAVARIABLE, t.start, t.length, 0])));
     }
     if t.kind == NUMERAL {
-        let value = saturated(text, t.start, t.length);
-        return Ok(Some(push(out, used, at, [NUMERAL, t.start, t.length, value])));
+        let value = saturated(input.text, t.start, t.length);
+        return Ok(Some(push(out, from, [NUMERAL, t.start, t.length, value])));
     }
     if t.kind == OPEN {
-        let inside = at + 1;
+        let inside = Position {
+            at: from.at + 1,
+            ..from
+        };
         if left == 0 {
-            return Err(rejection(Refusal::ParenthesisLimit, tokens, at));
+            return Err(rejection(Refusal::ParenthesisLimit, input.tokens, from.at));
         }
-        let inner = term(text, tokens, inside, left - 1, out, used)?;
-        return Ok(Some(sign(tokens, CLOSE, inner.at, inner.used)?));
+        let inner = term(input, inside, left - 1, out)?;
+        return Ok(Some(sign(input, CLOSE, inner.position)?));
     }
     Ok(None)
 }
 
 // A term applied to terms by juxtaposition: the first atom takes those behind it.
 #[cycle(app_atom_term)]
-pub fn app(
-    text: &[u8],
-    tokens: &[[u32; 4]],
-    at: usize,
-    left: u32,
-    out: &mut [[u32; 4]],
-    used: usize,
-) -> Result<Read, Rejection>
-    requires { Room tokens.now at used out.old }
-    ensures { Answers 1 rows_of (app_of text.now (last_line tokens.now) (inside text.now tokens.now left) (drop at tokens.now))
-        tokens.now at used out.old (step result) out.new }
+pub fn app(input: Input, from: Position, left: u32, out: &mut [[u32; 4]]) -> Result<Read, Rejection>
+    requires { Room input.tokens.now from.at from.used out.old }
+    ensures { Reads 1 rows_of (λ text last. app_of text last (parenthesis text last left)) input.entry from out.old (step result) out.new }
 {
-    let mut p = at;
-    let mut u = used;
+    let mut next = from;
     let mut n = 0;
-    while let Some(more) = atom(text, tokens, p, left, out, u)? {
-        p = more.at;
-        u = more.used;
+    while let Some(more) = atom(input, next, left, out)? {
+        next = more.position;
         n += 1;
     }
     if n == 0 {
-        return Err(rejection(Refusal::TermExpected, tokens, p));
+        return Err(rejection(Refusal::TermExpected, input.tokens, next.at));
     }
-    apply(tokens, p, out, used, u, n - 1)
+    apply(input, next, out, from.used, n - 1)
 }
 
 // A judgment: `f args`, or `f args = result`.
 #[cycle(app_atom_term)]
 pub fn term(
-    text: &[u8],
-    tokens: &[[u32; 4]],
-    at: usize,
+    input: Input,
+    from: Position,
     left: u32,
     out: &mut [[u32; 4]],
-    used: usize,
 ) -> Result<Read, Rejection>
-    requires { Room tokens.now at used out.old }
-    ensures { Answers 1 rows_of (term_of text.now (last_line tokens.now) (inside text.now tokens.now left) (drop at tokens.now))
-        tokens.now at used out.old (step result) out.new }
+    requires { Room input.tokens.now from.at from.used out.old }
+    ensures { Reads 1 rows_of (λ text last. term_of text last (parenthesis text last left)) input.entry from out.old (step result) out.new }
 {
-    let first = app(text, tokens, at, left, out, used)?;
-    if peek(tokens, first.at).kind != EQUALS {
+    let first = app(input, from, left, out)?;
+    let next = first.position;
+    if peek(input.tokens, next.at).kind != EQUALS {
         return Ok(first);
     }
-    let second = app(text, tokens, first.at + 1, left, out, first.used)?;
-    equate(tokens, second.at, out, used, second.used)
+    let behind = Position {
+        at: next.at + 1,
+        ..next
+    };
+    let second = app(input, behind, left, out)?;
+    equate(input, second.position, out, from.used)
 }

@@ -7,7 +7,7 @@ ghost use Rattle.term_parser.specs.Grammar.{value};
 ghost use Rattle.term_parser.specs.Steps.{step, rejection_at};
 ghost use Rattle.term_parser.specs.Promises.{Signed};
 
-use super::{Read, Token};
+use super::{Input, Position, Read, Token};
 use refusals::{Refusal, Rejection};
 
 // The token at a place; past the end all its numbers are 0. No other function reads the list.
@@ -62,14 +62,16 @@ pub fn rejection(refusal: Refusal, tokens: &[[u32; 4]], at: usize) -> Rejection
 }
 
 // Writes a row for the token at a place, and takes it.
-pub fn push(out: &mut [[u32; 4]], used: usize, at: usize, row: [u32; 4]) -> Read
-    requires { (used < length out.old) × (used < 65536) × (at < 65536) }
-    ensures { (result ≡ record { at = at + 1; used = used + 1; count = 1 }) × (out.new ≡ set out.old used row) }
+pub fn push(out: &mut [[u32; 4]], from: Position, row: [u32; 4]) -> Read
+    requires { (from.used < length out.old) × (from.used < 65536) × (from.at < 65536) }
+    ensures { (result ≡ record { position = record { at = from.at + 1; used = from.used + 1 }; count = 1 }) × (out.new ≡ set out.old from.used row) }
 {
-    out[used] = row;
+    out[from.used] = row;
     Read {
-        at: at + 1,
-        used: used + 1,
+        position: Position {
+            at: from.at + 1,
+            used: from.used + 1,
+        },
         count: 1,
     }
 }
@@ -83,17 +85,20 @@ pub fn put(out: &mut [[u32; 4]], at: usize, row: [u32; 4])
 }
 
 // A sign that must be there.
-pub fn sign(tokens: &[[u32; 4]], kind: u32, at: usize, used: usize) -> Result<Read, Rejection>
-    requires fact_1 { length tokens.now ≤ 65536 }
+pub fn sign(input: Input, kind: u32, from: Position) -> Result<Read, Rejection>
+    requires fact_1 { length input.tokens.now ≤ 65536 }
     requires fact_2 { 0 < kind }
-    ensures { Signed (sign_of (last_line tokens.now) kind (drop at tokens.now)) tokens.now at used (step result) }
+    ensures { Signed (sign_of (last_line input.entry.tokens.now) kind (drop from.at input.entry.tokens.now))
+        input.entry.tokens.now from.at from.used (step result) }
 {
-    if peek(tokens, at).kind == kind {
+    if peek(input.tokens, from.at).kind == kind {
         return Ok(Read {
-            at: at + 1,
-            used,
+            position: Position {
+                at: from.at + 1,
+                ..from
+            },
             count: 1,
         });
     }
-    Err(rejection(Refusal::SignExpected, tokens, at))
+    Err(rejection(Refusal::SignExpected, input.tokens, from.at))
 }

@@ -56,6 +56,24 @@ cleared_front s zeros d k l q e =
     (λ p. get_or-append_right zeros (drop d s) d j [] n p ∙ get_or-drop d s (j - d) [] ∙ ap (λ (i : ℕ). get_or s i []) (let g : d + (j - d) ≡ j = omega arith in g)
     ∙ sym (cleared_off s d j p)))
 
+-- The first d rows cleared from the last to the first: those up to i are left.
+pub record Clearing (s₀ : Rows) (d : ℕ) (s : Rows) (i : ℕ) : Type 0 where
+  pub long : length s ≡ length s₀
+  pub within : i ≤ length s₀
+  pub is : cleared s i ≡ cleared s₀ d
+
+pub clear_step : {s₀ s : Rows} {d i : ℕ} → Clearing s₀ d s i → 0 < i → Clearing s₀ d (set s (i - 1) (0 ∷ 0 ∷ 0 ∷ [])) (i - 1)
+unfolding cleared
+clear_step {s₀} {s} {d} {i} h l = let e : i ≡ suc (i - 1) = omega arith in let w = h.within in record {
+  long = length-set s (i - 1) _ ∙ h.long;
+  within = omega arith;
+  is = sym (ap (cleared s) e) ∙ h.is;
+}
+
+pub clear_end : {s₀ s : Rows} {d i : ℕ} → Clearing s₀ d s i → i ≤ 0 → s ≡ cleared s₀ d
+unfolding cleared
+clear_end {s₀} {s} {d} {i} h l = let e : i ≡ 0 = omega arith in sym (ap (cleared s) e) ∙ h.is
+
 module _ {N : ℕ} {w : List ℕ} {b₀ b l₀ l m₀ m s₀ s : Rows} {variables used k r t : ℕ} {answer : Bool} {n c d : ℕ} (h : Equated N w b₀ b l₀ l m₀ m s₀ s variables used k r t answer n c d) where
   pub links_undoable : N + used ≤ length l₀ → Undoable l c 0
   links_undoable g = entries_undoable h.linking.entries (let e = h.linking.long in omega arith)

@@ -1,6 +1,7 @@
 -- Unification over stored terms, in reading order. Definitions:
 pub mod Promises
 pub mod Packing
+pub mod Lending
 -- Laws, in the order in which they are needed:
 pub mod Linking
 pub mod Deciding

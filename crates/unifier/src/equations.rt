@@ -10,38 +10,37 @@ use super::links::{find, link};
 use super::nodes::{argument, arity};
 use super::{Decision, Ending};
 use arena::{SYMBOL_STEP, Terms};
-use bindings::{enter, occurs, walk};
+use bindings::{StoredBindings, enter, occurs, walk};
 
 // What is to be done with x and y.
 fn decide(
     terms: Terms,
-    b: &[[u32; 2]],
+    bindings: StoredBindings,
     links: &[[u32; 2]],
-    m: &mut [[u32; 2]],
-    k: u32,
+    marks: &mut [[u32; 2]],
     x: u32,
     y: u32,
 ) -> Decision
-    requires fact_1 { Form terms.room terms.words.now b.now terms.variables terms.used k }
+    requires fact_1 { Form terms.room terms.words.now bindings.rows.now terms.variables terms.used bindings.bound }
     requires fact_2 { (Reference terms.room (cells terms.words.now) terms.variables terms.used x) × (Reference terms.room (cells terms.words.now) terms.variables terms.used y) }
     requires fact_3 { Falling links.now }
     requires fact_4 { terms.room + terms.used ≤ length links.now }
-    requires fact_5 { Free terms.room terms.used m.old }
-    ensures { Decided terms.entry.room terms.entry.words.now b.now links.now m.old m.new k x y result }
+    requires fact_5 { Free terms.room terms.used marks.old }
+    ensures { Decided terms.entry.room terms.entry.words.now bindings.entry.rows.now links.now marks.old marks.new bindings.entry.bound x y result }
 {
-    let p = walk(terms, b, k, x);
-    let q = walk(terms, b, k, y);
+    let p = walk(terms, bindings, x);
+    let q = walk(terms, bindings, y);
     if p == q {
         return Decision::Same;
     }
     if p < terms.room {
-        if occurs(terms, b, m, k, p, q) {
+        if occurs(terms, bindings, marks, p, q) {
             return Decision::Clash;
         }
         return Decision::Bind(p, q);
     }
     if q < terms.room {
-        if occurs(terms, b, m, k, q, p) {
+        if occurs(terms, bindings, marks, q, p) {
             return Decision::Clash;
         }
         return Decision::Bind(q, p);
@@ -60,39 +59,44 @@ fn decide(
     Decision::Open(p, q)
 }
 
-// Makes r and t equal under the first k bindings, if that can be, the pairs in the Rust's order; each pair of nodes is opened at most once.
+// Stays: `decide` reads the links while it is lent the marks, which no generated proof covers behind a workspace; and `bound` counts bindings.
+// Makes r and t equal under the first `bound` bindings, if that can be, the pairs in the Rust's order; each pair of nodes is opened at most once.
 pub fn equate(
     terms: Terms,
-    b: &mut [[u32; 2]],
+    bindings: &mut [[u32; 2]],
     links: &mut [[u32; 2]],
-    m: &mut [[u32; 2]],
-    s: &mut [[u32; 3]],
-    k: u32,
+    marks: &mut [[u32; 2]],
+    stack: &mut [[u32; 3]],
+    bound: u32,
     r: u32,
     t: u32,
 ) -> Ending
-    requires fact_1 { Form terms.room terms.words.now b.old terms.variables terms.used k }
+    requires fact_1 { Form terms.room terms.words.now bindings.old terms.variables terms.used bound }
     requires fact_2 { (Reference terms.room (cells terms.words.now) terms.variables terms.used r) × (Reference terms.room (cells terms.words.now) terms.variables terms.used t) }
-    requires fact_3 { Scratch terms.room terms.used links.old m.old s.old }
-    ensures { Equated terms.entry.room terms.entry.words.now b.old b.new links.old links.new m.old m.new
-        s.old s.new terms.entry.variables terms.entry.used k r t result.equal result.bound result.linked result.open }
+    requires fact_3 { Scratch terms.room terms.used links.old marks.old stack.old }
+    ensures { Equated terms.entry.room terms.entry.words.now bindings.old bindings.new links.old links.new marks.old marks.new
+        stack.old stack.new terms.entry.variables terms.entry.used bound r t result.equal result.bound result.linked result.pairs }
 {
     let mut d = 0;
-    let mut n = k;
+    let mut n = bound;
     let mut c = 0;
     let mut pending = Some((r, t));
     loop {
         match pending {
             Some((x, y)) => {
                 pending = None;
-                match decide(terms, b, links, m, n, x, y) {
+                let held = StoredBindings {
+                    rows: bindings,
+                    bound: n,
+                };
+                match decide(terms, held, links, marks, x, y) {
                     Decision::Same => {}
                     Decision::Bind(v, z) => {
-                        enter(b, n, v, z + 1);
+                        enter(bindings, n, v, z + 1);
                         n += 1;
                     }
                     Decision::Open(p, q) => {
-                        s[d as usize] = [p, q, 0];
+                        stack[d as usize] = [p, q, 0];
                         d += 1;
                     }
                     Decision::Clash => {
@@ -100,7 +104,7 @@ pub fn equate(
                             equal: false,
                             bound: n,
                             linked: c,
-                            open: d,
+                            pairs: d,
                         };
                     }
                 }
@@ -111,18 +115,18 @@ pub fn equate(
                         equal: true,
                         bound: n,
                         linked: c,
-                        open: d,
+                        pairs: d,
                     };
                 }
                 let last = (d - 1) as usize;
-                let [left, right, taken] = s[last];
+                let [left, right, taken] = stack[last];
                 if taken < arity(terms, left) {
-                    s[last] = [left, right, taken + 1];
+                    stack[last] = [left, right, taken + 1];
                     pending = Some((argument(terms, left, taken), argument(terms, right, taken)));
                 } else {
                     link(links, c, left, right);
                     c += 1;
-                    s[last] = [0, 0, 0];
+                    stack[last] = [0, 0, 0];
                     d -= 1;
                 }
             }

@@ -1,7 +1,6 @@
 // Unification over stored terms (the Rust's `unify`), on lent slices.
 //
-// `b` are the rows of the bindings with their trail, `links`, `m` (marks) and `s` (stack) lent scratch that is left as it was, `k` is how many bindings
-// there are. The terms have any room, as in `bindings`; that of the crates above is `arena::TERM_ROOM`.
+// The terms have any room, as in `bindings`; that of the crates above is `arena::TERM_ROOM`.
 #![tactic(auto)]
 
 mod links; // links between equal nodes
@@ -14,6 +13,7 @@ ghost use Rattle.arena.specs.Cells.{cells, Reference};
 ghost use Rattle.bindings.specs.Stored.{Form};
 ghost use Rattle.unifier.specs.Promises.{Scratch, Unified};
 ghost use Rattle.unifier.specs.Packing.{packed_unify};
+ghost use Rattle.unifier.specs.Lending.{SameBuffers};
 
 use arena::Terms;
 use bindings::undo;
@@ -40,7 +40,15 @@ pub struct Ending {
     pub equal: bool,
     pub bound: u32,
     pub linked: u32,
-    pub open: u32,
+    pub pairs: u32,
+}
+
+// The scratch of unification, which is lent, and left as it was: the links between equal nodes, the marks of the occurs check, and the stack of open pairs.
+#[derive(Drop)]
+pub struct Workspace<'a> {
+    pub links: &'a mut [[u32; 2]],
+    pub marks: &'a mut [[u32; 2]],
+    pub stack: &'a mut [[u32; 3]],
 }
 
 // Stays: C programs take the answer as one number, and the count before it stands for none.
@@ -55,30 +63,39 @@ pub fn packed(ended: Option<u32>, before: u32) -> u64
     }
 }
 
-// Unifies what r and t denote under the first k bindings; the answer is how many bindings there are then. Without success the bindings are undone to k. The
-// scratch is left as it was.
+// Unifies what r and t denote under the first `bound` bindings; the answer is how many bindings there are then. Without success the bindings are undone to
+// these. The scratch is left as it was.
 pub fn unify(
     terms: Terms,
-    b: &mut [[u32; 2]],
-    links: &mut [[u32; 2]],
-    m: &mut [[u32; 2]],
-    s: &mut [[u32; 3]],
-    k: u32,
+    bindings: &mut [[u32; 2]],
+    workspace: &mut Workspace,
+    bound: u32,
     r: u32,
     t: u32,
 ) -> Option<u32>
-    requires fact_1 { Form terms.room terms.words.now b.old terms.variables terms.used k }
+    requires fact_1 { Form terms.room terms.words.now bindings.old terms.variables terms.used bound }
     requires fact_2 { (Reference terms.room (cells terms.words.now) terms.variables terms.used r) × (Reference terms.room (cells terms.words.now) terms.variables terms.used t) }
-    requires fact_3 { Scratch terms.room terms.used links.old m.old s.old }
-    ensures { Unified terms.entry.room terms.entry.words.now b.old b.new links.old links.new m.old m.new
-        s.old s.new terms.entry.variables terms.entry.used k (unwrap_or result k) r t (is_some result) }
+    requires fact_3 { Scratch terms.room terms.used workspace.old.links.now workspace.old.marks.now workspace.old.stack.now }
+    ensures unified { Unified terms.entry.room terms.entry.words.now bindings.old bindings.new
+        workspace.old.links.now workspace.new.links.now workspace.old.marks.now workspace.new.marks.now workspace.old.stack.now workspace.new.stack.now
+        terms.entry.variables terms.entry.used bound (unwrap_or result bound) r t (is_some result) }
+    ensures lent { SameBuffers workspace.old workspace.new }
 {
-    let e = equate(terms, b, links, m, s, k, r, t);
-    undo(links, e.linked, 0);
-    clear(s, e.open);
+    let e = equate(
+        terms,
+        bindings,
+        workspace.links,
+        workspace.marks,
+        workspace.stack,
+        bound,
+        r,
+        t,
+    );
+    undo(workspace.links, e.linked, 0);
+    clear(workspace.stack, e.pairs);
     if e.equal {
         return Some(e.bound);
     }
-    undo(b, e.bound, k);
+    undo(bindings, e.bound, bound);
     None
 }

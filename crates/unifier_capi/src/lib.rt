@@ -8,8 +8,10 @@ ghost use Rattle.bindings.specs.Stored.{Form};
 ghost use Rattle.unifier.specs.Packing.{UnifiedAs};
 
 use arena::{TERM_ROOM, Terms};
+use unifier::Workspace;
 
 // The caller sees to what `unify` asks. The answer is that of `capi::horn_unify`.
+// Stays: programs in C call it, so each buffer and each number is a parameter of its own.
 #[unsafe(no_mangle)]
 pub extern "C" fn horn_unify_unchecked(
     words: &[u32],
@@ -34,6 +36,11 @@ pub extern "C" fn horn_unify_unchecked(
         variables,
         used,
     };
-    let ended = unifier::unify(terms, bindings, links, marks, stack, bound, left, right);
+    let mut workspace = Workspace {
+        links,
+        marks,
+        stack,
+    };
+    let ended = unifier::unify(terms, bindings, &mut workspace, bound, left, right);
     unifier::packed(ended, bound)
 }

@@ -2,6 +2,7 @@
 use arena::TERM_ROOM;
 use samples::unification::{Case, Fault};
 use samples::{build, report, rows, unification};
+use unifier::Workspace;
 
 // The variables in use in most cases.
 const VARIABLES: u32 = 64;
@@ -12,6 +13,7 @@ const WORDS: usize = 210008;
 // A row for each reference.
 const REFERENCES: usize = 275544;
 
+// Stays: the flags are two properties of a case, and each field has a meaning whatever they are.
 // Two towers, of nodes with one argument or with two, how high they are and on which references they stand, and the two references in question. A
 // pair may be built on each reference in question: of variable 0 and the left one, and of a constant and the right one.
 #[derive(Clone, Copy)]
@@ -38,8 +40,8 @@ fn put_towers(words: &mut [u32], towers: Towers) -> u32 {
 fn put_case(words: &mut [u32], towers: Towers) -> Case {
     let top = put_towers(words, towers);
     if towers.paired {
-        let next = build::put_pair(words, top, 0, towers.left);
-        let used = build::put_pair(words, next, TERM_ROOM, towers.right);
+        let next = build::put_node(words, top, &[0, towers.left]);
+        let used = build::put_node(words, next, &[TERM_ROOM, towers.right]);
         return Case {
             variables: VARIABLES,
             used: used,
@@ -67,8 +69,8 @@ fn reference(address: u32) -> u32 {
 
 // Binds variable 60 to the first constant.
 fn bind_first(bindings: &mut [[u32; 2]]) {
-    rows::put(bindings, 60, TERM_ROOM + 1, 0);
-    rows::put(bindings, 0, 0, 60);
+    build::put(bindings, 60, [TERM_ROOM + 1, 0]);
+    build::put(bindings, 0, [0, 60]);
 }
 
 // Writes the line of a unification.
@@ -121,9 +123,11 @@ pub fn unify(name: &[u8], towers: Towers) {
     let found = unification::solve(
         &words,
         &mut bindings,
-        &mut links,
-        &mut marks,
-        &mut stack,
+        Workspace {
+            links: &mut links,
+            marks: &mut marks,
+            stack: &mut stack,
+        },
         case,
     );
     report::text(name);
@@ -188,7 +192,7 @@ pub fn check_three(name: &[u8], first: [u32; 2], second: [u32; 2], third: [u32; 
 // Checks variables that are each bound to the next, and a last row.
 pub fn check_chain(name: &[u8], last: u32, listed: u32, bound: u32) {
     let mut bindings = [[0u32; 2]; 50000];
-    rows::bind_chain(&mut bindings, MANY - 1);
-    rows::put(&mut bindings, MANY - 1, last, listed);
+    rows::bind_chain(&mut bindings[..49999]);
+    build::put(&mut bindings, MANY - 1, [last, listed]);
     check(name, &bindings, MANY, bound);
 }

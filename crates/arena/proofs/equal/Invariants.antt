@@ -5,8 +5,8 @@ use lib.ListN.{length}
 use Rattle.arena.proofs.Settling.{Passing}
 use Rattle.arena.proofs.equal.Given as goal
 
-abbrev pub invariant-loop-low : goal.invariant-loop-low
-invariant-loop-low l = (length l.links ≡ length l.initial.links) × Passing l.room l.words l.variables l.used l.a l.b l.links l.at l.low l.same
+abbrev pub invariant-loop-linked : goal.invariant-loop-linked
+invariant-loop-linked l = (length l.links ≡ length l.initial.links) × Passing l.terms.room l.terms.words.now l.terms.variables l.terms.used l.a l.b l.links l.at l.linked.low l.linked.same
 
-abbrev pub decreases-loop-low : goal.decreases-loop-low
-decreases-loop-low l = l.at
+abbrev pub decreases-loop-linked : goal.decreases-loop-linked
+decreases-loop-linked l = l.at

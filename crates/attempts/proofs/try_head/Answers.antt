@@ -3,8 +3,8 @@ use mathlib.Core.Path.{sym, ◌∙◌}
 use Rattle.attempts.specs.Heads.{head_clashes, head_copyable, head_movable, head_scratch, head_form, head_goal, head_conclusion, head_ended}
 use Rattle.attempts.proofs.try_head.Goals as goal
 
-pub returns-then-clashes : goal.returns-then-clashes
-returns-then-clashes c =
+pub returns-then-clashes-clause-tried : goal.returns-then-clashes-clause-tried
+returns-then-clashes-clause-tried c =
     let pre = c.requires in
     let exceeds = c.exceeds in
     let if1 = c.if-exceeds in
@@ -35,7 +35,7 @@ unify-requires c =
     let fits = sym exceeds.ensures ∙ if1.false in
     record { fact_1 = head_form pre fits _ inst.ensures; fact_2 = (head_goal pre fits _ inst.ensures, head_conclusion pre fits _ inst.ensures _ moved_word.ensures); fact_3 = head_scratch pre fits }
 
-pub returns : goal.returns
-returns c =
+pub returns-clause-tried : goal.returns-clause-tried
+returns-clause-tried c =
     let fits = sym c.exceeds.ensures ∙ c.if-exceeds.false in
-    head_ended c.requires fits _ c.inst.ensures c.moved_word-second.ensures c.unify.result c.unify.ensures
+    head_ended c.requires fits _ c.inst.ensures c.moved_word-second.ensures c.unify.result c.unify.ensures.unified

@@ -6,8 +6,8 @@ use native.Mathlib.Omega.{arith}
 use borrow.Author.Rules.{rules}
 use Rattle.bindings.proofs.check_bindings.Goals as goal
 
-pub returns-then-terms-k : goal.returns-then-terms-k
-returns-then-terms-k c = checked_no (λ f. let l = form_few f in omega arith) _ refl
+pub returns-then-terms-bindings : goal.returns-then-terms-bindings
+returns-then-terms-bindings c = checked_no (λ f. let l = form_few f in omega arith) _ refl
 
 pub is_acyclic-requires : goal.is_acyclic-requires
 is_acyclic-requires c =

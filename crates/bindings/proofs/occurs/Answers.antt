@@ -8,17 +8,17 @@ use native.Mathlib.Omega.{arith}
 use Rattle.bindings.proofs.occurs.Goals as goal
 
 pub visit-t-requires : goal.visit-t-requires
-visit-t-requires c = record { fact_1 = entries_none _ _ c.requires.fact_4.empty; fact_2 = (reference_low c.requires.fact_2, c.requires.fact_4.lent) }
+visit-t-requires c = record { fact_1 = entries_none _ _ c.requires.fact_4.empty; fact_2 = (reference_low c.requires.fact_2, c.requires.fact_4.lent); fact_3 = c.requires.fact_1.low }
 
 pub loop-h-init : goal.loop-h-init
 loop-h-init c =
     let args = c.args in
     let pre = c.requires in
     let visit = c.visit-t in
-    search_start args.terms.room args.terms.words.now args.b.now _ args.terms.variables args.terms.used args.r args.x _ _ pre.fact_2 visit.ensures
+    search_start args.terms.room args.terms.words.now args.bindings.rows.now _ args.terms.variables args.terms.used args.r args.x _ _ pre.fact_2 visit.ensures
 
-pub bounds-m-h : goal.bounds-m-h
-bounds-m-h c =
+pub bounds-marks-h : goal.bounds-marks-h
+bounds-marks-h c =
     let loop = c.loop-h in
     let visit = c.visit-t in
     let pre = c.requires in
@@ -62,7 +62,7 @@ loop-h-preserved c =
     let loop-test = c.loop-h-test in
     let if1 = c.if-y-x in
     let visit-edges = c.visit_edges-t in
-    search_step args.terms.room args.terms.words.now args.b.now _ args.terms.variables args.terms.used args.r args.x _ _ loop.h _ _ pre.fact_1 loop.invariant loop-test.true if1.false visit-edges.ensures
+    search_step args.terms.room args.terms.words.now args.bindings.rows.now _ args.terms.variables args.terms.used args.r args.x _ _ loop.h _ _ pre.fact_1 loop.invariant loop-test.true if1.false visit-edges.ensures
 
 pub returns : goal.returns
 returns c =
@@ -72,6 +72,6 @@ returns c =
     let undo2 = c.undo-2 in
     let visit = c.visit-t in
     record {
-      is = sym (occurs_no pre.fact_1 pre.fact_2 (search_end args.terms.room args.terms.words.now args.b.now _ args.terms.variables args.terms.used args.r args.x _ _ _ loop.invariant (search rules)));
+      is = sym (occurs_no pre.fact_1 pre.fact_2 (search_end args.terms.room args.terms.words.now args.bindings.rows.now _ args.terms.variables args.terms.used args.r args.x _ _ _ loop.invariant (search rules)));
       marks = undo2.ensures ∙ searched_back loop.invariant (visit.ensures.back ∙ undone_zero _ 0);
     }

@@ -6,7 +6,7 @@ use Rattle.bindings.specs.Search.{Searched}
 use Rattle.bindings.proofs.occurs.Given as goal
 
 abbrev pub invariant-loop-h : goal.invariant-loop-h
-invariant-loop-h l = Searched l.terms.room l.terms.words.now l.b (undone l.initial.m 0 l.initial.t) l.m l.terms.variables l.terms.used l.r l.x l.h l.t
+invariant-loop-h l = Searched l.terms.room l.terms.words.now l.bindings.rows.now (undone l.initial.marks 0 l.initial.t) l.marks l.terms.variables l.terms.used l.r l.x l.h l.t
 
 abbrev pub decreases-loop-h : goal.decreases-loop-h
 decreases-loop-h l = l.terms.room + l.terms.used - l.h

@@ -3,7 +3,7 @@ use Rattle.bindings.specs.Walking.{Walking, ahead}
 use Rattle.bindings.proofs.walk.Given as goal
 
 abbrev pub invariant-loop-q : goal.invariant-loop-q
-invariant-loop-q l = Walking l.terms.room l.terms.words.now l.b l.terms.variables l.terms.used l.k l.r l.q
+invariant-loop-q l = Walking l.terms.room l.terms.words.now l.bindings.rows.now l.terms.variables l.terms.used l.bindings.bound l.r l.q
 
 abbrev pub decreases-loop-q : goal.decreases-loop-q
-decreases-loop-q l = ahead l.terms.room l.terms.words.now l.b l.k l.q
+decreases-loop-q l = ahead l.terms.room l.terms.words.now l.bindings.rows.now l.bindings.bound l.q

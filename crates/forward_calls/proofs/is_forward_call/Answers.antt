@@ -4,11 +4,11 @@ use Rattle.std.proofs.Common.{refl, sym, ◌∙◌}
 use Rattle.forward_calls.proofs.Forwarding.{some_symbol, no_symbol, inside, of_numeral, of_meta, of_unknown, of_other, of_none, of_count, of_call, ground_asked}
 use Rattle.forward_calls.proofs.is_forward_call.Goals as goal
 
-pub offset_bounds-rows-at : goal.offset_bounds-rows-at
-offset_bounds-rows-at c = let i = inside c.requires in omega arith
+pub offset_bounds-term-term : goal.offset_bounds-term-term
+offset_bounds-term-term c = let i = inside c.requires in omega arith
 
-pub bounds-rows-at : goal.bounds-rows-at
-bounds-rows-at c = let i = inside c.requires in omega arith
+pub bounds-term-term : goal.bounds-term-term
+bounds-term-term c = let i = inside c.requires in omega arith
 
 pub returns-then-kind-eq-NUMERAL : goal.returns-then-kind-eq-NUMERAL
 returns-then-kind-eq-NUMERAL c = of_numeral c.requires c.if-kind-eq-NUMERAL.true
@@ -16,38 +16,20 @@ returns-then-kind-eq-NUMERAL c = of_numeral c.requires c.if-kind-eq-NUMERAL.true
 pub returns-then-kind-eq-METAVARIABLE : goal.returns-then-kind-eq-METAVARIABLE
 returns-then-kind-eq-METAVARIABLE c = of_meta c.requires c.if-kind-eq-METAVARIABLE.true
 
-pub offset_bounds-rows-at-2 : goal.offset_bounds-rows-at-2
-offset_bounds-rows-at-2 c = let i = inside c.requires in omega arith
-
-pub bounds-rows-at-else-kind-eq-METAVARIABLE : goal.bounds-rows-at-else-kind-eq-METAVARIABLE
-bounds-rows-at-else-kind-eq-METAVARIABLE c = let i = inside c.requires in omega arith
-
-pub offset_bounds-rows-at-3 : goal.offset_bounds-rows-at-3
-offset_bounds-rows-at-3 c = let i = inside c.requires in omega arith
-
-pub bounds-rows-at-else-kind-eq-METAVARIABLE-2 : goal.bounds-rows-at-else-kind-eq-METAVARIABLE-2
-bounds-rows-at-else-kind-eq-METAVARIABLE-2 c = let i = inside c.requires in omega arith
-
 pub returns-in_default : goal.returns-in_default
-returns-in_default c = of_unknown c.requires c.if-kind-eq-NUMERAL.false c.if-kind-eq-METAVARIABLE.false refl (no_symbol c.args.text.now c.args.symbols.now _ c.in_default.is c.find_at.ensures)
+returns-in_default c = of_unknown c.requires c.if-kind-eq-NUMERAL.false c.if-kind-eq-METAVARIABLE.false refl (no_symbol c.args.term.text.now c.args.symbols.now _ c.in_default.is c.find_at.ensures)
 
 pub returns-then-symbols-i-ne1 : goal.returns-then-symbols-i-ne1
-returns-then-symbols-i-ne1 c = of_other c.requires c.if-kind-eq-NUMERAL.false c.if-kind-eq-METAVARIABLE.false (some_symbol c.args.text.now c.args.symbols.now _ _ c.in-Some.is c.find_at.ensures).0 (some_symbol c.args.text.now c.args.symbols.now _ _ c.in-Some.is c.find_at.ensures).1 c.if-symbols-i-ne1.true
+returns-then-symbols-i-ne1 c = of_other c.requires c.if-kind-eq-NUMERAL.false c.if-kind-eq-METAVARIABLE.false (some_symbol c.args.term.text.now c.args.symbols.now _ _ c.in-Some.is c.find_at.ensures).0 (some_symbol c.args.term.text.now c.args.symbols.now _ _ c.in-Some.is c.find_at.ensures).1 c.if-symbols-i-ne1.true
 
 pub returns-then-inputs-eq0 : goal.returns-then-inputs-eq0
-returns-then-inputs-eq0 c = of_none c.requires c.if-kind-eq-NUMERAL.false c.if-kind-eq-METAVARIABLE.false (some_symbol c.args.text.now c.args.symbols.now _ _ c.in-Some.is c.find_at.ensures).0 (some_symbol c.args.text.now c.args.symbols.now _ _ c.in-Some.is c.find_at.ensures).1 c.if-inputs-eq0.true
+returns-then-inputs-eq0 c = of_none c.requires c.if-kind-eq-NUMERAL.false c.if-kind-eq-METAVARIABLE.false (some_symbol c.args.term.text.now c.args.symbols.now _ _ c.in-Some.is c.find_at.ensures).0 (some_symbol c.args.term.text.now c.args.symbols.now _ _ c.in-Some.is c.find_at.ensures).1 c.if-inputs-eq0.true
 
-pub offset_bounds-rows-at-4 : goal.offset_bounds-rows-at-4
-offset_bounds-rows-at-4 c = let i = inside c.requires in omega arith
-
-pub bounds-rows-at-else-inputs-eq0 : goal.bounds-rows-at-else-inputs-eq0
-bounds-rows-at-else-inputs-eq0 c = let i = inside c.requires in omega arith
-
-pub returns-then-inputs-rows : goal.returns-then-inputs-rows
-returns-then-inputs-rows c = of_count c.requires c.if-kind-eq-NUMERAL.false c.if-kind-eq-METAVARIABLE.false (some_symbol c.args.text.now c.args.symbols.now _ _ c.in-Some.is c.find_at.ensures).0 (some_symbol c.args.text.now c.args.symbols.now _ _ c.in-Some.is c.find_at.ensures).1 c.if-inputs-eq0.false c.if-inputs-rows.true
+pub returns-then-inputs-row : goal.returns-then-inputs-row
+returns-then-inputs-row c = of_count c.requires c.if-kind-eq-NUMERAL.false c.if-kind-eq-METAVARIABLE.false (some_symbol c.args.term.text.now c.args.symbols.now _ _ c.in-Some.is c.find_at.ensures).0 (some_symbol c.args.term.text.now c.args.symbols.now _ _ c.in-Some.is c.find_at.ensures).1 c.if-inputs-eq0.false c.if-inputs-row.true
 
 pub is_ground-requires : goal.is_ground-requires
 is_ground-requires c = ground_asked c.requires
 
 pub returns : goal.returns
-returns c = of_call c.requires c.if-kind-eq-NUMERAL.false c.if-kind-eq-METAVARIABLE.false (some_symbol c.args.text.now c.args.symbols.now _ _ c.in-Some.is c.find_at.ensures).0 (some_symbol c.args.text.now c.args.symbols.now _ _ c.in-Some.is c.find_at.ensures).1 c.if-inputs-eq0.false c.if-symbols-i-ne1.false c.if-inputs-rows.false c.is_ground.ensures
+returns c = of_call c.requires c.if-kind-eq-NUMERAL.false c.if-kind-eq-METAVARIABLE.false (some_symbol c.args.term.text.now c.args.symbols.now _ _ c.in-Some.is c.find_at.ensures).0 (some_symbol c.args.term.text.now c.args.symbols.now _ _ c.in-Some.is c.find_at.ensures).1 c.if-inputs-eq0.false c.if-symbols-i-ne1.false c.if-inputs-row.false c.is_ground.ensures

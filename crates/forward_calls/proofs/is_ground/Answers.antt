@@ -7,8 +7,8 @@ use Rattle.forward_calls.proofs.Pending.{row_behind, Turn, turn_start, bounded, 
 use Rattle.forward_calls.proofs.is_ground.Goals as goal
 use Rattle.forward_calls.proofs.is_ground.Goals.{then-row-eq-APPLICATION, else-row-eq-APPLICATION}
 
-pub offset_bounds-rows-at : goal.offset_bounds-rows-at
-offset_bounds-rows-at c = let b = bounded (turn_start c.requires) in omega arith
+pub offset_bounds-term-term : goal.offset_bounds-term-term
+offset_bounds-term-term c = let b = bounded (turn_start c.requires) in omega arith
 
 pub slice_bounds-row-items-count : goal.slice_bounds-row-items-count
 slice_bounds-row-items-count c = let b = bounded (turn_start c.requires) in omega arith
@@ -21,18 +21,18 @@ loop-row-init c = (omega arith, simp unary_clauses (turn_start c.requires))
 
 pub returns-then-row-eq-METAVARIABLE : goal.returns-then-row-eq-METAVARIABLE
 returns-then-row-eq-METAVARIABLE c =
-    turn_meta c.loop-row.invariant.1 c.loop-row.invariant.0 (sym (row_behind c.args.rows.now c.args.at c.loop-row.row-index 0) ∙ c.if-row-eq-METAVARIABLE.true)
+    turn_meta c.loop-row.invariant.1 c.loop-row.invariant.0 (sym (row_behind c.args.term.rows.now c.args.term.at c.loop-row.row-index 0) ∙ c.if-row-eq-METAVARIABLE.true)
 
 pub overflow_add-left : goal.overflow_add-left
 overflow_add-left c =
-    let e = row_behind c.args.rows.now c.args.at c.loop-row.row-index 3 in
-    let a = application_bounded c.loop-row.invariant.1 c.loop-row.invariant.0 (sym (row_behind c.args.rows.now c.args.at c.loop-row.row-index 0) ∙ c.if-row-eq-APPLICATION.true) in
+    let e = row_behind c.args.term.rows.now c.args.term.at c.loop-row.row-index 3 in
+    let a = application_bounded c.loop-row.invariant.1 c.loop-row.invariant.0 (sym (row_behind c.args.term.rows.now c.args.term.at c.loop-row.row-index 0) ∙ c.if-row-eq-APPLICATION.true) in
     let b = bounded (turn_start c.requires) in
     omega arith
 
 pub returns-then-left-eq0 : goal.returns-then-left-eq0
 returns-then-left-eq0 c =
-    let next : Turn c.args.text.now c.args.rows.now c.args.at c.if-row-eq-APPLICATION.left (c.args.at + c.loop-row.row-index + 1) =
+    let next : Turn c.args.term.text.now c.args.term.rows.now c.args.term.at c.if-row-eq-APPLICATION.left (c.args.term.at + c.loop-row.row-index + 1) =
     elim c.if-row-eq-APPLICATION.branch [
       | then-row-eq-APPLICATION w ↦ turn_application_behind c.loop-row.row-index c.loop-row.invariant.1 c.loop-row.invariant.0 w.if-row-eq-APPLICATION.true w.left-is
       | else-row-eq-APPLICATION w ↦ turn_leaf_behind c.loop-row.row-index c.loop-row.invariant.1 c.loop-row.invariant.0 c.if-row-eq-METAVARIABLE.false w.if-row-eq-APPLICATION.false w.left-is
@@ -41,13 +41,13 @@ returns-then-left-eq0 c =
 
 pub loop-row-preserved : goal.loop-row-preserved
 loop-row-preserved c =
-    let next : Turn c.args.text.now c.args.rows.now c.args.at c.if-row-eq-APPLICATION.left (c.args.at + c.loop-row.row-index + 1) =
+    let next : Turn c.args.term.text.now c.args.term.rows.now c.args.term.at c.if-row-eq-APPLICATION.left (c.args.term.at + c.loop-row.row-index + 1) =
     elim c.if-row-eq-APPLICATION.branch [
       | then-row-eq-APPLICATION w ↦ turn_application_behind c.loop-row.row-index c.loop-row.invariant.1 c.loop-row.invariant.0 w.if-row-eq-APPLICATION.true w.left-is
       | else-row-eq-APPLICATION w ↦ turn_leaf_behind c.loop-row.row-index c.loop-row.invariant.1 c.loop-row.invariant.0 c.if-row-eq-METAVARIABLE.false w.if-row-eq-APPLICATION.false w.left-is
     ] in
-    let s : c.args.at + c.loop-row.row-index + 1 ≡ c.args.at + (c.loop-row.row-index + 1) = omega arith in
-    (omega arith, subst (λ (i : ℕ). Turn c.args.text.now c.args.rows.now c.args.at c.if-row-eq-APPLICATION.left i) s next)
+    let s : c.args.term.at + c.loop-row.row-index + 1 ≡ c.args.term.at + (c.loop-row.row-index + 1) = omega arith in
+    (omega arith, subst (λ (i : ℕ). Turn c.args.term.text.now c.args.term.rows.now c.args.term.at c.if-row-eq-APPLICATION.left i) s next)
 
 pub returns : goal.returns
 returns c =

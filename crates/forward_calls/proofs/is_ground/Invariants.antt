@@ -4,4 +4,4 @@ use Rattle.forward_calls.proofs.Pending.{Turn}
 use Rattle.forward_calls.proofs.is_ground.Given as goal
 
 abbrev pub invariant-loop-row : goal.invariant-loop-row
-invariant-loop-row l = (0 < l.left) × Turn l.text l.rows l.at l.left (l.at + l.row-index)
+invariant-loop-row l = (0 < l.left) × Turn l.term.text.now l.term.rows.now l.term.at l.left (l.term.at + l.row-index)

@@ -4,7 +4,7 @@ use mathlib.Core.Path.{sym, ap, ◌∙◌}
 use mathlib.Core.List.{[]}
 use lib.ListN.{length}
 use Rattle.meeting.specs.Places.{numbers_below}
-use Rattle.meeting.specs.PlaceLaws.{order_list, list_order}
+use Rattle.meeting.specs.PlaceLaws.{order_list, list_order, used_order}
 use Rattle.unifier.specs.Checking.{tells_no, tells_false}
 use Rattle.rule_checks.specs.Steps.{premises_of, PlacedWord}
 use Rattle.rule_checks.proofs.PartLaws.{part_each, each_part}
@@ -55,7 +55,7 @@ returns c =
     let args = c.args in
     let are-placed = c.are_placed in
     let if1 = c.if-not-are_placed in
-    let is-in-order = c.is_in_order in
+    let in-order = c.is_in_order.ensures ∙ used_order _ _ (omega arith) in
     let if2 = c.if-all-row in
     let rec = walk-premises.ensures.records _ c.in-Some.is [] records_new in
     let both = walk-term.ensures.records _ c.in-Some-walk_term.is _ rec in
@@ -66,8 +66,8 @@ returns c =
         body = walk-premises.ensures.fits _ c.in-Some.is;
         listed = λ a l b. placed_listed (premises_of args.rule.words.now args.rule.row.now) rec args.rule.words.now args.rule.from args.rule.middle (part_each args.rule.words.now args.rule.from args.rule.middle (PlacedWord walk-premises.new.places) (omega (arith, pre.1.within)) (are-placed.ensures.yes if1.false)) a l (omega arith);
         head = walk-term.ensures.fits _ c.in-Some-walk_term.is;
-        order = order_list both (sym is-in-order.ensures ∙ e)
+        order = order_list both (sym in-order ∙ e)
             ∙ ap numbers_below if2.false;
       };
-      back = λ h. is-in-order.ensures ∙ list_order both (h.order ∙ ap numbers_below (sym if2.false));
+      back = λ h. in-order ∙ list_order both (h.order ∙ ap numbers_below (sym if2.false));
     }

@@ -19,5 +19,5 @@ pub returns-in-Ok-Entered-clause-stepped : goal.returns-in-Ok-Entered-clause-ste
 returns-in-Ok-Entered-clause-stepped c =
     let e = c.max-high.ensures in
     step_put c.requires.ready c.requires.choice c.try_stored.ensures.tried _ _ _ _ (c.in-Ok-Entered.is ∙ ap Ok c.in-Ok-Entered.field-0-is) (omega arith) (omega arith)
-    c.frame.ensures (c.put_row.ensures ∙ ap (λ (F : Rows). set F c.args.m.frames c.into.result) c.try_stored.ensures.frames
-    ∙ ap (set c.args.store.now.frames.now c.args.m.frames) c.into.ensures) c.at_body.ensures
+    c.frame.ensures (ap (λ (F : Rows). set F c.args.m.frames c.into-row.result) c.try_stored.ensures.frames
+    ∙ ap (set c.args.store.now.frames.now c.args.m.frames) c.into-row.ensures) c.at_body.ensures

@@ -2,8 +2,8 @@
 use Rattle.unifier.specs.Ending.{bindings_undoable, ended_yes, ended_no}
 use Rattle.unifier.proofs.unify.Goals as goal
 
-pub returns-then-e : goal.returns-then-e
-returns-then-e c =
+pub returns-then-e-clause-unified : goal.returns-then-e-clause-unified
+returns-then-e-clause-unified c =
     let equate = c.equate-e in
     let undo = c.undo in
     let clear = c.clear in
@@ -13,8 +13,8 @@ returns-then-e c =
 pub undo-requires-2 : goal.undo-requires-2
 undo-requires-2 c = bindings_undoable c.equate-e.ensures
 
-pub returns : goal.returns
-returns c =
+pub returns-clause-unified : goal.returns-clause-unified
+returns-clause-unified c =
     let equate = c.equate-e in
     let undo = c.undo in
     let clear = c.clear in

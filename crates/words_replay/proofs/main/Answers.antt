@@ -13,6 +13,3 @@ slice_bounds-list-end c = c.read_full-n.ensures.0
 
 pub slice_bounds-replay-end : goal.slice_bounds-replay-end
 slice_bounds-replay-end c = sym (length-take-le _ _ c.read_full-n.ensures.0)
-
-pub slice_bounds-replay-end-3 : goal.slice_bounds-replay-end-3
-slice_bounds-replay-end-3 c = sym (length-replicate {0} {A = ℕ} 1703971 0)

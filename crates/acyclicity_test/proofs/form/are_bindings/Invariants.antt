@@ -6,4 +6,4 @@ use Rattle.acyclicity_test.specs.Form.{BindingInForm}
 use Rattle.acyclicity_test.proofs.form.are_bindings.Given as goal
 
 abbrev pub invariant-loop-v : goal.invariant-loop-v
-invariant-loop-v l = (k : ℕ) → k < l.v → BindingInForm l.limit (cells l.words) l.variables l.used (column 0 l.bindings k)
+invariant-loop-v l = (k : ℕ) → k < l.v → BindingInForm l.terms.room (cells l.terms.words.now) l.terms.variables l.terms.used (column 0 l.bindings k)

@@ -13,7 +13,7 @@ link-step-requires c =
     let args = c.args in
     let loop = c.loop-i in
     let pre = c.requires in
-    pair_linkable args.room args.words.now args.links.now args.a args.b args.count args.low loop.links loop.i loop.floor true pre loop.invariant (search rules)
+    pair_linkable args.terms.room args.terms.words.now args.links.now args.a args.b args.count args.low loop.links loop.i loop.floor true pre loop.invariant (search rules)
 
 pub returns-then-not-step : goal.returns-then-not-step
 returns-then-not-step c =
@@ -21,7 +21,7 @@ returns-then-not-step c =
     let loop = c.loop-i in
     let link = c.link-step in
     let if1 = c.if-not-step in
-    pair_stop args.room args.words.now args.links.now args.a args.b args.count args.low loop.links _ loop.i loop.floor _ _ loop.invariant link.ensures (search rules) (not-true _ if1.true)
+    pair_stop args.terms.room args.terms.words.now args.links.now args.a args.b args.count args.low loop.links _ loop.i loop.floor _ _ loop.invariant link.ensures (search rules) (not-true _ if1.true)
 
 pub loop-i-preserved : goal.loop-i-preserved
 loop-i-preserved c =
@@ -29,11 +29,11 @@ loop-i-preserved c =
     let loop = c.loop-i in
     let link = c.link-step in
     let if1 = c.if-not-step in
-    (pair_linked args.room args.words.now args.links.now args.a args.b args.count args.low loop.links _ loop.i loop.floor _ _ loop.invariant link.ensures (not-false _ if1.false))
+    (pair_linked args.terms.room args.terms.words.now args.links.now args.a args.b args.count args.low loop.links _ loop.i loop.floor _ _ loop.invariant link.ensures (not-false _ if1.false))
 
 pub returns : goal.returns
 returns c =
     let args = c.args in
     let loop = c.loop-i in
-    subst (λ n. Pairs args.room args.words.now args.links.now args.a args.b args.count args.low loop.links n loop.floor true) (let e : loop.i ≡ args.count = omega arith in
+    subst (λ n. Pairs args.terms.room args.terms.words.now args.links.now args.a args.b args.count args.low loop.links n loop.floor true) (let e : loop.i ≡ args.count = omega arith in
     e) loop.invariant

@@ -4,10 +4,10 @@ use Rattle.bindings.specs.Checking.{tells_no, entered_undone, trailed_not, trail
 use borrow.Author.Rules.{rules}
 use Rattle.bindings.proofs.trails.check_trail.Goals as goal
 
-pub returns-then-n-k : goal.returns-then-n-k
-returns-then-n-k c =
+pub returns-then-n-bindings : goal.returns-then-n-bindings
+returns-then-n-bindings c =
     let enter-trail = c.enter_trail-n in
-    let if1 = c.if-n-k in
+    let if1 = c.if-n-bindings in
     let undo = c.undo in
     record {
       tells = tells_no (trailed_not enter-trail.ensures if1.true);

@@ -3,4 +3,4 @@ use Rattle.bindings.specs.Checking.{Entering}
 use Rattle.bindings.proofs.trails.enter_trail.Given as goal
 
 abbrev pub invariant-loop-i : goal.invariant-loop-i
-invariant-loop-i l = Entering l.b l.initial.m l.m l.variables l.i
+invariant-loop-i l = Entering l.bindings.rows.now l.initial.marks l.marks l.variables l.i

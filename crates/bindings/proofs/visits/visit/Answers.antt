@@ -8,7 +8,7 @@ pub enter-requires : goal.enter-requires
 enter-requires c =
     let pre = c.requires in
     let args = c.args in
-    let if1 = c.if-m-i-eq0 in
+    let if1 = c.if-marks-i-eq0 in
     let room = entries_room pre.fact_1 args.y pre.fact_2.0 if1.true in
     let a = pre.fact_2.1 in
     (omega arith, omega arith)
@@ -17,14 +17,14 @@ pub overflow_add-result : goal.overflow_add-result
 overflow_add-result c =
     let pre = c.requires in
     let args = c.args in
-    let if1 = c.if-m-i-eq0 in
+    let if1 = c.if-marks-i-eq0 in
     let room = entries_room pre.fact_1 args.y pre.fact_2.0 if1.true in
     omega arith
 
-pub returns-then-m-i-eq0 : goal.returns-then-m-i-eq0
-returns-then-m-i-eq0 c =
+pub returns-then-marks-i-eq0 : goal.returns-then-marks-i-eq0
+returns-then-marks-i-eq0 c =
     let args = c.args in
     let pre = c.requires in
-    let if1 = c.if-m-i-eq0 in
+    let if1 = c.if-marks-i-eq0 in
     let enter = c.enter in
     mark_one _ _ args.t args.y pre.fact_1 pre.fact_2.0 pre.fact_2.1 if1.true enter.ensures

@@ -12,7 +12,7 @@ pub visit-requires : goal.visit-requires
 visit-requires c =
     let pre = c.requires in
     let if2 = c.if-value-eq0 in
-    record { fact_1 = pre.fact_3; fact_2 = (value_in pre.fact_1 pre.fact_2 (search rules) if2.false, pre.fact_4) }
+    record { fact_1 = pre.fact_3; fact_2 = (value_in pre.fact_1 pre.fact_2 (search rules) if2.false, pre.fact_4); fact_3 = pre.fact_1.low }
 
 pub returns-then-r-terms : goal.returns-then-r-terms
 returns-then-r-terms c =
@@ -26,7 +26,7 @@ visit_args-requires c =
     let args = c.args in
     let pre = c.requires in
     let l : args.terms.room ≤ args.r = search rules in
-    record { fact_1 = pre.fact_3; fact_2 = (node_in pre.fact_1 pre.fact_2 l, pre.fact_4); fact_3 = argument_in pre.fact_1 pre.fact_2 l }
+    record { fact_1 = pre.fact_3; fact_2 = (node_in pre.fact_1 pre.fact_2 l, pre.fact_4); fact_3 = argument_in pre.fact_1 pre.fact_2 l; fact_4 = pre.fact_1.low }
 
 pub returns : goal.returns
 returns c =

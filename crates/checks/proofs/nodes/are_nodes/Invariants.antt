@@ -5,4 +5,4 @@ use Rattle.checks.specs.Ready.{NodeFormed}
 use Rattle.checks.proofs.nodes.are_nodes.Given as goal
 
 abbrev pub invariant-loop-a : goal.invariant-loop-a
-invariant-loop-a l = (k : ℕ) → k < l.a → NodeFormed (cells l.words) l.variables l.used k
+invariant-loop-a l = (k : ℕ) → k < l.a → NodeFormed l.terms.room (cells l.terms.words.now) l.terms.variables l.terms.used k

@@ -1,8 +1,7 @@
 -- `is_node` meets its contract. The loop's invariant: the arguments passed are references to what stands before the node.
 use Prim.Native.Nat.{ℕ, suc, ◌+◌, ◌<◌}
 use Rattle.arena.specs.Cells.{cells, Reference}
-use Rattle.arena.specs.Copies.{term_room}
 use Rattle.checks.proofs.nodes.is_node.Given as goal
 
 abbrev pub invariant-loop-i : goal.invariant-loop-i
-invariant-loop-i l = (k : ℕ) → k < l.i → Reference term_room (cells l.words) l.variables l.address (cells l.words (l.address + suc k))
+invariant-loop-i l = (k : ℕ) → k < l.i → Reference l.terms.room (cells l.terms.words.now) l.terms.variables l.address (cells l.terms.words.now (l.address + suc k))

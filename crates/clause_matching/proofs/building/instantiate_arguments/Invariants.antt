@@ -3,4 +3,4 @@ use Rattle.clause_matching.proofs.Arguments.{Turn}
 use Rattle.clause_matching.proofs.building.instantiate_arguments.Given as goal
 
 abbrev pub invariant-loop-k : goal.invariant-loop-k
-invariant-loop-k l = Turn l.pattern l.first l.count l.environment l.initial.words l.used l.limit l.initial.stack l.initial.values l.words l.stack l.values l.spent l.k
+invariant-loop-k l = Turn l.pattern l.first l.count l.environment l.initial.words l.room.used l.room.limit l.initial.stack l.initial.values l.words l.stack l.values l.spent l.k

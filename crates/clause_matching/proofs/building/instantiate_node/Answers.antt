@@ -13,7 +13,7 @@ pub loop-depth-init : goal.loop-depth-init
 loop-depth-init c =
     let args = c.args in
     let pre = c.requires in
-    (args.reference, turn_lent _ (length-set (args.stack.now) 0 ((args.reference - pattern_room) ∷ 0 ∷ args.limit ∷ [])) (turn_enter (turn_start (pre.1)) refl (pre.0)))
+    (args.reference, turn_lent _ (length-set (args.stack.now) 0 ((args.reference - pattern_room) ∷ 0 ∷ args.room.limit ∷ [])) (turn_enter (turn_start (pre.1)) refl (pre.0)))
 
 pub bounds-stack-row : goal.bounds-stack-row
 bounds-stack-row c =
@@ -100,16 +100,16 @@ loop-depth-preserved-else-next-lt-PATTERN_ROOM c =
     let if2 = c.if-next-lt-PATTERN_ROOM in
     (_, turn_enter (turn_next (loop.invariant.1) refl (loop-test.true) (if1.true)) refl (if2.false))
 
-pub returns-then-limit-spent : goal.returns-then-limit-spent
-returns-then-limit-spent c =
-    node_refused (c.loop-depth.invariant.1) refl (c.loop-depth-test.true) (c.if-taken-arity.false) (c.if-limit-spent.true)
+pub returns-then-room-spent : goal.returns-then-room-spent
+returns-then-room-spent c =
+    node_refused (c.loop-depth.invariant.1) refl (c.loop-depth-test.true) (c.if-taken-arity.false) (c.if-room-spent.true)
 
 pub push_values-requires : goal.push_values-requires
 push_values-requires c =
     let loop = c.loop-depth in
     let loop-test = c.loop-depth-test in
     let if1 = c.if-taken-arity in
-    let if4 = c.if-limit-spent in
+    let if4 = c.if-room-spent in
     push_room (loop.invariant.1) refl (loop-test.true) (if1.false) (if4.false)
 
 pub loop-depth-preserved : goal.loop-depth-preserved
@@ -117,7 +117,7 @@ loop-depth-preserved c =
     let loop = c.loop-depth in
     let loop-test = c.loop-depth-test in
     let if1 = c.if-taken-arity in
-    let if4 = c.if-limit-spent in
+    let if4 = c.if-room-spent in
     let push-values = c.push_values in
     (_, turn_build (loop.invariant.1) refl (loop-test.true) (if1.false) (if4.false) _ (push-values.ensures))
 

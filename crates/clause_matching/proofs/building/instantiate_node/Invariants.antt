@@ -6,7 +6,7 @@ use Rattle.clause_matching.proofs.BuildTurns.{Turn, left}
 use Rattle.clause_matching.proofs.building.instantiate_node.Given as goal
 
 abbrev pub invariant-loop-depth : goal.invariant-loop-depth
-invariant-loop-depth l = (n : ℕ) × Turn l.pattern l.reference l.environment l.initial.words l.used l.limit l.initial.stack l.words l.stack l.depth l.top l.spent n false
+invariant-loop-depth l = (n : ℕ) × Turn l.pattern l.reference l.environment l.initial.words l.room.used l.room.limit l.initial.stack l.words l.stack l.depth l.top l.spent n false
 
 abbrev pub decreases-loop-depth : goal.decreases-loop-depth
 decreases-loop-depth l = left l.pattern l.stack l.depth 0 false

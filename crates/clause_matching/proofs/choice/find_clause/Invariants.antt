@@ -4,7 +4,7 @@ use Rattle.clause_matching.proofs.Choosing.{Choosing, Trying}
 use Rattle.clause_matching.proofs.choice.find_clause.Given as goal
 
 abbrev pub invariant-loop-k : goal.invariant-loop-k
-invariant-loop-k l = Trying l.rules l.pattern l.values l.words l.used l.initial.environment l.initial.links l.initial.stack l.i l.base l.environment l.links l.stack l.k
+invariant-loop-k l = Trying l.clauses.rules.now l.clauses.pattern.now l.arguments l.values.words.now l.values.used l.initial.environment l.initial.links l.initial.stack l.i l.base l.environment l.links l.stack l.k
 
 abbrev pub invariant-clauses : goal.invariant-clauses
-invariant-clauses l = Choosing l.rules l.pattern l.from l.end l.values l.words l.used l.initial.environment l.initial.links l.initial.stack l.environment l.links l.stack l.i
+invariant-clauses l = Choosing l.clauses.rules.now l.clauses.pattern.now l.clauses.from l.clauses.end l.arguments l.values.words.now l.values.used l.initial.environment l.initial.links l.initial.stack l.environment l.links l.stack l.i

@@ -8,23 +8,23 @@ use Rattle.clause_matching.proofs.matching.bind_node.Goals as goal
 pub loop-waiting-init : goal.loop-waiting-init
 loop-waiting-init c = (λ b. c.requires.0, turn_start (c.requires.1))
 
-pub returns-then-header-words : goal.returns-then-header-words
-returns-then-header-words c =
-    node_misfits (c.loop-waiting.invariant.1) (c.if-waiting.true) (c.loop-waiting.invariant.0 c.if-waiting.true) (c.if-header-words.true)
+pub returns-then-header-values : goal.returns-then-header-values
+returns-then-header-values c =
+    node_misfits (c.loop-waiting.invariant.1) (c.if-waiting.true) (c.loop-waiting.invariant.0 c.if-waiting.true) (c.if-header-values.true)
 
 pub bounds-stack-depth : goal.bounds-stack-depth
 bounds-stack-depth c =
-    free_row (c.loop-waiting.invariant.1) (c.if-waiting.true) (c.loop-waiting.invariant.0 c.if-waiting.true) (c.if-header-words.false)
+    free_row (c.loop-waiting.invariant.1) (c.if-waiting.true) (c.loop-waiting.invariant.0 c.if-waiting.true) (c.if-header-values.false)
 
 pub loop-waiting-smaller-then-waiting : goal.loop-waiting-smaller-then-waiting
 loop-waiting-smaller-then-waiting c =
-    less_enter (c.loop-waiting.invariant.1) (c.if-waiting.true) (c.loop-waiting.invariant.0 c.if-waiting.true) (c.if-header-words.false)
+    less_enter (c.loop-waiting.invariant.1) (c.if-waiting.true) (c.loop-waiting.invariant.0 c.if-waiting.true) (c.if-header-values.false)
 
 pub loop-waiting-preserved-then-waiting : goal.loop-waiting-preserved-then-waiting
 loop-waiting-preserved-then-waiting c =
     let loop = c.loop-waiting in
     let if1 = c.if-waiting in
-    let if2 = c.if-header-words in
+    let if2 = c.if-header-values in
     (λ b. true_false b refl, turn_enter (loop.invariant.1) (if1.true) (loop.invariant.0 if1.true) (if2.false))
 
 pub returns-then-depth-eq0 : goal.returns-then-depth-eq0

@@ -8,7 +8,7 @@ use Rattle.clause_matching.proofs.BindTurns.{Turn, left}
 use Rattle.clause_matching.proofs.matching.bind_node.Given as goal
 
 abbrev pub invariant-loop-waiting : goal.invariant-loop-waiting
-invariant-loop-waiting l = (l.waiting ≡ true → pattern_room ≤ l.next) × Turn l.pattern l.reference l.words l.used l.value l.initial.environment l.initial.links l.initial.stack l.environment l.links l.stack l.depth l.next l.other l.waiting
+invariant-loop-waiting l = (l.waiting ≡ true → pattern_room ≤ l.next) × Turn l.pattern l.reference l.values.words.now l.values.used l.value l.initial.environment l.initial.links l.initial.stack l.environment l.links l.stack l.depth l.next l.other l.waiting
 
 abbrev pub decreases-loop-waiting : goal.decreases-loop-waiting
 decreases-loop-waiting l = left l.pattern l.stack l.depth l.next l.waiting

@@ -2,8 +2,8 @@
 use Rattle.expressions.proofs.Building.{build_refused, build_done}
 use Rattle.expressions.proofs.nodes.build.Goals as goal
 
-pub returns-then-limit-used : goal.returns-then-limit-used
-returns-then-limit-used c = build_refused c.requires c.if-limit-used.true
+pub returns-then-room-count : goal.returns-then-room-count
+returns-then-room-count c = build_refused c.requires c.if-room-count.true
 
 pub returns : goal.returns
-returns c = build_done c.requires c.if-limit-used.false c.push_node.ensures
+returns c = build_done c.requires c.if-room-count.false c.push_node.ensures

@@ -15,7 +15,7 @@ returns-in_err-y c =
     rw (handed_on c.from_residual-in_err-y.result c.from_residual-in_err-y.ensures.1) (no_succ _ _ c.requires c.find_constructor-2.ensures c.in_err-y.was)
 
 pub check_numeral-requires : goal.check_numeral-requires
-check_numeral-requires c = check_asked _ c.args.n c.requires c.find_constructor.ensures c.in_ok-z.was c.find_constructor-2.ensures c.in_ok-y.was
+check_numeral-requires c = check_asked _ c.args.number c.requires c.find_constructor.ensures c.in_ok-z.was c.find_constructor-2.ensures c.in_ok-y.was
 
 pub returns-in_err-check_numeral : goal.returns-in_err-check_numeral
 returns-in_err-check_numeral c =

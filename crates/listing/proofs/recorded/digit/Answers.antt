@@ -3,7 +3,7 @@ use mathlib.Core.Path.{sym, ap, ◌∙◌}
 use lib.ListN.{get_or}
 use Prim.Native.Nat.{◌-◌, ◌<◌}
 use Rattle.listing.specs.Recorded.{read_digit}
-use Rattle.listing.specs.RecordedLaws.{digit_past, digit_none, digit_is, read_small}
+use Rattle.listing.specs.RecordedLaws.{digit_past, digit_none, digit_within, read_small}
 use borrow.Author.Rules.{rules}
 use native.Mathlib.Omega.{arith}
 use Rattle.listing.proofs.recorded.digit.Goals as goal
@@ -17,6 +17,6 @@ returns-then-not-is_ascii_digit c =
 
 pub returns : goal.returns
 returns c =
-    let d = digit_is c.args.list.now c.args.at (sym c.is_ascii_digit.ensures.value ∙ c.if-not-is_ascii_digit.false) in
+    let d = digit_within c.args.list.now c.args.at (sym c.is_ascii_digit.ensures.value ∙ c.if-not-is_ascii_digit.false) in
     let small : get_or c.args.list.now c.args.at 0 - 48 < 10 = grind (arith, c.is_ascii_digit.ensures.cases, c.if-not-is_ascii_digit.false) in
     record { is = rw c.from.ensures (read_small _ small ∙ ap read_digit (sym d)); small = omega (arith, c.from.ensures) }

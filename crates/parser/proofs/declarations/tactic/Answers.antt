@@ -15,13 +15,7 @@ returns-then-peek-ne-DEFINES c =
     let pre = c.requires in
     let if1 = c.if-peek-ne-DEFINES in
     let peek = c.peek in
-    no_tactic args.tokens.now args.at args.used _ pre.here (λ e. if1.true (ap (λ x. x.kind) peek.ensures ∙ e))
-
-pub overflow_add-at : goal.overflow_add-at
-overflow_add-at c = omega (arith, c.requires.here, c.requires.small)
-
-pub overflow_add-at-then-peek-ne-BY : goal.overflow_add-at-then-peek-ne-BY
-overflow_add-at-then-peek-ne-BY c = omega (arith, c.requires.here, c.requires.small)
+    no_tactic args.input.tokens.now args.from.at args.from.used _ pre.here (λ e. if1.true (ap (λ x. x.kind) peek.ensures ∙ e))
 
 pub returns-then-peek-ne-BY : goal.returns-then-peek-ne-BY
 returns-then-peek-ne-BY c =
@@ -30,15 +24,8 @@ returns-then-peek-ne-BY c =
     let if1 = c.if-peek-ne-DEFINES in
     let if2 = c.if-peek-ne-BY in
     let peek2 = c.peek-2 in
-    rw c.rejection.ensures (no_by args.tokens.now args.at args.used _ (sym (ap (λ x. x.kind) peek.ensures)
+    rw c.rejection.ensures (no_by args.input.tokens.now args.from.at args.from.used _ (sym (ap (λ x. x.kind) peek.ensures)
     ∙ if1.false) (λ e. if2.true (ap (λ x. x.kind) peek2.ensures ∙ e)) refl)
-
-pub overflow_add-at-2 : goal.overflow_add-at-2
-overflow_add-at-2 c = omega (arith, c.requires.here, c.requires.small)
-
-pub overflow_add-result : goal.overflow_add-result
-overflow_add-result c =
-    omega (arith, c.requires.here, c.requires.small)
 
 pub returns-then-k-eq-AUTO : goal.returns-then-k-eq-AUTO
 returns-then-k-eq-AUTO c =
@@ -49,14 +36,10 @@ returns-then-k-eq-AUTO c =
     let if2 = c.if-peek-ne-BY in
     let peek3 = c.peek-k in
     let if3 = c.if-k-eq-AUTO in
-    by_auto args.tokens.now args.at args.used _ (sym (ap (λ x. x.kind) peek.ensures)
+    by_auto args.input.tokens.now args.from.at args.from.used _ (sym (ap (λ x. x.kind) peek.ensures)
     ∙ if1.false) (sym (ap (λ x. x.kind) peek2.ensures)
     ∙ if2.false) (sym (ap (λ x. x.kind) peek3.ensures)
     ∙ if3.true)
-
-pub overflow_add-at-then-k-eq-INDUCTION : goal.overflow_add-at-then-k-eq-INDUCTION
-overflow_add-at-then-k-eq-INDUCTION c =
-    omega (arith, c.requires.here, c.requires.small)
 
 pub name-requires : goal.name-requires
 name-requires c =
@@ -64,8 +47,8 @@ name-requires c =
     let peek3 = c.peek-k in
     let if4 = c.if-k-eq-INDUCTION in
     let pre = c.requires in
-    let e : kind_of (drop (args.at + 2) args.tokens.now) ≡ 9 = sym (ap (λ x. x.kind) peek3.ensures) ∙ if4.true in
-    let h = token_there args.tokens.now (args.at + 2) (omega arith) in
+    let e : kind_of (drop (args.from.at + 2) args.input.tokens.now) ≡ 9 = sym (ap (λ x. x.kind) peek3.ensures) ∙ if4.true in
+    let h = token_there args.input.tokens.now (args.from.at + 2) (omega arith) in
     room_on pre _ _ _ (omega arith) (omega arith) refl
 
 pub returns-then-k-eq-INDUCTION : goal.returns-then-k-eq-INDUCTION
@@ -78,7 +61,7 @@ returns-then-k-eq-INDUCTION c =
     let peek3 = c.peek-k in
     let if4 = c.if-k-eq-INDUCTION in
     let name = c.name in
-    by_induction args.tokens.now args.at args.used _ (sym (ap (λ x. x.kind) peek.ensures)
+    by_induction args.input.tokens.now args.from.at args.from.used _ (sym (ap (λ x. x.kind) peek.ensures)
     ∙ if1.false) (sym (ap (λ x. x.kind) peek2.ensures)
     ∙ if2.false) (sym (ap (λ x. x.kind) peek3.ensures)
     ∙ if4.true) name.ensures
@@ -93,6 +76,6 @@ returns c =
     let if3 = c.if-k-eq-AUTO in
     let peek3 = c.peek-k in
     let if4 = c.if-k-eq-INDUCTION in
-    rw c.rejection-2.ensures (neither args.tokens.now args.at args.used _ (sym (ap (λ x. x.kind) peek.ensures)
+    rw c.rejection-2.ensures (neither args.input.tokens.now args.from.at args.from.used _ (sym (ap (λ x. x.kind) peek.ensures)
     ∙ if1.false) (sym (ap (λ x. x.kind) peek2.ensures)
     ∙ if2.false) (λ e. if3.false (ap (λ x. x.kind) peek3.ensures ∙ e)) (λ e. if4.false (ap (λ x. x.kind) peek3.ensures ∙ e)) refl)

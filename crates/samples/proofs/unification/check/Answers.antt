@@ -1,11 +1,6 @@
 -- `check` is safe: the tests before the call are what `check_bindings` asks.
 use Rattle.checks.specs.ReadyLaws.{zeros_free}
-use native.Mathlib.Omega.{arith}
 use Rattle.samples.proofs.unification.check.Goals as goal
-
-pub overflow_add-used : goal.overflow_add-used
-overflow_add-used c =
-    let s = c.are_terms.ensures.yes (c.if-not-are_terms.false) in let l = s.low in omega arith
 
 pub check_bindings-answer-requires : goal.check_bindings-answer-requires
 check_bindings-answer-requires c =

@@ -1,5 +1,5 @@
 -- `try_stored` meets its contract: the parts of the row that are lent are its premises and places.
-use Rattle.search_machine.specs.Parts.{parts_asked, parts_tried}
+use Rattle.search_machine.specs.Parts.{parts_asked, parts_tried, tried_lent}
 use borrow.Author.Rules.{rules}
 use Rattle.search_machine.proofs.stored.try_stored.Goals as goal
 
@@ -9,6 +9,7 @@ try_rule-requires c = parts_asked
     (search rules) c.stored_in-stored.ensures
 
 pub returns-clause-tried : goal.returns-clause-tried
-returns-clause-tried c = parts_tried
-    c.requires (search rules)
-    c.stored_in-stored.ensures c.try_rule.ensures
+returns-clause-tried c =
+    let lent = c.try_rule.ensures.lent in
+    parts_tried c.requires (search rules) c.stored_in-stored.ensures
+    (tried_lent (search (rules, lent.links)) (search (rules, lent.marks)) (search (rules, lent.stack)) c.try_rule.ensures.tried)

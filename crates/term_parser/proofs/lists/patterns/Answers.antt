@@ -9,12 +9,11 @@ returns-then-peek-eq-DOUBLE_ARROW c =
     let pre = c.requires in
     let peek = c.peek in
     let if1 = c.if-peek-eq-DOUBLE_ARROW in
-    patterns_none args.text.now args.tokens.now pre.here (sym (ap (λ x. x.kind) peek.ensures) ∙ if1.true)
+    patterns_none args.input.text.now args.input.tokens.now pre.here (sym (ap (λ x. x.kind) peek.ensures) ∙ if1.true)
 
 pub returns : goal.returns
 returns c =
     let args = c.args in
     let if1 = c.if-peek-eq-DOUBLE_ARROW in
     let peek = c.peek in
-    let some-patterns = c.some_patterns in
-    patterns_some args.text.now args.tokens.now (λ e. if1.false (ap (λ x. x.kind) peek.ensures ∙ e)) some-patterns.ensures
+    patterns_some args.input.text.now args.input.tokens.now (λ e. if1.false (ap (λ x. x.kind) peek.ensures ∙ e)) c.list.ensures

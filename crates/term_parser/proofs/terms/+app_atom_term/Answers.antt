@@ -9,31 +9,31 @@ use Rattle.term_parser.proofs.TermLaws.{room_on, there, is_name, is_meta, is_num
 use Rattle.term_parser.proofs.terms.+app_atom_term.Goals as goal
 
 pub app-loop-more-init : goal.app-loop-more-init
-app-loop-more-init t c = atoms_start (c.args.text.now) (c.args.tokens.now) (c.args.left)
+app-loop-more-init t c = atoms_start (c.args.input.text.now) (c.args.input.tokens.now) (c.args.left)
 
 pub app-atom-requires : goal.app-atom-requires
-app-atom-requires t c = let args = c.args in let pre = c.requires in let loop = c.loop-more in (let f = atoms_from (args.text.now) (args.tokens.now) (args.left) (pre) (loop.invariant) in omega (arith, f), atoms_room (args.text.now) (args.tokens.now) (args.left) (pre) (loop.invariant))
+app-atom-requires t c = let args = c.args in let pre = c.requires in let loop = c.loop-more in (let f = atoms_from (args.input.text.now) (args.input.tokens.now) (args.left) (pre) (loop.invariant) in omega (arith, f), atoms_room (args.input.text.now) (args.input.tokens.now) (args.left) (pre) (loop.invariant))
 
 pub app-overflow_add-n : goal.app-overflow_add-n
-app-overflow_add-n t c = let args = c.args in let pre = c.requires in let loop = c.loop-more in let f = atoms_few (args.text.now) (args.tokens.now) (args.left) (pre) (loop.invariant) in let r = atoms_room (args.text.now) (args.tokens.now) (args.left) (pre) (loop.invariant) in omega (arith, f, r.here, (pre.small))
+app-overflow_add-n t c = let args = c.args in let pre = c.requires in let loop = c.loop-more in let f = atoms_few (args.input.text.now) (args.input.tokens.now) (args.left) (pre) (loop.invariant) in let r = atoms_room (args.input.text.now) (args.input.tokens.now) (args.left) (pre) (loop.invariant) in omega (arith, f, r.here, (pre.small))
 
 pub app-loop-more-smaller : goal.app-loop-more-smaller
 app-loop-more-smaller t c = let m = moved (c.atom.ensures) (ap maybe_step (c.in_ok-more.was ∙ ap Ok c.in-Some.is)) in omega (arith, m)
 
 pub app-loop-more-preserved : goal.app-loop-more-preserved
-app-loop-more-preserved t c = let args = c.args in let pre = c.requires in let atom = c.atom in let loop = c.loop-more in atoms_turn (args.text.now) (args.tokens.now) (args.left) (pre) (atom.ensures) (loop.invariant) (ap maybe_step (c.in_ok-more.was ∙ ap Ok c.in-Some.is)) (atom.auto.out)
+app-loop-more-preserved t c = let args = c.args in let pre = c.requires in let atom = c.atom in let loop = c.loop-more in atoms_turn (args.input.text.now) (args.input.tokens.now) (args.left) (pre) (atom.ensures) (loop.invariant) (ap maybe_step (c.in_ok-more.was ∙ ap Ok c.in-Some.is)) (atom.auto.out)
 
 pub app-returns-then-n-eq0 : goal.app-returns-then-n-eq0
-app-returns-then-n-eq0 t c = let args = c.args in let pre = c.requires in let atom = c.atom in let loop = c.loop-more in let if1 = c.if-n-eq0 in rw c.rejection.ensures (atoms_none (args.text.now) (args.tokens.now) (args.left) (pre) (atom.ensures) (loop.invariant) (ap maybe_step (c.in_ok-more.was ∙ ap Ok c.in_default.is)) (if1.true) refl)
+app-returns-then-n-eq0 t c = let args = c.args in let pre = c.requires in let atom = c.atom in let loop = c.loop-more in let if1 = c.if-n-eq0 in rw c.rejection.ensures (atoms_none (args.input.text.now) (args.input.tokens.now) (args.left) (pre) (atom.ensures) (loop.invariant) (ap maybe_step (c.in_ok-more.was ∙ ap Ok c.in_default.is)) (if1.true) refl)
 
 pub app-apply-requires : goal.app-apply-requires
-app-apply-requires t c = let args = c.args in let pre = c.requires in let loop = c.loop-more in let if1 = c.if-n-eq0 in let atom = c.atom in let r = atoms_room (args.text.now) (args.tokens.now) (args.left) (pre) (loop.invariant) in let f = atoms_past (args.text.now) (args.tokens.now) (args.left) (pre) (loop.invariant) (if1.false) in omega (arith, f, r.here, r.lent, (pre.below), (atom.auto.out))
+app-apply-requires t c = let args = c.args in let pre = c.requires in let loop = c.loop-more in let if1 = c.if-n-eq0 in let atom = c.atom in let r = atoms_room (args.input.text.now) (args.input.tokens.now) (args.left) (pre) (loop.invariant) in let f = atoms_past (args.input.text.now) (args.input.tokens.now) (args.left) (pre) (loop.invariant) (if1.false) in omega (arith, f, r.here, r.lent, (pre.below), (atom.auto.out))
 
 pub app-returns : goal.app-returns
-app-returns t c = let args = c.args in let pre = c.requires in let atom = c.atom in let loop = c.loop-more in let if1 = c.if-n-eq0 in let apply = c.apply in atoms_applied (args.text.now) (args.tokens.now) (args.left) (pre) (atom.ensures) (loop.invariant) (ap maybe_step (c.in_ok-more.was ∙ ap Ok c.in_default.is)) (if1.false) (apply.ensures)
+app-returns t c = let args = c.args in let pre = c.requires in let atom = c.atom in let loop = c.loop-more in let if1 = c.if-n-eq0 in let apply = c.apply in atoms_applied (args.input.text.now) (args.input.tokens.now) (args.left) (pre) (atom.ensures) (loop.invariant) (ap maybe_step (c.in_ok-more.was ∙ ap Ok c.in_default.is)) (if1.false) (apply.ensures)
 
 pub app-returns-in_err-more : goal.app-returns-in_err-more
-app-returns-in_err-more t c = let args = c.args in let pre = c.requires in let atom = c.atom in let loop = c.loop-more in rw (maybe_exits _ _ c.in_err-more.was c.from_residual.ensures.1, ap maybe_step c.in_err-more.was) (atoms_refused (args.text.now) (args.tokens.now) (args.left) (pre) (atom.ensures) (loop.invariant) (ap maybe_step c.in_err-more.was))
+app-returns-in_err-more t c = let args = c.args in let pre = c.requires in let atom = c.atom in let loop = c.loop-more in rw (maybe_exits _ _ c.in_err-more.was c.from_residual.ensures.1, ap maybe_step c.in_err-more.was) (atoms_refused (args.input.text.now) (args.input.tokens.now) (args.left) (pre) (atom.ensures) (loop.invariant) (ap maybe_step c.in_err-more.was))
 
 pub atom-push-requires : goal.atom-push-requires
 atom-push-requires t c =
@@ -41,7 +41,7 @@ atom-push-requires t c =
     let pre = c.requires in
     let peek = c.peek-t in
     let if1 = c.if-t-eq-NAME in
-    let h = there args.text.now args.tokens.now args.left pre peek.ensures if1.true (omega arith) in
+    let h = there args.input.text.now args.input.tokens.now args.left pre peek.ensures if1.true (omega arith) in
     (omega (arith, pre.lent, pre.below), omega (arith, pre.small, pre.below), omega (arith, pre.small))
 
 pub atom-returns-then-t-eq-NAME : goal.atom-returns-then-t-eq-NAME
@@ -51,7 +51,7 @@ atom-returns-then-t-eq-NAME t c =
     let peek = c.peek-t in
     let push = c.push in
     let if1 = c.if-t-eq-NAME in
-    is_name args.text.now args.tokens.now args.left pre peek.ensures (ap (λ r. maybe_step (Ok (Some r))) push.ensures.0) if1.true push.ensures.1
+    is_name args.input.text.now args.input.tokens.now args.left pre peek.ensures (ap (λ r. maybe_step (Ok (Some r))) push.ensures.0) if1.true push.ensures.1
 
 pub atom-push-requires-then-t-eq-METAVARIABLE : goal.atom-push-requires-then-t-eq-METAVARIABLE
 atom-push-requires-then-t-eq-METAVARIABLE t c =
@@ -59,7 +59,7 @@ atom-push-requires-then-t-eq-METAVARIABLE t c =
     let pre = c.requires in
     let peek = c.peek-t in
     let if2 = c.if-t-eq-METAVARIABLE in
-    let h = there args.text.now args.tokens.now args.left pre peek.ensures if2.true (omega arith) in
+    let h = there args.input.text.now args.input.tokens.now args.left pre peek.ensures if2.true (omega arith) in
     (omega (arith, pre.lent, pre.below), omega (arith, pre.small, pre.below), omega (arith, pre.small))
 
 pub atom-returns-then-t-eq-METAVARIABLE : goal.atom-returns-then-t-eq-METAVARIABLE
@@ -70,7 +70,7 @@ atom-returns-then-t-eq-METAVARIABLE t c =
     let push2 = c.push-then-t-eq-METAVARIABLE in
     let if1 = c.if-t-eq-NAME in
     let if2 = c.if-t-eq-METAVARIABLE in
-    is_meta args.text.now args.tokens.now args.left pre peek.ensures (ap (λ r. maybe_step (Ok (Some r))) push2.ensures.0) if1.false if2.true push2.ensures.1
+    is_meta args.input.text.now args.input.tokens.now args.left pre peek.ensures (ap (λ r. maybe_step (Ok (Some r))) push2.ensures.0) if1.false if2.true push2.ensures.1
 
 pub atom-push-requires-then-t-eq-NUMERAL : goal.atom-push-requires-then-t-eq-NUMERAL
 atom-push-requires-then-t-eq-NUMERAL t c =
@@ -78,7 +78,7 @@ atom-push-requires-then-t-eq-NUMERAL t c =
     let pre = c.requires in
     let peek = c.peek-t in
     let if3 = c.if-t-eq-NUMERAL in
-    let h = there args.text.now args.tokens.now args.left pre peek.ensures if3.true (omega arith) in
+    let h = there args.input.text.now args.input.tokens.now args.left pre peek.ensures if3.true (omega arith) in
     (omega (arith, pre.lent, pre.below), omega (arith, pre.small, pre.below), omega (arith, pre.small))
 
 pub atom-returns-then-t-eq-NUMERAL : goal.atom-returns-then-t-eq-NUMERAL
@@ -91,7 +91,7 @@ atom-returns-then-t-eq-NUMERAL t c =
     let if2 = c.if-t-eq-METAVARIABLE in
     let if3 = c.if-t-eq-NUMERAL in
     let saturated = c.saturated-value in
-    is_numeral_lem args.text.now args.tokens.now args.left pre peek.ensures (ap (λ r. maybe_step (Ok (Some r))) push3.ensures.0) if1.false if2.false if3.true saturated.ensures push3.ensures.1
+    is_numeral_lem args.input.text.now args.input.tokens.now args.left pre peek.ensures (ap (λ r. maybe_step (Ok (Some r))) push3.ensures.0) if1.false if2.false if3.true saturated.ensures push3.ensures.1
 
 pub atom-overflow_add-inside : goal.atom-overflow_add-inside
 atom-overflow_add-inside t c =
@@ -99,7 +99,7 @@ atom-overflow_add-inside t c =
     let pre = c.requires in
     let peek = c.peek-t in
     let if4 = c.if-t-eq-OPEN in
-    let h = there args.text.now args.tokens.now args.left pre peek.ensures if4.true (omega arith) in
+    let h = there args.input.text.now args.input.tokens.now args.left pre peek.ensures if4.true (omega arith) in
     omega (arith, pre.small)
 
 pub atom-returns-then-left-eq0 : goal.atom-returns-then-left-eq0
@@ -112,7 +112,7 @@ atom-returns-then-left-eq0 t c =
     let if3 = c.if-t-eq-NUMERAL in
     let if4 = c.if-t-eq-OPEN in
     let if5 = c.if-left-eq0 in
-    rw c.rejection.ensures (too_deep args.text.now args.tokens.now args.at args.left args.used _ (is_open args.text.now args.tokens.now args.left pre peek.ensures if1.false if2.false if3.false if4.true) if5.true refl)
+    rw c.rejection.ensures (too_deep args.input.text.now args.input.tokens.now args.from.at args.left args.from.used _ (is_open args.input.text.now args.input.tokens.now args.left pre peek.ensures if1.false if2.false if3.false if4.true) if5.true refl)
 
 pub atom-term-requires : goal.atom-term-requires
 atom-term-requires t c =
@@ -120,7 +120,7 @@ atom-term-requires t c =
     let pre = c.requires in
     let peek = c.peek-t in
     let if4 = c.if-t-eq-OPEN in
-    let h = there args.text.now args.tokens.now args.left pre peek.ensures if4.true (omega arith) in
+    let h = there args.input.text.now args.input.tokens.now args.left pre peek.ensures if4.true (omega arith) in
     (omega (arith), room_on pre _ _ _ (omega arith) (omega arith) refl)
 
 pub atom-returns-in_err-inner : goal.atom-returns-in_err-inner
@@ -134,7 +134,7 @@ atom-returns-in_err-inner t c =
     let if4 = c.if-t-eq-OPEN in
     let if5 = c.if-left-eq0 in
     let term = c.term in
-    rw (exits_maybe _ _ c.in_err-inner.was c.from_residual.ensures.1) (inner_stopped args.text.now args.tokens.now args.at args.left args.used _ (is_open args.text.now args.tokens.now args.left pre peek.ensures if1.false if2.false if3.false if4.true) if5.false term.ensures (stopped_err _ c.in_err-inner.was))
+    rw (exits_maybe _ _ c.in_err-inner.was c.from_residual.ensures.1) (inner_stopped args.input.text.now args.input.tokens.now args.from.at args.left args.from.used _ (is_open args.input.text.now args.input.tokens.now args.left pre peek.ensures if1.false if2.false if3.false if4.true) if5.false term.ensures (stopped_err _ c.in_err-inner.was))
 
 pub atom-returns-then-t-eq-OPEN : goal.atom-returns-then-t-eq-OPEN
 atom-returns-then-t-eq-OPEN t c =
@@ -148,7 +148,7 @@ atom-returns-then-t-eq-OPEN t c =
     let if5 = c.if-left-eq0 in
     let term = c.term in
     let sign = c.sign in
-    rw (ap step c.in_ok-sign.was) at (inner_closed args.text.now args.tokens.now args.at args.left args.used _ (is_open args.text.now args.tokens.now args.left pre peek.ensures if1.false if2.false if3.false if4.true) if5.false term.ensures (ap step c.in_ok-inner.was) sign.ensures)
+    rw (ap step c.in_ok-sign.was) at (inner_closed args.input.text.now args.input.tokens.now args.from.at args.left args.from.used _ (is_open args.input.text.now args.input.tokens.now args.left pre peek.ensures if1.false if2.false if3.false if4.true) if5.false term.ensures (ap step c.in_ok-inner.was) sign.ensures)
 
 pub atom-returns-in_err-sign : goal.atom-returns-in_err-sign
 atom-returns-in_err-sign t c =
@@ -162,7 +162,7 @@ atom-returns-in_err-sign t c =
     let if5 = c.if-left-eq0 in
     let term = c.term in
     let sign = c.sign in
-    rw (exits_maybe _ _ c.in_err-sign.was c.from_residual-in_err-sign.ensures.1) (inner_closed args.text.now args.tokens.now args.at args.left args.used _ (is_open args.text.now args.tokens.now args.left pre peek.ensures if1.false if2.false if3.false if4.true) if5.false term.ensures (ap step c.in_ok-inner.was) sign.ensures)
+    rw (exits_maybe _ _ c.in_err-sign.was c.from_residual-in_err-sign.ensures.1) (inner_closed args.input.text.now args.input.tokens.now args.from.at args.left args.from.used _ (is_open args.input.text.now args.input.tokens.now args.left pre peek.ensures if1.false if2.false if3.false if4.true) if5.false term.ensures (ap step c.in_ok-inner.was) sign.ensures)
 
 pub atom-returns : goal.atom-returns
 atom-returns t c =
@@ -173,14 +173,14 @@ atom-returns t c =
     let if2 = c.if-t-eq-METAVARIABLE in
     let if3 = c.if-t-eq-NUMERAL in
     let if4 = c.if-t-eq-OPEN in
-    is_none args.text.now args.tokens.now args.left pre peek.ensures if1.false if2.false if3.false if4.false
+    is_none args.input.text.now args.input.tokens.now args.left pre peek.ensures if1.false if2.false if3.false if4.false
 
 pub term-returns-in_err-first : goal.term-returns-in_err-first
 term-returns-in_err-first t c =
     let args = c.args in
     let pre = c.requires in
     let app = c.app in
-    rw (exits _ _ c.in_err-first.was c.from_residual.ensures.1) (term_stopped args.text.now args.tokens.now args.left pre app.ensures (stopped_err _ c.in_err-first.was))
+    rw (exits _ _ c.in_err-first.was c.from_residual.ensures.1) (term_stopped args.input.text.now args.input.tokens.now args.left pre app.ensures (stopped_err _ c.in_err-first.was))
 
 pub term-returns-then-peek-ne-EQUALS : goal.term-returns-then-peek-ne-EQUALS
 term-returns-then-peek-ne-EQUALS t c =
@@ -189,10 +189,10 @@ term-returns-then-peek-ne-EQUALS t c =
     let app = c.app in
     let if1 = c.if-peek-ne-EQUALS in
     let peek = c.peek in
-    term_plain args.text.now args.tokens.now args.left pre app.ensures (ap step c.in_ok-first.was) (λ e. if1.true (ap (λ x. x.kind) peek.ensures ∙ e))
+    term_plain args.input.text.now args.input.tokens.now args.left pre app.ensures (ap step c.in_ok-first.was) (λ e. if1.true (ap (λ x. x.kind) peek.ensures ∙ e))
 
-pub term-overflow_add-first : goal.term-overflow_add-first
-term-overflow_add-first t c =
+pub term-overflow_add-behind : goal.term-overflow_add-behind
+term-overflow_add-behind t c =
     let app = c.app in
     let pre = c.requires in
     let m = moved app.ensures (ap step c.in_ok-first.was) in
@@ -206,7 +206,7 @@ term-app-requires-2 t c =
     let if1 = c.if-peek-ne-EQUALS in
     let pre = c.requires in
     let m = moved app.ensures (ap step c.in_ok-first.was) in
-    let h = token_there args.tokens.now c.in_ok-first.first.at (let e = ap (λ x. x.kind) (sym peek.ensures) ∙ if1.false in
+    let h = token_there args.input.tokens.now c.in_ok-first.first.position.at (let e = ap (λ x. x.kind) (sym peek.ensures) ∙ if1.false in
     omega arith) in
     (omega (arith, m), room_on pre _ _ _ (omega arith) (omega (arith, m)) app.auto.out)
 
@@ -218,7 +218,7 @@ term-returns-in_err-second t c =
     let peek = c.peek in
     let if1 = c.if-peek-ne-EQUALS in
     let app2 = c.app-2 in
-    rw (exits _ _ c.in_err-second.was c.from_residual-in_err-second.ensures.1) (second_stopped args.text.now args.tokens.now args.left pre app.ensures (ap step c.in_ok-first.was) (ap (λ x. x.kind) (sym peek.ensures) ∙ if1.false) app2.ensures (stopped_err _ c.in_err-second.was))
+    rw (exits _ _ c.in_err-second.was c.from_residual-in_err-second.ensures.1) (second_stopped args.input.text.now args.input.tokens.now args.left pre app.ensures (ap step c.in_ok-first.was) (ap (λ x. x.kind) (sym peek.ensures) ∙ if1.false) app2.ensures (stopped_err _ c.in_err-second.was))
 
 pub term-equate-requires : goal.term-equate-requires
 term-equate-requires t c =
@@ -230,7 +230,7 @@ term-equate-requires t c =
     let if1 = c.if-peek-ne-EQUALS in
     let m = moved app.ensures (ap step c.in_ok-first.was) in
     let n = moved app2.ensures (ap step c.in_ok-second.was) in
-    record { fact_1 = omega (arith, m, n, pre.lent, pre.below, app.auto.out, app2.auto.out); fact_2 = root_room args.text.now args.tokens.now args.left pre app.ensures (ap step c.in_ok-first.was) (ap (λ x. x.kind) (sym peek.ensures) ∙ if1.false) app2.ensures (ap step c.in_ok-second.was) (omega (arith, m, n, pre.lent, pre.below, app.auto.out, app2.auto.out)) }
+    record { fact_1 = omega (arith, m, n, pre.lent, pre.below, app.auto.out, app2.auto.out); fact_2 = root_room args.input.text.now args.input.tokens.now args.left pre app.ensures (ap step c.in_ok-first.was) (ap (λ x. x.kind) (sym peek.ensures) ∙ if1.false) app2.ensures (ap step c.in_ok-second.was) (omega (arith, m, n, pre.lent, pre.below, app.auto.out, app2.auto.out)) }
 
 pub term-returns : goal.term-returns
 term-returns t c =
@@ -241,4 +241,4 @@ term-returns t c =
     let if1 = c.if-peek-ne-EQUALS in
     let app2 = c.app-2 in
     let equate = c.equate in
-    term_equated args.text.now args.tokens.now args.left pre app.ensures (ap step c.in_ok-first.was) (ap (λ x. x.kind) (sym peek.ensures) ∙ if1.false) app2.ensures (ap step c.in_ok-second.was) equate.ensures
+    term_equated args.input.text.now args.input.tokens.now args.left pre app.ensures (ap step c.in_ok-first.was) (ap (λ x. x.kind) (sym peek.ensures) ∙ if1.false) app2.ensures (ap step c.in_ok-second.was) equate.ensures

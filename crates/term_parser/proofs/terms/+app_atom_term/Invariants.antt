@@ -5,16 +5,16 @@ use Rattle.term_parser.proofs.TermLaws.{Atoms}
 use Rattle.term_parser.proofs.terms.+app_atom_term.Given as goal
 
 abbrev pub decreases-app : goal.decreases-app
-decreases-app l = 4 * (length l.tokens.now - l.at) + 2
+decreases-app l = 4 * (length l.input.tokens.now - l.from.at) + 2
 
 abbrev pub decreases-atom : goal.decreases-atom
-decreases-atom l = 4 * (length l.tokens.now - l.at)
+decreases-atom l = 4 * (length l.input.tokens.now - l.from.at)
 
 abbrev pub decreases-term : goal.decreases-term
-decreases-term l = 4 * (length l.tokens.now - l.at) + 3
+decreases-term l = 4 * (length l.input.tokens.now - l.from.at) + 3
 
 abbrev pub invariant-app-loop-more : goal.invariant-app-loop-more
-invariant-app-loop-more l = Atoms l.text l.tokens l.left l.at l.used l.initial.out l.p l.u l.n l.out
+invariant-app-loop-more l = Atoms l.input.text.now l.input.tokens.now l.left l.from.at l.from.used l.initial.out l.next.at l.next.used l.n l.out
 
 abbrev pub decreases-app-loop-more : goal.decreases-app-loop-more
-decreases-app-loop-more l = length l.tokens - l.p
+decreases-app-loop-more l = length l.input.tokens.now - l.next.at

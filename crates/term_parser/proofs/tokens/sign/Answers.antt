@@ -14,8 +14,8 @@ overflow_add-result c =
     let peek = c.peek in
     let if1 = c.if-peek-kind in
     let pre = c.requires in
-    let e : kind_of (drop (args.at) (args.tokens.now)) ≡ args.kind = sym (ap (λ t. t.kind) peek.ensures) ∙ if1.true in
-    let h = token_there (args.tokens.now) (args.at) (omega (arith, pre)) in
+    let e : kind_of (drop (args.from.at) (args.input.tokens.now)) ≡ args.kind = sym (ap (λ t. t.kind) peek.ensures) ∙ if1.true in
+    let h = token_there (args.input.tokens.now) (args.from.at) (omega (arith, pre)) in
     omega (arith, pre)
 
 pub returns-then-peek-kind : goal.returns-then-peek-kind
@@ -24,10 +24,10 @@ returns-then-peek-kind c =
     let peek = c.peek in
     let if1 = c.if-peek-kind in
     let pre = c.requires in
-    let e : kind_of (drop (args.at) (args.tokens.now)) ≡ args.kind = sym (ap (λ t. t.kind) peek.ensures) ∙ if1.true in
-    let h = token_there (args.tokens.now) (args.at) (omega (arith, pre)) in
+    let e : kind_of (drop (args.from.at) (args.input.tokens.now)) ≡ args.kind = sym (ap (λ t. t.kind) peek.ensures) ∙ if1.true in
+    let h = token_there (args.input.tokens.now) (args.from.at) (omega (arith, pre)) in
     record {
-      is = sym (ap (signed (args.at) (args.used)) (sign_there (last_line (args.tokens.now)) (args.kind) (drop (args.at) (args.tokens.now)) e));
+      is = sym (ap (signed (args.from.at) (args.from.used)) (sign_there (last_line (args.input.tokens.now)) (args.kind) (drop (args.from.at) (args.input.tokens.now)) e));
       within = (omega arith, omega arith, omega arith, omega arith);
     }
 
@@ -36,6 +36,6 @@ returns c =
     let args = c.args in
     record {
       is = ap (λ e. Refused e.refusal e.line) c.rejection.ensures
-          ∙ sym (ap (signed (args.at) (args.used)) (sign_not (last_line (args.tokens.now)) (args.kind) (drop (args.at) (args.tokens.now)) (λ e. c.if-peek-kind.false (ap (λ t. t.kind) c.peek.ensures ∙ e))));
+          ∙ sym (ap (signed (args.from.at) (args.from.used)) (sign_not (last_line (args.input.tokens.now)) (args.kind) (drop (args.from.at) (args.input.tokens.now)) (λ e. c.if-peek-kind.false (ap (λ t. t.kind) c.peek.ensures ∙ e))));
       within = tt;
     }

@@ -36,8 +36,8 @@ pub loop-pending-preserved-in-Bind : goal.loop-pending-preserved-in-Bind
 loop-pending-preserved-in-Bind c =
     turn_enter (rw c.in-Some.is at c.loop-pending.invariant) refl _ c.decide.ensures.marks _ _ c.in-Bind.ensures.says _ c.enter.ensures
 
-pub bounds-s-d : goal.bounds-s-d
-bounds-s-d c = open_room (rw c.in-Some.is at c.loop-pending.invariant) refl _ _ c.in-Open.ensures.says
+pub bounds-stack-d : goal.bounds-stack-d
+bounds-stack-d c = open_room (rw c.in-Some.is at c.loop-pending.invariant) refl _ _ c.in-Open.ensures.says
 
 pub overflow_add-d : goal.overflow_add-d
 overflow_add-d c = let room = open_in (rw c.in-Some.is at c.loop-pending.invariant) refl _ _ c.in-Open.ensures.says in omega arith
@@ -50,8 +50,8 @@ loop-pending-preserved-in-Open c =
     let h = rw c.in-Some.is at c.loop-pending.invariant in
     let room = open_room h refl _ _ c.in-Open.ensures.says in
     let long = c.loop-pending.invariant.stacking.long in
-    let within : c.loop-pending.d < length c.args.s.now = omega arith in
-    turn_open h refl _ c.decide.ensures.marks _ _ c.in-Open.ensures.says room (ap length (c.loop-pending.invariant.stacking.above _ (omega arith)) ∙ c.told-s _ within)
+    let within : c.loop-pending.d < length c.args.stack.now = omega arith in
+    turn_open h refl _ c.decide.ensures.marks _ _ c.in-Open.ensures.says room (ap length (c.loop-pending.invariant.stacking.above _ (omega arith)) ∙ c.told-stack _ within)
 
 pub returns-in-Clash : goal.returns-in-Clash
 returns-in-Clash c = turn_clash (rw c.in-Some.is at c.loop-pending.invariant) refl _ c.decide.ensures.marks c.in-Clash.ensures.says
@@ -59,20 +59,20 @@ returns-in-Clash c = turn_clash (rw c.in-Some.is at c.loop-pending.invariant) re
 pub returns-then-d-eq0 : goal.returns-then-d-eq0
 returns-then-d-eq0 c = turn_done c.loop-pending.invariant (ap is_some c.in-None.is) c.if-d-eq0.true
 
-pub bounds-s-last : goal.bounds-s-last
-bounds-s-last c = let z = c.if-d-eq0.false in let deep = deep_in c.loop-pending.invariant (ap is_some c.in-None.is) z in omega arith
+pub bounds-stack-last : goal.bounds-stack-last
+bounds-stack-last c = let z = c.if-d-eq0.false in let deep = deep_in c.loop-pending.invariant (ap is_some c.in-None.is) z in omega arith
 
-pub bounds-s-last-else-d-eq0 : goal.bounds-s-last-else-d-eq0
-bounds-s-last-else-d-eq0 c = let z = c.if-d-eq0.false in let deep = deep_in c.loop-pending.invariant (ap is_some c.in-None.is) z in omega arith
+pub bounds-stack-last-else-d-eq0 : goal.bounds-stack-last-else-d-eq0
+bounds-stack-last-else-d-eq0 c = let z = c.if-d-eq0.false in let deep = deep_in c.loop-pending.invariant (ap is_some c.in-None.is) z in omega arith
 
-pub bounds-s-last-else-d-eq0-2 : goal.bounds-s-last-else-d-eq0-2
-bounds-s-last-else-d-eq0-2 c = let z = c.if-d-eq0.false in let deep = deep_in c.loop-pending.invariant (ap is_some c.in-None.is) z in omega arith
+pub bounds-stack-last-else-d-eq0-2 : goal.bounds-stack-last-else-d-eq0-2
+bounds-stack-last-else-d-eq0-2 c = let z = c.if-d-eq0.false in let deep = deep_in c.loop-pending.invariant (ap is_some c.in-None.is) z in omega arith
 
 pub arity-requires : goal.arity-requires
 arity-requires c = (last_nodes c.loop-pending.invariant (ap is_some c.in-None.is) c.if-d-eq0.false _ _ _ refl refl refl).0.0
 
-pub bounds-s-last-then-taken-arity : goal.bounds-s-last-then-taken-arity
-bounds-s-last-then-taken-arity c = let z = c.if-d-eq0.false in let deep = deep_in c.loop-pending.invariant (ap is_some c.in-None.is) z in omega arith
+pub bounds-stack-last-then-taken-arity : goal.bounds-stack-last-then-taken-arity
+bounds-stack-last-then-taken-arity c = let z = c.if-d-eq0.false in let deep = deep_in c.loop-pending.invariant (ap is_some c.in-None.is) z in omega arith
 
 pub argument-requires : goal.argument-requires
 argument-requires c =

@@ -1,0 +1,38 @@
+-- `all` meets its contract.
+use mathlib.Core.Path.{ap, ◌∙◌}
+use native.Mathlib.Omega.{arith}
+use Rattle.std.specs.Prelude.{Ok}
+use Rattle.term_parser.specs.Parsing.{last_line}
+use Rattle.term_parser.specs.Steps.{maybe_step}
+use Rattle.term_parser.proofs.Readers.{maybe_exits, moved, loop_start, loop_turn}
+use Rattle.term_parser.proofs.TermLaws.{room_on}
+use Rattle.term_parser.proofs.ListLaws.{list_absent, list_refused}
+use Rattle.term_parser.proofs.items.all.Goals as goal
+
+pub loop-more-init : goal.loop-more-init
+loop-more-init g c = let input = c.args.input in loop_start (g.R.Repeated.grammar input.text.now (last_line input.tokens.now)) g.R.Repeated.rows input.tokens.now _ _ 0 _ c.requires.here
+
+pub read-requires : goal.read-requires
+read-requires g c = let l = c.loop-more.invariant in room_on c.requires _ _ _ l.to (omega (arith, l.fits)) l.long
+
+pub overflow_add-n : goal.overflow_add-n
+overflow_add-n g c = let l = c.loop-more.invariant in omega (arith, l.few, l.to, c.requires.small)
+
+pub loop-more-smaller : goal.loop-more-smaller
+loop-more-smaller g c = let m = moved c.read.ensures (ap maybe_step (c.in_ok-more.was ∙ ap Ok c.in-Some.is)) in omega (arith, m)
+
+pub loop-more-preserved : goal.loop-more-preserved
+loop-more-preserved g c =
+    let input = c.args.input in
+    loop_turn (g.R.Repeated.grammar input.text.now (last_line input.tokens.now)) g.R.Repeated.rows input.tokens.now c.loop-more.invariant c.read.ensures (ap maybe_step (c.in_ok-more.was ∙ ap Ok c.in-Some.is)) c.read.auto.out
+
+pub returns-clause-list : goal.returns-clause-list
+returns-clause-list g c =
+    let input = c.args.input in
+    list_absent (g.R.Repeated.grammar input.text.now (last_line input.tokens.now)) g.R.Repeated.rows input.tokens.now c.loop-more.invariant c.read.ensures (ap maybe_step (c.in_ok-more.was ∙ ap Ok c.in_default.is))
+
+pub returns-in_err-more-clause-list : goal.returns-in_err-more-clause-list
+returns-in_err-more-clause-list g c =
+    let input = c.args.input in
+    rw (maybe_exits _ _ c.in_err-more.was c.from_residual.ensures.1, ap maybe_step c.in_err-more.was)
+    (list_refused (g.R.Repeated.grammar input.text.now (last_line input.tokens.now)) g.R.Repeated.rows input.tokens.now c.loop-more.invariant c.read.ensures (ap maybe_step c.in_err-more.was))
