@@ -6,7 +6,7 @@
 ghost use Rattle.std.specs.Prelude.{◌≡◌, ◌+◌, ◌-◌, ◌*◌, ◌≤◌, ◌<◌, length};
 ghost use Rattle.source_text.specs.Parts.{part_of};
 ghost use Rattle.names.specs.Names.{result_length};
-ghost use Rattle.names.specs.Symbols.{symbols_of};
+ghost use Rattle.names.specs.Symbols.{column, symbols_of};
 ghost use Rattle.flattening.specs.Flattening.{is_function};
 ghost use Rattle.flattening.specs.Promises.{call_limit, arity_of, is_call, Copied, Finishes, Room, Flattens};
 
@@ -43,9 +43,10 @@ fn is_function(text: &[u8], symbols: &[SymbolRow], start: u32, size: u32) -> boo
 }
 
 // Does a row stand for a call?
-fn is_call(text: &[u8], symbols: &[SymbolRow], kind: u32, start: u32, size: u32) -> bool
-    ensures { result ≡ is_call (symbols_of text.now symbols.now (length symbols.now)) kind (part_of text.now start size) }
+fn is_call(text: &[u8], symbols: &[SymbolRow], row: TermRow) -> bool
+    ensures { result ≡ is_call (symbols_of text.now symbols.now (length symbols.now)) (column row 0) (part_of text.now (column row 1) (column row 2)) }
 {
+    let [kind, start, size, _] = row;
     if kind == words::METAVARIABLE {
         return false;
     }
@@ -132,9 +133,10 @@ pub fn flatten(
     if rows.len() <= at {
         return None;
     }
-    let [kind, start, size, more] = rows[at];
+    let row = rows[at];
+    let [kind, start, size, more] = row;
     let n = arity(kind, more);
-    out[top] = rows[at];
+    out[top] = row;
     let mut place = Place {
         next: at + 1,
         top: top + 1,
@@ -143,7 +145,7 @@ pub fn flatten(
     for _i in 0..n {
         place = flatten(source, out, calls, place)?;
     }
-    if is_call(text, symbols, kind, start, size) {
+    if is_call(text, symbols, row) {
         return finish(out, top, calls, place, start, size, n);
     }
     Some(place)

@@ -162,21 +162,29 @@ pub struct Counts {
     pub all: u32,
 }
 
-// Gives the variables of a rule their places in meeting order: the conclusion's from left to right, then those of the premises from the last to the first.
-// Stays: `meet` below asks for the words with the number of those in use.
-fn order(
-    words: &[u32],
-    used: u32,
-    heads: &[u32],
+// A rule's terms: the references of its premises and of its conclusion, the words in use that hold them, and the most words of one of them.
+#[derive(Clone, Copy)]
+struct RuleTerms<'a> {
+    heads: &'a [u32],
     conclusion: u32,
-    places: &mut [u32],
+    words: &'a [u32],
+    used: u32,
     most: u32,
-    stack: &mut [[u32; 2]],
-) -> Counts
-    requires fact_1 { OrderAsked words.now used heads.now conclusion places.old most }
-    requires fact_2 { most ≤ length stack.old }
-    ensures { Ordered words.now heads.now conclusion places.old result places.new }
+}
+
+// Gives the variables of a rule their places in meeting order: the conclusion's from left to right, then those of the premises from the last to the first.
+fn order(rule: RuleTerms, places: &mut [u32], stack: &mut [[u32; 2]]) -> Counts
+    requires fact_1 { OrderAsked rule.words.now rule.used rule.heads.now rule.conclusion places.old rule.most }
+    requires fact_2 { rule.most ≤ length stack.old }
+    ensures { Ordered rule.entry.words.now rule.entry.heads.now rule.entry.conclusion places.old result places.new }
 {
+    let RuleTerms {
+        heads,
+        conclusion,
+        words,
+        used,
+        most,
+    } = rule;
     let met = walk(words, conclusion, used, places, 0, most, stack);
     let mut all = met;
     for k in (0..heads.len()).rev() {
@@ -186,40 +194,24 @@ fn order(
 }
 
 // The same with a stack of its own, for terms of at most N words.
-// Stays: `meet` below asks for the words with the number of those in use.
-fn order_within<const N: usize>(
-    words: &[u32],
-    used: u32,
-    heads: &[u32],
-    conclusion: u32,
-    places: &mut [u32],
-    most: u32,
-) -> Counts
-    requires { (OrderAsked words.now used heads.now conclusion places.old most) × (most ≤ N) × (N ≤ 2048) }
-    ensures { Ordered words.now heads.now conclusion places.old result places.new }
+fn order_within<const N: usize>(rule: RuleTerms, places: &mut [u32]) -> Counts
+    requires { (OrderAsked rule.words.now rule.used rule.heads.now rule.conclusion places.old rule.most) × (rule.most ≤ N) × (N ≤ 2048) }
+    ensures { Ordered rule.entry.words.now rule.entry.heads.now rule.entry.conclusion places.old result places.new }
 {
     let mut stack = [[0u32; 2]; N];
-    order(words, used, heads, conclusion, places, most, &mut stack)
+    order(rule, places, &mut stack)
 }
 
 // The same with a stack for as many words as the rule has, at most 2 for each of 1,024 nodes: laying out the large one takes longer than the walk through
 // a small rule.
-// Stays: `meet` below asks for the words with the number of those in use.
-fn order_sized(
-    words: &[u32],
-    used: u32,
-    heads: &[u32],
-    conclusion: u32,
-    places: &mut [u32],
-    most: u32,
-) -> Counts
-    requires { (OrderAsked words.now used heads.now conclusion places.old most) × (most ≤ 2048) }
-    ensures { Ordered words.now heads.now conclusion places.old result places.new }
+fn order_sized(rule: RuleTerms, places: &mut [u32]) -> Counts
+    requires { (OrderAsked rule.words.now rule.used rule.heads.now rule.conclusion places.old rule.most) × (rule.most ≤ 2048) }
+    ensures { Ordered rule.entry.words.now rule.entry.heads.now rule.entry.conclusion places.old result places.new }
 {
-    if most <= FEW {
-        return order_within::<64>(words, used, heads, conclusion, places, most);
+    if rule.most <= FEW {
+        return order_within::<64>(rule, places);
     }
-    order_within::<2048>(words, used, heads, conclusion, places, most)
+    order_within::<2048>(rule, places)
 }
 
 // Writes values into the row i, from a column on.
@@ -289,14 +281,14 @@ fn keep(
     let used = body.space.used;
     let v = variables.len();
     let mut places = [64u32; 64];
-    let counts = order_sized(
-        words,
-        used as u32,
+    let terms = RuleTerms {
         heads,
         conclusion,
-        &mut places,
-        (used - from) as u32,
-    );
+        words,
+        used: used as u32,
+        most: (used - from) as u32,
+    };
+    let counts = order_sized(terms, &mut places);
     let numbers = [
         title.start,
         title.size,

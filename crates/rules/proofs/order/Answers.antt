@@ -17,7 +17,7 @@ pub loop-k-init : goal.loop-k-init
 loop-k-init c =
     let args = c.args in
     let pre = c.requires in
-    (refl, refl, met_none (term_of args.words.now) args.heads.now args.conclusion _ _ (c.walk-met.ensures [] (records_none args.places.now pre.fact_1.blank)))
+    (refl, refl, met_none (term_of args.rule.words.now) args.rule.heads.now args.rule.conclusion _ _ (c.walk-met.ensures [] (records_none args.places.now pre.fact_1.blank)))
 
 pub walk-all-requires : goal.walk-all-requires
 walk-all-requires c =
@@ -35,7 +35,7 @@ loop-k-preserved c =
     let args = c.args in (
       c.walk-all.auto.places ∙ loop.invariant.0,
       c.walk-all.auto.stack ∙ loop.invariant.1,
-      met_more (term_of args.words.now) args.heads.now args.conclusion loop.k (omega (arith, c.loop-k-test.true)) loop.auto.k _ _ (c.walk-all.ensures _ loop.invariant.2),
+      met_more (term_of args.rule.words.now) args.rule.heads.now args.rule.conclusion loop.k (omega (arith, c.loop-k-test.true)) loop.auto.k _ _ (c.walk-all.ensures _ loop.invariant.2),
     )
 
 pub returns : goal.returns

@@ -1,5 +1,5 @@
 -- `store` meets its contract: the row is written over part by part.
-use mathlib.Core.Path.{◌≡◌, refl}
+use mathlib.Core.Path.{refl}
 use mathlib.Core.List.{List, []}
 use Prim.Native.Nat.{ℕ, ◌<◌}
 use lib.ListN.{length, replicate}
