@@ -40,6 +40,7 @@ const NO_LIMITS: words::Limits = words::Limits {
 };
 
 // A refusal as one number; its line is added.
+// Stays: neither a refusal nor the number is of a type of this crate, so that no `From` can stand here.
 fn packed_refusal(refusal: Refusal) -> u64
     ensures { result ≡ number_of refusal * 2 ^ 32 }
 {
@@ -47,6 +48,7 @@ fn packed_refusal(refusal: Refusal) -> u64
 }
 
 // The refusal of a text as one number, with its line.
+// Stays: neither a rejection nor the number is of a type of this crate, so that no `From` can stand here.
 fn packed_rejection(rejection: Rejection) -> u64
     ensures { result ≡ packed_rejection rejection }
 {
@@ -99,6 +101,7 @@ pub fn stored_signature<'a>(
 }
 
 // A session's four counts.
+// Stays: the four numbers go into fields with names of their own, as in `signature_counts`; one function of both would need a trait with these bodies as its impls.
 pub fn session_counts(counts: &[u32]) -> sessions::SessionCounts
     requires { 4 ≤ length counts.now }
     ensures { result ≡ counts_in counts.now }
@@ -148,6 +151,7 @@ fn put_verdict(results: &mut [u32], steps: u32, nodes: u32, session: sessions::S
 }
 
 // `words::lex` under a limit on the text's bytes. The answer is the number of tokens, or 2^32 times the refusal's number and its line.
+// Stays: C lends the text with the limit on its bytes beside it; the limit counts no used part.
 pub fn horn_lex(text: &[u8], limit: u32, tokens: &mut [[u32; 4]]) -> u64
     ensures answer { result ≡ packed (lex_answer text.now (text_limit limit) tokens.old) }
     ensures rows { tokens.new ≡ lex_rows text.now (text_limit limit) tokens.old }
@@ -163,6 +167,7 @@ pub fn horn_lex(text: &[u8], limit: u32, tokens: &mut [[u32; 4]]) -> u64
 }
 
 // `parser::parse_text` under a limit on the text's bytes. The answer is the number of declarations, or 2^32 times the refusal's number and its line.
+// Stays: C lends the text with the limit on its bytes beside it; the limit counts no used part.
 pub fn horn_parse(text: &[u8], limit: u32, tokens: &mut [[u32; 4]], rows: &mut [[u32; 4]]) -> u64
     ensures { ParsedAs text.now limit tokens.old rows.old result tokens.new rows.new }
 {
@@ -178,6 +183,7 @@ pub fn horn_parse(text: &[u8], limit: u32, tokens: &mut [[u32; 4]], rows: &mut [
 
 // `load::load` under limits on the text's bytes and the nodes in all. The answer is the number of declarations, or 2^32 times the refusal's number and its
 // line. The counts are those of sorts, symbols, rules, words and waiting `#eval`.
+// Stays: the parameters are those that programs in C pass, each buffer by itself.
 pub fn horn_load(
     text: &[u8],
     bytes: u32,
@@ -259,6 +265,7 @@ pub fn horn_check_signature(
 
 // `evaluator::evaluate` under a limit on words, with the first four counts that `horn_load` leaves. The answer is 0 for a value, or 2^32 times the
 // refusal's number. The results are the value's reference, the number of calls and that of words.
+// Stays: the parameters are those that programs in C pass, each buffer by itself; the limit beside the text counts no used part.
 pub fn horn_evaluate(
     text: &[u8],
     limit: u32,
@@ -363,6 +370,7 @@ pub fn horn_open(
 }
 
 // An answer as one number, and what else it tells.
+// Stays: programs in C take the answer as one number and the rest in a lent buffer, and neither of the types is of this crate.
 pub fn tell_answer(results: &mut [u32], answer: Result<Verdict, Refusal>) -> u64
     requires { 6 ≤ length results.old }
     ensures number { result ≡ packed_proof (answer_in answer) }
@@ -397,6 +405,7 @@ pub fn tell_answer(results: &mut [u32], answer: Result<Verdict, Refusal>) -> u64
 // `prover::prove` under limits on steps, on variables and on words, with the first four counts that `horn_load` leaves and the session's
 // four: names, variables, bindings and words. The answer is 1 for a proof, 2 for none and 3 for undecided, or 2^32 times the refusal's
 // number. The results are the steps of the last bound, the number of the proof's nodes, and the session's counts then.
+// Stays: the parameters are those that programs in C pass, each buffer by itself.
 pub fn horn_prove(
     text: &[u8],
     most: u32,
@@ -446,8 +455,8 @@ pub fn horn_prove(
     if results.len() < 6 {
         return REFUSED;
     }
-    let signature = stored_signature(sorts, symbols, rules, pattern, counts);
     let query = Query {
+        signature: stored_signature(sorts, symbols, rules, pattern, counts),
         text,
         limits: search_limits(most, variables, limit),
         rows,
@@ -457,13 +466,14 @@ pub fn horn_prove(
     };
     let used = session_counts(session);
     let answer = prover::prove(
-        signature, query, names, words, bindings, used, links, marks, stack, proof,
+        query, names, words, bindings, used, links, marks, stack, proof,
     );
     tell_answer(results, answer)
 }
 
 // `unifier::unify` on storage of any contents. Where words, bindings, scratch and references are what it asks, the answer is how it ended, as `packed`
 // tells it, below 2^32. Else the answer is 2^32, refusal 1 with line 0, and nothing is written.
+// Stays: the parameters are those that programs in C pass, each buffer by itself.
 pub fn horn_unify(
     words: &[u32],
     bindings: &mut [[u32; 2]],

@@ -12,6 +12,7 @@ ghost use Rattle.capi.specs.Words.{packed, text_limit};
 ghost use Rattle.words.specs.Lexer.{lex_answer, lex_rows};
 
 // `capi::horn_lex`.
+// Stays: C lends the text with the limit on its bytes beside it; the limit counts no used part.
 #[unsafe(no_mangle)]
 pub extern "C" fn horn_lex(text: &[u8], limit: u32, tokens: &mut [[u32; 4]]) -> u64
     ensures answer { result ≡ packed (lex_answer text.now (text_limit limit) tokens.old) }
@@ -21,6 +22,7 @@ pub extern "C" fn horn_lex(text: &[u8], limit: u32, tokens: &mut [[u32; 4]]) -> 
 }
 
 // `capi::horn_parse`.
+// Stays: C lends the text with the limit on its bytes beside it; the limit counts no used part.
 #[unsafe(no_mangle)]
 pub extern "C" fn horn_parse(
     text: &[u8],
@@ -34,6 +36,7 @@ pub extern "C" fn horn_parse(
 }
 
 // `capi::horn_load`.
+// Stays: the parameters are those that programs in C pass, each buffer by itself.
 #[unsafe(no_mangle)]
 pub extern "C" fn horn_load(
     text: &[u8],
@@ -73,6 +76,7 @@ pub extern "C" fn horn_check_signature(
 }
 
 // `capi::horn_evaluate`.
+// Stays: the parameters are those that programs in C pass, each buffer by itself; the limit beside the text counts no used part.
 #[unsafe(no_mangle)]
 pub extern "C" fn horn_evaluate(
     text: &[u8],
@@ -141,6 +145,7 @@ pub extern "C" fn horn_open(
 }
 
 // `capi::horn_prove`.
+// Stays: the parameters are those that programs in C pass, each buffer by itself, and those of `capi::horn_prove`, which has no name that C can call.
 #[unsafe(no_mangle)]
 pub extern "C" fn horn_prove(
     text: &[u8],
@@ -189,6 +194,7 @@ pub extern "C" fn horn_prove(
 }
 
 // `capi::horn_unify`.
+// Stays: the parameters are those that programs in C pass, each buffer by itself.
 #[unsafe(no_mangle)]
 pub extern "C" fn horn_unify(
     words: &[u32],

@@ -10,9 +10,10 @@ ghost use Rattle.loader.specs.Signature.{sort_refusal};
 ghost use Rattle.loader.specs.Rows.{entered};
 ghost use Rattle.declarations.specs.Steps.{name_at, GoesTo, sort_progress, SymbolAsked, SymbolDeclared, Told, progress_of, RuleAsked, RuleDeclared, ClauseAsked, ClauseDeclared, ClausesAsked, ClausesDeclared, DefAsked, DefDeclared, DeclareAsked, DeclareDone};
 ghost use Rattle.declarations.specs.Lent.{IsLent};
+ghost use Rattle.loader.specs.Kinds.{is_constructor, mark_in, first_in, clauses_in};
 
 use clauses::{EnteredRule, SourceClause};
-use loader::{FUNCTION, Kind, NO_FUNCTION, Part};
+use loader::{Kind, Part};
 use names::{SortRow, SourceTerms, SymbolRow, TermRow, Word};
 use refusals::Refusal;
 use rules::{RulePlace, RuleRow, Space, Title};
@@ -86,13 +87,14 @@ fn declare_sort(
 // `ctor` and `pred`: the sorts stand behind the row of the name.
 fn declare_symbol(
     source: Source,
-    constructor: bool,
+    kind: Kind,
     sorts: &[SortRow],
     symbols: &mut [SymbolRow],
     state: State,
 ) -> Result<Progress, Refusal>
-    requires { SymbolAsked source.rows.now source.at sorts.now symbols.old state }
-    ensures { SymbolDeclared source.entry.text.now source.entry.rows.now source.entry.at constructor sorts.now symbols.old state result symbols.new }
+    requires asked { SymbolAsked source.rows.now source.at sorts.now symbols.old state }
+    requires no_function { (mark_in kind ≡ 0) × (first_in kind ≡ 0) × (clauses_in kind ≡ 0) }
+    ensures { SymbolDeclared source.entry.text.now source.entry.rows.now source.entry.at (is_constructor kind) sorts.now symbols.old state result symbols.new }
 {
     let Source { text, rows, at } = source;
     let k = rows[at][2] as usize;
@@ -101,12 +103,6 @@ fn declare_symbol(
         rows,
         at: at + 1,
         k,
-    };
-    let kind = Kind {
-        constructor,
-        function: NO_FUNCTION,
-        first: 0,
-        clauses: 0,
     };
     loader::enter_symbol(part, kind, &sorts[..state.sorts], symbols, state.symbols)?;
     Ok(Progress {
@@ -290,9 +286,7 @@ fn declare_def(
         at: at + 1,
         k,
     };
-    let kind = Kind {
-        constructor: false,
-        function: FUNCTION,
+    let kind = Kind::Function {
         first: first_clause(n, state.rules),
         clauses: n as u32,
     };
@@ -328,9 +322,9 @@ pub fn declare(
             if rows[at][2] == 0 {
                 return Err(Refusal::NoDeclaration);
             }
-            declare_symbol(source, true, sorts, symbols, state)
+            declare_symbol(source, Kind::Constructor, sorts, symbols, state)
         }
-        PRED => declare_symbol(source, false, sorts, symbols, state),
+        PRED => declare_symbol(source, Kind::Predicate, sorts, symbols, state),
         RULE => declare_rule(source, symbols, store, state),
         DEF => declare_def(source, sorts, symbols, store, state),
         EVAL => Ok(Progress {

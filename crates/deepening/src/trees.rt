@@ -5,8 +5,7 @@ ghost use Rattle.deepening.specs.Trees.{tree_rows};
 use search_machine::Frame;
 
 // Turns the first frames into the rows of the proof: the height from the top, the kind (0: a rule was used), rule and goal.
-// Stays: tried with the part of a store's frames lent, as `&mut store.frames[..count]`; in `leave`, whose goal `returns-in-Proved-clause-left` did not
-// close, only the length of frames of which a part was lent is known.
+// Stays: tried with `&mut store.frames[..count]` lent: the goal `returns-in-Proved-clause-left` of `leave` does not close, as only the frames' length is known then.
 pub fn write_tree(frames: &mut [[u32; 8]], count: u32, depth: u32)
     ensures { frames.new ≡ tree_rows depth frames.old count }
 {

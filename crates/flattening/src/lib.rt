@@ -6,7 +6,7 @@
 ghost use Rattle.std.specs.Prelude.{◌≡◌, ◌+◌, ◌-◌, ◌*◌, ◌≤◌, ◌<◌, length};
 ghost use Rattle.source_text.specs.Parts.{part_of};
 ghost use Rattle.names.specs.Names.{result_length};
-ghost use Rattle.names.specs.Symbols.{symbols_of};
+ghost use Rattle.names.specs.Symbols.{column, symbols_of};
 ghost use Rattle.flattening.specs.Flattening.{is_function};
 ghost use Rattle.flattening.specs.Promises.{call_limit, arity_of, is_call, Copied, Finishes, Room, Flattens};
 
@@ -43,16 +43,17 @@ fn is_function(text: &[u8], symbols: &[SymbolRow], word: Word) -> bool
 }
 
 // Does a row stand for a call?
-fn is_call(text: &[u8], symbols: &[SymbolRow], kind: u32, word: Word) -> bool
-    ensures { result ≡ is_call (symbols_of text.now symbols.now (length symbols.now)) kind (part_of text.now word.start word.size) }
+fn is_call(text: &[u8], symbols: &[SymbolRow], row: TermRow) -> bool
+    ensures { result ≡ is_call (symbols_of text.now symbols.now (length symbols.now)) (column row 0) (part_of text.now (column row 1) (column row 2)) }
 {
+    let [kind, start, size, _] = row;
     if kind == words::METAVARIABLE {
         return false;
     }
     if kind == words::NUMERAL {
         return false;
     }
-    is_function(text, symbols, word)
+    is_function(text, symbols, Word { start, size })
 }
 
 // How many arguments follow a row.
@@ -136,9 +137,10 @@ pub fn flatten(
     if rows.len() <= at {
         return None;
     }
-    let [kind, start, size, more] = rows[at];
+    let row = rows[at];
+    let [kind, start, size, more] = row;
     let n = arity(kind, more);
-    out[top] = rows[at];
+    out[top] = row;
     let mut place = Place {
         next: at + 1,
         top: top + 1,
@@ -147,9 +149,8 @@ pub fn flatten(
     for _i in 0..n {
         place = flatten(source, out, calls, place)?;
     }
-    let word = Word { start, size };
-    if is_call(text, symbols, kind, word) {
-        return finish(out, top, calls, place, word, n);
+    if is_call(text, symbols, row) {
+        return finish(out, top, calls, place, Word { start, size }, n);
     }
     Some(place)
 }

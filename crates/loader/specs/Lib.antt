@@ -1,5 +1,6 @@
 -- What the contracts of `loader` cite, in reading order.
 pub mod Known
+pub mod Kinds
 pub mod Signature
 pub mod Legal
 pub mod Rows

@@ -8,6 +8,7 @@ ghost use Rattle.source_text.specs.Parts.{part_of};
 ghost use Rattle.std.proofs.lemmas.List.Edits.{sets};
 ghost use Rattle.names.specs.Symbols.{column, row_at, sorts_of, symbols_of};
 ghost use Rattle.loader.specs.Known.{sorts_known, symbols_known};
+ghost use Rattle.loader.specs.Kinds.{is_constructor, mark_in, first_in, clauses_in};
 ghost use Rattle.patterns.specs.Promises.{RefusedFor};
 ghost use Rattle.loader.specs.Signature.{is_taken, sort_refusal, symbol_refusal, numbers_of};
 ghost use Rattle.loader.specs.Rows.{symbol_row, entered};
@@ -28,6 +29,7 @@ const SYMBOLS: usize = 1024;
 const INPUTS: usize = 16;
 
 // The marks in a symbol's row: of a constructor or predicate, and of a function.
+// Stays: C callers lend the rows, so a mark is a number there, and may be none of these; a type of marks would be converted at each read and write.
 pub const NO_FUNCTION: u32 = 0;
 
 pub const FUNCTION: u32 = 1;
@@ -88,7 +90,7 @@ pub fn enter_sort(
 }
 
 // May a symbol with k inputs be entered by a name?
-// Stays: `k` is how many inputs the symbol has, not how many bytes of the word are used.
+// Stays: k is how many inputs the symbol has, not how many bytes of the word are meant.
 pub fn check_symbol(known: Known, word: &[u8], k: usize) -> Result<(), Refusal>
     ensures { RefusedFor (symbol_refusal (sorts_known known.entry) (symbols_known known.entry) word.now k) result }
 {
@@ -169,27 +171,53 @@ pub fn find_arrow(part: Part, sorts: &[SortRow], inputs: &mut [u32]) -> Option<u
     Some(last)
 }
 
-// How many of k sorts are inputs: a constructor's last is its output.
-fn input_count(constructor: bool, k: usize) -> usize
-    ensures { result ≡ cond constructor (k - 1) k }
-{
-    if constructor { k.saturating_sub(1) } else { k }
-}
-
-// The output of a symbol whose last sort has a number.
-fn output(constructor: bool, last: u32) -> u32
-    ensures { result ≡ cond constructor last 0 }
-{
-    if constructor { last } else { 0 }
-}
-
-// What a symbol is: a constructor or not, its function mark, and its clauses.
+// What a symbol is. The clauses of a function are so many rules from the first on.
 #[derive(Clone, Copy)]
-pub struct Kind {
-    pub constructor: bool,
-    pub function: u32,
-    pub first: u32,
-    pub clauses: u32,
+pub enum Kind {
+    Constructor,
+    Predicate,
+    Function { first: u32, clauses: u32 },
+}
+
+impl Kind {
+    // How many of k sorts are inputs: a constructor's last is its output.
+    fn input_count(self, k: usize) -> usize
+        ensures { result ≡ cond (is_constructor self) (k - 1) k }
+    {
+        match self {
+            Kind::Constructor => k.saturating_sub(1),
+            _ => k,
+        }
+    }
+
+    // The symbol whose name stands at a place and whose last sort has a number.
+    fn head(self, word: Word, last: u32) -> SymbolHead
+        ensures { result ≡ record { word = word; output = cond (is_constructor self) last 0; function = mark_in self; first = first_in self; clauses = clauses_in self } }
+    {
+        match self {
+            Kind::Constructor => SymbolHead {
+                word,
+                output: last,
+                function: NO_FUNCTION,
+                first: 0,
+                clauses: 0,
+            },
+            Kind::Predicate => SymbolHead {
+                word,
+                output: 0,
+                function: NO_FUNCTION,
+                first: 0,
+                clauses: 0,
+            },
+            Kind::Function { first, clauses } => SymbolHead {
+                word,
+                output: 0,
+                function: FUNCTION,
+                first,
+                clauses,
+            },
+        }
+    }
 }
 
 // Enters a symbol whose name stands at the row of a part and whose k sorts stand in the rows behind it.
@@ -202,7 +230,7 @@ pub fn enter_symbol(
     count: usize,
 ) -> Result<(), Refusal>
     requires { (part.at + 1 + part.k ≤ length part.rows.now) × (length part.rows.now ≤ 65536) × (length sorts.now ≤ 256) × (count ≤ 1024) × (1024 ≤ length symbols.old) }
-    ensures { SymbolAnswered part.entry.text.now part.entry.rows.now (part.entry.at + 1) part.entry.k (column (row_at part.entry.rows.now part.entry.at) 1) (column (row_at part.entry.rows.now part.entry.at) 2) kind.constructor kind.function kind.first kind.clauses sorts.now (length sorts.now) symbols.old count result symbols.new }
+    ensures { SymbolAnswered part.entry.text.now part.entry.rows.now (part.entry.at + 1) part.entry.k (column (row_at part.entry.rows.now part.entry.at) 1) (column (row_at part.entry.rows.now part.entry.at) 2) (is_constructor kind) (mark_in kind) (first_in kind) (clauses_in kind) sorts.now (length sorts.now) symbols.old count result symbols.new }
 {
     let Part { text, rows, at, k } = part;
     let mut inputs = [0u32; 16];
@@ -214,7 +242,7 @@ pub fn enter_symbol(
     };
     let last = find_arrow(behind, sorts, &mut inputs).ok_or(Refusal::UnknownSort)?;
     let [_, start, size, _] = rows[at];
-    let n = input_count(kind.constructor, k);
+    let n = kind.input_count(k);
     let known = Known {
         text,
         sorts,
@@ -222,13 +250,7 @@ pub fn enter_symbol(
     };
     let word = Word { start, size };
     check_symbol(known, names::part(text, word), n)?;
-    let symbol = SymbolHead {
-        word,
-        output: output(kind.constructor, last),
-        function: kind.function,
-        first: kind.first,
-        clauses: kind.clauses,
-    };
+    let symbol = kind.head(word, last);
     put_symbol(symbols, count, symbol, &inputs[..n]);
     Ok(())
 }

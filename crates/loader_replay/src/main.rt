@@ -12,12 +12,15 @@ use signature::{Counts, StoredSignature};
 use signature_tests::{buffers, damage};
 use words::Limits;
 
-// What a text has by the parser: how many declarations and how many rows of them, 0 where it is refused.
-fn parse(text: &[u8], limits: Limits, lent: &mut Lent) -> Parsed {
-    parser::parse_text(text, limits, lent.tokens, lent.rows).unwrap_or(Parsed {
-        declarations: 0,
-        rows: 0,
-    })
+// The signature in what is lent.
+fn stored_in<'a>(lent: &'a Lent, counts: Counts) -> StoredSignature<'a> {
+    StoredSignature {
+        sorts: lent.sorts,
+        symbols: lent.symbols,
+        rules: lent.rules,
+        words: lent.words,
+        counts,
+    }
 }
 
 // Tests what is lent: the value past the counts, and the rows of declarations and of `#eval` past so many.
@@ -31,56 +34,45 @@ fn test_lent(lent: &Lent, rows: usize, evals: usize, counts: Counts, value: u32)
         evals,
         value,
     );
-    buffers::test_signature(
-        lent.sorts,
-        lent.symbols,
-        lent.rules,
-        lent.words,
-        counts,
-        value,
+    buffers::test_signature(stored_in(lent, counts), value);
+}
+
+// Lists what was loaded, and tests the buffers: zero past the counts.
+fn list_loaded(text: &[u8], loaded: Loaded, parsed: Result<Parsed, Rejection>, lent: &Lent) {
+    let n = loaded.evals as usize;
+    let stored = stored_in(lent, loaded.counts);
+    let waiting = &lent.evals[..n.min(lent.evals.len())];
+    signature_listing::list(text, stored, waiting);
+    let Ok(parsed) = parsed else {
+        buffers::expect(false, b"as many declarations as parsed");
+        return;
+    };
+    buffers::expect(
+        loaded.declarations == parsed.declarations,
+        b"as many declarations as parsed",
+    );
+    test_lent(lent, parsed.rows, n, loaded.counts, 0);
+    buffers::expect(
+        signature::check_signature(text, stored),
+        b"loaded in the listed form",
     );
 }
 
-// Lists an answer, and tests the buffers: zero past the counts, zero throughout after a refusal, and after refusal 1 as they were.
-fn list_answer(text: &[u8], answer: Result<Loaded, Rejection>, parsed: Parsed, lent: &Lent) {
-    match answer {
-        Err(rejection) => {
-            listing::write_refusal(rejection);
-            let none = Counts {
-                sorts: 0,
-                symbols: 0,
-                rules: 0,
-                words: 0,
-            };
-            let value = if rejection.refusal == Refusal::Storage {
-                buffers::JUNK
-            } else {
-                0
-            };
-            test_lent(lent, 0, 0, none, value);
-        }
-        Ok(loaded) => {
-            let counts = loaded.counts;
-            let n = loaded.evals as usize;
-            let stored = StoredSignature {
-                sorts: lent.sorts,
-                symbols: lent.symbols,
-                rules: lent.rules,
-                words: lent.words,
-                counts,
-            };
-            signature_listing::list(text, stored, lent.evals, n);
-            buffers::expect(
-                loaded.declarations == parsed.declarations,
-                b"as many declarations as parsed",
-            );
-            test_lent(lent, parsed.rows, n, counts, 0);
-            buffers::expect(
-                signature::check_signature(text, stored),
-                b"loaded in the listed form",
-            );
-        }
-    }
+// Lists a refusal, and tests the buffers: zero throughout, and after refusal 1 as they were.
+fn list_refused(rejection: Rejection, lent: &Lent) {
+    listing::write_refusal(rejection);
+    let none = Counts {
+        sorts: 0,
+        symbols: 0,
+        rules: 0,
+        words: 0,
+    };
+    let value = if rejection.refusal == Refusal::Storage {
+        buffers::JUNK
+    } else {
+        0
+    };
+    test_lent(lent, 0, 0, none, value);
 }
 
 // Loads a text into buffers that hold junk.
@@ -92,20 +84,21 @@ fn load_text(text: &[u8], limits: Limits, lent: &mut Lent) -> Result<Loaded, Rej
 
 // Parses a text, loads it, lists the answer, and damages what was loaded.
 fn list_text(text: &[u8], limits: Limits, lent: &mut Lent) {
-    let parsed = parse(text, limits, lent);
-    let answer = load_text(text, limits, lent);
-    list_answer(text, answer, parsed, lent);
-    let Ok(loaded) = answer else {
-        return;
-    };
-    damage::test(
-        text,
-        lent.sorts,
-        lent.symbols,
-        lent.rules,
-        lent.words,
-        loaded.counts,
-    );
+    let parsed = parser::parse_text(text, limits, lent.tokens, lent.rows);
+    match load_text(text, limits, lent) {
+        Err(rejection) => list_refused(rejection, lent),
+        Ok(loaded) => {
+            list_loaded(text, loaded, parsed, lent);
+            damage::test(
+                text,
+                lent.sorts,
+                lent.symbols,
+                lent.rules,
+                lent.words,
+                loaded.counts,
+            );
+        }
+    }
 }
 
 // Limits on a text's bytes and on nodes; no other one matters before the search.

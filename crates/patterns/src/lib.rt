@@ -5,14 +5,14 @@
 
 ghost use Rattle.std.specs.Prelude.{◌≡◌, List, [], ◌∷◌, ℕ, ◌+◌, ◌*◌, ◌≤◌, ◌<◌, length};
 ghost use Rattle.names.specs.Names.{name_of};
-ghost use Rattle.names.specs.Symbols.{row_at, symbol_of, symbols_of, variables_of};
+ghost use Rattle.names.specs.Symbols.{column, row_at, symbol_of, symbols_of, variables_of};
 ghost use Rattle.patterns.specs.Patterns.{enter as enterOf, counted, misfit as misfitOf};
 ghost use Rattle.patterns.specs.Laying.{lay, laid};
 ghost use Rattle.patterns.specs.Promises.{stored, entry_of, Grew, answer, Small, NextIs, Ready, Compiled, NodeMade, tower, refusal, RefusedFor, constructor_of, Numbered, Judged};
 ghost use Rattle.patterns.specs.Promises.{LiesAt, EntryPlaced, MadePlaced};
 
 use arena::{HEADERS, PATTERN_ROOM, SYMBOL_STEP};
-use names::{SourceTerms, SymbolRow, VariableRow, Word};
+use names::{SourceTerms, SymbolRow, TermRow, VariableRow, Word};
 use refusals::Refusal;
 
 // How many variables a rule may have.
@@ -25,22 +25,22 @@ pub struct EnteredVariable {
     pub count: usize,
 }
 
-// The number of the variable whose name stands at a place, entered if it is new. Its sort is checked, and set where it was not known.
+// The number of the variable that a row names, entered if it is new. Its sort is checked, and set where it was not known.
 // Stays: a new variable's row is written behind those that there are, so that the table is lent with their number.
 pub fn enter(
     text: &[u8],
     variables: &mut [VariableRow],
     count: usize,
-    kind: u32,
-    word: Word,
+    row: TermRow,
     sort: u32,
 ) -> Result<EnteredVariable, Refusal>
     requires { (count ≤ 64) × (64 ≤ length variables.old) }
     ensures grew { Grew count result }
-    ensures variables_after { entry_of text.now result variables.new ≡ enterOf (variables_of text.now variables.old count) (name_of text.now kind word.start word.size) sort }
-    ensures entry_placed { EntryPlaced (LiesAt kind word.start word.size) variables.old count result variables.new }
+    ensures variables_after { entry_of text.now result variables.new ≡ enterOf (variables_of text.now variables.old count) (name_of text.now (column row 0) (column row 1) (column row 2)) sort }
+    ensures entry_placed { EntryPlaced (LiesAt (column row 0) (column row 1) (column row 2)) variables.old count result variables.new }
 {
-    match names::find_at(text, &variables[..count], kind, word) {
+    let [kind, start, size, _] = row;
+    match names::find_at(text, &variables[..count], kind, Word { start, size }) {
         Some(index) => {
             let [k, s, l, old] = variables[index];
             if old == 0 {
@@ -57,7 +57,7 @@ pub fn enter(
         }
         None => {
             if count < VARIABLES {
-                variables[count] = [kind, word.start, word.size, sort];
+                variables[count] = [kind, start, size, sort];
                 return Ok(EnteredVariable {
                     index: count,
                     count: count + 1,
@@ -88,18 +88,17 @@ pub struct CompiledTerm {
 fn variable(
     text: &[u8],
     variables: &mut [VariableRow],
-    kind: u32,
-    word: Word,
+    row: TermRow,
     want: u32,
     from: Place,
 ) -> Result<CompiledTerm, Refusal>
     requires { (from.variables ≤ 64) × (64 ≤ length variables.old) }
     ensures small { Small from.next from.variables from.used from.room result }
-    ensures by_index { (w : List ℕ) → answer text.now result variables.new w ≡ stored [] (counted (enterOf (variables_of text.now variables.old from.variables) (name_of text.now kind word.start word.size) want) from.room) w from.used }
+    ensures by_index { (w : List ℕ) → answer text.now result variables.new w ≡ stored [] (counted (enterOf (variables_of text.now variables.old from.variables) (name_of text.now (column row 0) (column row 1) (column row 2)) want) from.room) w from.used }
     ensures next_is { NextIs from.next result }
-    ensures made_placed { MadePlaced (λ _. LiesAt kind word.start word.size) variables.old from.variables result variables.new }
+    ensures made_placed { MadePlaced (λ _. LiesAt (column row 0) (column row 1) (column row 2)) variables.old from.variables result variables.new }
 {
-    let entered = enter(text, variables, from.variables, kind, word, want)?;
+    let entered = enter(text, variables, from.variables, row, want)?;
     if from.room == 0 {
         return Err(Refusal::Full);
     }
@@ -206,12 +205,11 @@ fn constructor(text: &[u8], symbols: &[SymbolRow], w: &[u8]) -> Option<usize>
 }
 
 // The numeral n as a pattern.
-// Stays: `n` is the number that is written, not how many symbols are in use.
 fn numeral(
     text: &[u8],
     symbols: &[SymbolRow],
-    n: usize,
     want: u32,
+    n: usize,
     words: &mut [u32],
     from: Place,
 ) -> Result<CompiledTerm, Refusal>
@@ -254,19 +252,19 @@ pub fn pattern(
     if rows.len() <= from.next {
         return Err(Refusal::UnknownSymbol);
     }
-    let [kind, start, size, more] = rows[from.next];
-    let word = Word { start, size };
+    let row = rows[from.next];
+    let [kind, start, size, more] = row;
     let behind = Place {
         next: from.next + 1,
         ..from
     };
     if kind == words::NUMERAL {
-        return numeral(text, symbols, more as usize, want, words, behind);
+        return numeral(text, symbols, want, more as usize, words, behind);
     }
     if kind == words::METAVARIABLE {
-        return variable(text, variables, kind, word, want, behind);
+        return variable(text, variables, row, want, behind);
     }
-    match names::find_at(text, symbols, kind, word) {
+    match names::find_at(text, symbols, kind, Word { start, size }) {
         Some(i) => node(source, more as usize, i, want, variables, words, behind),
         None => {
             if kind == term_parser::APPLICATION {
@@ -275,7 +273,7 @@ pub fn pattern(
             if want == 0 {
                 return Err(Refusal::UnknownPredicate);
             }
-            variable(text, variables, kind, word, want, behind)
+            variable(text, variables, row, want, behind)
         }
     }
 }

@@ -31,9 +31,11 @@ use words::Limits;
 // A row of a proof: height, kind, rule, goal; the other columns are zero.
 pub type ProofRow = [u32; 8];
 
-// What is asked: a text, the limits, the rows of its terms with the row where the goal starts, and how many steps and what depth the search may take.
+// What is asked of a signature: a text, the limits, the rows of its terms with the row where the goal starts, and how many steps and what depth the search
+// may take.
 #[derive(Clone, Copy)]
 pub struct Query<'a> {
+    pub signature: StoredSignature<'a>,
     pub text: &'a [u8],
     pub limits: Limits,
     pub rows: &'a [TermRow],
@@ -44,14 +46,13 @@ pub struct Query<'a> {
 
 // Proves a goal, where what is read is in form and all past the counts is zero: only what is written is cleared.
 pub fn prove_cleared(
-    signature: StoredSignature,
     query: Query,
     names: &mut [NameRow],
     store: &mut Store,
     session: SessionCounts,
 ) -> Result<Verdict, Refusal>
-    requires { ClearedReady (store_of signature) (asked_in query store.old) (session_in names.old store.old) session }
-    ensures left { ProveLeft (store_of signature.entry) (asked_in query.entry store.old)
+    requires { ClearedReady (store_of query.signature) (asked_in query store.old) (session_in names.old store.old) session }
+    ensures left { ProveLeft (store_of query.entry.signature) (asked_in query.entry store.old)
         (session_in names.old store.old) session (given_in (answer_in result) names.new store.new) }
     ensures lent { IsLent store.old store.new }
 {
@@ -59,6 +60,7 @@ pub fn prove_cleared(
         return Err(Refusal::TooMuch);
     }
     let capped = query.limits.capped();
+    let signature = query.signature;
     let program = Program {
         rules: signature.rules,
         pattern: signature.words,
@@ -69,7 +71,7 @@ pub fn prove_cleared(
             rules: signature.counts.rules,
         },
     };
-    let goal = prepare(signature, query, names, store.words, session)?;
+    let goal = prepare(query, names, store.words, session)?;
     search_goal(
         program,
         names,
@@ -82,26 +84,25 @@ pub fn prove_cleared(
 }
 
 // Proves the goal of a query, in a session, where all that is read is in form and the buffers are long enough.
+// Stays: names, store and counts are three, since the counts afterwards are in the verdict; in a struct with the buffers they would be out of date.
 pub fn prove_listed(
-    signature: StoredSignature,
     query: Query,
     names: &mut [NameRow],
     store: &mut Store,
     session: SessionCounts,
 ) -> Result<Verdict, Refusal>
-    requires { ProveReady (store_of signature) (asked_in query store.old) (session_in names.old store.old) session }
-    ensures left { ProveLeft (store_of signature.entry) (asked_in query.entry store.old)
+    requires { ProveReady (store_of query.signature) (asked_in query store.old) (session_in names.old store.old) session }
+    ensures left { ProveLeft (store_of query.entry.signature) (asked_in query.entry store.old)
         (session_in names.old store.old) session (given_in (answer_in result) names.new store.new) }
     ensures lent { IsLent store.old store.new }
 {
     clear_past(names, store, session);
-    prove_cleared(signature, query, names, store, session)
+    prove_cleared(query, names, store, session)
 }
 
 // Proves the goal of a query, in a session.
 // Stays: the buffers are lent one by one, since the test reads some while it marks another, and no generated proof covers that behind a store.
 pub fn prove(
-    signature: StoredSignature,
     query: Query,
     names: &mut [NameRow],
     words: &mut [u32],
@@ -112,7 +113,7 @@ pub fn prove(
     stack: &mut [[u32; 3]],
     proof: &mut [ProofRow],
 ) -> Result<Verdict, Refusal>
-    ensures { Proving (store_of signature.entry) (asked_of query.entry proof.old links.old marks.old stack.old)
+    ensures { Proving (store_of query.entry.signature) (asked_of query.entry proof.old links.old marks.old stack.old)
         (session_store names.old words.old bindings.old) session
         (given_of (answer_in result) names.new words.new bindings.new proof.new links.new marks.new stack.new) }
 {
@@ -122,7 +123,7 @@ pub fn prove(
         bindings,
         counts: session,
     };
-    if !is_ready(signature, query, stored, links, marks, stack, proof) {
+    if !is_ready(query, stored, links, marks, stack, proof) {
         return Err(Refusal::Storage);
     }
     let mut store = Store {
@@ -133,5 +134,5 @@ pub fn prove(
         stack,
         frames: proof,
     };
-    prove_listed(signature, query, names, &mut store, session)
+    prove_listed(query, names, &mut store, session)
 }

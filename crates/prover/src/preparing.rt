@@ -9,7 +9,6 @@ use super::Query;
 use names::SourceTerms;
 use refusals::Refusal;
 use sessions::{NameRow, SessionCounts};
-use signature::StoredSignature;
 use words::Limits;
 
 // The greatest depth.
@@ -41,15 +40,14 @@ fn is_over(limits: Limits, variables: u32, words: u32) -> bool
 
 // Compiles the goal of a query against the names of a session, and stores it there where the limits allow. Refused, nothing is written.
 pub fn prepare(
-    signature: StoredSignature,
     query: Query,
     names: &mut [NameRow],
     words: &mut [u32],
     session: SessionCounts,
 ) -> Result<StoredGoal, Refusal>
-    requires { PrepareAsked query.text.now query.limits signature.symbols.now signature.counts.symbols query.rows.now query.at
+    requires { PrepareAsked query.text.now query.limits query.signature.symbols.now query.signature.counts.symbols query.rows.now query.at
         names.old words.old session }
-    ensures { Preparing query.entry.text.now query.entry.limits signature.entry.symbols.now signature.entry.counts.symbols
+    ensures { Preparing query.entry.text.now query.entry.limits query.entry.signature.symbols.now query.entry.signature.counts.symbols
         query.entry.rows.now query.entry.at names.old words.old session result names.new words.new }
 {
     let mut variables = [[0u32; 4]; 64];
@@ -58,7 +56,7 @@ pub fn prepare(
     let source = SourceTerms {
         text: query.text,
         rows: query.rows,
-        symbols: &signature.symbols[..signature.counts.symbols as usize],
+        symbols: &query.signature.symbols[..query.signature.counts.symbols as usize],
     };
     let goal = goals::compile(
         source,

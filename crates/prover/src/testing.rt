@@ -5,11 +5,9 @@ ghost use Rattle.prover.specs.Proving.{ReadyTold};
 
 use super::{ProofRow, Query};
 use sessions::StoredSession;
-use signature::StoredSignature;
 
 // Are signature, goal, session and scratch in form, and is enough lent? The marks are left as they are.
 pub fn is_ready(
-    signature: StoredSignature,
     query: Query,
     session: StoredSession,
     links: &[[u32; 2]],
@@ -17,7 +15,7 @@ pub fn is_ready(
     stack: &[[u32; 3]],
     proof: &[ProofRow],
 ) -> bool
-    ensures { ReadyTold (store_of signature.entry) query.entry.text.now query.entry.limits query.entry.rows.now query.entry.at proof.now
+    ensures { ReadyTold (store_of query.entry.signature) query.entry.text.now query.entry.limits query.entry.rows.now query.entry.at proof.now
         (record { links = links.now; marks = marks.old; stack = stack.now })
         (part_in session.entry) session.entry.counts marks.new result }
 {
@@ -25,7 +23,7 @@ pub fn is_ready(
     if proof.len() < capped.steps as usize {
         return false;
     }
-    if !signature::check_signature(query.text, signature) {
+    if !signature::check_signature(query.text, query.signature) {
         return false;
     }
     let Some(_) = term_check::check_term(query.text, query.rows, query.at) else {
@@ -34,7 +32,7 @@ pub fn is_ready(
     session_check::check_session(
         query.text,
         query.limits,
-        signature,
+        query.signature,
         session,
         links,
         marks,

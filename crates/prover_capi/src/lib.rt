@@ -8,13 +8,13 @@ ghost use Rattle.capi.specs.Sessions.{counts_in, search_limits};
 ghost use Rattle.prover.specs.Proving.{ClearedReady};
 ghost use Rattle.prover_capi.specs.Cleared.{ClearedTold};
 
-use capi::{search_limits, session_counts, signature_counts};
+use capi::{search_limits, session_counts, stored_signature};
 use prover::Query;
 use search_machine::Store;
-use signature::StoredSignature;
 
 // The caller sees to what `prove_cleared` asks, and lends four counts of the signature, four of the session and six results. The answer is that of
 // `capi::horn_prove`.
+// Stays: the parameters are those that programs in C pass, each buffer by itself, as to `capi::horn_prove`.
 #[unsafe(no_mangle)]
 pub extern "C" fn horn_prove_cleared(
     text: &[u8],
@@ -70,14 +70,8 @@ pub extern "C" fn horn_prove_cleared(
         (record { names = names.new; words = words.new; bindings = bindings.new }) proof.new
         (record { links = links.new; marks = marks.new; stack = stack.new }) results.new }
 {
-    let signature = StoredSignature {
-        sorts,
-        symbols,
-        rules,
-        words: pattern,
-        counts: signature_counts(counts),
-    };
     let query = Query {
+        signature: stored_signature(sorts, symbols, rules, pattern, counts),
         text,
         limits: search_limits(most, variables, limit),
         rows,
@@ -94,6 +88,6 @@ pub extern "C" fn horn_prove_cleared(
         frames: proof,
     };
     let used = session_counts(session);
-    let answer = prover::prove_cleared(signature, query, names, &mut store, used);
+    let answer = prover::prove_cleared(query, names, &mut store, used);
     capi::tell_answer(results, answer)
 }

@@ -308,7 +308,7 @@ fn is_in_places(rule: PlacedRule, stack: &mut [[u32; 2]]) -> bool
 
 // Tests a rule, whose words start at `from`; `used` words are in use, and there are so many sorts. Answers where the rule's words end, if row and words
 // are in form. The stack is scratch, lent once for all rules: laying one out takes longer than the walk through a small rule.
-// Stays: the form of a stored rule is defined at the words that a C caller lends and the number of those in use.
+// Stays: what is told is of all the words of a signature, so they are lent whole, and `used` says where those in use end.
 pub fn check_rule(
     text: &[u8],
     arities: &[u32],

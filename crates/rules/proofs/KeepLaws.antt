@@ -6,7 +6,7 @@ use native.Mathlib.Omega.{arith}
 use lib.ListN.{length, take, get_or, replicate, length-replicate}
 use lib.Seq.{length-take-le, get_or-take}
 use Rattle.terms.specs.Term.{Term, Terms}
-use Rattle.arena.specs.Cells.{Reference, reference_up, cells, terms_of}
+use Rattle.arena.specs.Cells.{reference_up, terms_of}
 use Rattle.arena.specs.Copies.{pattern_room}
 use Rattle.resolution.specs.Rules.{Rule}
 use Rattle.resolution.specs.Fresh.{met, met_back, head_vars, all_vars}

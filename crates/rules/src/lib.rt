@@ -162,29 +162,29 @@ pub struct Counts {
     pub all: u32,
 }
 
-// The terms of a rule: the words in use, the references of its premises and of its conclusion, and how many words each takes at most.
+// A rule's terms: the references of its premises and of its conclusion, the words in use that hold them, and the most words of one of them.
 #[derive(Clone, Copy)]
 struct RuleTerms<'a> {
-    words: &'a [u32],
-    used: u32,
     heads: &'a [u32],
     conclusion: u32,
+    words: &'a [u32],
+    used: u32,
     most: u32,
 }
 
 // Gives the variables of a rule their places in meeting order: the conclusion's from left to right, then those of the premises from the last to the first.
-fn order(terms: RuleTerms, places: &mut [u32], stack: &mut [[u32; 2]]) -> Counts
-    requires fact_1 { OrderAsked terms.words.now terms.used terms.heads.now terms.conclusion places.old terms.most }
-    requires fact_2 { terms.most ≤ length stack.old }
-    ensures { Ordered terms.entry.words.now terms.entry.heads.now terms.entry.conclusion places.old result places.new }
+fn order(rule: RuleTerms, places: &mut [u32], stack: &mut [[u32; 2]]) -> Counts
+    requires fact_1 { OrderAsked rule.words.now rule.used rule.heads.now rule.conclusion places.old rule.most }
+    requires fact_2 { rule.most ≤ length stack.old }
+    ensures { Ordered rule.entry.words.now rule.entry.heads.now rule.entry.conclusion places.old result places.new }
 {
     let RuleTerms {
-        words,
-        used,
         heads,
         conclusion,
+        words,
+        used,
         most,
-    } = terms;
+    } = rule;
     let met = walk(words, conclusion, used, places, 0, most, stack);
     let mut all = met;
     for k in (0..heads.len()).rev() {
@@ -194,24 +194,24 @@ fn order(terms: RuleTerms, places: &mut [u32], stack: &mut [[u32; 2]]) -> Counts
 }
 
 // The same with a stack of its own, for terms of at most N words.
-fn order_within<const N: usize>(terms: RuleTerms, places: &mut [u32]) -> Counts
-    requires { (OrderAsked terms.words.now terms.used terms.heads.now terms.conclusion places.old terms.most) × (terms.most ≤ N) × (N ≤ 2048) }
-    ensures { Ordered terms.entry.words.now terms.entry.heads.now terms.entry.conclusion places.old result places.new }
+fn order_within<const N: usize>(rule: RuleTerms, places: &mut [u32]) -> Counts
+    requires { (OrderAsked rule.words.now rule.used rule.heads.now rule.conclusion places.old rule.most) × (rule.most ≤ N) × (N ≤ 2048) }
+    ensures { Ordered rule.entry.words.now rule.entry.heads.now rule.entry.conclusion places.old result places.new }
 {
     let mut stack = [[0u32; 2]; N];
-    order(terms, places, &mut stack)
+    order(rule, places, &mut stack)
 }
 
 // The same with a stack for as many words as the rule has, at most 2 for each of 1,024 nodes: laying out the large one takes longer than the walk through
 // a small rule.
-fn order_sized(terms: RuleTerms, places: &mut [u32]) -> Counts
-    requires { (OrderAsked terms.words.now terms.used terms.heads.now terms.conclusion places.old terms.most) × (terms.most ≤ 2048) }
-    ensures { Ordered terms.entry.words.now terms.entry.heads.now terms.entry.conclusion places.old result places.new }
+fn order_sized(rule: RuleTerms, places: &mut [u32]) -> Counts
+    requires { (OrderAsked rule.words.now rule.used rule.heads.now rule.conclusion places.old rule.most) × (rule.most ≤ 2048) }
+    ensures { Ordered rule.entry.words.now rule.entry.heads.now rule.entry.conclusion places.old result places.new }
 {
-    if terms.most <= FEW {
-        return order_within::<64>(terms, places);
+    if rule.most <= FEW {
+        return order_within::<64>(rule, places);
     }
-    order_within::<2048>(terms, places)
+    order_within::<2048>(rule, places)
 }
 
 // Writes values into the row i, from a column on.
@@ -282,10 +282,10 @@ fn keep(
     let v = variables.len();
     let mut places = [64u32; 64];
     let terms = RuleTerms {
-        words,
-        used: used as u32,
         heads,
         conclusion,
+        words,
+        used: used as u32,
         most: (used - from) as u32,
     };
     let counts = order_sized(terms, &mut places);

@@ -1,5 +1,5 @@
 -- Rules that are passed over: each is an attempt whose conclusion clashes with the goal, or that the limits refuse.
-use Rattle.std.specs.Prelude.{ℕ, ◌+◌, ◌-◌, ◌*◌, ◌≤◌, ◌<◌, ◌≡◌, refl, true, false, ◌≢◌, List, length, Option, Some, IfSome, Ok, Err}
+use Rattle.std.specs.Prelude.{ℕ, ◌+◌, ◌-◌, ◌*◌, ◌≤◌, ◌<◌, ◌≡◌, refl, true, false, ◌≢◌, List, length, Option, Some, None, IfSome, Ok, Err}
 use Rattle.refusals.specs.declared.Refusal.TheVariants.{OverLimit}
 use Rattle.std.proofs.Common.{arith, ap, sym, subst}
 use Rattle.arena.specs.Cells.{headers, cells}
@@ -30,9 +30,9 @@ use Rattle.search_machine.specs.declared.Mode.TheVariants.{Enter, Try, Fail, Pro
 
 -- The goal's header
 
--- The goal leads to a variable.
-pub heads_nothing : {W : List ℕ} {T : Rows} {v u t g : ℕ} → Heads W T v u t g 0
-heads_nothing = record { clash = λ P s h n z d. absurd (z refl) }
+-- The goal leads to a variable: there is no header, of which nothing is known.
+pub heads_nothing : (W : List ℕ) (T : Rows) (v u t g : ℕ) → IfSome None (Heads W T v u t g)
+heads_nothing W T v u t g = tt
 
 module _ {W : List ℕ} {T : Rows} {v u t g q : ℕ} (walked : Walked term_room W T v u t g q) (node : term_room ≤ q) where
   -- It leads to a node.

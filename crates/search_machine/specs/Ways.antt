@@ -2,9 +2,10 @@
 use Prim.Native.Nat.{ℕ, suc, ◌+◌, ◌-◌, ◌*◌, ◌≤◌, ◌<◌}
 use Rattle.refusals.specs.declared.Refusal.{Refusal}
 use native.Mathlib.Omega.{arith}
-use Rattle.std.specs.Prelude.{◌≡◌, true, ◌≢◌, List, [], length, get_or, set, Ok, Err}
+use Rattle.std.specs.Prelude.{◌≡◌, Bool, true, false, ◌≢◌, List, [], length, get_or, set, Ok, Err}
 use Rattle.std.proofs.Math.Path.{refl, ap}
 use Rattle.std.proofs.Common.{sym, ◌∙◌, subst, length-set, get_or-set_other}
+use Rattle.terms.specs.Numbers.{true_false}
 use Rattle.arena.specs.Cells.{cells}
 use Rattle.arena.specs.Copies.{term_room}
 use Rattle.arena.specs.Rows.{Rows}
@@ -16,7 +17,7 @@ use Rattle.attempts.specs.declared.Tried.TheVariants.{Missed, Entered}
 use Rattle.search_machine.specs.Storage.{RowAsked, RowTried, PremiseAsked, Attempt}
 use Rattle.search_machine.specs.State.{arity, premise_ref, frame_at, row_of, Start, Holds, Case, Entering, Trying, Failing}
 use Rattle.search_machine.specs.Moves.{to_place, to_fail, to_stop, to_goal, to_rule, to_body, to_retry, frame_for, weights, current, measure}
-use Rattle.search_machine.specs.Promises.{Ready, Stepped, Moved, Seen, Returned, Known, Choice, Stopped, Searched}
+use Rattle.search_machine.specs.Promises.{Ready, Stepped, Moved, Seen, Returned, Known, Choice, Live, Stopped, Searched}
 use Rattle.search_machine.specs.Falls.{weights_same, weights_top, falls_step, falls_mode}
 use Rattle.search_machine.specs.Entries.{entry_out, entry_proof, entry_small, entry_built, entry_cut, entry_asked, entry_goal}
 use Rattle.search_machine.specs.Attempts.{row_asked}

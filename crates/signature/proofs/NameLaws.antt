@@ -34,14 +34,17 @@ module _ (text : List ℕ) (sorts symbols placed Q zeros rest : Rows) (first : p
   rows_placed : take (length sorts + length symbols) (sorts ++ (Q ++ rest)) ≡ sorts ++ Q
   rows_placed = let e = length-append sorts Q in rw append_assoc at (take_at (sorts ++ Q) rest (length sorts + length symbols) (omega arith))
 
-  pub names_placed : sorts_of text (take (length sorts) (placed ++ zeros) ++ (Q ++ rest)) (length sorts + length symbols)
-      ≡ names_of (sorts_of text sorts (length sorts)) (symbols_of text symbols (length symbols))
+  -- The places that are in use.
+  abbrev used : Rows
+  used = take (length sorts + length symbols) (take (length sorts) (placed ++ zeros) ++ (Q ++ rest))
+
+  pub names_placed : sorts_of text used (length used) ≡ names_of (sorts_of text sorts (length sorts)) (symbols_of text symbols (length symbols))
   unfolding sorts_of symbols_of
   names_placed =
-      rw (sorts_placed, rows_placed, take-length sorts, take-length symbols)
+      rw (take-length used, sorts_placed, rows_placed, take-length sorts, take-length symbols)
       (map-append (sort_of text) sorts Q ∙ ap (λ (l : List Name). map (sort_of text) sorts ++ l) (symbols_placed ∙ sym (names_map text symbols)))
 
   -- What is told of the names at the places is told of the names.
-  pub names_told : {r : Bool} → Tells r (Distinct (sorts_of text (take (length sorts) (placed ++ zeros) ++ (Q ++ rest)) (length sorts + length symbols)))
+  pub names_told : {r : Bool} → Tells r (Distinct (sorts_of text used (length used)))
       → Tells r (Distinct (names_of (sorts_of text sorts (length sorts)) (symbols_of text symbols (length symbols))))
   names_told {r} h = subst (λ (ns : List Name). Tells r (Distinct ns)) names_placed h

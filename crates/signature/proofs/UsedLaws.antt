@@ -1,32 +1,12 @@
 -- The rows in use, lent as a part of a table: what is said of all rows of the part is said of the first rows of the table.
-use Rattle.std.proofs.Common.{◌≡◌, ℕ, ◌+◌, ◌-◌, ◌≤◌, ◌<◌, List, [], map, length, take, drop, sym, ap, subst, ◌∙◌, arith, length-take, length-drop, get_or-take, get_or-drop}
-use Rattle.std.proofs.lemmas.List.{length-take-le, take-take}
-use Rattle.names.specs.Symbols.{Rows, column, row_at, sort_of, symbol_of, sorts_of, symbols_of}
+use Rattle.std.proofs.Common.{◌≡◌, ℕ, ◌+◌, ◌-◌, ◌≤◌, ◌<◌, List, [], length, take, drop, subst, ◌∙◌, arith, length-take, length-drop, get_or-take, get_or-drop}
+use Rattle.names.specs.Symbols.{Rows, column, row_at}
+pub use Rattle.names.specs.UsedLaws.{used_length, row_used, used_each, sorts_used, symbols_used}
 use Rattle.signature.specs.Parts.{ClausesAsked, ClausesListed}
 
-module _ (rows : Rows) (n : ℕ) (lent : n ≤ length rows) where
-  pub used_length : length (take n rows) ≡ n
-  used_length = length-take-le n rows lent
-
-  pub row_used : (i : ℕ) → i < n → row_at (take n rows) i ≡ row_at rows i
-  row_used i l = get_or-take n rows i [] l
-
-  used_all : take (length (take n rows)) (take n rows) ≡ take n rows
-  used_all = let e = used_length in take-take (length (take n rows)) n rows (omega arith) ∙ ap (λ k. take k rows) e
-
-  pub each_used : (P : List ℕ → Type 0) → ((i : ℕ) → i < length (take n rows) → P (row_at (take n rows) i)) → (i : ℕ) → i < n → P (row_at rows i)
-  each_used P h i l = let e = used_length in subst P (row_used i l) (h i (omega arith))
-
-  pub used_each : (P : List ℕ → Type 0) → ((i : ℕ) → i < n → P (row_at rows i)) → (i : ℕ) → i < length (take n rows) → P (row_at (take n rows) i)
-  used_each P h i l = let e = used_length in let k : i < n = omega arith in subst P (sym (row_used i k)) (h i k)
-
-  pub sorts_used : (text : List ℕ) → sorts_of text (take n rows) (length (take n rows)) ≡ sorts_of text rows n
-  unfolding sorts_of
-  sorts_used text = ap (map (sort_of text)) used_all
-
-  pub symbols_used : (text : List ℕ) → symbols_of text (take n rows) (length (take n rows)) ≡ symbols_of text rows n
-  unfolding symbols_of
-  symbols_used text = ap (map (symbol_of text)) used_all
+-- What holds of each row of the part holds of each row in use.
+pub each_used : (rows : Rows) (n : ℕ) → n ≤ length rows → (P : List ℕ → Type 0) → ((i : ℕ) → i < length (take n rows) → P (row_at (take n rows) i)) → (i : ℕ) → i < n → P (row_at rows i)
+each_used rows n lent P h i l = let e = used_length rows n lent in subst P (row_used rows n lent i l) (h i (omega arith))
 
 -- The rows of a part, from one up to another.
 module _ (rows : Rows) (from to : ℕ) where

@@ -160,9 +160,8 @@ fn are_inputs_formed(sorts: u32, row: &SymbolRow) -> bool
 }
 
 // Is a symbol's row in form, where there are so many sorts and rules?
-// Stays: `sorts` is how many sorts there are, not how many bytes of the text.
-fn is_symbol_formed(text: &[u8], sorts: u32, rules: u32, row: &SymbolRow) -> bool
-    ensures { Tells result (SymbolFormed text.now sorts rules row.now) }
+fn is_symbol_formed(text: &[u8], row: &SymbolRow, counts: Counts) -> bool
+    ensures { Tells result (SymbolFormed text.now counts.sorts counts.rules row.now) }
 {
     let word = Word {
         start: row[0],
@@ -171,25 +170,24 @@ fn is_symbol_formed(text: &[u8], sorts: u32, rules: u32, row: &SymbolRow) -> boo
     if !rule_checks::is_name(text, word) {
         return false;
     }
-    if !are_numbers_formed(sorts, row[2], row[6], row[7]) {
+    if !are_numbers_formed(counts.sorts, row[2], row[6], row[7]) {
         return false;
     }
     if !is_mark_formed(row[2], row[3], row[5], row[6]) {
         return false;
     }
-    if !are_clauses_formed(row[4], row[5], rules) {
+    if !are_clauses_formed(row[4], row[5], counts.rules) {
         return false;
     }
-    are_inputs_formed(sorts, row)
+    are_inputs_formed(counts.sorts, row)
 }
 
 // Are the rows of symbols in form?
-// Stays: `sorts` is how many sorts there are, not how many bytes of the text.
-fn are_symbols_formed(text: &[u8], sorts: u32, rules: u32, symbols: &[SymbolRow]) -> bool
-    ensures { Tells result (SymbolsFormed text.now sorts rules symbols.now (length symbols.now)) }
+fn are_symbols_formed(text: &[u8], symbols: &[SymbolRow], counts: Counts) -> bool
+    ensures { Tells result (SymbolsFormed text.now counts.sorts counts.rules symbols.now (length symbols.now)) }
 {
     for row in symbols {
-        if !is_symbol_formed(text, sorts, rules, row) {
+        if !is_symbol_formed(text, row, counts) {
             return false;
         }
     }
@@ -257,7 +255,7 @@ pub fn check_signature(text: &[u8], signature: StoredSignature) -> bool
     if !are_names_distinct(text, sorts, symbols) {
         return false;
     }
-    if !are_symbols_formed(text, counts.sorts, counts.rules, symbols) {
+    if !are_symbols_formed(text, symbols, counts) {
         return false;
     }
     if !are_rules_of(text, symbols, signature) {

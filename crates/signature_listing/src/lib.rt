@@ -130,8 +130,8 @@ fn write_references(references: &[u32], first: u32) {
     }
 }
 
-fn list_sorts(text: &[u8], sorts: &[SortRow], count: usize) {
-    for row in sorts.iter().take(count) {
+fn list_sorts(text: &[u8], sorts: &[SortRow]) {
+    for row in sorts {
         write(b"sort ");
         write_name(text, row[0], row[1]);
         write(b"\n");
@@ -161,8 +161,8 @@ fn list_symbol(text: &[u8], sorts: &[SortRow], row: &SymbolRow) {
     write(b"\n");
 }
 
-fn list_symbols(text: &[u8], sorts: &[SortRow], symbols: &[SymbolRow], count: usize) {
-    for row in symbols.iter().take(count) {
+fn list_symbols(text: &[u8], sorts: &[SortRow], symbols: &[SymbolRow]) {
+    for row in symbols {
         list_symbol(text, sorts, row);
     }
 }
@@ -276,8 +276,8 @@ fn list_rule(text: &[u8], signature: StoredSignature, row: &RuleRow) {
     list_references(row);
 }
 
-fn list_evals(evals: &[EvalRow], count: usize) {
-    for row in evals.iter().take(count) {
+fn list_evals(evals: &[EvalRow]) {
+    for row in evals {
         write(b"eval ");
         write_number(row[0]);
         write(b" ");
@@ -286,14 +286,20 @@ fn list_evals(evals: &[EvalRow], count: usize) {
     }
 }
 
-// Lists a signature, and the first n `#eval`s that wait.
-pub fn list(text: &[u8], signature: StoredSignature, evals: &[EvalRow], n: usize) {
+// The first rows, so many as are in use, or all where there are not as many.
+// Stays: it is what makes the used part of a table and its count.
+fn used<T>(rows: &[T], count: u32) -> &[T] {
+    &rows[..rows.len().min(count as usize)]
+}
+
+// Lists a signature, and the `#eval`s that wait.
+pub fn list(text: &[u8], signature: StoredSignature, evals: &[EvalRow]) {
     let sorts = signature.sorts;
     let counts = signature.counts;
-    list_sorts(text, sorts, counts.sorts as usize);
-    list_symbols(text, sorts, signature.symbols, counts.symbols as usize);
-    for row in signature.rules.iter().take(counts.rules as usize) {
+    list_sorts(text, used(sorts, counts.sorts));
+    list_symbols(text, sorts, used(signature.symbols, counts.symbols));
+    for row in used(signature.rules, counts.rules) {
         list_rule(text, signature, row);
     }
-    list_evals(evals, n);
+    list_evals(evals);
 }

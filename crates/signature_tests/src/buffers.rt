@@ -5,7 +5,7 @@ ghost use Rattle.signature_tests.specs.Rows.{are_all, is_all, junk, Filled};
 use load_storage::EvalRow;
 use names::{SortRow, SymbolRow, TermRow};
 use rules::RuleRow;
-use signature::Counts;
+use signature::StoredSignature;
 
 // Standard output.
 const STDOUT_FILENO: i32 = 1;
@@ -87,6 +87,7 @@ pub fn expect(holds: bool, claim: &[u8]) {
 }
 
 // Tests that the declarations' rows past `used` and those of `#eval` past n hold the value, and the scratch throughout.
+// Stays: a count past the end is one of the faults that the test tells, so that the used part cannot be lent.
 pub fn test_scratch(
     tokens: &[TermRow],
     rows: &[TermRow],
@@ -103,28 +104,22 @@ pub fn test_scratch(
 }
 
 // Tests that a signature's storage past the counts holds the value.
-pub fn test_signature(
-    sorts: &[SortRow],
-    symbols: &[SymbolRow],
-    rules: &[RuleRow],
-    words: &[u32],
-    counts: Counts,
-    value: u32,
-) {
+pub fn test_signature(signature: StoredSignature, value: u32) {
+    let counts = signature.counts;
     expect(
-        are_rows(sorts, counts.sorts as usize, value),
+        are_rows(signature.sorts, counts.sorts as usize, value),
         b"sorts as lent or zero",
     );
     expect(
-        are_rows(symbols, counts.symbols as usize, value),
+        are_rows(signature.symbols, counts.symbols as usize, value),
         b"symbols as lent or zero",
     );
     expect(
-        are_rows(rules, counts.rules as usize, value),
+        are_rows(signature.rules, counts.rules as usize, value),
         b"rules as lent or zero",
     );
     expect(
-        is_all(words, counts.words as usize, value),
+        is_all(signature.words, counts.words as usize, value),
         b"words as lent or zero",
     );
 }

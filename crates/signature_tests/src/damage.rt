@@ -84,6 +84,7 @@ fn is_taken_with_sort(loaded: &mut Loaded, i: usize, column: usize, value: u32) 
 }
 
 // Is it accepted with another number in the row of a symbol? The storage is left as it was.
+// Stays: the four functions write four fields; one function would need the field lent and the rest tested in a closure, which reads no plainer.
 fn is_taken_with_symbol(loaded: &mut Loaded, i: usize, column: usize, value: u32) -> bool
     requires { (i < length loaded.old.symbols.now) × (column < 24) }
     ensures checked { SignatureChecked loaded.old.text.now (record (loaded_in loaded.old) { symbols = changed loaded.old.symbols.now i column value }) result }
@@ -97,6 +98,7 @@ fn is_taken_with_symbol(loaded: &mut Loaded, i: usize, column: usize, value: u32
 }
 
 // Is it accepted with another number in the row of a rule? The storage is left as it was.
+// Stays: the four functions write four fields; one function would need the field lent and the rest tested in a closure, which reads no plainer.
 fn is_taken_with_rule(loaded: &mut Loaded, i: usize, column: usize, value: u32) -> bool
     requires { (i < length loaded.old.rules.now) × (column < 154) }
     ensures checked { SignatureChecked loaded.old.text.now (record (loaded_in loaded.old) { rules = changed loaded.old.rules.now i column value }) result }
@@ -249,6 +251,7 @@ fn test_word(loaded: &mut Loaded, i: usize)
 }
 
 // Tests each sort.
+// Stays: the four functions count by four fields and call tests of their own; one loop would take both from closures over what is loaded, for bodies of a line to four.
 fn test_sorts(loaded: &mut Loaded)
     ensures { loaded.new ≡ loaded.old }
 {
@@ -281,6 +284,7 @@ fn test_rules(loaded: &mut Loaded)
 }
 
 // Tests each word.
+// Stays: the four functions count by four fields and call tests of their own; one loop would take both from closures over what is loaded, for bodies of a line to four.
 fn test_words(loaded: &mut Loaded)
     ensures { loaded.new ≡ loaded.old }
 {

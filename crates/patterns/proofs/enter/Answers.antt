@@ -4,6 +4,7 @@ use Prim.Native.Nat.{◌≤◌}
 use native.Mathlib.Omega.{arith}
 use lib.ListN.{length}
 use Rattle.names.specs.Names.{name_of}
+use Rattle.names.specs.Symbols.{column}
 use Rattle.names.specs.SearchLaws.{variable_some, variable_none}
 use Rattle.patterns.proofs.Variables.{sort_set, sort_none, sort_same, sort_other, var_new, var_full}
 use Rattle.patterns.proofs.Places.{placed_kept, placed_sort, placed_new}
@@ -13,7 +14,7 @@ pub returns-then-old-eq0 : goal.returns-then-old-eq0
 returns-then-old-eq0 c =
     let a = c.args in
     let h : a.count ≤ length a.variables.now = omega arith in
-    let (e, l) = variable_some a.text.now a.variables.now a.count h (name_of a.text.now a.kind a.word.start a.word.size) c.in-Some.index c.in-Some.ensures in
+    let (e, l) = variable_some a.text.now a.variables.now a.count h (name_of a.text.now (column a.row 0) (column a.row 1) (column a.row 2)) c.in-Some.index c.in-Some.ensures in
     record {
       grew = (l, omega arith, omega arith);
       variables_after = sort_set a.text.now a.variables.now a.count h _ a.sort c.in-Some.index e l refl c.if-old-eq0.true;
@@ -24,7 +25,7 @@ pub returns-then-sort-eq0 : goal.returns-then-sort-eq0
 returns-then-sort-eq0 c =
     let a = c.args in
     let h : a.count ≤ length a.variables.now = omega arith in
-    let (e, l) = variable_some a.text.now a.variables.now a.count h (name_of a.text.now a.kind a.word.start a.word.size) c.in-Some.index c.in-Some.ensures in
+    let (e, l) = variable_some a.text.now a.variables.now a.count h (name_of a.text.now (column a.row 0) (column a.row 1) (column a.row 2)) c.in-Some.index c.in-Some.ensures in
     record {
       grew = (l, omega arith, omega arith);
       variables_after = sort_none a.text.now a.variables.now a.count h _ a.sort c.in-Some.index e l refl c.if-old-eq0.false c.if-sort-eq0.true;
@@ -35,7 +36,7 @@ pub returns-then-old-sort : goal.returns-then-old-sort
 returns-then-old-sort c =
     let a = c.args in
     let h : a.count ≤ length a.variables.now = omega arith in
-    let (e, l) = variable_some a.text.now a.variables.now a.count h (name_of a.text.now a.kind a.word.start a.word.size) c.in-Some.index c.in-Some.ensures in
+    let (e, l) = variable_some a.text.now a.variables.now a.count h (name_of a.text.now (column a.row 0) (column a.row 1) (column a.row 2)) c.in-Some.index c.in-Some.ensures in
     record {
       grew = (l, omega arith, omega arith);
       variables_after = sort_same a.text.now a.variables.now a.count h _ a.sort c.in-Some.index e l refl c.if-old-eq0.false c.if-sort-eq0.false c.if-old-sort.true;
@@ -46,7 +47,7 @@ pub returns-else-old-sort : goal.returns-else-old-sort
 returns-else-old-sort c =
     let a = c.args in
     let h : a.count ≤ length a.variables.now = omega arith in
-    let (e, l) = variable_some a.text.now a.variables.now a.count h (name_of a.text.now a.kind a.word.start a.word.size) c.in-Some.index c.in-Some.ensures in
+    let (e, l) = variable_some a.text.now a.variables.now a.count h (name_of a.text.now (column a.row 0) (column a.row 1) (column a.row 2)) c.in-Some.index c.in-Some.ensures in
     record {
       grew = omega arith;
       variables_after = sort_other a.text.now a.variables.now a.count h _ a.sort c.in-Some.index e l refl c.if-old-eq0.false c.if-sort-eq0.false c.if-old-sort.false;
@@ -57,18 +58,18 @@ pub returns-then-count-lt-VARIABLES : goal.returns-then-count-lt-VARIABLES
 returns-then-count-lt-VARIABLES c =
     let a = c.args in
     let h : a.count ≤ length a.variables.now = omega arith in
-    let l = variable_none a.text.now a.variables.now a.count h (name_of a.text.now a.kind a.word.start a.word.size) c.in-None.ensures in
+    let l = variable_none a.text.now a.variables.now a.count h (name_of a.text.now (column a.row 0) (column a.row 1) (column a.row 2)) c.in-None.ensures in
     record {
       grew = (omega arith, omega arith, omega arith);
-      variables_after = var_new a.text.now a.variables.now a.count h _ a.sort _ refl l c.if-count-lt-VARIABLES.true (omega arith) a.kind a.word.start a.word.size refl;
-      entry_placed = placed_new a.variables.now a.count a.kind a.word.start a.word.size a.sort (omega arith);
+      variables_after = var_new a.text.now a.variables.now a.count h _ a.sort _ refl l c.if-count-lt-VARIABLES.true (omega arith) (column a.row 0) (column a.row 1) (column a.row 2) refl;
+      entry_placed = placed_new a.variables.now a.count (column a.row 0) (column a.row 1) (column a.row 2) a.sort (omega arith);
     }
 
 pub returns-else-count-lt-VARIABLES : goal.returns-else-count-lt-VARIABLES
 returns-else-count-lt-VARIABLES c =
     let a = c.args in
     let h : a.count ≤ length a.variables.now = omega arith in
-    let l = variable_none a.text.now a.variables.now a.count h (name_of a.text.now a.kind a.word.start a.word.size) c.in-None.ensures in
+    let l = variable_none a.text.now a.variables.now a.count h (name_of a.text.now (column a.row 0) (column a.row 1) (column a.row 2)) c.in-None.ensures in
     record {
       grew = omega arith;
       variables_after = var_full a.text.now a.variables.now a.count h _ a.sort _ refl l c.if-count-lt-VARIABLES.false;

@@ -1,13 +1,24 @@
 -- `horn_prove_cleared` meets its contract: what it asks is what `prove_cleared` asks, and the answer is told in numbers.
 use native.Mathlib.Omega.{arith}
 use borrow.Author.Rules.{rules}
+use Rattle.std.proofs.Common.{◌≡◌, subst}
+use Rattle.signature.specs.Storage.{SignatureStore}
 use Rattle.sessions.specs.Answers.{answer_in}
+use Rattle.sessions.specs.Promises.{Asked, Given}
+use Rattle.sessions.specs.Storage.{SessionStore}
+use Rattle.sessions.specs.declared.SessionCounts.{SessionCounts}
+use Rattle.prover.specs.Proving.{ProveLeft}
 use Rattle.prover.specs.ProvingLaws.{left_given}
 use Rattle.prover_capi.proofs.horn_prove_cleared.Goals as goal
 
+-- A signature is the one that is lent.
+left_with : {sg sg' : SignatureStore} {k : Asked} {b : SessionStore} {n : SessionCounts} {g : Given} → sg ≡ sg' → ProveLeft sg k b n g
+    → ProveLeft sg' k b n g
+left_with {k = k} {b = b} {n = n} {g = g} e h = subst (λ (sg : SignatureStore). ProveLeft sg k b n g) e h
+
 pub prove_cleared-answer-requires : goal.prove_cleared-answer-requires
 prove_cleared-answer-requires c =
-    rw (c.signature_counts.ensures, c.search_limits.ensures, c.session_counts-used.ensures) c.requires.fact_2
+    rw (c.stored_signature.ensures, c.search_limits.ensures, c.session_counts-used.ensures) c.requires.fact_2
 
 pub tell_answer-requires : goal.tell_answer-requires
 tell_answer-requires c =
@@ -22,7 +33,7 @@ returns c =
       is = c.tell_answer.ensures.number;
       left = left_given c.prove_cleared-answer.new.store (search (rules, l.words)) (search (rules, l.bindings))
           (search (rules, l.frames)) (search (rules, l.links)) (search (rules, l.marks)) (search (rules, l.stack))
-          (rw (c.signature_counts.ensures, c.search_limits.ensures, c.session_counts-used.ensures)
-          at c.prove_cleared-answer.ensures.left);
+          (rw (c.search_limits.ensures, c.session_counts-used.ensures)
+          at (left_with c.stored_signature.ensures c.prove_cleared-answer.ensures.left));
       written = c.tell_answer.ensures.results;
     }

@@ -8,16 +8,11 @@ use Rattle.rules.proofs.OrderLaws.{met_none, met_more}
 use native.Mathlib.Omega.{arith}
 use Rattle.rules.proofs.order.Goals as goal
 
-pub walk-met-requires : goal.walk-met-requires
-walk-met-requires c =
-    let pre = c.requires in
-    record { fact_1 = pre.fact_1.walkable; fact_2 = pre.fact_1.head; fact_3 = (pre.fact_2, ([], records_none c.args.places.now pre.fact_1.blank)) }
-
 pub loop-k-init : goal.loop-k-init
 loop-k-init c =
     let args = c.args in
     let pre = c.requires in
-    (refl, refl, met_none (term_of args.terms.words.now) args.terms.heads.now args.terms.conclusion _ _ (c.walk-met.ensures [] (records_none args.places.now pre.fact_1.blank)))
+    (refl, refl, met_none (term_of args.rule.words.now) args.rule.heads.now args.rule.conclusion _ _ (c.walk-met.ensures [] (records_none args.places.now pre.fact_1.blank)))
 
 pub walk-all-requires : goal.walk-all-requires
 walk-all-requires c =
@@ -35,7 +30,7 @@ loop-k-preserved c =
     let args = c.args in (
       c.walk-all.auto.places ∙ loop.invariant.0,
       c.walk-all.auto.stack ∙ loop.invariant.1,
-      met_more (term_of args.terms.words.now) args.terms.heads.now args.terms.conclusion loop.k (omega (arith, c.loop-k-test.true)) loop.auto.k _ _ (c.walk-all.ensures _ loop.invariant.2),
+      met_more (term_of args.rule.words.now) args.rule.heads.now args.rule.conclusion loop.k (omega (arith, c.loop-k-test.true)) loop.auto.k _ _ (c.walk-all.ensures _ loop.invariant.2),
     )
 
 pub returns : goal.returns

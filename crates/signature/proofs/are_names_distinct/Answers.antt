@@ -1,12 +1,10 @@
 -- `are_names_distinct` meets its contract: the names at the places that are written are those of sorts and symbols together.
-use Rattle.std.proofs.Common.{◌≡◌, ◌≤◌, ◌+◌, ◌++◌, length, take, arith}
+use Rattle.std.proofs.Common.{◌≡◌, length, arith}
 use Rattle.std.proofs.lemmas.Grind.{common_steps}
-use Rattle.names.specs.UsedLaws.{sorts_used}
 use Rattle.signature.proofs.NameLaws.{names_told}
 use Rattle.signature.proofs.are_names_distinct.Goals as goal
 
 pub returns : goal.returns
 returns c =
     let q : length c.put_places.new.places ≡ length c.args.symbols.now = let a = c.put_places.auto.places in grind (arith, common_steps) in
-    names_told c.args.text.now c.args.sorts.now c.args.symbols.now c.copy_from_slice.new.self c.put_places.new.places _ _ c.copy_from_slice.ensures.after q c.put_places.ensures
-    (rw (sorts_used _ (length c.args.sorts.now + length c.args.symbols.now) (let a = c.are_distinct.auto.places in omega arith) c.args.text.now) at c.are_distinct.ensures)
+    names_told c.args.text.now c.args.sorts.now c.args.symbols.now c.copy_from_slice.new.self c.put_places.new.places _ _ c.copy_from_slice.ensures.after q c.put_places.ensures c.are_distinct.ensures

@@ -3,4 +3,4 @@ use Rattle.signature.specs.Parts.{SymbolsFormed}
 use Rattle.signature.proofs.are_symbols_formed.Given as goal
 
 abbrev pub invariant-loop-row : goal.invariant-loop-row
-invariant-loop-row l = SymbolsFormed l.text l.sorts l.rules l.symbols l.row-index
+invariant-loop-row l = SymbolsFormed l.text l.counts.sorts l.counts.rules l.symbols l.row-index
