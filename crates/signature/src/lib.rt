@@ -183,6 +183,7 @@ fn is_symbol_formed(text: &[u8], row: &SymbolRow, counts: Counts) -> bool
 }
 
 // Are the rows of symbols in form?
+// Stays: like `session_check::are_names_formed` with other rows and another test; one function of both would take the test as a closure, and tell of its answers.
 fn are_symbols_formed(text: &[u8], symbols: &[SymbolRow], counts: Counts) -> bool
     ensures { Tells result (SymbolsFormed text.now counts.sorts counts.rules symbols.now (length symbols.now)) }
 {
