@@ -36,6 +36,7 @@ fn edge_at(terms: Terms, bindings: &[[u32; 2]], reference: u32, i: u32) -> u32
 }
 
 // Whether the stored bindings are acyclic; leaves its marks in scratch.
+// Stays: the scratch is written, and terms and bindings, which are lent apart, are read.
 fn search(terms: Terms, bindings: &[[u32; 2]], scratch: &mut [[u32; 2]]) -> bool
     requires { Searchable terms.words.now bindings.now terms.room terms.variables terms.used scratch.old }
     ensures { Searched terms.entry.words.now bindings.now terms.entry.room terms.entry.variables terms.entry.used scratch.old result scratch.new }
@@ -82,6 +83,7 @@ fn search(terms: Terms, bindings: &[[u32; 2]], scratch: &mut [[u32; 2]]) -> bool
 
 // Whether the stored bindings are acyclic: one search in depth through all that the variables lead to. Scratch has a row for
 // each reference; it is zero before and after.
+// Stays: the scratch is written, and terms and bindings, which are lent apart, are read.
 pub fn is_acyclic(terms: Terms, bindings: &[[u32; 2]], scratch: &mut [[u32; 2]]) -> bool
     requires { Ready terms.words.now bindings.now terms.room terms.variables terms.used scratch.old }
     ensures { Decided terms.entry.words.now bindings.now terms.entry.room terms.entry.variables scratch.old result scratch.new }

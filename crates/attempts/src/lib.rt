@@ -25,6 +25,7 @@ pub struct Stored {
 }
 
 // A stored rule with the parts of storage that are lent with it: the words of the patterns, the references of its premises, and the places of its variables.
+// Stays: beside the words and the bindings, which are written while the rule is read.
 #[derive(Clone, Copy)]
 pub struct LentRule<'a> {
     pub pattern: &'a [u32],

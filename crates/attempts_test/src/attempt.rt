@@ -44,6 +44,7 @@ fn has_room(
 }
 
 // Whether storage is what an attempt asks; the marks are left as they are.
+// Stays: of links, marks and stack the marks alone are written; a `Workspace` would ask for all three to be lent so.
 fn is_state(
     words: &[u32],
     bindings: &[[u32; 2]],

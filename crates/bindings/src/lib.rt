@@ -24,6 +24,7 @@ use visits::{visit, visit_edges};
 
 // Bindings in lent rows: by variable the value, 0 or 1 + a reference, and beside it the trail, whose first `bound` entries are the bound variables in
 // their order.
+// Stays: beside the terms, which other owners lend, and the marks, which are written.
 #[derive(Clone, Copy)]
 pub struct StoredBindings<'a> {
     pub rows: &'a [[u32; 2]],

@@ -242,6 +242,7 @@ pub fn horn_load(
 
 // `signature::check_signature` on storage of any contents, with the first four counts that `horn_load` leaves. The answer is 0 for a signature in the listed
 // form, and else 2^32, refusal 1.
+// Stays: the parameters are those that programs in C pass, each buffer by itself.
 pub fn horn_check_signature(
     text: &[u8],
     sorts: &[[u32; 2]],
@@ -320,6 +321,7 @@ pub fn horn_evaluate(
 
 // `evaluator::is_forward_call` with the first four counts that `horn_load` leaves. The answer is 1 for a forward call, 0 for a goal, and 2^32 for
 // refusal 1.
+// Stays: the parameters are those that programs in C pass, each buffer by itself.
 pub fn horn_is_forward_call(
     text: &[u8],
     sorts: &[[u32; 2]],
@@ -346,6 +348,7 @@ pub fn horn_is_forward_call(
 }
 
 // `session_open::open` under limits on variables and on words. The answer is 0 for a new session, or 2^32 for refusal 1.
+// Stays: the parameters are those that programs in C pass, each buffer by itself.
 pub fn horn_open(
     variables: u32,
     limit: u32,

@@ -60,6 +60,7 @@ pub extern "C" fn horn_load(
 }
 
 // `capi::horn_check_signature`.
+// Stays: the parameters are those that programs in C pass, each buffer by itself.
 #[unsafe(no_mangle)]
 pub extern "C" fn horn_check_signature(
     text: &[u8],
@@ -104,6 +105,7 @@ pub extern "C" fn horn_evaluate(
 }
 
 // `capi::horn_is_forward_call`.
+// Stays: the parameters are those that programs in C pass, each buffer by itself.
 #[unsafe(no_mangle)]
 pub extern "C" fn horn_is_forward_call(
     text: &[u8],
@@ -122,6 +124,7 @@ pub extern "C" fn horn_is_forward_call(
 }
 
 // `capi::horn_open`.
+// Stays: the parameters are those that programs in C pass, each buffer by itself.
 #[unsafe(no_mangle)]
 pub extern "C" fn horn_open(
     variables: u32,

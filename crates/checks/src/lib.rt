@@ -26,6 +26,7 @@ pub fn is_form(terms: Terms, bindings: StoredBindings, marks: &mut [[u32; 2]]) -
 }
 
 // Whether storage and two references are what `unifier::unify` asks; the marks are left as they are.
+// Stays: of links, marks and stack the marks alone are written; a `Workspace` would ask for all three to be lent so.
 pub fn is_ready(
     terms: Terms,
     bindings: StoredBindings,

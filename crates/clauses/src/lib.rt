@@ -8,9 +8,9 @@ ghost use Rattle.names.specs.Symbols.{symbols_of};
 ghost use Rattle.clauses.specs.Promises.{Skipped, HeadingAsked, Headed, ClauseAsked, ClauseEntered};
 
 use flattening::Place;
-use names::{SourceTerms, TermRow};
+use names::{SourceTerms, TermRow, Word};
 use refusals::Refusal;
-use rules::{RuleRow, SourceRule, Space, Title};
+use rules::{RulePlace, RuleRow, SourceRule, Space, Title};
 use term_parser::APPLICATION;
 
 // A clause of a function: source terms, among which its n patterns stand from the row `at` on, with the right side behind them.
@@ -47,39 +47,36 @@ pub fn skip(rows: &[TermRow], at: usize, n: usize) -> usize
 }
 
 // Writes the beginning of a clause's conclusion: its function, whose name stands at a place, and its n patterns. The row of the right side is answered.
-fn heading(
-    rows: &[TermRow],
-    at: usize,
-    n: usize,
-    start: u32,
-    size: u32,
-    out: &mut [TermRow],
-) -> usize
+fn heading(rows: &[TermRow], at: usize, n: usize, word: Word, out: &mut [TermRow]) -> usize
     requires { HeadingAsked rows.now at n out.old }
-    ensures { Headed rows.now at n start size out.old result out.new }
+    ensures { Headed rows.now at n word.start word.size out.old result out.new }
 {
     let end = skip(rows, at, n);
-    out[0] = [APPLICATION, start, size, n as u32 + 1];
+    out[0] = [APPLICATION, word.start, word.size, n as u32 + 1];
     flattening::move_rows(rows, at, end - at, out, 1);
     end
 }
 
-// Enters a clause as the rule with a number. Its rows are flattened in `out` and `calls`, which are scratch.
+// Enters a clause as a rule at a place. Its rows are flattened in `out` and `calls`, which are scratch.
+// Stays: the buffers that are written are lent apart, as the store of declarations holds them; a struct of the two would be made for each call.
 pub fn clause(
     clause: SourceClause,
-    words: &mut [u32],
-    space: Space,
-    rules: &mut [RuleRow],
-    number: usize,
     title: Title,
+    words: &mut [u32],
+    rules: &mut [RuleRow],
+    place: RulePlace,
     out: &mut [TermRow],
     calls: &mut [TermRow],
 ) -> Result<EnteredRule, Refusal>
-    requires { ClauseAsked clause.source.text.now clause.source.rows.now clause.at clause.n clause.source.symbols.now (length clause.source.symbols.now) words.old space.used space.room rules.old out.old calls.old }
-    ensures { ClauseEntered clause.entry.source.text.now clause.entry.source.rows.now clause.entry.at clause.entry.n (symbols_of clause.entry.source.text.now clause.entry.source.symbols.now (length clause.entry.source.symbols.now)) title words.old space.used space.room rules.old number result words.new rules.new }
+    requires { ClauseAsked clause.source.text.now clause.source.rows.now clause.at clause.n clause.source.symbols.now (length clause.source.symbols.now) words.old place.space.used place.space.room rules.old out.old calls.old }
+    ensures { ClauseEntered clause.entry.source.text.now clause.entry.source.rows.now clause.entry.at clause.entry.n (symbols_of clause.entry.source.text.now clause.entry.source.symbols.now (length clause.entry.source.symbols.now)) title words.old place.space.used place.space.room rules.old place.number result words.new rules.new }
 {
     let SourceClause { source, at, n } = clause;
-    let right = heading(source.rows, at, n, title.start, title.size, out);
+    let word = Word {
+        start: title.start,
+        size: title.size,
+    };
+    let right = heading(source.rows, at, n, word, out);
     let from = Place {
         next: right,
         top: right - at + 1,
@@ -96,7 +93,7 @@ pub fn clause(
         conclusions: out,
         here: 0,
     };
-    let left = rules::rule(rule, words, space, rules, number, title)?;
+    let left = rules::rule(rule, title, words, rules, place)?;
     Ok(EnteredRule {
         next: flat.next,
         space: left,

@@ -13,10 +13,10 @@ ghost use Rattle.declarations.specs.Lent.{IsLent};
 ghost use Rattle.loader.specs.Kinds.{is_constructor, mark_in, first_in, clauses_in};
 
 use clauses::{EnteredRule, SourceClause};
-use loader::{Kind, Part, Word};
-use names::{SortRow, SourceTerms, SymbolRow, TermRow};
+use loader::{Kind, Part};
+use names::{SortRow, SourceTerms, SymbolRow, TermRow, Word};
 use refusals::Refusal;
-use rules::{RuleRow, Space, Title};
+use rules::{RulePlace, RuleRow, Space, Title};
 use words::{CTOR, DEF, EVAL, PRED, RULE, SORT};
 
 // How many sorts, symbols and rules there are, how many words are in use, and how many nodes are left.
@@ -45,6 +45,7 @@ pub struct Source<'a> {
 }
 
 // What rules are written to: their rows and words, and scratch in which clauses are flattened.
+// Stays: beside the symbols, which are read while a rule is written, and the counts, which are answered anew.
 #[derive(Drop)]
 pub struct Store<'a> {
     pub rules: &'a mut [RuleRow],
@@ -149,9 +150,12 @@ fn declare_rule(
     }
     let [_, start, size, _] = rows[at + 1];
     let m = room(state.left);
-    let space = Space {
-        used: state.used,
-        room: m,
+    let place = RulePlace {
+        number: state.rules,
+        space: Space {
+            used: state.used,
+            room: m,
+        },
     };
     let part = Part {
         text,
@@ -164,9 +168,8 @@ fn declare_rule(
         Word { start, size },
         &symbols[..state.symbols],
         store.words,
-        space,
         store.rules,
-        state.rules,
+        place,
     );
     told(state, m, outcome)
 }
@@ -187,9 +190,12 @@ fn declare_clause(
     let Source { text, rows, at } = source;
     let n = rows[at][3] as usize;
     let m = room(state.left);
-    let space = Space {
-        used: state.used,
-        room: m,
+    let place = RulePlace {
+        number: state.rules,
+        space: Space {
+            used: state.used,
+            room: m,
+        },
     };
     let title = Title {
         start: word.start,
@@ -208,11 +214,10 @@ fn declare_clause(
     };
     let outcome = clauses::clause(
         clause,
-        store.words,
-        space,
-        store.rules,
-        state.rules,
         title,
+        store.words,
+        store.rules,
+        place,
         store.out,
         store.calls,
     );

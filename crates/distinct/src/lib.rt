@@ -10,14 +10,22 @@ ghost use Rattle.unifier.specs.Promises.{Tells};
 ghost use Rattle.names.specs.Names.{Distinct};
 ghost use Rattle.names.specs.Symbols.{sort_of, sorts_of};
 
-use names::SortRow;
+use names::{SortRow, Word};
 use std::cmp::Ordering;
+
+// The name at a place.
+fn name<'a>(text: &'a [u8], place: &SortRow) -> &'a [u8]
+    ensures { result.now ≡ sort_of text.now place.now }
+{
+    let [start, size] = *place;
+    names::part(text, Word { start, size })
+}
 
 // How the names at two places stand to each other: as in a dictionary, byte by byte.
 fn compare(text: &[u8], a: &SortRow, b: &SortRow) -> Ordering
     ensures { result ≡ slice_cmp nat_cmp (sort_of text.now a.now) (sort_of text.now b.now) }
 {
-    names::part(text, a[0], a[1]).cmp(names::part(text, b[0], b[1]))
+    name(text, a).cmp(name(text, b))
 }
 
 // Do the names whose places are listed all differ? Sorting takes some n times log2 n comparisons of n names, each of which reads no more bytes than the

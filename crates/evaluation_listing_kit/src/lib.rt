@@ -10,6 +10,7 @@ mod prefix; // terms in prefix form
 ghost use Rattle.std.specs.Prelude.{◌≤◌, length};
 
 use function_calls::TreeRow;
+use names::Word;
 use output::{put, put_byte, put_decimal};
 pub use prefix::{OpenRow, StoredTerms};
 use prefix::{put_name, put_term};
@@ -45,7 +46,11 @@ fn put_rule(text: &[u8], rules: &[RuleRow], number: u32, out: &mut [u8], at: usi
         return put(b"wrong: no such rule", out, at);
     }
     let clause = rules[i][2];
-    let name = put_name(text, rules[i][0], rules[i][1], out, at);
+    let word = Word {
+        start: rules[i][0],
+        size: rules[i][1],
+    };
+    let name = put_name(text, word, out, at);
     if clause == 0 {
         return name;
     }

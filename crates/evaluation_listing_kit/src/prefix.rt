@@ -1,10 +1,11 @@
 // Terms in prefix form, as the Rust's `pat_text` prints them. A term may be as deep as it has nodes, so it is written by a loop over a stack of open nodes.
 ghost use Rattle.std.specs.Prelude.{◌≡◌, ◌+◌, ◌≤◌, ◌<◌, length, get_or, IfSome};
 ghost use Rattle.evaluation_listing_kit.specs.Headers.{header_at, arity_of};
+ghost use Rattle.evaluation_listing_kit.specs.Printing.{Within, Written};
 
 use super::output::{put, put_byte};
 use arena::{HEADERS, SYMBOL_STEP};
-use names::SymbolRow;
+use names::{SymbolRow, Word};
 
 // The column of a symbol's row that has its output, 0 for a predicate.
 const OUTPUT: usize = 2;
@@ -20,9 +21,12 @@ pub struct StoredTerms<'a> {
     pub words: &'a [u32],
 }
 
-// How far a term is written: the place in the buffer, and the number of open nodes.
-#[derive(Clone, Copy)]
-struct Progress {
+// A printer of terms: how far it has written the buffer, and the open nodes, which are `depth`.
+#[derive(Drop)]
+struct Printer<'a> {
+    terms: StoredTerms<'a>,
+    stack: &'a mut [OpenRow],
+    out: &'a mut [u8],
     at: usize,
     depth: usize,
 }
@@ -66,29 +70,11 @@ fn argument_at(words: &[u32], address: u32, number: u32) -> u32
 }
 
 // Writes a name of the text.
-pub fn put_name(text: &[u8], start: u32, size: u32, out: &mut [u8], at: usize) -> usize
+pub fn put_name(text: &[u8], word: Word, out: &mut [u8], at: usize) -> usize
     requires { at ≤ length out.old }
     ensures { (at ≤ result) × (result ≤ length out.old) }
 {
-    put(words::word(text, start as usize, size as usize), out, at)
-}
-
-// Writes the name of the symbol of a header.
-fn put_symbol(terms: StoredTerms, header: u32, out: &mut [u8], at: usize) -> usize
-    requires { (1048576 ≤ header) × (at ≤ length out.old) }
-    ensures { (at ≤ result) × (result ≤ length out.old) }
-{
-    let i = ((header - HEADERS) / SYMBOL_STEP) as usize;
-    if terms.symbols.len() <= i {
-        return put(b"wrong: no such symbol", out, at);
-    }
-    put_name(
-        terms.text,
-        terms.symbols[i][0],
-        terms.symbols[i][1],
-        out,
-        at,
-    )
+    put(names::part(text, word), out, at)
 }
 
 // Is the node with a header written without parentheses, as a constructor that has no arguments?
@@ -105,84 +91,74 @@ fn is_bare(symbols: &[SymbolRow], header: u32) -> bool
     symbols[i][OUTPUT] != 0
 }
 
-// Writes the start of a node that has parentheses, and opens it.
-fn open_node(
-    terms: StoredTerms,
-    header: u32,
-    address: u32,
-    stack: &mut [OpenRow],
-    out: &mut [u8],
-    done: Progress,
-) -> Progress
-    requires { (1048576 ≤ header) × (done.at ≤ length out.old) × (done.depth ≤ length stack.old) }
-    ensures { (done.at ≤ result.at) × (result.at ≤ length out.old) × (result.depth ≤ length stack.old) }
-{
-    let depth = done.depth;
-    if stack.len() <= depth {
-        return Progress {
-            at: out.len(),
-            depth,
+impl Printer<'_> {
+    // Writes the name of the symbol of a header.
+    fn put_symbol(&mut self, header: u32)
+        requires { (1048576 ≤ header) × Within self.old }
+        ensures { Written self.old self.new }
+    {
+        let i = ((header - HEADERS) / SYMBOL_STEP) as usize;
+        if self.terms.symbols.len() <= i {
+            self.at = put(b"wrong: no such symbol", self.out, self.at);
+            return;
+        }
+        let row = self.terms.symbols[i];
+        let word = Word {
+            start: row[0],
+            size: row[1],
         };
+        self.at = put_name(self.terms.text, word, self.out, self.at);
     }
-    stack[depth] = [address, 0];
-    let name = put_byte(out, done.at, b'(');
-    let next = put_symbol(terms, header, out, name);
-    Progress {
-        at: next,
-        depth: depth + 1,
-    }
-}
 
-// Writes the start of the node at an address, which is all of one without parentheses.
-fn enter(
-    terms: StoredTerms,
-    address: u32,
-    stack: &mut [OpenRow],
-    out: &mut [u8],
-    done: Progress,
-) -> Progress
-    requires { (done.at ≤ length out.old) × (done.depth ≤ length stack.old) }
-    ensures { (done.at ≤ result.at) × (result.at ≤ length out.old) × (result.depth ≤ length stack.old) }
-{
-    let Some(header) = header_at(terms.words, address) else {
-        let next = put(b"wrong: no node", out, done.at);
-        return Progress {
-            at: next,
-            depth: done.depth,
-        };
-    };
-    if is_bare(terms.symbols, header) {
-        let next = put_symbol(terms, header, out, done.at);
-        return Progress {
-            at: next,
-            depth: done.depth,
-        };
+    // Writes the start of a node that has parentheses, and opens it.
+    fn open_node(&mut self, header: u32, address: u32)
+        requires { (1048576 ≤ header) × Within self.old }
+        ensures { Written self.old self.new }
+    {
+        let depth = self.depth;
+        if self.stack.len() <= depth {
+            self.at = self.out.len();
+            return;
+        }
+        self.stack[depth] = [address, 0];
+        self.depth = depth + 1;
+        self.at = put_byte(self.out, self.at, b'(');
+        self.put_symbol(header);
     }
-    open_node(terms, header, address, stack, out, done)
-}
 
-// Writes on at the innermost open node: the start of its next argument, or its end.
-fn step(terms: StoredTerms, stack: &mut [OpenRow], out: &mut [u8], done: Progress) -> Progress
-    requires { (done.at < length out.old) × (0 < done.depth) × (done.depth ≤ length stack.old) }
-    ensures { (done.at < result.at) × (result.at ≤ length out.old) × (result.depth ≤ length stack.old) }
-{
-    let top = done.depth - 1;
-    let address = stack[top][0];
-    let next = stack[top][1];
-    if arity_at(terms.words, address) <= next {
-        let end = put_byte(out, done.at, b')');
-        return Progress {
-            at: end,
-            depth: top,
+    // Writes the start of the node at an address, which is all of one without parentheses.
+    fn enter(&mut self, address: u32)
+        requires { Within self.old }
+        ensures { Written self.old self.new }
+    {
+        let Some(header) = header_at(self.terms.words, address) else {
+            self.at = put(b"wrong: no node", self.out, self.at);
+            return;
         };
+        if is_bare(self.terms.symbols, header) {
+            self.put_symbol(header);
+            return;
+        }
+        self.open_node(header, address);
     }
-    stack[top] = [address, next + 1];
-    let argument = argument_at(terms.words, address, next);
-    let begun = Progress {
-        at: put_byte(out, done.at, b' '),
-        depth: done.depth,
-    };
-    enter(terms, argument, stack, out, begun)
+
+    // Writes on at the innermost open node: the start of its next argument, or its end.
+    fn step(&mut self)
+        requires { (self.old.at < length self.old.out.now) × (0 < self.old.depth) × Within self.old }
+        ensures { (self.old.at < self.new.at) × Written self.old self.new }
+    {
+        let top = self.depth - 1;
+        let address = self.stack[top][0];
+        let next = self.stack[top][1];
+        if arity_at(self.terms.words, address) <= next {
+            self.at = put_byte(self.out, self.at, b')');
+            self.depth = top;
+            return;
+        }
+        self.stack[top] = [address, next + 1];
+        self.at = put_byte(self.out, self.at, b' ');
+        self.enter(argument_at(self.terms.words, address, next));
+    }
 }
 
 // Writes the term whose root is at an address.
@@ -196,12 +172,19 @@ pub fn put_term(
     requires { at ≤ length out.old }
     ensures { (at ≤ result) × (result ≤ length out.old) }
 {
-    let mut done = enter(terms, address, stack, out, Progress { at, depth: 0 });
-    while 0 < done.depth {
-        if out.len() <= done.at {
-            return out.len();
+    let mut printer = Printer {
+        terms,
+        stack,
+        out,
+        at,
+        depth: 0,
+    };
+    printer.enter(address);
+    while 0 < printer.depth {
+        if printer.out.len() <= printer.at {
+            return printer.out.len();
         }
-        done = step(terms, stack, out, done);
+        printer.step();
     }
-    done.at
+    printer.at
 }

@@ -9,6 +9,7 @@ ghost use Rattle.expressions.specs.Numerals.{ConstructorFound, TowerAsked, Tower
 use super::nodes::build;
 use function_calls::{Built, MAX_DEPTH, Room};
 use names::SymbolRow;
+use patterns::NumeralSymbols;
 use refusals::Refusal;
 
 // The constructor of a name, by its number.
@@ -24,45 +25,45 @@ fn find_constructor(text: &[u8], symbols: &[SymbolRow], name: &[u8]) -> Result<u
     Ok(i)
 }
 
-// What n times y on z is refused for at a depth, before anything is built, if it is.
+// What n times `succ` on `zero` is refused for at a depth, before anything is built, if it is.
 fn check_numeral(
     symbols: &[SymbolRow],
-    y: usize,
-    z: usize,
+    numerals: NumeralSymbols,
     n: u32,
     depth: u32,
 ) -> Result<(), Refusal>
-    requires { (y < length symbols.now) × (z < length symbols.now) × (depth ≤ 128) }
+    requires { (numerals.succ < length symbols.now) × (numerals.zero < length symbols.now) × (depth ≤ 128) }
     ensures { (limit : ℕ) (text : List ℕ) (rules : List Rule)
-        → Finds result (numeral_misuse limit (symbols_of text symbols.now (length symbols.now)) rules y z n depth) }
+        → Finds result (numeral_misuse limit (symbols_of text symbols.now (length symbols.now)) rules numerals.succ numerals.zero n depth) }
 {
-    if 0 < n && symbols[y][6] != 1 {
+    let NumeralSymbols { zero, succ } = numerals;
+    if 0 < n && symbols[succ][6] != 1 {
         return Err(Refusal::ArgumentCount);
     }
     if MAX_DEPTH - depth < n {
         return Err(Refusal::TooDeep);
     }
-    if symbols[z][6] != 0 {
+    if symbols[zero][6] != 0 {
         return Err(Refusal::ArgumentCount);
     }
     Ok(())
 }
 
-// n times y on z, upwards: the sort of each is tested before the next is built around it.
+// n times `succ` on `zero`, upwards: the sort of each is tested before the next is built around it.
 fn tower(
     symbols: &[SymbolRow],
-    y: usize,
-    z: usize,
+    numerals: NumeralSymbols,
     n: u32,
     words: &mut [u32],
     room: Room,
 ) -> Result<Built, Refusal>
-    requires { TowerAsked symbols.now (length symbols.now) y z n words.old room.used room.limit }
-    ensures { TowerAnswered symbols.now (length symbols.now) y z n words.old room.used room.limit result words.new }
+    requires { TowerAsked symbols.now (length symbols.now) numerals.succ numerals.zero n words.old room.used room.limit }
+    ensures { TowerAnswered symbols.now (length symbols.now) numerals.succ numerals.zero n words.old room.used room.limit result words.new }
 {
-    let mut sort = symbols[z][2];
-    let want = symbols[y][8];
-    let mut built = build(words, room, z, &[])?;
+    let NumeralSymbols { zero, succ } = numerals;
+    let mut sort = symbols[zero][2];
+    let want = symbols[succ][8];
+    let mut built = build(words, room, zero, &[])?;
     for _k in 0..n {
         if sort != want {
             return Err(Refusal::WrongSort);
@@ -71,8 +72,8 @@ fn tower(
             used: built.used,
             ..room
         };
-        built = build(words, left, y, &[built.value])?;
-        sort = symbols[y][2];
+        built = build(words, left, succ, &[built.value])?;
+        sort = symbols[succ][2];
     }
     Ok(built)
 }
@@ -89,8 +90,9 @@ pub fn numeral(
     requires { NumeralAsked symbols.now (length symbols.now) depth words.old room.used room.limit }
     ensures { NumeralAnswered text.now symbols.now (length symbols.now) number depth words.old room.used room.limit result words.new }
 {
-    let z = find_constructor(text, symbols, b"zero")?;
-    let y = find_constructor(text, symbols, b"succ")?;
-    check_numeral(symbols, y, z, number, depth)?;
-    tower(symbols, y, z, number, words, room)
+    let zero = find_constructor(text, symbols, b"zero")?;
+    let succ = find_constructor(text, symbols, b"succ")?;
+    let numerals = NumeralSymbols { zero, succ };
+    check_numeral(symbols, numerals, number, depth)?;
+    tower(symbols, numerals, number, words, room)
 }

@@ -8,6 +8,7 @@ use super::nodes::sort_of;
 use super::numerals::numeral;
 use forward_calls::WrittenTerm;
 use function_calls::{MAX_DEPTH, Program, Room, Spent, Store};
+use names::Word;
 use refusals::Refusal;
 
 // A term that has a value: the value, the row behind the term, and what is spent then.
@@ -101,7 +102,11 @@ pub fn expression(
     if kind == words::METAVARIABLE {
         return Err(Refusal::NotGround);
     }
-    let Some(i) = names::find_at(term.text, program.symbols, kind, row[1], row[2]) else {
+    let word = Word {
+        start: row[1],
+        size: row[2],
+    };
+    let Some(i) = names::find_at(term.text, program.symbols, kind, word) else {
         return Err(Refusal::UnknownSymbol);
     };
     let arguments = row[3] as usize;

@@ -10,7 +10,7 @@ ghost use Rattle.names.specs.Symbols.{column, symbols_of};
 ghost use Rattle.flattening.specs.Flattening.{is_function};
 ghost use Rattle.flattening.specs.Promises.{call_limit, arity_of, is_call, Copied, Finishes, Room, Flattens};
 
-use names::{SourceTerms, SymbolRow, TermRow};
+use names::{SourceTerms, SymbolRow, TermRow, Word};
 
 // How far flattening is: the next row of the source, where the next row of the term and of the premises goes, and how many calls were made.
 #[derive(Clone, Copy)]
@@ -33,10 +33,10 @@ pub fn move_rows(source: &[TermRow], from: usize, n: usize, to: &mut [TermRow], 
 }
 
 // Is the word at a place of the text the name of a function?
-fn is_function(text: &[u8], symbols: &[SymbolRow], start: u32, size: u32) -> bool
-    ensures { result ≡ is_function (symbols_of text.now symbols.now (length symbols.now)) (part_of text.now start size) }
+fn is_function(text: &[u8], symbols: &[SymbolRow], word: Word) -> bool
+    ensures { result ≡ is_function (symbols_of text.now symbols.now (length symbols.now)) (part_of text.now word.start word.size) }
 {
-    match names::find(text, symbols, names::part(text, start, size)) {
+    match names::find(text, symbols, names::part(text, word)) {
         Some(i) => symbols[i][3] == 1,
         None => false,
     }
@@ -53,7 +53,7 @@ fn is_call(text: &[u8], symbols: &[SymbolRow], row: TermRow) -> bool
     if kind == words::NUMERAL {
         return false;
     }
-    is_function(text, symbols, start, size)
+    is_function(text, symbols, Word { start, size })
 }
 
 // How many arguments follow a row.
@@ -80,12 +80,11 @@ fn finish(
     top: usize,
     calls: &mut [TermRow],
     from: Place,
-    start: u32,
-    size: u32,
+    word: Word,
     args: usize,
 ) -> Option<Place>
     requires { (top < from.top) × (from.top ≤ length out.old) × (from.end + from.top + 2 * (call_limit - from.number) ≤ length calls.old) × (from.number ≤ call_limit) × (args ≤ 65536) }
-    ensures { Finishes out.old top from.top calls.old from.end from.number start size args from.next out.new calls.new result }
+    ensures { Finishes out.old top from.top calls.old from.end from.number word.start word.size args from.next out.new calls.new result }
 {
     let Place {
         next,
@@ -96,7 +95,12 @@ fn finish(
     if number == CALLS {
         return None;
     }
-    calls[end] = [term_parser::APPLICATION, start, size, args as u32 + 1];
+    calls[end] = [
+        term_parser::APPLICATION,
+        word.start,
+        word.size,
+        args as u32 + 1,
+    ];
     move_rows(out, top + 1, last - top - 1, calls, end + 1);
     let stop = end + (last - top);
     let place = 16 * (number as u32);
@@ -146,7 +150,7 @@ pub fn flatten(
         place = flatten(source, out, calls, place)?;
     }
     if is_call(text, symbols, row) {
-        return finish(out, top, calls, place, start, size, n);
+        return finish(out, top, calls, place, Word { start, size }, n);
     }
     Some(place)
 }

@@ -6,7 +6,7 @@
 ghost use Rattle.forward_calls.specs.Ground.{GroundAsked, GroundAnswered};
 ghost use Rattle.forward_calls.specs.Forward.{ForwardAsked, ForwardAnswered};
 
-use names::{SymbolRow, TermRow};
+use names::{SymbolRow, TermRow, Word};
 
 // A written term: the text, rows in preorder, and where the term's rows start.
 #[derive(Clone, Copy)]
@@ -51,7 +51,11 @@ pub fn is_forward_call(term: WrittenTerm, symbols: &[SymbolRow]) -> bool
     if kind == words::METAVARIABLE {
         return false;
     }
-    let Some(i) = names::find_at(term.text, symbols, kind, row[1], row[2]) else {
+    let word = Word {
+        start: row[1],
+        size: row[2],
+    };
+    let Some(i) = names::find_at(term.text, symbols, kind, word) else {
         return false;
     };
     if symbols[i][3] != 1 {

@@ -1,11 +1,11 @@
 -- Laws of storing a goal: names entered row by row, places put, and what the stored goal is.
-use Rattle.std.specs.Prelude.{ℕ, zero, suc, ◌+◌, ◌-◌, ◌≤◌, ◌<◌, true, ◌≡◌, refl, get_or, set, take}
+use Rattle.std.specs.Prelude.{ℕ, zero, suc, ◌+◌, ◌-◌, ◌≤◌, ◌<◌, true, ◌≡◌, refl, ◌++◌, get_or, set, take, drop}
 use native.Mathlib.Omega.{arith}
 use Rattle.std.proofs.Math.Path.{sym, ap}
-use Rattle.std.proofs.Common.{◌∙◌, subst, length-set, get_or-set_same, get_or-set_other, get_or-take}
+use Rattle.std.proofs.Common.{◌∙◌, subst, length-append, get_or-set_same, get_or-set_other, get_or-take}
 use mathlib.Core.List.{List, [], ◌∷◌}
 use Rattle.std.proofs.Math.ListN.{length}
-use Rattle.std.proofs.lemmas.List.{take-set-le}
+use Rattle.std.proofs.lemmas.List.{length-take-le, length-drop, take_at, get_or_append_left, get_or-append_right, get_or-drop}
 use Rattle.terms.specs.Numbers.{by_same, by_less}
 use Rattle.terms.specs.Term.{Term, var, sub, mem}
 use Rattle.terms.specs.TermLaws.{below_mem}
@@ -20,7 +20,7 @@ use Rattle.resolution.specs.Session.{Named, variable_at}
 use Rattle.attempts.specs.StoredRules.{Part, Root}
 use Rattle.attempts.specs.Parts.{copied_form, copied_grown, copied_reference, copied_denotes}
 use Rattle.rules.specs.LayingLaws.{lying_one, lying_part, lying_root, lying_form}
-use Rattle.signature.proofs.UsedLaws.{used_length, row_used}
+use Rattle.signature.proofs.UsedLaws.{used_length, row_used, part_row}
 use Rattle.sessions.specs.Storage.{named_in, names_in}
 use Rattle.sessions.specs.declared.SessionCounts.{SessionCounts}
 use Rattle.goals.specs.Storing.{name_row, NamesEntered, PlacesPut, GoalLying, StoreAsked, GoalStored}
@@ -28,50 +28,48 @@ use Rattle.goals.specs.declared.Goal.{Goal}
 
 -- Names entered
 
-pub entered_none : (vs : Rows) (n c : ℕ) (names : Rows) → NamesEntered vs n n c names names
-entered_none vs n c names = record { long = refl; front = refl; new = λ i a b. absurd (omega arith); behind = λ i a. refl }
-
 -- A turn of the loop.
-module _ (vs : Rows) (n i c : ℕ) (names names' : Rows) (a : n ≤ i) (l : i < length names) (h : NamesEntered vs n i c names names') where
-  abbrev row : List ℕ
-  row = name_row (row_at vs i) (c + (i - n))
+pub entered_more : (vs : Rows) (c : ℕ) (names : Rows) (i : ℕ) → i < length names → ((j : ℕ) → j < i → row_at names j ≡ name_row (row_at vs j) (c + j))
+    → (j : ℕ) → j < i + 1 → row_at (set names i (name_row (row_at vs i) (c + i))) j ≡ name_row (row_at vs j) (c + j)
+entered_more vs c names i l h j q = by_same i j
+    (λ e _. subst (λ (k : ℕ). row_at (set names i (name_row (row_at vs i) (c + i))) k ≡ name_row (row_at vs k) (c + k)) e (get_or-set_same names i (name_row (row_at vs i) (c + i)) [] l))
+    (λ e _. get_or-set_other names i j (name_row (row_at vs i) (c + i)) [] (λ d. e (sym d)) ∙ h j (let d : i ≡ j → ⊥ = e in omega arith))
 
-  here : row_at (set names' i row) i ≡ row
-  here = let m = h.long in get_or-set_same names' i row [] (omega arith)
-
-  pub entered_more : NamesEntered vs n (i + 1) c names (set names' i row)
-  entered_more = record {
-    long = length-set names' i row ∙ h.long;
-    front = take-set-le n names' i row a ∙ h.front;
-    new = λ j p q. by_same i j (λ e _. subst (λ (k : ℕ). row_at (set names' i row) k ≡ name_row (row_at vs k) (c + (k - n))) e here)
-        (λ e _. get_or-set_other names' i j row [] (λ d. e (sym d)) ∙ h.new j p (let d : i ≡ j → ⊥ = e in omega arith));
-    behind = λ j p. get_or-set_other names' i j row [] (λ e. omega arith) ∙ h.behind j (omega arith);
-  }
-
--- The rows of the first v variables, and of the first v names, lent as a part of the table.
-pub entered_used : {vs : Rows} {n v c : ℕ} {names names' : Rows} → v ≤ length vs → NamesEntered (take v vs) n (length (take v vs)) c names names'
-    → NamesEntered vs n v c names names'
-entered_used {vs} {n} {v} l h =
-    let e = used_length vs v l in
+-- The rows from n up to v, lent as a part of the table and written.
+pub entered_part : (vs names part : Rows) (n v c : ℕ) → n ≤ v → v ≤ length vs → v ≤ length names → length part ≡ v - n
+    → ((i : ℕ) → i < v - n → row_at part i ≡ name_row (row_at (take (v - n) (drop n vs)) i) (c + i)) → NamesEntered vs n v c names (take n names ++ (part ++ drop (v - n) (drop n names)))
+entered_part vs names part n v c a lv ln long each =
+    let few : n ≤ length names = omega arith in
+    let front = length-take-le n names few in
+    let rest = length-drop (v - n) (drop n names) in
+    let past = length-drop n names in
+    let whole = length-append (take n names) (part ++ drop (v - n) (drop n names)) in
+    let behind = length-append part (drop (v - n) (drop n names)) in
     record {
-      long = h.long;
-      front = h.front;
-      new = λ i a b. rw (row_used vs v l i b) at (h.new i a (omega arith));
-      behind = λ i a. h.behind i (omega arith);
+      long = omega arith;
+      front = take_at (take n names) (part ++ drop (v - n) (drop n names)) n front;
+      new = λ i p q. let m : i - n < v - n = omega arith in
+          let l : i - n < length part = omega arith in
+          let w : n + (i - n) < v = omega arith in
+          let e : n + (i - n) ≡ i = omega arith in
+          get_or-append_right (take n names) (part ++ drop (v - n) (drop n names)) n i [] front p
+          ∙ get_or_append_left part (drop (v - n) (drop n names)) [] (i - n) l
+          ∙ each (i - n) m
+          ∙ ap (λ (r : List ℕ). name_row r (c + (i - n))) (part_row vs n v (i - n) w ∙ ap (row_at vs) e);
+      behind = λ i p. let m : n ≤ i = omega arith in
+          let w : v - n ≤ i - n = omega arith in
+          let e : n + ((v - n) + ((i - n) - (v - n))) ≡ i = omega arith in
+          get_or-append_right (take n names) (part ++ drop (v - n) (drop n names)) n i [] front m
+          ∙ get_or-append_right part (drop (v - n) (drop n names)) (v - n) (i - n) [] long w
+          ∙ get_or-drop (v - n) (drop n names) ((i - n) - (v - n)) []
+          ∙ get_or-drop n names ((v - n) + ((i - n) - (v - n))) []
+          ∙ ap (row_at names) e;
     }
 
+-- The rows of the first v names, lent as a part of the table.
 pub put_used : (names : Rows) (v : ℕ) (places : List ℕ) → v ≤ length names → PlacesPut (take v names) (length (take v names)) places
     → PlacesPut names v places
 put_used names v places l h i b = let e = used_length names v l in rw (row_used names v l i b) at (h i (omega arith))
-
-module _ (names : Rows) (i : ℕ) (places : List ℕ) (l : i < length places) (h : PlacesPut names i places) where
-  abbrev number : ℕ
-  number = column (row_at names i) 4
-
-  pub put_more : PlacesPut names (i + 1) (set places i number)
-  put_more j q = by_same i j
-      (λ e _. subst (λ (k : ℕ). get_or (set places i number) k 0 ≡ column (row_at names k) 4) e (get_or-set_same places i number 0 l))
-      (λ e _. get_or-set_other places i j number 0 (λ d. e (sym d)) ∙ h j (let d : i ≡ j → ⊥ = e in omega arith))
 
 -- Places
 

@@ -4,15 +4,15 @@
 // All functions here serve the crates above: they ask for storage of the listed sizes.
 #![tactic(auto)]
 
-ghost use Rattle.std.specs.Prelude.{◌≡◌, List, map, ℕ, ◌+◌, ◌-◌, ◌≤◌, ◌<◌, length};
+ghost use Rattle.std.specs.Prelude.{◌≡◌, List, map, ℕ, ◌+◌, ◌≤◌, ◌<◌, length};
 ghost use Rattle.std.proofs.lemmas.List.Edits.{sets};
 ghost use Rattle.arena.specs.Copies.{term_room, pattern_room, moved, copied, Copyable, Movable};
-ghost use Rattle.names.specs.Symbols.{symbols_of, variables_of};
+ghost use Rattle.names.specs.Symbols.{row_at, symbols_of, variables_of};
 ghost use Rattle.patterns.specs.Promises.{Ready};
 ghost use Rattle.sessions.specs.Goals.{variable_for};
 ghost use Rattle.sessions.specs.Storage.{names_in};
 ghost use Rattle.goals.specs.Compiling.{Bounds, GoalMade};
-ghost use Rattle.goals.specs.Storing.{NamesEntered, StoreAsked, GoalStored};
+ghost use Rattle.goals.specs.Storing.{name_row, StoreAsked, GoalStored};
 
 use arena::{PATTERN_ROOM, TERM_ROOM};
 use names::{SourceTerms, VariableRow};
@@ -78,14 +78,14 @@ pub fn compile(
     })
 }
 
-// Writes the rows of a goal's new names behind the n names of a session, with variables from `counter` on.
-fn enter_names(variables: &[VariableRow], names: &mut [NameRow], n: usize, counter: u32)
-    requires { (n ≤ length variables.now) × (length variables.now ≤ 64) × (length variables.now ≤ length names.old) × (counter + (length variables.now - n) ≤ term_room) }
-    ensures { NamesEntered variables.now n (length variables.now) counter names.old names.new }
+// Writes the rows of a goal's new names, with variables from `counter` on.
+fn enter_names(variables: &[VariableRow], names: &mut [NameRow], counter: u32)
+    requires { (length variables.now ≤ 64) × (length variables.now ≤ length names.old) × (counter + length variables.now ≤ term_room) }
+    ensures { (i : ℕ) → i < length variables.now → row_at names.new i ≡ name_row (row_at variables.now i) (counter + i) }
 {
-    for i in n..variables.len() {
-        let [kind, start, size, sort] = variables[i];
-        let x = counter + ((i - n) as u32);
+    for (i, row) in variables.iter().enumerate() {
+        let [kind, start, size, sort] = *row;
+        let x = counter + i as u32;
         names[i] = [kind, start, size, sort, x];
     }
 }
@@ -118,7 +118,7 @@ pub fn store(
     let mut places = [0u32; 64];
     let n = counts.names as usize;
     let v = goal.variables as usize;
-    enter_names(&variables[..v], names, n, counts.variables);
+    enter_names(&variables[n..v], &mut names[n..v], counts.variables);
     signature::put_column(&names[..v], VARIABLE, &mut places);
     copy_goal(pattern, goal, &places, words, counts.words)
 }

@@ -1,44 +1,20 @@
--- Laws of lent lengths: a buffer that is too short, one law for each; and what holds where none is.
+-- Laws of lent lengths: a buffer that is too short, and what holds where none is.
 use Prim.Native.Nat.{ℕ, ◌+◌, ◌*◌, ◌/◌, ◌≤◌, ◌<◌}
 use mathlib.Core.Path.{◌≡◌, refl}
 use mathlib.Core.Bool.{Bool, true, false, ◌||◌}
 use lib.Dec.{ltb}
-use borrow.Author.Tests.{lt-ltb, le-ltb, ltb-false}
+use borrow.Author.Tests.{lt-ltb, ltb-false}
 use Rattle.terms.specs.Numbers.{true_false}
 use Rattle.load_storage.specs.Storage.{short_by}
 
-module _ (text nodes tokens rows calls sorts symbols rules words evals : ℕ) where
-  pub short_tokens : tokens < text → true ≡ short_by text nodes tokens rows calls sorts symbols rules words evals
-  short_tokens l = rw (lt-ltb tokens text l) refl
+or_later : (a : Bool) {b : Bool} → true ≡ b → true ≡ (a || b)
+or_later true e = refl
+or_later false e = e
 
-  module _ (a : text ≤ tokens) where
-    pub short_rows : rows < text → true ≡ short_by text nodes tokens rows calls sorts symbols rules words evals
-    short_rows l = rw (le-ltb tokens text a, lt-ltb rows text l) refl
-
-    module _ (b : text ≤ rows) where
-      pub short_calls : calls < text + 32 → true ≡ short_by text nodes tokens rows calls sorts symbols rules words evals
-      short_calls l = rw (le-ltb tokens text a, le-ltb rows text b, lt-ltb calls (text + 32) l) refl
-
-      module _ (c : text + 32 ≤ calls) where
-        pub short_sorts : sorts < 256 → true ≡ short_by text nodes tokens rows calls sorts symbols rules words evals
-        short_sorts l = rw (le-ltb tokens text a, le-ltb rows text b, le-ltb calls (text + 32) c, lt-ltb sorts 256 l) refl
-
-        module _ (d : 256 ≤ sorts) where
-          pub short_symbols : symbols < 1024 → true ≡ short_by text nodes tokens rows calls sorts symbols rules words evals
-          short_symbols l = rw (le-ltb tokens text a, le-ltb rows text b, le-ltb calls (text + 32) c, le-ltb sorts 256 d, lt-ltb symbols 1024 l) refl
-
-          module _ (e : 1024 ≤ symbols) where
-            pub short_rules : rules < 1024 → true ≡ short_by text nodes tokens rows calls sorts symbols rules words evals
-            short_rules l = rw (le-ltb tokens text a, le-ltb rows text b, le-ltb calls (text + 32) c, le-ltb sorts 256 d, le-ltb symbols 1024 e, lt-ltb rules 1024 l) refl
-
-            module _ (f : 1024 ≤ rules) where
-              pub short_words : words < 2 * nodes → true ≡ short_by text nodes tokens rows calls sorts symbols rules words evals
-              short_words l =
-                  rw (le-ltb tokens text a, le-ltb rows text b, le-ltb calls (text + 32) c, le-ltb sorts 256 d, le-ltb symbols 1024 e, le-ltb rules 1024 f, lt-ltb words (2 * nodes) l) refl
-
-              pub short_evals : 2 * nodes ≤ words → ltb evals (text / 2) ≡ short_by text nodes tokens rows calls sorts symbols rules words evals
-              short_evals l =
-                  rw (le-ltb tokens text a, le-ltb rows text b, le-ltb calls (text + 32) c, le-ltb sorts 256 d, le-ltb symbols 1024 e, le-ltb rules 1024 f, le-ltb words (2 * nodes) l) refl
+-- With too few rows for sorts.
+pub few_sorts : (text nodes tokens rows calls sorts symbols rules words evals : ℕ) → sorts < 256 → true ≡ short_by text nodes tokens rows calls sorts symbols rules words evals
+few_sorts text nodes tokens rows calls sorts symbols rules words evals l =
+    or_later (ltb tokens text) (or_later (ltb rows text) (or_later (ltb calls (text + 32)) (rw (lt-ltb sorts 256 l) refl)))
 
 -- None is too short.
 pub record Enough (text nodes tokens rows calls sorts symbols rules words evals : ℕ) : Type 0 where

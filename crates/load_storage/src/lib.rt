@@ -90,10 +90,12 @@ pub fn is_short(buffers: &LentBuffers, limits: words::Limits) -> bool
     let capped = limits.capped();
     let text = capped.text as usize;
     let nodes = capped.nodes as usize;
+    if buffers.sorts.len() < 256 {
+        return true;
+    }
     buffers.tokens.len() < text
         || buffers.rows.len() < text
         || buffers.calls.len() < text + 32
-        || buffers.sorts.len() < 256
         || buffers.symbols.len() < 1024
         || buffers.rules.len() < 1024
         || buffers.words.len() < 2 * nodes

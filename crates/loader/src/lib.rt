@@ -17,9 +17,9 @@ ghost use Rattle.loader.specs.Arrows.{names_at, Arrowing};
 ghost use Rattle.loader.specs.SymbolEntry.{SymbolAnswered};
 
 use clauses::EnteredRule;
-use names::{SortRow, SymbolRow, TermRow};
+use names::{SortRow, SymbolRow, TermRow, Word};
 use refusals::Refusal;
-use rules::{RuleRow, SourceRule, Space, Title};
+use rules::{RulePlace, RuleRow, SourceRule, Title};
 
 // How many sorts, symbols and inputs there may be.
 const SORTS: usize = 256;
@@ -40,13 +40,6 @@ pub struct Known<'a> {
     pub text: &'a [u8],
     pub sorts: &'a [SortRow],
     pub symbols: &'a [SymbolRow],
-}
-
-// Where a word stands in the text.
-#[derive(Clone, Copy)]
-pub struct Word {
-    pub start: u32,
-    pub size: u32,
 }
 
 // A part of a declaration: its text and rows, the row at which the part begins, and how many items it has.
@@ -86,7 +79,7 @@ pub fn enter_sort(
         sorts: &sorts[..many],
         symbols,
     };
-    if is_taken(known, names::part(text, word.start, word.size)) {
+    if is_taken(known, names::part(text, word)) {
         return Err(Refusal::AlreadyDeclared);
     }
     if many < SORTS {
@@ -171,7 +164,7 @@ pub fn find_arrow(part: Part, sorts: &[SortRow], inputs: &mut [u32]) -> Option<u
     let mut last = 0;
     for i in 0..k {
         let [_, start, size, _] = rows[at + i];
-        let s = names::find(text, sorts, names::part(text, start, size))?;
+        let s = names::find(text, sorts, names::part(text, Word { start, size }))?;
         last = s as u32 + 1;
         put_input(inputs, i, last);
     }
@@ -255,24 +248,25 @@ pub fn enter_symbol(
         sorts,
         symbols: &symbols[..count],
     };
-    check_symbol(known, names::part(text, start, size), n)?;
-    let symbol = kind.head(Word { start, size }, last);
+    let word = Word { start, size };
+    check_symbol(known, names::part(text, word), n)?;
+    let symbol = kind.head(word, last);
     put_symbol(symbols, count, symbol, &inputs[..n]);
     Ok(())
 }
 
-// Enters a rule whose name stands at a place and whose judgments are a part, as the rule with a number.
+// Enters a rule, given the word that is its name and the part that has its judgments, at a place.
+// Stays: the buffers that are written are lent apart, as the store of declarations holds them; a struct of the two would be made for each call.
 pub fn enter_rule(
     part: Part,
     word: Word,
     symbols: &[SymbolRow],
     words: &mut [u32],
-    space: Space,
     rules: &mut [RuleRow],
-    number: usize,
+    place: RulePlace,
 ) -> Result<EnteredRule, Refusal>
-    requires { RuleAsked part.text.now part.rows.now part.at part.k symbols.now (length symbols.now) words.old space.used space.room rules.old }
-    ensures { RuleEntered part.entry.text.now part.entry.rows.now part.entry.at part.entry.k word.start word.size (symbols_of part.entry.text.now symbols.now (length symbols.now)) words.old space.used space.room rules.old number result words.new rules.new }
+    requires { RuleAsked part.text.now part.rows.now part.at part.k symbols.now (length symbols.now) words.old place.space.used place.space.room rules.old }
+    ensures { RuleEntered part.entry.text.now part.entry.rows.now part.entry.at part.entry.k word.start word.size (symbols_of part.entry.text.now symbols.now (length symbols.now)) words.old place.space.used place.space.room rules.old place.number result words.new rules.new }
 {
     let Part { text, rows, at, k } = part;
     let n = k - 1;
@@ -292,6 +286,6 @@ pub fn enter_rule(
         size: word.size,
         clause: 0,
     };
-    let left = rules::rule(rule, words, space, rules, number, title)?;
+    let left = rules::rule(rule, title, words, rules, place)?;
     Ok(EnteredRule { next, space: left })
 }

@@ -27,6 +27,13 @@ pub struct SourceTerms<'a> {
     pub symbols: &'a [SymbolRow],
 }
 
+// Where a word stands in a text.
+#[derive(Clone, Copy)]
+pub struct Word {
+    pub start: u32,
+    pub size: u32,
+}
+
 // The kind of a row that stands for a variable of flattening, whose place is in `RESULT_NAMES`.
 // Stays: C callers lend the rows, so a kind is a number there, and may be none of these; a type of kinds would be converted at each read and write.
 pub const RESULT: u32 = 27;
@@ -36,39 +43,39 @@ const RESULT_NAMES: [u8; 256] =
     *b"result.1\0\0\0\0\0\0\0\0result.2\0\0\0\0\0\0\0\0result.3\0\0\0\0\0\0\0\0result.4\0\0\0\0\0\0\0\0result.5\0\0\0\0\0\0\0\0result.6\0\0\0\0\0\0\0\0result.7\0\0\0\0\0\0\0\0result.8\0\0\0\0\0\0\0\0result.9\0\0\0\0\0\0\0\0result.10\0\0\0\0\0\0\0result.11\0\0\0\0\0\0\0result.12\0\0\0\0\0\0\0result.13\0\0\0\0\0\0\0result.14\0\0\0\0\0\0\0result.15\0\0\0\0\0\0\0result.16\0\0\0\0\0\0\0";
 
 // The word at a place of a text.
-pub fn part<'a>(text: &'a [u8], start: u32, size: u32) -> &'a [u8]
-    ensures { result.now ≡ part_of text.now start size }
+pub fn part<'a>(text: &'a [u8], word: Word) -> &'a [u8]
+    ensures { result.now ≡ part_of text.now word.start word.size }
 {
-    words::word(text, start as usize, size as usize)
+    words::word(text, word.start as usize, word.size as usize)
 }
 
 // Is the word at a place of a text w? Most words differ in length, so that is looked at before the place.
-fn is_word(text: &[u8], start: u32, size: u32, w: &[u8]) -> bool
-    ensures { result ≡ same_bytes (part_of text.now start size) w.now }
+fn is_word(text: &[u8], word: Word, w: &[u8]) -> bool
+    ensures { result ≡ same_bytes (part_of text.now word.start word.size) w.now }
 {
-    if w.len() != size as usize {
+    if w.len() != word.size as usize {
         if 0 < w.len() {
             return false;
         }
     }
-    words::same(part(text, start, size), w)
+    words::same(part(text, word), w)
 }
 
 // Is the name at a place of `RESULT_NAMES` w? The table is laid out wherever it is named, so the functions that read it are apart from the others.
-fn is_result(start: u32, size: u32, w: &[u8]) -> bool
-    ensures { result ≡ same_bytes (part_of result_names start size) w.now }
+fn is_result(word: Word, w: &[u8]) -> bool
+    ensures { result ≡ same_bytes (part_of result_names word.start word.size) w.now }
 {
-    words::same(part(&RESULT_NAMES, start, size), w)
+    words::same(part(&RESULT_NAMES, word), w)
 }
 
 // Is the name at a place w?
-pub fn is_named(text: &[u8], kind: u32, start: u32, size: u32, w: &[u8]) -> bool
-    ensures { result ≡ same_bytes (name_of text.now kind start size) w.now }
+pub fn is_named(text: &[u8], kind: u32, word: Word, w: &[u8]) -> bool
+    ensures { result ≡ same_bytes (name_of text.now kind word.start word.size) w.now }
 {
     if kind == RESULT {
-        return is_result(start, size, w);
+        return is_result(word, w);
     }
-    is_word(text, start, size, w)
+    is_word(text, word, w)
 }
 
 // A row with a name.
@@ -84,7 +91,8 @@ impl Named for SortRow {
     ghost name = { sort_of };
 
     fn is_called(&self, text: &[u8], w: &[u8]) -> bool {
-        is_word(text, self[0], self[1], w)
+        let [start, size] = *self;
+        is_word(text, Word { start, size }, w)
     }
 }
 
@@ -92,7 +100,11 @@ impl Named for SymbolRow {
     ghost name = { sort_of };
 
     fn is_called(&self, text: &[u8], w: &[u8]) -> bool {
-        is_word(text, self[0], self[1], w)
+        let word = Word {
+            start: self[0],
+            size: self[1],
+        };
+        is_word(text, word, w)
     }
 }
 
@@ -100,7 +112,8 @@ impl Named for VariableRow {
     ghost name = { name_in };
 
     fn is_called(&self, text: &[u8], w: &[u8]) -> bool {
-        is_named(text, self[0], self[1], self[2], w)
+        let [kind, start, size, _] = *self;
+        is_named(text, kind, Word { start, size }, w)
     }
 }
 
@@ -112,18 +125,18 @@ pub fn find<R: Named>(text: &[u8], rows: &[R], w: &[u8]) -> Option<usize>
 }
 
 // The number of the first row whose name stands at a place of `RESULT_NAMES`.
-fn find_result<R: Named>(text: &[u8], rows: &[R], start: u32, size: u32) -> Option<usize>
-    ensures { result ≡ position (λ row. same_bytes (R.name text.now row) (part_of result_names start size)) rows.now }
+fn find_result<R: Named>(text: &[u8], rows: &[R], word: Word) -> Option<usize>
+    ensures { result ≡ position (λ row. same_bytes (R.name text.now row) (part_of result_names word.start word.size)) rows.now }
 {
-    find(text, rows, part(&RESULT_NAMES, start, size))
+    find(text, rows, part(&RESULT_NAMES, word))
 }
 
 // The number of the first row whose name stands at a place.
-pub fn find_at<R: Named>(text: &[u8], rows: &[R], kind: u32, start: u32, size: u32) -> Option<usize>
-    ensures { result ≡ position (λ row. same_bytes (R.name text.now row) (name_of text.now kind start size)) rows.now }
+pub fn find_at<R: Named>(text: &[u8], rows: &[R], kind: u32, word: Word) -> Option<usize>
+    ensures { result ≡ position (λ row. same_bytes (R.name text.now row) (name_of text.now kind word.start word.size)) rows.now }
 {
     if kind == RESULT {
-        return find_result(text, rows, start, size);
+        return find_result(text, rows, word);
     }
-    find(text, rows, part(text, start, size))
+    find(text, rows, part(text, word))
 }

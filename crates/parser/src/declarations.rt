@@ -134,6 +134,7 @@ pub fn sort(
 }
 
 // `n : A → B`, from the keyword on, whose number is `kind`.
+// Stays: the kind and the number of the declaration go into one row, and have nothing else in common.
 pub fn titled<I: Item>(
     input: Input,
     from: Position,
@@ -288,6 +289,7 @@ pub fn theorem(
 }
 
 // `#eval t` or `#check t`: the keyword's number says which.
+// Stays: the kind and the number of the declaration go into one row, and have nothing else in common.
 pub fn asked(
     input: Input,
     from: Position,

@@ -12,7 +12,7 @@ ghost use Rattle.patterns.specs.Promises.{stored, entry_of, Grew, answer, Small,
 ghost use Rattle.patterns.specs.Promises.{LiesAt, EntryPlaced, MadePlaced};
 
 use arena::{HEADERS, PATTERN_ROOM, SYMBOL_STEP};
-use names::{SourceTerms, SymbolRow, TermRow, VariableRow};
+use names::{SourceTerms, SymbolRow, TermRow, VariableRow, Word};
 use refusals::Refusal;
 
 // How many variables a rule may have.
@@ -40,7 +40,7 @@ pub fn enter(
     ensures entry_placed { EntryPlaced (LiesAt (column row 0) (column row 1) (column row 2)) variables.old count result variables.new }
 {
     let [kind, start, size, _] = row;
-    match names::find_at(text, &variables[..count], kind, start, size) {
+    match names::find_at(text, &variables[..count], kind, Word { start, size }) {
         Some(index) => {
             let [k, s, l, old] = variables[index];
             if old == 0 {
@@ -114,6 +114,13 @@ fn variable(
     })
 }
 
+// The constructors of numerals, by the numbers of their symbols.
+#[derive(Clone, Copy)]
+pub struct NumeralSymbols {
+    pub zero: usize,
+    pub succ: usize,
+}
+
 // What the symbol i is refused for at a place of the sort want, with so many arguments.
 fn misfit(symbols: &[SymbolRow], i: usize, want: u32, arguments: usize) -> Result<(), Refusal>
     requires { i < length symbols.now }
@@ -133,43 +140,44 @@ fn misfit(symbols: &[SymbolRow], i: usize, want: u32, arguments: usize) -> Resul
     Ok(())
 }
 
-// What n times `succ` (the symbol y) on `zero` (the symbol z) is refused for. Without room it ends, however large n is.
+// What n times `succ` on `zero` is refused for. Without room it ends, however large n is.
 fn numeral_misfit(
     symbols: &[SymbolRow],
-    y: usize,
-    z: usize,
+    numerals: NumeralSymbols,
     n: usize,
     want: u32,
     room: usize,
 ) -> Result<(), Refusal>
-    requires { (y < length symbols.now) × (z < length symbols.now) }
-    ensures { (text : List ℕ) → RefusedFor (refusal (symbol_of text (row_at symbols.now y)) (symbol_of text (row_at symbols.now z)) n want room) result }
+    requires { (numerals.succ < length symbols.now) × (numerals.zero < length symbols.now) }
+    ensures { (text : List ℕ) → RefusedFor (refusal (symbol_of text (row_at symbols.now numerals.succ)) (symbol_of text (row_at symbols.now numerals.zero)) n want room) result }
 {
+    let NumeralSymbols { zero, succ } = numerals;
     let mut s = want;
     let mut m = room;
     for _k in 0..n {
-        misfit(symbols, y, s, 1)?;
+        misfit(symbols, succ, s, 1)?;
         if m == 0 {
             return Err(Refusal::Full);
         }
-        s = symbols[y][8];
+        s = symbols[succ][8];
         m -= 1;
     }
-    misfit(symbols, z, s, 0)?;
+    misfit(symbols, zero, s, 0)?;
     if m == 0 {
         return Err(Refusal::Full);
     }
     Ok(())
 }
 
-// Writes n times y on z behind the used words.
+// Writes n times `succ` on `zero` behind the used words.
 // Stays: the words are written behind the used ones, so that they are lent with their number.
-fn numeral_words(words: &mut [u32], used: usize, y: usize, z: usize, n: usize) -> u32
-    requires { (used + 1 + 2 * n ≤ length words.old) × (used + 2 * n ≤ 65536) × (y < 1024) × (z < 1024) }
-    ensures { lay (tower y z n) words.old used ≡ laid (result ∷ []) words.new (used + 1 + 2 * n) }
+fn numeral_words(words: &mut [u32], used: usize, numerals: NumeralSymbols, n: usize) -> u32
+    requires { (used + 1 + 2 * n ≤ length words.old) × (used + 2 * n ≤ 65536) × (numerals.succ < 1024) × (numerals.zero < 1024) }
+    ensures { lay (tower numerals.succ numerals.zero n) words.old used ≡ laid (result ∷ []) words.new (used + 1 + 2 * n) }
 {
-    words[used] = HEADERS + SYMBOL_STEP * (z as u32);
-    let h = HEADERS + 1 + SYMBOL_STEP * (y as u32);
+    let NumeralSymbols { zero, succ } = numerals;
+    words[used] = HEADERS + SYMBOL_STEP * (zero as u32);
+    let h = HEADERS + 1 + SYMBOL_STEP * (succ as u32);
     let mut u = used + 1;
     let mut r = PATTERN_ROOM + (used as u32);
     for _k in 0..n {
@@ -208,10 +216,11 @@ fn numeral(
     requires { (length symbols.now ≤ 1024) × (from.variables ≤ 64) × (from.used + 2 * from.room ≤ length words.old) × (from.used + 2 * from.room ≤ 65536) }
     ensures { Numbered text.now (symbols_of text.now symbols.now (length symbols.now)) n want from.variables from.next words.old from.used from.room result words.new }
 {
-    let z = constructor(text, symbols, b"zero").ok_or(Refusal::NoNumerals)?;
-    let y = constructor(text, symbols, b"succ").ok_or(Refusal::NoNumerals)?;
-    numeral_misfit(symbols, y, z, n, want, from.room)?;
-    let r = numeral_words(words, from.used, y, z, n);
+    let zero = constructor(text, symbols, b"zero").ok_or(Refusal::NoNumerals)?;
+    let succ = constructor(text, symbols, b"succ").ok_or(Refusal::NoNumerals)?;
+    let numerals = NumeralSymbols { zero, succ };
+    numeral_misfit(symbols, numerals, n, want, from.room)?;
+    let r = numeral_words(words, from.used, numerals, n);
     Ok(CompiledTerm {
         node: r,
         place: Place {
@@ -255,7 +264,7 @@ pub fn pattern(
     if kind == words::METAVARIABLE {
         return variable(text, variables, row, want, behind);
     }
-    match names::find_at(text, symbols, kind, start, size) {
+    match names::find_at(text, symbols, kind, Word { start, size }) {
         Some(i) => node(source, more as usize, i, want, variables, words, behind),
         None => {
             if kind == term_parser::APPLICATION {

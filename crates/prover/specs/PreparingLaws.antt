@@ -17,6 +17,7 @@ use Rattle.term_check.specs.TermRows.{TermAt}
 use Rattle.arena.specs.Cells.{Reference, cells}
 use Rattle.arena.specs.Copies.{term_room, copied}
 use Rattle.arena.specs.CopyLaws.{copied_length}
+use Rattle.names.specs.UsedLaws.{symbols_used}
 use Rattle.names.specs.Symbols.{Rows, Symbol, column, row_at, symbol_of, symbols_of, symbol_at, no_symbol}
 use Rattle.names.specs.SearchLaws.{table_length, table_at, get_d_any, columns_length}
 use Rattle.patterns.specs.Promises.{Ready}
@@ -40,6 +41,14 @@ use Rattle.goals.specs.declared.Goal.{Goal}
 use Rattle.refusals.specs.declared.Refusal.{Refusal}
 use Rattle.refusals.specs.declared.Refusal.TheVariants.{OverLimit}
 use Rattle.prover.specs.Preparing.{PrepareAsked, IsStored, Within, Prepares, Preparing}
+
+-- The symbols in use, lent as a part of a table, are the table's first ones.
+pub made_used : {text : List ℕ} {rows : Rows} {at : ℕ} {names : Rows} {w : List ℕ} {r : Result Goal Refusal} {vx : Rows} {wx : List ℕ}
+    (symbols : Rows) (count : ℕ) → count ≤ length symbols
+    → GoalMade text rows at (symbols_of text (take count symbols) (length (take count symbols))) names w r vx wx
+    → GoalMade text rows at (symbols_of text symbols count) names w r vx wx
+made_used {text} {rows} {at} {names} {w} {r} {vx} {wx} symbols count lent h =
+    subst (λ (known : List Symbol). GoalMade text rows at known names w r vx wx) (symbols_used symbols count lent text) h
 
 -- The limits
 

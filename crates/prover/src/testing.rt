@@ -7,6 +7,7 @@ use super::{ProofRow, Query};
 use sessions::StoredSession;
 
 // Are signature, goal, session and scratch in form, and is enough lent? The marks are left as they are.
+// Stays: of links, marks and stack the marks alone are written; a `Workspace` would ask for all three to be lent so.
 pub fn is_ready(
     query: Query,
     session: StoredSession,

@@ -16,6 +16,7 @@ ghost use Rattle.unifier.specs.Promises.{Tells};
 ghost use Rattle.rule_checks.specs.RuleForm.{RuleCheckable, RuleChecked};
 ghost use Rattle.rule_checks.specs.Steps.{Numbers, Columns, place_from, Parts, Walkable, RootAsked, TermAsked, Lent, premises_of, Walked, PlacedWord, OrderAsked, InOrder, InPlaces};
 
+use names::Word;
 use rules::RuleRow;
 
 // The room for variables in patterns.
@@ -28,9 +29,10 @@ const BYTES: u32 = 64;
 const RULES: u32 = 1024;
 
 // May a name have this place: inside the text, with 1 to 64 bytes?
-pub fn is_name(text: &[u8], start: u32, size: u32) -> bool
-    ensures { Tells result (NamePlace text.now start size) }
+pub fn is_name(text: &[u8], word: Word) -> bool
+    ensures { Tells result (NamePlace text.now word.start word.size) }
 {
+    let Word { start, size } = word;
     if size == 0 {
         return false;
     }
@@ -61,7 +63,11 @@ fn are_numbers(text: &[u8], rule: &RuleRow, from: u32, used: u32) -> bool
     requires { from ≤ used }
     ensures { Tells result (Numbers text.now used from rule.now) }
 {
-    if !is_name(text, rule[0], rule[1]) {
+    let word = Word {
+        start: rule[0],
+        size: rule[1],
+    };
+    if !is_name(text, word) {
         return false;
     }
     if RULES < rule[2] {

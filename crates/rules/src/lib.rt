@@ -304,18 +304,26 @@ fn keep(
     store(rules, i, &numbers, heads, variables, &places[..v]);
 }
 
-// Compiles a rule, and keeps it as the rule with a number.
+// Where a rule is entered: its number, and the space for its words.
+#[derive(Clone, Copy)]
+pub struct RulePlace {
+    pub number: usize,
+    pub space: Space,
+}
+
+// Compiles a rule, and keeps it at a place.
+// Stays: the buffers that are written are lent apart, as the store of declarations holds them; a struct of the two would be made for each call.
 pub fn rule(
     source: SourceRule,
-    words: &mut [u32],
-    space: Space,
-    rules: &mut [RuleRow],
-    number: usize,
     title: Title,
+    words: &mut [u32],
+    rules: &mut [RuleRow],
+    place: RulePlace,
 ) -> Result<Space, Refusal>
-    requires { RuleAsked source.text.now source.premises.now source.at source.n source.conclusions.now source.here source.symbols.now (length source.symbols.now) words.old space.used space.room rules.old }
-    ensures { RuleEntered source.entry.text.now source.entry.premises.now source.entry.at source.entry.n source.entry.conclusions.now source.entry.here (symbols_of source.entry.text.now source.entry.symbols.now (length source.entry.symbols.now)) title words.old space.used space.room rules.old number result words.new rules.new }
+    requires { RuleAsked source.text.now source.premises.now source.at source.n source.conclusions.now source.here source.symbols.now (length source.symbols.now) words.old place.space.used place.space.room rules.old }
+    ensures { RuleEntered source.entry.text.now source.entry.premises.now source.entry.at source.entry.n source.entry.conclusions.now source.entry.here (symbols_of source.entry.text.now source.entry.symbols.now (length source.entry.symbols.now)) title words.old place.space.used place.space.room rules.old place.number result words.new rules.new }
 {
+    let RulePlace { number, space } = place;
     let n = source.n;
     if PREMISES < n {
         return Err(Refusal::Full);

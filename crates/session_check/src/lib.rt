@@ -25,6 +25,7 @@ use signature::StoredSignature;
 
 // Is a session's storage in form, lent as the limits ask, with zero scratch? Every entry point that is lent one asks this before it
 // writes. The marks are left as they are.
+// Stays: of links, marks and stack the marks alone are written; a `Workspace` would ask for all three to be lent so.
 pub fn check_session(
     text: &[u8],
     limits: words::Limits,

@@ -4,6 +4,7 @@ ghost use Rattle.bindings.specs.Promises.{Tells};
 ghost use Rattle.sessions.specs.Storage.{NameFormed};
 ghost use Rattle.session_check.specs.Parts.{NameKind, NameNumbersFormed, NamesFormed, Rising, PlacesDistinct, NamesListed};
 
+use names::Word;
 use sessions::NameRow;
 
 // How many names there may be.
@@ -34,9 +35,10 @@ fn are_numbers_formed(sort: u32, variable: u32, known: Known) -> bool
 fn is_name_formed(text: &[u8], row: &NameRow, known: Known) -> bool
     ensures { Tells result (NameFormed text.now known.sorts known.variables row.now) }
 {
-    is_name_kind(row[0])
-        && rule_checks::is_name(text, row[1], row[2])
-        && are_numbers_formed(row[3], row[4], known)
+    let [kind, start, size, sort, variable] = *row;
+    is_name_kind(kind)
+        && rule_checks::is_name(text, Word { start, size })
+        && are_numbers_formed(sort, variable, known)
 }
 
 // Are the rows of names in form?

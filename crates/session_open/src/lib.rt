@@ -9,6 +9,7 @@ use refusals::Refusal;
 use sessions::NameRow;
 
 // Opens a session in lent storage.
+// Stays: programs in C lend each buffer by itself, and all are only zeroed here; a struct of them would be made for this one call.
 pub fn open(
     limits: words::Limits,
     names: &mut [NameRow],

@@ -25,6 +25,7 @@ pub struct StoredSession<'a> {
 
 // The verdict on a goal that is not refused, with the steps used in the last bound and the counts then, and for a proof the number of its
 // nodes. After a refusal the counts are those at entry.
+// Stays: no case is an error: each is an answer to the goal.
 #[derive(Clone, Copy)]
 pub enum Verdict {
     Proved {

@@ -16,7 +16,7 @@ ghost use Rattle.signature.specs.Storage.{store_of, SignatureChecked};
 mod functions;
 
 use loader::{FUNCTION, NO_FUNCTION};
-use names::{SortRow, SymbolRow};
+use names::{SortRow, SymbolRow, Word};
 use rules::RuleRow;
 
 // How many sorts, symbols and rules there may be, and inputs of a symbol.
@@ -84,7 +84,8 @@ fn are_sorts_named(text: &[u8], sorts: &[SortRow]) -> bool
     ensures { Tells result (SortsNamed text.now sorts.now (length sorts.now)) }
 {
     for row in sorts {
-        if !rule_checks::is_name(text, row[0], row[1]) {
+        let [start, size] = *row;
+        if !rule_checks::is_name(text, Word { start, size }) {
             return false;
         }
     }
@@ -162,7 +163,11 @@ fn are_inputs_formed(sorts: u32, row: &SymbolRow) -> bool
 fn is_symbol_formed(text: &[u8], row: &SymbolRow, counts: Counts) -> bool
     ensures { Tells result (SymbolFormed text.now counts.sorts counts.rules row.now) }
 {
-    if !rule_checks::is_name(text, row[0], row[1]) {
+    let word = Word {
+        start: row[0],
+        size: row[1],
+    };
+    if !rule_checks::is_name(text, word) {
         return false;
     }
     if !are_numbers_formed(counts.sorts, row[2], row[6], row[7]) {
@@ -178,6 +183,7 @@ fn is_symbol_formed(text: &[u8], row: &SymbolRow, counts: Counts) -> bool
 }
 
 // Are the rows of symbols in form?
+// Stays: like `session_check::are_names_formed` with other rows and another test; one function of both would take the test as a closure, and tell of its answers.
 fn are_symbols_formed(text: &[u8], symbols: &[SymbolRow], counts: Counts) -> bool
     ensures { Tells result (SymbolsFormed text.now counts.sorts counts.rules symbols.now (length symbols.now)) }
 {

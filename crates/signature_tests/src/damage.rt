@@ -1,7 +1,7 @@
 // Damaged signatures, which `check_signature` must refuse: in a stored one that it accepts a single number is changed, and then put back.
-ghost use Rattle.std.specs.Prelude.{◌≡◌, ◌<◌, length, slice_set};
+ghost use Rattle.std.specs.Prelude.{◌≡◌, ◌<◌, length};
 ghost use Rattle.signature.specs.Storage.{SignatureChecked};
-ghost use Rattle.signature_tests.specs.Damage.{changed, loaded_in};
+ghost use Rattle.signature_tests.specs.Damage.{Stands, number_at, changed, loaded_in};
 
 use crate::buffers;
 use names::{SortRow, SymbolRow};
@@ -53,6 +53,15 @@ struct Loaded<'a> {
     counts: Counts,
 }
 
+// Where a number stands: in a column of a row of one of the tables, or among the words.
+#[derive(Clone, Copy)]
+enum Spot {
+    Sort { row: usize, column: usize },
+    Symbol { row: usize, column: usize },
+    Rule { row: usize, column: usize },
+    Word { at: usize },
+}
+
 // Is it accepted as it stands?
 fn is_taken(loaded: &Loaded) -> bool
     ensures { SignatureChecked loaded.now.text.now (loaded_in loaded.now) result }
@@ -69,58 +78,45 @@ fn is_taken(loaded: &Loaded) -> bool
     )
 }
 
-// Is it accepted with another number in the row of a sort? The storage is left as it was.
-// Stays: the four functions write four fields; one function would need the field lent and the rest tested in a closure, which reads no plainer.
-fn is_taken_with_sort(loaded: &mut Loaded, i: usize, column: usize, value: u32) -> bool
-    requires { (i < length loaded.old.sorts.now) × (column < 2) }
-    ensures checked { SignatureChecked loaded.old.text.now (record (loaded_in loaded.old) { sorts = changed loaded.old.sorts.now i column value }) result }
-    ensures kept { loaded.new ≡ loaded.old }
+// Puts a number at a place, and answers the one that stood there.
+fn exchange(loaded: &mut Loaded, spot: Spot, value: u32) -> u32
+    requires { Stands spot loaded.old }
+    ensures before { result ≡ number_at spot loaded.old }
+    ensures changed { loaded.new ≡ changed spot loaded.old value }
 {
-    let kept = loaded.sorts[i];
-    loaded.sorts[i][column] = value;
-    let taken = is_taken(loaded);
-    loaded.sorts[i] = kept;
-    taken
+    match spot {
+        Spot::Sort { row, column } => {
+            let before = loaded.sorts[row][column];
+            loaded.sorts[row][column] = value;
+            before
+        }
+        Spot::Symbol { row, column } => {
+            let before = loaded.symbols[row][column];
+            loaded.symbols[row][column] = value;
+            before
+        }
+        Spot::Rule { row, column } => {
+            let before = loaded.rules[row][column];
+            loaded.rules[row][column] = value;
+            before
+        }
+        Spot::Word { at } => {
+            let before = loaded.words[at];
+            loaded.words[at] = value;
+            before
+        }
+    }
 }
 
-// Is it accepted with another number in the row of a symbol? The storage is left as it was.
-// Stays: the four functions write four fields; one function would need the field lent and the rest tested in a closure, which reads no plainer.
-fn is_taken_with_symbol(loaded: &mut Loaded, i: usize, column: usize, value: u32) -> bool
-    requires { (i < length loaded.old.symbols.now) × (column < 24) }
-    ensures checked { SignatureChecked loaded.old.text.now (record (loaded_in loaded.old) { symbols = changed loaded.old.symbols.now i column value }) result }
+// Is it accepted with another number at a place? The storage is left as it was.
+fn is_taken_with(loaded: &mut Loaded, spot: Spot, value: u32) -> bool
+    requires { Stands spot loaded.old }
+    ensures checked { SignatureChecked loaded.old.text.now (loaded_in (changed spot loaded.old value)) result }
     ensures kept { loaded.new ≡ loaded.old }
 {
-    let kept = loaded.symbols[i];
-    loaded.symbols[i][column] = value;
+    let before = exchange(loaded, spot, value);
     let taken = is_taken(loaded);
-    loaded.symbols[i] = kept;
-    taken
-}
-
-// Is it accepted with another number in the row of a rule? The storage is left as it was.
-// Stays: the four functions write four fields; one function would need the field lent and the rest tested in a closure, which reads no plainer.
-fn is_taken_with_rule(loaded: &mut Loaded, i: usize, column: usize, value: u32) -> bool
-    requires { (i < length loaded.old.rules.now) × (column < 154) }
-    ensures checked { SignatureChecked loaded.old.text.now (record (loaded_in loaded.old) { rules = changed loaded.old.rules.now i column value }) result }
-    ensures kept { loaded.new ≡ loaded.old }
-{
-    let kept = loaded.rules[i];
-    loaded.rules[i][column] = value;
-    let taken = is_taken(loaded);
-    loaded.rules[i] = kept;
-    taken
-}
-
-// Is it accepted with another number as a word? The storage is left as it was.
-fn is_taken_with_word(loaded: &mut Loaded, i: usize, value: u32) -> bool
-    requires { i < length loaded.old.words.now }
-    ensures checked { SignatureChecked loaded.old.text.now (record (loaded_in loaded.old) { words = slice_set loaded.old.words.now i value }) result }
-    ensures kept { loaded.new ≡ loaded.old }
-{
-    let kept = loaded.words[i];
-    loaded.words[i] = value;
-    let taken = is_taken(loaded);
-    loaded.words[i] = kept;
+    exchange(loaded, spot, before);
     taken
 }
 
@@ -135,11 +131,32 @@ fn test_sort(loaded: &mut Loaded, i: usize)
     ensures { loaded.new ≡ loaded.old }
 {
     let past = end(loaded.text);
-    let taken = is_taken_with_sort(loaded, i, PLACE, past);
+    let taken = is_taken_with(
+        loaded,
+        Spot::Sort {
+            row: i,
+            column: PLACE,
+        },
+        past,
+    );
     buffers::expect(!taken, b"refused with a sort's name past the text");
-    let empty = is_taken_with_sort(loaded, i, SIZE, 0);
+    let empty = is_taken_with(
+        loaded,
+        Spot::Sort {
+            row: i,
+            column: SIZE,
+        },
+        0,
+    );
     buffers::expect(!empty, b"refused with an empty sort's name");
-    let long = is_taken_with_sort(loaded, i, SIZE, BYTES + 1);
+    let long = is_taken_with(
+        loaded,
+        Spot::Sort {
+            row: i,
+            column: SIZE,
+        },
+        BYTES + 1,
+    );
     buffers::expect(!long, b"refused with a sort's name of 65 bytes");
 }
 
@@ -149,10 +166,24 @@ fn test_symbol(loaded: &mut Loaded, i: usize)
     ensures { loaded.new ≡ loaded.old }
 {
     let past = end(loaded.text);
-    let placed = is_taken_with_symbol(loaded, i, PLACE, past);
+    let placed = is_taken_with(
+        loaded,
+        Spot::Symbol {
+            row: i,
+            column: PLACE,
+        },
+        past,
+    );
     buffers::expect(!placed, b"refused with a symbol's name past the text");
     let no_sort = std::num::wrapping_add_u32(loaded.counts.sorts, 1);
-    let sorted = is_taken_with_symbol(loaded, i, OUTPUT, no_sort);
+    let sorted = is_taken_with(
+        loaded,
+        Spot::Symbol {
+            row: i,
+            column: OUTPUT,
+        },
+        no_sort,
+    );
     buffers::expect(!sorted, b"refused with an output past the sorts");
 }
 
@@ -161,9 +192,23 @@ fn test_symbol_name(loaded: &mut Loaded, i: usize)
     requires { i < length loaded.old.symbols.now }
     ensures { loaded.new ≡ loaded.old }
 {
-    let empty = is_taken_with_symbol(loaded, i, SIZE, 0);
+    let empty = is_taken_with(
+        loaded,
+        Spot::Symbol {
+            row: i,
+            column: SIZE,
+        },
+        0,
+    );
     buffers::expect(!empty, b"refused with an empty symbol's name");
-    let long = is_taken_with_symbol(loaded, i, SIZE, BYTES + 1);
+    let long = is_taken_with(
+        loaded,
+        Spot::Symbol {
+            row: i,
+            column: SIZE,
+        },
+        BYTES + 1,
+    );
     buffers::expect(!long, b"refused with a symbol's name of 65 bytes");
 }
 
@@ -176,7 +221,14 @@ fn test_first_clause(loaded: &mut Loaded, i: usize)
     if first == 0 {
         return;
     }
-    let taken = is_taken_with_symbol(loaded, i, FIRST, first - 1);
+    let taken = is_taken_with(
+        loaded,
+        Spot::Symbol {
+            row: i,
+            column: FIRST,
+        },
+        first - 1,
+    );
     buffers::expect(!taken, b"refused with a clause of another function");
 }
 
@@ -190,14 +242,35 @@ fn test_rule_name(loaded: &mut Loaded, i: usize)
     requires { i < length loaded.old.rules.now }
     ensures { loaded.new ≡ loaded.old }
 {
-    let empty = is_taken_with_rule(loaded, i, SIZE, 0);
+    let empty = is_taken_with(
+        loaded,
+        Spot::Rule {
+            row: i,
+            column: SIZE,
+        },
+        0,
+    );
     buffers::expect(!empty, b"refused with an empty rule's name");
-    let long = is_taken_with_rule(loaded, i, SIZE, BYTES + 1);
+    let long = is_taken_with(
+        loaded,
+        Spot::Rule {
+            row: i,
+            column: SIZE,
+        },
+        BYTES + 1,
+    );
     buffers::expect(!long, b"refused with a rule's name of 65 bytes");
     if !has_bytes(loaded.text, loaded.rules[i][PLACE]) {
         return;
     }
-    let taken = is_taken_with_rule(loaded, i, SIZE, BYTES);
+    let taken = is_taken_with(
+        loaded,
+        Spot::Rule {
+            row: i,
+            column: SIZE,
+        },
+        BYTES,
+    );
     buffers::expect(taken, b"accepted with a rule's name of 64 bytes");
 }
 
@@ -206,9 +279,23 @@ fn test_clause(loaded: &mut Loaded, i: usize)
     requires { i < length loaded.old.rules.now }
     ensures { loaded.new ≡ loaded.old }
 {
-    let last = is_taken_with_rule(loaded, i, CLAUSE, CLAUSES);
+    let last = is_taken_with(
+        loaded,
+        Spot::Rule {
+            row: i,
+            column: CLAUSE,
+        },
+        CLAUSES,
+    );
     buffers::expect(last, b"accepted with the clause number 1,024");
-    let past = is_taken_with_rule(loaded, i, CLAUSE, CLAUSES + 1);
+    let past = is_taken_with(
+        loaded,
+        Spot::Rule {
+            row: i,
+            column: CLAUSE,
+        },
+        CLAUSES + 1,
+    );
     buffers::expect(!past, b"refused with the clause number 1,025");
 }
 
@@ -218,7 +305,14 @@ fn test_variables(loaded: &mut Loaded, i: usize)
     ensures { loaded.new ≡ loaded.old }
 {
     let more = std::num::wrapping_add_u32(loaded.rules[i][VARIABLES], 1);
-    let taken = is_taken_with_rule(loaded, i, VARIABLES, more);
+    let taken = is_taken_with(
+        loaded,
+        Spot::Rule {
+            row: i,
+            column: VARIABLES,
+        },
+        more,
+    );
     buffers::expect(!taken, b"refused with one variable more");
 }
 
@@ -237,17 +331,15 @@ fn test_premise(loaded: &mut Loaded, i: usize)
         return;
     }
     let past = past_premises(row[FIRST_WORD], row[PREMISE_WORDS]);
-    let taken = is_taken_with_rule(loaded, i, FIRST_PREMISE, past);
+    let taken = is_taken_with(
+        loaded,
+        Spot::Rule {
+            row: i,
+            column: FIRST_PREMISE,
+        },
+        past,
+    );
     buffers::expect(!taken, b"refused with a premise past its part");
-}
-
-// Tests one word.
-fn test_word(loaded: &mut Loaded, i: usize)
-    requires { i < length loaded.old.words.now }
-    ensures { loaded.new ≡ loaded.old }
-{
-    let taken = is_taken_with_word(loaded, i, NO_WORD);
-    buffers::expect(!taken, b"refused with a word that is none");
 }
 
 // Tests each sort.
@@ -289,7 +381,8 @@ fn test_words(loaded: &mut Loaded)
     ensures { loaded.new ≡ loaded.old }
 {
     for i in 0..usize::min(loaded.counts.words as usize, loaded.words.len()) {
-        test_word(loaded, i);
+        let taken = is_taken_with(loaded, Spot::Word { at: i }, NO_WORD);
+        buffers::expect(!taken, b"refused with a word that is none");
     }
 }
 

@@ -10,6 +10,7 @@ pub fn byte(text: &[u8], at: usize) -> u8
 }
 
 // Are two words the same, byte by byte?
+// Stays: the library's `==` with its promise in the words of the definitions, which the callers' contracts use.
 pub fn same(v: &[u8], w: &[u8]) -> bool
     ensures { result ≡ same_bytes v.now w.now }
 {

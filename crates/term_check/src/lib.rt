@@ -10,21 +10,24 @@ ghost use Rattle.source_text.specs.Parts.{part_of};
 ghost use Rattle.term_check.specs.TermRows.{Checking};
 ghost use Rattle.term_check.specs.Walk.{is_word_place, is_held, Topped};
 
+use names::Word;
+
 // The levels of a term of depth 131, the deepest that is parsed, and one more for what would follow there.
 const LEVELS: usize = 132;
 
 // Is a place a word's, inside the text and of 1 to 64 bytes?
-fn is_word_place(text: &[u8], start: u32, size: u32) -> bool
-    ensures { result ≡ is_word_place text.now start size }
+fn is_word_place(text: &[u8], word: Word) -> bool
+    ensures { result ≡ is_word_place text.now word.start word.size }
 {
+    let Word { start, size } = word;
     0 < size && size <= 64 && start as usize + size as usize <= text.len()
 }
 
 // Is a number the value of the numeral at a place, 2^32 - 1 for a larger one?
-fn is_held(text: &[u8], start: u32, size: u32, held: u32) -> bool
-    ensures { result ≡ is_held (numeral_of (part_of text.now start size)) held }
+fn is_held(text: &[u8], word: Word, held: u32) -> bool
+    ensures { result ≡ is_held (numeral_of (part_of text.now word.start word.size)) held }
 {
-    match words::numeral(text, start as usize, size as usize) {
+    match words::numeral(text, word.start as usize, word.size as usize) {
         Some(v) => u64::from(held) == v.min(u64::from(u32::MAX)),
         None => false,
     }
@@ -34,12 +37,13 @@ fn is_held(text: &[u8], start: u32, size: u32, held: u32) -> bool
 fn top_of(text: &[u8], row: [u32; 4]) -> Option<u32>
     ensures { Topped text.now row result }
 {
-    let count = row[3];
-    if !is_word_place(text, row[1], row[2]) {
+    let [kind, start, size, count] = row;
+    let word = Word { start, size };
+    if !is_word_place(text, word) {
         return None;
     }
-    match row[0] {
-        words::NUMERAL => is_held(text, row[1], row[2], count).then_some(0),
+    match kind {
+        words::NUMERAL => is_held(text, word, count).then_some(0),
         term_parser::APPLICATION => if count == 0 { None } else { Some(count) },
         words::METAVARIABLE | words::NAME => (count == 0).then_some(0),
         _ => None,

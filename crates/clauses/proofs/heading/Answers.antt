@@ -25,4 +25,4 @@ returns c =
     let args = c.args in
     let skip = c.skip-end in
     let move-rows = c.move_rows in
-    headed pre (args.start) (args.size) (skip.result) _ (skip.ensures) (move-rows.ensures)
+    headed pre (args.word.start) (args.word.size) (skip.result) _ (skip.ensures) (move-rows.ensures)

@@ -17,15 +17,6 @@ returns-then-rows-p c =
       behind = left_past (args.rows.now) (args.at) (args.n) (loop.p) (loop.left) (loop.invariant.2) loop-test.true if1.true;
     }
 
-pub overflow_sub-left : goal.overflow_sub-left
-overflow_sub-left c = omega arith
-
-pub overflow_add-left : goal.overflow_add-left
-overflow_add-left c = let i = c.loop-left.invariant in let e = c.arity-more.ensures.value in let f = c.arity-more.ensures.upper_bound in omega arith
-
-pub loop-left-smaller : goal.loop-left-smaller
-loop-left-smaller c = let i = c.loop-left.invariant in omega (arith, c.if-rows-p.false)
-
 pub loop-left-preserved : goal.loop-left-preserved
 loop-left-preserved c =
     let arity = c.arity-more in

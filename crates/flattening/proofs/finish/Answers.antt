@@ -1,14 +1,7 @@
 -- `finish` meets its contract: the call's row, its arguments and its result variable are written behind the premises.
-use lib.ListN.{length-set}
 use Rattle.flattening.proofs.PremiseLaws.{replaced}
 use native.Mathlib.Omega.{arith}
 use Rattle.flattening.proofs.finish.Goals as goal
-
-pub move_rows-requires : goal.move_rows-requires
-move_rows-requires c = (omega arith, simp length-set (omega arith))
-
-pub bounds-calls-stop : goal.bounds-calls-stop
-bounds-calls-stop c = let k = simp length-set at c.move_rows.ensures.kept in omega arith
 
 pub returns : goal.returns
 returns c =
@@ -17,4 +10,4 @@ returns c =
     let move-rows = c.move_rows in
     let pre = c.requires in
     let if1 = c.if-number-eq-CALLS in
-    replaced args.out.now args.calls.now _ args.top args.from.top args.from.end args.from.number args.start args.size args.args result-length.result args.from.next move-rows.ensures pre.0 pre.1 pre.2 (omega (arith, if1.false)) result-length.ensures
+    replaced args.out.now args.calls.now _ args.top args.from.top args.from.end args.from.number args.word.start args.word.size args.args result-length.result args.from.next move-rows.ensures pre.0 pre.1 pre.2 (omega (arith, if1.false)) result-length.ensures

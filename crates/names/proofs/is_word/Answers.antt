@@ -8,9 +8,9 @@ use Rattle.names.proofs.is_word.Goals as goal
 pub returns-then-w-gt0 : goal.returns-then-w-gt0
 returns-then-w-gt0 c =
     let args = c.args in
-    let if1 = c.if-w-size in
+    let if1 = c.if-w-word in
     let if2 = c.if-w-gt0 in
-    other_length args.text.now args.start args.size args.w.now if1.true if2.true
+    other_length args.text.now args.word.start args.word.size args.w.now if1.true if2.true
 
 pub returns : goal.returns
 returns c = c.same.ensures ∙ ap (λ (x : Name). same_bytes x c.args.w.now) c.part.ensures

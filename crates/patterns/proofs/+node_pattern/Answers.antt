@@ -54,14 +54,6 @@ node-bounds-symbols-k t c =
     let x = pre.0.inputs (args.i) (pre.1.0) in
     omega arith
 
-pub node-pattern-requires : goal.node-pattern-requires
-node-pattern-requires t c =
-    let loop = c.loop-k in
-    let pre = c.requires in
-    let L = loop.invariant in
-    let y0 = pre in
-    (omega arith, record { lent = pre.0.lent; few = pre.0.few; inputs = pre.0.inputs; variables = omega arith; entered = L.bound; words = omega arith; low = omega arith })
-
 pub node-returns-in_err-made : goal.node-returns-in_err-made
 node-returns-in_err-made t c =
     let args = c.args in
@@ -122,19 +114,6 @@ node-slice_bounds-push_node-end t c =
     let six = loop.invariant.sixteen in
     let n : length (take (args.arguments) (loop.refs)) ≡ args.arguments = length-take-le (args.arguments) (loop.refs) (omega arith) in
     sym n
-
-pub node-push_node-requires : goal.node-push_node-requires
-node-push_node-requires t c =
-    let args = c.args in
-    let pre = c.requires in
-    let loop = c.loop-k in
-    let b : args.arguments ≡ column (row_at (args.source.symbols.now) (args.i)) 6 = misfit_args (args.source.text.now) (row_at (args.source.symbols.now) (args.i)) (args.want) (args.arguments) (c.in_ok-misfit.ensures args.source.text.now) in
-    let x = pre.0.inputs (args.i) (pre.1.0) in
-    let L = loop.invariant in
-    let six = L.sixteen in
-    let y0 = pre in
-    let n : length (take (args.arguments) (loop.refs)) ≡ args.arguments = length-take-le (args.arguments) (loop.refs) (omega arith) in
-    rw n (omega arith)
 
 pub node-returns : goal.node-returns
 node-returns t c =
@@ -198,13 +177,6 @@ pattern-returns-then-kind-eq-METAVARIABLE t c =
             ∙ ap (λ (y : Out one). stored [] y (args.words.now) (args.from.used)) x.1,
       );
     }
-
-pub pattern-node-requires : goal.pattern-node-requires
-pattern-node-requires t c =
-    let args = c.args in
-    let pre = c.requires in
-    let e = some_symbol args.source.text.now args.source.symbols.now (name_of args.source.text.now (column (row_at args.source.rows.now args.from.next) 0) (column (row_at args.source.rows.now args.from.next) 1) (column (row_at args.source.rows.now args.from.next) 2)) c.in-Some.i c.in-Some.ensures in
-    (omega arith, (pre, (e.1, omega arith)))
 
 pub pattern-returns-in-Some : goal.pattern-returns-in-Some
 pattern-returns-in-Some t c =

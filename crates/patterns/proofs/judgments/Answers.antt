@@ -13,22 +13,6 @@ loop-k-init c =
     let pre = c.requires in
     loop_start (args.source.text.now) (args.source.rows.now) (args.from.next) (args.n) (symbols_of (args.source.text.now) (args.source.symbols.now) (length args.source.symbols.now)) [] (args.variables.now) (args.from.variables) (args.words.now) (args.from.used) (args.from.room) (args.heads.now) (pre.fact_1.entered) (pre.fact_2.1)
 
-pub pattern-requires : goal.pattern-requires
-pattern-requires c =
-    let loop = c.loop-k in
-    let pre = c.requires in
-    let L = loop.invariant in
-    let y0 = pre in
-    record {
-      lent = pre.fact_1.lent;
-      few = pre.fact_1.few;
-      inputs = pre.fact_1.inputs;
-      variables = omega arith;
-      entered = L.bound;
-      words = omega arith;
-      low = omega arith;
-    }
-
 pub returns-in_err-made : goal.returns-in_err-made
 returns-in_err-made c =
     let args = c.args in
@@ -40,12 +24,6 @@ returns-in_err-made c =
       small = tt;
       same = λ ts q st cn. (tt, loop_refused (args.source.text.now) (args.source.rows.now) (args.from.next) (args.n) (symbols_of (args.source.text.now) (args.source.symbols.now) (length args.source.symbols.now)) [] (args.variables.now) (args.from.variables) (args.words.now) (args.from.used) (args.from.room) (loop.k) (loop.place.next) (loop.variables) (loop.place.variables) (loop.words) (loop.place.used) (loop.place.room) (loop.heads) (loop.invariant) (loop-test.true) 0 (nothing_asked (loop.k)) (pattern.result) _ _ (pattern.ensures) c.in_err-made.was ts q st cn);
     })
-
-pub bounds-heads-k : goal.bounds-heads-k
-bounds-heads-k c =
-    let loop = c.loop-k in
-    let pre = c.requires in
-    omega (arith, loop.invariant.sixteen, pre.fact_2)
 
 pub loop-k-preserved : goal.loop-k-preserved
 loop-k-preserved c =

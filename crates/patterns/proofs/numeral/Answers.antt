@@ -10,33 +10,33 @@ use Rattle.patterns.proofs.Numerals.{constructor_some, constructor_none, no_zero
 use native.Mathlib.Omega.{arith}
 use Rattle.patterns.proofs.numeral.Goals as goal
 
-pub returns-in_err-z : goal.returns-in_err-z
-returns-in_err-z c =
+pub returns-in_err-zero : goal.returns-in_err-zero
+returns-in_err-zero c =
     let a = c.args in
     let h : length a.symbols.now ≤ length a.symbols.now = omega arith in
     let ss = symbols_of a.text.now a.symbols.now (length a.symbols.now) in
-    rw (handed_on c.from_residual.result c.from_residual.ensures.1, none_is c.constructor.result c.in_err-z.ensures.ok_part c.in_err-z.ensures.value)
+    rw (handed_on c.from_residual.result c.from_residual.ensures.1, none_is c.constructor.result c.in_err-zero.ensures.ok_part c.in_err-zero.ensures.value)
     (record {
       small = tt;
       going = tt;
       none_new = tt;
       same = λ vx. no_zero a.text.now a.symbols.now (length a.symbols.now) h a.n a.want (variables_of a.text.now vx a.from.variables) a.from.room a.words.now a.from.used
-          (constructor_none ss zero_name (sym c.in_err-z.ensures.ok_part ∙ c.constructor.ensures));
+          (constructor_none ss zero_name (sym c.in_err-zero.ensures.ok_part ∙ c.constructor.ensures));
     })
 
-pub returns-in_err-y : goal.returns-in_err-y
-returns-in_err-y c =
+pub returns-in_err-succ : goal.returns-in_err-succ
+returns-in_err-succ c =
     let a = c.args in
     let h : length a.symbols.now ≤ length a.symbols.now = omega arith in
     let ss = symbols_of a.text.now a.symbols.now (length a.symbols.now) in
-    let (ez, cz, lz) = constructor_some ss zero_name c.in_ok-z.z (sym c.in_ok-z.ensures.ok_part ∙ c.constructor.ensures) in
-    rw (handed_on c.from_residual-in_err-y.result c.from_residual-in_err-y.ensures.1, none_is c.constructor-2.result c.in_err-y.ensures.ok_part c.in_err-y.ensures.value)
+    let (ez, cz, lz) = constructor_some ss zero_name c.in_ok-zero.zero (sym c.in_ok-zero.ensures.ok_part ∙ c.constructor.ensures) in
+    rw (handed_on c.from_residual-in_err-succ.result c.from_residual-in_err-succ.ensures.1, none_is c.constructor-2.result c.in_err-succ.ensures.ok_part c.in_err-succ.ensures.value)
     (record {
       small = tt;
       going = tt;
       none_new = tt;
       same = λ vx. no_succ a.text.now a.symbols.now (length a.symbols.now) h a.n a.want (variables_of a.text.now vx a.from.variables) a.from.room a.words.now a.from.used ez cz lz
-          (constructor_none ss succ_name (sym c.in_err-y.ensures.ok_part ∙ c.constructor-2.ensures));
+          (constructor_none ss succ_name (sym c.in_err-succ.ensures.ok_part ∙ c.constructor-2.ensures));
     })
 
 pub numeral_misfit-requires : goal.numeral_misfit-requires
@@ -44,8 +44,8 @@ numeral_misfit-requires c =
     let a = c.args in
     let h : length a.symbols.now ≤ length a.symbols.now = omega arith in
     let ss = symbols_of a.text.now a.symbols.now (length a.symbols.now) in
-    let (ez, cz, lz) = constructor_some ss zero_name c.in_ok-z.z (sym c.in_ok-z.ensures.ok_part ∙ c.constructor.ensures) in
-    let (ey, cy, ly) = constructor_some ss succ_name c.in_ok-y.y (sym c.in_ok-y.ensures.ok_part ∙ c.constructor-2.ensures) in
+    let (ez, cz, lz) = constructor_some ss zero_name c.in_ok-zero.zero (sym c.in_ok-zero.ensures.ok_part ∙ c.constructor.ensures) in
+    let (ey, cy, ly) = constructor_some ss succ_name c.in_ok-succ.succ (sym c.in_ok-succ.ensures.ok_part ∙ c.constructor-2.ensures) in
     let (b, d) = inside a.text.now a.symbols.now (length a.symbols.now) h a.n a.want [] a.from.room a.words.now a.from.used ez cz lz ey cy ly in
     (omega arith, omega arith)
 
@@ -54,8 +54,8 @@ returns-in_err-numeral_misfit c =
     let a = c.args in
     let h : length a.symbols.now ≤ length a.symbols.now = omega arith in
     let ss = symbols_of a.text.now a.symbols.now (length a.symbols.now) in
-    let (ez, cz, lz) = constructor_some ss zero_name c.in_ok-z.z (sym c.in_ok-z.ensures.ok_part ∙ c.constructor.ensures) in
-    let (ey, cy, ly) = constructor_some ss succ_name c.in_ok-y.y (sym c.in_ok-y.ensures.ok_part ∙ c.constructor-2.ensures) in
+    let (ez, cz, lz) = constructor_some ss zero_name c.in_ok-zero.zero (sym c.in_ok-zero.ensures.ok_part ∙ c.constructor.ensures) in
+    let (ey, cy, ly) = constructor_some ss succ_name c.in_ok-succ.succ (sym c.in_ok-succ.ensures.ok_part ∙ c.constructor-2.ensures) in
     let e = c.in_err-numeral_misfit.ensures a.text.now in
     rw (handed_on c.from_residual-in_err-numeral_misfit.result c.from_residual-in_err-numeral_misfit.ensures.1)
     (record {
@@ -70,8 +70,8 @@ numeral_words-r-requires c =
     let a = c.args in
     let h : length a.symbols.now ≤ length a.symbols.now = omega arith in
     let ss = symbols_of a.text.now a.symbols.now (length a.symbols.now) in
-    let (ez, cz, lz) = constructor_some ss zero_name c.in_ok-z.z (sym c.in_ok-z.ensures.ok_part ∙ c.constructor.ensures) in
-    let (ey, cy, ly) = constructor_some ss succ_name c.in_ok-y.y (sym c.in_ok-y.ensures.ok_part ∙ c.constructor-2.ensures) in
+    let (ez, cz, lz) = constructor_some ss zero_name c.in_ok-zero.zero (sym c.in_ok-zero.ensures.ok_part ∙ c.constructor.ensures) in
+    let (ey, cy, ly) = constructor_some ss succ_name c.in_ok-succ.succ (sym c.in_ok-succ.ensures.ok_part ∙ c.constructor-2.ensures) in
     let (b, d) = inside a.text.now a.symbols.now (length a.symbols.now) h a.n a.want [] a.from.room a.words.now a.from.used ez cz lz ey cy ly in
     let l : a.n < a.from.room = number_room a.text.now a.symbols.now (length a.symbols.now) h a.n a.want [] a.from.room a.words.now a.from.used ez cz lz ey cy ly (c.in_ok-numeral_misfit.ensures a.text.now) in
     (omega arith, omega arith, omega arith, omega arith)
@@ -81,8 +81,8 @@ overflow_mul-result c =
     let a = c.args in
     let h : length a.symbols.now ≤ length a.symbols.now = omega arith in
     let ss = symbols_of a.text.now a.symbols.now (length a.symbols.now) in
-    let (ez, cz, lz) = constructor_some ss zero_name c.in_ok-z.z (sym c.in_ok-z.ensures.ok_part ∙ c.constructor.ensures) in
-    let (ey, cy, ly) = constructor_some ss succ_name c.in_ok-y.y (sym c.in_ok-y.ensures.ok_part ∙ c.constructor-2.ensures) in
+    let (ez, cz, lz) = constructor_some ss zero_name c.in_ok-zero.zero (sym c.in_ok-zero.ensures.ok_part ∙ c.constructor.ensures) in
+    let (ey, cy, ly) = constructor_some ss succ_name c.in_ok-succ.succ (sym c.in_ok-succ.ensures.ok_part ∙ c.constructor-2.ensures) in
     let l : a.n < a.from.room = number_room a.text.now a.symbols.now (length a.symbols.now) h a.n a.want [] a.from.room a.words.now a.from.used ez cz lz ey cy ly (c.in_ok-numeral_misfit.ensures a.text.now) in
     omega arith
 
@@ -91,8 +91,8 @@ overflow_add-result-2 c =
     let a = c.args in
     let h : length a.symbols.now ≤ length a.symbols.now = omega arith in
     let ss = symbols_of a.text.now a.symbols.now (length a.symbols.now) in
-    let (ez, cz, lz) = constructor_some ss zero_name c.in_ok-z.z (sym c.in_ok-z.ensures.ok_part ∙ c.constructor.ensures) in
-    let (ey, cy, ly) = constructor_some ss succ_name c.in_ok-y.y (sym c.in_ok-y.ensures.ok_part ∙ c.constructor-2.ensures) in
+    let (ez, cz, lz) = constructor_some ss zero_name c.in_ok-zero.zero (sym c.in_ok-zero.ensures.ok_part ∙ c.constructor.ensures) in
+    let (ey, cy, ly) = constructor_some ss succ_name c.in_ok-succ.succ (sym c.in_ok-succ.ensures.ok_part ∙ c.constructor-2.ensures) in
     let l : a.n < a.from.room = number_room a.text.now a.symbols.now (length a.symbols.now) h a.n a.want [] a.from.room a.words.now a.from.used ez cz lz ey cy ly (c.in_ok-numeral_misfit.ensures a.text.now) in
     omega arith
 
@@ -101,8 +101,8 @@ overflow_sub-result c =
     let a = c.args in
     let h : length a.symbols.now ≤ length a.symbols.now = omega arith in
     let ss = symbols_of a.text.now a.symbols.now (length a.symbols.now) in
-    let (ez, cz, lz) = constructor_some ss zero_name c.in_ok-z.z (sym c.in_ok-z.ensures.ok_part ∙ c.constructor.ensures) in
-    let (ey, cy, ly) = constructor_some ss succ_name c.in_ok-y.y (sym c.in_ok-y.ensures.ok_part ∙ c.constructor-2.ensures) in
+    let (ez, cz, lz) = constructor_some ss zero_name c.in_ok-zero.zero (sym c.in_ok-zero.ensures.ok_part ∙ c.constructor.ensures) in
+    let (ey, cy, ly) = constructor_some ss succ_name c.in_ok-succ.succ (sym c.in_ok-succ.ensures.ok_part ∙ c.constructor-2.ensures) in
     let l : a.n < a.from.room = number_room a.text.now a.symbols.now (length a.symbols.now) h a.n a.want [] a.from.room a.words.now a.from.used ez cz lz ey cy ly (c.in_ok-numeral_misfit.ensures a.text.now) in
     omega arith
 
@@ -111,8 +111,8 @@ overflow_sub-result-2 c =
     let a = c.args in
     let h : length a.symbols.now ≤ length a.symbols.now = omega arith in
     let ss = symbols_of a.text.now a.symbols.now (length a.symbols.now) in
-    let (ez, cz, lz) = constructor_some ss zero_name c.in_ok-z.z (sym c.in_ok-z.ensures.ok_part ∙ c.constructor.ensures) in
-    let (ey, cy, ly) = constructor_some ss succ_name c.in_ok-y.y (sym c.in_ok-y.ensures.ok_part ∙ c.constructor-2.ensures) in
+    let (ez, cz, lz) = constructor_some ss zero_name c.in_ok-zero.zero (sym c.in_ok-zero.ensures.ok_part ∙ c.constructor.ensures) in
+    let (ey, cy, ly) = constructor_some ss succ_name c.in_ok-succ.succ (sym c.in_ok-succ.ensures.ok_part ∙ c.constructor-2.ensures) in
     let l : a.n < a.from.room = number_room a.text.now a.symbols.now (length a.symbols.now) h a.n a.want [] a.from.room a.words.now a.from.used ez cz lz ey cy ly (c.in_ok-numeral_misfit.ensures a.text.now) in
     omega arith
 
@@ -121,8 +121,8 @@ returns c =
     let a = c.args in
     let h : length a.symbols.now ≤ length a.symbols.now = omega arith in
     let ss = symbols_of a.text.now a.symbols.now (length a.symbols.now) in
-    let (ez, cz, lz) = constructor_some ss zero_name c.in_ok-z.z (sym c.in_ok-z.ensures.ok_part ∙ c.constructor.ensures) in
-    let (ey, cy, ly) = constructor_some ss succ_name c.in_ok-y.y (sym c.in_ok-y.ensures.ok_part ∙ c.constructor-2.ensures) in
+    let (ez, cz, lz) = constructor_some ss zero_name c.in_ok-zero.zero (sym c.in_ok-zero.ensures.ok_part ∙ c.constructor.ensures) in
+    let (ey, cy, ly) = constructor_some ss succ_name c.in_ok-succ.succ (sym c.in_ok-succ.ensures.ok_part ∙ c.constructor-2.ensures) in
     let q = c.in_ok-numeral_misfit.ensures a.text.now in
     let l : a.n < a.from.room = number_room a.text.now a.symbols.now (length a.symbols.now) h a.n a.want [] a.from.room a.words.now a.from.used ez cz lz ey cy ly q in
     record {

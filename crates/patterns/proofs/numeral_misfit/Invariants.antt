@@ -7,4 +7,4 @@ use Rattle.patterns.specs.Promises.{refusal}
 use Rattle.patterns.proofs.numeral_misfit.Given as goal
 
 abbrev pub invariant-loop-k : goal.invariant-loop-k
-invariant-loop-k l = (text : List ℕ) → refusal (symbol_of text (row_at l.symbols l.y)) (symbol_of text (row_at l.symbols l.z)) l.n l.want l.room ≡ refusal (symbol_of text (row_at l.symbols l.y)) (symbol_of text (row_at l.symbols l.z)) (l.n - l._k) l.s l.m
+invariant-loop-k l = (text : List ℕ) → refusal (symbol_of text (row_at l.symbols l.succ)) (symbol_of text (row_at l.symbols l.zero)) l.n l.want l.room ≡ refusal (symbol_of text (row_at l.symbols l.succ)) (symbol_of text (row_at l.symbols l.zero)) (l.n - l._k) l.s l.m

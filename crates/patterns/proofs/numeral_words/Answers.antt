@@ -2,7 +2,7 @@
 use mathlib.Core.Path.{◌≡◌, refl, sym, ap, ◌∙◌}
 use mathlib.Core.List.{[], ◌∷◌}
 use Prim.Native.Nat.{◌+◌, ◌*◌}
-use lib.ListN.{length, set, length-set}
+use lib.ListN.{set, length-set}
 use Rattle.patterns.specs.Laying.{laid}
 use Rattle.patterns.proofs.Numerals.{tower_start, tower_step}
 use native.Mathlib.Omega.{arith}
@@ -12,35 +12,9 @@ pub loop-k-init : goal.loop-k-init
 loop-k-init c = (
   refl,
   omega arith,
-  λ v e. tower_start v (c.args.used) (c.args.y) (c.args.z)
+  λ v e. tower_start v (c.args.used) (c.args.numerals.succ) (c.args.numerals.zero)
       ∙ ap (λ x. laid ((64 + c.args.used) ∷ []) x (c.args.used + 1)) (sym e),
 )
-
-pub bounds-words-u : goal.bounds-words-u
-bounds-words-u c =
-    let loop = c.loop-k in
-    let args = c.args in
-    let n : length (loop.words) ≡ length (args.words.now) = loop.invariant.0 ∙ length-set (args.words.now) (args.used) _ in
-    omega (arith, loop.invariant.1)
-
-pub overflow_add-words-in-loop-k : goal.overflow_add-words-in-loop-k
-overflow_add-words-in-loop-k c = omega (arith, c.loop-k.invariant.1)
-
-pub bounds-words-u-in-loop-k : goal.bounds-words-u-in-loop-k
-bounds-words-u-in-loop-k c =
-    let loop = c.loop-k in
-    let args = c.args in
-    let n : length (loop.words) ≡ length (args.words.now) = loop.invariant.0 ∙ length-set (args.words.now) (args.used) _ in
-    rw length-set (omega (arith, loop.invariant.1))
-
-pub overflow_cast-r-in-loop-k : goal.overflow_cast-r-in-loop-k
-overflow_cast-r-in-loop-k c = omega (arith, c.loop-k.invariant.1)
-
-pub overflow_add-r-in-loop-k : goal.overflow_add-r-in-loop-k
-overflow_add-r-in-loop-k c = omega (arith, c.loop-k.invariant.1)
-
-pub overflow_add-u-in-loop-k : goal.overflow_add-u-in-loop-k
-overflow_add-u-in-loop-k c = omega (arith, c.loop-k.invariant.1)
 
 pub loop-k-preserved : goal.loop-k-preserved
 loop-k-preserved c =
@@ -50,7 +24,7 @@ loop-k-preserved c =
           ∙ length-set (loop.words) (loop.u) _
           ∙ loop.invariant.0,
       omega (arith, loop.invariant.1),
-      λ v e. tower_step v (args.used) (args.y) (args.z) (loop._k) (loop.r) (loop.words) (loop.u) (loop.invariant.2 v e),
+      λ v e. tower_step v (args.used) (args.numerals.succ) (args.numerals.zero) (loop._k) (loop.r) (loop.words) (loop.u) (loop.invariant.2 v e),
     )
 
 pub returns : goal.returns

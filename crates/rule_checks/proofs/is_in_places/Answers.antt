@@ -6,20 +6,12 @@ use Rattle.unifier.specs.Checking.{tells_no, tells_false}
 use Rattle.rule_checks.specs.Steps.{conclusion_of, PlacedWord}
 use Rattle.rule_checks.proofs.PartLaws.{part_each, each_part}
 use Rattle.rule_checks.proofs.TableLaws.{records_new, lent_new, lent_kept, placed_listed, listed_placed, table_places}
-use Rattle.rule_checks.proofs.ListedLaws.{conclusion_asked, premise_asked}
+use Rattle.rule_checks.proofs.ListedLaws.{premise_asked}
 use native.Mathlib.Omega.{arith}
 use Rattle.rule_checks.proofs.is_in_places.Goals as goal
 
-pub walk-met-requires : goal.walk-met-requires
-walk-met-requires c =
-    let pre = c.requires in
-    let a = conclusion_asked pre.1 pre.0 pre.2 in
-    let l = lent_new pre.3 in
-    record {
-      fact_1 = record { within = a.asked.within; low = a.asked.low; formed = a.asked.formed; long = l.long };
-      fact_2 = record { root = a.asked.root; small = a.small };
-      fact_3 = (l.room, ([], records_new));
-    }
+pub walk-met-requires-clause-fact_3 : goal.walk-met-requires-clause-fact_3
+walk-met-requires-clause-fact_3 c = ((lent_new c.requires.3).room, ([], records_new))
 
 pub returns-then-met-row : goal.returns-then-met-row
 returns-then-met-row c = tells_no (λ h. c.if-met-row.true ((c.walk-met.ensures [] records_new).counted ∙ sym h.meets))

@@ -8,25 +8,6 @@ use lib.ListN.{length}
 use native.Mathlib.Omega.{arith}
 use Rattle.rules.proofs.judgments.Goals as goal
 
-pub pattern-requires : goal.pattern-requires
-pattern-requires c =
-    let args = c.args in
-    let judgments = c.judgments in
-    let pre = c.requires in
-    let j = c.in_ok-place.ensures.small in
-    let y0 = pre in
-    let k1 = judgments.auto.variables in
-    let k2 = judgments.auto.words in
-    record {
-      lent = pre.fact_1.lent;
-      few = pre.fact_1.few;
-      inputs = pre.fact_1.inputs;
-      variables = omega arith;
-      entered = j.2;
-      words = omega arith;
-      low = omega arith;
-    }
-
 pub returns-in_err-place : goal.returns-in_err-place
 returns-in_err-place c =
     let args = c.args in

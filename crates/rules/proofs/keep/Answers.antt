@@ -3,7 +3,6 @@ use mathlib.Core.Path.{refl, sym, ap, ◌∙◌}
 use mathlib.Core.List.{List, [], ◌∷◌}
 use Prim.Native.Nat.{ℕ, ◌-◌}
 use lib.ListN.{length, length-replicate}
-use lib.Seq.{length-take-le}
 use Rattle.meeting.specs.Places.{numbers_below}
 use Rattle.rules.proofs.RowLaws.{sorts_in, sorts_column, sorts_length}
 use Rattle.rules.proofs.KeepLaws.{order_asked, all_recorded, row_kept, title_at_lem}
@@ -15,18 +14,6 @@ pub order_sized-counts-requires : goal.order_sized-counts-requires
 order_sized-counts-requires c =
     let pre = c.requires in
     (order_asked c.args.heads.now pre.rule.2 pre.rising.0, omega (arith, pre.small))
-
-pub slice_bounds-places-end : goal.slice_bounds-places-end
-slice_bounds-places-end c =
-    let long = c.order_sized-counts.ensures.kept ∙ length-replicate {A = ℕ} 64 64 in
-    omega (arith, c.requires.vars)
-
-pub store-requires : goal.store-requires
-store-requires c =
-    let pre = c.requires in
-    let long = c.order_sized-counts.ensures.kept ∙ length-replicate {A = ℕ} 64 64 in
-    let few = length-take-le (length c.args.variables.now) c.order_sized-counts.new.places (omega (arith, pre.vars)) in
-    (pre.row, refl, pre.few, pre.vars, omega (arith, pre.vars))
 
 pub returns : goal.returns
 returns c =

@@ -8,11 +8,6 @@ use Rattle.rules.proofs.OrderLaws.{met_none, met_more}
 use native.Mathlib.Omega.{arith}
 use Rattle.rules.proofs.order.Goals as goal
 
-pub walk-met-requires : goal.walk-met-requires
-walk-met-requires c =
-    let pre = c.requires in
-    record { fact_1 = pre.fact_1.walkable; fact_2 = pre.fact_1.head; fact_3 = (pre.fact_2, ([], records_none c.args.places.now pre.fact_1.blank)) }
-
 pub loop-k-init : goal.loop-k-init
 loop-k-init c =
     let args = c.args in

@@ -1,7 +1,7 @@
 -- `put_sorts` meets its contract. The loop's invariant: the sorts of the first j variables are written.
 use mathlib.Core.Path.{◌≡◌, sym, ap, ◌∙◌}
 use mathlib.Core.List.{[]}
-use lib.ListN.{length, set, length-set}
+use lib.ListN.{length, set}
 use lib.Seq.{set-get_or}
 use Rattle.names.specs.Symbols.{row_at, variables_of}
 use Rattle.rules.proofs.RowLaws.{sorts_next, column_written}
@@ -11,9 +11,6 @@ use Rattle.rules.proofs.put_sorts.Goals as goal
 pub loop-j-init : goal.loop-j-init
 unfolding variables_of
 loop-j-init c = λ text. sym (set-get_or (c.args.rules.now) (c.args.i) [])
-
-pub bounds-rules-i : goal.bounds-rules-i
-bounds-rules-i c = rw (c.loop-j.invariant []) (rw length-set (c.requires.0))
 
 pub loop-j-preserved : goal.loop-j-preserved
 loop-j-preserved c =

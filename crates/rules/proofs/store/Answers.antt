@@ -1,56 +1,11 @@
 -- `store` meets its contract: the row is written over part by part.
 use mathlib.Core.Path.{refl}
-use mathlib.Core.List.{List, []}
+use mathlib.Core.List.{List}
 use Prim.Native.Nat.{ℕ, ◌<◌}
 use lib.ListN.{length, replicate}
 use lib.Seq.{sets}
-use Rattle.rules.proofs.RowLaws.{over, still_there, sorts_in}
-use native.Mathlib.Omega.{arith}
+use Rattle.rules.proofs.RowLaws.{over, sorts_in}
 use Rattle.rules.proofs.store.Goals as goal
-
-pub put_columns-requires : goal.put_columns-requires
-put_columns-requires c =
-    let args = c.args in
-    let pre = c.requires in
-    let l : args.i < length (args.rules.now) = pre.0 in
-    let z : List ℕ = replicate 154 0 in
-    (still_there (args.rules.now) _ (args.i) l z refl, omega arith)
-
-pub put_columns-requires-2 : goal.put_columns-requires-2
-put_columns-requires-2 c =
-    let args = c.args in
-    let pre = c.requires in
-    let put-columns = c.put_columns in
-    let l : args.i < length (args.rules.now) = pre.0 in
-    let z : List ℕ = replicate 154 0 in
-    let s2 = over (args.rules.now) _ _ (args.i) l z (λ (x : List ℕ). sets x 0 (args.numbers.now)) refl (put-columns.ensures) in
-    (still_there (args.rules.now) _ (args.i) l _ s2, omega arith)
-
-pub put_sorts-requires : goal.put_sorts-requires
-put_sorts-requires c =
-    let args = c.args in
-    let pre = c.requires in
-    let put-columns = c.put_columns in
-    let put-columns2 = c.put_columns-2 in
-    let l : args.i < length (args.rules.now) = pre.0 in
-    let z : List ℕ = replicate 154 0 in
-    let s2 = over (args.rules.now) _ _ (args.i) l z (λ (x : List ℕ). sets x 0 (args.numbers.now)) refl (put-columns.ensures) in
-    let s3 = over (args.rules.now) _ _ (args.i) l _ (λ (x : List ℕ). sets x 10 (args.heads.now)) s2 (put-columns2.ensures) in
-    (still_there (args.rules.now) _ (args.i) l _ s3, omega arith)
-
-pub put_columns-requires-3 : goal.put_columns-requires-3
-put_columns-requires-3 c =
-    let args = c.args in
-    let pre = c.requires in
-    let put-columns = c.put_columns in
-    let put-columns2 = c.put_columns-2 in
-    let put-sorts = c.put_sorts in
-    let l : args.i < length (args.rules.now) = pre.0 in
-    let z : List ℕ = replicate 154 0 in
-    let s2 = over (args.rules.now) _ _ (args.i) l z (λ (x : List ℕ). sets x 0 (args.numbers.now)) refl (put-columns.ensures) in
-    let s3 = over (args.rules.now) _ _ (args.i) l _ (λ (x : List ℕ). sets x 10 (args.heads.now)) s2 (put-columns2.ensures) in
-    let s4 = over (args.rules.now) _ _ (args.i) l _ (λ (x : List ℕ). sets x 26 (sorts_in [] (args.variables.now) (length args.variables.now))) s3 (put-sorts.ensures []) in
-    (still_there (args.rules.now) _ (args.i) l _ s4, omega arith)
 
 pub returns : goal.returns
 returns c =

@@ -5,8 +5,8 @@ use Prim.Native.Nat.{◌≤◌, ◌-◌}
 use lib.ListN.{length}
 use Rattle.evaluation_listing_kit.proofs.prefix.put_term.Given as goal
 
-abbrev pub invariant-loop-done : goal.invariant-loop-done
-invariant-loop-done l = (l.at ≤ l.done.at) × (l.done.at ≤ length l.initial.out) × (l.done.depth ≤ length l.initial.stack) × (length l.stack ≡ length l.initial.stack) × (length l.out ≡ length l.initial.out)
+abbrev pub invariant-loop-printer : goal.invariant-loop-printer
+invariant-loop-printer l = (l.at ≤ l.printer.at) × (l.printer.at ≤ length l.printer.out.now) × (l.printer.depth ≤ length l.printer.stack.now) × (length l.printer.out.now ≡ length l.fn.out)
 
-abbrev pub decreases-loop-done : goal.decreases-loop-done
-decreases-loop-done l = length l.initial.out - l.done.at
+abbrev pub decreases-loop-printer : goal.decreases-loop-printer
+decreases-loop-printer l = length l.printer.out.now - l.printer.at

@@ -4,4 +4,4 @@ use Rattle.expressions.proofs.Towers.{Turn}
 use Rattle.expressions.proofs.numerals.tower.Given as goal
 
 abbrev pub invariant-loop-k : goal.invariant-loop-k
-invariant-loop-k l = Turn l.symbols (length l.symbols) l.y l.z l.n l.room.used l.room.limit l.want l.initial.words l.initial.built.used l.words l.built.value l.sort l.built.used l._k
+invariant-loop-k l = Turn l.symbols (length l.symbols) l.succ l.zero l.n l.room.used l.room.limit l.want l.initial.words l.initial.built.used l.words l.built.value l.sort l.built.used l._k

@@ -3,35 +3,43 @@ use native.Mathlib.Omega.{arith}
 use native.Mathlib.Nat.{le_refl}
 use mathlib.Core.Path.{sym, ◌∙◌}
 use Rattle.refusals.specs.Refused.{handed_on}
-use Rattle.prover.specs.PreparingLaws.{prepare_refused, prepare_over, store_asked, prepare_stored}
+use Rattle.prover.specs.PreparingLaws.{made_used, prepare_refused, prepare_over, store_asked, prepare_stored}
 use Rattle.prover.proofs.preparing.prepare.Goals as goal
 
 pub returns-then-is_over : goal.returns-then-is_over
 returns-then-is_over c =
     let compile = c.compile in
     let lent = compile.auto.variables in
-    prepare_over c.requires (omega (arith, lent)) (le_refl 2048) compile.ensures.bounds compile.ensures.goal_made _ c.in_ok-goal.was
+    let signature = c.args.query.signature in
+    let made = made_used signature.symbols.now signature.counts.symbols c.requires.lent compile.ensures.goal_made in
+    prepare_over c.requires (omega (arith, lent)) (le_refl 2048) compile.ensures.bounds made _ c.in_ok-goal.was
     (sym c.is_over.ensures ∙ c.if-is_over.true)
 
 pub store-node-requires : goal.store-node-requires
 store-node-requires c =
     let compile = c.compile in
     let lent = compile.auto.variables in
-    store_asked c.requires (omega (arith, lent)) (le_refl 2048) compile.ensures.bounds compile.ensures.goal_made _ c.in_ok-goal.was
+    let signature = c.args.query.signature in
+    let made = made_used signature.symbols.now signature.counts.symbols c.requires.lent compile.ensures.goal_made in
+    store_asked c.requires (omega (arith, lent)) (le_refl 2048) compile.ensures.bounds made _ c.in_ok-goal.was
     (sym c.is_over.ensures ∙ c.if-is_over.false)
 
 pub returns-in_err-goal : goal.returns-in_err-goal
 returns-in_err-goal c =
     let compile = c.compile in
     let lent = compile.auto.variables in
+    let signature = c.args.query.signature in
+    let made = made_used signature.symbols.now signature.counts.symbols c.requires.lent compile.ensures.goal_made in
     rw (handed_on c.from_residual.result c.from_residual.ensures.1)
-    (prepare_refused c.requires (omega (arith, lent)) (le_refl 2048) compile.ensures.bounds compile.ensures.goal_made _
+    (prepare_refused c.requires (omega (arith, lent)) (le_refl 2048) compile.ensures.bounds made _
     c.in_err-goal.was)
 
 pub returns : goal.returns
 returns c =
     let compile = c.compile in
     let lent = compile.auto.variables in
-    prepare_stored c.requires (omega (arith, lent)) (le_refl 2048) compile.ensures.bounds compile.ensures.goal_made _ c.in_ok-goal.was
+    let signature = c.args.query.signature in
+    let made = made_used signature.symbols.now signature.counts.symbols c.requires.lent compile.ensures.goal_made in
+    prepare_stored c.requires (omega (arith, lent)) (le_refl 2048) compile.ensures.bounds made _ c.in_ok-goal.was
     (sym c.is_over.ensures ∙ c.if-is_over.false)
     c.store-node.ensures

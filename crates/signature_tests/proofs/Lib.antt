@@ -1,0 +1,2 @@
+-- What the proofs of `signature_tests` cite.
+pub mod Laws
