@@ -4,7 +4,7 @@
 use arena::TERM_ROOM;
 use attempts::{SearchState, Tried};
 use refusals::Refusal;
-use samples::unification::{Case, Fault};
+use samples::unification::{Case, Fault, Left};
 use samples::{build, report, rows, unification};
 use unifier::Workspace;
 
@@ -70,14 +70,7 @@ fn report_premises(state: SearchState) {
 }
 
 // Writes the line of an attempt.
-fn report_attempt(
-    words: &[u32],
-    bindings: &mut [[u32; 2]],
-    marks: &mut [[u32; 2]],
-    before: &[[u32; 2]],
-    state: SearchState,
-    came: Result<Result<Tried, Refusal>, Fault>,
-) {
+fn report_attempt(left: Left, state: SearchState, came: Result<Result<Tried, Refusal>, Fault>) {
     match came {
         Err(Fault::NotReady) => {
             report::text(b": not as the call asks");
@@ -87,12 +80,12 @@ fn report_attempt(
         }
         Ok(Err(_)) => {
             report::text(b": exceeded");
-            unification::compare(bindings, before);
+            unification::compare(&left);
         }
         Ok(Ok(Tried::Missed { counter })) => {
             report::text(b": missed, counter ");
             report::decimal(counter);
-            unification::compare(bindings, before);
+            unification::compare(&left);
         }
         Ok(
             Ok(
@@ -115,7 +108,7 @@ fn report_attempt(
                 left: 0,
                 right: 0,
             };
-            unification::finish(words, bindings, marks, before, after, state.bound);
+            unification::finish(left, after, state.bound);
         }
     }
 }
@@ -141,7 +134,13 @@ fn try_rule(name: &[u8], most: u32, height: u32, spare: u32) {
         state,
     );
     report::text(name);
-    report_attempt(&words, &mut bindings, &mut marks, &before, state, came);
+    let left = Left {
+        words: &words,
+        before: &before,
+        bindings: &mut bindings,
+        marks: &mut marks,
+    };
+    report_attempt(left, state, came);
     report::text(b"\n");
 }
 

@@ -17,6 +17,15 @@ pub struct Case {
     pub right: u32,
 }
 
+// What a call leaves: the words, the bindings and the marks, beside the bindings that stood before it.
+#[derive(Drop)]
+pub struct Left<'a> {
+    pub words: &'a [u32],
+    pub before: &'a [[u32; 2]],
+    pub bindings: &'a mut [[u32; 2]],
+    pub marks: &'a mut [[u32; 2]],
+}
+
 // Why a call has no answer.
 #[derive(Clone, Copy)]
 pub enum Fault {
@@ -175,14 +184,13 @@ pub fn take_back(
 }
 
 // Writes the new bindings, takes them back, and says so if that does not give the rows that stood before.
-pub fn finish(
-    words: &[u32],
-    bindings: &mut [[u32; 2]],
-    marks: &mut [[u32; 2]],
-    before: &[[u32; 2]],
-    case: Case,
-    mark: u32,
-) {
+pub fn finish(left: Left, case: Case, mark: u32) {
+    let Left {
+        words,
+        before,
+        bindings,
+        marks,
+    } = left;
     report::bindings(bindings, mark, case.bound);
     if !take_back(words, bindings, marks, case, mark) {
         report::text(b", which are not in form");
@@ -196,8 +204,8 @@ pub fn finish(
 }
 
 // Says so if the bindings are not those that stood before.
-pub fn compare(bindings: &[[u32; 2]], before: &[[u32; 2]]) {
-    if !rows::are_same(bindings, before) {
+pub fn compare(left: &Left) {
+    if !rows::are_same(left.bindings, left.before) {
         report::text(b", and other bindings stand");
     }
 }

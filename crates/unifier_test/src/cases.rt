@@ -1,6 +1,6 @@
 // The cases: each builds its storage, runs one call, and writes a line.
 use arena::TERM_ROOM;
-use samples::unification::{Case, Fault};
+use samples::unification::{Case, Fault, Left};
 use samples::{build, report, rows, unification};
 use unifier::Workspace;
 
@@ -74,14 +74,7 @@ fn bind_first(bindings: &mut [[u32; 2]]) {
 }
 
 // Writes the line of a unification.
-fn report_unify(
-    words: &[u32],
-    bindings: &mut [[u32; 2]],
-    marks: &mut [[u32; 2]],
-    before: &[[u32; 2]],
-    case: Case,
-    found: Result<Option<u32>, Fault>,
-) {
+fn report_unify(left: Left, case: Case, found: Result<Option<u32>, Fault>) {
     match found {
         Err(Fault::NotReady) => {
             report::text(b": not as the call asks\n");
@@ -91,7 +84,7 @@ fn report_unify(
         }
         Ok(None) => {
             report::text(b": do not unify");
-            unification::compare(bindings, before);
+            unification::compare(&left);
             report::text(b"\n");
         }
         Ok(Some(bound)) => {
@@ -103,7 +96,7 @@ fn report_unify(
                 left: case.left,
                 right: case.right,
             };
-            unification::finish(words, bindings, marks, before, after, case.bound);
+            unification::finish(left, after, case.bound);
             report::text(b"\n");
         }
     }
@@ -131,7 +124,13 @@ pub fn unify(name: &[u8], towers: Towers) {
         case,
     );
     report::text(name);
-    report_unify(&words, &mut bindings, &mut marks, &before, case, found);
+    let left = Left {
+        words: &words,
+        before: &before,
+        bindings: &mut bindings,
+        marks: &mut marks,
+    };
+    report_unify(left, case, found);
 }
 
 // Writes the line of a question that has only yes and no for an answer.

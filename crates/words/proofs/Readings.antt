@@ -9,6 +9,8 @@ use native.Mathlib.Omega.{arith}
 use lib.ListN.{length, get_or, take, drop, set, replicate, length-drop, drop_of_length-le}
 use lib.Seq.{drop-cons, take-suc-set, length-take-le}
 use lib.Dec.{eqb, ltb}
+use Rattle.std.proofs.Common.{length-append}
+use Rattle.std.proofs.Math.Seq.{take-append-add}
 use borrow.Author.Tests.{ltb-true}
 use Rattle.source_text.specs.Bytes.{starts_with}
 use Rattle.source_text.specs.Characters.{character_of, has_outside}
@@ -164,6 +166,34 @@ push_row rows n row h = rw (add-one n) (take-suc-set rows n row h)
 pub stopped : (l : Result ℕ Rejection) (rows : List (List ℕ)) (rest : Reading) (e : Rejection) → l ≡ Err e → and_then (outcome l rows) rest ≡ outcome l rows
 unfolding and_then
 stopped l rows rest r e = rw e
+
+-- Rows whose part from a place on is written: what is read then comes behind what was read before.
+abbrev pub with_part : List (List ℕ) → ℕ → List (List ℕ) → List (List ℕ)
+with_part rows count new = take count rows ++ (new ++ drop (length rows - count) (drop count rows))
+
+part_last : (count : ℕ) (rows new : List (List ℕ)) → with_part rows count new ≡ take count rows ++ new
+part_last count rows new =
+    let d = length-drop count rows in
+    ap (λ (rest : List (List ℕ)). take count rows ++ (new ++ rest)) (drop_of_length-le (drop count rows) (omega arith)) ∙ simp append-nil
+
+pub read_on : (count n : ℕ) (rows new : List (List ℕ)) → count ≤ length rows → outcome (Ok (count + n)) (with_part rows count new) ≡ and_then (tokens (take count rows)) (outcome (Ok n) new)
+unfolding and_then
+read_on count n rows new h =
+    let e : length (take count rows) ≡ count = length-take-le count rows h in
+    ap tokens (ap (take (count + n)) (part_last count rows new) ∙ ap (λ k. take (k + n) (take count rows ++ new)) (sym e) ∙ take-append-add (take count rows) new n)
+
+pub refused_on : (r : Result ℕ Rejection) (e : Rejection) (ts new after : List (List ℕ)) → r ≡ Err e → outcome r after ≡ and_then (tokens ts) (outcome r new)
+unfolding and_then
+refused_on r e ts new after h = rw h refl
+
+pub rows_on : (count : ℕ) (rows new : List (List ℕ)) → count ≤ length rows → length new ≡ length (take (length rows - count) (drop count rows)) → length (with_part rows count new) ≡ length rows
+rows_on count rows new h e =
+    let p : length (with_part rows count new) ≡ length (take count rows ++ new) = ap length (part_last count rows new) in
+    let a = length-append (take count rows) new in
+    let b = length-take-le count rows h in
+    let d = length-drop count rows in
+    let t : length (take (length rows - count) (drop count rows)) ≡ length rows - count = length-take-le (length rows - count) (drop count rows) (omega arith) in
+    omega arith
 
 -- How many rows an answer counts.
 pub counted : (l : Result ℕ Rejection) → result_unwrap_or l 0 ≡ count_of l

@@ -20,9 +20,8 @@ pub record Read (reading : Reading) (most count : ℕ) (before : List (List ℕ)
   pub fits : count_of r ≤ most
   pub long : length after ≡ length before
 
--- What the reader of a line asks: the class table, at most one row for each byte before the line, and room for one for each byte of it.
-pub record Room (classes : List Class) (code : List ℕ) (start : ℕ) (rows : List (List ℕ)) (count : ℕ) : Type 0 where
+-- What the reader of a line asks: the class table, and room for one row for each byte of it.
+pub record Room (classes : List Class) (code : List ℕ) (start : ℕ) (rows : List (List ℕ)) : Type 0 where
   pub table : class_numbers classes ≡ class_table
-  pub below : count ≤ start
-  pub lent : start + length code ≤ length rows
+  pub lent : length code ≤ length rows
   pub small : start + length code ≤ 65536

@@ -71,6 +71,7 @@ pub fn clear(rows: &mut [Row], from: usize)
 }
 
 // The reading of a text of any bytes, in the order of the table; its tokens go to the rows from 0 on.
+// Stays: the limit is no length of a part of the text that is used; all of the text is read, and a text that is longer than the limit is refused.
 fn read(text: &[u8], limit: usize, rows: &mut [Row]) -> Result<usize, Rejection>
     requires { (limit ≤ 65536) × (limit ≤ length rows.old) }
     ensures { Read (lex_of limit text.now) limit 0 rows.old result rows.new }

@@ -44,6 +44,7 @@ pub const NUMERAL: u32 = 14;
 const LONGEST: usize = 64;
 
 // k where w is the keyword v, else the number of a name.
+// Stays: k is the number of a keyword, and no length of v.
 fn number_if(w: &[u8], v: &[u8], k: u32) -> u32
     ensures { result ≡ number_if w.now v.now k }
 {

@@ -58,20 +58,19 @@ fn item_at(classes: &Classes, line: &[u8], at: usize) -> Result<Option<Lexeme>, 
     }
 }
 
-// Reads a line without its comment, which starts at place `start` of the text; its tokens go to the rows from `count` on.
+// Reads a line without its comment, which starts at place `start` of the text; its tokens go to the rows from 0 on.
 fn read_code(
     classes: &Classes,
     code: &[u8],
     start: usize,
     number: u32,
     rows: &mut [Row],
-    count: usize,
 ) -> Result<usize, Rejection>
-    requires { Room classes.now code.now start rows.old count }
-    ensures { Read (read_after code.now 0 start number) (start + length code.now) count rows.old result rows.new }
+    requires { Room classes.now code.now start rows.old }
+    ensures { Read (read_after code.now 0 start number) (length code.now) 0 rows.old result rows.new }
 {
     let mut at = 0;
-    let mut n = count;
+    let mut n = 0;
     // Stays: a step is as long as a token, and one byte only at a blank.
     while at < code.len() {
         match item_at(classes, code, at) {
@@ -110,7 +109,8 @@ pub fn read_lines(text: &[u8], rows: &mut [Row]) -> Result<usize, Rejection>
     let mut count = 0;
     while at < text.len() {
         let end = code_end(text, at);
-        count = read_code(&classes, &text[at..end], at, number, rows, count)?;
+        let read = read_code(&classes, &text[at..end], at, number, &mut rows[count..])?;
+        count += read;
         at = line_end(text, end) + 1;
         number += 1;
     }

@@ -16,7 +16,7 @@ use native.Mathlib.Omega.{arith}
 use Rattle.words.proofs.tokens.read_code.Goals as goal
 
 pub loop-at-init : goal.loop-at-init
-loop-at-init c = (search rules, omega (arith, c.requires.below), refl, simp add-zero)
+loop-at-init c = (search rules, search rules, refl, simp add-zero)
 
 pub item_at-requires : goal.item_at-requires
 item_at-requires c = (c.requires.table, c.loop-at-test.true)

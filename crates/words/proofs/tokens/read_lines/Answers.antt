@@ -1,16 +1,16 @@
 -- `read_lines` meets its contract. The loop's invariant: the rows before `count`, and then the reading of the lines from `at` on, come to the whole reading;
 -- there is no more than one row for each byte passed.
 use mathlib.Core.Path.{◌≡◌, refl, sym, ap, ◌∙◌}
-use Prim.Native.Nat.{◌-◌, ◌+◌}
-use lib.ListN.{length, drop, take}
-use Rattle.std.specs.Prelude.{Err}
+use Prim.Native.Nat.{◌≤◌, ◌-◌, ◌+◌}
+use lib.ListN.{length, drop, take, length-drop}
+use Rattle.std.specs.Prelude.{Ok, Err}
 use Rattle.std.proofs.lemmas.Result.{err_from_is_err_and}
-use Rattle.source_text.specs.Lines.{lines}
 use Rattle.words.specs.Tokens.{and_then, read_lines}
+use Rattle.words.specs.Tokens.Reading.{tokens}
 use Rattle.words.specs.Rows.{outcome}
 use Rattle.words.specs.Lexer.{count_of}
 use Rattle.source_text.proofs.Scans.{code_fits, part_long, code_within, line_within}
-use Rattle.words.proofs.Readings.{then_nil, then_end, line_read, lines_past, stopped}
+use Rattle.words.proofs.Readings.{then_nil, then_end, line_read, lines_past, stopped, with_part, read_on, refused_on, rows_on}
 use borrow.Author.Rules.{rules}
 use native.Mathlib.Omega.{arith}
 use Rattle.words.proofs.tokens.read_lines.Goals as goal
@@ -41,27 +41,31 @@ read_code-requires c =
     let long : length (take (code-end.result - loop.at) (drop loop.at args.text.now)) ≡ code-end.result - loop.at = part_long args.text.now loop.at code-end.result (code_fits args.text.now loop.at code-end.result loop-test.true code-end.ensures) in
     record {
       table = class-table.ensures;
-      below = loop.invariant.1;
-      lent = omega (arith, pre, loop.invariant, code_fits args.text.now loop.at code-end.result loop-test.true code-end.ensures);
+      lent = let room : length (drop loop.count loop.rows) ≡ length loop.rows - loop.count = length-drop loop.count loop.rows in omega (arith, pre, loop.invariant, code_fits args.text.now loop.at code-end.result loop-test.true code-end.ensures);
       small = omega (arith, pre, code_fits args.text.now loop.at code-end.result loop-test.true code-end.ensures);
     }
 
-pub returns-in_err-count : goal.returns-in_err-count
-returns-in_err-count c =
+pub returns-in_err-read : goal.returns-in_err-read
+returns-in_err-read c =
     let code-end = c.code_end-end in
     let loop = c.loop-at in
     let args = c.args in
     let loop-test = c.loop-at-test in
     let read-code = c.read_code in
+    let pre = c.requires in
     let long : length (take (code-end.result - loop.at) (drop loop.at args.text.now)) ≡ code-end.result - loop.at = part_long args.text.now loop.at code-end.result (code_fits args.text.now loop.at code-end.result loop-test.true code-end.ensures) in
+    let within : loop.count ≤ length loop.rows = omega (arith, pre, loop.invariant) in
+    let before = take loop.count loop.rows in
+    let after = with_part loop.rows loop.count read-code.new.rows in
     let p = err_from_is_err_and c.from_residual.result c.from_residual.ensures.1 in
-    let q : c.from_residual.result ≡ read-code.result = p.1 ∙ ap Err p.2 ∙ sym c.in_err-count.was in
+    let q : c.from_residual.result ≡ read-code.result = p.1 ∙ ap Err p.2 ∙ sym c.in_err-read.was in
     record {
-      reads = ap (λ l. outcome l read-code.new.rows) q ∙ sym (then_nil _
-          ∙ line_read args.text.now loop.at code-end.result _ loop.number loop-test.true code-end.ensures refl _ (take loop.count loop.rows) (outcome read-code.result read-code.new.rows) loop.invariant.4 read-code.ensures.reads
-          ∙ stopped read-code.result read-code.new.rows _ _ c.in_err-count.was);
+      reads = ap (λ l. outcome l after) q ∙ sym (then_nil _
+          ∙ line_read args.text.now loop.at code-end.result _ loop.number loop-test.true code-end.ensures refl _ before (outcome read-code.result after) loop.invariant.4
+          (refused_on read-code.result _ before read-code.new.rows after c.in_err-read.was ∙ ap (and_then (tokens before)) (read-code.ensures.reads ∙ then_nil _))
+          ∙ stopped read-code.result after _ _ c.in_err-read.was);
       fits = rw q (omega (arith, read-code.ensures.fits, code_fits args.text.now loop.at code-end.result loop-test.true code-end.ensures));
-      long = read-code.ensures.long ∙ loop.invariant.3;
+      long = rows_on loop.count loop.rows read-code.new.rows within read-code.ensures.long ∙ loop.invariant.3;
     }
 
 pub line_end-at-requires : goal.line_end-at-requires
@@ -105,14 +109,17 @@ loop-at-preserved c =
     let read-code = c.read_code in
     let line-end = c.line_end-at in
     let long : length (take (code-end.result - loop.at) (drop loop.at args.text.now)) ≡ code-end.result - loop.at = part_long args.text.now loop.at code-end.result (code_fits args.text.now loop.at code-end.result loop-test.true code-end.ensures) in
-    let counted : count_of read-code.result ≡ c.in_ok-count.count = ap count_of c.in_ok-count.was in (
+    let pre = c.requires in
+    let within : loop.count ≤ length loop.rows = omega (arith, pre, loop.invariant) in
+    let before = take loop.count loop.rows in
+    let counted : count_of read-code.result ≡ c.in_ok-read.read = ap count_of c.in_ok-read.was in (
       omega (arith, loop.invariant, code_within args.text.now loop.at code-end.result line-end.result loop-test.true code-end.ensures line-end.ensures),
-      omega (arith, read-code.ensures.fits, code_fits args.text.now loop.at code-end.result loop-test.true code-end.ensures, code_within args.text.now loop.at code-end.result line-end.result loop-test.true code-end.ensures line-end.ensures),
-      omega (arith, read-code.ensures.fits, code_fits args.text.now loop.at code-end.result loop-test.true code-end.ensures),
-      read-code.ensures.long
+      omega (arith, loop.invariant, read-code.ensures.fits, code_fits args.text.now loop.at code-end.result loop-test.true code-end.ensures, code_within args.text.now loop.at code-end.result line-end.result loop-test.true code-end.ensures line-end.ensures),
+      omega (arith, loop.invariant, read-code.ensures.fits, code_fits args.text.now loop.at code-end.result loop-test.true code-end.ensures),
+      rows_on loop.count loop.rows read-code.new.rows within read-code.ensures.long
           ∙ loop.invariant.3,
-      line_read args.text.now loop.at code-end.result line-end.result loop.number loop-test.true code-end.ensures line-end.ensures _ (take loop.count loop.rows) (outcome read-code.result read-code.new.rows) loop.invariant.4 read-code.ensures.reads
-          ∙ ap (λ l. and_then (outcome l read-code.new.rows) (read_lines (lines (drop (line-end.result + 1) args.text.now)) (line-end.result + 1) (loop.number + 1))) c.in_ok-count.was,
+      line_read args.text.now loop.at code-end.result line-end.result loop.number loop-test.true code-end.ensures line-end.ensures _ before (outcome (Ok (loop.count + c.in_ok-read.read)) (with_part loop.rows loop.count read-code.new.rows)) loop.invariant.4
+          (read_on loop.count c.in_ok-read.read loop.rows read-code.new.rows within ∙ ap (and_then (tokens before)) (ap (λ l. outcome l read-code.new.rows) (sym c.in_ok-read.was) ∙ read-code.ensures.reads ∙ then_nil _)),
     )
 
 pub returns : goal.returns
