@@ -1,5 +1,5 @@
 -- `enter_names` meets its contract: one name more is entered.
-use Rattle.std.proofs.Common.{length, arith}
+use Rattle.std.proofs.Common.{arith}
 use Rattle.goals.specs.StoringLaws.{entered_more}
 use Rattle.goals.proofs.enter_names.Goals as goal
 

@@ -1,5 +1,5 @@
 -- `are_rising` meets its contract: each variable is above the one before it, and so above all before.
-use Rattle.std.proofs.Common.{◌<◌, arith}
+use Rattle.std.proofs.Common.{arith}
 use Rattle.session_check.proofs.Laws.{rising_more}
 use Rattle.session_check.proofs.naming.are_rising.Goals as goal
 
