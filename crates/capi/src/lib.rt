@@ -81,6 +81,7 @@ pub fn signature_counts(counts: &[u32]) -> signature::Counts
 }
 
 // A signature as it is lent, with the first four counts that `horn_load` leaves.
+// Stays: it makes one struct of what programs in C lend apart.
 pub fn stored_signature<'a>(
     sorts: &'a [[u32; 2]],
     symbols: &'a [[u32; 24]],
