@@ -190,7 +190,7 @@ fn numeral_words(words: &mut [u32], used: usize, numerals: NumeralSymbols, n: us
 }
 
 // The number of the constructor that is called w.
-fn constructor(text: &[u8], symbols: &[SymbolRow], w: &[u8]) -> Option<usize>
+pub fn constructor(text: &[u8], symbols: &[SymbolRow], w: &[u8]) -> Option<usize>
     ensures { result ≡ constructor_of (symbols_of text.now symbols.now (length symbols.now)) w.now }
 {
     match names::find(text, symbols, w) {
