@@ -6,7 +6,7 @@ use mathlib.Core.Bool.{Bool, true, false, ◌&&◌}
 use mathlib.Core.List.{List}
 use lib.Dec.{ltb}
 use lib.ListN.{length}
-use borrow.Author.Tests.{lt-ltb, le-ltb}
+use borrow.Author.Tests.{le-ltb}
 use Rattle.names.specs.Names.{Name}
 use Rattle.names.specs.Symbols.{Rows, Symbol, column, row_at, symbols_of, symbol_number}
 use Rattle.patterns.specs.Patterns.{is_ctor, zero_name, succ_name}
@@ -16,12 +16,16 @@ use Rattle.evaluation.specs.Matching.{Built, barred, built}
 use Rattle.evaluation.specs.Expressions.{Evaluated, failed, unless, around, numeral_misuse, tower_of, numeral_of}
 use Rattle.clause_matching.specs.Building.{Tells}
 use Rattle.clause_matching.specs.declared.building.Built.{Built as Answer}
-use Rattle.std.specs.Prelude.{Result, Ok, Err}
+use Rattle.std.specs.Prelude.{Option, Some, None, cond, Result, Ok, Err}
+use Rattle.std.specs.Option.{ok_or}
+use Rattle.std.proofs.Common.{ltb-true, ltb-false}
+use Rattle.terms.specs.Numbers.{by_bool, true_false}
+use Rattle.patterns.specs.Promises.{constructor_of}
 use Rattle.refusals.specs.declared.Refusal.{Refusal}
 use Rattle.refusals.specs.declared.Refusal.TheVariants.{NoNumerals}
 use Rattle.refusals.specs.Refusals.{number_of}
 use Rattle.expressions.specs.Numerals.{ConstructorFound, NumeralAsked, TowerAsked, TowerAnswered, Gives, NumeralAnswered}
-use Rattle.forward_calls.proofs.Tables.{symbols_length, output_at}
+use Rattle.forward_calls.proofs.Tables.{symbols_length}
 use Rattle.expressions.proofs.Forming.{barred_at}
 use Rattle.expressions.proofs.Misuses.{misuse_is, nothing_refused, refusal_row, refusal_of}
 
@@ -36,26 +40,21 @@ module _ (text : List ℕ) (symbols : Rows) (count : ℕ) (h : count ≤ length 
   pub ctor_unknown : count ≤ i → is_ctor table w ≡ false
   ctor_unknown l = rw (← e, symbols_length text symbols count h, le-ltb i count l)
 
-  module _ (l : i < count) where
-    ctor_is : is_ctor table w ≡ ltb 0 (column (row_at symbols i) 2)
-    ctor_is = rw (← e, symbols_length text symbols count h, lt-ltb i count l, output_at text symbols count h i l)
+-- `find_constructor`: what `constructor` finds, or 26.
+module _ (text : List ℕ) (symbols : Rows) (count : ℕ) (w : Name) (h : count ≤ length symbols) where
+  abbrev number : ℕ
+  number = symbol_number (symbols_of text symbols count) w
 
-    pub ctor_none : column (row_at symbols i) 2 ≡ 0 → is_ctor table w ≡ false
-    ctor_none o = ctor_is ∙ le-ltb 0 (column (row_at symbols i) 2) (omega arith)
+  ctor_within : is_ctor (symbols_of text symbols count) w ≡ true → number < count
+  ctor_within e = by_bool (ltb number count) (λ f. ltb-true _ _ f) (λ f. true_false e (ctor_unknown text symbols count h w refl (ltb-false _ _ f)))
 
-    pub ctor_some : (column (row_at symbols i) 2 ≡ 0 → ⊥) → is_ctor table w ≡ true
-    ctor_some o = ctor_is ∙ lt-ltb 0 (column (row_at symbols i) 2) (omega (arith, o))
+  found_by : (b : Bool) → is_ctor (symbols_of text symbols count) w ≡ b → (o : Option ℕ) → o ≡ cond b (Some number) None → (r : Result ℕ Refusal) → r ≡ ok_or o NoNumerals
+      → ConstructorFound text symbols count w r
+  found_by true e o p r q = rw (q, p) (refl, ctor_within e, e)
+  found_by false e o p r q = rw (q, p) (refl, e)
 
--- `find_constructor`: one law for each way out.
-module _ (text : List ℕ) (symbols : Rows) {count : ℕ} (h : count ≤ length symbols) (w : Name) {i : ℕ} (e : i ≡ symbol_number (symbols_of text symbols count) w) where
-  pub found_unknown : count ≤ i → ConstructorFound text symbols count w (Err NoNumerals)
-  found_unknown l = (refl, ctor_unknown text symbols count h w e l)
-
-  pub found_none : i < count → column (row_at symbols i) 2 ≡ 0 → ConstructorFound text symbols count w (Err NoNumerals)
-  found_none l o = (refl, ctor_none text symbols count h w e l o)
-
-  pub found_some : i < count → (column (row_at symbols i) 2 ≡ 0 → ⊥) → ConstructorFound text symbols count w (Ok i)
-  found_some l o = (e, l, ctor_some text symbols count h w e l o)
+  pub found_as : (o : Option ℕ) → o ≡ constructor_of (symbols_of text symbols count) w → (r : Result ℕ Refusal) → r ≡ ok_or o NoNumerals → ConstructorFound text symbols count w r
+  found_as = found_by (is_ctor (symbols_of text symbols count) w) refl
 
 unless_some : (e : ℕ) (f : ℕ → Evaluated one) → (e ≡ 0 → ⊥) → unless e f ≡ failed e
 unless_some zero f h = absurd (h refl)

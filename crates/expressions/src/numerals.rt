@@ -16,13 +16,7 @@ use refusals::Refusal;
 fn find_constructor(text: &[u8], symbols: &[SymbolRow], name: &[u8]) -> Result<usize, Refusal>
     ensures { ConstructorFound text.now symbols.now (length symbols.now) name.now result }
 {
-    let Some(i) = names::find(text, symbols, name) else {
-        return Err(Refusal::NoNumerals);
-    };
-    if symbols[i][2] == 0 {
-        return Err(Refusal::NoNumerals);
-    }
-    Ok(i)
+    patterns::constructor(text, symbols, name).ok_or(Refusal::NoNumerals)
 }
 
 // What n times `succ` on `zero` is refused for at a depth, before anything is built, if it is.
