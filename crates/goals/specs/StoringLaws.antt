@@ -2,10 +2,10 @@
 use Rattle.std.specs.Prelude.{ℕ, zero, suc, ◌+◌, ◌-◌, ◌≤◌, ◌<◌, true, ◌≡◌, refl, ◌++◌, get_or, set, take, drop}
 use native.Mathlib.Omega.{arith}
 use Rattle.std.proofs.Math.Path.{sym, ap}
-use Rattle.std.proofs.Common.{◌∙◌, subst, length-append, get_or-set_same, get_or-set_other, get_or-take}
+use Rattle.std.proofs.Common.{◌∙◌, subst, length-append, length-set, get_or-set_same, get_or-set_other, get_or-take}
 use mathlib.Core.List.{List, [], ◌∷◌}
 use Rattle.std.proofs.Math.ListN.{length}
-use Rattle.std.proofs.lemmas.List.{length-take-le, length-drop, take_at, get_or_append_left, get_or-append_right, get_or-drop}
+use Rattle.std.proofs.lemmas.List.{length-take-le, length-drop, take-set-le, take_at, get_or_append_left, get_or-append_right, get_or-drop}
 use Rattle.terms.specs.Numbers.{by_same, by_less}
 use Rattle.terms.specs.Term.{Term, var, sub, mem}
 use Rattle.terms.specs.TermLaws.{below_mem}
@@ -28,10 +28,39 @@ use Rattle.goals.specs.declared.Goal.{Goal}
 
 -- Names entered
 
+pub entered_none : (vs : Rows) (n c : ℕ) (names : Rows) → NamesEntered vs n n c names names
+entered_none vs n c names = record { long = refl; front = refl; new = λ i a b. absurd (omega arith); behind = λ i a. refl }
+
 -- A turn of the loop.
-pub entered_more : (vs : Rows) (c : ℕ) (names : Rows) (i : ℕ) → i < length names → ((j : ℕ) → j < i → row_at names j ≡ name_row (row_at vs j) (c + j))
+module _ (vs : Rows) (n i c : ℕ) (names names' : Rows) (a : n ≤ i) (l : i < length names) (h : NamesEntered vs n i c names names') where
+  abbrev row : List ℕ
+  row = name_row (row_at vs i) (c + (i - n))
+
+  here : row_at (set names' i row) i ≡ row
+  here = let m = h.long in get_or-set_same names' i row [] (omega arith)
+
+  pub entered_more : NamesEntered vs n (i + 1) c names (set names' i row)
+  entered_more = record {
+    long = length-set names' i row ∙ h.long;
+    front = take-set-le n names' i row a ∙ h.front;
+    new = λ j p q. by_same i j (λ e _. subst (λ (k : ℕ). row_at (set names' i row) k ≡ name_row (row_at vs k) (c + (k - n))) e here)
+        (λ e _. get_or-set_other names' i j row [] (λ d. e (sym d)) ∙ h.new j p (let d : i ≡ j → ⊥ = e in omega arith));
+    behind = λ j p. get_or-set_other names' i j row [] (λ e. omega arith) ∙ h.behind j (omega arith);
+  }
+
+module _ (names : Rows) (i : ℕ) (places : List ℕ) (l : i < length places) (h : PlacesPut names i places) where
+  abbrev number : ℕ
+  number = column (row_at names i) 4
+
+  pub put_more : PlacesPut names (i + 1) (set places i number)
+  put_more j q = by_same i j
+      (λ e _. subst (λ (k : ℕ). get_or (set places i number) k 0 ≡ column (row_at names k) 4) e (get_or-set_same places i number 0 l))
+      (λ e _. get_or-set_other places i j number 0 (λ d. e (sym d)) ∙ h j (let d : i ≡ j → ⊥ = e in omega arith))
+
+-- A row more.
+pub entered_row : (vs : Rows) (c : ℕ) (names : Rows) (i : ℕ) → i < length names → ((j : ℕ) → j < i → row_at names j ≡ name_row (row_at vs j) (c + j))
     → (j : ℕ) → j < i + 1 → row_at (set names i (name_row (row_at vs i) (c + i))) j ≡ name_row (row_at vs j) (c + j)
-entered_more vs c names i l h j q = by_same i j
+entered_row vs c names i l h j q = by_same i j
     (λ e _. subst (λ (k : ℕ). row_at (set names i (name_row (row_at vs i) (c + i))) k ≡ name_row (row_at vs k) (c + k)) e (get_or-set_same names i (name_row (row_at vs i) (c + i)) [] l))
     (λ e _. get_or-set_other names i j (name_row (row_at vs i) (c + i)) [] (λ d. e (sym d)) ∙ h j (let d : i ≡ j → ⊥ = e in omega arith))
 
