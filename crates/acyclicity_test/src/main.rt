@@ -15,7 +15,7 @@ const MOST: u32 = 50000;
 const REFERENCES: usize = 125536;
 
 // The check's answer, where the storage is in form; scratch must come back unmarked.
-// Stays: the three are what `is_acyclic` takes.
+// Stays: the scratch is written, and terms and bindings, which are lent apart, are read.
 fn answer(terms: Terms, bindings: &[[u32; 2]], scratch: &mut [[u32; 2]]) -> Result<bool, Fault> {
     if !checks::are_terms(terms) {
         return Err(Fault::NotReady);

@@ -33,7 +33,6 @@ fn push_values(words: &mut [u32], address: u32, header: u32, from: u32, count: u
 }
 
 // A pattern that is a node, with the values of its variables put in. The words from the limit on are scratch: references of arguments whose node is open.
-// Stays: what is read and what is written are lent apart, as each caller holds them; a struct of the buffers would be made for each call.
 fn instantiate_node(
     pattern: &[u32],
     reference: u32,
@@ -89,7 +88,6 @@ fn instantiate_node(
 }
 
 // The pattern with the values of its variables put in: a variable's value stands already, a node is built.
-// Stays: what is read and what is written are lent apart, as each caller holds them; a struct of the buffers would be made for each call.
 pub fn instantiate(
     pattern: &[u32],
     reference: u32,
@@ -115,7 +113,6 @@ pub fn instantiate(
 }
 
 // The arguments of a pattern's node, `count` of them from the address `first` on, built from left to right: how many words are then used. Their references go to `values`.
-// Stays: what is read and what is written are lent apart, as each caller holds them; a struct of the buffers would be made for each call.
 pub fn instantiate_arguments(
     pattern: &[u32],
     first: u32,

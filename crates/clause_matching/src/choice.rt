@@ -57,7 +57,6 @@ pub struct Clauses<'a> {
 }
 
 // The first of the clauses whose conclusion fits the arguments, which are values, by its number; the environment then holds those of its variables.
-// Stays: the buffers that are written are lent apart, as each caller holds them; a struct of the buffers would be made for each call.
 pub fn find_clause(
     clauses: Clauses,
     arguments: &[u32],

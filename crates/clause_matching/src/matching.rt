@@ -16,7 +16,6 @@ pub struct Values<'a> {
 }
 
 // Gives a variable its value if it has none; whether the value is then the variable's.
-// Stays: the buffers that are written are lent apart, as each caller holds them; a struct of the buffers would be made for each call.
 fn take(
     values: Values,
     value: u32,
@@ -43,7 +42,6 @@ fn take(
 }
 
 // As `bind`, of a pattern that is a node.
-// Stays: the buffers that are written are lent apart, as each caller holds them; a struct of the buffers would be made for each call.
 fn bind_node(
     pattern: &[u32],
     reference: u32,
@@ -99,7 +97,6 @@ fn bind_node(
 }
 
 // Whether the value fits the pattern; its variables take their values.
-// Stays: the buffers that are written are lent apart, as each caller holds them; a struct of the buffers would be made for each call.
 pub fn bind(
     pattern: &[u32],
     reference: u32,

@@ -58,7 +58,6 @@ fn heading(rows: &[TermRow], at: usize, n: usize, word: Word, out: &mut [TermRow
 }
 
 // Enters a clause as a rule at a place. Its rows are flattened in `out` and `calls`, which are scratch.
-// Stays: the buffers that are written are lent apart, as the store of declarations holds them; a struct of the two would be made for each call.
 pub fn clause(
     clause: SourceClause,
     title: Title,

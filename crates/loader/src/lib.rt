@@ -256,7 +256,6 @@ pub fn enter_symbol(
 }
 
 // Enters a rule, given the word that is its name and the part that has its judgments, at a place.
-// Stays: the buffers that are written are lent apart, as the store of declarations holds them; a struct of the two would be made for each call.
 pub fn enter_rule(
     part: Part,
     word: Word,

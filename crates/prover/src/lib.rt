@@ -101,7 +101,7 @@ pub fn prove_listed(
 }
 
 // Proves the goal of a query, in a session.
-// Stays: the buffers are lent one by one, since the test reads some while it marks another, and no generated proof covers that behind a store.
+// Stays: tried behind a store: the test reads some of the buffers while it marks another, and no generated proof covers that.
 pub fn prove(
     query: Query,
     names: &mut [NameRow],

@@ -312,7 +312,6 @@ pub struct RulePlace {
 }
 
 // Compiles a rule, and keeps it at a place.
-// Stays: the buffers that are written are lent apart, as the store of declarations holds them; a struct of the two would be made for each call.
 pub fn rule(
     source: SourceRule,
     title: Title,

@@ -14,7 +14,7 @@ use rules::RuleRow;
 use unifier::Workspace;
 
 // What a row says of its rule.
-// Stays: neither the row nor what it says is a type of this crate, so that no `From` can stand here.
+// Stays: neither the row nor what it says is a type of this crate, so that no `From` can stand here; `attempts`, which has the struct, knows no rows of rules.
 fn stored_in(row: &RuleRow) -> Stored
     ensures { result ≡ stored_in row.now }
 {
