@@ -1,20 +1,23 @@
 -- Laws of the parts of a session's form: lengths, names, words, and all together.
-use Prim.Native.Nat.{ℕ, ◌+◌, ◌-◌, ◌≤◌, ◌<◌}
+use Prim.Native.Nat.{ℕ, zero, suc, ◌+◌, ◌≤◌, ◌<◌}
 use native.Mathlib.Omega.{arith}
 use mathlib.Core.Path.{◌≡◌, refl, sym, ap, ◌∙◌}
-use mathlib.Core.Bool.{Bool, false, not}
+use mathlib.Core.Bool.{Bool, true, false, not}
 use mathlib.Core.Logic.{inl, inr}
 use mathlib.Core.List.{List, [], map}
 use lib.ListN.{length, get_or, take}
-use borrow.Author.Tests.{not-false}
-use Rattle.terms.specs.Numbers.{by_same}
+use lib.Dec.{ltb}
+use borrow.Author.Tests.{not-false, ltb-true, lt-ltb}
+use Rattle.std.specs.List.{IsAllAdjacentAnswer}
+use Rattle.std.proofs.Common.{add-one}
+use Rattle.terms.specs.Numbers.{by_same, true_false}
 use Rattle.words.specs.declared.Limits.{Limits}
 use Rattle.arena.specs.Cells.{cells, WellFormed}
 use Rattle.arena.specs.Copies.{term_room}
 use Rattle.arena.specs.Form.{in_form}
 use Rattle.arena.specs.FormLaws.{all_formed}
 use Rattle.bindings.specs.Promises.{Tells, BindingsChecked}
-use Rattle.bindings.specs.Checking.{tells_no}
+use Rattle.bindings.specs.Checking.{tells_no, tells_yes}
 use Rattle.unifier.specs.Promises.{Scratch}
 use Rattle.names.specs.Names.{Distinct, name_in}
 use Rattle.names.specs.Symbols.{Rows, column, row_at, sort_of, sorts_of, symbols_of}
@@ -56,14 +59,18 @@ module _ (text : List ℕ) (names places : Rows) (n : ℕ) (long : n ≤ length 
       (λ d i j l m e. let w = words_long in let k : j < n = omega arith in d i j l k (sym (word_at i (omega arith)) ∙ e ∙ word_at j k))
       t
 
--- One more variable that is above the last one.
-pub rising_more : (rows : Rows) (i : ℕ) → 0 < i → Rising rows i → column (row_at rows (i - 1)) 4 < column (row_at rows i) 4 → Rising rows (i + 1)
-rising_more rows i p h l a b m n =
-    by_same b i
-    (λ e _. by_same a (i - 1)
-    (λ d _. rw (d, e) l)
-    (λ d _. let k = h a (i - 1) (omega arith) (omega arith) in let t : column (row_at rows a) 4 < column (row_at rows i) 4 = omega arith in rw e t))
-    (λ e _. h a b m (omega arith))
+-- Where each variable is below the next, all rise; and where one is not, they do not.
+rising_far : (rows : Rows) (n : ℕ) → ((k : ℕ) → k + 1 < n → column (row_at rows k) 4 < column (row_at rows (k + 1)) 4) → Rising rows n
+rising_far rows n h i zero l m = absurd (omega arith)
+rising_far rows n h i (suc j) l m =
+    let next : column (row_at rows j) 4 < column (row_at rows (suc j)) 4 = rw add-one at (h j (omega arith)) in
+    by_same i j
+    (λ e _. rw e next)
+    (λ e _. let before = rising_far rows n h i j (omega arith) (omega arith) in omega (arith, next, before))
+
+pub rising_told : (rows : Rows) (r : Bool) → IsAllAdjacentAnswer (λ x y b. b ≡ ltb (column x 4) (column y 4)) rows r → Tells r (Rising rows (length rows))
+rising_told rows true h = tells_yes (rising_far rows (length rows) (λ k l. ltb-true _ _ (sym (h k [] l))))
+rising_told rows false h = tells_no (λ g. true_false (lt-ltb _ _ (g h.0 (h.0 + 1) (omega arith) h.1)) (sym (h.2 [])))
 
 -- A name of these kinds is the word at its place.
 plain_name : (text row : List ℕ) → NameKind (column row 0) → name_in text row ≡ word_in text row

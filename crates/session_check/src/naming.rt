@@ -45,24 +45,14 @@ fn is_name_formed(text: &[u8], row: &NameRow, known: Known) -> bool
 fn are_names_formed(text: &[u8], names: &[NameRow], known: Known) -> bool
     ensures { Tells result (NamesFormed text.now known.sorts known.variables names.now (length names.now)) }
 {
-    for row in names {
-        if !is_name_formed(text, row, known) {
-            return false;
-        }
-    }
-    true
+    names.iter().all(|row| is_name_formed(text, row, known))
 }
 
 // Do the variables of names rise?
 fn are_rising(names: &[NameRow]) -> bool
     ensures { Tells result (Rising names.now (length names.now)) }
 {
-    for i in 1..names.len() {
-        if names[i][4] <= names[i - 1][4] {
-            return false;
-        }
-    }
-    true
+    names.is_sorted_by(|a, b| a[4] < b[4])
 }
 
 // Do the words of names all differ? Their places are sorted by their words.

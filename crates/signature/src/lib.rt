@@ -83,13 +83,7 @@ fn is_counted(words: &[u32], counts: Counts) -> bool
 fn are_sorts_named(text: &[u8], sorts: &[SortRow]) -> bool
     ensures { Tells result (SortsNamed text.now sorts.now (length sorts.now)) }
 {
-    for row in sorts {
-        let [start, size] = *row;
-        if !rule_checks::is_name(text, Word { start, size }) {
-            return false;
-        }
-    }
-    true
+    sorts.iter().all(|&[start, size]| rule_checks::is_name(text, Word { start, size }))
 }
 
 // Writes the numbers in one column of rows.
@@ -183,16 +177,12 @@ fn is_symbol_formed(text: &[u8], row: &SymbolRow, counts: Counts) -> bool
 }
 
 // Are the rows of symbols in form?
-// Stays: like `session_check::are_names_formed` with other rows and another test; one function of both would take the test as a closure, and tell of its answers.
 fn are_symbols_formed(text: &[u8], symbols: &[SymbolRow], counts: Counts) -> bool
     ensures { Tells result (SymbolsFormed text.now counts.sorts counts.rules symbols.now (length symbols.now)) }
 {
-    for row in symbols {
-        if !is_symbol_formed(text, row, counts) {
-            return false;
-        }
-    }
-    true
+    symbols
+        .iter()
+        .all(|row| is_symbol_formed(text, row, counts))
 }
 
 // Are the rules in form, one behind the other in the words in use, and do they end where these end? The stack is scratch.
