@@ -128,7 +128,7 @@ fn put_numbers(results: &mut [u32], numbers: &[u32])
 fn clear_numbers(results: &mut [u32], refusal: Refusal)
     ensures { results.new ≡ cond (eqb (number_of refusal) 1) results.old (replicate (length results.old) 0) }
 {
-    if u32::from(refusal) != 1 {
+    if refusal != Refusal::Storage {
         results.fill(0);
     }
 }

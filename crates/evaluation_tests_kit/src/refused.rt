@@ -15,7 +15,7 @@ fn is_refused<T: Copy>(answer: Result<T, Refusal>) -> bool
 {
     match answer {
         Ok(_) => false,
-        Err(refusal) => u32::from(refusal) == 1,
+        Err(refusal) => refusal == Refusal::Storage,
     }
 }
 

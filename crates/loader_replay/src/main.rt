@@ -2,9 +2,7 @@
 // afterwards. A test that fails writes a line that begins with `wrong`.
 #![tactic(auto)]
 
-ghost use Rattle.std.specs.Prelude.{◌+◌, ◌^◌, ◌≤◌, ◌<◌};
-
-use listing::recorded;
+use listing::recorded::{self, Recorded};
 use load::{LentBuffers as Lent, Loaded};
 use parser::Parsed;
 use refusals::{Refusal, Rejection};
@@ -101,36 +99,11 @@ fn list_text(text: &[u8], limits: Limits, lent: &mut Lent) {
     }
 }
 
-// Limits on a text's bytes and on nodes; no other one matters before the search.
-fn limits_of(text: u32, nodes: usize) -> Limits {
+// The limits of a recorded text; its number of lent rows limits the nodes.
+fn limits_of(recorded: Recorded) -> Limits {
     Limits {
-        text,
-        nodes: usize::min(nodes, 65536) as u32,
-        steps: 0,
-        variables: 0,
-        words: 0,
-    }
-}
-
-// Lists the text whose line is at a place, and answers the place of the next one's. The line's third number limits the nodes.
-fn replay_one(list: &[u8], at: usize, lent: &mut Lent) -> usize
-    requires { at < 2 ^ 61 }
-    ensures { (at < result) × (result ≤ at + 2000000) }
-{
-    let text = recorded::read(list, at);
-    let bytes = words::word(list, text.start, text.length);
-    list_text(bytes, limits_of(text.limits.text, text.rows), lent);
-    text.next
-}
-
-fn replay(list: &[u8], lent: &mut Lent) {
-    let end = recorded::end(list);
-    let mut at = 0;
-    let mut number = 1;
-    while at < end {
-        recorded::write_heading(number);
-        at = replay_one(list, at, lent);
-        number += 1;
+        nodes: recorded.rows.min(65536) as u32,
+        ..recorded.limits
     }
 }
 
@@ -156,5 +129,7 @@ fn main() {
         words: &mut words,
         evals: &mut evals,
     };
-    replay(&list[..n], &mut lent);
+    recorded::replay(&list[..n], |text, recorded| {
+        list_text(text, limits_of(recorded), &mut lent);
+    });
 }

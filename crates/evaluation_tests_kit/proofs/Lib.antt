@@ -1,0 +1,2 @@
+-- What the proofs of `evaluation_tests_kit` cite.
+pub mod Laws
