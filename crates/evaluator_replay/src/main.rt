@@ -85,11 +85,14 @@ fn list_value(loaded: LoadedText, evaluation: Evaluation, storage: &Buffers) {
 fn list_evaluation(loaded: LoadedText, answer: Result<Evaluation, Refusal>, storage: &Buffers) {
     match answer {
         Err(refusal) => {
-            let number = u32::from(refusal);
             write(b"refused ");
-            write_number(number);
+            write_number(u32::from(refusal));
             write(b"\n");
-            let value = if number == 1 { buffers::JUNK } else { 0 };
+            let value = if refusal == Refusal::Storage {
+                buffers::JUNK
+            } else {
+                0
+            };
             lent::test(storage, 0, 0, value);
         }
         Ok(evaluation) => {

@@ -13,7 +13,7 @@ const WORDS: usize = 210008;
 // A row for each reference.
 const REFERENCES: usize = 275544;
 
-// Stays: the flags are two properties of a case, and each field has a meaning whatever they are.
+// Stays: the number of arguments in place of `shared` is no plainer, as its bound, which `put_tower` asks, would go into the contracts of `unify` and `occurs`, which ask nothing.
 // Two towers, of nodes with one argument or with two, how high they are and on which references they stand, and the two references in question. A
 // pair may be built on each reference in question: of variable 0 and the left one, and of a constant and the right one.
 #[derive(Clone, Copy)]
