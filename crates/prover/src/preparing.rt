@@ -58,13 +58,7 @@ pub fn prepare(
         rows: query.rows,
         symbols: &query.signature.symbols[..query.signature.counts.symbols as usize],
     };
-    let goal = goals::compile(
-        source,
-        query.at,
-        &names[..n],
-        &mut variables,
-        &mut pattern,
-    )?;
+    let goal = goals::compile(source, query.at, &names[..n], &mut variables, &mut pattern)?;
     let total = session.variables + (goal.variables - session.names);
     let used = session.words + goal.words;
     if is_over(query.limits, total, used) {
