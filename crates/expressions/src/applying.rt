@@ -8,7 +8,7 @@ ghost use Rattle.expressions.specs.Applying.{ApplyAsked, ApplyAnswered};
 
 use super::nodes::build;
 use function_calls::{Level, Outcome, Program, Room, Spent, Store, call};
-use names::SymbolRow;
+use names::{FUNCTION, NO_FUNCTION, SymbolRow};
 use refusals::Refusal;
 
 // What a symbol on so many arguments is refused for, if it is.
@@ -16,7 +16,7 @@ pub fn check_use(symbols: &[SymbolRow], i: usize, arguments: usize) -> Result<()
     requires { (i < length symbols.now) × (column (row_at symbols.now i) 3 ≤ 1) × (column (row_at symbols.now i) 3 ≤ column (row_at symbols.now i) 6) × (column (row_at symbols.now i) 6 ≤ 16) }
     ensures { (text : List ℕ) → Finds result (misuse (symbol_at (symbols_of text symbols.now (length symbols.now)) i) arguments) }
 {
-    if symbols[i][3] == 0 && symbols[i][2] == 0 {
+    if symbols[i][3] == NO_FUNCTION && symbols[i][2] == 0 {
         return Err(Refusal::NoExpression);
     }
     let wanted = symbols[i][6] - symbols[i][3];
@@ -42,7 +42,7 @@ pub fn apply(
         store.old.words.now store.old.links.now store.old.trees.now result store.new.words.now store.new.links.now store.new.trees.now }
     ensures lent { IsLent store.old store.new }
 {
-    if program.symbols[i][3] == 1 {
+    if program.symbols[i][3] == FUNCTION {
         let level = Level {
             depth: depth + 1,
             height: 1,

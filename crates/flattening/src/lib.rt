@@ -10,7 +10,7 @@ ghost use Rattle.names.specs.Symbols.{column, symbols_of};
 ghost use Rattle.flattening.specs.Flattening.{is_function};
 ghost use Rattle.flattening.specs.Promises.{call_limit, arity_of, is_call, Copied, Finishes, Room, Flattens};
 
-use names::{SourceTerms, SymbolRow, TermRow, Word};
+use names::{FUNCTION, SourceTerms, SymbolRow, TermRow, Word};
 
 // How far flattening is: the next row of the source, where the next row of the term and of the premises goes, and how many calls were made.
 #[derive(Clone, Copy)]
@@ -37,7 +37,7 @@ fn is_function(text: &[u8], symbols: &[SymbolRow], word: Word) -> bool
     ensures { result ≡ is_function (symbols_of text.now symbols.now (length symbols.now)) (part_of text.now word.start word.size) }
 {
     match names::find(text, symbols, names::part(text, word)) {
-        Some(i) => symbols[i][3] == 1,
+        Some(i) => symbols[i][3] == FUNCTION,
         None => false,
     }
 }

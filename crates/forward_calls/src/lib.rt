@@ -6,7 +6,7 @@
 ghost use Rattle.forward_calls.specs.Ground.{GroundAsked, GroundAnswered};
 ghost use Rattle.forward_calls.specs.Forward.{ForwardAsked, ForwardAnswered};
 
-use names::{SymbolRow, TermRow, Word};
+use names::{FUNCTION, SymbolRow, TermRow, Word};
 
 // A written term: the text, rows in preorder, and where the term's rows start.
 #[derive(Clone, Copy)]
@@ -58,7 +58,7 @@ pub fn is_forward_call(term: WrittenTerm, symbols: &[SymbolRow]) -> bool
     let Some(i) = names::find_at(term.text, symbols, kind, word) else {
         return false;
     };
-    if symbols[i][3] != 1 {
+    if symbols[i][3] != FUNCTION {
         return false;
     }
     let inputs = symbols[i][6];

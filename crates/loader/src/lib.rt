@@ -17,7 +17,7 @@ ghost use Rattle.loader.specs.Arrows.{names_at, Arrowing};
 ghost use Rattle.loader.specs.SymbolEntry.{SymbolAnswered};
 
 use clauses::EnteredRule;
-use names::{SortRow, SymbolRow, TermRow, Word};
+use names::{FUNCTION, NO_FUNCTION, SortRow, SymbolRow, TermRow, Word};
 use refusals::Refusal;
 use rules::{RulePlace, RuleRow, SourceRule, Title};
 
@@ -27,12 +27,6 @@ const SORTS: usize = 256;
 const SYMBOLS: usize = 1024;
 
 const INPUTS: usize = 16;
-
-// The marks in a symbol's row: of a constructor or predicate, and of a function.
-// Stays: C callers lend the rows, so a mark is a number there, and may be none of these; a type of marks would be converted at each read and write.
-pub const NO_FUNCTION: u32 = 0;
-
-pub const FUNCTION: u32 = 1;
 
 // The names that there are: the rows of the sorts and symbols in use, and the text in which their names stand.
 #[derive(Clone, Copy)]

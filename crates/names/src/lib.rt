@@ -38,6 +38,12 @@ pub struct Word {
 // Stays: C callers lend the rows, so a kind is a number there, and may be none of these; a type of kinds would be converted at each read and write.
 pub const RESULT: u32 = 27;
 
+// The marks in a symbol's row: of a constructor or predicate, and of a function.
+// Stays: C callers lend the rows, so a mark is a number there, and may be none of these; a type of marks would be converted at each read and write.
+pub const NO_FUNCTION: u32 = 0;
+
+pub const FUNCTION: u32 = 1;
+
 // The names `result.1` to `result.16`, 16 bytes each.
 const RESULT_NAMES: [u8; 256] =
     *b"result.1\0\0\0\0\0\0\0\0result.2\0\0\0\0\0\0\0\0result.3\0\0\0\0\0\0\0\0result.4\0\0\0\0\0\0\0\0result.5\0\0\0\0\0\0\0\0result.6\0\0\0\0\0\0\0\0result.7\0\0\0\0\0\0\0\0result.8\0\0\0\0\0\0\0\0result.9\0\0\0\0\0\0\0\0result.10\0\0\0\0\0\0\0result.11\0\0\0\0\0\0\0result.12\0\0\0\0\0\0\0result.13\0\0\0\0\0\0\0result.14\0\0\0\0\0\0\0result.15\0\0\0\0\0\0\0result.16\0\0\0\0\0\0\0";

@@ -12,7 +12,7 @@ ghost use Rattle.patterns.specs.Promises.{stored, entry_of, Grew, answer, Small,
 ghost use Rattle.patterns.specs.Promises.{LiesAt, EntryPlaced, MadePlaced};
 
 use arena::{HEADERS, PATTERN_ROOM, SYMBOL_STEP};
-use names::{SourceTerms, SymbolRow, TermRow, VariableRow, Word};
+use names::{FUNCTION, SourceTerms, SymbolRow, TermRow, VariableRow, Word};
 use refusals::Refusal;
 
 // How many variables a rule may have.
@@ -126,7 +126,7 @@ fn misfit(symbols: &[SymbolRow], i: usize, want: u32, arguments: usize) -> Resul
     requires { i < length symbols.now }
     ensures { (text : List ℕ) → RefusedFor (misfitOf (symbol_of text (row_at symbols.now i)) want arguments) result }
 {
-    if symbols[i][3] == 1 {
+    if symbols[i][3] == FUNCTION {
         if 0 < want {
             return Err(Refusal::FunctionInTerm);
         }

@@ -10,8 +10,7 @@ ghost use Rattle.loader.specs.Legal.{Calls, ClauseFormed};
 ghost use Rattle.unifier.specs.Promises.{Tells};
 ghost use Rattle.signature.specs.Parts.{ClausesAsked, ClausesOf, ClausesListed};
 
-use loader::FUNCTION;
-use names::SymbolRow;
+use names::{FUNCTION, SymbolRow};
 use rules::RuleRow;
 
 // The room for variables in patterns: references from it on are nodes.

@@ -15,8 +15,7 @@ ghost use Rattle.signature.specs.Storage.{store_of, SignatureChecked};
 
 mod functions;
 
-use loader::{FUNCTION, NO_FUNCTION};
-use names::{SortRow, SymbolRow, Word};
+use names::{FUNCTION, NO_FUNCTION, SortRow, SymbolRow, Word};
 use rules::RuleRow;
 
 // How many sorts, symbols and rules there may be, and inputs of a symbol.
@@ -127,6 +126,7 @@ fn are_numbers_formed(sorts: u32, output: u32, inputs: u32, free: u32) -> bool
 }
 
 // A function has no output, and its last input is its result; only a function has clauses.
+// Stays: a `match` on the number of a mark, which C callers lend, by the names of the two marks.
 fn is_mark_formed(output: u32, mark: u32, clauses: u32, inputs: u32) -> bool
     ensures { Tells result (MarkFormed output mark clauses inputs) }
 {
