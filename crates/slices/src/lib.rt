@@ -18,7 +18,7 @@ pub fn put<T: Copy>(items: &mut [T], at: usize, item: T)
 pub fn clear_from<T: Copy>(items: &mut [T], from: usize, zero: T)
     ensures { items.new ≡ take from items.old ++ replicate (length items.old - from) zero }
 {
-    let start = items.len().min(from);
+    let start = from.min(items.len());
     for item in &mut items[start..] {
         *item = zero;
     }
