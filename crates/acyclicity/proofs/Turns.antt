@@ -1,7 +1,6 @@
 -- The turns of the search's loop, over rows of marks and parents: each keeps the state of a search in depth, and what is left to do falls.
 use Prim.Native.Nat.{ℕ, zero, suc, ◌+◌, ◌-◌, ◌*◌, ◌≤◌, ◌<◌}
 use native.Mathlib.Omega.{arith}
-use native.Mathlib.Numerals.{add-one}
 use mathlib.Core.Path.{◌≡◌, refl, sym, ap, ◌∙◌, subst}
 use mathlib.Core.Logic.{◌≢◌}
 use mathlib.Core.List.{List, [], ◌∷◌}
@@ -78,111 +77,112 @@ module _ {words : List ℕ} {bindings : Rows} {N variables used : ℕ} {rows₀ 
   kept : (x : ℕ) (row : List ℕ) → Vertex x → (a : ℕ) → Outside N variables used a → get_or (set rows x row) a [] ≡ get_or rows₀ a []
   kept x row v a o = get_or-set_other rows x a row [] (reference_inside h.stored v o) ∙ h.outside a o
 
-  -- A place ahead.
-  module _ (n : ahead ≢ 0) where
-    abbrev is : ahead ≡ suc (ahead - 1)
-    is = omega arith
+  top_below : (k : ℕ) → top ≡ k → k ≤ headers
+  top_below zero e = omega arith
+  top_below (suc t) e =
+      let r = reference_within h.stored (at_top edges Vertex (subst (λ (k : ℕ). State edges Vertex (column 0 rows) (column 1 rows) k ahead) e h.state)).0 in
+      let b = h.stored.low in omega arith
 
-    abbrev here : State edges Vertex (column 0 rows) (column 1 rows) top (suc (ahead - 1))
+  -- Where the search is has a number that fits.
+  pub top_small : top ≤ headers
+  top_small = top_below top refl
+
+  -- A place ahead.
+  module _ (node : ℕ) (is : ahead ≡ suc node) where
+    abbrev here : State edges Vertex (column 0 rows) (column 1 rows) top (suc node)
     here = subst (λ (k : ℕ). State edges Vertex (column 0 rows) (column 1 rows) top k) is h.state
 
-    pub ahead_row : (ahead - 1 < length rows) × (ahead ≤ headers)
-    ahead_row = let r = reference_within h.stored (h.state.target (ahead - 1) is) in
+    pub ahead_row : (node < length rows) × (ahead ≤ headers)
+    ahead_row = let r = reference_within h.stored (h.state.target node is) in
         let a = h.room in let b = h.stored.low in (omega arith, omega arith)
 
-    pub turn_skip : column 0 rows (ahead - 1) ≡ 33 → Turn words bindings N variables used rows₀ rows next top 0
+    pub turn_skip : column 0 rows node ≡ 33 → Turn words bindings N variables used rows₀ rows next top 0
     turn_skip f = record {
       stored = h.stored;
       room = h.room;
       long = h.long;
       outside = h.outside;
       few = h.few;
-      state = skip edges Vertex (ahead - 1) here f;
-      seen = λ x l q. let a = h.seen x l q in let b : x ≡ ahead - 1 = omega arith in let c : column 0 rows x ≡ 33 = ap (column 0 rows) b ∙ f in let z : ⊥ = omega arith in absurd z;
+      state = skip edges Vertex node here f;
+      seen = λ x l q. let a = h.seen x l q in let b : x ≡ node = omega arith in let c : column 0 rows x ≡ 33 = ap (column 0 rows) b ∙ f in let z : ⊥ = omega arith in absurd z;
     }
 
-    pub turn_enter : column 0 rows (ahead - 1) ≡ 0 → Turn words bindings N variables used rows₀ (set rows (ahead - 1) (1 ∷ top ∷ [])) next ahead 0
+    pub turn_enter : column 0 rows node ≡ 0 → Turn words bindings N variables used rows₀ (set rows node (1 ∷ top ∷ [])) next (suc node) 0
     turn_enter f =
         let l = ahead_row.0 in
-        let m = column_changed 0 rows (ahead - 1) (1 ∷ top ∷ []) l in
+        let m = column_changed 0 rows node (1 ∷ top ∷ []) l in
         record {
           stored = h.stored;
-          room = (let k = length-set rows (ahead - 1) (1 ∷ top ∷ []) in let r = h.room in omega arith);
-          long = length-set rows (ahead - 1) (1 ∷ top ∷ []) ∙ h.long;
-          outside = kept (ahead - 1) (1 ∷ top ∷ []) (h.state.target (ahead - 1) is);
+          room = (let k = length-set rows node (1 ∷ top ∷ []) in let r = h.room in omega arith);
+          long = length-set rows node (1 ∷ top ∷ []) ∙ h.long;
+          outside = kept node (1 ∷ top ∷ []) (h.state.target node is);
           few = h.few;
-          state = subst (λ (k : ℕ). State edges Vertex (column 0 (set rows (ahead - 1) (1 ∷ top ∷ []))) (column 1 (set rows (ahead - 1) (1 ∷ top ∷ []))) k 0) (sym is)
-              (enter edges Vertex (ahead - 1) here f m (column_changed 1 rows (ahead - 1) (1 ∷ top ∷ []) l));
+          state = enter edges Vertex node here f m (column_changed 1 rows node (1 ∷ top ∷ []) l);
           seen = λ x b. all_changed (λ x v. x < next → v ≡ 0 → 0 ≡ suc x) m
               (λ c q. let z : ⊥ = omega arith in absurd z)
               (λ x o c q. let a = h.seen x c q in let z : ⊥ = o (omega arith) in absurd z) x b;
         }
 
-    pub turn_refuse : column 0 rows (ahead - 1) ≢ 0 → column 0 rows (ahead - 1) ≢ 33 → (β : Bindings) → Held N (cells words) (column 0 bindings) variables β → Acyclic β → ⊥
-    turn_refuse a b β held acyclic = refuse h.stored β held acyclic (h.state.target (ahead - 1) is) (cycle edges Vertex (ahead - 1) here a b)
+    pub turn_refuse : column 0 rows node ≢ 0 → column 0 rows node ≢ 33 → (β : Bindings) → Held N (cells words) (column 0 bindings) variables β → Acyclic β → ⊥
+    turn_refuse a b β held acyclic = refuse h.stored β held acyclic (h.state.target node is) (cycle edges Vertex node here a b)
 
   -- No place ahead: the search goes on from where it is.
-  module _ (z : ahead ≡ 0) (n : top ≢ 0) where
-    abbrev is_top : top ≡ suc (top - 1)
-    is_top = omega arith
-
-    abbrev there : State edges Vertex (column 0 rows) (column 1 rows) (suc (top - 1)) 0
+  module _ (z : ahead ≡ 0) (node : ℕ) (is_top : top ≡ suc node) where
+    abbrev there : State edges Vertex (column 0 rows) (column 1 rows) (suc node) 0
     there = subst (λ (k : ℕ). State edges Vertex (column 0 rows) (column 1 rows) k 0) is_top (subst (λ (k : ℕ). State edges Vertex (column 0 rows) (column 1 rows) top k) z h.state)
 
-    pub top_row : Reference N (cells words) variables used (top - 1) × (top - 1 < length rows) × (top ≤ headers) × (1 ≤ column 0 rows (top - 1)) × (column 0 rows (top - 1) ≤ 32)
+    pub top_row : Reference N (cells words) variables used node × (node < length rows) × (top ≤ headers) × (1 ≤ column 0 rows node) × (column 0 rows node ≤ 32)
     top_row = let (v, a, b) = at_top edges Vertex there in
         let r = reference_within h.stored v in
         let c = h.room in let d = h.stored.low in
         (v, omega arith, omega arith, a, b)
 
-    entered : (v b : ℕ) → v ≢ 0 → (p x : ℕ) → x < next → column 0 (set rows (top - 1) (v ∷ b ∷ [])) x ≡ 0 → p ≡ suc x
-    entered v b o p x l = all_changed (λ x k. x < next → k ≡ 0 → p ≡ suc x) (column_changed 0 rows (top - 1) (v ∷ b ∷ []) top_row.1)
+    entered : (v b : ℕ) → v ≢ 0 → (p x : ℕ) → x < next → column 0 (set rows node (v ∷ b ∷ [])) x ≡ 0 → p ≡ suc x
+    entered v b o p x l = all_changed (λ x k. x < next → k ≡ 0 → p ≡ suc x) (column_changed 0 rows node (v ∷ b ∷ []) top_row.1)
         (λ c q. absurd (o q)) (λ x m c q. let a = h.seen x c q in let bad : ⊥ = omega arith in absurd bad) x l
 
     -- The row of where the search is, once it is done with it, and once another edge is followed.
     abbrev pub closed : List ℕ
-    closed = 33 ∷ column 1 rows (top - 1) ∷ []
+    closed = 33 ∷ column 1 rows node ∷ []
 
     abbrev pub followed : List ℕ
-    followed = (column 0 rows (top - 1) - 1 + 2) ∷ column 1 rows (top - 1) ∷ []
+    followed = (column 0 rows node - 1 + 2) ∷ column 1 rows node ∷ []
 
-    pub turn_close : (place : ℕ) → place ≡ edge N (cells words) (column 0 bindings) (top - 1) (column 0 rows (top - 1) - 1) → place ≡ 0
-        → Turn words bindings N variables used rows₀ (set rows (top - 1) closed) next (column 1 rows (top - 1)) ahead
+    pub turn_close : (place : ℕ) → place ≡ edge N (cells words) (column 0 bindings) node (column 0 rows node - 1) → place ≡ 0
+        → Turn words bindings N variables used rows₀ (set rows node closed) next (column 1 rows node) ahead
     turn_close place f q =
         let (v, l, a, b, c) = top_row in
         record {
           stored = h.stored;
-          room = (let k = length-set rows (top - 1) closed in let r = h.room in omega arith);
-          long = length-set rows (top - 1) closed ∙ h.long;
-          outside = kept (top - 1) closed v;
+          room = (let k = length-set rows node closed in let r = h.room in omega arith);
+          long = length-set rows node closed ∙ h.long;
+          outside = kept node closed v;
           few = h.few;
-          state = subst (λ (k : ℕ). State edges Vertex (column 0 (set rows (top - 1) closed)) (column 1 (set rows (top - 1) closed)) (column 1 rows (top - 1)) k) (sym z)
-              (close edges Vertex (column 0 rows (top - 1) - 1) there (omega arith)
-              (λ j y g. edge_first N (cells words) (column 0 bindings) (top - 1) (column 0 rows (top - 1) - 1) j y (sym f ∙ q) g)
-              (column_changed 0 rows (top - 1) closed l)
-              (column_changed 1 rows (top - 1) closed l));
-          seen = entered 33 (column 1 rows (top - 1)) (λ g. let bad : ◌≡◌ {A = ℕ} 33 0 = g in omega arith) ahead;
+          state = subst (λ (k : ℕ). State edges Vertex (column 0 (set rows node closed)) (column 1 (set rows node closed)) (column 1 rows node) k) (sym z)
+              (close edges Vertex (column 0 rows node - 1) there (omega arith)
+              (λ j y g. edge_first N (cells words) (column 0 bindings) node (column 0 rows node - 1) j y (sym f ∙ q) g)
+              (column_changed 0 rows node closed l)
+              (column_changed 1 rows node closed l));
+          seen = entered 33 (column 1 rows node) (λ g. let bad : ◌≡◌ {A = ℕ} 33 0 = g in omega arith) ahead;
         }
 
-    pub turn_follow : (place : ℕ) → place ≡ edge N (cells words) (column 0 bindings) (top - 1) (column 0 rows (top - 1) - 1) → place ≢ 0
-        → Turn words bindings N variables used rows₀ (set rows (top - 1) followed) next top place
+    pub turn_follow : (place : ℕ) → place ≡ edge N (cells words) (column 0 bindings) node (column 0 rows node - 1) → place ≢ 0
+        → Turn words bindings N variables used rows₀ (set rows node followed) next (suc node) place
     turn_follow zero f o = absurd (o refl)
     turn_follow (suc y) f o =
         let (v, l, a, b, c) = top_row in
         record {
           stored = h.stored;
-          room = (let k = length-set rows (top - 1) followed in let r = h.room in omega arith);
-          long = length-set rows (top - 1) followed ∙ h.long;
-          outside = kept (top - 1) followed v;
+          room = (let k = length-set rows node followed in let r = h.room in omega arith);
+          long = length-set rows node followed ∙ h.long;
+          outside = kept node followed v;
           few = h.few;
-          state = subst (λ (k : ℕ). State edges Vertex (column 0 (set rows (top - 1) followed))
-              (column 1 (set rows (top - 1) followed)) k (suc y)) (sym is_top)
-              (follow edges Vertex (column 0 rows (top - 1) - 1) y there (omega arith)
-              (edge_few N (cells words) (column 0 bindings) (top - 1) (column 0 rows (top - 1) - 1) y (sym f)) (sym f)
-              (edge_reference h.stored (column 0 rows (top - 1) - 1) y v (sym f))
-              (column_changed 0 rows (top - 1) followed l)
-              (column_changed 1 rows (top - 1) followed l));
-          seen = entered (column 0 rows (top - 1) - 1 + 2) (column 1 rows (top - 1)) (λ g. omega arith) (suc y);
+          state = follow edges Vertex (column 0 rows node - 1) y there (omega arith)
+              (edge_few N (cells words) (column 0 bindings) node (column 0 rows node - 1) y (sym f)) (sym f)
+              (edge_reference h.stored (column 0 rows node - 1) y v (sym f))
+              (column_changed 0 rows node followed l)
+              (column_changed 1 rows node followed l);
+          seen = entered (column 0 rows node - 1 + 2) (column 1 rows node) (λ g. omega arith) (suc y);
         }
 
   -- The search is nowhere: it starts from the next variable, or has been everywhere.
@@ -190,7 +190,7 @@ module _ {words : List ℕ} {bindings : Rows} {N variables used : ℕ} {rows₀ 
     abbrev nowhere : State edges Vertex (column 0 rows) (column 1 rows) 0 0
     nowhere = subst (λ (k : ℕ). State edges Vertex (column 0 rows) (column 1 rows) k 0) y (subst (λ (k : ℕ). State edges Vertex (column 0 rows) (column 1 rows) top k) z h.state)
 
-    pub turn_begin : next ≢ variables → Turn words bindings N variables used rows₀ rows (next + 1) top (next + 1)
+    pub turn_begin : next ≢ variables → Turn words bindings N variables used rows₀ rows (next + 1) top (suc next)
     turn_begin n =
         let a = h.few in
         let s : State edges Vertex (column 0 rows) (column 1 rows) top (suc next) =
@@ -201,7 +201,7 @@ module _ {words : List ℕ} {bindings : Rows} {N variables used : ℕ} {rows₀ 
           long = h.long;
           outside = h.outside;
           few = omega arith;
-          state = rw add-one s;
+          state = s;
           seen = λ x l q. by_less x next (λ m r. let b = h.seen x m q in let bad : ⊥ = omega arith in absurd bad) (λ m r. omega arith);
         }
 

@@ -1,11 +1,16 @@
 -- The graph of stored bindings. Its vertices are references; a bound variable has one edge, to the reference that it is bound to, and a node an edge to
 -- each argument. And the contracts of the functions that the check is made of.
-use Rattle.std.specs.Prelude.{ℕ, suc, ◌+◌, ◌-◌, ◌≤◌, ◌<◌, ◌≡◌, ◌⊎◌, Bool, true, false, cond, List, [], ◌∷◌, get_or, length}
+use Rattle.std.specs.Prelude.{ℕ, suc, ◌+◌, ◌-◌, ◌≤◌, ◌<◌, ◌≡◌, ◌⊎◌, Bool, true, false, cond, Option, Some, None, List, [], ◌∷◌, get_or, length}
 use Rattle.terms.specs.Numbers.{same, less}
 use Rattle.terms.specs.Bindings.{Bindings, Acyclic}
 use Rattle.arena.specs.Cells.{Cells, cells, arity_of, Reference}
 use Rattle.arena.specs.Rows.{Rows, column}
 use Rattle.acyclicity.specs.Contract.{Held, Stored}
+
+-- A place as the number that stands for it in a row: 0 for none, else 1 + the reference.
+abbrev pub number : Option ℕ → ℕ
+number None = 0
+number (Some r) = suc r
 
 -- Where edge number i from the reference r leads: 0 if there is none, else 1 + a reference.
 unfoldable pub edge : ℕ → Cells → Cells → ℕ → ℕ → ℕ

@@ -1,38 +1,56 @@
 // Whether stored bindings are acyclic. The bindings are a graph over references: from a bound variable an edge leads to the reference that it is bound to,
 // from a node an edge leads to each argument. The search goes through the graph in depth; scratch has by reference a mark and the way back, so that
-// nothing is recursive. A place is 0 for none, else 1 + a reference.
+// nothing is recursive. A place is a reference or none; a row of scratch holds it as a number.
 #![tactic(auto)]
 
 ghost use Rattle.std.specs.Prelude.{◌≡◌, ◌+◌, ◌≤◌, length};
-ghost use Rattle.arena.specs.Cells.{cells};
+ghost use Rattle.arena.specs.Cells.{cells, headers};
 ghost use Rattle.arena.specs.Rows.{column};
 ghost use Rattle.acyclicity.specs.Contract.{Ready, Decided};
-ghost use Rattle.acyclicity.specs.Edges.{edge, Followable, Searchable, Searched};
+ghost use Rattle.acyclicity.specs.Edges.{number, edge, Followable, Searchable, Searched};
 
 use arena::{SYMBOL_STEP, Terms};
 
 // The mark of a reference from which all edges were followed, and which no cycle was found through. Any other mark is 0 where the search has not been,
 // else 1 + the number of edges followed: below this, since a node has at most 31 arguments.
+// Stays: the marks stand in rows of numbers that programs in C lend, so an enum would be turned into a number at each step of the search.
 const CLOSED: u32 = 33;
 
+// A place as the number that stands for it in a row: 0 for none, else 1 + the reference.
+fn number_of(place: Option<u32>) -> u32
+    requires { number place ≤ headers }
+    ensures { result ≡ number place }
+{
+    match place {
+        None => 0,
+        Some(reference) => reference + 1,
+    }
+}
+
+// The place that a number in a row stands for.
+fn place_of(held: u32) -> Option<u32>
+    ensures { number result ≡ held }
+{
+    held.checked_sub(1)
+}
+
 // The place that edge number `i` from a reference leads to.
-// Stays: a place is a number, 0 for none, as the rows of scratch hold it: what is read there is compared and written back as it is.
-fn edge_at(terms: Terms, bindings: &[[u32; 2]], reference: u32, i: u32) -> u32
+fn edge_at(terms: Terms, bindings: &[[u32; 2]], reference: u32, i: u32) -> Option<u32>
     requires { Followable terms.words.now bindings.now terms.room terms.variables terms.used reference }
-    ensures { result ≡ edge terms.entry.room (cells terms.entry.words.now) (column 0 bindings.now) reference i }
+    ensures { number result ≡ edge terms.entry.room (cells terms.entry.words.now) (column 0 bindings.now) reference i }
 {
     if reference < terms.room {
         if i == 0 {
-            return bindings[reference as usize][0];
+            return place_of(bindings[reference as usize][0]);
         }
-        return 0;
+        return None;
     }
     let address = (reference - terms.room) as usize;
     let arity = terms.words[address] % SYMBOL_STEP;
     if i < arity {
-        return terms.words[address + 1 + (i as usize)] + 1;
+        return Some(terms.words[address + 1 + (i as usize)]);
     }
-    0
+    None
 }
 
 // Whether the stored bindings are acyclic; leaves its marks in scratch.
@@ -43,40 +61,42 @@ fn search(terms: Terms, bindings: &[[u32; 2]], scratch: &mut [[u32; 2]]) -> bool
 {
     // The variables below `next` are entered; `top` is the place that the search is at, `ahead` the place that it goes to.
     let mut next = 0;
-    let mut top = 0;
-    let mut ahead = 0;
+    let mut top = None;
+    let mut ahead = None;
     loop {
-        if ahead != 0 {
-            let row = (ahead - 1) as usize;
+        if let Some(reference) = ahead {
+            let row = reference as usize;
             let mark = scratch[row][0];
             if mark == CLOSED {
-                ahead = 0;
+                ahead = None;
             } else if mark == 0 {
-                scratch[row] = [1, top];
+                scratch[row] = [1, number_of(top)];
                 top = ahead;
-                ahead = 0;
+                ahead = None;
             } else {
                 // An edge back to a reference on the way that the search has come.
                 return false;
             }
-        } else if top != 0 {
-            let row = (top - 1) as usize;
+        } else if let Some(reference) = top {
+            let row = reference as usize;
             let followed = scratch[row][0] - 1;
             let parent = scratch[row][1];
-            let place = edge_at(terms, bindings, top - 1, followed);
-            if place == 0 {
-                scratch[row] = [CLOSED, parent];
-                top = parent;
-            } else {
-                scratch[row] = [followed + 2, parent];
-                ahead = place;
+            match edge_at(terms, bindings, reference, followed) {
+                None => {
+                    scratch[row] = [CLOSED, parent];
+                    top = place_of(parent);
+                }
+                Some(target) => {
+                    scratch[row] = [followed + 2, parent];
+                    ahead = Some(target);
+                }
             }
         } else {
             if next == terms.variables {
                 return true;
             }
+            ahead = Some(next);
             next += 1;
-            ahead = next;
         }
     }
 }

@@ -1,10 +1,9 @@
 -- `edge_at` meets its contract: each way out is one case of the definition, and a reference's words are within the slices.
 use Prim.Native.Nat.{◌+◌, ◌-◌, suc}
-use native.Mathlib.Numerals.{add-one}
-use mathlib.Core.Path.{◌≡◌, sym}
+use mathlib.Core.Path.{◌≡◌, sym, ◌∙◌}
 use Rattle.arena.specs.Cells.{cells}
 use Rattle.arena.specs.Rows.{column}
-use Rattle.acyclicity.proofs.EdgeLaws.{edge_variable, edge_second, edge_argument, edge_past, argument_small}
+use Rattle.acyclicity.proofs.EdgeLaws.{edge_variable, edge_second, edge_argument, edge_past}
 use native.Mathlib.Omega.{arith}
 use Rattle.acyclicity.proofs.edge_at.Goals as goal
 
@@ -13,7 +12,7 @@ returns-then-i-eq0 c =
     let args = c.args in
     let if1 = c.if-reference-terms in
     let if2 = c.if-i-eq0 in
-    sym (edge_variable args.terms.room (cells args.terms.words.now) (column 0 args.bindings.now) args.reference args.i if1.true if2.true)
+    c.place_of.ensures ∙ sym (edge_variable args.terms.room (cells args.terms.words.now) (column 0 args.bindings.now) args.reference args.i if1.true if2.true)
 
 pub returns-then-reference-terms : goal.returns-then-reference-terms
 returns-then-reference-terms c =
@@ -22,23 +21,13 @@ returns-then-reference-terms c =
     let if2 = c.if-i-eq0 in
     sym (edge_second args.terms.room (cells args.terms.words.now) (column 0 args.bindings.now) args.reference args.i if1.true if2.false)
 
-pub overflow_add-result-then-i-arity-2 : goal.overflow_add-result-then-i-arity-2
-overflow_add-result-then-i-arity-2 c =
-    let pre = c.requires in
-    let args = c.args in
-    let if1 = c.if-reference-terms in
-    let if3 = c.if-i-arity in
-    let n = argument_small pre.stored args.i pre.reference if1.false if3.true in
-    let e : args.reference - args.terms.room + 1 + args.i ≡ args.reference - args.terms.room + suc args.i = omega arith in
-    rw e (omega arith)
-
 pub returns-then-i-arity : goal.returns-then-i-arity
 returns-then-i-arity c =
     let args = c.args in
     let if1 = c.if-reference-terms in
     let if3 = c.if-i-arity in
     let e : args.reference - args.terms.room + 1 + args.i ≡ args.reference - args.terms.room + suc args.i = omega arith in
-    rw (add-one, e) (sym (edge_argument args.terms.room (cells args.terms.words.now) (column 0 args.bindings.now) args.reference args.i if1.false if3.true))
+    rw e (sym (edge_argument args.terms.room (cells args.terms.words.now) (column 0 args.bindings.now) args.reference args.i if1.false if3.true))
 
 pub returns : goal.returns
 returns c =
