@@ -20,27 +20,27 @@ fn has_room(
     stack: &[[u32; 3]],
     state: SearchState,
 ) -> bool
-    ensures { result ≡ true → Room state.most state.limit words.now bindings.now links.now marks.now stack.now }
+    ensures { result ≡ true → Room state.limits.variables state.limits.words words.now bindings.now links.now marks.now stack.now }
 {
-    if TERM_ROOM < state.most {
+    if TERM_ROOM < state.limits.variables {
         return false;
     }
-    if HEADERS - TERM_ROOM < state.limit {
+    if HEADERS - TERM_ROOM < state.limits.words {
         return false;
     }
-    if words.len() < state.limit as usize {
+    if words.len() < state.limits.words as usize {
         return false;
     }
-    if bindings.len() < state.most as usize {
+    if bindings.len() < state.limits.variables as usize {
         return false;
     }
-    if !checks::are_zero(links, (TERM_ROOM + state.limit) as usize) {
+    if !checks::are_zero(links, (TERM_ROOM + state.limits.words) as usize) {
         return false;
     }
-    if !checks::are_zero(marks, (TERM_ROOM + state.limit) as usize) {
+    if !checks::are_zero(marks, (TERM_ROOM + state.limits.words) as usize) {
         return false;
     }
-    checks::are_zero(stack, state.limit as usize)
+    checks::are_zero(stack, state.limits.words as usize)
 }
 
 // Whether storage is what an attempt asks; the marks are left as they are.
@@ -120,25 +120,19 @@ pub fn attempt(
     Ok(tried)
 }
 
-// What a premise's reference becomes by an attempt; 0 where no sum is sure to fit.
-pub fn premise(reference: u32, state: SearchState) -> u32 {
+// What a premise's reference becomes by an attempt; none where no sum is sure to fit.
+pub fn premise(reference: u32, state: SearchState) -> Option<u32> {
     let counter = state.counter;
     let used = state.used;
-    if reference < 64 {
-        return 0;
-    }
-    if 67 < reference {
-        return 0;
-    }
-    if 262144 < used {
-        return 0;
+    if reference < 64 || 67 < reference || 262144 < used {
+        return None;
     }
     let places = [1u32, 0];
-    arena::moved_word(
+    Some(arena::moved_word(
         reference,
         &places,
         counter,
         PATTERN_ROOM,
         TERM_ROOM + used + 8,
-    )
+    ))
 }

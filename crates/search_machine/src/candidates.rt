@@ -8,7 +8,7 @@ ghost use Rattle.search_machine.specs.Choosing.{Goal, Heads, Readable, Differs, 
 
 use super::{Allowed, Machine, Mode, Program, Store};
 use arena::{PATTERN_ROOM, TERM_ROOM, Terms};
-use attempts::{SearchState, clashes};
+use attempts::{SearchLimits, SearchState, clashes};
 use bindings::{StoredBindings, walk};
 
 // The header that the bindings lead to from the goal; none where they lead to a variable.
@@ -59,8 +59,10 @@ fn is_candidate(program: Program, store: &Store, m: Machine, header: Option<u32>
     }
     let conclusion = program.rules[rule as usize][5];
     let at = SearchState {
-        most: program.allowed.variables,
-        limit: program.allowed.words,
+        limits: SearchLimits {
+            variables: program.allowed.variables,
+            words: program.allowed.words,
+        },
         counter: m.counter,
         used: m.used,
         bound: m.bound,

@@ -8,7 +8,7 @@ ghost use Rattle.search_machine.specs.State.{arity, premise_ref};
 use super::frames::Frame;
 use super::{Machine, Program, Store};
 use arena::{PATTERN_ROOM, TERM_ROOM, moved_word};
-use attempts::{LentRule, SearchState, Stored, Tried, try_rule};
+use attempts::{LentRule, SearchLimits, SearchState, Stored, Tried, try_rule};
 use refusals::Refusal;
 use rules::RuleRow;
 use unifier::Workspace;
@@ -69,8 +69,10 @@ pub fn try_stored(program: Program, store: &mut Store, m: Machine) -> Result<Tri
         stored,
     };
     let at = SearchState {
-        most: program.allowed.variables,
-        limit: program.allowed.words,
+        limits: SearchLimits {
+            variables: program.allowed.variables,
+            words: program.allowed.words,
+        },
         counter: m.counter,
         used: m.used,
         bound: m.bound,
