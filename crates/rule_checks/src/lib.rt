@@ -10,38 +10,21 @@ ghost use Rattle.arena.specs.Form.{is_argument};
 ghost use Rattle.resolution.specs.Fresh.{met, met_back};
 ghost use Rattle.meeting.specs.Contract.{term_of};
 ghost use Rattle.meeting.specs.Places.{Records};
-ghost use Rattle.names.specs.NamePlaces.{NamePlace};
 ghost use Rattle.names.specs.Symbols.{column};
 ghost use Rattle.unifier.specs.Promises.{Tells};
 ghost use Rattle.rule_checks.specs.RuleForm.{RuleCheckable, RuleChecked};
 ghost use Rattle.rule_checks.specs.Steps.{Numbers, Columns, place_from, Parts, Walkable, RootAsked, TermAsked, Lent, premises_of, Walked, PlacedWord, OrderAsked, InOrder, InPlaces};
 
 use arena::Terms;
-use names::Word;
+use names::{Word, is_word_place};
 use rules::RuleRow;
 
 // The room for variables in patterns.
 const ROOM: u32 = 64;
 // The most words that the terms of a rule take: 2 for each of 1,024 nodes.
 const MOST: u32 = 2048;
-// The most bytes of a name, and the most rules.
-const BYTES: u32 = 64;
-
+// The most rules.
 const RULES: u32 = 1024;
-
-// May a name have this place: inside the text, with 1 to 64 bytes?
-pub fn is_name(text: &[u8], word: Word) -> bool
-    ensures { Tells result (NamePlace text.now word.start word.size) }
-{
-    let Word { start, size } = word;
-    if size == 0 {
-        return false;
-    }
-    if BYTES < size {
-        return false;
-    }
-    start as usize + size as usize <= text.len()
-}
 
 // Whether the words of premises and conclusion are few, and no more than are left.
 fn are_sizes(left: u32, body: u32, head: u32) -> bool
@@ -68,7 +51,7 @@ fn are_numbers(text: &[u8], rule: &RuleRow, from: u32, used: u32) -> bool
         start: rule[0],
         size: rule[1],
     };
-    if !is_name(text, word) {
+    if !is_word_place(text, word) {
         return false;
     }
     if RULES < rule[2] {
