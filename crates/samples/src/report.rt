@@ -3,6 +3,7 @@
 const STDOUT_FILENO: i32 = 1;
 
 // Writes bytes.
+// Stays: a case's name is bytes, which `write!` does not write, and it writes to an `io::Write` of std, which needs the handle that std's `main` is given.
 pub fn text(bytes: &[u8]) {
     io::write_all(STDOUT_FILENO, bytes);
 }

@@ -6,6 +6,7 @@ use arena::Terms;
 use checks::are_zero;
 
 // Are links, marks and stack zero, and long enough for the words in use?
+// Stays: links, marks and stack are only read here, and a `Workspace` would ask its callers to lend all three for writing.
 pub fn is_scratch_zero(
     terms: Terms,
     links: &[[u32; 2]],

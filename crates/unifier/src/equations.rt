@@ -5,10 +5,12 @@ ghost use Rattle.bindings.specs.Stored.{Form};
 ghost use Rattle.bindings.specs.Promises.{Free};
 ghost use Rattle.unifier.specs.Promises.{Falling, Decided, Scratch};
 ghost use Rattle.unifier.specs.Equating.{Equated};
+ghost use Rattle.unifier.specs.Lending.{SameBuffers};
 
 use super::links::{find, link};
 use super::nodes::{argument, arity};
-use super::{Decision, Ending};
+use super::stack::put_pair;
+use super::{Decision, Ending, Workspace};
 use arena::{SYMBOL_STEP, Terms};
 use bindings::{StoredBindings, enter, occurs, walk};
 
@@ -59,24 +61,26 @@ fn decide(
     Decision::Open(p, q)
 }
 
-// Stays: `decide` reads the links while it is lent the marks, which no generated proof covers behind a workspace; and `bound` counts bindings.
 // Makes r and t equal under the first `bound` bindings, if that can be, the pairs in the Rust's order; each pair of nodes is opened at most once.
 pub fn equate(
     terms: Terms,
     bindings: &mut [[u32; 2]],
-    links: &mut [[u32; 2]],
-    marks: &mut [[u32; 2]],
-    stack: &mut [[u32; 3]],
+    workspace: &mut Workspace,
     bound: u32,
     r: u32,
     t: u32,
 ) -> Ending
     requires fact_1 { Form terms.room terms.words.now bindings.old terms.variables terms.used bound }
     requires fact_2 { (Reference terms.room (cells terms.words.now) terms.variables terms.used r) × (Reference terms.room (cells terms.words.now) terms.variables terms.used t) }
-    requires fact_3 { Scratch terms.room terms.used links.old marks.old stack.old }
-    ensures { Equated terms.entry.room terms.entry.words.now bindings.old bindings.new links.old links.new marks.old marks.new
-        stack.old stack.new terms.entry.variables terms.entry.used bound r t result.equal result.bound result.linked result.pairs }
+    requires fact_3 { Scratch terms.room terms.used workspace.old.links.now workspace.old.marks.now workspace.old.stack.now }
+    ensures equated { Equated terms.entry.room terms.entry.words.now bindings.old bindings.new
+        workspace.old.links.now workspace.new.links.now workspace.old.marks.now workspace.new.marks.now workspace.old.stack.now workspace.new.stack.now
+        terms.entry.variables terms.entry.used bound r t result.equal result.bound result.linked result.pairs }
+    ensures lent { SameBuffers workspace.old workspace.new }
 {
+    let links = &mut *workspace.links;
+    let marks = &mut *workspace.marks;
+    let stack = &mut *workspace.stack;
     let mut d = 0;
     let mut n = bound;
     let mut c = 0;
@@ -96,7 +100,7 @@ pub fn equate(
                         n += 1;
                     }
                     Decision::Open(p, q) => {
-                        stack[d as usize] = [p, q, 0];
+                        put_pair(stack, d, p, q);
                         d += 1;
                     }
                     Decision::Clash => {

@@ -81,16 +81,7 @@ pub fn unify(
         terms.entry.variables terms.entry.used bound (unwrap_or result bound) r t (is_some result) }
     ensures lent { SameBuffers workspace.old workspace.new }
 {
-    let e = equate(
-        terms,
-        bindings,
-        workspace.links,
-        workspace.marks,
-        workspace.stack,
-        bound,
-        r,
-        t,
-    );
+    let e = equate(terms, bindings, workspace, bound, r, t);
     undo(workspace.links, e.linked, 0);
     clear(workspace.stack, e.pairs);
     if e.equal {

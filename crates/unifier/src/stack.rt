@@ -1,6 +1,16 @@
 // The stack of open pairs: in a row two nodes whose arguments are being made equal, and how many of them were taken.
-ghost use Rattle.std.specs.Prelude.{◌≡◌, ◌≤◌, length};
+ghost use Rattle.std.specs.Prelude.{◌≡◌, ◌≤◌, ◌<◌, ◌∷◌, [], set, length};
+ghost use Rattle.bindings.specs.Promises.{Replaced};
 ghost use Rattle.unifier.specs.Promises.{cleared};
+
+// Puts a pair of nodes on the stack, behind d others.
+// Stays: the row behind the d pairs is written, so that no part up to d can be lent.
+pub fn put_pair(s: &mut [[u32; 3]], d: u32, left: u32, right: u32)
+    requires { d < length s.old }
+    ensures { Replaced s.old s.new d 3 (set s.old d (left ∷ right ∷ 0 ∷ [])) }
+{
+    s[d as usize] = [left, right, 0];
+}
 
 // Sets the rows of the stack below d to 0.
 pub fn clear(s: &mut [[u32; 3]], d: u32)

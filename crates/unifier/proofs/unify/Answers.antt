@@ -8,10 +8,10 @@ returns-then-e-clause-unified c =
     let undo = c.undo in
     let clear = c.clear in
     let if1 = c.if-e in
-    ended_yes equate.ensures _ _ undo.ensures clear.ensures if1.true
+    ended_yes equate.ensures.equated _ _ undo.ensures clear.ensures if1.true
 
 pub undo-requires-2 : goal.undo-requires-2
-undo-requires-2 c = bindings_undoable c.equate-e.ensures
+undo-requires-2 c = bindings_undoable c.equate-e.ensures.equated
 
 pub returns-clause-unified : goal.returns-clause-unified
 returns-clause-unified c =
@@ -21,4 +21,4 @@ returns-clause-unified c =
     let if1 = c.if-e in
     let pre = c.requires in
     let undo2 = c.undo-2 in
-    ended_no equate.ensures _ _ undo.ensures clear.ensures if1.false pre.fact_1 _ undo2.ensures
+    ended_no equate.ensures.equated _ _ undo.ensures clear.ensures if1.false pre.fact_1 _ undo2.ensures

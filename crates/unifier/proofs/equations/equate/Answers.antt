@@ -1,10 +1,8 @@
 -- `equate` meets its contract. The loop's invariant: what is left to be made equal, under the bindings held, comes to what the whole comes to; links
 -- join equal terms; bindings, links and open pairs were only added. What falls: links still possible, room on the stack, arguments left, the stage.
-use mathlib.Core.Path.{refl, ap, ◌∙◌}
-use lib.ListN.{length}
-use Rattle.std.proofs.Common.{◌<◌}
+use mathlib.Core.Path.{refl, ap}
 use Rattle.std.specs.Prelude.{is_some}
-use Rattle.unifier.specs.Equating.{loop_start, loop_false, links_long, pending_form, turn_same, turn_open, turn_enter, bind_in, bind_room, open_in, open_room, less_open, turn_clash, turn_done, deep_in, last_nodes, turn_next, less_next, link_room, turn_close, less_close}
+use Rattle.unifier.specs.Equating.{loop_start, loop_false, links_long, pending_form, turn_same, turn_open, turn_enter, bind_in, bind_room, open_in, open_room, less_open, turn_clash, turn_done, deep_in, last_nodes, last_fits, turn_next, less_next, link_room, turn_close, less_close}
 use native.Mathlib.Omega.{arith}
 use Rattle.unifier.proofs.equations.equate.Goals as goal
 
@@ -36,28 +34,26 @@ pub loop-pending-preserved-in-Bind : goal.loop-pending-preserved-in-Bind
 loop-pending-preserved-in-Bind c =
     turn_enter (rw c.in-Some.is at c.loop-pending.invariant) refl _ c.decide.ensures.marks _ _ c.in-Bind.ensures.says _ c.enter.ensures
 
-pub bounds-stack-d : goal.bounds-stack-d
-bounds-stack-d c = open_room (rw c.in-Some.is at c.loop-pending.invariant) refl _ _ c.in-Open.ensures.says
+pub put_pair-requires : goal.put_pair-requires
+put_pair-requires c = open_room (rw c.in-Some.is at c.loop-pending.invariant) refl _ _ c.in-Open.ensures.says
 
 pub overflow_add-d : goal.overflow_add-d
 overflow_add-d c = let room = open_in (rw c.in-Some.is at c.loop-pending.invariant) refl _ _ c.in-Open.ensures.says in omega arith
 
 pub loop-pending-smaller-in-Open : goal.loop-pending-smaller-in-Open
-loop-pending-smaller-in-Open c = rw c.in-Some.is (less_open (rw c.in-Some.is at c.loop-pending.invariant) refl _ _ c.in-Open.ensures.says)
+loop-pending-smaller-in-Open c = rw (c.in-Some.is, c.put_pair.ensures.is) (less_open (rw c.in-Some.is at c.loop-pending.invariant) refl _ _ c.in-Open.ensures.says)
 
 pub loop-pending-preserved-in-Open : goal.loop-pending-preserved-in-Open
 loop-pending-preserved-in-Open c =
     let h = rw c.in-Some.is at c.loop-pending.invariant in
     let room = open_room h refl _ _ c.in-Open.ensures.says in
-    let long = c.loop-pending.invariant.stacking.long in
-    let within : c.loop-pending.d < length c.args.stack.now = omega arith in
-    turn_open h refl _ c.decide.ensures.marks _ _ c.in-Open.ensures.says room (ap length (c.loop-pending.invariant.stacking.above _ (omega arith)) ∙ c.told-stack _ within)
+    rw c.put_pair.ensures.is (turn_open h refl _ c.decide.ensures.marks _ _ c.in-Open.ensures.says room c.put_pair.ensures.wide)
 
-pub returns-in-Clash : goal.returns-in-Clash
-returns-in-Clash c = turn_clash (rw c.in-Some.is at c.loop-pending.invariant) refl _ c.decide.ensures.marks c.in-Clash.ensures.says
+pub returns-in-Clash-clause-equated : goal.returns-in-Clash-clause-equated
+returns-in-Clash-clause-equated c = turn_clash (rw c.in-Some.is at c.loop-pending.invariant) refl _ c.decide.ensures.marks c.in-Clash.ensures.says
 
-pub returns-then-d-eq0 : goal.returns-then-d-eq0
-returns-then-d-eq0 c = turn_done c.loop-pending.invariant (ap is_some c.in-None.is) c.if-d-eq0.true
+pub returns-then-d-eq0-clause-equated : goal.returns-then-d-eq0-clause-equated
+returns-then-d-eq0-clause-equated c = turn_done c.loop-pending.invariant (ap is_some c.in-None.is) c.if-d-eq0.true
 
 pub bounds-stack-last : goal.bounds-stack-last
 bounds-stack-last c = let z = c.if-d-eq0.false in let deep = deep_in c.loop-pending.invariant (ap is_some c.in-None.is) z in omega arith
@@ -69,7 +65,13 @@ pub bounds-stack-last-else-d-eq0-2 : goal.bounds-stack-last-else-d-eq0-2
 bounds-stack-last-else-d-eq0-2 c = let z = c.if-d-eq0.false in let deep = deep_in c.loop-pending.invariant (ap is_some c.in-None.is) z in omega arith
 
 pub arity-requires : goal.arity-requires
-arity-requires c = (last_nodes c.loop-pending.invariant (ap is_some c.in-None.is) c.if-d-eq0.false _ _ _ refl refl refl).0.0
+arity-requires c =
+    let h = c.loop-pending.invariant in
+    let nodes = last_nodes h (ap is_some c.in-None.is) c.if-d-eq0.false _ _ _ refl refl refl in
+    let a = nodes.0.0 in
+    let fits = last_fits h (ap is_some c.in-None.is) c.if-d-eq0.false _ _ _ refl refl refl in
+    let lent = h.fixed.lent_words in
+    (a, omega arith)
 
 pub bounds-stack-last-then-taken-arity : goal.bounds-stack-last-then-taken-arity
 bounds-stack-last-then-taken-arity c = let z = c.if-d-eq0.false in let deep = deep_in c.loop-pending.invariant (ap is_some c.in-None.is) z in omega arith
@@ -78,21 +80,21 @@ pub argument-requires : goal.argument-requires
 argument-requires c =
     let nodes = last_nodes c.loop-pending.invariant (ap is_some c.in-None.is) c.if-d-eq0.false _ _ _ refl refl refl in
     let a = nodes.0.0 in
-    let b = nodes.1.0 in
-    let low = c.loop-pending.invariant.fixed.low in
+    let fits = (last_fits c.loop-pending.invariant (ap is_some c.in-None.is) c.if-d-eq0.false _ _ _ refl refl refl).0 in
+    let lent = c.loop-pending.invariant.fixed.lent_words in
     let q = c.arity.ensures in
     let y = c.if-taken-arity.true in
-    (omega arith, omega arith, omega arith)
+    (omega arith, omega arith)
 
 pub argument-requires-then-taken-arity : goal.argument-requires-then-taken-arity
 argument-requires-then-taken-arity c =
     let nodes = last_nodes c.loop-pending.invariant (ap is_some c.in-None.is) c.if-d-eq0.false _ _ _ refl refl refl in
     let a = nodes.0.1 in
-    let b = nodes.1.1 in
-    let low = c.loop-pending.invariant.fixed.low in
+    let fits = (last_fits c.loop-pending.invariant (ap is_some c.in-None.is) c.if-d-eq0.false _ _ _ refl refl refl).1 in
+    let lent = c.loop-pending.invariant.fixed.lent_words in
     let q = c.arity.ensures in
     let y = c.if-taken-arity.true in
-    (omega arith, omega arith, omega arith)
+    (omega arith, omega arith)
 
 pub loop-pending-smaller-then-taken-arity : goal.loop-pending-smaller-then-taken-arity
 loop-pending-smaller-then-taken-arity c =
