@@ -166,15 +166,15 @@ place_number (q ∷ table) (suc x) h = place_number table x h
 
 -- Order
 
-place_true : (p : Option ℕ) (x : ℕ) → is_place p x ≡ true → p ≡ Some x
-place_true None x h = true_false h refl
-place_true (Some p) x h = ap Some (eqb-true p x h)
+pub place_is : (p : Option ℕ) (x : ℕ) → is_place p x ≡ true → p ≡ Some x
+place_is None x h = true_false h refl
+place_is (Some p) x h = ap Some (eqb-true p x h)
 
 order_each : (table : List (Option ℕ)) (n : ℕ) → in_order table n ≡ true → (x : ℕ) → x < n → get_or table x None ≡ Some x
 unfolding in_order
 order_each table zero h x l = absurd (not-suc-le-zero l)
 order_each table (suc n) h x l = by_bool (is_place (get_or table n None) n)
-    (λ p. by_same x n (λ q r. rw q (place_true (get_or table n None) n p)) (λ q r. order_each table n (rw p at h) x (by_less x n (λ k s. k) (λ k s. absurd (q (omega arith))))))
+    (λ p. by_same x n (λ q r. rw q (place_is (get_or table n None) n p)) (λ q r. order_each table n (rw p at h) x (by_less x n (λ k s. k) (λ k s. absurd (q (omega arith))))))
     (λ p. true_false h (rw p))
 
 each_order : (table : List (Option ℕ)) (n : ℕ) → ((x : ℕ) → x < n → get_or table x None ≡ Some x) → in_order table n ≡ true
@@ -190,7 +190,7 @@ places_each : (table : List (Option ℕ)) (a n : ℕ) → n ≤ length table →
 places_each table a zero l h x k = absurd (not-suc-le-zero k)
 places_each [] a (suc n) l h x k = absurd (not-suc-le-zero l)
 places_each (p ∷ table) a (suc n) l h zero k = by_bool (is_place p a)
-    (λ q. let e : a + 0 ≡ a = omega arith in rw e (place_true p a q))
+    (λ q. let e : a + 0 ≡ a = omega arith in rw e (place_is p a q))
     (λ q. true_false h (rw q))
 places_each (p ∷ table) a (suc n) l h (suc x) k = by_bool (is_place p a)
     (λ q. let e : a + suc x ≡ a + 1 + x = omega arith in rw e (places_each table (a + 1) n (omega arith) (rw q at h) x (omega arith)))

@@ -2,7 +2,7 @@
 // the term takes (document 01, refusal 37). The stack is lent, so that nothing is recursive.
 #![tactic(auto)]
 
-ghost use Rattle.std.specs.Prelude.{◌≡◌, ◌<◌, []};
+ghost use Rattle.std.specs.Prelude.{◌≡◌, ◌<◌, [], length};
 ghost use Rattle.arena.specs.Copies.{pattern_room};
 ghost use Rattle.meeting.specs.Places.{Records, Given, placed_count, is_place, in_order};
 ghost use Rattle.meeting.specs.Contract.{Ready, Walked};
@@ -15,6 +15,7 @@ pub struct Places {
     pub places: [Option<u32>; 64],
     pub count: u32,
     ghost counted: { count ≡ placed_count places },
+    ghost long: { length places ≡ pattern_room },
 }
 
 impl Places {

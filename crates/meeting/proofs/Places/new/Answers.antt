@@ -6,7 +6,7 @@ use Rattle.meeting.proofs.Places.new.Goals as goal
 
 pub invariant_of-result : goal.invariant_of-result
 unfolding placed_count
-invariant_of-result c = record { counted = refl }
+invariant_of-result c = record { counted = refl; long = refl }
 
 pub returns : goal.returns
 returns c = records_new
