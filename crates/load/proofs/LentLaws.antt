@@ -1,5 +1,5 @@
 -- Laws of buffers that a store had on loan: what is said of the one list is said of the other, which is the same.
-use Rattle.std.specs.Prelude.{ℕ, ◌≤◌, ◌≡◌, List, length}
+use Rattle.std.specs.Prelude.{ℕ, ◌≡◌, List}
 use Rattle.names.specs.Symbols.{Rows}
 use Rattle.load_storage.specs.Storage.{SignatureCleared, ScratchCleared}
 

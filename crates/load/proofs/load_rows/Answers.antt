@@ -1,5 +1,4 @@
 -- `load_rows` meets its contract: everything is wiped, or the signature is kept with zero past it.
-use Prim.Native.Nat.{◌≤◌}
 use mathlib.Core.Path.{◌≡◌, refl, sym, ap, ◌∙◌}
 use lib.ListN.{length, take}
 use lib.Seq.{length-take-le}
@@ -8,7 +7,7 @@ use Rattle.loader.specs.Stored.{titles_of}
 use Rattle.load.specs.Load.{evals_from}
 use Rattle.load_storage.specs.Storage.{Buffers, wiped}
 use Rattle.load_storage.specs.Lent.{buffers_of}
-use Rattle.load.proofs.LentLaws.{there, scratch_as, signature_as}
+use Rattle.load.proofs.LentLaws.{scratch_as, signature_as}
 use Rattle.load.proofs.WalkLaws.{evals_few}
 use Rattle.load_storage.proofs.WipeLaws.{SameLengths, buffers, wiped_same}
 use Rattle.load.proofs.RowsLaws.{came_done, rows_refused, rows_done}
