@@ -27,10 +27,5 @@ pub fn are_bindings(terms: Terms, bindings: &[[u32; 2]]) -> bool
     if bindings.len() < end {
         return false;
     }
-    for v in 0..end {
-        if !is_binding(terms, bindings[v][0]) {
-            return false;
-        }
-    }
-    true
+    bindings[..end].iter().all(|row| is_binding(terms, row[0]))
 }

@@ -2,7 +2,7 @@
 #![tactic(auto)]
 
 use arena::{TERM_ROOM, Terms};
-use samples::build::{BINARY, CONSTANT, UNARY, put, put_tower};
+use samples::build::{BINARY, CONSTANT, UNARY, put_tower};
 use samples::report;
 use samples::rows::bind_chain;
 use samples::unification::Fault;
@@ -70,7 +70,7 @@ fn two_variables(name: &[u8], first: u32, second: u32) {
 fn chain(name: &[u8], last: u32) {
     let mut bindings = [[0u32; 2]; 50000];
     bind_chain(&mut bindings[..49999]);
-    put(&mut bindings, MOST - 1, [last, 0]);
+    slices::put(&mut bindings, MOST as usize - 1, [last, 0]);
     check(name, &[0], &bindings, MOST, 0);
 }
 
@@ -86,7 +86,7 @@ fn tower(name: &[u8], variable: u32) {
     let mut words = [0u32; 60000];
     let used = put_tower(&mut words, 0, 20000, 1, 2);
     let mut bindings = [[0u32; 2]; 2];
-    put(&mut bindings, variable, [TERM_ROOM + 59998, 0]);
+    slices::put(&mut bindings, variable as usize, [TERM_ROOM + 59998, 0]);
     check(name, &words, &bindings, 2, used);
 }
 

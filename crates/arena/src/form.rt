@@ -3,6 +3,7 @@ ghost use Rattle.std.specs.Prelude.{◌≡◌, ◌+◌, ◌≤◌, length};
 ghost use Rattle.arena.specs.Cells.{headers};
 ghost use Rattle.arena.specs.Form.{is_header, is_argument};
 
+use super::Terms;
 use super::format::{HEADERS, INPUTS, SYMBOL_STEP};
 
 // Whether a word is the header of a known symbol, with that symbol's arity.
@@ -21,27 +22,21 @@ pub fn is_header(arities: &[u32], word: u32) -> bool
     false
 }
 
-// Whether a word may be an argument of the node at the address `node`; with the number of words in use for `node`, whether it is a reference in form.
-pub fn is_argument(
-    words: &[u32],
-    from: u32,
-    room: u32,
-    variables: u32,
-    node: u32,
-    word: u32,
-) -> bool
-    // The pass over the words has come to `node`, and all references are below the headers.
-    requires { (from ≤ node) × (node ≤ length words.now) × (room + node ≤ headers) }
-    ensures { result ≡ is_argument (record { words = words.now; room = room; variables = variables; from = from }) node word }
+// Whether a word may be an argument of a node behind the words in use, or is a reference in form: a variable, or a node in use from the address `from` on.
+pub fn is_argument(terms: Terms, from: u32, word: u32) -> bool
+    // The words in use are among those lent, and all references are below the headers.
+    requires { (from ≤ terms.used) × (terms.used ≤ length terms.words.now) × (terms.room + terms.used ≤ headers) }
+    ensures { result ≡ is_argument (record { words = terms.entry.words.now; room = terms.entry.room; variables = terms.entry.variables; from = from })
+        terms.entry.used word }
 {
-    if word < room {
-        return word < variables;
+    if word < terms.room {
+        return word < terms.variables;
     }
-    if word < room + from {
+    if word < terms.room + from {
         return false;
     }
-    if word < room + node {
-        return words[(word - room) as usize] >= HEADERS;
+    if word < terms.room + terms.used {
+        return terms.words[(word - terms.room) as usize] >= HEADERS;
     }
     false
 }

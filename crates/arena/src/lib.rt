@@ -30,6 +30,15 @@ pub struct Terms<'a> {
     pub used: u32,
 }
 
+// Words of a rule: `count` words from the address `from` on, and for each variable its place among the new ones.
+#[derive(Clone, Copy)]
+pub struct Pattern<'a> {
+    pub words: &'a [u32],
+    pub from: u32,
+    pub count: u32,
+    pub places: &'a [u32],
+}
+
 // Writes a node, its header and its arguments, from the address `used` on.
 // Stays: it is written behind the words in use, so that those lent go on past them.
 pub fn push_node(words: &mut [u32], used: u32, header: u32, arguments: &[u32])
@@ -42,48 +51,39 @@ pub fn push_node(words: &mut [u32], used: u32, header: u32, arguments: &[u32])
     words[at + 1..at + 1 + arguments.len()].copy_from_slice(arguments);
 }
 
-// Copies a rule's words, `count` words of the pattern from the address `from` on, to the address `used`, with new variables from `counter` on.
-pub fn inst(
-    pattern: &[u32],
-    from: u32,
-    count: u32,
-    places: &[u32],
-    words: &mut [u32],
-    room: u32,
-    used: u32,
-    counter: u32,
-)
+// Copies a rule's words to the address `used`, with new variables from `counter` on.
+pub fn inst(pattern: Pattern, words: &mut [u32], room: u32, used: u32, counter: u32)
     // The caller counts words and variables before it copies, and a signature in form has rules whose words refer to nothing outside.
-    requires { Copyable pattern.now from count places.now words.old room used counter }
-    ensures { words.new ≡ sets words.old used (copied pattern.now from count places.now room used counter) }
+    requires { Copyable pattern.words.now pattern.from pattern.count pattern.places.now words.old room used counter }
+    ensures { words.new ≡ sets words.old used
+        (copied pattern.entry.words.now pattern.entry.from pattern.entry.count pattern.entry.places.now room used counter) }
 {
-    let start = from as usize;
-    let end = count as usize;
+    let start = pattern.from as usize;
+    let end = pattern.count as usize;
     let at = used as usize;
-    let first = PATTERN_ROOM + from;
+    let first = PATTERN_ROOM + pattern.from;
     let base = room + used;
     for i in 0..end {
-        words[at + i] = moved_word(pattern[start + i], places, counter, first, base);
+        words[at + i] = moved_word(
+            pattern.words[start + i],
+            pattern.places,
+            counter,
+            first,
+            base,
+        );
     }
 }
 
-// Whether the words from the address `from` up to `to` are in form: nodes one after another, whatever they hold.
-pub fn check_words(
-    words: &[u32],
-    from: u32,
-    to: u32,
-    room: u32,
-    variables: u32,
-    arities: &[u32],
-) -> bool
+// Whether the words in use from the address `from` on are in form: nodes one after another, whatever they hold.
+pub fn check_words(terms: Terms, from: u32, arities: &[u32]) -> bool
     // The part lies in the slice, and all references to it are below the headers: both follow from the limits, which the caller tests first.
-    requires { (from ≤ to) × (to ≤ length words.now) × (room + to ≤ headers) }
-    ensures { result ≡ in_form words.now from to room variables arities.now }
+    requires { (from ≤ terms.used) × (terms.used ≤ length terms.words.now) × (terms.room + terms.used ≤ headers) }
+    ensures { result ≡ in_form terms.entry.words.now from terms.entry.used terms.entry.room terms.entry.variables arities.now }
 {
     let mut node = from;
     let mut left = 0;
-    for at in from..to {
-        let word = words[at as usize];
+    for at in from..terms.used {
+        let word = terms.words[at as usize];
         if left == 0 {
             if !is_header(arities, word) {
                 return false;
@@ -92,7 +92,11 @@ pub fn check_words(
             left = word % SYMBOL_STEP;
             continue;
         }
-        if !is_argument(words, from, room, variables, node, word) {
+        let before = Terms {
+            used: node,
+            ..terms
+        };
+        if !is_argument(before, from, word) {
             return false;
         }
         left -= 1;

@@ -1,4 +1,4 @@
--- What `clear` leaves of a whole slice: zeroes.
+-- What `clear_from` leaves of a whole slice: zeroes.
 use Prim.Native.Nat.{ℕ, zero, suc, ◌-◌}
 use native.Mathlib.Omega.{arith}
 use mathlib.Core.Path.{◌≡◌, refl, ap, ◌∙◌}

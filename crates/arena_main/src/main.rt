@@ -50,22 +50,22 @@ fn compare(words: &[u32], links: &mut [u32], used: u32, a: u32, b: u32) -> u8 {
     if (used as usize) > links.len() {
         return b'x';
     }
-    if !arena::check_words(words, 0, used, 64, 2, &arities) {
-        return b'x';
-    }
-    if !arena::is_argument(words, 0, 64, 2, used, a) {
-        return b'x';
-    }
-    if !arena::is_argument(words, 0, 64, 2, used, b) {
-        return b'x';
-    }
-    arena::clear(links, 0);
     let terms = Terms {
         words,
         room: 64,
         variables: 2,
         used,
     };
+    if !arena::check_words(terms, 0, &arities) {
+        return b'x';
+    }
+    if !arena::is_argument(terms, 0, a) {
+        return b'x';
+    }
+    if !arena::is_argument(terms, 0, b) {
+        return b'x';
+    }
+    slices::clear_from(links, 0, 0);
     if arena::equal(terms, links, a, b) {
         return b'y';
     }
@@ -88,7 +88,13 @@ fn changed(place: usize, word: u32) -> u8 {
         words[place] = word;
     }
     let arities = [0u32, 1, 2, 17];
-    if arena::check_words(&words, 0, 6, 64, 2, &arities) {
+    let terms = Terms {
+        words: &words,
+        room: 64,
+        variables: 2,
+        used: 6,
+    };
+    if arena::check_words(terms, 0, &arities) {
         return b'f';
     }
     b'x'

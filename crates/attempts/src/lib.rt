@@ -7,7 +7,7 @@ ghost use Rattle.attempts.specs.Clashes.{Comparable, Clashes};
 ghost use Rattle.unifier.specs.Lending.{SameBuffers};
 ghost use Rattle.attempts.specs.Promises.{Asked, Attempted, HeadAsked, HeadTried, BodyAsked, BodyTried};
 
-use arena::{PATTERN_ROOM, SYMBOL_STEP, TERM_ROOM, Terms, inst, moved_word};
+use arena::{PATTERN_ROOM, Pattern, SYMBOL_STEP, TERM_ROOM, Terms, inst, moved_word};
 use bindings::{StoredBindings, undo, walk};
 use refusals::Refusal;
 use unifier::{Workspace, unify};
@@ -34,28 +34,34 @@ pub struct LentRule<'a> {
     pub stored: Stored,
 }
 
-// Where a search stands: how many variables and words it may use, how many variables, words and bindings are in use, and the goal.
+// How many variables and words a search may use.
+#[derive(Clone, Copy)]
+pub struct SearchLimits {
+    pub variables: u32,
+    pub words: u32,
+}
+
+// Where a search stands: what it may use, how many variables, words and bindings are in use, and the goal.
 #[derive(Clone, Copy)]
 pub struct SearchState {
-    pub most: u32,
-    pub limit: u32,
+    pub limits: SearchLimits,
     pub counter: u32,
     pub used: u32,
     pub bound: u32,
     pub goal: u32,
 }
 
-impl SearchState {
+impl SearchLimits {
     // Whether so many variables and words are too many (document 01, refusal 37).
     pub fn exceeds(self, variables: u32, words: u32) -> bool
-        ensures { result ≡ over (within self.most self.limit) variables words }
+        ensures { result ≡ over (within self.variables self.words) variables words }
     {
-        let many = self.most < variables;
-        many || self.limit < words
+        self.variables < variables || self.words < words
     }
 }
 
 // What came of an attempt that the limits allow.
+// Stays: a miss is no absence and no error, since the counter has moved on; an `Option` would leave the counter of a miss out.
 #[derive(Clone, Copy)]
 pub enum Tried {
     // The conclusion does not unify; the counter has moved on.
@@ -154,9 +160,9 @@ fn try_head(
     workspace: &mut Workspace,
     at: SearchState,
 ) -> Result<Option<u32>, Refusal>
-    requires { HeadAsked at.most at.limit rule.pattern.now rule.places.now rule.stored words.old bindings.old
+    requires { HeadAsked at.limits.variables at.limits.words rule.pattern.now rule.places.now rule.stored words.old bindings.old
         workspace.old.links.now workspace.old.marks.now workspace.old.stack.now at.counter at.used at.bound at.goal }
-    ensures tried { HeadTried at.most at.limit rule.entry.pattern.now rule.entry.places.now rule.entry.stored words.old words.new
+    ensures tried { HeadTried at.limits.variables at.limits.words rule.entry.pattern.now rule.entry.places.now rule.entry.stored words.old words.new
         bindings.old bindings.new workspace.old.links.now workspace.new.links.now workspace.old.marks.now workspace.new.marks.now
         workspace.old.stack.now workspace.new.stack.now at.counter at.used at.bound at.goal result }
     ensures lent { SameBuffers workspace.old workspace.new }
@@ -165,7 +171,7 @@ fn try_head(
     let from = stored.from + stored.body;
     let variables = at.counter + stored.met;
     let top = at.used + stored.head;
-    if at.exceeds(variables, top) {
+    if at.limits.exceeds(variables, top) {
         return Err(Refusal::OverLimit);
     }
     if clashes(rule.pattern, words, bindings, at, stored.conclusion) {
@@ -180,16 +186,13 @@ fn try_head(
         PATTERN_ROOM + from,
         TERM_ROOM + at.used,
     );
-    inst(
-        rule.pattern,
+    let head = Pattern {
+        words: rule.pattern,
         from,
-        stored.head,
-        rule.places,
-        words,
-        TERM_ROOM,
-        at.used,
-        at.counter,
-    );
+        count: stored.head,
+        places: rule.places,
+    };
+    inst(head, words, TERM_ROOM, at.used, at.counter);
     let terms = Terms {
         words,
         room: TERM_ROOM,
@@ -207,28 +210,25 @@ fn try_body(
     at: SearchState,
     bound: u32,
 ) -> Result<(), Refusal>
-    requires { BodyAsked at.most at.limit rule.pattern.now rule.places.now rule.stored words.old bindings.old at.counter at.used at.bound bound }
-    ensures { BodyTried at.most at.limit rule.entry.pattern.now rule.entry.places.now rule.entry.stored words.old words.new
+    requires { BodyAsked at.limits.variables at.limits.words rule.pattern.now rule.places.now rule.stored words.old bindings.old at.counter at.used at.bound bound }
+    ensures { BodyTried at.limits.variables at.limits.words rule.entry.pattern.now rule.entry.places.now rule.entry.stored words.old words.new
         bindings.old bindings.new at.counter at.used at.bound bound result }
 {
     let stored = rule.stored;
     let behind = at.used + stored.head;
     let variables = at.counter + stored.variables;
     let end = behind + stored.body;
-    if at.exceeds(variables, end) {
+    if at.limits.exceeds(variables, end) {
         undo(bindings, bound, at.bound);
         return Err(Refusal::OverLimit);
     }
-    inst(
-        rule.pattern,
-        stored.from,
-        stored.body,
-        rule.places,
-        words,
-        TERM_ROOM,
-        behind,
-        at.counter,
-    );
+    let body = Pattern {
+        words: rule.pattern,
+        from: stored.from,
+        count: stored.body,
+        places: rule.places,
+    };
+    inst(body, words, TERM_ROOM, behind, at.counter);
     Ok(())
 }
 
@@ -241,9 +241,9 @@ pub fn try_rule(
     workspace: &mut Workspace,
     at: SearchState,
 ) -> Result<Tried, Refusal>
-    requires { Asked at.most at.limit rule.pattern.now rule.premises.now rule.places.now rule.stored words.old bindings.old
+    requires { Asked at.limits.variables at.limits.words rule.pattern.now rule.premises.now rule.places.now rule.stored words.old bindings.old
         workspace.old.links.now workspace.old.marks.now workspace.old.stack.now at.counter at.used at.bound at.goal }
-    ensures tried { Attempted at.most at.limit rule.entry.pattern.now rule.entry.premises.now rule.entry.places.now rule.entry.stored
+    ensures tried { Attempted at.limits.variables at.limits.words rule.entry.pattern.now rule.entry.premises.now rule.entry.places.now rule.entry.stored
         words.old words.new bindings.old bindings.new workspace.old.links.now workspace.new.links.now
         workspace.old.marks.now workspace.new.marks.now workspace.old.stack.now workspace.new.stack.now
         at.counter at.used at.bound at.goal result }

@@ -12,48 +12,42 @@ use samples::unification::Fault;
 use unifier::Workspace;
 
 // Whether storage has room for what the limits allow, and the scratch is zero.
-fn has_room(
-    words: &[u32],
-    bindings: &[[u32; 2]],
-    links: &[[u32; 2]],
-    marks: &[[u32; 2]],
-    stack: &[[u32; 3]],
-    state: SearchState,
-) -> bool
-    ensures { result ≡ true → Room state.most state.limit words.now bindings.now links.now marks.now stack.now }
+fn has_room(words: &[u32], bindings: &[[u32; 2]], workspace: &Workspace, state: SearchState) -> bool
+    ensures { result ≡ true → Room state.limits.variables state.limits.words words.now bindings.now
+        workspace.now.links.now workspace.now.marks.now workspace.now.stack.now }
 {
-    if TERM_ROOM < state.most {
+    if TERM_ROOM < state.limits.variables {
         return false;
     }
-    if HEADERS - TERM_ROOM < state.limit {
+    if HEADERS - TERM_ROOM < state.limits.words {
         return false;
     }
-    if words.len() < state.limit as usize {
+    if words.len() < state.limits.words as usize {
         return false;
     }
-    if bindings.len() < state.most as usize {
+    if bindings.len() < state.limits.variables as usize {
         return false;
     }
-    if !checks::are_zero(links, (TERM_ROOM + state.limit) as usize) {
+    if !checks::are_zero(workspace.links, (TERM_ROOM + state.limits.words) as usize) {
         return false;
     }
-    if !checks::are_zero(marks, (TERM_ROOM + state.limit) as usize) {
+    if !checks::are_zero(workspace.marks, (TERM_ROOM + state.limits.words) as usize) {
         return false;
     }
-    checks::are_zero(stack, state.limit as usize)
+    checks::are_zero(workspace.stack, state.limits.words as usize)
 }
 
 // Whether storage is what an attempt asks; the marks are left as they are.
-// Stays: of links, marks and stack the marks alone are written; a `Workspace` would ask for all three to be lent so.
 fn is_state(
     words: &[u32],
     bindings: &[[u32; 2]],
-    links: &[[u32; 2]],
-    marks: &mut [[u32; 2]],
-    stack: &[[u32; 3]],
+    workspace: &mut Workspace,
     state: SearchState,
 ) -> bool
-    ensures { StateTold state words.now bindings.now links.now marks.old marks.new stack.now result }
+    ensures told { StateTold state words.now bindings.now
+        workspace.old.links.now workspace.old.marks.now workspace.new.marks.now workspace.old.stack.now result }
+    ensures links { workspace.new.links.now ≡ workspace.old.links.now }
+    ensures stack { workspace.new.stack.now ≡ workspace.old.stack.now }
 {
     let terms = Terms {
         words,
@@ -65,13 +59,13 @@ fn is_state(
         rows: bindings,
         bound: state.bound,
     };
-    if !checks::is_form(terms, held, marks) {
+    if !checks::is_form(terms, held, workspace.marks) {
         return false;
     }
     if !bindings::is_reference(terms, state.goal) {
         return false;
     }
-    has_room(words, bindings, links, marks, stack, state)
+    has_room(words, bindings, workspace, state)
 }
 
 // Tries the rule: as `try_rule` answers.
@@ -81,12 +75,8 @@ pub fn attempt(
     workspace: Workspace,
     state: SearchState,
 ) -> Result<Result<Tried, Refusal>, Fault> {
-    let Workspace {
-        links,
-        marks,
-        stack,
-    } = workspace;
-    if !is_state(words, bindings, links, marks, stack, state) {
+    let mut lent = workspace;
+    if !is_state(words, bindings, &mut lent, state) {
         return Err(Fault::NotReady);
     }
     let pattern = [
@@ -108,11 +98,6 @@ pub fn attempt(
         places: &places,
         stored,
     };
-    let mut lent = Workspace {
-        links,
-        marks,
-        stack,
-    };
     let tried = attempts::try_rule(rule, words, bindings, &mut lent, state);
     if !unification::is_clean(&lent) {
         return Err(Fault::ScratchLeft);
@@ -120,25 +105,19 @@ pub fn attempt(
     Ok(tried)
 }
 
-// What a premise's reference becomes by an attempt; 0 where no sum is sure to fit.
-pub fn premise(reference: u32, state: SearchState) -> u32 {
+// What a premise's reference becomes by an attempt; none where no sum is sure to fit.
+pub fn premise(reference: u32, state: SearchState) -> Option<u32> {
     let counter = state.counter;
     let used = state.used;
-    if reference < 64 {
-        return 0;
-    }
-    if 67 < reference {
-        return 0;
-    }
-    if 262144 < used {
-        return 0;
+    if reference < 64 || 67 < reference || 262144 < used {
+        return None;
     }
     let places = [1u32, 0];
-    arena::moved_word(
+    Some(arena::moved_word(
         reference,
         &places,
         counter,
         PATTERN_ROOM,
         TERM_ROOM + used + 8,
-    )
+    ))
 }

@@ -2,10 +2,10 @@
 #![tactic(auto)]
 
 use arena::TERM_ROOM;
-use attempts::{SearchState, Tried};
+use attempts::{SearchLimits, SearchState, Tried};
 use refusals::Refusal;
 use samples::unification::{Case, Fault, Left};
-use samples::{build, report, rows, unification};
+use samples::{build, report, unification};
 use unifier::Workspace;
 
 mod attempt; // one attempt
@@ -19,54 +19,50 @@ const WORDS: usize = 200100;
 const REFERENCES: usize = 265636;
 
 // Two constants and a tower of 100,000 nodes, and variable 0 as the goal, bound to the tower's node of the height given; two variables are in use, and
-// the limit leaves room for `spare` words.
+// the limit leaves room for `spare` words. None where the tower is lower than that, or the numbers are too large.
 fn put_goal(
     words: &mut [u32],
     bindings: &mut [[u32; 2]],
     most: u32,
     height: u32,
     spare: u32,
-) -> SearchState {
+) -> Option<SearchState> {
     build::put_constants(words);
     let used = build::put_tower(words, 2, 100000, TERM_ROOM, 1);
-    if 100000 < height {
-        return no_state();
+    if 100000 < height || 100 < spare || 262144 < used {
+        return None;
     }
-    if 100 < spare {
-        return no_state();
-    }
-    if 262144 < used {
-        return no_state();
-    }
-    build::put(bindings, 0, [TERM_ROOM + 2 * height + 1, 0]);
-    SearchState {
-        most: most,
-        limit: used + spare,
+    slices::put(bindings, 0, [TERM_ROOM + 2 * height + 1, 0]);
+    Some(SearchState {
+        limits: SearchLimits {
+            variables: most,
+            words: used + spare,
+        },
         counter: 2,
-        used: used,
+        used,
         bound: 1,
         goal: 0,
-    }
+    })
 }
 
-// A state that is not in form: it has a goal and no variables.
-fn no_state() -> SearchState {
-    SearchState {
-        most: 0,
-        limit: 0,
-        counter: 0,
-        used: 0,
-        bound: 0,
-        goal: 0,
+// Writes what a premise's reference becomes.
+fn report_premise(reference: u32, state: SearchState) {
+    match attempt::premise(reference, state) {
+        Some(moved) => {
+            report::decimal(moved);
+        }
+        None => {
+            report::text(b"none");
+        }
     }
 }
 
 // Writes the references of the premises.
 fn report_premises(state: SearchState) {
     report::text(b", premises ");
-    report::decimal(attempt::premise(64, state));
+    report_premise(64, state);
     report::text(b" and ");
-    report::decimal(attempt::premise(67, state));
+    report_premise(67, state);
 }
 
 // Writes the line of an attempt.
@@ -117,9 +113,12 @@ fn report_attempt(left: Left, state: SearchState, came: Result<Result<Tried, Ref
 fn try_rule(name: &[u8], most: u32, height: u32, spare: u32) {
     let mut words = [0u32; WORDS];
     let mut bindings = [[0u32; 2]; 64];
-    let state = put_goal(&mut words, &mut bindings, most, height, spare);
-    let mut before = [[0u32; 2]; 64];
-    build::put(&mut before, 0, [rows::number_at(&bindings, 0, 0), 0]);
+    let Some(state) = put_goal(&mut words, &mut bindings, most, height, spare) else {
+        report::text(name);
+        report::text(b": no goal\n");
+        return;
+    };
+    let before = bindings;
     let mut links = [[0u32; 2]; REFERENCES];
     let mut marks = [[0u32; 2]; REFERENCES];
     let mut stack = [[0u32; 3]; WORDS];

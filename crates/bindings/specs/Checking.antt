@@ -1,5 +1,5 @@
 -- The check of stored bindings: its parts hold together exactly where the rows are in form.
-use Rattle.std.specs.Prelude.{ℕ, zero, suc, ◌+◌, ◌-◌, ◌≤◌, ◌<◌, ◌≡◌, refl, Bool, true, false, ◌≢◌, List, length}
+use Rattle.std.specs.Prelude.{ℕ, zero, suc, ◌+◌, ◌-◌, ◌≤◌, ◌<◌, ◌≡◌, refl, Bool, true, false, ◌≢◌, Result, Ok, Err, List, length}
 use Rattle.std.proofs.Common.{zero-le, arith, not-suc-le-zero, le_refl, sym, ap, subst, ◌∙◌, ⊎_elim}
 use Rattle.std.proofs.Math.Option.{none, some}
 use Rattle.terms.specs.Numbers.{by_bool, by_same, same_ne, true_false, some_none}
@@ -34,6 +34,11 @@ pub record Entering (b m₀ m : Rows) (variables n : ℕ) : Type 0 where
   pub in_use : (i : ℕ) → i < n → column 1 b i < variables
   pub bound : (i : ℕ) → i < n → column 0 b (column 1 b i) ≢ 0
   pub distinct : (i j : ℕ) → i < j → j < n → column 1 b i ≢ column 1 b j
+
+-- How many entries of the trail were entered, of k.
+abbrev pub entered : Result (Unit {0}) ℕ → ℕ → ℕ
+entered (Ok u) k = k
+entered (Err n) k = n
 
 -- n of the first k entries were entered, and where that is not all, the next one is not in use, or not bound, or entered already.
 pub record TrailEntered (b m₀ m : Rows) (variables k n : ℕ) : Type 0 where

@@ -1,35 +1,36 @@
 // The check of the trail and of the values.
-ghost use Rattle.std.specs.Prelude.{◌≡◌, ℕ, ◌<◌, ◌≤◌, length};
+ghost use Rattle.std.specs.Prelude.{◌≡◌, ℕ, ◌<◌, ◌≤◌, length, IfErr};
 ghost use Rattle.bindings.specs.Tables.{Empty};
 ghost use Rattle.arena.specs.Cells.{cells, Reference};
 ghost use Rattle.arena.specs.Rows.{column};
 ghost use Rattle.bindings.specs.Promises.{Free, Tells};
-ghost use Rattle.bindings.specs.Checking.{TrailEntered, GoodValue, TrailChecked};
+ghost use Rattle.bindings.specs.Checking.{entered, TrailEntered, GoodValue, TrailChecked};
 
 use super::StoredBindings;
 use super::tables::{enter, undo};
 use arena::{HEADERS, Terms};
 
-// Enters the variables of the trail as marks, until one is out of use, or unbound, or entered already; answers how many.
-fn enter_trail(bindings: StoredBindings, marks: &mut [[u32; 2]], variables: u32) -> u32
+// Enters the variables of the trail as marks; the error is how many stand before one that is out of use, or unbound, or entered already.
+fn enter_trail(bindings: StoredBindings, marks: &mut [[u32; 2]], variables: u32) -> Result<(), u32>
     requires fact_1 { (bindings.bound ≤ length bindings.rows.now) × (variables ≤ length bindings.rows.now) × (variables ≤ length marks.old) }
     requires fact_2 { Empty marks.old }
-    ensures { TrailEntered bindings.entry.rows.now marks.old marks.new variables bindings.entry.bound result }
+    ensures told { TrailEntered bindings.entry.rows.now marks.old marks.new variables bindings.entry.bound (entered result bindings.entry.bound) }
+    ensures fewer { IfErr result (λ n. n < bindings.entry.bound) }
 {
     for i in 0..bindings.bound {
         let key = bindings.rows[i as usize][1];
         if variables <= key {
-            return i;
+            return Err(i);
         }
         if bindings.rows[key as usize][0] == 0 {
-            return i;
+            return Err(i);
         }
         if marks[key as usize][0] != 0 {
-            return i;
+            return Err(i);
         }
         enter(marks, i, key, 1);
     }
-    bindings.bound
+    Ok(())
 }
 
 // Whether a reference is in form: a variable in use, or a node whose address is before `used`.
@@ -94,12 +95,15 @@ pub fn check_trail(terms: Terms, bindings: StoredBindings, marks: &mut [[u32; 2]
     ensures { TrailChecked terms.entry.room terms.entry.words.now bindings.entry.rows.now marks.old marks.new
         terms.entry.variables terms.entry.used bindings.entry.bound result }
 {
-    let n = enter_trail(bindings, marks, terms.variables);
-    if n < bindings.bound {
-        undo(marks, n, 0);
-        return false;
+    match enter_trail(bindings, marks, terms.variables) {
+        Err(before) => {
+            undo(marks, before, 0);
+            false
+        }
+        Ok(()) => {
+            let answer = check_values(terms, bindings.rows, marks);
+            undo(marks, bindings.bound, 0);
+            answer
+        }
     }
-    let answer = check_values(terms, bindings.rows, marks);
-    undo(marks, n, 0);
-    answer
 }

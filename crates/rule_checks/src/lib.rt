@@ -16,6 +16,7 @@ ghost use Rattle.unifier.specs.Promises.{Tells};
 ghost use Rattle.rule_checks.specs.RuleForm.{RuleCheckable, RuleChecked};
 ghost use Rattle.rule_checks.specs.Steps.{Numbers, Columns, place_from, Parts, Walkable, RootAsked, TermAsked, Lent, premises_of, Walked, PlacedWord, OrderAsked, InOrder, InPlaces};
 
+use arena::Terms;
 use names::Word;
 use rules::RuleRow;
 
@@ -124,8 +125,14 @@ fn are_roots(words: &[u32], from: u32, middle: u32, references: &[u32]) -> bool
     requires { (from ≤ middle) × (middle ≤ length words.now) × (pattern_room + middle ≤ headers) }
     ensures { Tells result (EachIndex references.now (λ k. is_argument (place_from words.now from) middle (slice_index references.now k) ≡ true)) }
 {
+    let terms = Terms {
+        words,
+        room: ROOM,
+        variables: ROOM,
+        used: middle,
+    };
     for reference in references {
-        if !arena::is_argument(words, from, ROOM, ROOM, middle, *reference) {
+        if !arena::is_argument(terms, from, *reference) {
             return false;
         }
     }
@@ -154,16 +161,26 @@ fn are_parts(arities: &[u32], rule: PlacedRule) -> bool
         middle,
         end,
     } = rule;
-    if !arena::check_words(words, from, middle, ROOM, ROOM, arities) {
+    let premises = Terms {
+        words,
+        room: ROOM,
+        variables: ROOM,
+        used: middle,
+    };
+    if !arena::check_words(premises, from, arities) {
         return false;
     }
     if !are_roots(words, from, middle, &row[10..10 + row[4] as usize]) {
         return false;
     }
-    if !arena::check_words(words, middle, end, ROOM, ROOM, arities) {
+    let all = Terms {
+        used: end,
+        ..premises
+    };
+    if !arena::check_words(all, middle, arities) {
         return false;
     }
-    arena::is_argument(words, middle, ROOM, ROOM, end, row[5])
+    arena::is_argument(all, middle, row[5])
 }
 
 // Meets the variables of a row's premises in writing order, none of which has a place before; answers how many have places then, where the premises

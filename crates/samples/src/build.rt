@@ -16,22 +16,12 @@ pub const BINARY: u32 = 0x10_0000 + 64 + 2;
 // The most words.
 const MOST: u32 = 262144;
 
-// Writes an item at a place, unless there is no such place.
-pub fn put<T: Copy>(items: &mut [T], at: u32, item: T)
-    ensures { items.new ≡ set items.old at item }
-{
-    let i = at as usize;
-    if i < items.len() {
-        items[i] = item;
-    }
-}
-
 // Writes the two constants, at the addresses 0 and 1.
 pub fn put_constants(words: &mut [u32])
     ensures { words.new ≡ set (set words.old 0 1048576) 1 1048672 }
 {
-    put(words, 0, CONSTANT);
-    put(words, 1, OTHER);
+    slices::put(words, 0, CONSTANT);
+    slices::put(words, 1, OTHER);
 }
 
 // Writes a node with these arguments, unless there is no room; the address behind it.

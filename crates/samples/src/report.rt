@@ -1,6 +1,4 @@
 // Lines of output.
-use super::rows;
-
 // Standard output.
 const STDOUT_FILENO: i32 = 1;
 
@@ -16,16 +14,24 @@ pub fn decimal(n: u32) {
 
 // Writes the bindings at the positions from `from` up to `to` of the trail, each as a variable and the reference that it is bound to.
 pub fn bindings(table: &[[u32; 2]], from: u32, to: u32) {
-    for i in from..to {
-        let variable = rows::number_at(table, 1, i);
-        let value = rows::number_at(table, 0, variable);
+    for [_, variable] in table.iter().take(to as usize).skip(from as usize) {
         text(b", ");
-        decimal(variable);
+        decimal(*variable);
         text(b" is ");
-        if value == 0 {
-            text(b"unbound");
-            return;
+        match bound_to(table, *variable) {
+            Some(reference) => {
+                decimal(reference);
+            }
+            None => {
+                text(b"unbound");
+                return;
+            }
         }
-        decimal(value - 1);
     }
+}
+
+// The reference that a variable is bound to.
+fn bound_to(table: &[[u32; 2]], variable: u32) -> Option<u32> {
+    let [value, _] = table.get(variable as usize)?;
+    value.checked_sub(1)
 }

@@ -20,12 +20,5 @@ pub fn are_words_formed(symbols: &[SymbolRow], terms: Terms) -> bool
 {
     let mut arities = [0u32; SYMBOLS];
     signature::put_column(symbols, ARITY, &mut arities);
-    arena::check_words(
-        terms.words,
-        0,
-        terms.used,
-        terms.room,
-        terms.variables,
-        &arities[..symbols.len()],
-    )
+    arena::check_words(terms, 0, &arities[..symbols.len()])
 }

@@ -383,6 +383,15 @@ module _ {N : ℕ} {w : List ℕ} {b₀ l₀ m₀ s₀ : Rows} {variables used k
         pub last_nodes : ((N ≤ a) × (N ≤ q)) × ((a < N + used) × (q < N + used))
         last_nodes = rw (ea, eq) ((last.left_node, last.right_node), (last.left_in.node last.left_node, last.right_in.node last.right_node))
 
+        -- Both nodes lie with their arguments within the words in use.
+        pub last_fits : (a - N + arity_of (cells w (a - N)) < used) × (q - N + arity_of (cells w (a - N)) < used)
+        last_fits =
+            let p = last_nodes in
+            let left : headers ≤ cells w (a - N) = rw ea (last.left_in.header last.left_node) in
+            let right : headers ≤ cells w (q - N) = rw eq (last.right_in.header last.right_node) in
+            let same : cells w (a - N) ≡ cells w (q - N) = rw (ea, eq) last.alike in
+            (on.state.words.fits (a - N) (omega arith) left, rw same (on.state.words.fits (q - N) (omega arith) right))
+
         pub last_taken : i < 33
         last_taken = let g = last.within in omega arith
 

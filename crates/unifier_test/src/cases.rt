@@ -46,8 +46,8 @@ fn put_case(words: &mut [u32], towers: Towers) -> Case {
             variables: VARIABLES,
             used: used,
             bound: 1,
-            left: reference(top),
-            right: reference(next),
+            left: TERM_ROOM.saturating_add(top),
+            right: TERM_ROOM.saturating_add(next),
         };
     }
     Case {
@@ -59,18 +59,10 @@ fn put_case(words: &mut [u32], towers: Towers) -> Case {
     }
 }
 
-// The reference of a node; 0 where the address is too large.
-fn reference(address: u32) -> u32 {
-    if 262144 < address {
-        return 0;
-    }
-    TERM_ROOM + address
-}
-
 // Binds variable 60 to the first constant.
 fn bind_first(bindings: &mut [[u32; 2]]) {
-    build::put(bindings, 60, [TERM_ROOM + 1, 0]);
-    build::put(bindings, 0, [0, 60]);
+    slices::put(bindings, 60, [TERM_ROOM + 1, 0]);
+    slices::put(bindings, 0, [0, 60]);
 }
 
 // Writes the line of a unification.
@@ -192,6 +184,6 @@ pub fn check_three(name: &[u8], first: [u32; 2], second: [u32; 2], third: [u32; 
 pub fn check_chain(name: &[u8], last: u32, listed: u32, bound: u32) {
     let mut bindings = [[0u32; 2]; 50000];
     rows::bind_chain(&mut bindings[..49999]);
-    build::put(&mut bindings, MANY - 1, [last, listed]);
+    slices::put(&mut bindings, MANY as usize - 1, [last, listed]);
     check(name, &bindings, MANY, bound);
 }

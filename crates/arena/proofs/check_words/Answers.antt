@@ -15,7 +15,7 @@ returns-then-not-is_header c =
     let if1 = c.if-left-eq0 in
     let is-header = c.is_header in
     let if2 = c.if-not-is_header in
-    sym (sym loop.invariant.2 ∙ header_stop (record { words = args.words.now; room = args.room; variables = args.variables; from = args.from }) args.arities.now args.words.now args.to pre.1 loop.at loop.node loop.left (search rules) if1.true (sym is-header.ensures ∙ if2.true))
+    sym (sym loop.invariant.2 ∙ header_stop (record { words = args.terms.words.now; room = args.terms.room; variables = args.terms.variables; from = args.from }) args.arities.now args.terms.words.now args.terms.used pre.1 loop.at loop.node loop.left (search rules) if1.true (sym is-header.ensures ∙ if2.true))
 
 pub returns-then-not-is_argument : goal.returns-then-not-is_argument
 unfolding in_form
@@ -26,7 +26,7 @@ returns-then-not-is_argument c =
     let if1 = c.if-left-eq0 in
     let is-argument = c.is_argument in
     let if3 = c.if-not-is_argument in
-    sym (sym loop.invariant.2 ∙ argument_stop (record { words = args.words.now; room = args.room; variables = args.variables; from = args.from }) args.arities.now args.words.now args.to pre.1 loop.at loop.node loop.left (search rules) if1.false (sym is-argument.ensures ∙ if3.true))
+    sym (sym loop.invariant.2 ∙ argument_stop (record { words = args.terms.words.now; room = args.terms.room; variables = args.terms.variables; from = args.from }) args.arities.now args.terms.words.now args.terms.used pre.1 loop.at loop.node loop.left (search rules) if1.false (sym is-argument.ensures ∙ if3.true))
 
 pub returns : goal.returns
 unfolding in_form
@@ -35,4 +35,4 @@ returns c =
     let pre = c.requires in
     let loop = c.loop-at in
     let loop-test = c.loop-at-test in
-    sym (end_step (record { words = args.words.now; room = args.room; variables = args.variables; from = args.from }) args.arities.now args.words.now args.to pre.1 loop.at loop.node loop.left (omega arith)) ∙ loop.invariant.2
+    sym (end_step (record { words = args.terms.words.now; room = args.terms.room; variables = args.terms.variables; from = args.from }) args.arities.now args.terms.words.now args.terms.used pre.1 loop.at loop.node loop.left (omega arith)) ∙ loop.invariant.2

@@ -8,7 +8,7 @@ use Rattle.arena_main.proofs.compare.Goals as goal
 pub equal-requires : goal.equal-requires
 equal-requires c =
     let args = c.args in
-    let clear = c.clear in
+    let clear = c.clear_from in
     let if2 = c.if-used-words in
     let if1 = c.if-used-gt262144 in
     let check-words = c.check_words in

@@ -1,25 +1,28 @@
 -- `check_trail` meets its contract: the marks that it makes are taken back on both ways out.
 use mathlib.Core.Path.{◌∙◌}
-use Rattle.bindings.specs.Checking.{tells_no, entered_undone, trailed_not, trailed_tells}
-use borrow.Author.Rules.{rules}
+use Rattle.bindings.specs.Checking.{tells_no, entered_undoable, entered_undone, trailed_not, trailed_tells}
+use native.Mathlib.Omega.{arith}
 use Rattle.bindings.proofs.trails.check_trail.Goals as goal
 
-pub returns-then-n-bindings : goal.returns-then-n-bindings
-returns-then-n-bindings c =
-    let enter-trail = c.enter_trail-n in
-    let if1 = c.if-n-bindings in
-    let undo = c.undo in
-    record {
-      tells = tells_no (trailed_not enter-trail.ensures if1.true);
-      marks = undo.ensures ∙ entered_undone enter-trail.ensures;
-    }
+pub undo-requires : goal.undo-requires
+undo-requires c =
+    let few = c.requires.fact_1 in
+    let lent = c.requires.fact_2.lent in
+    entered_undoable (rw c.in-Err.is at c.enter_trail.ensures.told) (omega arith)
 
-pub returns : goal.returns
-returns c =
-    let enter-trail = c.enter_trail-n in
-    let check-values = c.check_values-answer in
-    let undo2 = c.undo-2 in
-    record {
-      tells = trailed_tells enter-trail.ensures (search rules) check-values.ensures;
-      marks = undo2.ensures ∙ entered_undone enter-trail.ensures;
-    }
+pub undo-requires-in-Ok : goal.undo-requires-in-Ok
+undo-requires-in-Ok c =
+    let few = c.requires.fact_1 in
+    let lent = c.requires.fact_2.lent in
+    entered_undoable (rw c.in-Ok.is at c.enter_trail.ensures.told) (omega arith)
+
+pub returns-in-Err : goal.returns-in-Err
+returns-in-Err c =
+    let told = rw c.in-Err.is at c.enter_trail.ensures.told in
+    let fewer = rw c.in-Err.is at c.enter_trail.ensures.fewer in
+    record { tells = tells_no (trailed_not told fewer); marks = c.undo.ensures ∙ entered_undone told }
+
+pub returns-in-Ok : goal.returns-in-Ok
+returns-in-Ok c =
+    let told = rw c.in-Ok.is at c.enter_trail.ensures.told in
+    record { tells = trailed_tells told (omega arith) c.check_values-answer.ensures; marks = c.undo-in-Ok.ensures ∙ entered_undone told }

@@ -4,7 +4,7 @@ use mathlib.Core.Path.{refl, ap, ◌∙◌}
 use lib.ListN.{length}
 use Rattle.std.proofs.Common.{◌<◌}
 use Rattle.std.specs.Prelude.{is_some}
-use Rattle.unifier.specs.Equating.{loop_start, loop_false, links_long, pending_form, turn_same, turn_open, turn_enter, bind_in, bind_room, open_in, open_room, less_open, turn_clash, turn_done, deep_in, last_nodes, turn_next, less_next, link_room, turn_close, less_close}
+use Rattle.unifier.specs.Equating.{loop_start, loop_false, links_long, pending_form, turn_same, turn_open, turn_enter, bind_in, bind_room, open_in, open_room, less_open, turn_clash, turn_done, deep_in, last_nodes, last_fits, turn_next, less_next, link_room, turn_close, less_close}
 use native.Mathlib.Omega.{arith}
 use Rattle.unifier.proofs.equations.equate.Goals as goal
 
@@ -69,7 +69,13 @@ pub bounds-stack-last-else-d-eq0-2 : goal.bounds-stack-last-else-d-eq0-2
 bounds-stack-last-else-d-eq0-2 c = let z = c.if-d-eq0.false in let deep = deep_in c.loop-pending.invariant (ap is_some c.in-None.is) z in omega arith
 
 pub arity-requires : goal.arity-requires
-arity-requires c = (last_nodes c.loop-pending.invariant (ap is_some c.in-None.is) c.if-d-eq0.false _ _ _ refl refl refl).0.0
+arity-requires c =
+    let h = c.loop-pending.invariant in
+    let nodes = last_nodes h (ap is_some c.in-None.is) c.if-d-eq0.false _ _ _ refl refl refl in
+    let a = nodes.0.0 in
+    let fits = last_fits h (ap is_some c.in-None.is) c.if-d-eq0.false _ _ _ refl refl refl in
+    let lent = h.fixed.lent_words in
+    (a, omega arith)
 
 pub bounds-stack-last-then-taken-arity : goal.bounds-stack-last-then-taken-arity
 bounds-stack-last-then-taken-arity c = let z = c.if-d-eq0.false in let deep = deep_in c.loop-pending.invariant (ap is_some c.in-None.is) z in omega arith
@@ -78,21 +84,21 @@ pub argument-requires : goal.argument-requires
 argument-requires c =
     let nodes = last_nodes c.loop-pending.invariant (ap is_some c.in-None.is) c.if-d-eq0.false _ _ _ refl refl refl in
     let a = nodes.0.0 in
-    let b = nodes.1.0 in
-    let low = c.loop-pending.invariant.fixed.low in
+    let fits = (last_fits c.loop-pending.invariant (ap is_some c.in-None.is) c.if-d-eq0.false _ _ _ refl refl refl).0 in
+    let lent = c.loop-pending.invariant.fixed.lent_words in
     let q = c.arity.ensures in
     let y = c.if-taken-arity.true in
-    (omega arith, omega arith, omega arith)
+    (omega arith, omega arith)
 
 pub argument-requires-then-taken-arity : goal.argument-requires-then-taken-arity
 argument-requires-then-taken-arity c =
     let nodes = last_nodes c.loop-pending.invariant (ap is_some c.in-None.is) c.if-d-eq0.false _ _ _ refl refl refl in
     let a = nodes.0.1 in
-    let b = nodes.1.1 in
-    let low = c.loop-pending.invariant.fixed.low in
+    let fits = (last_fits c.loop-pending.invariant (ap is_some c.in-None.is) c.if-d-eq0.false _ _ _ refl refl refl).1 in
+    let lent = c.loop-pending.invariant.fixed.lent_words in
     let q = c.arity.ensures in
     let y = c.if-taken-arity.true in
-    (omega arith, omega arith, omega arith)
+    (omega arith, omega arith)
 
 pub loop-pending-smaller-then-taken-arity : goal.loop-pending-smaller-then-taken-arity
 loop-pending-smaller-then-taken-arity c =
