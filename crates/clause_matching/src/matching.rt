@@ -1,5 +1,5 @@
-// Patterns against values: the Rust's `bind`. Values are stored terms with room for no variable, so that a reference is an address. An environment has a row
-// for each variable of a clause: 0 for none, else 1 + the reference of its value.
+// Patterns against values: the Rust's `bind`. Values are stored terms with room for no variable, so that a reference is an address. An environment has a place
+// for each variable of a clause: the reference of its value, if it has one.
 ghost use Rattle.std.specs.Prelude.{◌≤◌, ◌<◌};
 ghost use Rattle.terms.specs.Term.{var};
 ghost use Rattle.arena.specs.Copies.{pattern_room};
@@ -19,7 +19,7 @@ pub struct Values<'a> {
 fn take(
     values: Values,
     value: u32,
-    environment: &mut [u32],
+    environment: &mut [Option<u32>],
     variable: u32,
     links: &mut [u32],
 ) -> bool
@@ -27,18 +27,17 @@ fn take(
     ensures { Matched (var variable) values.entry.words.now values.entry.used value environment.old links.old result environment.new links.new }
 {
     let i = variable as usize;
-    let old = environment[i];
-    if old == 0 {
-        environment[i] = value + 1;
+    let Some(old) = environment[i] else {
+        environment[i] = Some(value);
         return true;
-    }
+    };
     let terms = Terms {
         words: values.words,
         room: 0,
         variables: 0,
         used: values.used,
     };
-    arena::equal(terms, links, old - 1, value)
+    arena::equal(terms, links, old, value)
 }
 
 // As `bind`, of a pattern that is a node.
@@ -47,7 +46,7 @@ fn bind_node(
     reference: u32,
     values: Values,
     value: u32,
-    environment: &mut [u32],
+    environment: &mut [Option<u32>],
     links: &mut [u32],
     stack: &mut [[u32; 3]],
 ) -> bool
@@ -102,7 +101,7 @@ pub fn bind(
     reference: u32,
     values: Values,
     value: u32,
-    environment: &mut [u32],
+    environment: &mut [Option<u32>],
     links: &mut [u32],
     stack: &mut [[u32; 3]],
 ) -> bool

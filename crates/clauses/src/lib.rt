@@ -33,17 +33,16 @@ pub fn skip(rows: &[TermRow], at: usize, n: usize) -> usize
     requires { (length rows.now ≤ 65536) × (n ≤ 65536) }
     ensures { Skipped rows.now at n result }
 {
+    // How many terms are still to be passed at the row p.
     let mut left = n;
-    let mut p = at;
-    while 0 < left {
-        if rows.len() <= p {
+    for p in at..rows.len() {
+        if left == 0 {
             return p;
         }
-        let more = flattening::arity(rows[p][0], rows[p][3]);
-        left = left - 1 + more;
-        p += 1;
+        left -= 1;
+        left += flattening::arity(rows[p][0], rows[p][3]);
     }
-    p
+    rows.len().max(at)
 }
 
 // Writes the beginning of a clause's conclusion: its function, whose name stands at a place, and its n patterns. The row of the right side is answered.

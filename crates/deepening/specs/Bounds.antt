@@ -36,7 +36,7 @@ pub record Asking (a : Allowed) (P : List ℕ) (R F : Rows) (W : List ℕ) (T L 
   pub rules : RulesStored P R a.rules
   pub well : Well a W T c t u
   pub refers : Refers W c u g
-  pub scratch : Scratch term_room a.words L M S
+  pub scratch : Scratch term_room a.limits.words L M S
   pub frames : a.frames ≤ length F
   pub steps : s ≤ a.frames
   pub small : a.frames < 4294967296
@@ -48,7 +48,7 @@ pub record Asking (a : Allowed) (P : List ℕ) (R F : Rows) (W : List ℕ) (T L 
 -- The theory's search at the depth bound d.
 abbrev pub bounded_of : Allowed → List ℕ → List ℕ → Rows → List ℕ → Rows → ℕ → ℕ → ℕ → ℕ → ℕ → ℕ → Result
 bounded_of a text P R W T g d s c t u =
-    bounded (within a.variables a.words) (rules_from text P R 0 a.rules) s u (held term_room W T t) (term W g) d c
+    bounded (within a.limits.variables a.limits.words) (rules_from text P R 0 a.rules) s u (held term_room W T t) (term W g) d c
 
 -- Every buffer is as it was.
 pub record Unchanged (F F' : Rows) (W W' : List ℕ) (T T' : Rows) : Type 0 where
@@ -136,7 +136,7 @@ settled (suc b) false = true
 -- The theory's answer to the goal.
 abbrev pub prove_of : Allowed → List ℕ → List ℕ → Rows → List ℕ → Rows → ℕ → ℕ → ℕ → ℕ → ℕ → ℕ → Verdict
 prove_of a text P R W T g largest s c t u =
-    prove (within a.variables a.words) (rules_from text P R 0 a.rules) s largest u (held term_room W T t) (term W g) c
+    prove (within a.limits.variables a.limits.words) (rules_from text P R 0 a.rules) s largest u (held term_room W T t) (term W g) c
 
 -- Proved: the proof is one tree, whose nodes are the first n rows, and zero follows.
 pub record Proven (a : Allowed) (P : List ℕ) (R F F' : Rows) (W W' : List ℕ) (T T' : Rows) (c t u : ℕ) (v : Verdict)

@@ -98,7 +98,7 @@ pub record Deepening (a : Allowed) (P : List ℕ) (R F₀ F : Rows) (W₀ W : Li
   pub positive : 0 < d
   pub fuel : ℕ
   pub enough : largest < d + fuel
-  pub is : (text : List ℕ) → deepen (within a.variables a.words) (rules_from text P R 0 a.rules) s u (held term_room W₀ T₀ t)
+  pub is : (text : List ℕ) → deepen (within a.limits.variables a.limits.words) (rules_from text P R 0 a.rules) s u (held term_room W₀ T₀ t)
       (term W₀ g)
       (bounds_from fuel d largest) k c' ≡ prove_of a text P R W₀ T₀ g largest s c t u
 
@@ -128,7 +128,7 @@ module _ {a : Allowed} {P : List ℕ} {R F₀ F : Rows} {W₀ W : List ℕ} {T�
   pub deepening_over : largest < d → Deepened a P R F₀ F W₀ W T₀ T L₀ L M₀ M S₀ S g largest s c t u (Ok (Undecided k c'))
   deepening_over l = record {
     answers = λ text. (
-      ap (λ (ds : List ℕ). deepen (within a.variables a.words) (rules_from text P R 0 a.rules) s u (held term_room W₀ T₀ t)
+      ap (λ (ds : List ℕ). deepen (within a.limits.variables a.limits.words) (rules_from text P R 0 a.rules) s u (held term_room W₀ T₀ t)
           (term W₀ g) ds k c')
           (sym (bounds_past h.fuel d largest l)) ∙ h.is text,
       h.counted,
@@ -153,14 +153,14 @@ module _ {a : Allowed} {P : List ℕ} {R F₀ F : Rows} {W₀ W : List ℕ} {T�
 
     -- What it settles is the answer.
     value : (text : List ℕ) (o : Result) → o ≡ bounded_of a text P R W₀ T₀ g d s c' t u
-        → settle s o (λ (u' c'' : ℕ). deepen (within a.variables a.words) (rules_from text P R 0 a.rules) s u
+        → settle s o (λ (u' c'' : ℕ). deepen (within a.limits.variables a.limits.words) (rules_from text P R 0 a.rules) s u
         (held term_room W₀ T₀ t) (term W₀ g)
         (bounds_from (h.fuel - 1) (d + d) largest) u' c'') ≡ prove_of a text P R W₀ T₀ g largest s c t u
     value text o e =
-        ap (λ (o : Result). settle s o (λ (u' c'' : ℕ). deepen (within a.variables a.words) (rules_from text P R 0 a.rules) s u
+        ap (λ (o : Result). settle s o (λ (u' c'' : ℕ). deepen (within a.limits.variables a.limits.words) (rules_from text P R 0 a.rules) s u
         (held term_room W₀ T₀ t) (term W₀ g)
         (bounds_from (h.fuel - 1) (d + d) largest) u' c'')) e
-        ∙ ap (λ (ds : List ℕ). deepen (within a.variables a.words) (rules_from text P R 0 a.rules) s u (held term_room W₀ T₀ t)
+        ∙ ap (λ (ds : List ℕ). deepen (within a.limits.variables a.limits.words) (rules_from text P R 0 a.rules) s u (held term_room W₀ T₀ t)
         (term W₀ g) ds k c')
         (sym (bounds_next h.fuel d largest ld h.enough))
         ∙ h.is text
@@ -191,7 +191,7 @@ module _ {a : Allowed} {P : List ℕ} {R F₀ F : Rows} {W₀ W : List ℕ} {T�
       told text =
           subst (λ (v : Verdict). verdicts.Says (rules_from text P R 0 a.rules) c (held term_room W₀ T₀ t) (term W₀ g) v)
           (sym (value text (found (held term_room W' T' t₁) (shown text).trees b c₁ u₁) (shown text).value))
-          (deepen_says (within a.variables a.words) (rules_from text P R 0 a.rules) s u c (held term_room W₀ T₀ t)
+          (deepen_says (within a.limits.variables a.limits.words) (rules_from text P R 0 a.rules) s u c (held term_room W₀ T₀ t)
           (term W₀ g)
           h.start.well.form.acyclic h.start.well.form.below
           (below_denote term_room (cells W₀) c u h.start.well.form.words g h.start.refers) (bounds largest) 0 c (le_refl c))

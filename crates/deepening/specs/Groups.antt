@@ -1,9 +1,10 @@
 -- The contracts over what travels together: a program, a store, and a goal that is asked.
-use Rattle.std.specs.Prelude.{ℕ, ◌≡◌, Result}
+use Rattle.std.specs.Prelude.{ℕ, ◌≡◌, [], Result}
 use Rattle.refusals.specs.declared.Refusal.{Refusal}
 use Rattle.search_machine.specs.declared.Machine.{Machine}
 use Rattle.search_machine.specs.declared.Program.{Program}
 use Rattle.search_machine.specs.declared.Store.{Store}
+use Rattle.deepening.specs.Clearing.{Cleared, zero_row}
 use Rattle.deepening.specs.Bounds.{Asking, Bounded, Left, Deepened}
 use Rattle.deepening.specs.declared.Answer.{Answer}
 use Rattle.deepening.specs.declared.Question.{Question}
@@ -18,6 +19,15 @@ abbrev pub BoundedIn : Program → Store → Store → Question → ℕ → Resu
 BoundedIn p s s' q depth r =
     Bounded p.allowed p.pattern.now p.rules.now s.frames.now s'.frames.now s.words.now s'.words.now s.bindings.now s'.bindings.now
     s.links.now s'.links.now s.marks.now s'.marks.now s.stack.now s'.stack.now q.goal depth q.steps q.counter q.bound q.used r
+
+-- Of the words those from `used` on that a machine wrote are zero, of the frames those from `frames` on; what else a store lends is as it was.
+pub record WrittenCleared (s s' : Store) (used frames : ℕ) (m : Machine) : Type 0 where
+  pub words : Cleared 0 0 s.words.now s'.words.now used m.top
+  pub rows : Cleared [] zero_row s.frames.now s'.frames.now frames m.high
+  pub bindings : s'.bindings.now ≡ s.bindings.now
+  pub links : s'.links.now ≡ s.links.now
+  pub marks : s'.marks.now ≡ s.marks.now
+  pub stack : s'.stack.now ≡ s.stack.now
 
 -- What the end of a bound leaves; the scratch is not looked at.
 pub record LeftIn (s s' : Store) (m : Machine) (q : Question) (depth : ℕ) (r : Result Came Refusal) : Type 0 where

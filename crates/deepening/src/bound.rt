@@ -4,7 +4,7 @@ ghost use Rattle.deepening.specs.Bounds.{Leaving};
 ghost use Rattle.deepening.specs.Groups.{AskingIn, BoundedIn, LeftIn};
 
 use super::Question;
-use super::clearing::clear;
+use super::clearing::clear_written;
 use super::trees::write_tree;
 use bindings::undo;
 use refusals::Refusal;
@@ -39,8 +39,7 @@ fn leave(store: &mut Store, m: Machine, question: Question, depth: u32) -> Resul
     match m.mode {
         Mode::Proved => {
             write_tree(store.frames, m.frames, depth);
-            clear(store.words, m.used, m.top, 0);
-            clear(store.frames, m.frames, m.high, [0; 8]);
+            clear_written(store, m.used, m.frames, m);
             Ok(Came::Found {
                 applications: m.frames,
                 left: m.steps,
@@ -50,8 +49,7 @@ fn leave(store: &mut Store, m: Machine, question: Question, depth: u32) -> Resul
             })
         }
         Mode::Over => {
-            clear(store.words, question.used, m.top, 0);
-            clear(store.frames, 0, m.high, [0; 8]);
+            clear_written(store, question.used, 0, m);
             Ok(Came::Failed {
                 left: m.steps,
                 cut: m.cut,
@@ -60,8 +58,7 @@ fn leave(store: &mut Store, m: Machine, question: Question, depth: u32) -> Resul
         }
         _ => {
             undo(store.bindings, m.bound, question.bound);
-            clear(store.words, question.used, m.top, 0);
-            clear(store.frames, 0, m.high, [0; 8]);
+            clear_written(store, question.used, 0, m);
             Err(Refusal::OverLimit)
         }
     }

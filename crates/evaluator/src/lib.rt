@@ -106,7 +106,7 @@ pub fn evaluate_listed(
         Ok(expressed) => {
             let spent = expressed.spent;
             arena::clear(buffers.words, spent.used);
-            load_storage::clear_rows(buffers.trees, spent.calls as usize);
+            slices::clear_from(buffers.trees, spent.calls as usize, [0; 8]);
             Ok(Evaluation {
                 value: expressed.value,
                 calls: spent.calls,

@@ -1,10 +1,7 @@
 -- Laws of buffers that a store had on loan: what is said of the one list is said of the other, which is the same.
-use Rattle.std.specs.Prelude.{ℕ, ◌≤◌, ◌≡◌, List, length}
+use Rattle.std.specs.Prelude.{ℕ, ◌≡◌, List}
 use Rattle.names.specs.Symbols.{Rows}
 use Rattle.load_storage.specs.Storage.{SignatureCleared, ScratchCleared}
-
-pub there : {A : Type 0} {n : ℕ} (l l' : List A) → l' ≡ l → n ≤ length l → n ≤ length l'
-there l l' e h = rw e h
 
 pub scratch_as : {tokens tokens₀ calls calls₀ evals : Rows} {n : ℕ} {tokens' calls' evals' : Rows} → tokens ≡ tokens₀ → calls ≡ calls₀
     → ScratchCleared tokens calls evals n tokens' calls' evals' → ScratchCleared tokens₀ calls₀ evals n tokens' calls' evals'

@@ -18,15 +18,6 @@ use refusals::{Refusal, Rejection};
 use signature::Counts;
 use words::EVAL;
 
-// Writes a row, if there is room for it.
-fn put(evals: &mut [EvalRow], i: usize, line: u32, row: u32)
-    ensures { evals.new ≡ set evals.old i (line ∷ row ∷ []) }
-{
-    if i < evals.len() {
-        evals[i] = [line, row];
-    }
-}
-
 // Keeps the line and the row of an `#eval`, whose kind is `EVAL`; answers how many there are then.
 // Stays: the row behind those in use is written, so a part in use would not do.
 fn note(evals: &mut [EvalRow], count: usize, kind: u32, line: u32, at: usize) -> usize
@@ -36,7 +27,7 @@ fn note(evals: &mut [EvalRow], count: usize, kind: u32, line: u32, at: usize) ->
     if kind != EVAL {
         return count;
     }
-    put(evals, count, line, at as u32 + 1);
+    slices::put(evals, count, [line, at as u32 + 1]);
     count + 1
 }
 

@@ -56,13 +56,6 @@ wiped b =
       evals = replicate (length b.evals) zero_pair;
     }
 
--- The counts from which on storage is cleared are within it.
-pub record Clearable (sorts symbols rules : Rows) (words : List ℕ) (n m k u : ℕ) : Type 0 where
-  pub sorts_there : n ≤ length sorts
-  pub symbols_there : m ≤ length symbols
-  pub rules_there : k ≤ length rules
-  pub words_there : u ≤ length words
-
 -- A signature's storage is zero from the counts on.
 pub record SignatureCleared (sorts symbols rules : Rows) (words : List ℕ) (n m k u : ℕ) (sorts' symbols' rules' : Rows) (words' : List ℕ) : Type 0 where
   pub sorts_are_lem : sorts' ≡ cleared_from zero_pair n sorts

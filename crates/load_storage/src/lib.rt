@@ -1,10 +1,10 @@
 // Storage of `load`: whether lent buffers are as long as docs/STORAGE.md lists, and what is cleared of them.
 //
-// All functions here serve `load`; `clear_rows` serves sessions too.
+// All functions here serve `load`, and ask nothing of their caller.
 #![tactic(auto)]
 
-ghost use Rattle.std.specs.Prelude.{◌≡◌, ◌≤◌, length, replicate};
-ghost use Rattle.load_storage.specs.Storage.{too_short, cleared_from, Clearable, SignatureCleared, ScratchCleared, Wiped};
+ghost use Rattle.std.specs.Prelude.{◌≡◌};
+ghost use Rattle.load_storage.specs.Storage.{too_short, SignatureCleared, ScratchCleared, Wiped};
 ghost use Rattle.load_storage.specs.Lent.{buffers_of, IsLent};
 
 use names::{SortRow, SymbolRow, TermRow};
@@ -35,37 +35,20 @@ pub struct Used {
     pub words: usize,
 }
 
-// Zeroes rows from a place on.
-pub fn clear_rows<const N: usize>(rows: &mut [[u32; N]], from: usize)
-    requires { (from ≤ length rows.old) × (N ≤ 1024) }
-    ensures { rows.new ≡ cleared_from (replicate N 0) from rows.old }
-{
-    rows[from..].fill([0u32; N]);
-}
-
-// Zeroes words from a place on.
-fn clear_words(words: &mut [u32], from: usize)
-    requires { from ≤ length words.old }
-    ensures { words.new ≡ cleared_from 0 from words.old }
-{
-    words[from..].fill(0);
-}
-
 // Zeroes the scratch, and the rest of the storage from the counts on.
 pub fn leave(buffers: &mut LentBuffers, used: Used, waiting: usize)
-    requires { (Clearable buffers.old.sorts.now buffers.old.symbols.now buffers.old.rules.now buffers.old.words.now used.sorts used.symbols used.rules used.words) × (waiting ≤ length buffers.old.evals.now) }
     ensures scratch_cleared { ScratchCleared buffers.old.tokens.now buffers.old.calls.now buffers.old.evals.now waiting buffers.new.tokens.now buffers.new.calls.now buffers.new.evals.now }
     ensures signature_cleared { SignatureCleared buffers.old.sorts.now buffers.old.symbols.now buffers.old.rules.now buffers.old.words.now used.sorts used.symbols used.rules used.words buffers.new.sorts.now buffers.new.symbols.now buffers.new.rules.now buffers.new.words.now }
     ensures rows { buffers.new.rows.now ≡ buffers.old.rows.now }
     ensures lent { IsLent buffers.old buffers.new }
 {
-    clear_rows(buffers.tokens, 0);
-    clear_rows(buffers.calls, 0);
-    clear_rows(buffers.evals, waiting);
-    clear_rows(buffers.sorts, used.sorts);
-    clear_rows(buffers.symbols, used.symbols);
-    clear_rows(buffers.rules, used.rules);
-    clear_words(buffers.words, used.words);
+    buffers.tokens.fill([0; 4]);
+    buffers.calls.fill([0; 4]);
+    slices::clear_from(buffers.evals, waiting, [0; 2]);
+    slices::clear_from(buffers.sorts, used.sorts, [0; 2]);
+    slices::clear_from(buffers.symbols, used.symbols, [0; 24]);
+    slices::clear_from(buffers.rules, used.rules, [0; 154]);
+    slices::clear_from(buffers.words, used.words, 0);
 }
 
 // Zeroes everything.
@@ -73,7 +56,7 @@ pub fn leave_nothing(buffers: &mut LentBuffers)
     ensures wiped { Wiped (buffers_of buffers.old) (buffers_of buffers.new) }
     ensures lent { IsLent buffers.old buffers.new }
 {
-    clear_rows(buffers.rows, 0);
+    buffers.rows.fill([0; 4]);
     let none = Used {
         sorts: 0,
         symbols: 0,

@@ -5,7 +5,6 @@
 
 ghost use Rattle.std.specs.Prelude.{◌≡◌, [], ◌∷◌, ◌+◌, ◌-◌, ◌≤◌, ◌<◌, length, set, cond};
 ghost use Rattle.source_text.specs.Parts.{part_of};
-ghost use Rattle.std.proofs.lemmas.List.Edits.{sets};
 ghost use Rattle.names.specs.Symbols.{column, row_at, sorts_of, symbols_of};
 ghost use Rattle.loader.specs.Known.{sorts_known, symbols_known};
 ghost use Rattle.loader.specs.Kinds.{is_constructor, mark_in, first_in, clauses_in};
@@ -101,14 +100,6 @@ pub fn check_symbol(known: Known, word: &[u8], k: usize) -> Result<(), Refusal>
     Err(Refusal::Full)
 }
 
-// Writes some inputs into the row i.
-fn put_inputs(symbols: &mut [SymbolRow], i: usize, inputs: &[u32])
-    requires { (i < length symbols.old) × (length inputs.now ≤ 16) }
-    ensures { symbols.new ≡ set symbols.old i (sets (row_at symbols.old i) 8 inputs.now) }
-{
-    symbols[i][8..8 + inputs.len()].copy_from_slice(inputs);
-}
-
 // A symbol but for its inputs: where its name stands, its output, its function mark, and its clauses.
 #[derive(Clone, Copy)]
 pub struct SymbolHead {
@@ -119,10 +110,10 @@ pub struct SymbolHead {
     pub clauses: u32,
 }
 
-// Writes a symbol's row.
-pub fn put_symbol(symbols: &mut [SymbolRow], i: usize, symbol: SymbolHead, inputs: &[u32])
-    requires { (i < length symbols.old) × (length inputs.now ≤ 16) }
-    ensures { symbols.new ≡ set symbols.old i (symbol_row symbol.word.start symbol.word.size symbol.output symbol.function symbol.first symbol.clauses (length inputs.now) inputs.now) }
+// Writes a symbol into its row.
+pub fn put_symbol(row: &mut SymbolRow, symbol: SymbolHead, inputs: &[u32])
+    requires { length inputs.now ≤ 16 }
+    ensures { row.new ≡ symbol_row symbol.word.start symbol.word.size symbol.output symbol.function symbol.first symbol.clauses (length inputs.now) inputs.now }
 {
     let n = inputs.len() as u32;
     let SymbolHead {
@@ -132,20 +123,11 @@ pub fn put_symbol(symbols: &mut [SymbolRow], i: usize, symbol: SymbolHead, input
         first,
         clauses,
     } = symbol;
-    symbols[i] = [
+    *row = [
         word.start, word.size, output, function, first, clauses, n, 0, 0, 0, 0, 0, 0, 0, 0, 0, 0,
         0, 0, 0, 0, 0, 0, 0,
     ];
-    put_inputs(symbols, i, inputs);
-}
-
-// Writes an input, if there is room for it.
-fn put_input(inputs: &mut [u32], i: usize, v: u32)
-    ensures { inputs.new ≡ set inputs.old i v }
-{
-    if i < inputs.len() {
-        inputs[i] = v;
-    }
+    row[8..8 + inputs.len()].copy_from_slice(inputs);
 }
 
 // Looks up the sorts whose names stand in the rows of a part; the numbers of the first 16 go to `inputs`, and that of the last is answered, if all are
@@ -160,7 +142,7 @@ pub fn find_arrow(part: Part, sorts: &[SortRow], inputs: &mut [u32]) -> Option<u
         let [_, start, size, _] = rows[at + i];
         let s = names::find(text, sorts, names::part(text, Word { start, size }))?;
         last = s as u32 + 1;
-        put_input(inputs, i, last);
+        slices::put(inputs, i, last);
     }
     Some(last)
 }
@@ -245,7 +227,7 @@ pub fn enter_symbol(
     let word = Word { start, size };
     check_symbol(known, names::part(text, word), n)?;
     let symbol = kind.head(word, last);
-    put_symbol(symbols, count, symbol, &inputs[..n]);
+    put_symbol(&mut symbols[count], symbol, &inputs[..n]);
     Ok(())
 }
 

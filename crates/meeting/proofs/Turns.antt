@@ -2,7 +2,7 @@
 use Prim.Native.Nat.{ℕ, suc, ◌+◌, ◌-◌, ◌*◌, ◌≤◌, ◌<◌}
 use native.Mathlib.Omega.{arith}
 use native.Mathlib.Numerals.{add-one}
-use mathlib.Core.Path.{◌≡◌, refl, sym, ap, ap₂, ◌∙◌, subst}
+use mathlib.Core.Path.{◌≡◌, refl, sym, ap, ◌∙◌, subst}
 use mathlib.Core.Logic.{◌≢◌}
 use mathlib.Core.Bool.{Bool, true, false}
 use mathlib.Core.List.{List, [], ◌∷◌}
@@ -16,10 +16,9 @@ use Rattle.arena.specs.Rows.{Rows, column}
 use Rattle.resolution.specs.Fresh.{met}
 use Rattle.resolution.specs.Search.{words}
 use Rattle.meeting.specs.Places.{Records, Given}
-use Rattle.meeting.specs.PlaceLaws.{variables_few, given_kept, records_met}
+use Rattle.meeting.specs.PlaceLaws.{given_kept, records_met}
 use Rattle.meeting.specs.Contract.{term_of, Ready, Walked}
-use Rattle.std.specs.Prelude.{Some}
-use Rattle.meeting.specs.declared.Met.{Met}
+use Rattle.std.specs.Prelude.{Option, Some}
 use Rattle.meeting.proofs.Pending.{unmet, pending, turns, one, words_append, met_append, args_count, unmet_put, turns_put}
 
 -- n references in use, from the address p on.
@@ -28,23 +27,23 @@ pub record Row (pattern : List ℕ) (used p n : ℕ) : Type 0 where
   pub references : (i : ℕ) → i < n → Reference pattern_room (cells pattern) pattern_room used (cells pattern (p + i))
 
 -- Variables f after the walk has come so far from the variables e: meeting what is left comes to meeting the whole.
-pub record Reached (pattern : List ℕ) (reference : ℕ) (rest : Terms) (e table : List ℕ) (given : ℕ) : Type 0 where
+pub record Reached (pattern : List ℕ) (reference : ℕ) (rest : Terms) (e : List ℕ) (table : List (Option ℕ)) (given : ℕ) : Type 0 where
   pub f : List ℕ
   pub records : Records f table given
   pub comes : met rest f ≡ met (term_of pattern reference) e
 
 -- What holds at each turn.
-pub record Turn (pattern : List ℕ) (reference used : ℕ) (table₀ : List ℕ) (count most : ℕ) (stack₀ : Rows) (table : List ℕ) (stack : Rows)
+pub record Turn (pattern : List ℕ) (reference : ℕ) (table₀ : List (Option ℕ)) (count most : ℕ) (stack₀ : Rows) (table : List (Option ℕ)) (stack : Rows)
     (given spent depth next : ℕ) (waiting : Bool) : Type 0 where
-  pub ready : Ready pattern reference used table₀ count most stack₀
-  pub kept : length table ≡ length table₀
+  pub ready : Ready pattern reference most stack₀
+  pub long : pattern_room ≤ length table
   pub keeps : length stack ≡ length stack₀
   -- each open row was paid for with a word
   pub enough : spent ≤ most
   pub deep : depth ≤ spent
   -- what is left lies in the words in use
-  pub ahead : waiting ≡ true → Reference pattern_room (cells pattern) pattern_room used next
-  pub rows : (i : ℕ) → i < depth → Row pattern used (column 0 stack i) (column 1 stack i)
+  pub ahead : waiting ≡ true → Reference pattern_room (cells pattern) pattern_room ready.used next
+  pub rows : (i : ℕ) → i < depth → Row pattern ready.used (column 0 stack i) (column 1 stack i)
   -- words spent and words left are the whole term's
   pub spends : spent + words (pending waiting (term_of pattern next) (unmet (cells pattern) stack depth)) ≡ words (term_of pattern reference)
   pub meets : (e : List ℕ) → Records e table₀ count
@@ -54,11 +53,11 @@ pub record Turn (pattern : List ℕ) (reference used : ℕ) (table₀ : List ℕ
 abbrev pub left : ℕ → Rows → ℕ → ℕ → Bool → ℕ
 left most stack spent depth waiting = 2 * (most - spent) + one waiting + turns stack depth
 
-pub turn_start : {pattern : List ℕ} {reference used : ℕ} {table : List ℕ} {count most : ℕ} {stack : Rows} → Ready pattern reference used table count most stack
-    → Turn pattern reference used table count most stack table stack count 0 0 reference true
-turn_start h = record {
+pub turn_start : {pattern : List ℕ} {reference : ℕ} {table : List (Option ℕ)} {count most : ℕ} {stack : Rows} → pattern_room ≤ length table → Ready pattern reference most stack
+    → Turn pattern reference table count most stack table stack count 0 0 reference true
+turn_start l h = record {
   ready = h;
-  kept = refl;
+  long = l;
   keeps = refl;
   enough = omega arith;
   deep = omega arith;
@@ -68,38 +67,29 @@ turn_start h = record {
   meets = λ e k. record { f = e; records = k; comes = refl };
 }
 
-module _ {pattern : List ℕ} {reference used : ℕ} {table₀ : List ℕ} {count most : ℕ} {stack₀ : Rows} {table : List ℕ} {stack : Rows}
+module _ {pattern : List ℕ} {reference : ℕ} {table₀ : List (Option ℕ)} {count most : ℕ} {stack₀ : Rows} {table : List (Option ℕ)} {stack : Rows}
     {given spent depth next : ℕ} {waiting : Bool}
-    (h : Turn pattern reference used table₀ count most stack₀ table stack given spent depth next waiting) where
-  -- There is room for every variable.
-  pub few : given ≤ pattern_room
-  few = let (e, k) = h.ready.known in
-      let r = h.meets e k in
-      let c = r.records.counted in
-      let l = variables_few r.f r.records.variables in
-      omega arith
-
-  pub long : pattern_room ≤ length table
-  long = let a = h.kept in let b = h.ready.long in omega arith
-
+    (h : Turn pattern reference table₀ count most stack₀ table stack given spent depth next waiting) where
   -- A term waits.
   module _ (q : waiting ≡ true) where
-    abbrev here : Turn pattern reference used table₀ count most stack₀ table stack given spent depth next true
-    here = subst (λ (b : Bool). Turn pattern reference used table₀ count most stack₀ table stack given spent depth next b) q h
+    abbrev here : Turn pattern reference table₀ count most stack₀ table stack given spent depth next true
+    here = subst (λ (b : Bool). Turn pattern reference table₀ count most stack₀ table stack given spent depth next b) q h
 
     pub less_one : left most stack spent depth false < left most stack spent depth waiting
     less_one = rw q (omega arith)
 
     -- It is a variable.
     module _ (v : next < pattern_room) where
-      pub turn_variable : (given' : ℕ) (table' : List ℕ) → Given table next given given' table'
-          → Turn pattern reference used table₀ count most stack₀ table' stack given' spent depth 0 false
+      pub turn_variable : (given' : ℕ) (table' : List (Option ℕ)) → Given table next given given' table'
+          → Turn pattern reference table₀ count most stack₀ table' stack given' spent depth 0 false
       turn_variable given' table' g =
+          let kept = given_kept g in
+          let long = h.long in
           let is : term_of pattern next ≡ var next = denote_variable pattern_room (cells pattern) next v in
           let s : spent + words (cons (term_of pattern next) (unmet (cells pattern) stack depth)) ≡ words (term_of pattern reference) = here.spends in
           record {
             ready = h.ready;
-            kept = given_kept table next given given' table' g ∙ h.kept;
+            long = omega arith;
             keeps = h.keeps;
             enough = h.enough;
             deep = h.deep;
@@ -109,7 +99,7 @@ module _ {pattern : List ℕ} {reference used : ℕ} {table₀ : List ℕ} {coun
             meets = λ e k. let r = here.meets e k in
                 let c : met (cons (term_of pattern next) (unmet (cells pattern) stack depth)) r.f ≡ met (term_of pattern reference) e = r.comes in record {
                   f = met (var next) r.f;
-                  records = records_met r.f table next given given' table' v long r.records g;
+                  records = records_met r.f table next given given' table' v h.long r.records g;
                   comes = rw is at c;
                 };
           }
@@ -125,7 +115,7 @@ module _ {pattern : List ℕ} {reference used : ℕ} {table₀ : List ℕ} {coun
       abbrev inner : Terms
       inner = args (denote pattern_room (cells pattern)) (cells pattern) (suc address) arity
 
-      pub node_words : (address < length pattern) × (next < headers) × (suc address + arity ≤ used)
+      pub node_words : (address < length pattern) × (next < headers) × (suc address + arity ≤ h.ready.used)
       node_words =
           let r = h.ahead q in
           let n = r.node v in
@@ -135,7 +125,7 @@ module _ {pattern : List ℕ} {reference used : ℕ} {table₀ : List ℕ} {coun
           (omega arith, omega arith, omega arith)
 
       is_node : term_of pattern next ≡ app (symbol_of (cells pattern address)) inner
-      is_node = denote_node pattern_room (cells pattern) pattern_room used h.ready.formed next (h.ahead q) v
+      is_node = denote_node pattern_room (cells pattern) pattern_room h.ready.used h.ready.formed next (h.ahead q) v
 
       spends_node : spent + suc (arity + words inner + words (unmet (cells pattern) stack depth)) ≡ words (term_of pattern reference)
       spends_node =
@@ -164,10 +154,10 @@ module _ {pattern : List ℕ} {reference used : ℕ} {table₀ : List ℕ} {coun
             let e : turns entered (suc depth) ≡ 2 * arity + 1 + turns stack depth = turns_put stack depth (address + 1) arity free_row in
             rw (q, add-one depth) (omega arith)
 
-        pub turn_enter : Turn pattern reference used table₀ count most stack₀ table entered given (spent + (arity + 1)) (depth + 1) 0 false
+        pub turn_enter : Turn pattern reference table₀ count most stack₀ table entered given (spent + (arity + 1)) (depth + 1) 0 false
         turn_enter = record {
           ready = h.ready;
-          kept = h.kept;
+          long = h.long;
           keeps = length-set stack depth ((address + 1) ∷ arity ∷ []) ∙ h.keeps;
           enough = omega arith;
           deep = let d = h.deep in omega arith;
@@ -175,7 +165,7 @@ module _ {pattern : List ℕ} {reference used : ℕ} {table₀ : List ℕ} {coun
           rows = λ i l. by_same i depth
               (λ e p. rw (e, get_or-set_same stack depth ((address + 1) ∷ arity ∷ []) [] free_row) (record {
                 inside = let (a, b, d) = node_words in omega arith;
-                references = λ j m. rw (add-one address) (reference_argument pattern_room (cells pattern) pattern_room used h.ready.formed next j (h.ahead q) v m);
+                references = λ j m. rw (add-one address) (reference_argument pattern_room (cells pattern) pattern_room h.ready.used h.ready.formed next j (h.ahead q) v m);
               }))
               (λ e p. rw (get_or-set_other stack depth i ((address + 1) ∷ arity ∷ []) [] e) (h.rows i (by_less i depth (λ k s. k) (λ k s. absurd (e (omega arith))))));
           spends = rw (opened, words_append) (let s = spends_node in omega arith);
@@ -189,23 +179,20 @@ module _ {pattern : List ℕ} {reference used : ℕ} {table₀ : List ℕ} {coun
 
   -- None waits.
   module _ (q : waiting ≡ false) where
-    abbrev there : Turn pattern reference used table₀ count most stack₀ table stack given spent depth next false
-    there = subst (λ (b : Bool). Turn pattern reference used table₀ count most stack₀ table stack given spent depth next b) q h
+    abbrev there : Turn pattern reference table₀ count most stack₀ table stack given spent depth next false
+    there = subst (λ (b : Bool). Turn pattern reference table₀ count most stack₀ table stack given spent depth next b) q h
 
-    pub turn_done : depth ≡ 0 → Walked pattern reference table₀ count most (Some (record { places = given; words = spent })) table
+    pub turn_done : depth ≡ 0 → Walked pattern reference table₀ count most (Some spent) table given
     turn_done z =
         let s : spent + words (unmet (cells pattern) stack depth) ≡ words (term_of pattern reference) = there.spends in
         let s₀ : spent + 0 ≡ words (term_of pattern reference) = rw z at s in
         let m = h.enough in
-        let all : (e : List ℕ) → Records e table₀ count → Records (met (term_of pattern reference) e) table given =
-        λ e k. let r = there.meets e k in
-        let c : met (unmet (cells pattern) stack depth) r.f ≡ met (term_of pattern reference) e = r.comes in
-        let c₀ : r.f ≡ met (term_of pattern reference) e = rw z at c in rw c₀ at r.records in
         record {
           exceeded = λ l. let z : ⊥ = omega arith in absurd z;
-          answered = λ l e k. ap₂ (λ (places words : ℕ). let m : Met = record { places = places; words = words } in Some m) (all e k).counted (omega arith);
-          recorded = λ l e k. let r = all e k in record { variables = r.variables; placed = r.placed; counted = refl };
-          kept = h.kept;
+          answered = λ l. ap Some (omega arith);
+          recorded = λ l e k. let r = there.meets e k in
+              let c : met (unmet (cells pattern) stack depth) r.f ≡ met (term_of pattern reference) e = r.comes in
+              let c₀ : r.f ≡ met (term_of pattern reference) e = rw z at c in rw c₀ at r.records;
         }
 
     -- A row is open.
@@ -243,12 +230,12 @@ module _ {pattern : List ℕ} {reference used : ℕ} {table₀ : List ℕ} {coun
         pub less_close : left most stack spent last waiting < left most stack spent depth waiting
         less_close = let t = turns_last in omega arith
 
-        pub turn_close : Turn pattern reference used table₀ count most stack₀ table stack given spent last next waiting
+        pub turn_close : Turn pattern reference table₀ count most stack₀ table stack given spent last next waiting
         turn_close =
             let s : spent + words (unmet (cells pattern) stack depth) ≡ words (term_of pattern reference) = there.spends in
             record {
               ready = h.ready;
-              kept = h.kept;
+              long = h.long;
               keeps = h.keeps;
               enough = h.enough;
               deep = let d = h.deep in omega arith;
@@ -283,23 +270,23 @@ module _ {pattern : List ℕ} {reference used : ℕ} {table₀ : List ℕ} {coun
             let e' : turns taken depth ≡ 2 * (rest - 1) + 1 + turns stack last = ap (turns taken) is ∙ e in
             rw q (omega arith)
 
-        pub turn_next : Turn pattern reference used table₀ count most stack₀ table taken given spent depth (cells pattern at) true
+        pub turn_next : Turn pattern reference table₀ count most stack₀ table taken given spent depth (cells pattern at) true
         turn_next =
             let s : spent + words (unmet (cells pattern) stack depth) ≡ words (term_of pattern reference) = there.spends in
             let row = h.rows last (omega arith) in
             record {
               ready = h.ready;
-              kept = h.kept;
+              long = h.long;
               keeps = length-set stack last ((at + 1) ∷ (rest - 1) ∷ []) ∙ h.keeps;
               enough = h.enough;
               deep = h.deep;
               ahead = λ b. (let e : at + 0 ≡ at = omega arith in
-                  let r : Reference pattern_room (cells pattern) pattern_room used (cells pattern (at + 0)) = row.references 0 (omega arith) in rw e at r);
+                  let r : Reference pattern_room (cells pattern) pattern_room h.ready.used (cells pattern (at + 0)) = row.references 0 (omega arith) in rw e at r);
               rows = λ i l. by_same i last
                   (λ e p. rw (e, get_or-set_same stack last ((at + 1) ∷ (rest - 1) ∷ []) [] last_row.0) (record {
                     inside = let a = row.inside in omega arith;
                     references = λ j m. let d : at + suc j ≡ at + 1 + j = omega arith in
-                        let r : Reference pattern_room (cells pattern) pattern_room used (cells pattern (at + suc j)) = row.references (suc j) (omega arith) in rw d at r;
+                        let r : Reference pattern_room (cells pattern) pattern_room h.ready.used (cells pattern (at + suc j)) = row.references (suc j) (omega arith) in rw d at r;
                   }))
                   (λ e p. rw (get_or-set_other stack last i ((at + 1) ∷ (rest - 1) ∷ []) [] e) (h.rows i l));
               spends = rw first at s;

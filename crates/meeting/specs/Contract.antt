@@ -8,34 +8,28 @@ use Rattle.arena.specs.Rows.{Rows}
 use Rattle.resolution.specs.Fresh.{met}
 use Rattle.resolution.specs.Search.{words}
 use Rattle.meeting.specs.Places.{Records}
-use Rattle.meeting.specs.declared.Met.{Met}
 
 -- The term of a pattern's reference.
 abbrev pub term_of : List ℕ → ℕ → Term
 term_of pattern reference = denote pattern_room (cells pattern) reference
 
 -- What the walk requires.
-pub record Ready (pattern : List ℕ) (reference used : ℕ) (table : List ℕ) (count most : ℕ) (stack : Rows) : Type 0 where
+pub record Ready (pattern : List ℕ) (reference most : ℕ) (stack : Rows) : Type 0 where
   -- The words in use are within the slice, and references to them are below the headers.
+  pub used : ℕ
   pub within : used ≤ length pattern
   pub low : pattern_room + used ≤ headers
   -- Among them each header has its node's arguments behind it, and the reference is a variable's or a node's.
   pub formed : WellFormed pattern_room (cells pattern) pattern_room used
   pub root : Reference pattern_room (cells pattern) pattern_room used reference
-  -- The table has a word for each variable; table and count are those of some variables.
-  pub long : pattern_room ≤ length table
-  pub known : (e : List ℕ) × Records e table count
   -- The stack has a row for each node that may be entered.
   pub room : most ≤ length stack
 
 -- What the walk ensures.
-pub record Walked (pattern : List ℕ) (reference : ℕ) (table : List ℕ) (count most : ℕ) (answer : Option Met) (table' : List ℕ) : Type 0 where
+pub record Walked (pattern : List ℕ) (reference : ℕ) (table : List (Option ℕ)) (count most : ℕ) (answer : Option ℕ) (table' : List (Option ℕ)) (count' : ℕ) : Type 0 where
   -- A term of too many words is told.
   pub exceeded : most < words (term_of pattern reference) → answer ≡ None
-  -- Else the term's variables are met behind those met before, and its words are counted.
-  pub answered : words (term_of pattern reference) ≤ most → (e : List ℕ) → Records e table count
-      → answer ≡ Some (record { places = length (met (term_of pattern reference) e); words = words (term_of pattern reference) })
+  -- Else its words are counted, and its variables are met behind those met before.
+  pub answered : words (term_of pattern reference) ≤ most → answer ≡ Some (words (term_of pattern reference))
   pub recorded : words (term_of pattern reference) ≤ most → (e : List ℕ) → Records e table count
-      → Records (met (term_of pattern reference) e) table' (length (met (term_of pattern reference) e))
-  -- The table keeps its length.
-  pub kept : length table' ≡ length table
+      → Records (met (term_of pattern reference) e) table' count'

@@ -1,8 +1,10 @@
 -- Laws of tables of places: a table for no variables, one variable met, and which variables were met in the order of their numbers.
-use Rattle.std.specs.Prelude.{ℕ, zero, suc, ◌+◌, ◌≤◌, ◌<◌, ◌≡◌, refl, ◌≢◌, Bool, true, false, ◌||◌, ◌&&◌, cond, List, [], ◌∷◌, ◌++◌, get_or, length, take}
-use Rattle.std.proofs.Common.{arith, le_refl, not-suc-le-zero, sym, ap, ◌∙◌, length-set, length-append, get_or-set_same, get_or-set_other, ext_get_or}
+use Rattle.std.specs.Prelude.{ℕ, zero, suc, ◌+◌, ◌≤◌, ◌<◌, ◌≡◌, refl, ◌≢◌, Bool, true, false, ◌||◌, cond, Option, Some, None, List, [], ◌∷◌, ◌++◌, get_or, length, set, replicate, zip}
+use Rattle.std.specs.Option.{is_some}
+use Rattle.std.specs.List.{list_all, range_with_len}
+use Rattle.std.proofs.Common.{arith, not-suc-le-zero, sym, ap, ◌∙◌, length-set, length-append, get_or-set_same, get_or-set_other, ext_get_or}
+use Rattle.std.proofs.lemmas.Bool.{eqb-true, eq-eqb}
 use Rattle.std.proofs.Math.ListN.{get_or-append}
-use Rattle.std.proofs.lemmas.List.{get_or-take, length-take-le}
 use Rattle.std.proofs.Math.Seq.{get_or-append_seam}
 use Rattle.terms.specs.Numbers.{same, by_bool, true_false, same_refl, same_true, same_ne, by_same, by_less, or_false}
 use Rattle.terms.specs.Term.{Kind, Syn, var, app, nil, cons, Below}
@@ -10,11 +12,45 @@ use Rattle.arena.specs.Copies.{pattern_room}
 use Rattle.resolution.specs.Fresh.{elem, met, place}
 use Rattle.resolution.specs.FreshLaws.{Grows}
 use Rattle.resolution.proofs.FreshLaws.{covers_grows, elem_last, place_append, place_lt, at_place}
-use Rattle.meeting.specs.Places.{Variables, Placed, Records, Given, in_order, numbers_below}
+use Rattle.meeting.specs.Places.{Variables, Placed, Records, Given, placed_count, is_place, in_order, place_numbers, numbers_below}
+
+some_none : {p : ℕ} → Some p ≡ None → ⊥
+some_none q = let z : ◌≡◌ {A = ℕ} 0 1 = cc in omega arith
+
+pub some_one : {p q : ℕ} → Some p ≡ Some q → p ≡ q
+some_one h = cc
+
+pub not_some : (p : Option ℕ) → is_some p ≡ false → p ≡ None
+not_some None h = refl
+not_some (Some p) h = true_false refl h
+
+-- No table has more places than variables,
+pub placed_most : (table : List (Option ℕ)) → placed_count table ≤ length table
+unfolding placed_count
+placed_most [] = omega arith
+placed_most (None ∷ table) = let h = placed_most table in omega arith
+placed_most (Some p ∷ table) = let h = placed_most table in omega arith
+
+-- and a variable that is given a place is one more that has one.
+pub placed_more : (table : List (Option ℕ)) (x place : ℕ) → x < length table → get_or table x None ≡ None → placed_count (set table x (Some place)) ≡ suc (placed_count table)
+unfolding placed_count
+placed_more [] x place l h = absurd (not-suc-le-zero l)
+placed_more (None ∷ table) zero place l h = refl
+placed_more (Some p ∷ table) zero place l h = absurd (some_none h)
+placed_more (None ∷ table) (suc x) place l h = placed_more table x place (omega arith) h
+placed_more (Some p ∷ table) (suc x) place l h = ap suc (placed_more table x place (omega arith) h)
 
 -- A table in which no variable has a place.
-pub records_none : (table : List ℕ) → ((x : ℕ) → x < pattern_room → get_or table x 0 ≡ pattern_room) → Records [] table 0
+pub records_none : (table : List (Option ℕ)) → ((x : ℕ) → x < pattern_room → get_or table x None ≡ None) → Records [] table 0
 records_none table h = record { variables = tt; placed = h; counted = refl }
+
+none_at : (n x : ℕ) → get_or {A = Option ℕ} (replicate n None) x None ≡ None
+none_at zero x = refl
+none_at (suc n) zero = refl
+none_at (suc n) (suc x) = none_at n x
+
+pub records_new : Records [] (replicate 64 None) 0
+records_new = records_none (replicate 64 None) (λ x l. none_at 64 x)
 
 -- Another variable behind a list.
 elem_other : (y x : ℕ) (e : List ℕ) → y ≢ x → elem y (e ++ (x ∷ [])) ≡ elem y e
@@ -74,10 +110,10 @@ pub variables_few : (e : List ℕ) → Variables e → length e ≤ pattern_room
 variables_few e v = let a = among_all e v in let b = among_most e pattern_room in omega arith
 
 -- A variable that was met has its place in the table.
-pub placed_yes : (e table : List ℕ) (x : ℕ) → Placed e table → x < pattern_room → elem x e ≡ true → get_or table x 0 ≡ place e x
+pub placed_yes : (e : List ℕ) (table : List (Option ℕ)) (x : ℕ) → Placed e table → x < pattern_room → elem x e ≡ true → get_or table x None ≡ Some (place e x)
 placed_yes e table x h l p = h x l ∙ rw p
 
-pub placed_no : (e table : List ℕ) (x : ℕ) → Placed e table → x < pattern_room → elem x e ≡ false → get_or table x 0 ≡ pattern_room
+pub placed_no : (e : List ℕ) (table : List (Option ℕ)) (x : ℕ) → Placed e table → x < pattern_room → elem x e ≡ false → get_or table x None ≡ None
 placed_no e table x h l p = h x l ∙ rw p
 
 -- A variable in the list has room.
@@ -86,66 +122,96 @@ variables_small x [] v p = true_false p refl
 variables_small x (y ∷ e) v p = by_bool (same x y) (λ q. let d = same_true q in let l = v.0 in omega arith) (λ q. variables_small x e v.2 (rw q at p))
 
 -- Places given once stay: those of the first variables met are below their number.
-pub records_earlier : (e : List ℕ) {e' table : List ℕ} {count : ℕ} → Records e' table count → Grows e e' → (x : ℕ) → elem x e ≡ true
-    → (get_or table x 0 ≡ place e x) × (get_or table x 0 < length e)
+pub records_earlier : (e : List ℕ) {e' : List ℕ} {table : List (Option ℕ)} {count : ℕ} → Records e' table count → Grows e e' → (x : ℕ) → elem x e ≡ true
+    → (get_or table x None ≡ Some (place e x)) × (place e x < length e)
 records_earlier e {e'} {table} h g x p =
     let p' : elem x e' ≡ true = covers_grows (var x) e e' g p in
-    let at : get_or table x 0 ≡ place e x = placed_yes e' table x h.placed (variables_small x e' h.variables p') p'
-    ∙ ap (λ (l : List ℕ). place l x) g.1 ∙ place_append x e g.0 p in
-    let lt = place_lt x e p in
-    (at, omega arith)
+    let at : get_or table x None ≡ Some (place e x) = placed_yes e' table x h.placed (variables_small x e' h.variables p') p'
+    ∙ ap Some (ap (λ (l : List ℕ). place l x) g.1 ∙ place_append x e g.0 p) in
+    (at, place_lt x e p)
 
 -- Meeting one variable: the table keeps its length,
-pub given_kept : (table : List ℕ) (x count count' : ℕ) (table' : List ℕ) → Given table x count count' table' → length table' ≡ length table
-given_kept table x count count' table' g = by_same (get_or table x 0) pattern_room
-    (λ q r. ap length (g.new q).1 ∙ length-set table x count)
-    (λ q r. ap length (g.old q).1)
+pub given_kept : {table : List (Option ℕ)} {x count count' : ℕ} {table' : List (Option ℕ)} → Given table x count count' table' → length table' ≡ length table
+given_kept {table} {x} {count} {table' = table'} g = go (get_or table x None) refl
+  where
+    go : (p : Option ℕ) → get_or table x None ≡ p → length table' ≡ length table
+    go None e = ap length (g.new e).1 ∙ length-set table x (Some count)
+    go (Some q) e = ap length (g.old (λ n. some_none (sym e ∙ n))).1
 
--- and is one of the variables met.
-pub records_met : (e table : List ℕ) (x count count' : ℕ) (table' : List ℕ) → x < pattern_room → pattern_room ≤ length table → Records e table count → Given table x count count' table'
-    → Records (met (var x) e) table' count'
+-- and it is one of the variables met.
+pub records_met : (e : List ℕ) (table : List (Option ℕ)) (x count count' : ℕ) (table' : List (Option ℕ)) → x < pattern_room → pattern_room ≤ length table → Records e table count
+    → Given table x count count' table' → Records (met (var x) e) table' count'
 records_met e table x count count' table' l long h g = by_bool (elem x e)
-    (λ p. let few = variables_few e h.variables in
-    let lt = place_lt x e p in
-    let at = placed_yes e table x h.placed l p in
-    let (c, d) = g.old (λ q. omega arith) in
+    (λ p. let at = placed_yes e table x h.placed l p in
+    let (c, d) = g.old (λ q. some_none (sym at ∙ q)) in
     rw p (record { variables = h.variables; placed = rw d h.placed; counted = c ∙ h.counted }))
     (λ p. let (c, d) = g.new (placed_no e table x h.placed l p) in
     rw p (record {
       variables = variables_last x e l p h.variables;
       placed = λ y b. rw d (by_same y x
-          (λ q r. let y₀ = get_or-set_same table x count 0 (omega arith) in rw (q, elem_last, place_last x e p) (y₀ ∙ h.counted))
-          (λ q r. get_or-set_other table x y count 0 q ∙ by_bool (elem y e)
+          (λ q r. rw (q, elem_last, place_last x e p) (get_or-set_same table x (Some count) None (omega arith) ∙ ap Some h.counted))
+          (λ q r. get_or-set_other table x y (Some count) None q ∙ by_bool (elem y e)
           (λ s. placed_yes e table y h.placed b s ∙ rw (elem_other y x e q, s, place_append y e (x ∷ []) s))
           (λ s. placed_no e table y h.placed b s ∙ rw (elem_other y x e q, s))));
       counted = c ∙ (let a = h.counted in let k = length-append e (x ∷ []) in omega arith);
     }))
 
+-- Places as numbers
+
+pub place_number : (table : List (Option ℕ)) (x : ℕ) {p : ℕ} → get_or table x None ≡ Some p → get_or (place_numbers table) x 0 ≡ p
+place_number [] x h = absurd (some_none (sym h))
+place_number (None ∷ table) zero h = absurd (some_none (sym h))
+place_number (Some q ∷ table) zero h = some_one h
+place_number (q ∷ table) (suc x) h = place_number table x h
+
 -- Order
 
-pub order_each : (table : List ℕ) (n : ℕ) → in_order table n ≡ true → (x : ℕ) → x < n → get_or table x 0 ≡ x
+pub place_is : (p : Option ℕ) (x : ℕ) → is_place p x ≡ true → p ≡ Some x
+place_is None x h = true_false h refl
+place_is (Some p) x h = ap Some (eqb-true p x h)
+
+order_each : (table : List (Option ℕ)) (n : ℕ) → in_order table n ≡ true → (x : ℕ) → x < n → get_or table x None ≡ Some x
 unfolding in_order
 order_each table zero h x l = absurd (not-suc-le-zero l)
-order_each table (suc n) h x l = by_bool (same (get_or table n 0) n)
-    (λ p. by_same x n (λ q r. rw q (same_true p)) (λ q r. order_each table n (rw p at h) x (by_less x n (λ k s. k) (λ k s. absurd (q (omega arith))))))
+order_each table (suc n) h x l = by_bool (is_place (get_or table n None) n)
+    (λ p. by_same x n (λ q r. rw q (place_is (get_or table n None) n p)) (λ q r. order_each table n (rw p at h) x (by_less x n (λ k s. k) (λ k s. absurd (q (omega arith))))))
     (λ p. true_false h (rw p))
 
-pub each_order : (table : List ℕ) (n : ℕ) → ((x : ℕ) → x < n → get_or table x 0 ≡ x) → in_order table n ≡ true
+each_order : (table : List (Option ℕ)) (n : ℕ) → ((x : ℕ) → x < n → get_or table x None ≡ Some x) → in_order table n ≡ true
 unfolding in_order
 each_order table zero h = refl
-each_order table (suc n) h = rw (h n (omega arith), same_refl n) (each_order table n (λ x l. h x (omega arith)))
+each_order table (suc n) h = rw (h n (omega arith), eq-eqb n n refl) (each_order table n (λ x l. h x (omega arith)))
 
-pub order_fails : (table : List ℕ) (n x : ℕ) → x < n → get_or table x 0 ≢ x → in_order table n ≡ false
-order_fails table n x l d = by_bool (in_order table n) (λ p. absurd (d (order_each table n p x l))) (λ p. p)
+-- The places beside the numbers from one on.
+abbrev pub are_places : List (Option ℕ) → ℕ → ℕ → Bool
+are_places table a n = list_all (λ (p : Option ℕ × ℕ). is_place p.0 p.1) (zip table (range_with_len a n))
 
--- Of a table's first places it is the same to ask by the part of the table that has them.
-order_take : (table : List ℕ) (k n : ℕ) → n ≤ k → in_order (take k table) n ≡ in_order table n
-unfolding in_order
-order_take table k zero l = refl
-order_take table k (suc n) l = rw (get_or-take k table n 0 (omega arith)) (ap (λ (b : Bool). same (get_or table n 0) n && b) (order_take table k n (omega arith)))
+places_each : (table : List (Option ℕ)) (a n : ℕ) → n ≤ length table → are_places table a n ≡ true → (x : ℕ) → x < n → get_or table x None ≡ Some (a + x)
+places_each table a zero l h x k = absurd (not-suc-le-zero k)
+places_each [] a (suc n) l h x k = absurd (not-suc-le-zero l)
+places_each (p ∷ table) a (suc n) l h zero k = by_bool (is_place p a)
+    (λ q. let e : a + 0 ≡ a = omega arith in rw e (place_is p a q))
+    (λ q. true_false h (rw q))
+places_each (p ∷ table) a (suc n) l h (suc x) k = by_bool (is_place p a)
+    (λ q. let e : a + suc x ≡ a + 1 + x = omega arith in rw e (places_each table (a + 1) n (omega arith) (rw q at h) x (omega arith)))
+    (λ q. true_false h (rw q))
 
-pub used_order : (table : List ℕ) (n : ℕ) → n ≤ length table → in_order (take n table) (length (take n table)) ≡ in_order table n
-used_order table n l = ap (in_order (take n table)) (length-take-le n table l) ∙ order_take table n n (le_refl n)
+each_places : (table : List (Option ℕ)) (a n : ℕ) → n ≤ length table → ((x : ℕ) → x < n → get_or table x None ≡ Some (a + x)) → are_places table a n ≡ true
+each_places [] a zero l h = refl
+each_places (p ∷ table) a zero l h = refl
+each_places [] a (suc n) l h = absurd (not-suc-le-zero l)
+each_places (p ∷ table) a (suc n) l h =
+    let e : a + 0 ≡ a = omega arith in
+    let q : p ≡ Some a = rw e at (h 0 (omega arith)) in
+    rw (q, eq-eqb a a refl) (each_places table (a + 1) n (omega arith) (λ x k. let d : a + suc x ≡ a + 1 + x = omega arith in rw d at (h (suc x) (omega arith))))
+
+-- It is the same to ask by pairs.
+pub places_order : (table : List (Option ℕ)) (n : ℕ) → n ≤ length table → are_places table 0 n ≡ in_order table n
+places_order table n l = by_bool (in_order table n)
+    (λ p. each_places table 0 n l (λ x k. let e : 0 + x ≡ x = omega arith in rw e (order_each table n p x k)) ∙ sym p)
+    (λ p. by_bool (are_places table 0 n)
+    (λ q. let e = each_order table n (λ x k. let d : 0 + x ≡ x = omega arith in rw d at (places_each table 0 n l q x k)) in true_false e p)
+    (λ q. q ∙ sym p))
 
 length_numbers : (n : ℕ) → length (numbers_below n) ≡ n
 length_numbers zero = refl
@@ -170,7 +236,7 @@ numbers_place (suc n) x l = by_same x n
     (λ q r. let (a, b) = numbers_place n x (by_less x n (λ k s. k) (λ k s. absurd (q (omega arith)))) in
     (elem_other x n (numbers_below n) q ∙ a, place_append x (numbers_below n) (n ∷ []) a ∙ b))
 
-module _ {e table : List ℕ} {count : ℕ} (h : Records e table count) where
+module _ {e : List ℕ} {table : List (Option ℕ)} {count : ℕ} (h : Records e table count) where
   -- In order: each variable below the count was met, and its place is its own number.
   pub order_place : in_order table count ≡ true → (x : ℕ) → x < count → (elem x e ≡ true) × (place e x ≡ x)
   order_place o x l =
@@ -179,8 +245,8 @@ module _ {e table : List ℕ} {count : ℕ} (h : Records e table count) where
       let own = order_each table count o x l in
       let m : x < pattern_room = omega arith in
       by_bool (elem x e)
-      (λ p. (p, sym (placed_yes e table x h.placed m p) ∙ own))
-      (λ p. let k = placed_no e table x h.placed m p in absurd (let z : ⊥ = omega arith in z))
+      (λ p. (p, some_one (sym (placed_yes e table x h.placed m p) ∙ own)))
+      (λ p. absurd (some_none (sym own ∙ placed_no e table x h.placed m p)))
 
   -- Then they are the numbers below the count, in order;
   pub order_list : in_order table count ≡ true → e ≡ numbers_below count
@@ -196,4 +262,4 @@ module _ {e table : List ℕ} {count : ℕ} (h : Records e table count) where
       (λ x l. let few = variables_few e h.variables in
       let c = h.counted in
       let (a, b) = numbers_place count x l in
-      placed_yes e table x h.placed (omega arith) (rw q a) ∙ rw q b)
+      placed_yes e table x h.placed (omega arith) (rw q a) ∙ ap Some (rw q b))

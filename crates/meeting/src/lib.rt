@@ -2,98 +2,103 @@
 // the term takes (document 01, refusal 37). The stack is lent, so that nothing is recursive.
 #![tactic(auto)]
 
-ghost use Rattle.std.specs.Prelude.{◌≡◌, ◌<◌, ◌≤◌, length};
+ghost use Rattle.std.specs.Prelude.{◌≡◌, ◌<◌, [], length};
 ghost use Rattle.arena.specs.Copies.{pattern_room};
-ghost use Rattle.meeting.specs.Places.{Given, in_order};
+ghost use Rattle.meeting.specs.Places.{Records, Given, placed_count, is_place, in_order};
 ghost use Rattle.meeting.specs.Contract.{Ready, Walked};
 
 use arena::{PATTERN_ROOM, SYMBOL_STEP};
 
-// A term whose variables were met: how many variables have places now, and how many words the term takes.
-#[derive(Clone, Copy)]
-pub struct Met {
-    pub places: u32,
-    pub words: u32,
+// The variables that were met: the place of each of them in meeting order, and how many they are.
+#[derive(Drop)]
+pub struct Places {
+    pub places: [Option<u32>; 64],
+    pub count: u32,
+    ghost counted: { count ≡ placed_count places },
+    ghost long: { length places ≡ pattern_room },
 }
 
-// Gives the variable x the next place if it has none; answers how many variables have places then.
-fn place_variable(places: &mut [u32], x: u32, count: u32) -> u32
-    requires { (x < length places.old) × (count ≤ pattern_room) }
-    ensures { Given places.old x count result places.new }
-{
-    let i = x as usize;
-    if places[i] != PATTERN_ROOM {
-        return count;
+impl Places {
+    // None was met.
+    pub fn new() -> Self
+        ensures { Records [] result.places result.count }
+    {
+        Places {
+            places: [None; 64],
+            count: 0,
+        }
     }
-    places[i] = count;
-    count + 1
-}
 
-// Meets the variables of a pattern's term from left to right; none if the term takes more than `most` words. The first `count` places are given, and the
-// stack has a row for each word, since a node takes at least one.
-// Stays: `count` is how many places were given, and the table has one for each variable.
-pub fn meet(
-    words: &[u32],
-    reference: u32,
-    used: u32,
-    places: &mut [u32],
-    count: u32,
-    most: u32,
-    stack: &mut [[u32; 2]],
-) -> Option<Met>
-    requires { Ready words.now reference used places.old count most stack.old }
-    ensures { Walked words.now reference places.old count most result places.new }
-{
-    // A row of the stack is an open node: the address of its next argument, and how many arguments are left. `waiting` is the reference to be met next.
-    let mut given = count;
-    let mut spent = 0;
-    let mut depth: usize = 0;
-    let mut waiting = Some(reference);
-    loop {
-        match waiting {
-            Some(next) => {
-                waiting = None;
-                if next < PATTERN_ROOM {
-                    given = place_variable(places, next, given);
-                } else {
-                    let address = next - PATTERN_ROOM;
-                    let arity = words[address as usize] % SYMBOL_STEP;
-                    if most - spent <= arity {
-                        return None;
+    // Gives the variable x the next place if it has none.
+    fn give(&mut self, x: u32)
+        requires { x < pattern_room }
+        ensures { Given self.old.places x self.old.count self.new.count self.new.places }
+    {
+        let place = self.places[x as usize];
+        if place.is_none() {
+            self.places[x as usize] = Some(self.count);
+            self.count += 1;
+        }
+    }
+
+    // Meets the variables of a pattern's term from left to right, and answers how many words the term takes; none if these are more than `most`. The
+    // stack has a row for each word, since a node takes at least one.
+    pub fn meet(
+        &mut self,
+        words: &[u32],
+        reference: u32,
+        most: u32,
+        stack: &mut [[u32; 2]],
+    ) -> Option<u32>
+        requires { Ready words.now reference most stack.old }
+        ensures { Walked words.now reference self.old.places self.old.count most result self.new.places self.new.count }
+    {
+        // A row of the stack is an open node: the address of its next argument, and how many arguments are left. `waiting` is the reference to be met next.
+        let mut spent = 0;
+        let mut depth: usize = 0;
+        let mut waiting = Some(reference);
+        loop {
+            match waiting {
+                Some(next) => {
+                    waiting = None;
+                    if next < PATTERN_ROOM {
+                        self.give(next);
+                    } else {
+                        let address = next - PATTERN_ROOM;
+                        let arity = words[address as usize] % SYMBOL_STEP;
+                        if most - spent <= arity {
+                            return None;
+                        }
+                        spent += arity + 1;
+                        stack[depth] = [address + 1, arity];
+                        depth += 1;
                     }
-                    spent += arity + 1;
-                    stack[depth] = [address + 1, arity];
-                    depth += 1;
                 }
-            }
-            None => {
-                if depth == 0 {
-                    return Some(Met {
-                        places: given,
-                        words: spent,
-                    });
-                }
-                let row = depth - 1;
-                let [at, left] = stack[row];
-                if left == 0 {
-                    depth -= 1;
-                } else {
-                    stack[row] = [at + 1, left - 1];
-                    waiting = Some(words[at as usize]);
+                None => {
+                    if depth == 0 {
+                        return Some(spent);
+                    }
+                    let row = depth - 1;
+                    let [at, left] = stack[row];
+                    if left == 0 {
+                        depth -= 1;
+                    } else {
+                        stack[row] = [at + 1, left - 1];
+                        waiting = Some(words[at as usize]);
+                    }
                 }
             }
         }
     }
-}
 
-// Whether these variables have their own numbers as places: they were met in order.
-pub fn is_in_order(places: &[u32]) -> bool
-    ensures { result ≡ in_order places.now (length places.now) }
-{
-    for x in 0..places.len() {
-        if places[x] as usize != x {
-            return false;
-        }
+    // Whether the variables that were met have their own numbers as places: they were met in order.
+    pub fn is_in_order(&self) -> bool
+        ensures { result ≡ in_order self.now.places self.now.count }
+    {
+        self.places.iter().zip(0..self.count).all(
+            |(place, x)|
+                ensures { result ≡ is_place place.entry.now x }
+            { *place == Some(x) },
+        )
     }
-    true
 }

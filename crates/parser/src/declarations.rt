@@ -15,7 +15,7 @@ use refusals::{Refusal, Rejection};
 use term_parser::items::{Item, Judgment, Name, Repeated, all, list};
 use term_parser::lists::{arrows, judgments, name, names, patterns, title};
 use term_parser::terms::{app, term};
-use term_parser::tokens::{peek, put, rejection, sign};
+use term_parser::tokens::{peek, rejection, sign};
 use term_parser::{Input, PARENTHESES, Position, Read};
 use words::{
     AUTO, BAR, BY, CHECK, CLOSE, COLON, CTOR, DEF, DEFINES, DOUBLE_ARROW, EVAL, INDUCTION, NAME,
@@ -43,7 +43,7 @@ impl Repeated for Clause {
         let list = patterns(input, behind, out)?;
         let arrow = sign(input, DOUBLE_ARROW, list.position)?;
         let body = app(input, arrow.position, PARENTHESES, out)?;
-        put(out, from.used, [CLAUSE, 0, 0, list.count]);
+        out[from.used] = [CLAUSE, 0, 0, list.count];
         Ok(Some(Read { count: 1, ..body }))
     }
 }
@@ -77,7 +77,7 @@ impl Repeated for Binders {
             ..colon.position
         };
         let close = sign(input, CLOSE, sort)?;
-        put(out, from.used, [BINDERS, t.start, t.length, bound.count]);
+        out[from.used] = [BINDERS, t.start, t.length, bound.count];
         Ok(Some(Read { count: 1, ..close }))
     }
 }
@@ -129,7 +129,7 @@ pub fn sort(
         used: from.used + 1,
     };
     let n = name(input, behind, out)?;
-    put(out, from.used, [SORT, number, 0, 0]);
+    out[from.used] = [SORT, number, 0, 0];
     Ok(Read { count: 1, ..n })
 }
 
@@ -153,7 +153,7 @@ pub fn titled<I: Item>(
     };
     let n = title(input, behind, out)?;
     let items = list::<I>(input, n.position, out)?;
-    put(out, from.used, [kind, number, items.count, 0]);
+    out[from.used] = [kind, number, items.count, 0];
     Ok(Read { count: 1, ..items })
 }
 
@@ -199,7 +199,7 @@ pub fn pred(
     let last = sorts.position.used - 1;
     let row = out[last];
     if is_prop(input.text, row) {
-        put(out, from.used, [PRED, number, sorts.count - 1, 0]);
+        out[from.used] = [PRED, number, sorts.count - 1, 0];
         return Ok(Read {
             position: Position {
                 used: last,
@@ -243,7 +243,7 @@ pub fn def(
     let n = title(input, behind, out)?;
     let sorts = arrows(input, n.position, out)?;
     let clauses = all::<Clause>(input, sorts.position, out)?;
-    put(out, from.used, [DEF, number, sorts.count, clauses.count]);
+    out[from.used] = [DEF, number, sorts.count, clauses.count];
     Ok(Read {
         count: 1,
         ..clauses
@@ -284,7 +284,7 @@ pub fn theorem(
         from.used + 1,
         (proof.position.used - terms.position.used) as u32,
     );
-    put(out, from.used, [THEOREM, number, bound.count, terms.count]);
+    out[from.used] = [THEOREM, number, bound.count, terms.count];
     Ok(Read { count: 1, ..proof })
 }
 
@@ -307,7 +307,7 @@ pub fn asked(
         used: from.used + 1,
     };
     let t = term(input, behind, PARENTHESES, out)?;
-    put(out, from.used, [kind, number, 0, 0]);
+    out[from.used] = [kind, number, 0, 0];
     Ok(Read { count: 1, ..t })
 }
 

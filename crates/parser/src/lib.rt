@@ -10,6 +10,7 @@ ghost use Rattle.parser.specs.Parser.{Parsing, ParsingText};
 
 use declarations::declarations;
 use refusals::{Refusal, Rejection};
+use slices::clear_from;
 use term_parser::Input;
 
 // The kinds of rows beside those of tokens and terms.
@@ -44,14 +45,14 @@ pub fn parse(text: &[u8], tokens: &[[u32; 4]], rows: &mut [[u32; 4]]) -> Result<
     }
     match declarations(Input { text, tokens }, rows) {
         Ok(read) => {
-            words::clear(rows, read.position.used);
+            clear_from(rows, read.position.used, [0; 4]);
             Ok(Parsed {
                 declarations: read.count,
                 rows: read.position.used,
             })
         }
         Err(rejection) => {
-            words::clear(rows, 0);
+            clear_from(rows, 0, [0; 4]);
             Err(rejection)
         }
     }
@@ -83,12 +84,12 @@ pub fn parse_text(
         Ok(count) => {
             let answer = parse(text, &tokens[..count], rows);
             if answer.is_err() {
-                words::clear(tokens, 0);
+                clear_from(tokens, 0, [0; 4]);
             }
             answer
         }
         Err(rejection) => {
-            words::clear(rows, 0);
+            clear_from(rows, 0, [0; 4]);
             Err(rejection)
         }
     }

@@ -3,6 +3,7 @@
 use Rattle.std.specs.Prelude.{ℕ, ◌+◌, ◌≤◌, ◌<◌, ◌≡◌, Bool, true, false, List, length, Result, Ok}
 use Rattle.words.specs.Lexer.{capped_of}
 use Rattle.words.specs.declared.Limits.{Limits}
+use Rattle.attempts.specs.declared.SearchLimits.{SearchLimits}
 use Rattle.terms.specs.Term.{Term}
 use Rattle.term_check.specs.TermRows.{TermAt}
 use Rattle.arena.specs.Cells.{denote, Reference, cells}
@@ -21,6 +22,10 @@ use Rattle.sessions.specs.Promises.{allowance_of, Continued}
 use Rattle.sessions.specs.Leaving.{SessionMade}
 use Rattle.sessions.specs.declared.SessionCounts.{SessionCounts}
 use Rattle.prover.specs.declared.preparing.StoredGoal.{StoredGoal}
+
+-- How many variables and words the limits allow a search.
+abbrev pub search_limits : Limits → SearchLimits
+search_limits l = record { variables = (capped_of l).variables; words = (capped_of l).words }
 
 -- The symbols are there, the session and the goal's rows are in form, and all past the counts is zero.
 pub record PrepareAsked (text : List ℕ) (limits : Limits) (symbols : Rows) (count : ℕ) (rows : Rows) (at : ℕ) (names : Rows)

@@ -12,6 +12,7 @@ use Rattle.std.proofs.Math.Seq.{length-sets}
 use Rattle.words.specs.Lexer.{capped_of}
 use Rattle.words.specs.declared.Limits.{Limits}
 use Rattle.terms.specs.Numbers.{less, less_yes, less_no, by_less, true_false, or_false}
+use Rattle.attempts.specs.declared.SearchLimits.{SearchLimits}
 use Rattle.terms.specs.Term.{Term}
 use Rattle.term_check.specs.TermRows.{TermAt}
 use Rattle.arena.specs.Cells.{Reference, cells}
@@ -21,7 +22,7 @@ use Rattle.names.specs.UsedLaws.{symbols_used}
 use Rattle.names.specs.Symbols.{Rows, Symbol, column, row_at, symbol_of, symbols_of, symbol_at, no_symbol}
 use Rattle.names.specs.SearchLaws.{table_length, table_at, get_d_any, columns_length}
 use Rattle.patterns.specs.Promises.{Ready}
-use Rattle.resolution.specs.Search.{words, over}
+use Rattle.resolution.specs.Search.{words, over, within}
 use Rattle.resolution.specs.Session.{Named, Compiled, refuses, compiles, goal_of, limits_of, at_most, variable_limit, word_limit, too_much}
 use Rattle.resolution.specs.Session as theory
 use Rattle.rules.specs.PatternLaws.{arities_of, FewInputs}
@@ -40,7 +41,7 @@ use Rattle.goals.specs.SessionLaws.{new_count, goal_size, session_asked, session
 use Rattle.goals.specs.declared.Goal.{Goal}
 use Rattle.refusals.specs.declared.Refusal.{Refusal}
 use Rattle.refusals.specs.declared.Refusal.TheVariants.{OverLimit}
-use Rattle.prover.specs.Preparing.{PrepareAsked, IsStored, Within, Prepares, Preparing}
+use Rattle.prover.specs.Preparing.{search_limits, PrepareAsked, IsStored, Within, Prepares, Preparing}
 
 -- The symbols in use, lent as a part of a table, are the table's first ones.
 pub made_used : {text : List ℕ} {rows : Rows} {at : ℕ} {names : Rows} {w : List ℕ} {r : Result Goal Refusal} {vx : Rows} {wx : List ℕ}
@@ -70,12 +71,6 @@ module _ (l : Limits) {c : Limits} (is : c ≡ capped_of l) where
   steps_is : c.steps ≡ at_most theory.step_limit l.steps
   steps_is = ap (λ (x : Limits). x.steps) is ∙ sym (most_is theory.step_limit l.steps)
 
-  variables_is : c.variables ≡ at_most variable_limit l.variables
-  variables_is = ap (λ (x : Limits). x.variables) is ∙ sym (capped_variables l)
-
-  words_is : c.words ≡ at_most word_limit l.words
-  words_is = ap (λ (x : Limits). x.words) is ∙ sym (capped_words l)
-
   -- More steps than allowed,
   pub much_steps : (s d : ℕ) → c.steps < s → true ≡ too_much s d (allowance_of l)
   much_steps s d h = let e = steps_is in
@@ -89,18 +84,12 @@ module _ (l : Limits) {c : Limits} (is : c ≡ capped_of l) where
       let m : s ≤ at_most theory.step_limit l.steps = omega arith in
       sym (ap (λ (b : Bool). b || less theory.depth_limit d) (less_no m))
 
-  -- More variables than the limits allow, or words.
-  pub over_variables : (v w : ℕ) → c.variables < v → true ≡ over (limits_of (allowance_of l)) v w
-  over_variables v w h = let e = variables_is in
-      let m : at_most variable_limit l.variables < v = omega arith in
-      rw (less_yes m)
-
-  pub over_words : (v w : ℕ) → v ≤ c.variables → ltb c.words w ≡ over (limits_of (allowance_of l)) v w
-  unfolding less
-  over_words v w h = let e = variables_is in
-      let m : v ≤ at_most variable_limit l.variables = omega arith in
-      ap (λ (i : ℕ). less i w) words_is
-      ∙ sym (ap (λ (b : Bool). b || less (at_most word_limit l.words) w) (less_no m))
+-- More variables or words than a search may use are more than the limits allow.
+pub over_told : (l : Limits) {s : SearchLimits} {r : Bool} (v w : ℕ) → s ≡ search_limits l → r ≡ over (within s.variables s.words) v w
+    → r ≡ over (limits_of (allowance_of l)) v w
+over_told l {s} {r} v w e f =
+    f ∙ ap (λ (x : SearchLimits). over (within x.variables x.words) v w) e
+    ∙ ap₂ (λ (i j : ℕ). over (within i j) v w) (sym (capped_variables l)) (sym (capped_words l))
 
 -- What is not over the limits is within them.
 pub within_limits : (l : Limits) (v w : ℕ) → over (limits_of (allowance_of l)) v w ≡ false

@@ -6,6 +6,7 @@ use Rattle.std.proofs.lemmas.List.{length-replicate}
 use Rattle.words.specs.Lexer.{capped_of}
 use Rattle.words.specs.declared.Limits.{Limits}
 use Rattle.terms.specs.Numbers.{less, by_bool, by_less, true_false, or_false}
+use Rattle.attempts.specs.declared.SearchLimits.{SearchLimits}
 use Rattle.terms.specs.Term.{Term, one}
 use Rattle.terms.specs.Bindings.{Bindings}
 use Rattle.arena.specs.Cells.{cells}
@@ -52,7 +53,7 @@ use Rattle.sessions.specs.Answers.{Answer, Refused, Proved, Nothing, Undecided}
 use Rattle.prover.specs.Queries.{asked_in, session_in, given_of, given_in}
 use Rattle.prover.specs.Clearing.{PastCleared, ClearsPast}
 use Rattle.prover.specs.declared.Query.{Query}
-use Rattle.prover.specs.Preparing.{PrepareAsked, GoalStands, Within, Prepares, Preparing}
+use Rattle.prover.specs.Preparing.{search_limits, PrepareAsked, GoalStands, Within, Prepares, Preparing}
 use Rattle.prover.specs.Searching.{SearchAsked, Unproved, counts_then, Failing, Finding, SearchSays, SearchLeft}
 use Rattle.prover.specs.Proving.{ClearedReady, ProveLeft}
 use Rattle.prover.specs.PreparingLaws.{capped_variables, capped_words, capped_steps}
@@ -172,19 +173,12 @@ prove_same s d e f g h i j = rw (e, f, g, h, i, j)
 
 -- What the search may use.
 abbrev pub allowed_of : SignatureStore → Limits → Allowed
-allowed_of sg l =
-    record {
-      variables = (capped_of l).variables;
-      words = (capped_of l).words;
-      frames = (capped_of l).steps;
-      rules = sg.counts.rules;
-    }
+allowed_of sg l = record { limits = search_limits l; frames = (capped_of l).steps; rules = sg.counts.rules }
 
-pub allowed_is : (rules : ℕ) (limits : Limits) {l : Limits} → l ≡ capped_of limits
-    → ◌≡◌ {A = Allowed} (record { variables = l.variables; words = l.words; frames = l.steps; rules = rules })
-    (record { variables = (capped_of limits).variables; words = (capped_of limits).words; frames = (capped_of limits).steps; rules = rules })
-allowed_is rules limits e =
-    ap (λ (l : Limits). record { variables = l.variables; words = l.words; frames = l.steps; rules = rules }) e
+pub allowed_is : (rules : ℕ) (limits : Limits) {s : SearchLimits} {l : Limits} → s ≡ search_limits limits → l ≡ capped_of limits
+    → ◌≡◌ {A = Allowed} (record { limits = s; frames = l.steps; rules = rules })
+    (record { limits = search_limits limits; frames = (capped_of limits).steps; rules = rules })
+allowed_is rules limits e f = ap₂ (λ (s : SearchLimits) (l : Limits). record { limits = s; frames = l.steps; rules = rules }) e f
 
 -- What `prepare` says, for the answer that it gave.
 pub at_answer : {text : List ℕ} {limits : Limits} {symbols : Rows} {count : ℕ} {rows : Rows} {at : ℕ} {names : Rows} {ws : List ℕ}

@@ -19,7 +19,7 @@ ghost use Rattle.prover.specs.Proving.{ClearedReady, ProveLeft};
 
 use clearing::clear_past;
 use names::TermRow;
-use preparing::{is_too_much, prepare};
+use preparing::{is_too_much, prepare, search_limits};
 use refusals::Refusal;
 use search_machine::{Allowed, Program, Store};
 use searching::search_goal;
@@ -56,31 +56,21 @@ pub fn prove_cleared(
         (session_in names.old store.old) session (given_in (answer_in result) names.new store.new) }
     ensures lent { IsLent store.old store.new }
 {
-    if is_too_much(query.limits, query.steps, query.depth) {
+    if is_too_much(query) {
         return Err(Refusal::TooMuch);
     }
-    let capped = query.limits.capped();
     let signature = query.signature;
     let program = Program {
         rules: signature.rules,
         pattern: signature.words,
         allowed: Allowed {
-            variables: capped.variables,
-            words: capped.words,
-            frames: capped.steps,
+            limits: search_limits(query.limits),
+            frames: query.limits.capped().steps,
             rules: signature.counts.rules,
         },
     };
     let goal = prepare(query, names, store.words, session)?;
-    search_goal(
-        program,
-        names,
-        store,
-        goal,
-        session,
-        query.steps,
-        query.depth,
-    )
+    search_goal(program, names, store, goal, session, query)
 }
 
 // Proves the goal of a query, in a session, where all that is read is in form and the buffers are long enough.

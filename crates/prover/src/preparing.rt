@@ -1,11 +1,11 @@
 // A goal before its search: 38, its compilation, 37, and its storing.
 ghost use Rattle.std.specs.Prelude.{◌≡◌};
-ghost use Rattle.resolution.specs.Session.{limits_of, too_much};
-ghost use Rattle.resolution.specs.Search.{over};
+ghost use Rattle.resolution.specs.Session.{too_much};
 ghost use Rattle.sessions.specs.Promises.{allowance_of};
-ghost use Rattle.prover.specs.Preparing.{PrepareAsked, Preparing};
+ghost use Rattle.prover.specs.Preparing.{search_limits, PrepareAsked, Preparing};
 
 use super::Query;
+use attempts::SearchLimits;
 use names::SourceTerms;
 use refusals::Refusal;
 use sessions::{NameRow, SessionCounts};
@@ -23,19 +23,22 @@ pub struct StoredGoal {
     pub words: u32,
 }
 
-// Are these more steps than allowed, or is the depth too great?
-pub fn is_too_much(limits: Limits, steps: u32, depth: u32) -> bool
-    ensures { result ≡ too_much steps depth (allowance_of limits) }
+// Does a query ask for more steps than allowed, or for too great a depth?
+pub fn is_too_much(query: Query) -> bool
+    ensures { result ≡ too_much query.entry.steps query.entry.depth (allowance_of query.entry.limits) }
 {
-    limits.capped().steps < steps || DEPTH < depth
+    query.limits.capped().steps < query.steps || DEPTH < query.depth
 }
 
-// Are these more variables or words than the limits allow?
-fn is_over(limits: Limits, variables: u32, words: u32) -> bool
-    ensures { result ≡ over (limits_of (allowance_of limits)) variables words }
+// How many variables and words the limits allow a search.
+pub fn search_limits(limits: Limits) -> SearchLimits
+    ensures { result ≡ search_limits limits }
 {
     let capped = limits.capped();
-    capped.variables < variables || capped.words < words
+    SearchLimits {
+        variables: capped.variables,
+        words: capped.words,
+    }
 }
 
 // Compiles the goal of a query against the names of a session, and stores it there where the limits allow. Refused, nothing is written.
@@ -61,7 +64,7 @@ pub fn prepare(
     let goal = goals::compile(source, query.at, &names[..n], &mut variables, &mut pattern)?;
     let total = session.variables + (goal.variables - session.names);
     let used = session.words + goal.words;
-    if is_over(query.limits, total, used) {
+    if search_limits(query.limits).exceeds(total, used) {
         return Err(Refusal::OverLimit);
     }
     let node = goals::store(&variables, &pattern, goal, names, words, session);

@@ -4,7 +4,7 @@ ghost use Rattle.sessions.specs.Answers.{answer_in};
 ghost use Rattle.search_machine.specs.Groups.{IsLent};
 ghost use Rattle.prover.specs.Searching.{counts_then, SearchAskedIn, SearchLeftIn};
 
-use super::clearing::clear_names;
+use super::Query;
 use super::preparing::StoredGoal;
 use deepening::{Answer as Deepened, Question};
 use refusals::Refusal;
@@ -18,24 +18,24 @@ pub fn search_goal(
     store: &mut Store,
     goal: StoredGoal,
     session: SessionCounts,
-    steps: u32,
-    depth: u32,
+    query: Query,
 ) -> Result<Verdict, Refusal>
-    requires { SearchAskedIn program names.old store.old goal session steps depth }
-    ensures left { SearchLeftIn program.entry names.old names.new store.old store.new goal session steps depth (answer_in result) }
+    requires { SearchAskedIn program names.old store.old goal session query.steps query.depth }
+    ensures left { SearchLeftIn program.entry names.old names.new store.old store.new goal session query.entry.steps query.entry.depth
+        (answer_in result) }
     ensures lent { IsLent store.old store.new }
 {
     let question = Question {
         goal: goal.node,
-        steps,
+        steps: query.steps,
         counter: goal.variables,
         bound: session.bound,
         used: goal.words,
     };
-    match deepening::prove(program, store, question, depth) {
+    match deepening::prove(program, store, question, query.depth) {
         Err(refusal) => {
-            clear_names(names, session.names);
-            arena::clear(store.words, session.words);
+            slices::clear_from(names, session.names as usize, [0; 5]);
+            slices::clear_from(store.words, session.words as usize, 0);
             Err(refusal)
         }
         Ok(
@@ -57,14 +57,14 @@ pub fn search_goal(
             },
         }),
         Ok(Deepened::Nothing { steps, counter }) => {
-            arena::clear(store.words, session.words);
+            slices::clear_from(store.words, session.words as usize, 0);
             Ok(Verdict::Nothing {
                 steps,
                 counts: counts_then(session, goal, counter),
             })
         }
         Ok(Deepened::Undecided { steps, counter }) => {
-            arena::clear(store.words, session.words);
+            slices::clear_from(store.words, session.words as usize, 0);
             Ok(Verdict::Undecided {
                 steps,
                 counts: counts_then(session, goal, counter),

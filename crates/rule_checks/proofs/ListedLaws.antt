@@ -31,18 +31,18 @@ words_one g row a (suc n) (suc j) l = let e : a + suc j ≡ suc a + j = omega ar
 
 -- What the walks ask of each term.
 module _ {pattern : List ℕ} {u m end : ℕ} {row : List ℕ} (w : Walkable pattern end row) (a : OrderAsked u m end row) (o : InOrder pattern u row) where
-  pub conclusion_asked : TermAsked pattern end (column row 5)
+  pub conclusion_asked : TermAsked pattern (column row 5)
   conclusion_asked =
       let h = o.head in
       let s = a.small in
-      record { asked = record { within = w.within; low = w.low; formed = w.formed; root = w.root }; small = omega arith }
+      record { end = end; within = w.within; low = w.low; formed = w.formed; root = w.root; small = omega arith }
 
-  pub premise_asked : (j : ℕ) → j < column row 4 → TermAsked pattern end (column row (10 + j))
+  pub premise_asked : (j : ℕ) → j < column row 4 → TermAsked pattern (column row (10 + j))
   premise_asked j l =
       let h = o.body in
       let s = a.small in
       let b = words_one (term_of pattern) row 10 (column row 4) j l in
-      record { asked = record { within = w.within; low = w.low; formed = w.formed; root = w.roots j l }; small = omega arith }
+      record { end = end; within = w.within; low = w.low; formed = w.formed; root = w.roots j l; small = omega arith }
 
 module _ (text arities pattern : List ℕ) (sorts used : ℕ) (row : List ℕ) (u : ℕ) where
   -- Answers

@@ -1,5 +1,7 @@
 -- Laws of walks through a row's premises: from the first on, where their words are counted, and from the last back.
-use mathlib.Core.Path.{◌≡◌, ap, subst}
+use mathlib.Core.Path.{◌≡◌, refl, ap}
+use mathlib.Core.Bool.{true, false}
+use Rattle.terms.specs.Numbers.{true_false}
 use mathlib.Core.List.{List, [], ◌∷◌}
 use Prim.Native.Nat.{ℕ, suc, ◌+◌, ◌-◌, ◌≤◌, ◌<◌}
 use native.Mathlib.Omega.{arith}
@@ -10,28 +12,19 @@ use Rattle.resolution.specs.Fresh.{met, met_back}
 use Rattle.resolution.specs.Search.{words}
 use Rattle.names.specs.Symbols.{column, columns}
 use Rattle.rule_checks.specs.Steps.{Walked}
-use Rattle.std.specs.Prelude.{Some, None}
+use Rattle.std.specs.Prelude.{Option}
 
 -- Answers
 
 -- A term of other words than it is to take.
-pub walked_differs : {k : Kind} (t : Syn k) {size : ℕ} {table : List ℕ} {count : ℕ} {table' : List ℕ} → (words t ≡ size → ⊥) → Walked t size table count None table'
-walked_differs t d =
-    record {
-      other = λ q. d;
-      fits = λ n q. absurd (let z : ◌≡◌ {A = ℕ} 0 1 = cc in omega arith);
-      records = λ n q. absurd (let z : ◌≡◌ {A = ℕ} 0 1 = cc in omega arith);
-    }
+pub walked_differs : {k : Kind} (t : Syn k) {size : ℕ} {table : List (Option ℕ)} {count : ℕ} {table' : List (Option ℕ)} {count' : ℕ} → (words t ≡ size → ⊥)
+    → Walked t size table count false table' count'
+walked_differs t d = record { other = λ q. d; fits = λ q. true_false q refl; records = λ q. true_false q refl }
 
 -- A term of the words that it is to take.
-pub walked_fits : {k : Kind} (t : Syn k) {size : ℕ} {table : List ℕ} {count : ℕ} {table' : List ℕ} {n : ℕ} → words t ≡ size
-    → ((e : List ℕ) → Records e table count → Records (met t e) table' n) → Walked t size table count (Some n) table'
-walked_fits t {size} {table} {count} {table'} {n} d h =
-    record {
-      other = λ q. absurd (let z : ◌≡◌ {A = ℕ} 0 1 = cc in omega arith);
-      fits = λ m q. d;
-      records = λ m q e k. let s : n ≡ m = cc in subst (λ (c : ℕ). Records (met t e) table' c) s (h e k);
-    }
+pub walked_fits : {k : Kind} (t : Syn k) {size : ℕ} {table : List (Option ℕ)} {count : ℕ} {table' : List (Option ℕ)} {count' : ℕ} → words t ≡ size
+    → ((e : List ℕ) → Records e table count → Records (met t e) table' count') → Walked t size table count true table' count'
+walked_fits t d h = record { other = λ q. true_false refl q; fits = λ q. d; records = λ q. h }
 
 -- References
 
@@ -57,18 +50,18 @@ module _ (g : ℕ → Term) (row : List ℕ) (n : ℕ) where
   -- From the first on
 
   -- The premises before number k are met and take `spent` words.
-  pub record Going (k : ℕ) (table₀ table : List ℕ) (count spent : ℕ) : Type 0 where
-    pub recorded : (e : List ℕ) → Records e table₀ 0
+  pub record Going (k : ℕ) (table₀ : List (Option ℕ)) (count₀ : ℕ) (table : List (Option ℕ)) (count spent : ℕ) : Type 0 where
+    pub recorded : (e : List ℕ) → Records e table₀ count₀
         → (e' : List ℕ) × Records e' table count × (met (terms_of g (rest row n k)) e' ≡ met (terms_of g (columns row 10 n)) e)
     pub spends : spent + words (terms_of g (rest row n k)) ≡ words (terms_of g (columns row 10 n))
 
-  pub going_start : (table : List ℕ) → Going 0 table table 0 0
-  going_start table = let r = rest_all row n in record { recorded = λ e h. (e, h, rw r); spends = let s = ap (λ (l : List ℕ). words (terms_of g l)) r in omega arith }
+  pub going_start : (table : List (Option ℕ)) (count : ℕ) → Going 0 table count table count 0
+  going_start table count = let r = rest_all row n in record { recorded = λ e h. (e, h, rw r); spends = let s = ap (λ (l : List ℕ). words (terms_of g l)) r in omega arith }
 
-  module _ {k : ℕ} {table₀ table : List ℕ} {count spent : ℕ} (h : Going k table₀ table count spent) where
+  module _ {k : ℕ} {table₀ : List (Option ℕ)} {count₀ : ℕ} {table : List (Option ℕ)} {count spent : ℕ} (h : Going k table₀ count₀ table count spent) where
     -- One more, which takes `taken` words.
-    pub going_on : k < n → {table' : List ℕ} {given taken : ℕ} → taken ≡ words (g (column row (10 + k)))
-        → ((e : List ℕ) → Records e table count → Records (met (g (column row (10 + k))) e) table' given) → Going (k + 1) table₀ table' given (spent + taken)
+    pub going_on : k < n → {table' : List (Option ℕ)} {given taken : ℕ} → taken ≡ words (g (column row (10 + k)))
+        → ((e : List ℕ) → Records e table count → Records (met (g (column row (10 + k))) e) table' given) → Going (k + 1) table₀ count₀ table' given (spent + taken)
     going_on l {table'} {given} {taken} t f =
         let r = rest_cons row n k l in
         let s : spent + words (terms_of g (column row (10 + k) ∷ rest row n (k + 1))) ≡ words (terms_of g (columns row 10 n)) = rw r at h.spends in
@@ -90,7 +83,7 @@ module _ (g : ℕ → Term) (row : List ℕ) (n : ℕ) where
         let s : spent + words (terms_of g []) ≡ words (terms_of g (columns row 10 n)) = rw r at h.spends in
         omega arith
 
-    pub going_records : n ≤ k → (e : List ℕ) → Records e table₀ 0 → Records (met (terms_of g (columns row 10 n)) e) table count
+    pub going_records : n ≤ k → (e : List ℕ) → Records e table₀ count₀ → Records (met (terms_of g (columns row 10 n)) e) table count
     going_records l e b =
         let (e', b', m) = h.recorded e b in
         let m' : e' ≡ met (terms_of g (columns row 10 n)) e = rw (rest_none row n k l) at m in
@@ -99,19 +92,19 @@ module _ (g : ℕ → Term) (row : List ℕ) (n : ℕ) where
   -- From the last back
 
   -- The premises from number k on are met.
-  abbrev pub Back : ℕ → List ℕ → ℕ → List ℕ → ℕ → Type 0
+  abbrev pub Back : ℕ → List (Option ℕ) → ℕ → List (Option ℕ) → ℕ → Type 0
   Back k table₀ count table all = (e : List ℕ) → Records e table₀ count → Records (met_back (terms_of g (rest row n k)) e) table all
 
-  pub back_start : (table : List ℕ) (count : ℕ) → Back n table count table count
+  pub back_start : (table : List (Option ℕ)) (count : ℕ) → Back n table count table count
   back_start table count e h = rw (rest_none row n n (omega arith)) h
 
-  pub back_on : {k : ℕ} {table₀ : List ℕ} {count : ℕ} {table : List ℕ} {all : ℕ} → 0 < k → k ≤ n → Back k table₀ count table all → {table' : List ℕ} {all' : ℕ}
+  pub back_on : {k : ℕ} {table₀ : List (Option ℕ)} {count : ℕ} {table : List (Option ℕ)} {all : ℕ} → 0 < k → k ≤ n → Back k table₀ count table all → {table' : List (Option ℕ)} {all' : ℕ}
       → ((e : List ℕ) → Records e table all → Records (met (g (column row (10 + (k - 1)))) e) table' all') → Back (k - 1) table₀ count table' all'
   back_on {k} l m h f e b =
       let d : k - 1 + 1 ≡ k = omega arith in
       let r : rest row n (k - 1) ≡ column row (10 + (k - 1)) ∷ rest row n (k - 1 + 1) = rest_cons row n (k - 1) (omega arith) in
       rw (r, d) (f (met_back (terms_of g (rest row n k)) e) (h e b))
 
-  pub back_end : {table₀ : List ℕ} {count : ℕ} {table : List ℕ} {all : ℕ} → Back 0 table₀ count table all
+  pub back_end : {table₀ : List (Option ℕ)} {count : ℕ} {table : List (Option ℕ)} {all : ℕ} → Back 0 table₀ count table all
       → (e : List ℕ) → Records e table₀ count → Records (met_back (terms_of g (columns row 10 n)) e) table all
   back_end h e b = rw (rest_all row n) at (h e b)

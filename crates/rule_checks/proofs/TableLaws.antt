@@ -1,37 +1,26 @@
--- Laws of tables of places: no variable has one in a new table, and in one that a term's walk left just the term's variables have one.
-use mathlib.Core.Path.{◌≡◌, refl, ◌∙◌}
+-- Laws of tables of places: in one that a term's walk left just the term's variables have one.
+use mathlib.Core.Path.{◌≡◌, refl, sym, ◌∙◌}
+use mathlib.Core.Bool.{Bool, true}
+use Rattle.std.specs.List.{list_all}
+use Rattle.std.specs.Prelude.{zip}
+use Rattle.std.proofs.lemmas.Bool.{eq-eqb}
+use Rattle.unifier.specs.Promises.{Tells}
+use Rattle.meeting.specs.Places.{is_place}
+use Rattle.meeting.specs.PlaceLaws.{place_is}
 use mathlib.Core.List.{List, [], ◌∷◌}
 use Prim.Native.Nat.{ℕ, zero, suc, ◌≤◌, ◌<◌}
 use native.Mathlib.Omega.{arith}
-use lib.ListN.{length, get_or, replicate, length-replicate, length-append}
-use Rattle.terms.specs.Numbers.{by_bool}
+use lib.ListN.{length, get_or, length-append}
+use Rattle.std.specs.Prelude.{Option, Some, None}
+use Rattle.terms.specs.Numbers.{by_bool, true_false}
 use Rattle.terms.specs.Term.{Kind, Syn, mem}
-use Rattle.arena.specs.Rows as arena
 use Rattle.meeting.specs.Places.{Records, numbers_below}
-use Rattle.meeting.specs.PlaceLaws.{records_none, variables_few, placed_yes, placed_no}
+use Rattle.meeting.specs.PlaceLaws.{placed_yes, placed_no}
 use Rattle.resolution.specs.Fresh.{met, met_back, place}
-use Rattle.resolution.proofs.FreshLaws.{place_lt}
 use Rattle.rules.specs.CountLaws.{elem_met, all_met}
 use Rattle.rule_checks.specs.RuleForm.{rule_in}
 use Rattle.names.specs.Symbols.{column}
-use Rattle.rule_checks.specs.Steps.{Lent, Placed, Listed, premises_of, conclusion_of, InOrder}
-
-same_at : (n v k : ℕ) → k < n → ◌≡◌ {A = ℕ} (get_or (replicate n v) k 0) v
-same_at zero v k l = absurd (omega arith)
-same_at (suc n) v zero l = refl
-same_at (suc n) v (suc k) l = same_at n v k (omega arith)
-
--- A new table.
-pub records_new : Records [] (replicate 64 64) 0
-records_new = records_none (replicate 64 64) (λ x l. same_at 64 64 x l)
-
--- There is room in a new table and a stack that is lent,
-pub lent_new : {stack : arena.Rows} → 2048 ≤ length stack → Lent (replicate 64 64) stack
-lent_new l = record { long = rw (length-replicate {A = ℕ} 64 64) (omega arith); room = l }
-
--- and in those that a walk left.
-pub lent_kept : {table table' : List ℕ} {stack stack' : arena.Rows} → length table' ≡ length table → length stack' ≡ length stack → Lent table stack → Lent table' stack'
-lent_kept a b h = let l = h.long in let r = h.room in record { long = omega arith; room = omega arith }
+use Rattle.rule_checks.specs.Steps.{Placed, Listed, premises_of, conclusion_of, InOrder}
 
 -- The numbers below n are n.
 pub numbers_count : (n : ℕ) → length (numbers_below n) ≡ n
@@ -39,7 +28,7 @@ numbers_count zero = refl
 numbers_count (suc n) = let h = numbers_count n in let k = length-append (numbers_below n) (n ∷ []) in omega arith
 
 -- The table that a term's walk left.
-module _ {k : Kind} (t : Syn k) {table : List ℕ} {count : ℕ} (h : Records (met t []) table count) (words : List ℕ) (from to : ℕ) where
+module _ {k : Kind} (t : Syn k) {table : List (Option ℕ)} {count : ℕ} (h : Records (met t []) table count) (words : List ℕ) (from to : ℕ) where
   pub placed_listed : Placed words from to table → Listed words from to t
   placed_listed p a l m v = by_bool (mem (get_or words a 0) t) (λ q. q)
       (λ q. absurd (p a l m v (placed_no (met t []) table (get_or words a 0) h.placed v (elem_met (get_or words a 0) t [] ∙ q))))
@@ -48,14 +37,34 @@ module _ {k : Kind} (t : Syn k) {table : List ℕ} {count : ℕ} (h : Records (m
   listed_placed p a l m v q =
       let e = elem_met (get_or words a 0) t [] ∙ p a l m v in
       let b = placed_yes (met t []) table (get_or words a 0) h.placed v e in
-      let c = place_lt (get_or words a 0) (met t []) e in
-      let d = variables_few (met t []) h.variables in
+      let z : ◌≡◌ {A = ℕ} 0 1 = cc in
       omega arith
 
 -- The table that all walks left has each variable's place.
-pub table_places : {pattern : List ℕ} {u : ℕ} {row : List ℕ} → InOrder pattern u row → column row 3 ≤ 64 → {table : List ℕ} {n : ℕ}
+pub table_places : {pattern : List ℕ} {u : ℕ} {row : List ℕ} → InOrder pattern u row → column row 3 ≤ 64 → {table : List (Option ℕ)} {n : ℕ}
     → Records (met_back (premises_of pattern row) (met (conclusion_of pattern row) [])) table n
-    → (x : ℕ) → x < column row 3 → get_or table x 0 ≡ place (met_back (premises_of pattern row) (met (conclusion_of pattern row) [])) x
+    → (x : ℕ) → x < column row 3 → get_or table x None ≡ Some (place (met_back (premises_of pattern row) (met (conclusion_of pattern row) [])) x)
 table_places {pattern} {u} {row} o few {table} h x l =
     placed_yes (met_back (premises_of pattern row) (met (conclusion_of pattern row) [])) table x h.placed (omega arith)
     (all_met (rule_in [] pattern row) (column row 3) o.order x l)
+
+-- The places beside the columns of a row.
+places_columns : (table : List (Option ℕ)) (columns : List ℕ) → length columns ≤ length table → list_all (λ (p : Option ℕ × ℕ). is_place p.0 p.1) (zip table columns) ≡ true
+    → (x : ℕ) → x < length columns → get_or table x None ≡ Some (get_or columns x 0)
+places_columns table [] l h x k = absurd (omega arith)
+places_columns [] (c ∷ columns) l h x k = absurd (omega arith)
+places_columns (p ∷ table) (c ∷ columns) l h zero k = by_bool (is_place p c) (λ q. place_is p c q) (λ q. true_false h (rw q))
+places_columns (p ∷ table) (c ∷ columns) l h (suc x) k = by_bool (is_place p c) (λ q. places_columns table columns (omega arith) (rw q at h) x (omega arith)) (λ q. true_false h (rw q))
+
+columns_places : (table : List (Option ℕ)) (columns : List ℕ) → length columns ≤ length table → ((x : ℕ) → x < length columns → get_or table x None ≡ Some (get_or columns x 0))
+    → list_all (λ (p : Option ℕ × ℕ). is_place p.0 p.1) (zip table columns) ≡ true
+columns_places [] [] l h = refl
+columns_places (p ∷ table) [] l h = refl
+columns_places [] (c ∷ columns) l h = absurd (omega arith)
+columns_places (p ∷ table) (c ∷ columns) l h =
+    let q : p ≡ Some c = h 0 (omega arith) in
+    rw (q, eq-eqb c c refl) (columns_places table columns (omega arith) (λ x k. h (suc x) (omega arith)))
+
+pub columns_tell : (table : List (Option ℕ)) (columns : List ℕ) → length columns ≤ length table → {r : Bool} → r ≡ list_all (λ (p : Option ℕ × ℕ). is_place p.0 p.1) (zip table columns)
+    → Tells r ((x : ℕ) → x < length columns → get_or table x None ≡ Some (get_or columns x 0))
+columns_tell table columns l e = record { yes = λ q. places_columns table columns l (sym e ∙ q); back = λ h. e ∙ columns_places table columns l h }

@@ -1,11 +1,10 @@
 -- The steps of the test of a stored rule, and what each tells: the numbers of the row, its columns, the parts of the words, and the two orders in which
 -- the rule's variables are met.
-use Rattle.std.specs.Prelude.{ℕ, ◌+◌, ◌≤◌, ◌<◌, ◌≡◌, ◌≢◌, true, List, [], length, get_or, Option, Some, None}
+use Rattle.std.specs.Prelude.{ℕ, ◌+◌, ◌≤◌, ◌<◌, ◌≡◌, ◌≢◌, Bool, true, false, List, [], length, get_or, Option, None}
 use Rattle.terms.specs.Term.{Kind, Syn, Term, Terms, mem}
 use Rattle.arena.specs.Cells.{headers, Reference, WellFormed, cells, terms_of}
 use Rattle.arena.specs.Copies.{pattern_room}
 use Rattle.arena.specs.Form.{Place, is_argument, in_form}
-use Rattle.arena.specs.Rows as arena
 use Rattle.meeting.specs.Contract.{term_of}
 use Rattle.meeting.specs.Places.{Records, numbers_below}
 use Rattle.resolution.specs.Fresh.{met, met_back, place}
@@ -65,16 +64,13 @@ pub record Walkable (words : List ℕ) (end : ℕ) (row : List ℕ) : Type 0 whe
   pub roots : (j : ℕ) → j < column row 4 → Reference pattern_room (cells words) pattern_room end (column row (10 + j))
   pub root : Reference pattern_room (cells words) pattern_room end (column row 5)
 
--- The same of one reference,
-pub record RootAsked (pattern : List ℕ) (end r : ℕ) : Type 0 where
+-- The same of the reference of a term that is not too large.
+pub record TermAsked (pattern : List ℕ) (r : ℕ) : Type 0 where
+  pub end : ℕ
   pub within : end ≤ length pattern
   pub low : pattern_room + end ≤ headers
   pub formed : WellFormed pattern_room (cells pattern) pattern_room end
   pub root : Reference pattern_room (cells pattern) pattern_room end r
-
--- and of a term that is not too large.
-pub record TermAsked (pattern : List ℕ) (end r : ℕ) : Type 0 where
-  pub asked : RootAsked pattern end r
   pub small : words (term_of pattern r) ≤ 2048
 
 -- Where the words of premises and conclusion end; they and the variables are few.
@@ -84,11 +80,6 @@ pub record OrderAsked (u m end : ℕ) (row : List ℕ) : Type 0 where
   pub small : column row 7 + column row 8 ≤ 2048
   pub variables : column row 3 ≤ 64
 
--- What they ask beside that: a table of places and a stack.
-pub record Lent (table : List ℕ) (stack : arena.Rows) : Type 0 where
-  pub long : pattern_room ≤ length table
-  pub room : 2048 ≤ length stack
-
 -- The terms of the row's references.
 abbrev pub premises_of : List ℕ → List ℕ → Terms
 premises_of words row = terms_of (term_of words) (heads_in row)
@@ -97,17 +88,17 @@ abbrev pub conclusion_of : List ℕ → List ℕ → Term
 conclusion_of words row = term_of words (column row 5)
 
 -- A walk through t, which is to take `size` words: it takes others, or its variables are met behind those met before.
-pub record Walked {k : Kind} (t : Syn k) (size : ℕ) (table : List ℕ) (count : ℕ) (r : Option ℕ) (table' : List ℕ) : Type 0 where
-  pub other : r ≡ None → words t ≢ size
-  pub fits : (n : ℕ) → r ≡ Some n → words t ≡ size
-  pub records : (n : ℕ) → r ≡ Some n → (e : List ℕ) → Records e table count → Records (met t e) table' n
+pub record Walked {k : Kind} (t : Syn k) (size : ℕ) (table : List (Option ℕ)) (count : ℕ) (r : Bool) (table' : List (Option ℕ)) (count' : ℕ) : Type 0 where
+  pub other : r ≡ false → words t ≢ size
+  pub fits : r ≡ true → words t ≡ size
+  pub records : r ≡ true → (e : List ℕ) → Records e table count → Records (met t e) table' count'
 
 -- A word that is a variable has a place in the table,
-abbrev pub PlacedWord : List ℕ → ℕ → Type 0
-PlacedWord table word = word < pattern_room → get_or table word 0 ≢ pattern_room
+abbrev pub PlacedWord : List (Option ℕ) → ℕ → Type 0
+PlacedWord table word = word < pattern_room → get_or table word None ≢ None
 
 -- each variable among the words from a place up to another has one,
-abbrev pub Placed : List ℕ → ℕ → ℕ → List ℕ → Type 0
+abbrev pub Placed : List ℕ → ℕ → ℕ → List (Option ℕ) → Type 0
 Placed words from to table = (a : ℕ) → from ≤ a → a < to → PlacedWord table (get_or words a 0)
 
 -- or is one of the term's.

@@ -3,45 +3,28 @@
 // All functions here serve the crates above: they ask for words of the listed sizes.
 #![tactic(auto)]
 
-ghost use Rattle.std.specs.Prelude.{◌≡◌, true, List, [], ℕ, ◌+◌, ◌<◌, ◌≤◌, length, get_or, IsTrue, ◌↔◌, EachIndex, slice_index};
+ghost use Rattle.std.specs.Prelude.{◌≡◌, true, Some, None, List, [], ℕ, ◌+◌, ◌<◌, ◌≤◌, length, get_or, IsTrue, ◌↔◌, EachIndex, slice_index};
 ghost use Rattle.arena.specs.Cells.{headers};
 ghost use Rattle.arena.specs.Copies.{pattern_room};
 ghost use Rattle.arena.specs.Form.{is_argument};
-ghost use Rattle.resolution.specs.Fresh.{met, met_back};
-ghost use Rattle.meeting.specs.Contract.{term_of};
-ghost use Rattle.meeting.specs.Places.{Records};
-ghost use Rattle.names.specs.NamePlaces.{NamePlace};
+ghost use Rattle.resolution.specs.Fresh.{met_back};
+ghost use Rattle.meeting.specs.Places.{Records, is_place};
 ghost use Rattle.names.specs.Symbols.{column};
 ghost use Rattle.unifier.specs.Promises.{Tells};
 ghost use Rattle.rule_checks.specs.RuleForm.{RuleCheckable, RuleChecked};
-ghost use Rattle.rule_checks.specs.Steps.{Numbers, Columns, place_from, Parts, Walkable, RootAsked, TermAsked, Lent, premises_of, Walked, PlacedWord, OrderAsked, InOrder, InPlaces};
+ghost use Rattle.rule_checks.specs.Steps.{Numbers, Columns, place_from, Parts, Walkable, TermAsked, premises_of, Walked, PlacedWord, OrderAsked, InOrder, InPlaces};
 
 use arena::Terms;
-use names::Word;
+use meeting::Places;
+use names::{Word, is_word_place};
 use rules::RuleRow;
 
 // The room for variables in patterns.
 const ROOM: u32 = 64;
 // The most words that the terms of a rule take: 2 for each of 1,024 nodes.
 const MOST: u32 = 2048;
-// The most bytes of a name, and the most rules.
-const BYTES: u32 = 64;
-
+// The most rules.
 const RULES: u32 = 1024;
-
-// May a name have this place: inside the text, with 1 to 64 bytes?
-pub fn is_name(text: &[u8], word: Word) -> bool
-    ensures { Tells result (NamePlace text.now word.start word.size) }
-{
-    let Word { start, size } = word;
-    if size == 0 {
-        return false;
-    }
-    if BYTES < size {
-        return false;
-    }
-    start as usize + size as usize <= text.len()
-}
 
 // Whether the words of premises and conclusion are few, and no more than are left.
 fn are_sizes(left: u32, body: u32, head: u32) -> bool
@@ -68,7 +51,7 @@ fn are_numbers(text: &[u8], rule: &RuleRow, from: u32, used: u32) -> bool
         start: rule[0],
         size: rule[1],
     };
-    if !is_name(text, word) {
+    if !is_word_place(text, word) {
         return false;
     }
     if RULES < rule[2] {
@@ -183,60 +166,29 @@ fn are_parts(arities: &[u32], rule: PlacedRule) -> bool
     arena::is_argument(all, middle, row[5])
 }
 
-// Meets the variables of a row's premises in writing order, none of which has a place before; answers how many have places then, where the premises
-// take the words that the row counts.
-fn walk_premises(
-    words: &[u32],
-    end: u32,
-    rule: &RuleRow,
-    places: &mut [u32],
-    stack: &mut [[u32; 2]],
-) -> Option<u32>
-    requires { (column rule.now 7 ≤ 2048) × Walkable words.now end rule.now × Lent places.old stack.old × Records [] places.old 0 }
-    ensures { Walked (premises_of words.now rule.now) (column rule.now 7) places.old 0 result places.new }
+// Meets the variables of a row's premises in writing order, none of which has a place before; answers whether the premises take the words that the row
+// counts.
+fn walk_premises(words: &[u32], rule: &RuleRow, places: &mut Places, stack: &mut [[u32; 2]]) -> bool
+    requires { (column rule.now 7 ≤ 2048) × ((end : ℕ) × Walkable words.now end rule.now) × (2048 ≤ length stack.old) × Records [] places.old.places places.old.count }
+    ensures { Walked (premises_of words.now rule.now) (column rule.now 7) places.old.places places.old.count result places.new.places places.new.count }
 {
     let size = rule[7];
-    let mut count = 0;
     let mut spent = 0;
     for reference in &rule[10..10 + rule[4] as usize] {
-        let walked = meeting::meet(words, *reference, end, places, count, size - spent, stack)?;
-        count = walked.places;
-        spent += walked.words;
+        let Some(taken) = places.meet(words, *reference, size - spent, stack) else {
+            return false;
+        };
+        spent += taken;
     }
-    if spent != size {
-        return None;
-    }
-    Some(count)
-}
-
-// Meets the variables of one term; answers how many have places then, where the term takes `size` words.
-// Stays: `count` is how many variables are met, and any of the places may be theirs.
-fn walk_term(
-    words: &[u32],
-    reference: u32,
-    end: u32,
-    places: &mut [u32],
-    count: u32,
-    size: u32,
-    stack: &mut [[u32; 2]],
-) -> Option<u32>
-    requires { (size ≤ 2048) × RootAsked words.now end reference × Lent places.old stack.old × ((e : List ℕ) × Records e places.old count) }
-    ensures { Walked (term_of words.now reference) size places.old count result places.new }
-{
-    let walked = meeting::meet(words, reference, end, places, count, size, stack)?;
-    if walked.words != size {
-        return None;
-    }
-    Some(walked.places)
+    spent == size
 }
 
 // Whether each variable among words has a place.
-fn are_placed(words: &[u32], places: &[u32]) -> bool
-    requires { pattern_room ≤ length places.now }
-    ensures { Tells result (EachIndex words.now (λ k. PlacedWord places.now (slice_index words.now k))) }
+fn are_placed(words: &[u32], places: &Places) -> bool
+    ensures { Tells result (EachIndex words.now (λ k. PlacedWord places.now.places (slice_index words.now k))) }
 {
     for word in words {
-        if *word < ROOM && places[*word as usize] == ROOM {
+        if *word < ROOM && places.places[*word as usize] == None {
             return false;
         }
     }
@@ -253,50 +205,46 @@ fn is_in_order(rule: PlacedRule, stack: &mut [[u32; 2]]) -> bool
         words,
         from,
         middle,
-        end,
+        end: _,
     } = rule;
-    let mut places = [64u32; 64];
-    let Some(met) = walk_premises(words, end, row, &mut places, stack) else {
+    let mut places = Places::new();
+    if !walk_premises(words, row, &mut places, stack) {
         return false;
-    };
+    }
     if !are_placed(&words[from as usize..middle as usize], &places) {
         return false;
     }
-    let Some(all) = walk_term(words, row[5], end, &mut places, met, row[8], stack) else {
-        return false;
-    };
-    if all != row[3] {
+    let size = row[8];
+    if places.meet(words, row[5], size, stack) != Some(size) {
         return false;
     }
-    meeting::is_in_order(&places[..all as usize])
+    if places.count != row[3] {
+        return false;
+    }
+    places.is_in_order()
 }
 
 // Meets the variables of a row's premises from the last to the first, behind those met before.
-// Stays: `count` is how many variables are met, and any of the places may be theirs.
-fn walk_back(
-    words: &[u32],
-    end: u32,
-    rule: &RuleRow,
-    places: &mut [u32],
-    count: u32,
-    stack: &mut [[u32; 2]],
-)
-    requires { (column rule.now 4 ≤ 16) × ((j : ℕ) → j < column rule.now 4 → TermAsked words.now end (column rule.now (10 + j))) × Lent places.old stack.old × ((e : List ℕ) × Records e places.old count) }
-    ensures { (e : List ℕ) → Records e places.old count → ((n : ℕ) × Records (met_back (premises_of words.now rule.now) e) places.new n) }
+fn walk_back(words: &[u32], rule: &RuleRow, places: &mut Places, stack: &mut [[u32; 2]])
+    requires { (column rule.now 4 ≤ 16) × ((j : ℕ) → j < column rule.now 4 → TermAsked words.now (column rule.now (10 + j))) × (2048 ≤ length stack.old) }
+    ensures { (e : List ℕ) → Records e places.old.places places.old.count → Records (met_back (premises_of words.now rule.now) e) places.new.places places.new.count }
 {
-    let mut all = count;
     for k in (0..rule[4] as usize).rev() {
-        all = rules::walk(words, rule[10 + k], end, places, all, MOST, stack);
+        places.meet(words, rule[10 + k], MOST, stack);
     }
 }
 
 // Whether a row has the places of its variables.
-fn are_places(rule: &RuleRow, places: &[u32]) -> bool
-    requires { (column rule.now 3 ≤ 64) × (pattern_room ≤ length places.now) }
-    ensures { Tells result ((x : ℕ) → x < column rule.now 3 → get_or places.now x 0 ≡ column rule.now (90 + x)) }
+fn are_places(rule: &RuleRow, places: &Places) -> bool
+    requires { column rule.now 3 ≤ 64 }
+    ensures { Tells result ((x : ℕ) → x < column rule.now 3 → get_or places.now.places x None ≡ Some (column rule.now (90 + x))) }
 {
     let count = rule[3] as usize;
-    places[..count] == rule[90..90 + count]
+    places.places.iter().zip(&rule[90..90 + count]).all(
+        |(place, column)|
+            ensures { result ≡ is_place place.entry.now column.entry.now }
+        { *place == Some(*column) },
+    )
 }
 
 // Whether a row has the variables of its conclusion counted and the places of all in meeting order. The stack is scratch.
@@ -311,21 +259,21 @@ fn is_in_places(rule: PlacedRule, stack: &mut [[u32; 2]]) -> bool
         middle,
         end,
     } = rule;
-    let mut places = [64u32; 64];
-    let met = rules::walk(words, row[5], end, &mut places, 0, MOST, stack);
-    if met != row[9] {
+    let mut places = Places::new();
+    places.meet(words, row[5], MOST, stack);
+    if places.count != row[9] {
         return false;
     }
     if !are_placed(&words[middle as usize..end as usize], &places) {
         return false;
     }
-    walk_back(words, end, row, &mut places, met, stack);
+    walk_back(words, row, &mut places, stack);
     are_places(row, &places)
 }
 
 // Tests a rule, whose words start at `from`; `used` words are in use, and there are so many sorts. Answers where the rule's words end, if row and words
 // are in form. The stack is scratch, lent once for all rules: laying one out takes longer than the walk through a small rule.
-// Stays: what is told is of all the words of a signature, so they are lent whole, and `used` says where those in use end.
+// Stays: the answer is about the signature's whole table of words, which the callers keep; had of `&words[..used]`, it would have to be proved again for it.
 pub fn check_rule(
     text: &[u8],
     arities: &[u32],

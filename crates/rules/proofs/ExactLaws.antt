@@ -1,5 +1,6 @@
 -- Laws of the row that `keep` writes: it is the rule's own, number by number and place by place.
 use mathlib.Core.Path.{◌≡◌, refl, sym, ap, ◌∙◌}
+use mathlib.Core.Bool.{true}
 use mathlib.Core.List.{List, [], ◌∷◌, map}
 use Prim.Native.Nat.{ℕ, zero, suc, ◌+◌, ◌-◌, ◌≤◌, ◌<◌}
 use native.Mathlib.Omega.{arith}
@@ -8,10 +9,9 @@ use lib.Seq.{length-take-le, get_or-take, get_or_at, ext_get_or}
 use Rattle.terms.specs.Numbers.{by_less}
 use Rattle.terms.specs.Term.{count}
 use Rattle.resolution.specs.Rules.{Rule}
-use Rattle.resolution.specs.Fresh.{met, place, head_vars, all_vars}
+use Rattle.resolution.specs.Fresh.{elem, met, place, head_vars, all_vars}
 use Rattle.resolution.specs.Search.{words}
-use Rattle.meeting.specs.Places.{Records, numbers_below}
-use Rattle.rules.specs.LayingLaws.{records_placed}
+use Rattle.meeting.specs.Places.{numbers_below}
 use Rattle.rules.specs.CountLaws.{numbers_count, all_met}
 use Rattle.rules.specs.StoredRows.{rule_row}
 use Rattle.rules.specs.Layout.{references, rule_numbers, row_of}
@@ -33,14 +33,14 @@ map_at f (x ∷ xs) zero l = refl
 map_at f (x ∷ xs) (suc i) l = map_at f xs i (omega arith)
 
 -- The first v places of the table are those of the variables in order.
-pub places_exact : (R : Rule) (v : ℕ) → met R.conclusion (met R.premises []) ≡ numbers_below v → (table : List ℕ) (number : ℕ) → Records (all_vars R) table number
+pub places_exact : (R : Rule) (v : ℕ) → met R.conclusion (met R.premises []) ≡ numbers_below v → (table : List ℕ) → ((x : ℕ) → elem x (all_vars R) ≡ true → get_or table x 0 ≡ place (all_vars R) x)
     → v ≤ length table → take v table ≡ map (place (all_vars R)) (numbers_below v)
-places_exact R v appear table number recorded long =
+places_exact R v appear table placed long =
     let a : length (take v table) ≡ v = length-take-le v table long in
     let b : length (map (place (all_vars R)) (numbers_below v)) ≡ length (numbers_below v) = length-map (numbers_below v) (place (all_vars R)) in
     let c : length (numbers_below v) ≡ v = numbers_count v in
     ext_get_or 0 (take v table) (map (place (all_vars R)) (numbers_below v)) (omega arith)
-    (λ i l. get_or-take v table i 0 (omega arith) ∙ records_placed R table number recorded i (all_met R v appear i (omega arith))
+    (λ i l. get_or-take v table i 0 (omega arith) ∙ placed i (all_met R v appear i (omega arith))
     ∙ ap (place (all_vars R)) (sym (numbers_at v i (omega arith))) ∙ sym (map_at (place (all_vars R)) (numbers_below v) i (omega arith)))
 
 -- The ten numbers.

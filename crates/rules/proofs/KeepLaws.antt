@@ -1,24 +1,25 @@
 -- Laws of a rule that is kept: its terms can be walked through, and its row is what `Kept` says.
 use mathlib.Core.Path.{◌≡◌, refl, sym, ap, ◌∙◌, subst}
+use mathlib.Core.Bool.{true}
 use mathlib.Core.List.{List, [], ◌∷◌}
+use Rattle.std.specs.Prelude.{Option}
 use Prim.Native.Nat.{ℕ, zero, suc, ◌+◌, ◌-◌, ◌≤◌, ◌<◌}
 use native.Mathlib.Omega.{arith}
-use lib.ListN.{length, take, get_or, replicate, length-replicate}
+use lib.ListN.{length, take, get_or}
 use lib.Seq.{length-take-le, get_or-take}
 use Rattle.terms.specs.Term.{Term, Terms}
 use Rattle.arena.specs.Cells.{reference_up, terms_of}
 use Rattle.arena.specs.Copies.{pattern_room}
 use Rattle.resolution.specs.Rules.{Rule}
-use Rattle.resolution.specs.Fresh.{met, met_back, head_vars, all_vars}
+use Rattle.resolution.specs.Fresh.{elem, met, met_back, place, head_vars, all_vars}
 use Rattle.resolution.specs.Search.{words}
 use Rattle.meeting.specs.Places.{Records, numbers_below}
 use Rattle.meeting.specs.Contract.{term_of}
 use Rattle.names.specs.Symbols.{column, columns}
-use Rattle.rules.specs.LayingLaws.{RuleLying, lying_one, records_placed}
+use Rattle.rules.specs.LayingLaws.{RuleLying, lying_one}
 use Rattle.rules.specs.CountLaws.{all_count, all_below}
 use Rattle.rules.specs.StoredRows.{titled, rule_row, heads_in, places_in, Kept}
 use Rattle.rules.specs.Promises.{RootAsked, OrderAsked, Ordered}
-use Rattle.rules.specs.declared.Counts.{Counts}
 use Rattle.rules.proofs.ColumnLaws.{number_at, heads_at, heads_past, sorts_at, sorts_past, places_at, places_past, filled}
 
 -- One of several terms takes no more words than all.
@@ -26,11 +27,6 @@ words_one : (g : ℕ → Term) (rs : List ℕ) (i : ℕ) → i < length rs → w
 words_one g [] i l = absurd (omega arith)
 words_one g (r ∷ rs) zero l = omega arith
 words_one g (r ∷ rs) (suc i) l = let h = words_one g rs i (omega arith) in omega arith
-
-same_at : (n v k : ℕ) → k < n → ◌≡◌ {A = ℕ} (get_or (replicate n v) k 0) v
-same_at zero v k l = absurd (omega arith)
-same_at (suc n) v zero l = refl
-same_at (suc n) v (suc k) l = same_at n v k (omega arith)
 
 module _ (heads : List ℕ) {arities : List ℕ} {R : Rule} {pattern : List ℕ} {from middle used conclusion : ℕ}
     (lying : RuleLying arities R pattern from heads middle conclusion used) where
@@ -58,34 +54,32 @@ module _ (heads : List ℕ) {arities : List ℕ} {R : Rule} {pattern : List ℕ}
         }
 
     -- A rule's terms take no more words than lie between its first and its last.
-    pub order_asked : OrderAsked pattern used heads conclusion (replicate 64 64) (used - from)
+    pub order_asked : OrderAsked pattern heads conclusion (used - from)
     order_asked =
         record {
-          walkable = record {
-            within = lying.conclusion.there;
-            low = lying.conclusion.small;
-            formed = lying.conclusion.formed;
-            long = rw (length-replicate {A = ℕ} 64 64) (omega arith);
-          };
+          used = used;
+          within = lying.conclusion.there;
+          low = lying.conclusion.small;
+          formed = lying.conclusion.formed;
           head = head_met;
           body = body_met;
-          blank = λ x l. same_at 64 64 x l;
         }
 
   -- The places that the walk left.
-  pub all_recorded : {table table' : List ℕ} {r : Counts} → Ordered pattern heads conclusion table r table' → (r.met ≡ length (head_vars R)) × Records (all_vars R) table' r.all
-  all_recorded {table} {table'} {r} h = (
+  pub all_recorded : {table : List (Option ℕ)} {met_first count : ℕ} → Ordered pattern heads conclusion met_first table count
+      → (met_first ≡ length (head_vars R)) × Records (all_vars R) table count
+  all_recorded {table} {met_first} {count} h = (
     h.counted ∙ ap (λ (t : Term). length (met t [])) conclusion_is,
-    subst (λ (t : Term). Records (met_back R.premises (met t [])) table' r.all) conclusion_is
-        (subst (λ (ts : Terms). Records (met_back ts (met (term_of pattern conclusion) [])) table' r.all) premises_are h.recorded),
+    subst (λ (t : Term). Records (met_back R.premises (met t [])) table count) conclusion_is
+        (subst (λ (ts : Terms). Records (met_back ts (met (term_of pattern conclusion) [])) table count) premises_are h.recorded),
   )
 
   -- The row.
-  module _ (text : List ℕ) (v start size clause : ℕ) (sorts table' : List ℕ) (r : Counts) (rising : (from ≤ middle) × (middle ≤ used)) (n-few : length heads ≤ 16)
+  module _ (text : List ℕ) (v start size clause : ℕ) (sorts table' : List ℕ) (first : ℕ) (rising : (from ≤ middle) × (middle ≤ used)) (n-few : length heads ≤ 16)
       (v-few : v ≤ 64) (long : length table' ≡ 64) (many : length sorts ≡ v) (named : titled text start size clause ≡ R.name) (sorted : sorts ≡ R.sorts)
-      (appear : met R.conclusion (met R.premises []) ≡ numbers_below v) (counts : r.met ≡ length (head_vars R)) (recorded : Records (all_vars R) table' r.all) where
+      (appear : met R.conclusion (met R.premises []) ≡ numbers_below v) (counts : first ≡ length (head_vars R)) (placed : (x : ℕ) → elem x (all_vars R) ≡ true → get_or table' x 0 ≡ place (all_vars R) x) where
     abbrev numbers : List ℕ
-    numbers = start ∷ size ∷ clause ∷ v ∷ length heads ∷ conclusion ∷ from ∷ (middle - from) ∷ (used - middle) ∷ r.met ∷ []
+    numbers = start ∷ size ∷ clause ∷ v ∷ length heads ∷ conclusion ∷ from ∷ (middle - from) ∷ (used - middle) ∷ first ∷ []
 
     abbrev row : List ℕ
     row = filled numbers heads sorts (take v table') refl n-few (rw many v-few)
@@ -122,7 +116,7 @@ module _ (heads : List ℕ) {arities : List ℕ} {R : Rule} {pattern : List ℕ}
           meets = at 9 (omega arith) ∙ counts;
           variables = a3 ∙ sym (all_count R v appear);
           few = omega arith;
-          placed = λ x h. ap (λ (l : List ℕ). get_or l x 0) places_are ∙ get_or-take v table' x 0 (all_below R v appear x h) ∙ records_placed R table' r.all recorded x h;
+          placed = λ x h. ap (λ (l : List ℕ). get_or l x 0) places_are ∙ get_or-take v table' x 0 (all_below R v appear x h) ∙ placed x h;
           premises = omega arith;
           heads_clear = λ j l k. heads_past numbers heads sorts (take v table') refl n-few (rw many v-few) (rw places_long v-few) j (omega arith) k;
           sorts_clear_lem = λ j l k. sorts_past numbers heads sorts (take v table') refl n-few (rw many v-few) (rw places_long v-few) j (omega arith) k;

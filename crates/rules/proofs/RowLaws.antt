@@ -8,8 +8,13 @@ use lib.ListN.{length, get_or, take, drop, set, length-set, get_or-map}
 use borrow.Rule.Slice.PartMut.{put_mid}
 use Rattle.std.proofs.lemmas.List.{take-append-drop, drop-drop, drop-set-lt}
 use Rattle.std.proofs.Common.{append_assoc}
-use lib.Seq.{sets, take-suc, take-suc-set, length-take-le, get_or-set_same, set-set}
+use lib.Seq.{sets, take-suc, take-suc-set, length-take-le}
 use Rattle.names.specs.Symbols.{Rows, Variable, row_at, column, variable_of, variables_of}
+use Rattle.std.specs.Prelude.{Option, None}
+use Rattle.std.specs.Option.{unwrap_or}
+use native.Mathlib.Omega.{arith}
+use Rattle.arena.specs.Copies.{pattern_room}
+use Rattle.meeting.specs.Places.{place_numbers}
 use Rattle.names.specs.SearchLaws.{map_length, table_length}
 
 -- A part of a row that is written at once.
@@ -38,10 +43,6 @@ sets_next row xs at j l =
     let e : sets row at (take j xs ++ (get_or xs j 0 ∷ [])) ≡ set (sets row at (take j xs)) (at + length (take j xs)) (get_or xs j 0) = sets_snoc (take j xs) row at (get_or xs j 0) in
     rw s (sym (rw n at e))
 
--- One column more in the row i of a table, whose row is `row` by now.
-pub column_written : (rules : Rows) (i : ℕ) → i < length rules → (row : List ℕ) (j v : ℕ) → set (set rules i row) i (set (row_at (set rules i row) i) j v) ≡ set rules i (set row j v)
-column_written rules i l row j v = set-set rules i row _ ∙ ap (λ (x : List ℕ). set rules i (set x j v)) (get_or-set_same rules i row [] l)
-
 -- The sorts of the first n variables.
 abbrev pub sorts_in : List ℕ → Rows → ℕ → List ℕ
 sorts_in text rows n = map (λ (v : Variable). v.sort) (variables_of text rows n)
@@ -58,7 +59,7 @@ sorts_column text rows n = map_map (variable_of text) (λ (v : Variable). v.sort
 pub sorts_length : (text : List ℕ) (rows : Rows) (n : ℕ) → n ≤ length rows → length (sorts_in text rows n) ≡ n
 sorts_length text rows n h = ap length (sorts_column text rows n) ∙ table_length (λ (r : List ℕ). column r 3) rows n h
 
-map_take : {A B : Type 0} (f : A → B) (n : ℕ) (l : List A) → map f (take n l) ≡ take n (map f l)
+pub map_take : {A B : Type 0} (f : A → B) (n : ℕ) (l : List A) → map f (take n l) ≡ take n (map f l)
 map_take f zero l = refl
 map_take f (suc n) [] = refl
 map_take f (suc n) (x ∷ l) = ap (λ r. f x ∷ r) (map_take f n l)
@@ -74,10 +75,13 @@ sorts_next text row rows at j l =
     let m : j < length xs = rw (map_length f rows) l in
     ap₂ (λ (a : List ℕ) (b : ℕ). set (sets row at a) (at + j) b) (e j) (sym v) ∙ sets_next row xs at j m ∙ ap (sets row at) (sym (e (j + 1)))
 
--- A row changed again.
-pub over : (rules rules' rules'' : Rows) (i : ℕ) → i < length rules → (row : List ℕ) (f : List ℕ → List ℕ) → rules' ≡ set rules i row → rules'' ≡ set rules' i (f (row_at rules' i)) → rules'' ≡ set rules i (f row)
-over rules rules' rules'' i l row f e d =
-    d ∙ ap (λ (x : Rows). set x i (f (row_at x i))) e ∙ set-set rules i row _ ∙ ap (λ (x : List ℕ). set rules i (f x)) (get_or-set_same rules i row [] l)
+-- A place as a number.
+pub number_unwrapped : (table : List (Option ℕ)) (j : ℕ) → j < length table → get_or (place_numbers table) j 0 ≡ unwrap_or (get_or table j None) pattern_room
+number_unwrapped [] j l = absurd (omega arith)
+number_unwrapped (p ∷ table) zero l = refl
+number_unwrapped (p ∷ table) (suc j) l = number_unwrapped table j (omega arith)
 
-pub still_there : (rules rules' : Rows) (i : ℕ) → i < length rules → (row : List ℕ) → rules' ≡ set rules i row → i < length rules'
-still_there rules rules' i l row e = rw e (rw (length-set rules i row) l)
+-- All places of a table.
+pub numbers_all : (table : List (Option ℕ)) → take (length table) (place_numbers table) ≡ place_numbers table
+numbers_all [] = refl
+numbers_all (p ∷ table) = ap (λ l. unwrap_or p pattern_room ∷ l) (numbers_all table)

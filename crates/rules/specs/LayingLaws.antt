@@ -3,7 +3,7 @@
 use Prim.Native.Nat.{ℕ, zero, suc, ◌+◌, ◌-◌, ◌≤◌, ◌<◌}
 use native.Mathlib.Omega.{arith}
 use Rattle.std.proofs.Common.{not-suc-le-zero, sym, ◌∙◌, subst, length-append, length-take-le, take-add, drop_at}
-use Rattle.std.specs.Prelude.{◌≡◌, refl, List, [], ◌∷◌, ◌++◌, take, drop}
+use Rattle.std.specs.Prelude.{◌≡◌, refl, Option, List, [], ◌∷◌, ◌++◌, take, drop}
 use Rattle.std.proofs.Math.Path.{ap, ap₂}
 use Rattle.std.proofs.Math.Bool.{true}
 use Rattle.std.proofs.Math.Logic.{⊎_elim}
@@ -24,8 +24,8 @@ use Rattle.resolution.specs.Fresh.{elem, met, met_back, place, head_vars, all_va
 use Rattle.resolution.specs.FreshLaws.{Covers}
 use Rattle.resolution.proofs.FreshLaws.{grows_refl, covers_grows, met_covers, met_back_covers, met_back_grows, place_append, place_lt}
 use Rattle.resolution.specs.Search.{words}
-use Rattle.meeting.specs.Places.{Variables, Records}
-use Rattle.meeting.specs.PlaceLaws.{met_variables, variables_few, records_earlier}
+use Rattle.meeting.specs.Places.{Variables, Records, place_numbers}
+use Rattle.meeting.specs.PlaceLaws.{met_variables, variables_few, records_earlier, place_number}
 use Rattle.attempts.specs.StoredRules.{pattern_of, rule_of, Part, Root, StoredRule}
 use Rattle.attempts.specs.declared.Stored.{Stored}
 use Rattle.patterns.specs.Laying.{Laid, laid, header, pushed, after, and_then, lay}
@@ -612,9 +612,9 @@ met_back_variables nil e b v = v
 met_back_variables (cons t ts) e b v = met_variables t (met_back ts e) b.0 (met_back_variables ts e b.1 v)
 
 -- The table that meeting the conclusion and then the premises leaves has each variable's place.
-pub records_placed : (R : Rule) (table : List ℕ) (count : ℕ) → Records (all_vars R) table count
-    → (x : ℕ) → elem x (all_vars R) ≡ true → get_or table x 0 ≡ place (all_vars R) x
-records_placed R table count h x p = (records_earlier (all_vars R) h (grows_refl (all_vars R)) x p).0
+pub records_placed : (R : Rule) (table : List (Option ℕ)) (count : ℕ) → Records (all_vars R) table count
+    → (x : ℕ) → elem x (all_vars R) ≡ true → get_or (place_numbers table) x 0 ≡ place (all_vars R) x
+records_placed R table count h x p = place_number table x (records_earlier (all_vars R) h (grows_refl (all_vars R)) x p).0
 
 -- Laid words, each of whose variables has a place below n.
 module _ {k : Kind} {arities : List ℕ} {t : Syn k} {w : List ℕ} {u : ℕ} {rs : List ℕ} {u' : ℕ} (h : Lying arities t w u rs u') (places : List ℕ) (n : ℕ)

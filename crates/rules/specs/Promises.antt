@@ -1,5 +1,5 @@
 -- What the functions of `rules` ask of and owe to each other.
-use Rattle.std.specs.Prelude.{ℕ, ◌+◌, ◌*◌, ◌≤◌, ◌<◌, ◌≡◌, Result, Ok, Err, List, [], ◌∷◌, map, length, take, get_or, set}
+use Rattle.std.specs.Prelude.{ℕ, ◌+◌, ◌*◌, ◌≤◌, ◌<◌, ◌≡◌, Option, Result, Ok, Err, List, [], ◌∷◌, map, length, take, get_or, set}
 use Rattle.std.proofs.lemmas.List.Edits.{sets}
 use Rattle.arena.specs.Cells.{headers, Reference, WellFormed, Same, cells, terms_of}
 use Rattle.arena.specs.Copies.{pattern_room}
@@ -25,7 +25,6 @@ use Rattle.refusals.specs.Refused.{Refuses}
 use Rattle.rules.specs.declared.Space.{Space}
 use Rattle.rules.specs.declared.Title.{Title}
 use Rattle.rules.specs.declared.Body.{Body}
-use Rattle.rules.specs.declared.Counts.{Counts}
 
 -- What the judgments of a rule come to: a refusal; or the premises' references, the words used then, the conclusion laid behind them, the variables and the room.
 pub data Twofold : Type 0 where
@@ -56,32 +55,27 @@ pub record Judging (text : List ℕ) (premises : Rows) (p n : ℕ) (conclusions 
   pub same : (ps : Written many) (q : ℕ) → Stands text premises p ps q → size ps ≡ n → (c : Written one) (q' : ℕ) → Stands text conclusions here c q'
       → told text n r vx wx heads ≡ both symbols c (pattern_of symbols ps [] (variables_of text vs 0) room) w u
 
--- What a walk asks beside the stack: a reference to a term of at most `most` words; words in form, and a table for the places.
+-- What a walk asks beside the stack: a reference to a term of at most `most` words.
 pub record RootAsked (pattern : List ℕ) (used r most : ℕ) : Type 0 where
   pub root : Reference pattern_room (cells pattern) pattern_room used r
   pub small : words (term_of pattern r) ≤ most
 
-pub record Walkable (pattern : List ℕ) (used : ℕ) (table : List ℕ) : Type 0 where
+-- What `order` asks beside the stack: words in use that are in form, and among them the conclusion and the premises, terms of at most `most` words each.
+pub record OrderAsked (pattern : List ℕ) (heads : List ℕ) (conclusion : ℕ) (most : ℕ) : Type 0 where
+  pub used : ℕ
   pub within : used ≤ length pattern
   pub low : pattern_room + used ≤ headers
   pub formed : WellFormed pattern_room (cells pattern) pattern_room used
-  pub long : pattern_room ≤ length table
-
--- What `order` asks beside the stack: a table without places, and the references of the conclusion and of the premises, terms of at most `most` words each.
-pub record OrderAsked (pattern : List ℕ) (used : ℕ) (heads : List ℕ) (conclusion : ℕ) (table : List ℕ) (most : ℕ) : Type 0 where
-  pub walkable : Walkable pattern used table
   pub head : RootAsked pattern used conclusion most
   pub body : (i : ℕ) → i < length heads → RootAsked pattern used (get_or heads i 0) most
-  pub blank : (x : ℕ) → x < pattern_room → get_or table x 0 ≡ pattern_room
 
 -- What it owes: the variables of the conclusion counted, and the places of all in the table.
-pub record Ordered (pattern heads : List ℕ) (conclusion : ℕ) (table : List ℕ) (r : Counts) (table' : List ℕ) : Type 0 where
-  pub counted : r.met ≡ length (met (term_of pattern conclusion) [])
-  pub recorded : Records (met_back (terms_of (term_of pattern) heads) (met (term_of pattern conclusion) [])) table' r.all
-  pub kept : length table' ≡ length table
+pub record Ordered (pattern heads : List ℕ) (conclusion : ℕ) (r : ℕ) (table : List (Option ℕ)) (count : ℕ) : Type 0 where
+  pub counted : r ≡ length (met (term_of pattern conclusion) [])
+  pub recorded : Records (met_back (terms_of (term_of pattern) heads) (met (term_of pattern conclusion) [])) table count
 
--- What `keep` asks: a rule whose premises lie in the words from `from` up to `middle` and whose conclusion lies from there up to `used`, and storage for it.
-pub record KeepAsked (pattern : List ℕ) (from middle used : ℕ) (heads : List ℕ) (conclusion : ℕ) (variables : Rows) (rules : Rows) (i : ℕ) : Type 0 where
+-- What `keep` asks: a rule whose premises lie in the words from `from` up to `middle` and whose conclusion lies from there up to `used`.
+pub record KeepAsked (pattern : List ℕ) (from middle used : ℕ) (heads : List ℕ) (conclusion : ℕ) (variables : Rows) : Type 0 where
   pub rule : (arities : List ℕ) × (R : Rule) × RuleLying arities R pattern from heads middle conclusion used
   pub rising : (from ≤ middle) × (middle ≤ used)
   -- 2 words for each of 1,024 nodes
@@ -89,12 +83,9 @@ pub record KeepAsked (pattern : List ℕ) (from middle used : ℕ) (heads : List
   pub low : used ≤ 65536
   pub few : length heads ≤ 16
   pub vars : length variables ≤ 64
-  pub row : i < length rules
 
 -- What it owes: a row that keeps that rule, where the variables are those of the rule and the title is its name.
-pub record Keeping (pattern : List ℕ) (from middle used : ℕ) (heads : List ℕ) (conclusion : ℕ) (variables : Rows) (title : Title) (rules : Rows) (i : ℕ) (rules' : Rows) : Type 0 where
-  pub row : List ℕ
-  pub written : rules' ≡ set rules i row
+pub record Keeping (pattern : List ℕ) (from middle used : ℕ) (heads : List ℕ) (conclusion : ℕ) (variables : Rows) (title : Title) (row : List ℕ) : Type 0 where
   pub placed : (column row 0 ≡ title.start) × (column row 1 ≡ title.size) × (column row 2 ≡ title.clause)
   pub kept : (text arities : List ℕ) (R : Rule) → RuleLying arities R pattern from heads middle conclusion used
       → titled text title.start title.size title.clause ≡ R.name → map (λ x. x.sort) (variables_of text variables (length variables)) ≡ R.sorts

@@ -3,18 +3,18 @@
 // All functions here serve the crates above: they ask for storage of the listed sizes.
 #![tactic(auto)]
 
-ghost use Rattle.std.specs.Prelude.{◌≡◌, ℕ, ◌+◌, ◌≤◌, ◌<◌, length, nat_lt, take, set};
+ghost use Rattle.std.specs.Prelude.{◌≡◌, [], ℕ, ◌≤◌, length, nat_lt};
 ghost use Rattle.std.specs.List.{list_all};
 ghost use mathlib.Core.List.{List};
 ghost use Rattle.std.proofs.lemmas.List.Edits.{sets};
-ghost use Rattle.names.specs.Symbols.{column, row_at, symbols_of, variables_of};
-ghost use Rattle.meeting.specs.Places.{Records};
-ghost use Rattle.meeting.specs.Contract.{term_of};
-ghost use Rattle.resolution.specs.Fresh.{met};
+ghost use Rattle.names.specs.Symbols.{column, symbols_of, variables_of};
+ghost use Rattle.meeting.specs.Places.{Records, place_numbers};
 ghost use Rattle.patterns.specs.Promises.{Ready};
 ghost use Rattle.rules.specs.StoredRows.{rule_row};
-ghost use Rattle.rules.specs.Promises.{Judging, RootAsked, Walkable, OrderAsked, Ordered, Keeping, KeepAsked, RuleAsked, RuleEntered};
+ghost use Rattle.rules.specs.Promises.{Judging, OrderAsked, Ordered, Keeping, KeepAsked, RuleAsked, RuleEntered};
 
+use arena::PATTERN_ROOM;
+use meeting::Places;
 use names::{SourceTerms, SymbolRow, TermRow, VariableRow};
 use patterns::Place;
 use refusals::Refusal;
@@ -133,70 +133,39 @@ pub fn all_known(variables: &[VariableRow]) -> bool
     variables.iter().all(|row| 0 < row[3])
 }
 
-// Meets the variables of a term of at most `most` words; answers how many have places then.
-// Stays: `count` is how many variables are met, not how many places are used: any of them may have its place.
-pub fn walk(
-    words: &[u32],
-    reference: u32,
-    used: u32,
-    places: &mut [u32],
-    count: u32,
-    most: u32,
-    stack: &mut [[u32; 2]],
-) -> u32
-    requires fact_1 { Walkable words.now used places.old }
-    requires fact_2 { RootAsked words.now used reference most }
-    requires fact_3 { (most ≤ length stack.old) × ((e : List ℕ) × Records e places.old count) }
-    ensures { (e : List ℕ) → Records e places.old count → Records (met (term_of words.now reference) e) places.new result }
-{
-    match meeting::meet(words, reference, used, places, count, most, stack) {
-        Some(walked) => walked.places,
-        None => count,
-    }
-}
-
-// How many variables are met in the conclusion, and how many in all.
-#[derive(Clone, Copy)]
-pub struct Counts {
-    pub met: u32,
-    pub all: u32,
-}
-
-// A rule's terms: the references of its premises and of its conclusion, the words in use that hold them, and the most words of one of them.
+// A rule's terms: the references of its premises and of its conclusion, the words that hold them, and the most words of one of them.
 #[derive(Clone, Copy)]
 struct RuleTerms<'a> {
     heads: &'a [u32],
     conclusion: u32,
     words: &'a [u32],
-    used: u32,
     most: u32,
 }
 
 // Gives the variables of a rule their places in meeting order: the conclusion's from left to right, then those of the premises from the last to the first.
-fn order(rule: RuleTerms, places: &mut [u32], stack: &mut [[u32; 2]]) -> Counts
-    requires fact_1 { OrderAsked rule.words.now rule.used rule.heads.now rule.conclusion places.old rule.most }
-    requires fact_2 { rule.most ≤ length stack.old }
-    ensures { Ordered rule.entry.words.now rule.entry.heads.now rule.entry.conclusion places.old result places.new }
+// Answers how many are met in the conclusion.
+fn order(rule: RuleTerms, places: &mut Places, stack: &mut [[u32; 2]]) -> u32
+    requires { OrderAsked rule.words.now rule.heads.now rule.conclusion rule.most × Records [] places.old.places places.old.count × (rule.most ≤ length stack.old) }
+    ensures { Ordered rule.entry.words.now rule.entry.heads.now rule.entry.conclusion result places.new.places places.new.count }
 {
     let RuleTerms {
         heads,
         conclusion,
         words,
-        used,
         most,
     } = rule;
-    let met = walk(words, conclusion, used, places, 0, most, stack);
-    let mut all = met;
+    places.meet(words, conclusion, most, stack);
+    let met = places.count;
     for k in (0..heads.len()).rev() {
-        all = walk(words, heads[k], used, places, all, most, stack);
+        places.meet(words, heads[k], most, stack);
     }
-    Counts { met, all }
+    met
 }
 
 // The same with a stack of its own, for terms of at most N words.
-fn order_within<const N: usize>(rule: RuleTerms, places: &mut [u32]) -> Counts
-    requires { (OrderAsked rule.words.now rule.used rule.heads.now rule.conclusion places.old rule.most) × (rule.most ≤ N) × (N ≤ 2048) }
-    ensures { Ordered rule.entry.words.now rule.entry.heads.now rule.entry.conclusion places.old result places.new }
+fn order_within<const N: usize>(rule: RuleTerms, places: &mut Places) -> u32
+    requires { OrderAsked rule.words.now rule.heads.now rule.conclusion rule.most × Records [] places.old.places places.old.count × (rule.most ≤ N) × (N ≤ 2048) }
+    ensures { Ordered rule.entry.words.now rule.entry.heads.now rule.entry.conclusion result places.new.places places.new.count }
 {
     let mut stack = [[0u32; 2]; N];
     order(rule, places, &mut stack)
@@ -204,9 +173,9 @@ fn order_within<const N: usize>(rule: RuleTerms, places: &mut [u32]) -> Counts
 
 // The same with a stack for as many words as the rule has, at most 2 for each of 1,024 nodes: laying out the large one takes longer than the walk through
 // a small rule.
-fn order_sized(rule: RuleTerms, places: &mut [u32]) -> Counts
-    requires { (OrderAsked rule.words.now rule.used rule.heads.now rule.conclusion places.old rule.most) × (rule.most ≤ 2048) }
-    ensures { Ordered rule.entry.words.now rule.entry.heads.now rule.entry.conclusion places.old result places.new }
+fn order_sized(rule: RuleTerms, places: &mut Places) -> u32
+    requires { OrderAsked rule.words.now rule.heads.now rule.conclusion rule.most × Records [] places.old.places places.old.count × (rule.most ≤ 2048) }
+    ensures { Ordered rule.entry.words.now rule.entry.heads.now rule.entry.conclusion result places.new.places places.new.count }
 {
     if rule.most <= FEW {
         return order_within::<64>(rule, places);
@@ -214,41 +183,42 @@ fn order_sized(rule: RuleTerms, places: &mut [u32]) -> Counts
     order_within::<2048>(rule, places)
 }
 
-// Writes values into the row i, from a column on.
-fn put_columns(rules: &mut [RuleRow], i: usize, at: usize, values: &[u32])
-    requires { (i < length rules.old) × (at + length values.now ≤ 154) }
-    ensures { rules.new ≡ set rules.old i (sets (row_at rules.old i) at values.now) }
-{
-    rules[i][at..at + values.len()].copy_from_slice(values);
-}
-
-// Writes the sorts of variables into the row i, from column 26 on.
-fn put_sorts(rules: &mut [RuleRow], i: usize, variables: &[VariableRow])
-    requires { (i < length rules.old) × (length variables.now ≤ 64) }
-    ensures { (text : List ℕ) → rules.new ≡ set rules.old i (sets (row_at rules.old i) 26 (mathlib.Core.List.map (λ v. v.sort) (variables_of text variables.now (length variables.now)))) }
+// Writes the sorts of variables into a row, from column 26 on.
+fn put_sorts(row: &mut RuleRow, variables: &[VariableRow])
+    requires { length variables.now ≤ 64 }
+    ensures { (text : List ℕ) → row.new ≡ sets row.old 26 (mathlib.Core.List.map (λ v. v.sort) (variables_of text variables.now (length variables.now))) }
 {
     for j in 0..variables.len() {
-        rules[i][26 + j] = variables[j][3];
+        row[26 + j] = variables[j][3];
     }
 }
 
-// Writes the row i: ten numbers, the references, and the sorts of the variables and their places.
+// Writes the places of variables into a row, from column 90 on.
+fn put_places(row: &mut RuleRow, places: &[Option<u32>])
+    requires { length places.now ≤ 64 }
+    ensures { row.new ≡ sets row.old 90 (place_numbers places.now) }
+{
+    for j in 0..places.len() {
+        row[90 + j] = places[j].unwrap_or(PATTERN_ROOM);
+    }
+}
+
+// Writes a rule's row: ten numbers, the references, and the sorts of the variables and their places.
 fn store(
-    rules: &mut [RuleRow],
-    i: usize,
-    numbers: &[u32],
+    row: &mut RuleRow,
+    numbers: &[u32; 10],
     heads: &[u32],
     variables: &[VariableRow],
-    places: &[u32],
+    places: &[Option<u32>],
 )
-    requires { (i < length rules.old) × (length numbers.now ≡ 10) × (length heads.now ≤ 16) × (length variables.now ≤ 64) × (length places.now ≤ 64) }
-    ensures { (text : List ℕ) → rules.new ≡ set rules.old i (rule_row numbers.now heads.now (mathlib.Core.List.map (λ v. v.sort) (variables_of text variables.now (length variables.now))) places.now) }
+    requires { (length heads.now ≤ 16) × (length variables.now ≤ 64) × (length places.now ≤ 64) }
+    ensures { (text : List ℕ) → row.new ≡ rule_row numbers.now heads.now (mathlib.Core.List.map (λ v. v.sort) (variables_of text variables.now (length variables.now))) (place_numbers places.now) }
 {
-    rules[i] = [0u32; 154];
-    put_columns(rules, i, 0, numbers);
-    put_columns(rules, i, 10, heads);
-    put_sorts(rules, i, variables);
-    put_columns(rules, i, 90, places);
+    *row = [0u32; 154];
+    row[..10].copy_from_slice(numbers);
+    row[10..10 + heads.len()].copy_from_slice(heads);
+    put_sorts(row, variables);
+    put_places(row, places);
 }
 
 // Where a rule's name stands, and the number of its clause + 1; 0 for a written rule.
@@ -266,12 +236,11 @@ fn keep(
     body: Body,
     heads: &[u32],
     variables: &[VariableRow],
-    rules: &mut [RuleRow],
-    i: usize,
+    row: &mut RuleRow,
     title: Title,
 )
-    requires { KeepAsked words.now from body.middle body.space.used heads.now body.conclusion variables.now rules.old i }
-    ensures { Keeping words.now from body.middle body.space.used heads.now body.conclusion variables.now title rules.old i rules.new }
+    requires { KeepAsked words.now from body.middle body.space.used heads.now body.conclusion variables.now }
+    ensures { Keeping words.now from body.middle body.space.used heads.now body.conclusion variables.now title row.new }
 {
     let Body {
         conclusion,
@@ -280,15 +249,14 @@ fn keep(
     } = body;
     let used = body.space.used;
     let v = variables.len();
-    let mut places = [64u32; 64];
+    let mut places = Places::new();
     let terms = RuleTerms {
         heads,
         conclusion,
         words,
-        used: used as u32,
         most: (used - from) as u32,
     };
-    let counts = order_sized(terms, &mut places);
+    let met = order_sized(terms, &mut places);
     let numbers = [
         title.start,
         title.size,
@@ -299,9 +267,9 @@ fn keep(
         from as u32,
         (middle - from) as u32,
         (used - middle) as u32,
-        counts.met,
+        met,
     ];
-    store(rules, i, &numbers, heads, variables, &places[..v]);
+    store(row, &numbers, heads, variables, &places.places[..v]);
 }
 
 // Where a rule is entered: its number, and the space for its words.
@@ -343,8 +311,7 @@ pub fn rule(
         body,
         &heads[..n],
         &variables[..v],
-        rules,
-        number,
+        &mut rules[number],
         title,
     );
     Ok(body.space)

@@ -78,13 +78,13 @@ body_span text P R W x e =
     (get_or (heads_in (row_at R x.rule)) k 0))) 0) (columns_length (row_at R x.rule) 10 (column (row_at R x.rule) 4))
 
 -- The state of an attempt.
-pub well_state : {a : Allowed} {W : List ℕ} {T L M S : Rows} {c t u : ℕ} → Well a W T c t u → Scratch term_room a.words L M S
-    → State a.variables a.words W T L M S c u t
+pub well_state : {a : Allowed} {W : List ℕ} {T L M S : Rows} {c t u : ℕ} → Well a W T c t u → Scratch term_room a.limits.words L M S
+    → State a.limits.variables a.limits.words W T L M S c u t
 well_state w s = record { form = w.form; scratch = s; lent_words = w.lent_words; lent_rows = w.lent_rows; enough = w.enough; low = w.low }
 
 pub row_asked : {a : Allowed} {P : List ℕ} {R : Rows} {W : List ℕ} {T L M S : Rows} {c t u g r : ℕ} → RulesStored P R a.rules
-    → Well a W T c t u → Scratch term_room a.words L M S
-    → Refers W c u g → r < a.rules → RowAsked a.variables a.words P R W T L M S c u t g r
+    → Well a W T c t u → Scratch term_room a.limits.words L M S
+    → Refers W c u g → r < a.rules → RowAsked a.limits.variables a.limits.words P R W T L M S c u t g r
 row_asked {r = r} rs w s h l =
     let e = rs.lent in
     record {

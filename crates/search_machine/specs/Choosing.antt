@@ -56,7 +56,7 @@ pub record Choosing (a : Allowed) (P : List ℕ) (R : Rows) (W : List ℕ) (T : 
   pub start : Start
   pub result : Result
   pub holds : Holds a P R frames W T start result m
-  pub scratch : Scratch term_room a.words links marks stack
+  pub scratch : Scratch term_room a.limits.words links marks stack
 
 -- Rules up to r were passed over, and the counter moved to c.
 pub record Passing (a : Allowed) (P : List ℕ) (R : Rows) (W : List ℕ) (T : Rows) (m : Machine) (r c : ℕ) : Type 0 where

@@ -96,7 +96,7 @@ module _ {a : Allowed} {P : List ℕ} {R : Rows} {W : List ℕ} {T : Rows} {m : 
   at_start F z o h = case_at h choosing.mode
 
   asked_at : (r : ℕ) → r < a.rules
-      → RowAsked a.variables a.words P R W T choosing.links choosing.marks choosing.stack m.counter m.used m.bound
+      → RowAsked a.limits.variables a.limits.words P R W T choosing.links choosing.marks choosing.stack m.counter m.used m.bound
       m.goal r
   asked_at r l =
       let h = at_start choosing.frames choosing.start choosing.result choosing.holds in
@@ -143,7 +143,7 @@ module _ {a : Allowed} {P : List ℕ} {R : Rows} {W : List ℕ} {T : Rows} {m : 
     trying F z o h = case_at (passing.keeps F z o h) refl
 
     asked_now : r < a.rules
-        → RowAsked a.variables a.words P R W T choosing.links choosing.marks choosing.stack c m.used m.bound
+        → RowAsked a.limits.variables a.limits.words P R W T choosing.links choosing.marks choosing.stack c m.used m.bound
         m.goal r
     asked_now l =
         let h = trying choosing.frames choosing.start choosing.result choosing.holds in
@@ -161,7 +161,7 @@ module _ {a : Allowed} {P : List ℕ} {R : Rows} {W : List ℕ} {T : Rows} {m : 
 
     -- A rule that clashes is passed over.
     pub passing_next : r < a.rules → Clashes P W T m.bound m.goal (column (row_at R r) 5)
-        → over (within a.variables a.words) (c + column (row_at R r) 9) (m.used + column (row_at R r) 8) ≡ false
+        → over (within a.limits.variables a.limits.words) (c + column (row_at R r) 9) (m.used + column (row_at R r) 8) ≡ false
         → Passing a P R W T m (r + 1) (c + column (row_at R r) 9)
     passing_next l k e =
         let t = row_passed (asked_now l) e k in
@@ -174,7 +174,7 @@ module _ {a : Allowed} {P : List ℕ} {R : Rows} {W : List ℕ} {T : Rows} {m : 
         }
 
     -- The limits refuse it.
-    pub passing_over : r < a.rules → over (within a.variables a.words) (c + column (row_at R r) 9) (m.used + column (row_at R r) 8)
+    pub passing_over : r < a.rules → over (within a.limits.variables a.limits.words) (c + column (row_at R r) 9) (m.used + column (row_at R r) 8)
         ≡ true
         → Chosen a P R W T m (to_stop (to_rule m r c m.top) Refused m.steps)
     passing_over l e = record {

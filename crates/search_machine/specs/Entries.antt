@@ -1,5 +1,5 @@
 -- Entering a place: the ways out, each keeping what the state means.
-use Rattle.std.specs.Prelude.{ℕ, suc, ◌+◌, ◌-◌, ◌≤◌, ◌<◌, ◌≡◌, refl, true, ◌≢◌, List, [], ◌∷◌}
+use Rattle.std.specs.Prelude.{ℕ, suc, ◌+◌, ◌-◌, ◌≤◌, ◌<◌, ◌≡◌, refl, true, ◌≢◌, List, [], ◌∷◌, length}
 use Rattle.std.proofs.Common.{arith, ap, ap₂, sym, ◌∙◌, subst}
 use Rattle.terms.specs.Term.{Term}
 use Rattle.arena.specs.Copies.{term_room}
@@ -66,6 +66,9 @@ module _ (a : Allowed) (P : List ℕ) (R F : Rows) (W : List ℕ) (T : Rows) (z 
 
     pub entry_small : RulesStored P R a.rules → x.place ≤ 16
     entry_small rs = let l = place_small rs at.outer in omega arith
+
+    pub entry_known : RulesStored P R a.rules → x.rule < length R
+    entry_known rs = let l = at.known in let b = rs.lent in omega arith
 
     pub entry_built : m.place ≡ arity R x.rule → Entering a P R F W T z o (to_place m x.parent (x.place + 1) (m.steps - 1))
     entry_built e =

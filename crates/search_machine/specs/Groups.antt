@@ -20,12 +20,12 @@ pub record IsLent (s s' : Store) : Type 0 where
 -- What an attempt with the rule of a state asks, and what it leaves.
 abbrev pub AskedIn : Program → Store → Machine → Type 0
 AskedIn p s m =
-    RowAsked p.allowed.variables p.allowed.words p.pattern.now p.rules.now s.words.now s.bindings.now s.links.now s.marks.now s.stack.now
+    RowAsked p.allowed.limits.variables p.allowed.limits.words p.pattern.now p.rules.now s.words.now s.bindings.now s.links.now s.marks.now s.stack.now
     m.counter m.used m.bound m.goal m.rule
 
 abbrev pub TriedIn : Program → Store → Store → Machine → Attempt → Type 0
 TriedIn p s s' m answer =
-    RowTried p.allowed.variables p.allowed.words p.pattern.now p.rules.now s.words.now s'.words.now s.bindings.now s'.bindings.now
+    RowTried p.allowed.limits.variables p.allowed.limits.words p.pattern.now p.rules.now s.words.now s'.words.now s.bindings.now s'.bindings.now
     s.links.now s'.links.now s.marks.now s'.marks.now s.stack.now s'.stack.now m.counter m.used m.bound m.goal m.rule answer
 
 -- What a step asks and leaves, and what the whole search leaves.

@@ -17,7 +17,7 @@ pub record Ready (a : Allowed) (P : List ℕ) (R F : Rows) (W : List ℕ) (T L M
   pub start : Start
   pub result : Result
   pub holds : Holds a P R F W T start result m
-  pub scratch : Scratch term_room a.words L M S
+  pub scratch : Scratch term_room a.limits.words L M S
   pub small : a.frames < 4294967296
 
 -- A step: the meaning stays, the scratch is as it was, and the measure falls.

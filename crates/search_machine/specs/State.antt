@@ -122,10 +122,10 @@ pub record Start : Type 0 where
 -- The storage of a state: in form, and there is room for what the limits allow.
 pub record Well (a : Allowed) (W : List ℕ) (T : Rows) (c t u : ℕ) : Type 0 where
   pub form : Form term_room W T c u t
-  pub lent_words : a.words ≤ length W
-  pub lent_rows : a.variables ≤ length T
-  pub enough : a.variables ≤ term_room
-  pub low : term_room + a.words ≤ headers
+  pub lent_words : a.limits.words ≤ length W
+  pub lent_rows : a.limits.variables ≤ length T
+  pub enough : a.limits.variables ≤ term_room
+  pub low : term_room + a.limits.words ≤ headers
 
 -- The session's words and bindings stand below the state's.
 pub record Above (W : List ℕ) (T : Rows) (z : Start) (t u : ℕ) : Type 0 where
@@ -135,7 +135,7 @@ pub record Above (W : List ℕ) (T : Rows) (z : Start) (t u : ℕ) : Type 0 wher
 
 module _ (a : Allowed) (P : List ℕ) (R F : Rows) where
   abbrev pub limits : Limits
-  limits = within a.variables a.words
+  limits = within a.limits.variables a.limits.words
 
   abbrev pub all_rules : Start → List Rule
   all_rules z = rules_from z.text P R 0 a.rules

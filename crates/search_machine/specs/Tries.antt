@@ -65,8 +65,8 @@ module _ (a : Allowed) (P : List ℕ) (R F : Rows) (W : List ℕ) (T : Rows) (z 
       }
 
   module _ {L M S : Rows} {W' : List ℕ} {T' L' M' S' : Rows} (lr : m.rule < a.rules)
-      (asked : RowAsked a.variables a.words P R W T L M S m.counter m.used m.bound m.goal m.rule) where
-    pub tried_refused : (e : Refusal) → RowTried a.variables a.words P R W W' T T' L L' M M' S S' m.counter m.used m.bound m.goal
+      (asked : RowAsked a.limits.variables a.limits.words P R W T L M S m.counter m.used m.bound m.goal m.rule) where
+    pub tried_refused : (e : Refusal) → RowTried a.limits.variables a.limits.words P R W W' T T' L L' M M' S S' m.counter m.used m.bound m.goal
         m.rule (Err e)
         → Refusing a P R F W' T' z o (to_stop m Refused m.steps)
     tried_refused e t =
@@ -79,7 +79,7 @@ module _ (a : Allowed) (P : List ℕ) (R F : Rows) (W : List ℕ) (T : Rows) (z 
           well = record {
             form = t.left.form;
             lent_words = omega arith;
-            lent_rows = subst (λ (B : Rows). a.variables ≤ length B) (sym same) h.well.lent_rows;
+            lent_rows = subst (λ (B : Rows). a.limits.variables ≤ length B) (sym same) h.well.lent_rows;
             enough = h.well.enough;
             low = h.well.low;
           };
@@ -96,7 +96,7 @@ module _ (a : Allowed) (P : List ℕ) (R F : Rows) (W : List ℕ) (T : Rows) (z 
               ∙ value_at_lem _ (rules_cons z.text P R a.rules m.rule lr);
         }
 
-    module _ (c' : ℕ) (t : RowTried a.variables a.words P R W W' T T' L L' M M' S S' m.counter m.used m.bound m.goal
+    module _ (c' : ℕ) (t : RowTried a.limits.variables a.limits.words P R W W' T T' L L' M M' S S' m.counter m.used m.bound m.goal
         m.rule (Ok (Missed c'))) where
       missed_form : Form term_room W' T c' m.used m.bound
       missed_form = subst (λ (B : Rows). Form term_room W' B c' m.used m.bound) t.left.1.same t.left.1.form
@@ -149,7 +149,7 @@ module _ (a : Allowed) (P : List ℕ) (R F : Rows) (W : List ℕ) (T : Rows) (z 
       tried_missed = subst (λ (B : Rows). Trying a P R F W' B z o (to_rule m (m.rule + 1) c' m.top)) (sym t.left.1.same) missed_same
 
     module _ (c' t' u' high : ℕ) (ln : m.frames < length F)
-        (t : RowTried a.variables a.words P R W W' T T' L L' M M' S S' m.counter m.used m.bound m.goal m.rule
+        (t : RowTried a.limits.variables a.limits.words P R W W' T T' L L' M M' S S' m.counter m.used m.bound m.goal m.rule
         (Ok (Entered c' t' u'))) where
       abbrev F' : Rows
       F' = set F m.frames (row_of (frame_for m))

@@ -19,7 +19,7 @@ use Rattle.search_machine.specs.State.{arity, premise_ref, frame_at, row_of, Sta
 use Rattle.search_machine.specs.Moves.{to_place, to_fail, to_stop, to_goal, to_rule, to_body, to_retry, frame_for, weights, current, measure}
 use Rattle.search_machine.specs.Promises.{Ready, Stepped, Moved, Seen, Returned, Known, Choice, Live, Stopped, Searched}
 use Rattle.search_machine.specs.Falls.{weights_same, weights_top, falls_step, falls_mode}
-use Rattle.search_machine.specs.Entries.{entry_out, entry_proof, entry_small, entry_built, entry_cut, entry_asked, entry_goal}
+use Rattle.search_machine.specs.Entries.{entry_out, entry_proof, entry_small, entry_known, entry_built, entry_cut, entry_asked, entry_goal}
 use Rattle.search_machine.specs.Attempts.{row_asked}
 use Rattle.search_machine.specs.Tries.{frame_set, frames_set, tried_refused, tried_missed, tried_entered}
 use Rattle.search_machine.specs.Returns.{back_over, back_known, back_undoable, back_trying}
@@ -117,10 +117,22 @@ module _ {a : Allowed} {R F : Rows} {m : Machine} (s : Seen a R F m) where
               (omega arith);
         })
 
-  -- What the sums ask.
+  -- The frame of the place is there.
+  pub seen_frame : 0 < m.parent → m.parent - 1 < length F
+  seen_frame lp =
+      let c : Entering a s.pattern R F s.words s.rows s.start s.result m = case_at s.holds e in
+      let w = c.within in
+      let r = c.room in
+      let f = s.holds.frames in
+      omega arith
+
+  -- What the row of the rule and the sums ask.
   module _ (x : Frame) (rd : x ≡ frame_at F (m.parent - 1)) (ls : 0 < m.steps) (lp : 0 < m.parent) where
     seen_case : Entering a s.pattern R F s.words s.rows s.start s.result m
     seen_case = case_at s.holds e
+
+    pub seen_rule : x.rule < length R
+    seen_rule = entry_known a s.pattern R F s.words s.rows s.start s.result m seen_case x rd ls lp s.holds.rules
 
     pub seen_place : x.place ≤ 16
     seen_place = entry_small a s.pattern R F s.words s.rows s.start s.result m seen_case x rd ls lp s.holds.rules
@@ -152,16 +164,16 @@ module _ {a : Allowed} {P : List ℕ} {R F : Rows} {W : List ℕ} {T L M S : Row
   lent_frames : m.frames < length F
   lent_frames = let l = ready_case.room in let s = ready.holds.frames in omega arith
 
-  pub ready_asked : RowAsked a.variables a.words P R W T L M S m.counter m.used m.bound m.goal m.rule
+  pub ready_asked : RowAsked a.limits.variables a.limits.words P R W T L M S m.counter m.used m.bound m.goal m.rule
   ready_asked = row_asked ready.holds.rules ready_case.well ready.scratch ready_case.refers ready_rule
 
   module _ {W' : List ℕ} {T' L' M' S' : Rows} {answer : Attempt}
-      (t : RowTried a.variables a.words P R W W' T T' L L' M M' S S' m.counter m.used m.bound m.goal
+      (t : RowTried a.limits.variables a.limits.words P R W W' T T' L L' M M' S S' m.counter m.used m.bound m.goal
       m.rule answer) where
     known : (k : Attempt) → answer ≡ k
-        → RowTried a.variables a.words P R W W' T T' L L' M M' S S' m.counter m.used m.bound m.goal m.rule k
+        → RowTried a.limits.variables a.limits.words P R W W' T T' L L' M M' S S' m.counter m.used m.bound m.goal m.rule k
     known k q =
-        subst (λ (k : Attempt). RowTried a.variables a.words P R W W' T T' L L' M M' S S' m.counter m.used m.bound m.goal
+        subst (λ (k : Attempt). RowTried a.limits.variables a.limits.words P R W W' T T' L L' M M' S S' m.counter m.used m.bound m.goal
         m.rule k) q t
 
     -- The words from the top on stand.
@@ -248,6 +260,10 @@ module _ {a : Allowed} {F T : Rows} {m : Machine} (k : Known a F T m) where
   known_case : Failing a k.pattern k.rules F k.words T k.start k.result m
   known_case = case_at k.holds k.mode
 
+  -- The newest frame is there.
+  pub known_frame : 0 < m.frames → m.frames - 1 < length F
+  known_frame ln = let r = known_case.room in let f = k.holds.frames in omega arith
+
   module _ (x : Frame) (rd : x ≡ frame_at F (m.frames - 1)) (ln : 0 < m.frames) where
     known_rule : x.rule < a.rules
     known_rule = back_known a k.pattern k.rules F k.start k.words T k.result m known_case x rd ln
@@ -330,9 +346,9 @@ module _ {a : Allowed} {P : List ℕ} {R F₀ : Rows} {W₀ : List ℕ} {T₀ L�
         start = g.ready.start;
         result = g.ready.result;
         holds = s.keeps g.ready.start g.ready.result g.ready.holds;
-        scratch = subst (λ (B : Rows). Scratch term_room a.words L' M' B) (sym s.stack)
-            (subst (λ (B : Rows). Scratch term_room a.words L' B S) (sym s.marks)
-            (subst (λ (B : Rows). Scratch term_room a.words B M S) (sym s.links) g.ready.scratch));
+        scratch = subst (λ (B : Rows). Scratch term_room a.limits.words L' M' B) (sym s.stack)
+            (subst (λ (B : Rows). Scratch term_room a.limits.words L' B S) (sym s.marks)
+            (subst (λ (B : Rows). Scratch term_room a.limits.words B M S) (sym s.links) g.ready.scratch));
         small = g.ready.small;
       };
       keeps = λ z o h. s.keeps z o (g.keeps z o h);

@@ -1,14 +1,13 @@
 // The rules that a goal passes over by arithmetic: those whose conclusion clashes with it by heads. They number their variables and count
 // their words as if they were tried, and nothing is copied.
 ghost use Rattle.std.specs.Prelude.{◌≡◌, false, IfSome};
-ghost use Rattle.resolution.specs.Search.{within, over};
 ghost use Rattle.names.specs.Symbols.{column, row_at};
 ghost use Rattle.attempts.specs.Clashes.{Clashes};
 ghost use Rattle.search_machine.specs.Choosing.{Goal, Heads, Readable, Differs, Judged, Choosing, Chosen};
 
-use super::{Allowed, Machine, Mode, Program, Store};
+use super::{Machine, Mode, Program, Store};
 use arena::{PATTERN_ROOM, TERM_ROOM, Terms};
-use attempts::{SearchLimits, SearchState, clashes};
+use attempts::{SearchState, clashes};
 use bindings::{StoredBindings, walk};
 
 // The header that the bindings lead to from the goal; none where they lead to a variable.
@@ -59,25 +58,13 @@ fn is_candidate(program: Program, store: &Store, m: Machine, header: Option<u32>
     }
     let conclusion = program.rules[rule as usize][5];
     let at = SearchState {
-        limits: SearchLimits {
-            variables: program.allowed.variables,
-            words: program.allowed.words,
-        },
+        limits: program.allowed.limits,
         counter: m.counter,
         used: m.used,
         bound: m.bound,
         goal: m.goal,
     };
     !clashes(program.pattern, store.words, store.bindings, at, conclusion)
-}
-
-impl Allowed {
-    // Whether so many variables and words are too many (document 01, refusal 37).
-    pub fn exceeds(self, variables: u32, words: u32) -> bool
-        ensures { result ≡ over (within self.variables self.words) variables words }
-    {
-        self.variables < variables || self.words < words
-    }
 }
 
 // The state at the next rule that has to be tried; at the end of the rules it fails, and at the limits it is refused.
@@ -95,7 +82,7 @@ pub fn next_candidate(program: Program, store: &Store, m: Machine) -> Machine
             return m.at_rule(rule, counter, top);
         }
         let met = counter + row[9];
-        if program.allowed.exceeds(met, head) {
+        if program.allowed.limits.exceeds(met, head) {
             return m
                 .at_rule(rule, counter, m.top)
                 .at_stop(Mode::Refused, m.steps);

@@ -11,24 +11,23 @@ mod frames; // one row for each rule that is entered
 mod moves; // the machine's next states
 mod stored; // what an attempt reads in a rule's row
 
-ghost use Rattle.std.specs.Prelude.{◌≡◌, true, false};
+ghost use Rattle.std.specs.Prelude.{◌≡◌, ◌<◌, true, false, length};
 ghost use Rattle.search_machine.specs.Promises.{Moved, Seen, Known, Choice, Live, Stopped};
 ghost use Rattle.search_machine.specs.State.{frame_at};
 ghost use Rattle.search_machine.specs.Groups.{ReadyIn, SteppedIn, ReturnedIn, SearchedIn, IsLent};
 ghost use Rattle.search_machine.specs.declared.Mode.TheVariants.{Enter, Try, Fail};
 
-use attempts::Tried;
+use attempts::{SearchLimits, Tried};
 use bindings::undo;
 use candidates::next_candidate;
 pub use frames::Frame;
 use rules::RuleRow;
 use stored::{arity_of, premise, try_stored};
 
-// What the search may use: variables of the session, words, frames; and how many rules there are.
+// What the search may use: variables of the session and words, and frames; and how many rules there are.
 #[derive(Clone, Copy)]
 pub struct Allowed {
-    pub variables: u32,
-    pub words: u32,
+    pub limits: SearchLimits,
     pub frames: u32,
     pub rules: u32,
 }
@@ -53,14 +52,12 @@ pub struct Store<'a> {
 }
 
 impl Store<'_> {
-    // The frame at a number; past the end all is 0.
+    // The frame at a number.
     fn frame(&self, at: u32) -> Frame
+        requires { at < length self.now.frames.now }
         ensures { result ≡ frame_at self.now.frames.now at }
     {
-        match self.frames.get(at as usize) {
-            Some(row) => Frame::from(*row),
-            None => Frame::from([0; 8]),
-        }
+        Frame::from(self.frames[at as usize])
     }
 }
 

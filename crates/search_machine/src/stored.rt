@@ -1,5 +1,5 @@
 // What an attempt reads in a rule's row.
-ghost use Rattle.std.specs.Prelude.{◌≡◌};
+ghost use Rattle.std.specs.Prelude.{◌≡◌, ◌<◌, length};
 ghost use Rattle.rules.specs.StoredRows.{stored_in};
 ghost use Rattle.search_machine.specs.Storage.{PremiseAsked};
 ghost use Rattle.search_machine.specs.Groups.{AskedIn, TriedIn, IsLent};
@@ -8,7 +8,7 @@ ghost use Rattle.search_machine.specs.State.{arity, premise_ref};
 use super::frames::Frame;
 use super::{Machine, Program, Store};
 use arena::{PATTERN_ROOM, TERM_ROOM, moved_word};
-use attempts::{LentRule, SearchLimits, SearchState, Stored, Tried, try_rule};
+use attempts::{LentRule, SearchState, Stored, Tried, try_rule};
 use refusals::Refusal;
 use rules::RuleRow;
 use unifier::Workspace;
@@ -28,14 +28,12 @@ fn stored_in(row: &RuleRow) -> Stored
     }
 }
 
-// The number of premises of a rule; past the rules none.
+// The number of premises of a rule.
 pub fn arity_of(rules: &[RuleRow], rule: u32) -> u32
+    requires { rule < length rules.now }
     ensures { result ≡ arity rules.now rule }
 {
-    match rules.get(rule as usize) {
-        Some(row) => row[4],
-        None => 0,
-    }
+    rules[rule as usize][4]
 }
 
 // The reference of a premise of an application.
@@ -69,10 +67,7 @@ pub fn try_stored(program: Program, store: &mut Store, m: Machine) -> Result<Tri
         stored,
     };
     let at = SearchState {
-        limits: SearchLimits {
-            variables: program.allowed.variables,
-            words: program.allowed.words,
-        },
+        limits: program.allowed.limits,
         counter: m.counter,
         used: m.used,
         bound: m.bound,

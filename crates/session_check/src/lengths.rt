@@ -1,11 +1,12 @@
 // Lengths and counts.
-ghost use Rattle.std.specs.Prelude.{◌≡◌, ◌≤◌};
+ghost use Rattle.std.specs.Prelude.{◌≡◌, length};
 ghost use Rattle.bindings.specs.Promises.{Tells};
 ghost use Rattle.words.specs.Lexer.{capped_of};
 ghost use Rattle.sessions.specs.Storage.{is_short};
 ghost use Rattle.session_check.specs.Parts.{SessionCounted};
 
 use arena::TERM_ROOM;
+use sessions::StoredSession;
 
 // Document 01's limits: names in a session, its variables and its words.
 const NAMES: u32 = 64;
@@ -14,60 +15,43 @@ const VARIABLES: u32 = 65536;
 
 const WORDS: u32 = 262144;
 
-// Are buffers of these lengths shorter than so many variables and words ask?
-fn is_short_by(
-    variables: usize,
-    most: usize,
-    names: usize,
-    words: usize,
-    bindings: usize,
-    links: usize,
-    marks: usize,
-    stack: usize,
-) -> bool
-    requires { most ≤ 262144 }
-    ensures { result ≡ is_short variables most names words bindings links marks stack }
-{
-    names < NAMES as usize
-        || words < most
-        || bindings < variables
-        || links < TERM_ROOM as usize + most
-        || marks < TERM_ROOM as usize + most
-        || stack < most
+// The lengths of the buffers that are lent with a session.
+#[derive(Clone, Copy)]
+pub struct Lengths {
+    pub names: usize,
+    pub words: usize,
+    pub bindings: usize,
+    pub links: usize,
+    pub marks: usize,
+    pub stack: usize,
 }
 
-// Are buffers of these lengths shorter than the limits ask?
-pub fn is_short(
-    limits: words::Limits,
-    names: usize,
-    words: usize,
-    bindings: usize,
-    links: usize,
-    marks: usize,
-    stack: usize,
-) -> bool
-    ensures { result ≡ is_short (capped_of limits).variables (capped_of limits).words names words bindings links marks stack }
-{
-    let capped = limits.capped();
-    is_short_by(
-        capped.variables as usize,
-        capped.words as usize,
-        names,
-        words,
-        bindings,
-        links,
-        marks,
-        stack,
-    )
+impl Lengths {
+    // Are the buffers shorter than the limits ask?
+    pub fn are_short(self, limits: words::Limits) -> bool
+        ensures { result ≡ is_short (capped_of limits).variables (capped_of limits).words self.names self.words self.bindings
+            self.links self.marks self.stack }
+    {
+        let capped = limits.capped();
+        let most = capped.words as usize;
+        let references = TERM_ROOM as usize + most;
+        self.names < NAMES as usize
+            || self.words < most
+            || self.bindings < capped.variables as usize
+            || self.links < references
+            || self.marks < references
+            || self.stack < most
+    }
 }
 
-// Are the counts within the limits, and are so many words lent?
-pub fn is_counted(counts: sessions::SessionCounts, lent: usize) -> bool
-    ensures { Tells result (SessionCounted counts lent) }
+// Are the counts of a session within the limits, and are so many words lent?
+pub fn is_counted(session: StoredSession) -> bool
+    ensures { Tells result (SessionCounted session.entry.counts (length session.entry.words.now)) }
 {
+    let counts = session.counts;
     counts.names <= NAMES
         && counts.variables <= VARIABLES
         && counts.bound <= counts.variables
         && counts.words <= WORDS
-        && counts.words as usize <= lent
+        && counts.words as usize <= session.words.len()
 }

@@ -15,8 +15,8 @@ ghost use Rattle.session_check.specs.Parts.{SessionChecked};
 
 use arena::{TERM_ROOM, Terms};
 use bindings::StoredBindings;
+pub use lengths::Lengths;
 use lengths::is_counted;
-pub use lengths::is_short;
 use naming::{Known, are_names_listed};
 use nodes::are_words_formed;
 use scratch::is_scratch_zero;
@@ -41,18 +41,18 @@ pub fn check_session(
 {
     let counts = session.counts;
     let words = session.words;
-    if is_short(
-        limits,
-        session.names.len(),
-        words.len(),
-        session.bindings.len(),
-        links.len(),
-        marks.len(),
-        stack.len(),
-    ) {
+    let lengths = Lengths {
+        names: session.names.len(),
+        words: words.len(),
+        bindings: session.bindings.len(),
+        links: links.len(),
+        marks: marks.len(),
+        stack: stack.len(),
+    };
+    if lengths.are_short(limits) {
         return false;
     }
-    if !is_counted(counts, words.len()) {
+    if !is_counted(session) {
         return false;
     }
     let names = &session.names[..counts.names as usize];

@@ -37,7 +37,7 @@ fn is_name_formed(text: &[u8], row: &NameRow, known: Known) -> bool
 {
     let [kind, start, size, sort, variable] = *row;
     is_name_kind(kind)
-        && rule_checks::is_name(text, Word { start, size })
+        && names::is_word_place(text, Word { start, size })
         && are_numbers_formed(sort, variable, known)
 }
 

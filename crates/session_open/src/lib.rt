@@ -6,6 +6,7 @@
 ghost use Rattle.sessions.specs.Promises.{Opening};
 
 use refusals::Refusal;
+use session_check::Lengths;
 use sessions::NameRow;
 
 // Opens a session in lent storage.
@@ -24,15 +25,15 @@ pub fn open(
         (record { names = names.new; words = words.new; bindings = bindings.new })
         (record { links = links.new; marks = marks.new; stack = stack.new }) }
 {
-    if session_check::is_short(
-        limits,
-        names.len(),
-        words.len(),
-        bindings.len(),
-        links.len(),
-        marks.len(),
-        stack.len(),
-    ) {
+    let lengths = Lengths {
+        names: names.len(),
+        words: words.len(),
+        bindings: bindings.len(),
+        links: links.len(),
+        marks: marks.len(),
+        stack: stack.len(),
+    };
+    if lengths.are_short(limits) {
         return Err(Refusal::Storage);
     }
     names.fill([0; 5]);

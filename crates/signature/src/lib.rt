@@ -82,7 +82,7 @@ fn is_counted(words: &[u32], counts: Counts) -> bool
 fn are_sorts_named(text: &[u8], sorts: &[SortRow]) -> bool
     ensures { Tells result (SortsNamed text.now sorts.now (length sorts.now)) }
 {
-    sorts.iter().all(|&[start, size]| rule_checks::is_name(text, Word { start, size }))
+    sorts.iter().all(|&[start, size]| names::is_word_place(text, Word { start, size }))
 }
 
 // Writes the numbers in one column of rows.
@@ -161,7 +161,7 @@ fn is_symbol_formed(text: &[u8], row: &SymbolRow, counts: Counts) -> bool
         start: row[0],
         size: row[1],
     };
-    if !rule_checks::is_name(text, word) {
+    if !names::is_word_place(text, word) {
         return false;
     }
     if !are_numbers_formed(counts.sorts, row[2], row[6], row[7]) {

@@ -10,6 +10,8 @@ use lib.Seq.{drop-cons, drop-drop, length-take-le}
 use lib.Dec.{eqb}
 use borrow.Author.Tests.{eq-eqb, ne_eqb, eqb-true}
 use Rattle.std.specs.List.{starts_with as begins}
+use Rattle.std.specs.Prelude.{Option, Some, None, MatchOption}
+use Rattle.std.specs.Option.{unwrap_or}
 use Rattle.std.specs.Cmp.Lexicographic.{pointwise}
 use Rattle.source_text.specs.Bytes.{starts_with, same_bytes, up_to}
 use Rattle.source_text.specs.Lines.{lines, line_of, code_of, ends_code}
@@ -88,6 +90,33 @@ module _ (p : List ℕ → Bool) where
     unfolding up_to
     scan_end h = simp (drop_of_length-le s h)
 
+  -- Where p holds at none of the n places from i on, a scan goes past them.
+  scan_over : (s : List ℕ) (n i : ℕ) → ((k : ℕ) → i ≤ k → k < i + n → p (drop k s) ≡ false) → i + n ≤ length s → length (up_to p (drop i s)) ≡ n + length (up_to p (drop (i + n) s))
+  scan_over s zero i h l = let e : i + 0 ≡ i = omega arith in rw e (omega arith)
+  scan_over s (suc n) i h l =
+      let a = scan_next s i (omega arith) (h i (omega arith) (omega arith)) in
+      let b = scan_over s n (i + 1) (λ k f g. h k (omega arith) (omega arith)) (omega arith) in
+      let e : i + suc n ≡ i + 1 + n = omega arith in
+      rw e (omega arith)
+
+  -- A scan from `at` on ends at the first place where p holds, or where the list ends.
+  pub scan_found : (s : List ℕ) (at : ℕ) (r : Option ℕ) → at ≤ length s
+      → MatchOption r ((k : ℕ) → at ≤ k → k < length s → p (drop k s) ≡ false)
+      (λ i. (at ≤ i) × (i < length s) × (p (drop i s) ≡ true) × ((k : ℕ) → at ≤ k → k < i → p (drop k s) ≡ false))
+      → unwrap_or r (length s) ≡ at + length (up_to p (drop at s))
+  scan_found s at None l h =
+      let e : at + (length s - at) ≡ length s = omega arith in
+      let a = scan_over s (length s - at) at (λ k f g. h k f (omega arith)) (omega arith) in
+      let b = scan_end s (at + (length s - at)) (omega arith) in
+      omega arith
+  scan_found s at (Some i) l h =
+      let f = h.0 in
+      let g = h.1 in
+      let e : at + (i - at) ≡ i = omega arith in
+      let a = scan_over s (i - at) at (λ k m n. h.3 k m (omega arith)) (omega arith) in
+      let b = scan_stop s (at + (i - at)) (rw e h.2) in
+      omega arith
+
 -- The first line of a text that is not empty, and the lines after it.
 pub lines_step : (s : List ℕ) → 0 < length s → lines s ≡ line_of s ∷ lines (drop (suc (length (line_of s))) s)
 unfolding lines line_of up_to starts_with
@@ -95,23 +124,14 @@ lines_step [] h = absurd (omega arith)
 lines_step (c ∷ []) h = by_bool (eqb c 10) (λ e. simp e) (λ e. simp e)
 lines_step (c ∷ (d ∷ s)) h = by_bool (eqb c 10) (λ e. simp e) (λ e. simp (e, lines_step (d ∷ s) (omega arith)))
 
--- The ends of lines, at place i of a text.
-module _ (s : List ℕ) (i : ℕ) where
-  feed : i < length s → starts_with (10 ∷ []) (drop i s) ≡ eqb (get_or s i 0) 10
-  unfolding starts_with
-  feed h = simp (drop-cons s i 0 h, and-true)
+-- The first line ends at the first line feed.
+pub line_ends : (c : ℕ) (s : List ℕ) → c ≡ 10 → length (line_of (c ∷ s)) ≡ 0
+unfolding line_of up_to starts_with
+line_ends c s e = simp (eq-eqb c 10 e)
 
-  pub line_next : i < length s → (get_or s i 0 ≡ 10 → ⊥) → length (line_of (drop i s)) ≡ suc (length (line_of (drop (i + 1) s)))
-  unfolding line_of
-  line_next h n = scan_next (starts_with (10 ∷ [])) s i h (feed h ∙ ne_eqb _ _ n)
-
-  pub line_stop : i < length s → get_or s i 0 ≡ 10 → length (line_of (drop i s)) ≡ 0
-  unfolding line_of
-  line_stop h e = scan_stop (starts_with (10 ∷ [])) s i (feed h ∙ eq-eqb _ _ e)
-
-  pub line_end_lem : length s ≤ i → length (line_of (drop i s)) ≡ 0
-  unfolding line_of
-  line_end_lem h = scan_end (starts_with (10 ∷ [])) s i h
+pub line_goes_on : (c : ℕ) (s : List ℕ) → (c ≡ 10 → ⊥) → length (line_of (c ∷ s)) ≡ length (line_of s) + 1
+unfolding line_of up_to starts_with
+line_goes_on c s n = simp (ne_eqb c 10 n, add-one)
 
 -- The code of the first line, read off the text itself.
 one_prefix : (s : List ℕ) → starts_with (45 ∷ []) (line_of s) ≡ starts_with (45 ∷ []) s
@@ -126,16 +146,6 @@ code_scan (c ∷ s) =
     by_bool (eqb c 10)
     (λ e. simp e)
     (λ e. by_bool (eqb c 45 && starts_with (45 ∷ []) s) (λ f. simp (e, one_prefix s, f)) (λ f. simp (e, one_prefix s, f, code_scan s)))
-
-module _ (s : List ℕ) (i : ℕ) where
-  pub code_next : i < length s → ends_code (drop i s) ≡ false → length (code_of (line_of (drop i s))) ≡ suc (length (code_of (line_of (drop (i + 1) s))))
-  code_next h e = ap length (code_scan (drop i s)) ∙ scan_next ends_code s i h e ∙ ap (λ l. suc (length l)) (sym (code_scan (drop (i + 1) s)))
-
-  pub code_stop : ends_code (drop i s) ≡ true → length (code_of (line_of (drop i s))) ≡ 0
-  code_stop e = ap length (code_scan (drop i s)) ∙ scan_stop ends_code s i e
-
-  pub code_past : length s ≤ i → length (code_of (line_of (drop i s))) ≡ 0
-  code_past h = ap length (code_scan (drop i s)) ∙ scan_end ends_code s i h
 
 -- Prefixes of one and of two bytes, at place i; no byte sought is 0, so that nothing is found past the end.
 pub one_at : (a : ℕ) → eqb 0 a ≡ false → (s : List ℕ) (i : ℕ) → starts_with (a ∷ []) (drop i s) ≡ eqb (get_or s i 0) a

@@ -1,13 +1,6 @@
-// Reading and comparing bytes.
-ghost use Rattle.std.specs.Prelude.{◌≡◌, ◌≤◌, length, drop, get_or};
+// Comparing bytes.
+ghost use Rattle.std.specs.Prelude.{◌≡◌, ◌≤◌, length, drop};
 ghost use Rattle.source_text.specs.Bytes.{same_bytes, starts_with};
-
-// The byte at a place; 0 past the end.
-pub fn byte(text: &[u8], at: usize) -> u8
-    ensures { result ≡ get_or text.now at 0 }
-{
-    text.get(at).copied().unwrap_or(0)
-}
 
 // Are two words the same, byte by byte?
 // Stays: the library's `==` with its promise in the words of the definitions, which the callers' contracts use.

@@ -4,7 +4,7 @@
 // the answer on all inputs. The modules serve the crates above.
 #![tactic(auto)]
 
-pub mod bytes; // comparing and reading bytes
+pub mod bytes; // comparing bytes
 pub mod utf8; // RFC 3629
 pub mod characters; // the class table and the character test
 pub mod lines; // line ends and comments

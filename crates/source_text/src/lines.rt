@@ -2,21 +2,15 @@
 ghost use Rattle.std.specs.Prelude.{◌≡◌, ◌+◌, ◌≤◌, ◌<◌, length, drop};
 ghost use Rattle.source_text.specs.Lines.{line_of, code_of, ends_code};
 
-use super::bytes::byte;
-
-const LINE_FEED: u8 = 10;
+use super::bytes::starts_with;
 
 // The end of the line that starts at a place: the next line feed, or the text's end.
 pub fn line_end(text: &[u8], at: usize) -> usize
     requires { at ≤ length text.now }
     ensures { result ≡ at + length (line_of (drop at text.now)) }
 {
-    for i in at..text.len() {
-        if text[i] == LINE_FEED {
-            return i;
-        }
-    }
-    text.len()
+    let rest = &text[at..];
+    at + rest.iter().position(|c| *c == b'\n').unwrap_or(rest.len())
 }
 
 // Does the code of a line end at a place, at a line feed or at `--`?
@@ -25,8 +19,8 @@ fn ends_code(text: &[u8], at: usize) -> bool
     ensures { result ≡ ends_code (drop at text.now) }
 {
     match text[at] {
-        LINE_FEED => true,
-        b'-' => byte(text, at + 1) == b'-',
+        b'\n' => true,
+        b'-' => starts_with(text, at, b"--"),
         _ => false,
     }
 }
@@ -36,10 +30,7 @@ pub fn code_end(text: &[u8], at: usize) -> usize
     requires { at ≤ length text.now }
     ensures { result ≡ at + length (code_of (line_of (drop at text.now))) }
 {
-    for i in at..text.len() {
-        if ends_code(text, i) {
-            return i;
-        }
-    }
-    text.len()
+    (at..text.len())
+        .find(|i| ends_code(text, *i))
+        .unwrap_or(text.len())
 }

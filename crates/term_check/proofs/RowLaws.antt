@@ -11,7 +11,8 @@ use borrow.Author.Tests.{eq-eqb, ne_eqb}
 use Rattle.source_text.specs.Numerals.{numeral_of}
 use Rattle.std.specs.Prelude.{Option, Some, None}
 use Rattle.std.specs.Bool.{then_some}
-use Rattle.term_check.specs.Walk.{is_word_place, is_held, column, word_in, top_of}
+use Rattle.names.specs.NamePlaces.{is_word_place}
+use Rattle.term_check.specs.Walk.{is_held, column, word_in, top_of}
 
 -- A row
 module _ (text row : List ℕ) where

@@ -14,9 +14,9 @@ use Rattle.std.specs.Prelude.{Option, Some, None}
 use Rattle.term_parser.specs.Source.{place, one, many, Source, numeral, metavariable, name, application, none, more, count}
 use Rattle.term_parser.specs.Rows.{Rows, rows_of}
 use Rattle.term_parser.specs.Depth.{depth}
-use Rattle.names.specs.NamePlaces.{NamePlace}
+use Rattle.names.specs.NamePlaces.{NamePlace, is_word_place}
 use Rattle.term_check.specs.TermRows.{Worded, Lies}
-use Rattle.term_check.specs.Walk.{is_word_place, is_held, takes, column, word_in, top_of}
+use Rattle.term_check.specs.Walk.{is_held, takes, column, word_in, top_of}
 
 -- Rows one after the other
 

@@ -1,5 +1,5 @@
 -- The walk through a term's rows: what one row is, and how many terms are still to come at each level of the term.
-use Rattle.std.specs.Prelude.{ℕ, zero, suc, ◌+◌, ◌≤◌, min, ◌≡◌, Bool, false, cond, ◌&&◌, ◌||◌, List, [], ◌∷◌, eqb, leb, ltb, length, get_or}
+use Rattle.std.specs.Prelude.{ℕ, zero, suc, ◌+◌, ◌≤◌, min, ◌≡◌, Bool, false, cond, ◌||◌, List, [], ◌∷◌, eqb, length, get_or}
 use Rattle.words.specs.Names.{name_kind, metavariable_kind, numeral_kind}
 use Rattle.source_text.specs.Numerals.{numeral_of}
 use Rattle.source_text.specs.Parts.{part_of}
@@ -7,13 +7,10 @@ use Rattle.std.specs.Prelude.{Option, Some, None}
 use Rattle.term_parser.specs.Source.{Source, many, count}
 use Rattle.term_parser.specs.Rows.{Rows, application_kind}
 use Rattle.term_parser.specs.Depth.{depth}
+use Rattle.names.specs.NamePlaces.{is_word_place}
 use Rattle.term_check.specs.TermRows.{Worded, Lies, TermAt}
 
 -- One row
-
--- Is a place a word's?
-abbrev pub is_word_place : List ℕ → ℕ → ℕ → Bool
-is_word_place text start n = ltb 0 n && (leb n 64 && leb (start + n) (length text))
 
 -- Does a row hold the value of its numeral, 2^32 - 1 for a larger one?
 abbrev pub is_held : Option ℕ → ℕ → Bool

@@ -8,20 +8,12 @@ ghost use Rattle.std.specs.Prelude.{◌≡◌, length};
 ghost use Rattle.source_text.specs.Numerals.{numeral_of};
 ghost use Rattle.source_text.specs.Parts.{part_of};
 ghost use Rattle.term_check.specs.TermRows.{Checking};
-ghost use Rattle.term_check.specs.Walk.{is_word_place, is_held, Topped};
+ghost use Rattle.term_check.specs.Walk.{is_held, Topped};
 
-use names::Word;
+use names::{Word, is_word_place};
 
 // The levels of a term of depth 131, the deepest that is parsed, and one more for what would follow there.
 const LEVELS: usize = 132;
-
-// Is a place a word's, inside the text and of 1 to 64 bytes?
-fn is_word_place(text: &[u8], word: Word) -> bool
-    ensures { result ≡ is_word_place text.now word.start word.size }
-{
-    let Word { start, size } = word;
-    0 < size && size <= 64 && start as usize + size as usize <= text.len()
-}
 
 // Is a number the value of the numeral at a place, 2^32 - 1 for a larger one?
 fn is_held(text: &[u8], word: Word, held: u32) -> bool

@@ -76,14 +76,6 @@ pub fn push(out: &mut [[u32; 4]], from: Position, row: [u32; 4]) -> Read
     }
 }
 
-// Writes a row.
-pub fn put(out: &mut [[u32; 4]], at: usize, row: [u32; 4])
-    requires { at < length out.old }
-    ensures { out.new ≡ set out.old at row }
-{
-    out[at] = row;
-}
-
 // A sign that must be there.
 pub fn sign(input: Input, kind: u32, from: Position) -> Result<Read, Rejection>
     requires fact_1 { length input.tokens.now ≤ 65536 }

@@ -2,7 +2,7 @@
 //
 // The entry points are `lex`, `word`, `numeral` and the methods of `Limits`. They ask nothing
 // of their caller, and each contract fixes the answer and every byte of the lent rows on all inputs.
-// `same` and `clear` serve the crates above. What stands below tokens is in `source_text`.
+// `same` serves the crates above. What stands below tokens is in `source_text`.
 #![tactic(auto)]
 
 pub use names::{
@@ -18,11 +18,12 @@ mod names; // keywords and kinds of words
 mod signs; // the signs, longest first
 mod tokens; // one token, one line, all lines
 
-ghost use Rattle.std.specs.Prelude.{◌≡◌, ◌++◌, ◌-◌, ◌≤◌, length, take, replicate};
+ghost use Rattle.std.specs.Prelude.{◌≡◌, ◌≤◌, length};
 ghost use Rattle.words.specs.Rows.{Read};
-ghost use Rattle.words.specs.Lexer.{capped_of, zero_row, lex_of, Lexing};
+ghost use Rattle.words.specs.Lexer.{capped_of, lex_of, Lexing};
 
 use refusals::{Refusal, Rejection};
+use slices::clear_from;
 use source_text::utf8::is_utf8;
 use tokens::{outside_line, read_lines};
 
@@ -60,14 +61,6 @@ impl Limits {
             words: self.words.min(WORDS),
         }
     }
-}
-
-// Zeroes the rows from a place on; for the crates above.
-pub fn clear(rows: &mut [Row], from: usize)
-    requires { from ≤ length rows.old }
-    ensures { rows.new ≡ take from rows.old ++ replicate (length rows.old - from) zero_row }
-{
-    rows[from..].fill([0; 4]);
 }
 
 // The reading of a text of any bytes, in the order of the table; its tokens go to the rows from 0 on.
@@ -113,6 +106,6 @@ pub fn lex(text: &[u8], limits: Limits, tokens: &mut [Row]) -> Result<usize, Rej
         });
     }
     let read = read(text, limit, tokens);
-    clear(tokens, read.unwrap_or(0));
+    clear_from(tokens, read.unwrap_or(0), [0; 4]);
     read
 }

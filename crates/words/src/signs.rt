@@ -5,7 +5,7 @@ ghost use Rattle.words.specs.Signs.{sign_item};
 
 use super::tokens::Lexeme;
 use refusals::Refusal;
-use source_text::bytes::{byte, starts_with};
+use source_text::bytes::starts_with;
 use source_text::characters::UNICODE_ARROW;
 
 // The kinds of signs.
@@ -33,10 +33,10 @@ pub fn sign_item(line: &[u8], at: usize) -> Result<Lexeme, Refusal>
     requires { at < length line.now }
     ensures { lexeme_item result ≡ sign_item (drop at line.now) }
 {
-    let (kind, length) = match (line[at], byte(line, at + 1)) {
-        (b'-', b'>') => (ARROW, 2),
-        (b'=', b'>') => (DOUBLE_ARROW, 2),
-        (b':', b'=') => (DEFINES, 2),
+    let (kind, length) = match (line[at], line.get(at + 1).copied()) {
+        (b'-', Some(b'>')) => (ARROW, 2),
+        (b'=', Some(b'>')) => (DOUBLE_ARROW, 2),
+        (b':', Some(b'=')) => (DEFINES, 2),
         (b'(', _) => (OPEN, 1),
         (b')', _) => (CLOSE, 1),
         (b':', _) => (COLON, 1),

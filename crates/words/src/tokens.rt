@@ -27,12 +27,9 @@ fn word_end(classes: &Classes, line: &[u8], at: usize) -> usize
     requires { (class_numbers classes.now ≡ class_table) × (at ≤ length line.now) }
     ensures { result ≡ at + length (word_of (drop at line.now)) }
 {
-    for i in at..line.len() {
-        if !in_word(character_at(classes, line, i).class) {
-            return i;
-        }
-    }
-    line.len()
+    (at..line.len())
+        .find(|i| !in_word(character_at(classes, line, *i).class))
+        .unwrap_or(line.len())
 }
 
 // Do characters of a class make words?

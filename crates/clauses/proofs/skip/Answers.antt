@@ -1,39 +1,42 @@
 -- `skip` meets its contract. The loop's invariant: so many terms are left from the row p on.
 use Rattle.clauses.proofs.SkipLaws.{left_start, left_turn, left_end, left_past}
+use Rattle.terms.specs.Numbers.{by_less}
+use lib.ListN.{length}
+use Prim.Native.Nat.{◌≤◌}
+use mathlib.Core.Path.{◌≡◌}
 use native.Mathlib.Omega.{arith}
 use Rattle.clauses.proofs.skip.Goals as goal
 
-pub loop-left-init : goal.loop-left-init
-loop-left-init c = (omega arith, omega arith, left_start (c.args.rows.now) (c.args.at) (c.args.n), omega arith)
+pub loop-p-init : goal.loop-p-init
+loop-p-init c = (omega arith, omega arith, left_start (c.args.rows.now) (c.args.at) (c.args.n))
 
-pub returns-then-rows-p : goal.returns-then-rows-p
-returns-then-rows-p c =
-    let loop = c.loop-left in
-    let args = c.args in
-    let loop-test = c.loop-left-test in
-    let if1 = c.if-rows-p in
+pub returns-then-left-eq0 : goal.returns-then-left-eq0
+returns-then-left-eq0 c =
+    let loop = c.loop-p in
     record {
-      onward = loop.invariant.0;
-      behind = left_past (args.rows.now) (args.at) (args.n) (loop.p) (loop.left) (loop.invariant.2) loop-test.true if1.true;
+      onward = loop.auto.p;
+      behind = left_end (c.args.rows.now) (c.args.at) (c.args.n) (loop.p) (loop.left) (loop.invariant.2) (omega (arith, c.if-left-eq0.true));
     }
 
-pub loop-left-preserved : goal.loop-left-preserved
-loop-left-preserved c =
-    let arity = c.arity-more in
-    let loop = c.loop-left in
+pub loop-p-preserved : goal.loop-p-preserved
+loop-p-preserved c =
+    let loop = c.loop-p in
     let args = c.args in
-    let loop-test = c.loop-left-test in
-    let e = arity.ensures.value in
-    let f = arity.ensures.upper_bound in
+    let e = c.arity-left.ensures.value in
+    let f = c.arity-left.ensures.upper_bound in
     let i = loop.invariant in
-    (omega arith, omega arith, rw e (left_turn (args.rows.now) (args.at) (args.n) (loop.p) (loop.left) (loop.invariant.2) loop-test.true), omega arith)
+    (omega (arith, loop.auto.p), omega (arith, c.loop-p-test.true), rw e (left_turn (args.rows.now) (args.at) (args.n) (loop.p) (loop.left) (loop.invariant.2) (omega (arith, c.if-left-eq0.false))))
 
 pub returns : goal.returns
 returns c =
-    let loop = c.loop-left in
+    let loop = c.loop-p in
     let args = c.args in
-    let loop-test = c.loop-left-test in
-    record {
-      onward = loop.invariant.0;
-      behind = left_end (args.rows.now) (args.at) (args.n) (loop.p) (loop.left) (loop.invariant.2) loop-test.false;
-    }
+    let past : length args.rows.now ≤ loop.p = c.loop-p-test.false in
+    let most = loop.invariant.1 in
+    let e : c.max.result ≡ loop.p = omega (arith, loop.auto.p, c.max.ensures) in
+    rw e (record {
+      onward = loop.auto.p;
+      behind = by_less 0 loop.left
+          (λ l r. left_past args.rows.now args.at args.n loop.p loop.left loop.invariant.2 l past)
+          (λ l r. left_end args.rows.now args.at args.n loop.p loop.left loop.invariant.2 (omega arith));
+    })

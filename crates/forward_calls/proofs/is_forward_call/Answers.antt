@@ -19,8 +19,8 @@ returns-then-kind-eq-METAVARIABLE c = of_meta c.requires c.if-kind-eq-METAVARIAB
 pub returns-in_default : goal.returns-in_default
 returns-in_default c = of_unknown c.requires c.if-kind-eq-NUMERAL.false c.if-kind-eq-METAVARIABLE.false refl (no_symbol c.args.term.text.now c.args.symbols.now _ c.in_default.is c.find_at.ensures)
 
-pub returns-then-symbols-i-ne1 : goal.returns-then-symbols-i-ne1
-returns-then-symbols-i-ne1 c = of_other c.requires c.if-kind-eq-NUMERAL.false c.if-kind-eq-METAVARIABLE.false (some_symbol c.args.term.text.now c.args.symbols.now _ _ c.in-Some.is c.find_at.ensures).0 (some_symbol c.args.term.text.now c.args.symbols.now _ _ c.in-Some.is c.find_at.ensures).1 c.if-symbols-i-ne1.true
+pub returns-then-symbols-i-ne-FUNCTION : goal.returns-then-symbols-i-ne-FUNCTION
+returns-then-symbols-i-ne-FUNCTION c = of_other c.requires c.if-kind-eq-NUMERAL.false c.if-kind-eq-METAVARIABLE.false (some_symbol c.args.term.text.now c.args.symbols.now _ _ c.in-Some.is c.find_at.ensures).0 (some_symbol c.args.term.text.now c.args.symbols.now _ _ c.in-Some.is c.find_at.ensures).1 c.if-symbols-i-ne-FUNCTION.true
 
 pub returns-then-inputs-eq0 : goal.returns-then-inputs-eq0
 returns-then-inputs-eq0 c = of_none c.requires c.if-kind-eq-NUMERAL.false c.if-kind-eq-METAVARIABLE.false (some_symbol c.args.term.text.now c.args.symbols.now _ _ c.in-Some.is c.find_at.ensures).0 (some_symbol c.args.term.text.now c.args.symbols.now _ _ c.in-Some.is c.find_at.ensures).1 c.if-inputs-eq0.true
@@ -32,4 +32,4 @@ pub is_ground-requires : goal.is_ground-requires
 is_ground-requires c = ground_asked c.requires
 
 pub returns : goal.returns
-returns c = of_call c.requires c.if-kind-eq-NUMERAL.false c.if-kind-eq-METAVARIABLE.false (some_symbol c.args.term.text.now c.args.symbols.now _ _ c.in-Some.is c.find_at.ensures).0 (some_symbol c.args.term.text.now c.args.symbols.now _ _ c.in-Some.is c.find_at.ensures).1 c.if-inputs-eq0.false c.if-symbols-i-ne1.false c.if-inputs-row.false c.is_ground.ensures
+returns c = of_call c.requires c.if-kind-eq-NUMERAL.false c.if-kind-eq-METAVARIABLE.false (some_symbol c.args.term.text.now c.args.symbols.now _ _ c.in-Some.is c.find_at.ensures).0 (some_symbol c.args.term.text.now c.args.symbols.now _ _ c.in-Some.is c.find_at.ensures).1 c.if-inputs-eq0.false c.if-symbols-i-ne-FUNCTION.false c.if-inputs-row.false c.is_ground.ensures

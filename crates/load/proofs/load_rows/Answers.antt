@@ -1,5 +1,4 @@
 -- `load_rows` meets its contract: everything is wiped, or the signature is kept with zero past it.
-use Prim.Native.Nat.{◌≤◌}
 use mathlib.Core.Path.{◌≡◌, refl, sym, ap, ◌∙◌}
 use lib.ListN.{length, take}
 use lib.Seq.{length-take-le}
@@ -8,7 +7,7 @@ use Rattle.loader.specs.Stored.{titles_of}
 use Rattle.load.specs.Load.{evals_from}
 use Rattle.load_storage.specs.Storage.{Buffers, wiped}
 use Rattle.load_storage.specs.Lent.{buffers_of}
-use Rattle.load.proofs.LentLaws.{there, scratch_as, signature_as}
+use Rattle.load.proofs.LentLaws.{scratch_as, signature_as}
 use Rattle.load.proofs.WalkLaws.{evals_few}
 use Rattle.load_storage.proofs.WipeLaws.{SameLengths, buffers, wiped_same}
 use Rattle.load.proofs.RowsLaws.{came_done, rows_refused, rows_done}
@@ -38,33 +37,6 @@ enter_all-requires c =
         out_lent = omega arith;
         calls_lent = omega arith;
       },
-    )
-
-pub leave-requires : goal.leave-requires
-leave-requires c =
-    let args = c.args in
-    let pre = c.requires in
-    let enter-all = c.enter_all in
-    let g = came_done args.walk.text.now args.walk.limit (titles_of pre.declared.0) (evals_from 0 pre.declared.0) enter-all.result enter-all.new.sorts enter-all.new.symbols enter-all.new.store.rules.now enter-all.new.store.words.now enter-all.new.evals (load_of args.walk.limit args.walk.text.now pre.declared.0) (enter-all.ensures.walked.same pre.declared.0 pre.declared.1 pre.declared.2 pre.declared.3) c.in-Ok.is in
-    let h = g.held in
-    let a = h.names.few_sorts in
-    let a₁ = h.names.sorts_lent in
-    let b = h.names.few_symbols in
-    let b₁ = h.names.symbols_lent in
-    let d = h.kept.few_rules in
-    let d₁ = h.kept.rules_lent in
-    let e = h.kept.fits in
-    let e₁ = h.kept.words_lent in
-    let m = pre.limited in
-    let rules_lent : c.in-Ok.field-0.state.rules ≤ length enter-all.new.store.rules.now = omega arith in
-    let words_lent : c.in-Ok.field-0.state.used ≤ length enter-all.new.store.words.now = omega arith in (
-      record {
-        sorts_there = omega arith;
-        symbols_there = omega arith;
-        rules_there = there enter-all.new.store.rules.now _ (search rules) rules_lent;
-        words_there = there enter-all.new.store.words.now _ (search rules) words_lent;
-      },
-      g.lent,
     )
 
 pub overflow_cast-result : goal.overflow_cast-result

@@ -38,6 +38,20 @@ returns-in_err-check_symbol c =
       };
     })
 
+pub bounds-symbols-count : goal.bounds-symbols-count
+bounds-symbols-count c =
+    let args = c.args in
+    let find-arrow = c.find_arrow in
+    let input-count = c.input_count-n in
+    let known = symbols_used args.symbols.now args.count (omega (arith, c.requires.3, c.requires.4)) args.part.text.now in
+    let pre = c.requires in
+    let look = arrow_known (numbers_of (sorts_of (args.part.text.now) (args.sorts.now) (length args.sorts.now)) (names_at (args.part.text.now) (args.part.rows.now) (args.part.at + 1) (args.part.k))) (find-arrow.result) _ (args.part.k) _ (find-arrow.ensures) c.in_ok-last.ensures.ok_part in
+    let c₁ = arrow_count (sorts_of (args.part.text.now) (args.sorts.now) (length args.sorts.now)) (args.part.text.now) (args.part.rows.now) (args.part.at + 1) (args.part.k) look.found look.is in
+    let n = inputs_count (is_constructor args.kind) look.found (args.part.k) c₁ in
+    let f = not_refused (sorts_of (args.part.text.now) (args.sorts.now) (length args.sorts.now)) (symbols_of (args.part.text.now) (args.symbols.now) (args.count)) (part_of (args.part.text.now) (column (row_at (args.part.rows.now) (args.part.at)) 1) (column (row_at (args.part.rows.now) (args.part.at)) 2)) (input-count.result) (sym (rw (known, c.part.ensures) at c.in_ok-check_symbol.ensures)) in
+    let l = symbols_length (args.part.text.now) (args.symbols.now) (args.count) (omega (arith, pre.3, pre.4)) in
+    omega arith
+
 pub put_symbol-requires : goal.put_symbol-requires
 put_symbol-requires c =
     let args = c.args in
@@ -52,7 +66,7 @@ put_symbol-requires c =
     let l = symbols_length (args.part.text.now) (args.symbols.now) (args.count) (omega (arith, pre.3, pre.4)) in
     let h = find-arrow.auto.inputs in
     let t : length (take c.input_count-n.result find-arrow.new.inputs) ≡ c.input_count-n.result = length-take-le c.input_count-n.result find-arrow.new.inputs (let g = f.0 in omega arith) in
-    (omega arith, omega arith)
+    omega arith
 
 pub returns-in_err-last : goal.returns-in_err-last
 returns-in_err-last c =
@@ -89,6 +103,6 @@ returns c =
         refusal = ((rw (known, c.part.ensures) at c.in_ok-check_symbol.ensures) ∙ ap (symbol_refusal (sorts_of (args.part.text.now) (args.sorts.now) (length args.sorts.now)) (symbols_of (args.part.text.now) (args.symbols.now) (args.count)) _) (input-count.ensures ∙ sym n) ∙ ap (arrow_refusal (sorts_of (args.part.text.now) (args.sorts.now) (length args.sorts.now)) (symbols_of (args.part.text.now) (args.symbols.now) (args.count)) _ (is_constructor args.kind)) (sym look.is));
         refused = λ z. absurd (z refl);
         entered = λ z ns e. let q : look.found ≡ ns = same_numbers (sym look.is ∙ e) in
-            rw (← q) (put ∙ ap (set (args.symbols.now) (args.count)) (row_is (column (row_at (args.part.rows.now) (args.part.at)) 1) (column (row_at (args.part.rows.now) (args.part.at)) 2) (mark_in args.kind) (first_in args.kind) (clauses_in args.kind) (args.part.k) (is_constructor args.kind) look.found _ _ c₁ look.last_is few look.written));
+            rw (← q) (ap (set (args.symbols.now) (args.count)) (put ∙ row_is (column (row_at (args.part.rows.now) (args.part.at)) 1) (column (row_at (args.part.rows.now) (args.part.at)) 2) (mark_in args.kind) (first_in args.kind) (clauses_in args.kind) (args.part.k) (is_constructor args.kind) look.found _ _ c₁ look.last_is few look.written));
       };
     }

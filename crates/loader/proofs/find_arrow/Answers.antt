@@ -30,7 +30,7 @@ pub loop-i-preserved : goal.loop-i-preserved
 loop-i-preserved c =
     let a = c.args.part in
     let (e, l) = some_sort a.text.now c.args.sorts.now (name_at a.text.now a.rows.now (a.at + c.loop-i.i)) c.in_ok-s.s (rw c.part.ensures at c.in_ok-s.ensures) in
-    sofar_more a.text.now a.rows.now a.at a.k c.args.sorts.now c.loop-i.invariant e l c.put_input.ensures
+    sofar_more a.text.now a.rows.now a.at a.k c.args.sorts.now c.loop-i.invariant e l c.put.ensures
 
 pub returns : goal.returns
 returns c =

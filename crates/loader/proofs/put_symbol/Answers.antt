@@ -1,18 +1,11 @@
--- `put_symbol` meets its contract: the row without inputs, and then the inputs.
-use mathlib.Core.Path.{refl}
-use mathlib.Core.List.{List}
-use Prim.Native.Nat.{ℕ}
-use lib.Seq.{sets}
-use Rattle.rules.proofs.RowLaws.{over, still_there}
+-- `put_symbol` meets its contract: the row without inputs, and then the inputs, which are a part of it.
+use Prim.Native.Nat.{◌+◌, ◌-◌}
+use lib.ListN.{length}
+use native.Mathlib.Omega.{arith}
+use Rattle.rules.proofs.RowLaws.{sets_part}
 use Rattle.loader.proofs.put_symbol.Goals as goal
-
-pub put_inputs-requires : goal.put_inputs-requires
-put_inputs-requires c =
-    (still_there (c.args.symbols.now) _ (c.args.i) (c.requires.0) _ refl, c.requires.1)
 
 pub returns : goal.returns
 returns c =
-    let args = c.args in
-    let pre = c.requires in
-    let put-inputs = c.put_inputs in
-    over (args.symbols.now) _ _ (args.i) (pre.0) _ (λ (x : List ℕ). sets x 8 (args.inputs.now)) refl (put-inputs.ensures)
+    let a = c.args in
+    rw c.copy_from_slice.ensures.after (sets_part a.inputs.now _ 8 (8 + length a.inputs.now - 8) (omega arith) (omega (arith, c.requires)))

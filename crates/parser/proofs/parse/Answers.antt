@@ -1,8 +1,6 @@
 -- `parse` meets its contract.
 use mathlib.Core.Path.{ap}
-use native.Mathlib.Omega.{arith}
 use Rattle.term_parser.specs.Steps.{step}
-use Rattle.term_parser.proofs.Readers.{moved}
 use Rattle.parser.proofs.StorageLaws.{over, few, parse_short, parse_end, parse_refused}
 use Rattle.parser.proofs.parse.Goals as goal
 
@@ -12,13 +10,8 @@ returns-then-tokens-gt65536 c = parse_short c.args.text.now c.args.tokens.now c.
 pub returns-then-rows-tokens : goal.returns-then-rows-tokens
 returns-then-rows-tokens c = parse_short c.args.text.now c.args.tokens.now c.args.rows.now (few c.args.text.now c.args.tokens.now c.args.rows.now c.if-rows-tokens.true)
 
-pub clear-requires : goal.clear-requires
-clear-requires c =
-    let m = moved c.declarations.ensures.answers (ap step c.in-Ok.is) in
-    omega (arith, m, c.if-rows-tokens.false, c.declarations.auto.out)
-
 pub returns-in-Ok : goal.returns-in-Ok
-returns-in-Ok c = parse_end c.args.text.now c.args.tokens.now _ c.if-tokens-gt65536.false c.if-rows-tokens.false c.declarations.ensures c.declarations.auto.out (ap step c.in-Ok.is) c.clear.ensures
+returns-in-Ok c = parse_end c.args.text.now c.args.tokens.now _ c.if-tokens-gt65536.false c.if-rows-tokens.false c.declarations.ensures c.declarations.auto.out (ap step c.in-Ok.is) c.clear_from.ensures
 
 pub returns-in-Err : goal.returns-in-Err
-returns-in-Err c = parse_refused c.args.text.now c.args.tokens.now _ c.if-tokens-gt65536.false c.if-rows-tokens.false c.declarations.ensures c.declarations.auto.out (ap step c.in-Err.is) c.clear-in-Err.ensures
+returns-in-Err c = parse_refused c.args.text.now c.args.tokens.now _ c.if-tokens-gt65536.false c.if-rows-tokens.false c.declarations.ensures c.declarations.auto.out (ap step c.in-Err.is) c.clear_from-in-Err.ensures

@@ -38,7 +38,7 @@ returns-then-is_err c =
     let e : c.capped-limit.result.text ≡ (capped_of args.limits).text = ap (λ l. l.text) c.capped-limit.ensures in
     let h : (capped_of args.limits).text ≤ length args.tokens.now = omega (arith, e, c.if-tokens-limit.false) in
     let k : (capped_of args.limits).text ≤ length args.rows.now = omega (arith, e, c.if-rows-limit.false) in
-    text_refused args.text.now args.limits args.tokens.now args.rows.now h k c.lex.ensures c.in-Ok.is refl c.parse-answer.ensures (sym c.is_err.ensures.value ∙ c.if-is_err.true) c.lex.auto.tokens c.clear.ensures
+    text_refused args.text.now args.limits args.tokens.now args.rows.now h k c.lex.ensures c.in-Ok.is refl c.parse-answer.ensures (sym c.is_err.ensures.value ∙ c.if-is_err.true) c.lex.auto.tokens c.clear_from.ensures
 
 pub returns-else-is_err : goal.returns-else-is_err
 returns-else-is_err c =
@@ -54,4 +54,4 @@ returns-in-Err c =
     let e : c.capped-limit.result.text ≡ (capped_of args.limits).text = ap (λ l. l.text) c.capped-limit.ensures in
     let h : (capped_of args.limits).text ≤ length args.tokens.now = omega (arith, e, c.if-tokens-limit.false) in
     let k : (capped_of args.limits).text ≤ length args.rows.now = omega (arith, e, c.if-rows-limit.false) in
-    text_unread args.text.now args.limits args.tokens.now args.rows.now h k c.lex.ensures c.in-Err.is c.clear-in-Err.ensures
+    text_unread args.text.now args.limits args.tokens.now args.rows.now h k c.lex.ensures c.in-Err.is c.clear_from-in-Err.ensures

@@ -7,7 +7,7 @@ use Rattle.prover.proofs.prove_cleared.Goals as goal
 pub search_goal-requires : goal.search_goal-requires
 search_goal-requires c =
     search_asked c.requires (sym c.is_too_much.ensures ∙ c.if-is_too_much.false) _
-    (at_answer c.prepare.ensures c.in_ok-goal.was) (allowed_is _ _ c.capped-capped.ensures)
+    (at_answer c.prepare.ensures c.in_ok-goal.was) (allowed_is _ _ c.search_limits.ensures c.capped.ensures)
 
 pub returns-in_err-goal-clause-left : goal.returns-in_err-goal-clause-left
 returns-in_err-goal-clause-left c =
@@ -18,5 +18,5 @@ returns-in_err-goal-clause-left c =
 pub returns-clause-left : goal.returns-clause-left
 returns-clause-left c =
     search_left c.requires (sym c.is_too_much.ensures ∙ c.if-is_too_much.false) _
-    (at_answer c.prepare.ensures c.in_ok-goal.was) (allowed_is _ _ c.capped-capped.ensures)
+    (at_answer c.prepare.ensures c.in_ok-goal.was) (allowed_is _ _ c.search_limits.ensures c.capped.ensures)
     c.search_goal.ensures.left

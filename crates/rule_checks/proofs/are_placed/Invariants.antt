@@ -4,4 +4,4 @@ use Rattle.rule_checks.specs.Steps.{PlacedWord}
 use Rattle.rule_checks.proofs.are_placed.Given as goal
 
 abbrev pub invariant-loop-word : goal.invariant-loop-word
-invariant-loop-word l = (k : ℕ) → k < l.word-index → PlacedWord l.places (get_or l.words k 0)
+invariant-loop-word l = (k : ℕ) → k < l.word-index → PlacedWord l.places.places (get_or l.words k 0)

@@ -1,24 +1,27 @@
--- `are_places` meets its contract: two lists are the same exactly where they have the same numbers.
-use Rattle.std.proofs.Common.{◌+◌, get_or, ap, sym, ◌∙◌, arith, length-take, get_or-take}
-use Rattle.std.specs.Cmp.{unsigned_Decides}
-use Rattle.std.proofs.lemmas.Slice.Eq.{slice_eq-Decides}
-use Rattle.std.proofs.lemmas.Grind.{same_number_lists}
+-- `are_places` meets its contract: the chain asks each place beside its column.
+use Rattle.std.proofs.Common.{ℕ, ◌+◌, refl, sym, ap, ◌∙◌, arith}
+use Rattle.std.specs.Prelude.{Option, Some}
+use Rattle.std.proofs.lemmas.Iterator.Search.{all_from_yields_List}
+use Rattle.std.proofs.lemmas.Iterator.{YieldsList-from_slice, YieldsList-from_zip}
+use Rattle.meeting.specs.Places.{is_place}
 use Rattle.names.specs.Symbols.{column}
 use Rattle.rule_checks.proofs.PartLaws.{part_length, part_index}
+use Rattle.rule_checks.proofs.TableLaws.{columns_tell}
 use Rattle.rule_checks.proofs.are_places.Goals as goal
 
 pub returns : goal.returns
 returns c =
-    let d = slice_eq-Decides unsigned_Decides _ _ _ c.eq.ensures in
     let row = c.args.rule.now in
-    let places = c.args.places.now in
+    let table = c.args.places.now.places in
     let v = column row 3 in
-    let few = c.requires.0 in
-    let lent = c.requires.1 in
+    let few = c.requires in
     let long = c.told-rule in
+    let lent = c.args.places.now.long in
     let n = part_length row 90 (90 + v) (omega arith) in
-    let m = length-take v places in
+    let t = columns_tell table _ (omega arith) (all_from_yields_List (λ (p : Option ℕ × ℕ). is_place p.0 p.1) c.all.new.self _ c.all.result c.all.ensures.ran
+    (YieldsList-from_zip (YieldsList-from_slice table (cc)) (YieldsList-from_slice _ (cc)))
+    (λ x b q e. (refl, search e.met))) in
     record {
-      yes = λ e x l. sym (get_or-take v places x 0 l) ∙ ap (λ s. get_or s x 0) (d.0 e) ∙ part_index row 90 (90 + v) x (omega arith);
-      back = λ h. d.1 (same_number_lists _ _ (omega arith) (λ x l. get_or-take v places x 0 (omega arith) ∙ h x (omega arith) ∙ sym (part_index row 90 (90 + v) x (omega arith))));
+      yes = λ e x l. t.yes e x (omega arith) ∙ ap Some (part_index row 90 (90 + v) x (omega arith));
+      back = λ h. t.back (λ x l. h x (omega arith) ∙ ap Some (sym (part_index row 90 (90 + v) x (omega arith))));
     }

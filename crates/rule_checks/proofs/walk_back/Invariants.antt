@@ -5,4 +5,4 @@ use Rattle.rule_checks.proofs.PremiseLaws.{Back}
 use Rattle.rule_checks.proofs.walk_back.Given as goal
 
 abbrev pub invariant-loop-k : goal.invariant-loop-k
-invariant-loop-k l = Back (term_of l.words) l.rule (column l.rule 4) l.k l.initial.places l.count l.places l.all
+invariant-loop-k l = Back (term_of l.words) l.rule (column l.rule 4) l.k l.initial.places.places l.initial.places.count l.places.places l.places.count

@@ -1,44 +1,38 @@
 -- `order` meets its contract. The loop's invariant: the conclusion and the premises from number k on are met.
-use mathlib.Core.Path.{◌≡◌, refl, ◌∙◌}
+use mathlib.Core.Path.{◌≡◌}
 use mathlib.Core.List.{[]}
 use Prim.Native.Nat.{◌-◌}
 use Rattle.meeting.specs.Contract.{term_of}
-use Rattle.meeting.specs.PlaceLaws.{records_none}
 use Rattle.rules.proofs.OrderLaws.{met_none, met_more}
 use native.Mathlib.Omega.{arith}
 use Rattle.rules.proofs.order.Goals as goal
 
+pub meet-requires : goal.meet-requires
+meet-requires c =
+    let a = c.requires.0 in
+    record { used = a.used; within = a.within; low = a.low; formed = a.formed; root = a.head.root; room = c.requires.2 }
+
 pub loop-k-init : goal.loop-k-init
 loop-k-init c =
-    let args = c.args in
-    let pre = c.requires in
-    (refl, refl, met_none (term_of args.rule.words.now) args.rule.heads.now args.rule.conclusion _ _ (c.walk-met.ensures [] (records_none args.places.now pre.fact_1.blank)))
+    met_none (term_of c.args.rule.words.now) c.args.rule.heads.now c.args.rule.conclusion _ _ (c.meet.ensures.recorded c.requires.0.head.small [] c.requires.1)
 
-pub walk-all-requires : goal.walk-all-requires
-walk-all-requires c =
-    let pre = c.requires in
-    let loop = c.loop-k in
-    let walk = c.walk-met in
-    let w = pre.fact_1.walkable in
-    let lp = loop.invariant.0 ∙ walk.auto.places in
-    let ls = loop.invariant.1 ∙ walk.auto.stack in
-    record { fact_1 = record { within = w.within; low = w.low; formed = w.formed; long = omega arith }; fact_2 = pre.fact_1.body (loop.k - 1) (omega (arith, c.loop-k-test.true, loop.auto.k)); fact_3 = (omega (arith, pre.fact_2), (_, loop.invariant.2)) }
+pub meet-requires-in-loop-k : goal.meet-requires-in-loop-k
+meet-requires-in-loop-k c =
+    let a = c.requires.0 in
+    record { used = a.used; within = a.within; low = a.low; formed = a.formed; root = (a.body (c.loop-k.k - 1) (omega (arith, c.loop-k-test.true, c.loop-k.auto.k))).root; room = omega (arith, c.requires.2) }
 
 pub loop-k-preserved : goal.loop-k-preserved
 loop-k-preserved c =
     let loop = c.loop-k in
-    let args = c.args in (
-      c.walk-all.auto.places ∙ loop.invariant.0,
-      c.walk-all.auto.stack ∙ loop.invariant.1,
-      met_more (term_of args.rule.words.now) args.rule.heads.now args.rule.conclusion loop.k (omega (arith, c.loop-k-test.true)) loop.auto.k _ _ (c.walk-all.ensures _ loop.invariant.2),
-    )
+    let args = c.args in
+    met_more (term_of args.rule.words.now) args.rule.heads.now args.rule.conclusion loop.k (omega (arith, c.loop-k-test.true)) loop.auto.k _ _
+    (c.meet-in-loop-k.ensures.recorded (c.requires.0.body (loop.k - 1) (omega (arith, c.loop-k-test.true, loop.auto.k))).small _ loop.invariant)
 
 pub returns : goal.returns
 returns c =
     let loop = c.loop-k in
     let e : loop.k ≡ 0 = omega (arith, c.loop-k-test.false) in
     record {
-      counted = (c.walk-met.ensures [] (records_none c.args.places.now c.requires.fact_1.blank)).counted;
-      recorded = rw e at loop.invariant.2;
-      kept = loop.invariant.0 ∙ c.walk-met.auto.places;
+      counted = (c.meet.ensures.recorded c.requires.0.head.small [] c.requires.1).counted;
+      recorded = rw e at loop.invariant;
     }

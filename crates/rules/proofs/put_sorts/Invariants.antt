@@ -2,11 +2,9 @@
 use mathlib.Core.Path.{◌≡◌}
 use mathlib.Core.List.{List}
 use Prim.Native.Nat.{ℕ}
-use lib.ListN.{set}
 use lib.Seq.{sets}
-use Rattle.names.specs.Symbols.{row_at}
 use Rattle.rules.proofs.RowLaws.{sorts_in}
 use Rattle.rules.proofs.put_sorts.Given as goal
 
 abbrev pub invariant-loop-j : goal.invariant-loop-j
-invariant-loop-j l = (text : List ℕ) → l.rules ≡ set l.initial.rules l.i (sets (row_at l.initial.rules l.i) 26 (sorts_in text l.variables l.j))
+invariant-loop-j l = (text : List ℕ) → l.row ≡ sets l.initial.row 26 (sorts_in text l.variables l.j)

@@ -76,7 +76,7 @@ keep-requires c =
     let B = bodied (symbols_of (args.source.text.now) (args.source.symbols.now) (length args.source.symbols.now)) (titled (args.source.text.now) (args.title.start) (args.title.size) (args.title.clause)) ps c₁ (args.place.space.room) few (args.words.now) (args.place.space.used) _ _ _ _ _ (c.in_ok-body.ensures.same ps S.behind S.stand S.number c₁ S.end S.stands) in
     let L = lies (symbols_of (args.source.text.now) (args.source.symbols.now) (length args.source.symbols.now)) (titled (args.source.text.now) (args.title.start) (args.title.size) (args.title.clause)) ps c₁ (args.place.space.room) few B (sym (all_known_lem.ensures ∙ known_rows (args.source.text.now) judgments.new.variables c.in_ok-body.body.variables)
     ∙ if2.false) (few_inputs (args.source.text.now) (args.source.symbols.now) (length args.source.symbols.now) (pre.lent) (pre.inputs)) (pre.upto.0) (pre.upto.1) _ _ _ refl (pre.formed) (pre.words) (pre.low) in
-    record { rule = (arities_of (symbols_of (args.source.text.now) (args.source.symbols.now) (length args.source.symbols.now)), rule_made (symbols_of (args.source.text.now) (args.source.symbols.now) (length args.source.symbols.now)) (titled (args.source.text.now) (args.title.start) (args.title.size) (args.title.clause)) ps c₁ (args.place.space.room) few B, L.lying); rising = (b.1, b.2); small = omega arith; low = omega arith; few = omega (arith, if1.false); vars = omega (arith, b.0); row = omega (arith, if3.false, pre.rows) }
+    record { rule = (arities_of (symbols_of (args.source.text.now) (args.source.symbols.now) (length args.source.symbols.now)), rule_made (symbols_of (args.source.text.now) (args.source.symbols.now) (length args.source.symbols.now)) (titled (args.source.text.now) (args.title.start) (args.title.size) (args.title.clause)) ps c₁ (args.place.space.room) few B, L.lying); rising = (b.1, b.2); small = omega arith; low = omega arith; few = omega (arith, if1.false); vars = omega (arith, b.0) }
 
 pub returns-in_err-body : goal.returns-in_err-body
 unfolding variables_of
@@ -113,8 +113,8 @@ returns c =
           rw (is_rule (symbols_of (args.source.text.now) (args.source.symbols.now) (length args.source.symbols.now)) (titled (args.source.text.now) (args.title.start) (args.title.size) (args.title.clause)) ps c₁ (args.place.space.room) few B k, lt-ltb (args.place.number) 1024 (if3.false)) (record {
             used = _;
             is = refl;
-            row = keep.ensures.row;
-            written = keep.ensures.written;
+            row = keep.new.row;
+            written = refl;
             placed = keep.ensures.placed;
             kept = keep.ensures.kept (args.source.text.now) (arities_of (symbols_of (args.source.text.now) (args.source.symbols.now) (length args.source.symbols.now))) (rule_made (symbols_of (args.source.text.now) (args.source.symbols.now) (length args.source.symbols.now)) (titled (args.source.text.now) (args.title.start) (args.title.size) (args.title.clause)) ps c₁ (args.place.space.room) few B) L.lying refl sorts M.order;
             exact = keep.ensures.exact (args.source.text.now) (arities_of (symbols_of (args.source.text.now) (args.source.symbols.now) (length args.source.symbols.now))) (rule_made (symbols_of (args.source.text.now) (args.source.symbols.now) (length args.source.symbols.now)) (titled (args.source.text.now) (args.title.start) (args.title.size) (args.title.clause)) ps c₁ (args.place.space.room) few B) L.lying sorts M.order X.premises X.conclusion;

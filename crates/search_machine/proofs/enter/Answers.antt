@@ -1,6 +1,6 @@
 -- `enter` meets its contract: each way on from a place is one of the theory's equations.
 use native.Mathlib.Omega.{arith}
-use Rattle.search_machine.specs.Ways.{moved_as, moved_out, moved_proof, moved_built, moved_cut, moved_goal, seen_place, seen_premise}
+use Rattle.search_machine.specs.Ways.{moved_as, moved_out, moved_proof, moved_built, moved_cut, moved_goal, seen_frame, seen_rule, seen_place, seen_premise}
 use Rattle.search_machine.proofs.enter.Goals as goal
 
 pub returns-then-steps-eq0 : goal.returns-then-steps-eq0
@@ -8,6 +8,12 @@ returns-then-steps-eq0 c = moved_as c.at_fail.ensures (moved_out c.requires c.if
 
 pub returns-then-parent-eq0 : goal.returns-then-parent-eq0
 returns-then-parent-eq0 c = moved_as c.at_stop.ensures (moved_proof c.requires (omega arith) c.if-parent-eq0.true)
+
+pub frame-x-requires : goal.frame-x-requires
+frame-x-requires c = seen_frame c.requires (omega arith)
+
+pub arity_of-requires : goal.arity_of-requires
+arity_of-requires c = seen_rule c.requires c.frame-x.result c.frame-x.ensures (omega arith) (omega arith)
 
 pub overflow_add-x : goal.overflow_add-x
 overflow_add-x c =

@@ -6,22 +6,22 @@ use Rattle.term_check.proofs.RowLaws.{top_nowhere, top_numeral, top_application,
 use Rattle.term_check.proofs.top_of.Goals as goal
 
 pub returns-then-not-is_word_place : goal.returns-then-not-is_word_place
-returns-then-not-is_word_place c = record { long = search rules; is = top_nowhere _ _ (sym c.is_word_place.ensures ∙ c.if-not-is_word_place.true) }
+returns-then-not-is_word_place c = record { long = search rules; is = top_nowhere _ _ (sym c.is_word_place.ensures.is ∙ c.if-not-is_word_place.true) }
 
 pub returns-in-14 : goal.returns-in-14
-returns-in-14 c = record { long = search rules; is = c.then_some.ensures ∙ top_numeral _ _ (sym c.is_word_place.ensures ∙ c.if-not-is_word_place.false) c.in-14.is _ c.is_held.ensures }
+returns-in-14 c = record { long = search rules; is = c.then_some.ensures ∙ top_numeral _ _ (sym c.is_word_place.ensures.is ∙ c.if-not-is_word_place.false) c.in-14.is _ c.is_held.ensures }
 
 pub returns-then-count-eq0 : goal.returns-then-count-eq0
-returns-then-count-eq0 c = record { long = search rules; is = top_alone _ _ (sym c.is_word_place.ensures ∙ c.if-not-is_word_place.false) c.in-24.is c.if-count-eq0.true }
+returns-then-count-eq0 c = record { long = search rules; is = top_alone _ _ (sym c.is_word_place.ensures.is ∙ c.if-not-is_word_place.false) c.in-24.is c.if-count-eq0.true }
 
 pub returns-else-count-eq0 : goal.returns-else-count-eq0
-returns-else-count-eq0 c = record { long = search rules; is = top_application _ _ (sym c.is_word_place.ensures ∙ c.if-not-is_word_place.false) c.in-24.is c.if-count-eq0.false }
+returns-else-count-eq0 c = record { long = search rules; is = top_application _ _ (sym c.is_word_place.ensures.is ∙ c.if-not-is_word_place.false) c.in-24.is c.if-count-eq0.false }
 
 pub returns-in-13 : goal.returns-in-13
-returns-in-13 c = record { long = search rules; is = c.then_some-in-13.ensures ∙ top_word _ _ (sym c.is_word_place.ensures ∙ c.if-not-is_word_place.false) (omega arith) (omega arith) }
+returns-in-13 c = record { long = search rules; is = c.then_some-in-13.ensures ∙ top_word _ _ (sym c.is_word_place.ensures.is ∙ c.if-not-is_word_place.false) (omega arith) (omega arith) }
 
 pub returns-in_default : goal.returns-in_default
-returns-in_default c = record { long = search rules; is = top_other _ _ (sym c.is_word_place.ensures ∙ c.if-not-is_word_place.false) (λ e. omega arith) (λ e. omega arith) (λ e. omega arith) (λ e. omega arith) }
+returns-in_default c = record { long = search rules; is = top_other _ _ (sym c.is_word_place.ensures.is ∙ c.if-not-is_word_place.false) (λ e. omega arith) (λ e. omega arith) (λ e. omega arith) (λ e. omega arith) }
 
 pub returns-in_default-2 : goal.returns-in_default-2
-returns-in_default-2 c = record { long = search rules; is = top_other _ _ (sym c.is_word_place.ensures ∙ c.if-not-is_word_place.false) (λ e. omega arith) (λ e. omega arith) (λ e. omega arith) (λ e. omega arith) }
+returns-in_default-2 c = record { long = search rules; is = top_other _ _ (sym c.is_word_place.ensures.is ∙ c.if-not-is_word_place.false) (λ e. omega arith) (λ e. omega arith) (λ e. omega arith) (λ e. omega arith) }

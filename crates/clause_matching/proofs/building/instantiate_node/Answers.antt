@@ -6,6 +6,7 @@ use Rattle.arena.specs.Copies.{pattern_room}
 use native.Mathlib.Omega.{arith}
 use mathlib.Core.Path.{refl}
 use lib.ListN.{length-set}
+use Rattle.clause_matching.proofs.Taking.{absent}
 use Rattle.clause_matching.proofs.BuildTurns.{turn_start, turn_lent, variable_unbound, less_value, turn_value, free_row, less_enter, turn_enter, turn_done, facts, less_next, turn_next, node_refused, push_room, turn_build}
 use Rattle.clause_matching.proofs.building.instantiate_node.Goals as goal
 
@@ -45,14 +46,13 @@ bounds-stack-row-then-taken-arity c =
     let o = (if1.true) in
     omega arith
 
-pub returns-then-entry-eq0 : goal.returns-then-entry-eq0
-returns-then-entry-eq0 c =
+pub returns-in_default : goal.returns-in_default
+returns-in_default c =
     let loop = c.loop-depth in
     let loop-test = c.loop-depth-test in
     let if1 = c.if-taken-arity in
     let if2 = c.if-next-lt-PATTERN_ROOM in
-    let if3 = c.if-entry-eq0 in
-    variable_unbound (turn_next (loop.invariant.1) refl (loop-test.true) (if1.true)) refl (if2.true) (if3.true)
+    variable_unbound (turn_next (loop.invariant.1) refl (loop-test.true) (if1.true)) refl (if2.true) (absent _ c.in_default.not-Some)
 
 pub loop-depth-smaller-then-next-lt-PATTERN_ROOM : goal.loop-depth-smaller-then-next-lt-PATTERN_ROOM
 loop-depth-smaller-then-next-lt-PATTERN_ROOM c =
@@ -60,9 +60,8 @@ loop-depth-smaller-then-next-lt-PATTERN_ROOM c =
     let loop-test = c.loop-depth-test in
     let if1 = c.if-taken-arity in
     let if2 = c.if-next-lt-PATTERN_ROOM in
-    let if3 = c.if-entry-eq0 in
     let x = less_next (loop.invariant.1) refl (loop-test.true) (if1.true) in
-    let y = less_value (turn_next (loop.invariant.1) refl (loop-test.true) (if1.true)) refl (if2.true) (if3.false) in
+    let y = less_value (turn_next (loop.invariant.1) refl (loop-test.true) (if1.true)) refl (if2.true) c.in-Some.is in
     omega arith
 
 pub loop-depth-preserved-then-next-lt-PATTERN_ROOM : goal.loop-depth-preserved-then-next-lt-PATTERN_ROOM
@@ -71,8 +70,7 @@ loop-depth-preserved-then-next-lt-PATTERN_ROOM c =
     let loop-test = c.loop-depth-test in
     let if1 = c.if-taken-arity in
     let if2 = c.if-next-lt-PATTERN_ROOM in
-    let if3 = c.if-entry-eq0 in
-    (_, turn_value (turn_next (loop.invariant.1) refl (loop-test.true) (if1.true)) refl (if2.true) (if3.false))
+    (_, turn_value (turn_next (loop.invariant.1) refl (loop-test.true) (if1.true)) refl (if2.true) c.in-Some.is)
 
 pub bounds-stack-depth : goal.bounds-stack-depth
 bounds-stack-depth c =

@@ -4,18 +4,18 @@ use Rattle.expressions.proofs.Applications.{call_asked, called, build_asked, not
 use Rattle.expressions.proofs.applying.apply.Goals as goal
 
 pub call-requires : goal.call-requires
-call-requires c = call_asked c.requires c.if-program-i-eq1.true
+call-requires c = call_asked c.requires c.if-program-i-eq-FUNCTION.true
 
-pub returns-then-program-i-eq1-clause-answered : goal.returns-then-program-i-eq1-clause-answered
-returns-then-program-i-eq1-clause-answered c = called c.requires c.if-program-i-eq1.true c.call.ensures.answered
+pub returns-then-program-i-eq-FUNCTION-clause-answered : goal.returns-then-program-i-eq-FUNCTION-clause-answered
+returns-then-program-i-eq-FUNCTION-clause-answered c = called c.requires c.if-program-i-eq-FUNCTION.true c.call.ensures.answered
 
 pub build-requires : goal.build-requires
-build-requires c = build_asked c.requires c.if-program-i-eq1.false
+build-requires c = build_asked c.requires c.if-program-i-eq-FUNCTION.false
 
 pub returns-in_err-built-clause-answered : goal.returns-in_err-built-clause-answered
 returns-in_err-built-clause-answered c =
     rw (handed_on c.from_residual.result c.from_residual.ensures.1)
-    (not_built c.requires c.if-program-i-eq1.false c.build.ensures c.in_err-built.was)
+    (not_built c.requires c.if-program-i-eq-FUNCTION.false c.build.ensures c.in_err-built.was)
 
 pub returns-clause-answered : goal.returns-clause-answered
-returns-clause-answered c = is_built c.requires c.if-program-i-eq1.false c.build.ensures c.in_ok-built.was
+returns-clause-answered c = is_built c.requires c.if-program-i-eq-FUNCTION.false c.build.ensures c.in_ok-built.was

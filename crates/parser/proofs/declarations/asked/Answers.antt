@@ -22,4 +22,4 @@ pub returns : goal.returns
 returns c =
     let ts = c.args.input.tokens.now in
     let body = asked_of c.args.input.text.now (last_line ts) c.args.kind (drop (c.args.from.at + 1) ts) in
-    finish (part (start (declaration_rows c.args.number) c.requires.fact_1 c.requires.fact_2 (plus 1 body) body refl) (λ t us. parsed (asked c.args.kind t) 0) refl c.term.ensures (ap step c.in_ok-t.was) c.term.auto.out) c.requires.fact_1 refl (asked_rows _ _ _ c.requires.kinds) c.put.ensures
+    finish (part (start (declaration_rows c.args.number) c.requires.fact_1 c.requires.fact_2 (plus 1 body) body refl) (λ t us. parsed (asked c.args.kind t) 0) refl c.term.ensures (ap step c.in_ok-t.was) c.term.auto.out) c.requires.fact_1 refl (asked_rows _ _ _ c.requires.kinds) refl

@@ -44,11 +44,11 @@ offset_bounds-out-last c = let a = after_items (declaration_rows c.args.number) 
 pub slice_copy_out-row : goal.slice_copy_out-row
 slice_copy_out-row c = let a = after_items (declaration_rows c.args.number) (names_to (last_line c.args.input.tokens.now)) c.args.input.tokens.now c.requires.fact_1 c.requires.fact_2 (ending c.args.input.text.now (last_line c.args.input.tokens.now)) c.title.ensures (ap step c.in_ok-n.was) c.title.auto.out c.arrows.ensures (ap step c.in_ok-sorts.was) c.arrows.auto.out in omega (arith, a.above, a.fits, a.to, a.long, c.requires.fact_1.lent, c.requires.fact_1.below)
 
-pub overflow_sub-sorts : goal.overflow_sub-sorts
-overflow_sub-sorts c = omega (arith, item_count (declaration_rows c.args.number) (names_to (last_line c.args.input.tokens.now)) c.args.input.tokens.now c.requires.fact_1 c.requires.fact_2 (ending c.args.input.text.now (last_line c.args.input.tokens.now)) c.title.ensures (ap step c.in_ok-n.was) c.title.auto.out c.arrows.ensures (ap step c.in_ok-sorts.was) c.arrows.auto.out, some_items (declaration_rows c.args.number) (names_to (last_line c.args.input.tokens.now)) c.args.input.tokens.now c.requires.fact_1 c.requires.fact_2 (ending c.args.input.text.now (last_line c.args.input.tokens.now)) c.title.ensures (ap step c.in_ok-n.was) c.title.auto.out c.arrows.ensures (ap step c.in_ok-sorts.was) c.arrows.auto.out)
+pub overflow_sub-out : goal.overflow_sub-out
+overflow_sub-out c = omega (arith, item_count (declaration_rows c.args.number) (names_to (last_line c.args.input.tokens.now)) c.args.input.tokens.now c.requires.fact_1 c.requires.fact_2 (ending c.args.input.text.now (last_line c.args.input.tokens.now)) c.title.ensures (ap step c.in_ok-n.was) c.title.auto.out c.arrows.ensures (ap step c.in_ok-sorts.was) c.arrows.auto.out, some_items (declaration_rows c.args.number) (names_to (last_line c.args.input.tokens.now)) c.args.input.tokens.now c.requires.fact_1 c.requires.fact_2 (ending c.args.input.text.now (last_line c.args.input.tokens.now)) c.title.ensures (ap step c.in_ok-n.was) c.title.auto.out c.arrows.ensures (ap step c.in_ok-sorts.was) c.arrows.auto.out)
 
-pub put-requires : goal.put-requires
-put-requires c = let a = after_items (declaration_rows c.args.number) (names_to (last_line c.args.input.tokens.now)) c.args.input.tokens.now c.requires.fact_1 c.requires.fact_2 (ending c.args.input.text.now (last_line c.args.input.tokens.now)) c.title.ensures (ap step c.in_ok-n.was) c.title.auto.out c.arrows.ensures (ap step c.in_ok-sorts.was) c.arrows.auto.out in omega (arith, c.requires.fact_1.lent, c.requires.fact_1.below, c.requires.fact_2, a.long)
+pub bounds-out-from : goal.bounds-out-from
+bounds-out-from c = let a = after_items (declaration_rows c.args.number) (names_to (last_line c.args.input.tokens.now)) c.args.input.tokens.now c.requires.fact_1 c.requires.fact_2 (ending c.args.input.text.now (last_line c.args.input.tokens.now)) c.title.ensures (ap step c.in_ok-n.was) c.title.auto.out c.arrows.ensures (ap step c.in_ok-sorts.was) c.arrows.auto.out in omega (arith, c.requires.fact_1.lent, c.requires.fact_1.below, c.requires.fact_2, a.long)
 
 pub returns-then-is_prop : goal.returns-then-is_prop
 returns-then-is_prop c =
@@ -58,7 +58,7 @@ returns-then-is_prop c =
     let some = some_items (declaration_rows c.args.number) (names_to (last_line c.args.input.tokens.now)) c.args.input.tokens.now c.requires.fact_1 c.requires.fact_2 (ending c.args.input.text.now (last_line c.args.input.tokens.now)) c.title.ensures (ap step c.in_ok-n.was) c.title.auto.out c.arrows.ensures (ap step c.in_ok-sorts.was) c.arrows.auto.out in
     let is = prop_is a c.requires.fact_1 (name_rows n) ss refl some c.args.input.text.now ∙ sym c.is_prop.ensures ∙ c.if-is_prop.true in
     finish (without_last a c.requires.fact_1 (name_rows n) ss refl some) c.requires.fact_1 (ap (ended (last_line c.args.input.tokens.now) n ss (drop c.in_ok-sorts.sorts.position.at c.args.input.tokens.now)) is)
-    (ap (λ i. (3 ∷ c.args.number ∷ i ∷ 0 ∷ []) ∷ (name_rows n ++ rows_of_all name_rows (take (length ss - 1) ss))) (init_long a c.requires.fact_1 (name_rows n) ss refl some ∙ ap (λ i. i - 1) (sym (item_count (declaration_rows c.args.number) (names_to (last_line c.args.input.tokens.now)) c.args.input.tokens.now c.requires.fact_1 c.requires.fact_2 (ending c.args.input.text.now (last_line c.args.input.tokens.now)) c.title.ensures (ap step c.in_ok-n.was) c.title.auto.out c.arrows.ensures (ap step c.in_ok-sorts.was) c.arrows.auto.out)))) c.put.ensures
+    (ap (λ i. (3 ∷ c.args.number ∷ i ∷ 0 ∷ []) ∷ (name_rows n ++ rows_of_all name_rows (take (length ss - 1) ss))) (init_long a c.requires.fact_1 (name_rows n) ss refl some ∙ ap (λ i. i - 1) (sym (item_count (declaration_rows c.args.number) (names_to (last_line c.args.input.tokens.now)) c.args.input.tokens.now c.requires.fact_1 c.requires.fact_2 (ending c.args.input.text.now (last_line c.args.input.tokens.now)) c.title.ensures (ap step c.in_ok-n.was) c.title.auto.out c.arrows.ensures (ap step c.in_ok-sorts.was) c.arrows.auto.out)))) refl
 
 pub returns : goal.returns
 returns c =

@@ -24,5 +24,4 @@ returns c =
     let args = c.args in
     let pre = c.requires in
     let name = c.name in
-    let put = c.put in
-    finish (part (start (declaration_rows args.number) pre.fact_1 pre.fact_2 (plus 1 (sort_of (last_line args.input.tokens.now) (drop (args.from.at + 1) args.input.tokens.now))) (sort_of (last_line args.input.tokens.now) (drop (args.from.at + 1) args.input.tokens.now)) refl) (λ n us. parsed (sort n) 0) refl name.ensures (ap step c.in_ok-n.was) name.auto.out) pre.fact_1 refl refl put.ensures
+    finish (part (start (declaration_rows args.number) pre.fact_1 pre.fact_2 (plus 1 (sort_of (last_line args.input.tokens.now) (drop (args.from.at + 1) args.input.tokens.now))) (sort_of (last_line args.input.tokens.now) (drop (args.from.at + 1) args.input.tokens.now)) refl) (λ n us. parsed (sort n) 0) refl name.ensures (ap step c.in_ok-n.was) name.auto.out) pre.fact_1 refl refl refl

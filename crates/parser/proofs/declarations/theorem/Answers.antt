@@ -1,5 +1,5 @@
 -- `theorem` meets its contract: what is read at each place is said by TheoremLaws.
-use mathlib.Core.Path.{ap}
+use mathlib.Core.Path.{refl, ap}
 use native.Mathlib.Omega.{arith}
 use Rattle.term_parser.specs.Steps.{step}
 use Rattle.term_parser.proofs.Readers.{stopped_err, exits, moved}
@@ -40,8 +40,8 @@ overflow_cast-proof c = let a = after_tactic c.args.number c.args.input.text.now
 pub mark-requires : goal.mark-requires
 mark-requires c = let a = after_tactic c.args.number c.args.input.text.now c.args.input.tokens.now c.requires.fact_1 c.requires.fact_2 c.name.ensures (ap step c.in_ok-n.was) c.name.auto.out c.all.ensures.list (ap step c.in_ok-bound.was) c.all.auto.out c.sign.ensures (ap step c.in_ok-colon.was) c.judgments.ensures (ap step c.in_ok-terms.was) c.judgments.auto.out c.tactic.ensures (ap step c.in_ok-proof.was) c.tactic.auto.out in let m = moved c.name.ensures (ap step c.in_ok-n.was) in omega (arith, a.long, m, c.requires.fact_1.lent, c.requires.fact_1.below)
 
-pub put-requires : goal.put-requires
-put-requires c = let a = after_tactic c.args.number c.args.input.text.now c.args.input.tokens.now c.requires.fact_1 c.requires.fact_2 c.name.ensures (ap step c.in_ok-n.was) c.name.auto.out c.all.ensures.list (ap step c.in_ok-bound.was) c.all.auto.out c.sign.ensures (ap step c.in_ok-colon.was) c.judgments.ensures (ap step c.in_ok-terms.was) c.judgments.auto.out c.tactic.ensures (ap step c.in_ok-proof.was) c.tactic.auto.out in let l = c.mark.auto.out in omega (arith, a.long, l, c.requires.fact_1.lent, c.requires.fact_1.below, c.requires.fact_2)
+pub bounds-out-from : goal.bounds-out-from
+bounds-out-from c = let a = after_tactic c.args.number c.args.input.text.now c.args.input.tokens.now c.requires.fact_1 c.requires.fact_2 c.name.ensures (ap step c.in_ok-n.was) c.name.auto.out c.all.ensures.list (ap step c.in_ok-bound.was) c.all.auto.out c.sign.ensures (ap step c.in_ok-colon.was) c.judgments.ensures (ap step c.in_ok-terms.was) c.judgments.auto.out c.tactic.ensures (ap step c.in_ok-proof.was) c.tactic.auto.out in let l = c.mark.auto.out in omega (arith, a.long, l, c.requires.fact_1.lent, c.requires.fact_1.below, c.requires.fact_2)
 
 pub returns : goal.returns
-returns c = theorem_ends c.args.number c.args.input.text.now c.args.input.tokens.now c.requires.fact_1 c.requires.fact_2 c.name.ensures (ap step c.in_ok-n.was) c.name.auto.out c.all.ensures.list (ap step c.in_ok-bound.was) c.all.auto.out c.sign.ensures (ap step c.in_ok-colon.was) c.judgments.ensures (ap step c.in_ok-terms.was) c.judgments.auto.out c.tactic.ensures (ap step c.in_ok-proof.was) c.tactic.auto.out c.mark.ensures c.put.ensures
+returns c = theorem_ends c.args.number c.args.input.text.now c.args.input.tokens.now c.requires.fact_1 c.requires.fact_2 c.name.ensures (ap step c.in_ok-n.was) c.name.auto.out c.all.ensures.list (ap step c.in_ok-bound.was) c.all.auto.out c.sign.ensures (ap step c.in_ok-colon.was) c.judgments.ensures (ap step c.in_ok-terms.was) c.judgments.auto.out c.tactic.ensures (ap step c.in_ok-proof.was) c.tactic.auto.out c.mark.ensures refl

@@ -3,17 +3,17 @@ use native.Mathlib.Omega.{arith}
 use native.Mathlib.Nat.{le_refl}
 use mathlib.Core.Path.{sym, ◌∙◌}
 use Rattle.refusals.specs.Refused.{handed_on}
-use Rattle.prover.specs.PreparingLaws.{made_used, prepare_refused, prepare_over, store_asked, prepare_stored}
+use Rattle.prover.specs.PreparingLaws.{over_told, made_used, prepare_refused, prepare_over, store_asked, prepare_stored}
 use Rattle.prover.proofs.preparing.prepare.Goals as goal
 
-pub returns-then-is_over : goal.returns-then-is_over
-returns-then-is_over c =
+pub returns-then-exceeds : goal.returns-then-exceeds
+returns-then-exceeds c =
     let compile = c.compile in
     let lent = compile.auto.variables in
     let signature = c.args.query.signature in
     let made = made_used signature.symbols.now signature.counts.symbols c.requires.lent compile.ensures.goal_made in
     prepare_over c.requires (omega (arith, lent)) (le_refl 2048) compile.ensures.bounds made _ c.in_ok-goal.was
-    (sym c.is_over.ensures ∙ c.if-is_over.true)
+    (sym (over_told c.args.query.limits _ _ c.search_limits.ensures c.exceeds.ensures) ∙ c.if-exceeds.true)
 
 pub store-node-requires : goal.store-node-requires
 store-node-requires c =
@@ -22,7 +22,7 @@ store-node-requires c =
     let signature = c.args.query.signature in
     let made = made_used signature.symbols.now signature.counts.symbols c.requires.lent compile.ensures.goal_made in
     store_asked c.requires (omega (arith, lent)) (le_refl 2048) compile.ensures.bounds made _ c.in_ok-goal.was
-    (sym c.is_over.ensures ∙ c.if-is_over.false)
+    (sym (over_told c.args.query.limits _ _ c.search_limits.ensures c.exceeds.ensures) ∙ c.if-exceeds.false)
 
 pub returns-in_err-goal : goal.returns-in_err-goal
 returns-in_err-goal c =
@@ -41,5 +41,5 @@ returns c =
     let signature = c.args.query.signature in
     let made = made_used signature.symbols.now signature.counts.symbols c.requires.lent compile.ensures.goal_made in
     prepare_stored c.requires (omega (arith, lent)) (le_refl 2048) compile.ensures.bounds made _ c.in_ok-goal.was
-    (sym c.is_over.ensures ∙ c.if-is_over.false)
+    (sym (over_told c.args.query.limits _ _ c.search_limits.ensures c.exceeds.ensures) ∙ c.if-exceeds.false)
     c.store-node.ensures

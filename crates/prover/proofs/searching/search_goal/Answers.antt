@@ -5,8 +5,8 @@ use Rattle.prover.proofs.searching.search_goal.Goals as goal
 
 pub returns-in-Err-clause-left : goal.returns-in-Err-clause-left
 returns-in-Err-clause-left c =
-    left_refused c.args.names.now c.args.goal c.args.session c.prove.ensures.deepened _ c.in-Err.is c.clear_names.ensures
-    c.clear.ensures
+    left_refused c.args.names.now c.args.goal c.args.session c.prove.ensures.deepened _ c.in-Err.is c.clear_from.ensures
+    c.clear_from-in-Err.ensures
 
 pub returns-in-Ok-Proved-clause-left : goal.returns-in-Ok-Proved-clause-left
 returns-in-Ok-Proved-clause-left c =
@@ -17,10 +17,10 @@ pub returns-in-Ok-Nothing-clause-left : goal.returns-in-Ok-Nothing-clause-left
 returns-in-Ok-Nothing-clause-left c =
     rw c.counts_then.ensures
     (left_nothing c.args.names.now c.args.goal c.args.session c.prove.ensures.deepened _ _
-    (c.in-Ok-Nothing.is ∙ ap Ok c.in-Ok-Nothing.field-0-is) c.clear-in-Ok-Nothing.ensures)
+    (c.in-Ok-Nothing.is ∙ ap Ok c.in-Ok-Nothing.field-0-is) c.clear_from-in-Ok-Nothing.ensures)
 
 pub returns-in-Ok-Undecided-clause-left : goal.returns-in-Ok-Undecided-clause-left
 returns-in-Ok-Undecided-clause-left c =
     rw c.counts_then-in-Ok-Undecided.ensures
     (left_undecided c.args.names.now c.args.goal c.args.session c.prove.ensures.deepened _ _
-    (c.in-Ok-Undecided.is ∙ ap Ok c.in-Ok-Undecided.field-0-is) c.clear-in-Ok-Undecided.ensures)
+    (c.in-Ok-Undecided.is ∙ ap Ok c.in-Ok-Undecided.field-0-is) c.clear_from-in-Ok-Undecided.ensures)

@@ -1,29 +1,19 @@
--- `code_end` meets its contract. The loop's invariant: the code's end is as far from i as the end of the code that starts at i.
-use mathlib.Core.Path.{refl, sym, ◌∙◌}
-use Rattle.source_text.proofs.Scans.{code_next, code_stop, code_past}
+-- `code_end` meets its contract: the first place where the code ends.
+use mathlib.Core.Bool.{true, false}
+use mathlib.Core.Path.{◌≡◌, sym, ap, ◌∙◌}
+use Prim.Native.Nat.{◌+◌}
+use lib.ListN.{length, drop}
 use borrow.Author.Rules.{rules}
-use native.Mathlib.Omega.{arith}
+use borrow.Author.Tests.{tests}
+use Rattle.std.proofs.lemmas.Iterator.{serves_from_Range, first_from_Range}
+use Rattle.source_text.specs.Lines.{ends_code}
+use Rattle.source_text.proofs.Scans.{scan_found, code_scan}
 use Rattle.source_text.proofs.lines.code_end.Goals as goal
 
-pub loop-i-init : goal.loop-i-init
-loop-i-init c = (search rules, search rules, refl)
-
-pub returns-then-ends_code : goal.returns-then-ends_code
-returns-then-ends_code c =
-    let loop = c.loop-i in
-    let args = c.args in
-    let ends-code = c.ends_code in
-    let if1 = c.if-ends_code in
-    omega (arith, loop.invariant.2, code_stop args.text.now loop.i (sym ends-code.ensures ∙ if1.true))
-
-pub loop-i-preserved : goal.loop-i-preserved
-loop-i-preserved c =
-    let loop = c.loop-i in
-    let args = c.args in
-    let loop-test = c.loop-i-test in
-    let ends-code = c.ends_code in
-    let if1 = c.if-ends_code in
-    (omega arith, omega arith, omega (arith, loop.invariant.2, code_next args.text.now loop.i loop-test.true (sym ends-code.ensures ∙ if1.false)))
+pub find-requires-clause-callable : goal.find-requires-clause-callable
+find-requires-clause-callable c = serves_from_Range (λ x q r. search (rules, tests)) (λ x h k. search (rules, tests))
 
 pub returns : goal.returns
-returns c = omega (arith, c.loop-i.invariant.2, code_past c.args.text.now c.loop-i.i c.loop-i-test.false)
+returns c =
+    let first = first_from_Range _ _ _ _ (λ i. ends_code (drop i c.args.text.now) ≡ true) (λ i. ends_code (drop i c.args.text.now) ≡ false) c.find.ensures.ran (λ x q k. search (rules, tests)) (λ x q k. search (rules, tests)) in
+    c.unwrap_or.ensures ∙ scan_found ends_code c.args.text.now c.args.at c.find.result c.requires first ∙ ap (λ l. c.args.at + length l) (sym (code_scan (drop c.args.at c.args.text.now)))

@@ -1,16 +1,16 @@
 -- `ends_code` meets its contract.
-use mathlib.Core.Path.{◌≡◌, sym, ◌∙◌}
+use mathlib.Core.Path.{◌≡◌, refl, sym, ◌∙◌}
 use lib.ListN.{get_or}
 use native.Mathlib.Omega.{arith}
 use borrow.Author.Tests.{eq-eqb, ne_eqb}
-use Rattle.source_text.proofs.Scans.{ends_at}
+use Rattle.source_text.proofs.Scans.{one_at, ends_at}
 use Rattle.source_text.proofs.lines.ends_code.Goals as goal
 
 pub returns-in-10 : goal.returns-in-10
 returns-in-10 c = sym (ends_at c.args.text.now c.args.at ∙ simp (eq-eqb _ _ c.in-10.is))
 
 pub returns-in-45 : goal.returns-in-45
-returns-in-45 c = sym (ends_at c.args.text.now c.args.at ∙ simp (c.in-45.is, c.byte.ensures))
+returns-in-45 c = sym (simp (one_at 10 refl c.args.text.now c.args.at, c.in-45.is, ← c.starts_with.ensures))
 
 pub returns-in_default : goal.returns-in_default
 returns-in_default c =

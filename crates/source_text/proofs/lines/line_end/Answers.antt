@@ -1,28 +1,24 @@
--- `line_end` meets its contract. The loop's invariant: the line's end is as far from i as the end of the line that starts at i.
-use mathlib.Core.Path.{refl}
-use Rattle.source_text.proofs.Scans.{line_next, line_stop, line_end_lem}
+-- `line_end` meets its contract: the first line feed ends the line.
+use mathlib.Core.Path.{◌≡◌, refl, sym, ap, ◌∙◌}
+use Prim.Native.Nat.{◌-◌}
+use lib.ListN.{length, take, drop, length-drop}
+use Rattle.std.proofs.lemmas.List.{take_all}
+use Rattle.std.specs.Option.{unwrap_or}
 use borrow.Author.Rules.{rules}
+use borrow.Author.Tests.{tests}
 use native.Mathlib.Omega.{arith}
+use Rattle.std.proofs.lemmas.Iterator.{YieldsList-from_slice, IsFirst-from_position, index_from_first}
+use Rattle.source_text.specs.Bytes.{up_to}
+use Rattle.source_text.specs.Lines.{line_of}
+use Rattle.source_text.proofs.Scans.{line_ends, line_goes_on}
 use Rattle.source_text.proofs.lines.line_end.Goals as goal
 
-pub loop-i-init : goal.loop-i-init
-loop-i-init c = (search rules, search rules, refl)
-
-pub returns-then-text-i-eq-LINE_FEED : goal.returns-then-text-i-eq-LINE_FEED
-returns-then-text-i-eq-LINE_FEED c =
-    let loop = c.loop-i in
-    let args = c.args in
-    let loop-test = c.loop-i-test in
-    let if1 = c.if-text-i-eq-LINE_FEED in
-    omega (arith, loop.invariant.2, line_stop args.text.now loop.i loop-test.true if1.true)
-
-pub loop-i-preserved : goal.loop-i-preserved
-loop-i-preserved c =
-    let loop = c.loop-i in
-    let args = c.args in
-    let loop-test = c.loop-i-test in
-    let if1 = c.if-text-i-eq-LINE_FEED in
-    (omega arith, omega arith, omega (arith, loop.invariant.2, line_next args.text.now loop.i loop-test.true if1.false))
-
 pub returns : goal.returns
-returns c = omega (arith, c.loop-i.invariant.2, line_end_lem c.args.text.now c.loop-i.i c.loop-i-test.false)
+unfolding line_of up_to
+returns c =
+    let rest = drop c.args.at c.args.text.now in
+    let full : take (length c.args.text.now - c.args.at) rest ≡ rest = take_all _ _ (simp length-drop (omega arith)) in
+    let first = IsFirst-from_position _ _ _ (λ x. x ≡ 10) (λ x. x ≡ 10 → ⊥) c.position.ensures.ran (YieldsList-from_slice rest (c.iter.ensures.rest ∙ full)) (λ x q k. search (rules, tests)) (λ x q k. search (rules, tests)) in
+    let ends = index_from_first (λ s. length (line_of s)) (λ x. x ≡ 10) (λ x. x ≡ 10 → ⊥) refl line_ends line_goes_on rest c.position.result first in
+    let w : c.unwrap_or.result ≡ length (line_of rest) = c.unwrap_or.ensures ∙ ap (λ l. unwrap_or c.position.result (length l)) full ∙ sym ends in
+    omega arith

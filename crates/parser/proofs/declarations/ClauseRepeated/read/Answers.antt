@@ -1,5 +1,5 @@
 -- A clause is read as its contract says: what is read at each place is said by ClauseLaws.
-use mathlib.Core.Path.{sym, ap, ◌∙◌}
+use mathlib.Core.Path.{refl, sym, ap, ◌∙◌}
 use native.Mathlib.Omega.{arith}
 use Rattle.term_parser.specs.Parsing.{last_line}
 use Rattle.term_parser.specs.Steps.{step}
@@ -32,8 +32,8 @@ app-requires c = room_along (after_arrow c.args.input.text.now c.args.input.toke
 pub returns-in_err-body : goal.returns-in_err-body
 returns-in_err-body c = rw (exits_maybe _ _ c.in_err-body.was c.from_residual-in_err-body.ensures.1) (body_stops c.args.input.text.now c.args.input.tokens.now c.requires (sym (ap (λ t. t.kind) c.peek.ensures) ∙ c.if-peek-ne-BAR.false) c.patterns.ensures (ap step c.in_ok-list.was) c.patterns.auto.out c.sign.ensures (ap step c.in_ok-arrow.was) c.app.ensures (stopped_err _ c.in_err-body.was))
 
-pub put-requires : goal.put-requires
-put-requires c = let a = after_body c.args.input.text.now c.args.input.tokens.now c.requires (sym (ap (λ t. t.kind) c.peek.ensures) ∙ c.if-peek-ne-BAR.false) c.patterns.ensures (ap step c.in_ok-list.was) c.patterns.auto.out c.sign.ensures (ap step c.in_ok-arrow.was) c.app.ensures (ap step c.in_ok-body.was) c.app.auto.out in omega (arith, c.requires.lent, c.requires.below, bar_there c.args.input.text.now c.args.input.tokens.now c.requires (sym (ap (λ t. t.kind) c.peek.ensures) ∙ c.if-peek-ne-BAR.false), a.long)
+pub bounds-out-from : goal.bounds-out-from
+bounds-out-from c = let a = after_body c.args.input.text.now c.args.input.tokens.now c.requires (sym (ap (λ t. t.kind) c.peek.ensures) ∙ c.if-peek-ne-BAR.false) c.patterns.ensures (ap step c.in_ok-list.was) c.patterns.auto.out c.sign.ensures (ap step c.in_ok-arrow.was) c.app.ensures (ap step c.in_ok-body.was) c.app.auto.out in omega (arith, c.requires.lent, c.requires.below, bar_there c.args.input.text.now c.args.input.tokens.now c.requires (sym (ap (λ t. t.kind) c.peek.ensures) ∙ c.if-peek-ne-BAR.false), a.long)
 
 pub returns : goal.returns
-returns c = clause_ends c.args.input.text.now c.args.input.tokens.now c.requires (sym (ap (λ t. t.kind) c.peek.ensures) ∙ c.if-peek-ne-BAR.false) c.patterns.ensures (ap step c.in_ok-list.was) c.patterns.auto.out c.sign.ensures (ap step c.in_ok-arrow.was) c.app.ensures (ap step c.in_ok-body.was) c.app.auto.out c.put.ensures
+returns c = clause_ends c.args.input.text.now c.args.input.tokens.now c.requires (sym (ap (λ t. t.kind) c.peek.ensures) ∙ c.if-peek-ne-BAR.false) c.patterns.ensures (ap step c.in_ok-list.was) c.patterns.auto.out c.sign.ensures (ap step c.in_ok-arrow.was) c.app.ensures (ap step c.in_ok-body.was) c.app.auto.out refl

@@ -2,18 +2,13 @@
 -- variables that the table records, comes to meeting the whole. What falls: words left to spend, arguments left on the stack, rows to close.
 use mathlib.Core.Path.{refl, ap}
 use Rattle.std.specs.Option.{is_some}
-use Rattle.meeting.proofs.Turns.{few, long, turn_variable, turn_over, less_enter, turn_enter, turn_close, less_next, turn_next}
+use Rattle.meeting.proofs.Turns.{turn_start, turn_variable, turn_over, less_enter, turn_enter, turn_close, less_next, turn_next}
 use native.Mathlib.Omega.{arith}
-use Rattle.meeting.proofs.meet.Goals as goal
-
-pub place_variable-given-requires : goal.place_variable-given-requires
-place_variable-given-requires c =
-    let h = rw c.in-Some.is at c.loop-waiting.invariant in
-    (let a = long h in let b = c.if-next-lt-PATTERN_ROOM.true in omega arith, few h)
+use Rattle.meeting.proofs.Places.meet.Goals as goal
 
 pub loop-waiting-preserved-then-next-lt-PATTERN_ROOM : goal.loop-waiting-preserved-then-next-lt-PATTERN_ROOM
 loop-waiting-preserved-then-next-lt-PATTERN_ROOM c =
-    turn_variable (rw c.in-Some.is at c.loop-waiting.invariant) refl c.if-next-lt-PATTERN_ROOM.true _ _ c.place_variable-given.ensures
+    turn_variable (rw c.in-Some.is at c.loop-waiting.invariant) refl c.if-next-lt-PATTERN_ROOM.true _ _ c.give.ensures
 
 pub returns-then-most-spent : goal.returns-then-most-spent
 returns-then-most-spent c =
@@ -22,7 +17,6 @@ returns-then-most-spent c =
       exceeded = λ l. refl;
       answered = λ l. let z : ⊥ = omega arith in absurd z;
       recorded = λ l. let z : ⊥ = omega arith in absurd z;
-      kept = c.loop-waiting.invariant.kept;
     }
 
 pub loop-waiting-smaller-else-next-lt-PATTERN_ROOM : goal.loop-waiting-smaller-else-next-lt-PATTERN_ROOM
@@ -42,3 +36,6 @@ loop-waiting-smaller c = less_next c.loop-waiting.invariant (ap is_some c.in-Non
 
 pub loop-waiting-preserved : goal.loop-waiting-preserved
 loop-waiting-preserved c = turn_next c.loop-waiting.invariant (ap is_some c.in-None.is) c.if-depth-eq0.false c.if-left-eq0.false
+
+pub loop-waiting-init : goal.loop-waiting-init
+loop-waiting-init c = turn_start (omega arith) c.requires

@@ -1,0 +1,13 @@
+-- `clear_written` meets its contract.
+use Rattle.std.proofs.Common.{refl, []}
+use Rattle.deepening.proofs.clearing.clear_written.Goals as goal
+
+pub returns-clause-cleared : goal.returns-clause-cleared
+returns-clause-cleared c = record {
+  words = c.clear.ensures 0;
+  rows = c.clear-2.ensures [];
+  bindings = refl;
+  links = refl;
+  marks = refl;
+  stack = refl;
+}
