@@ -1,6 +1,5 @@
 -- `inst` meets its contract. The loop's invariant: writing the copied words from i on completes the copy.
-use mathlib.Core.Path.{◌≡◌, refl, sym, ◌∙◌}
-use Prim.Native.Nat.{◌+◌}
+use mathlib.Core.Path.{refl, sym, ◌∙◌}
 use lib.ListN.{length-set}
 use Rattle.arena.specs.Copies.{copied}
 use Rattle.arena.specs.CopyLaws.{copied_length, copied_at}
@@ -8,18 +7,6 @@ use Rattle.arena.proofs.Writing.{write_step}
 use borrow.Author.Rules.{rules}
 use native.Mathlib.Omega.{arith}
 use Rattle.arena.proofs.inst.Goals as goal
-
-pub loop-i-init : goal.loop-i-init
-loop-i-init c = (
-  refl,
-  refl,
-  refl,
-  refl,
-  refl,
-  refl,
-  (let e : c.args.used + 0 ≡ c.args.used = omega arith in
-      rw e),
-)
 
 pub loop-i-preserved : goal.loop-i-preserved
 loop-i-preserved c =

@@ -105,15 +105,15 @@ loop-pending-preserved-then-taken-arity c =
     rw (c.argument.ensures, c.argument-then-taken-arity.ensures)
     (turn_next c.loop-pending.invariant (ap is_some c.in-None.is) c.if-d-eq0.false _ _ _ refl refl refl (rw c.arity.ensures at c.if-taken-arity.true))
 
-pub link-requires : goal.link-requires
-link-requires c =
+pub link-requires-clause-fact_2 : goal.link-requires-clause-fact_2
+link-requires-clause-fact_2 c =
     let h = c.loop-pending.invariant in
     let nodes = last_nodes h (ap is_some c.in-None.is) c.if-d-eq0.false _ _ _ refl refl refl in
     let a = nodes.1.0 in
     let b = nodes.1.1 in
     let low = h.fixed.low in
     let long = links_long h in
-    record { fact_1 = h.linking.falls; fact_2 = (omega arith, omega arith, link_room h (ap is_some c.in-None.is) c.if-d-eq0.false _ _ _ refl refl refl, omega arith, omega arith) }
+    (omega arith, omega arith, link_room h (ap is_some c.in-None.is) c.if-d-eq0.false _ _ _ refl refl refl, omega arith, omega arith)
 
 pub loop-pending-smaller : goal.loop-pending-smaller
 loop-pending-smaller c =
