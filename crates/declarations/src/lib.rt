@@ -197,11 +197,8 @@ fn declare_clause(
             room: m,
         },
     };
-    let title = Title {
-        start: word.start,
-        size: word.size,
-        clause: number as u32 + 1,
-    };
+    let clause = number as u32 + 1;
+    let title = Title { word, clause };
     let terms = SourceTerms {
         text,
         rows,

@@ -50,7 +50,7 @@ told-requires c =
     let room = c.room-m in
     let enter-rule = c.enter_rule-outcome in
     let st = pre.stand (omega (arith, if1.false)) in
-    told_by pre.ready.3 (record { start = column (row_at args.source.rows.now (args.source.at + 1)) 1; size = column (row_at args.source.rows.now (args.source.at + 1)) 2; clause = 0 }) (λ (F : List Symbol) (m : ℕ). rule_of F (name_at args.source.text.now args.source.rows.now (args.source.at + 1)) (spelled args.source.text.now (all_of (front_of (st.0 ∷ st.1)))) (spelled args.source.text.now (last_judgment st.0 st.1)) m) room.result room.ensures (enter-rule.new.rules) (enter-rule.new.words) enter-rule.result ((rw known at enter-rule.ensures).same st.0 st.1 st.2 st.3 st.4).1
+    told_by pre.ready.3 (record { word = record { start = column (row_at args.source.rows.now (args.source.at + 1)) 1; size = column (row_at args.source.rows.now (args.source.at + 1)) 2 }; clause = 0 }) (λ (F : List Symbol) (m : ℕ). rule_of F (name_at args.source.text.now args.source.rows.now (args.source.at + 1)) (spelled args.source.text.now (all_of (front_of (st.0 ∷ st.1)))) (spelled args.source.text.now (last_judgment st.0 st.1)) m) room.result room.ensures (enter-rule.new.rules) (enter-rule.new.words) enter-rule.result ((rw known at enter-rule.ensures).same st.0 st.1 st.2 st.3 st.4).1
 
 pub returns-clause-declared : goal.returns-clause-declared
 returns-clause-declared c =
@@ -63,5 +63,5 @@ returns-clause-declared c =
     record {
       none = λ z. absurd (if1.false z);
       same = λ limit ts s ready inside j js q st kn. let h = (rw known at enter-rule.ensures).same j js q st kn in
-          advanced_by ready (record { start = column (row_at args.source.rows.now (args.source.at + 1)) 1; size = column (row_at args.source.rows.now (args.source.at + 1)) 2; clause = 0 }) inside (omega arith) (enter-rule.new.rules) (enter-rule.new.words) (enter-rule.auto.rules) (enter-rule.auto.words) (λ (F : List Symbol) (m : ℕ). rule_of F (name_at args.source.text.now args.source.rows.now (args.source.at + 1)) (spelled args.source.text.now (all_of (front_of (j ∷ js)))) (spelled args.source.text.now (last_judgment j js)) m) room.result room.ensures q enter-rule.result told.result h.0 h.1 told.ensures;
+          advanced_by ready (record { word = record { start = column (row_at args.source.rows.now (args.source.at + 1)) 1; size = column (row_at args.source.rows.now (args.source.at + 1)) 2 }; clause = 0 }) inside (omega arith) (enter-rule.new.rules) (enter-rule.new.words) (enter-rule.auto.rules) (enter-rule.auto.words) (λ (F : List Symbol) (m : ℕ). rule_of F (name_at args.source.text.now args.source.rows.now (args.source.at + 1)) (spelled args.source.text.now (all_of (front_of (j ∷ js)))) (spelled args.source.text.now (last_judgment j js)) m) room.result room.ensures q enter-rule.result told.result h.0 h.1 told.ensures;
     }
