@@ -305,6 +305,7 @@ fn declare_def(
 }
 
 // One declaration, by the keyword in its row. An `#eval` waits.
+// Stays: the parser's rows are numbers in lent buffers; an enum of keywords would be made by a `match` on the same six names, only to be matched again here.
 pub fn declare(
     source: Source,
     sorts: &mut [SortRow],

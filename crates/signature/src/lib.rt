@@ -105,7 +105,8 @@ pub fn put_places<const N: usize>(rows: &[[u32; N]], at: usize, places: &mut [So
     }
 }
 
-// Does no name serve twice among sorts and symbols? Their places are sorted by their names: for k names some k times log2 k comparisons, each at most as long as the shorter name.
+// Does no name serve twice among sorts and symbols? Their places are sorted by their names: for k names some k times log2 k comparisons, each at most as
+// long as the shorter name.
 fn are_names_distinct(text: &[u8], sorts: &[SortRow], symbols: &[SymbolRow]) -> bool
     requires { (length sorts.now ≤ 256) × (length symbols.now ≤ 1024) }
     ensures { Tells result (Distinct (names_of (sorts_of text.now sorts.now (length sorts.now)) (symbols_of text.now symbols.now (length symbols.now)))) }
