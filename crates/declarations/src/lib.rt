@@ -45,7 +45,7 @@ pub struct Source<'a> {
 }
 
 // What rules are written to: their rows and words, and scratch in which clauses are flattened.
-// Stays: beside the symbols, which are read while a rule is written, and the counts, which are answered anew.
+// Stays: symbols go beside it, as they are read while a rule is written, and so do the counts, of which each declaration answers new ones.
 #[derive(Drop)]
 pub struct Store<'a> {
     pub rules: &'a mut [RuleRow],

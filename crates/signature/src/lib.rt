@@ -127,7 +127,7 @@ fn are_numbers_formed(sorts: u32, output: u32, inputs: u32, free: u32) -> bool
 }
 
 // A function has no output, and its last input is its result; only a function has clauses.
-// Stays: a `match` on the number of a mark, which C callers lend, by the names of the two marks.
+// Stays: C callers lend the mark as a number that may be neither; an enum would be made by the same `match`, only to be matched again here.
 fn is_mark_formed(output: u32, mark: u32, clauses: u32, inputs: u32) -> bool
     ensures { Tells result (MarkFormed output mark clauses inputs) }
 {

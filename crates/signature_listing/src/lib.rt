@@ -274,7 +274,7 @@ fn list_evals(evals: &[EvalRow]) {
 }
 
 // The first rows, so many as are in use, or all where there are not as many.
-// Stays: it is what makes the used part of a table and its count.
+// Stays: this is where the part of a table in use is made from the table and its count.
 fn used<T>(rows: &[T], count: u32) -> &[T] {
     &rows[..rows.len().min(count as usize)]
 }
