@@ -25,7 +25,6 @@ use Rattle.term_check.specs.TermLaws.{term_stands}
 use Rattle.tree_rows.specs.Trees.{Lists}
 use Rattle.tree_rows.proofs.TreeLaws.{lists_grown, lists_same}
 use Rattle.evaluation.specs.Expressions.{Evaluated, failed, evaluated, evaluate_of}
-use Rattle.evaluation.proofs.CountLaws.{evaluation_spends}
 use Rattle.clause_matching.specs.Building.{Stands as Built}
 use Rattle.function_calls.specs.Calls.{tree_rows, Working}
 use Rattle.expressions.specs.Terms.{expressed, ExpressionAsked, Evaluates, ExpressionAnswered}
@@ -69,9 +68,6 @@ module _ {A : Type 0} (z : A) where
   cleared_below d (suc n) (x ∷ xs) (suc i) l m = ap (λ (ys : List A). get_or ys (suc i) d) (cleared_step n x xs) ∙ cleared_below d n xs i (omega arith) (omega arith)
 
 -- Buffers that were lent on hold what the store holds that they were lent in.
-pub given_enough : {n : ℕ} {rows rows' : Rows} → n ≤ length rows' → rows ≡ rows' → n ≤ length rows
-given_enough h e = rw e h
-
 pub given_wiped : {b : Results} {words words' links links' : List ℕ} {trees trees' : Rows} → b ≡ wiped (record { words = words; links = links; trees = trees })
     → words ≡ words' → links ≡ links' → trees ≡ trees' → b ≡ wiped (record { words = words'; links = links'; trees = trees' })
 given_wiped h e f g = rw (← e, ← f, ← g) h
@@ -220,15 +216,6 @@ module _ {text : List ℕ} {limits : Limits} {sg : SignatureStore} {rows : Rows}
         found (evaluate_of (most_words limits) (signature_of text sg) (written_in h.readable)) h.readable.next value next calls used b.words b.trees words' trees' (most_words limits)
         (subst (λ (r : Result Expressed Refusal). Evaluates (evaluate_of (most_words limits) (signature_of text sg) (written_in h.readable)) h.readable.next r b.words b.trees words' trees' 0 (most_words limits) 0)
         q (evaluates h))
-
-    -- There are rows enough for its calls.
-    pub rows_enough : calls ≤ length trees'
-    rows_enough =
-        let f = ways h₀ in
-        let (a, few, c) = evaluation_spends (most_words limits) (signature_of text sg) (written_in h₀.readable) f.result f.made (record { calls = calls; words = used }) f.comes in
-        let s = x.spends value next calls used q in
-        let z = (enough (most_words limits) (length b.words) (length b.links) (length b.trees) h₀.lent).trees_enough in
-        omega arith
 
     pub left_valued : {words'' links'' given_words : List ℕ} {trees'' given_trees : Rows}
         → words'' ≡ cleared_from 0 used given_words → trees'' ≡ cleared_from zero_tree calls given_trees

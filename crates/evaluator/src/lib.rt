@@ -105,8 +105,8 @@ pub fn evaluate_listed(
         }
         Ok(expressed) => {
             let spent = expressed.spent;
-            arena::clear(buffers.words, spent.used);
-            load_storage::clear_rows(buffers.trees, spent.calls as usize);
+            slices::clear_from(buffers.words, spent.used as usize, 0);
+            slices::clear_from(buffers.trees, spent.calls as usize, [0; 8]);
             Ok(Evaluation {
                 value: expressed.value,
                 calls: spent.calls,

@@ -1,25 +1,17 @@
 -- `evaluate_listed` meets its contract: the expression is asked over the words in use, and what it leaves is cleared behind. The buffers then hold what the
 -- store holds that they were lent in.
-use native.Mathlib.Omega.{arith}
 use borrow.Author.Rules.{rules}
 use mathlib.Core.Path.{refl, ap}
 use Rattle.words.specs.declared.Limits.{Limits}
 use Rattle.evaluator.proofs.TestingLaws.{symbols_within}
 use Rattle.evaluator.proofs.PartLaws.{part_asked, part_answered}
-use Rattle.evaluator.proofs.LeavingLaws.{expression_asked, rows_enough, left_refused, left_valued, given_enough, given_wiped}
+use Rattle.evaluator.proofs.LeavingLaws.{expression_asked, left_refused, left_valued, given_wiped}
 use Rattle.evaluator.proofs.evaluate_listed.Goals as goal
 
 pub expression-requires : goal.expression-requires
 expression-requires c =
     part_asked _ _ _ (symbols_within c.requires.readable)
     (expression_asked c.requires _ (ap (λ (l : Limits). l.words) c.capped-most.ensures) _ _ (c.fill.ensures.after (λ y e. e)) refl)
-
-pub clear_rows-requires : goal.clear_rows-requires
-clear_rows-requires c =
-    let l = c.expression.ensures.lent in
-    let enough = rows_enough c.requires _ (ap (λ (l : Limits). l.words) c.capped-most.ensures) (c.fill.ensures.after (λ y e. e))
-    (part_answered _ _ _ (symbols_within c.requires.readable) c.expression.ensures.answered) _ _ _ _ c.in-Ok.is l.trees_kept in
-    (omega arith, (given_enough enough (search (rules, l.trees)), omega arith))
 
 pub returns-in-Err-clause-left : goal.returns-in-Err-clause-left
 returns-in-Err-clause-left c =
@@ -33,4 +25,4 @@ returns-in-Ok-clause-left c =
     let l = c.expression.ensures.lent in
     left_valued c.requires _ (ap (λ (l : Limits). l.words) c.capped-most.ensures) (c.fill.ensures.after (λ y e. e))
     (part_answered _ _ _ (symbols_within c.requires.readable) c.expression.ensures.answered) _ _ _ _ c.in-Ok.is l.trees_kept
-    c.clear.ensures c.clear_rows.ensures (search (rules, l.words)) (search (rules, l.links)) (search (rules, l.trees))
+    c.clear_from.ensures c.clear_from-in-Ok.ensures (search (rules, l.words)) (search (rules, l.links)) (search (rules, l.trees))
