@@ -9,7 +9,7 @@ mod copies; // one word of a copy
 mod form; // the tests on one word
 mod links; // nodes that have to denote the same term
 
-ghost use Rattle.std.specs.Prelude.{◌≡◌, ◌∷◌, ◌++◌, ◌+◌, ◌-◌, ◌≤◌, length, take, replicate};
+ghost use Rattle.std.specs.Prelude.{◌≡◌, ◌∷◌, ◌+◌, ◌≤◌, length};
 ghost use Rattle.std.proofs.lemmas.List.Edits.{sets};
 ghost use Rattle.arena.specs.Cells.{headers, cells};
 ghost use Rattle.arena.specs.Copies.{copied, Copyable};
@@ -40,7 +40,7 @@ pub struct Pattern<'a> {
 }
 
 // Writes a node, its header and its arguments, from the address `used` on.
-// Stays: it is written behind the words in use, so that those lent go on past them.
+// Stays: lent the words from `used` on alone, each caller would join what comes back to the words before, which its contract speaks of too.
 pub fn push_node(words: &mut [u32], used: u32, header: u32, arguments: &[u32])
     // The node has room: the caller counts words before it writes.
     requires { used + 1 + length arguments.now ≤ length words.old }
@@ -51,6 +51,7 @@ pub fn push_node(words: &mut [u32], used: u32, header: u32, arguments: &[u32])
     words[at + 1..at + 1 + arguments.len()].copy_from_slice(arguments);
 }
 
+// Stays: lent the words from `used` on alone, each caller would join what comes back to the words before, which its contract speaks of too.
 // Copies a rule's words to the address `used`, with new variables from `counter` on.
 pub fn inst(pattern: Pattern, words: &mut [u32], room: u32, used: u32, counter: u32)
     // The caller counts words and variables before it copies, and a signature in form has rules whose words refer to nothing outside.
@@ -102,14 +103,6 @@ pub fn check_words(terms: Terms, from: u32, arities: &[u32]) -> bool
         left -= 1;
     }
     left == 0
-}
-
-// Zeroes the words from the address `from` on.
-pub fn clear(words: &mut [u32], from: u32)
-    ensures { words.new ≡ take from words.old ++ replicate (length words.old - from) 0 }
-{
-    let start = words.len().min(from as usize);
-    words[start..].fill(0);
 }
 
 // Whether two references denote the same term, in one pass from the greater one's address down to the least that is linked; the links are zero before and after.
