@@ -273,6 +273,7 @@ fn keep(
 }
 
 // Where a rule is entered: its number, and the space for its words.
+// Stays: words and rows go beside it; a struct of the two would be made anew from four buffers at each call, and each contract would say they come back.
 #[derive(Clone, Copy)]
 pub struct RulePlace {
     pub number: usize,
