@@ -1,5 +1,4 @@
 -- `declare_rule` meets its contract: the rule is entered with the room that is left.
-use mathlib.Core.Path.{refl}
 use Prim.Native.Nat.{ℕ, ◌+◌}
 use mathlib.Core.List.{List, ◌∷◌}
 use Rattle.term_parser.specs.Source.{all_of}
@@ -13,14 +12,6 @@ use Rattle.declarations.proofs.UsedLaws.{storage_used}
 use Rattle.declarations.proofs.FilledLaws.{storage, told_by, advanced_by}
 use native.Mathlib.Omega.{arith}
 use Rattle.declarations.proofs.declare_rule.Goals as goal
-
-pub returns-then-k-eq0-clause-declared : goal.returns-then-k-eq0-clause-declared
-returns-then-k-eq0-clause-declared c =
-    record {
-      none = λ z. refl;
-      same = λ limit ts s ready inside j js q st kn. absurd (let z = c.if-k-eq0.true in
-          omega arith);
-    }
 
 pub enter_rule-outcome-requires : goal.enter_rule-outcome-requires
 enter_rule-outcome-requires c =
