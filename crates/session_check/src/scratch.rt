@@ -6,6 +6,7 @@ use arena::Terms;
 use checks::are_zero;
 
 // Are links, marks and stack zero, and long enough for the words in use?
+// Stays: all three are only read here, but the caller marks the second afterwards, so that a struct of the three would be made for this one call.
 pub fn is_scratch_zero(
     terms: Terms,
     links: &[[u32; 2]],
