@@ -54,6 +54,7 @@ pub struct Store<'a> {
 
 impl Store<'_> {
     // The frame at a number.
+    #[tactic(auto, unfolding(crate::specs::State::frame_at))]
     fn frame(&self, at: u32) -> Frame
         requires { at < length self.now.frames.now }
         ensures { result ≡ frame_at self.now.frames.now at }
