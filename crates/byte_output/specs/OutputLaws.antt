@@ -3,7 +3,8 @@ use Rattle.std.specs.Prelude.{ℕ, suc, ◌+◌, ◌≤◌, ◌<◌, ◌≡◌, 
 use Rattle.std.proofs.Common.{arith, sym, ap, ◌∙◌, length-append, take-suc, length-take-le}
 use Rattle.std.proofs.lemmas.List.Edits.{sets}
 use Rattle.std.proofs.Math.Seq.{length-sets}
-use Rattle.byte_output.specs.Output.{Written}
+use Rattle.byte_output.specs.declared.Output.{Output}
+use Rattle.byte_output.specs.Output.{Written, IsWritten}
 
 pub sets_append : (l : List ℕ) (i : ℕ) (xs ys : List ℕ) → sets (sets l i xs) (i + length xs) ys ≡ sets l i (xs ++ ys)
 sets_append l i [] ys = let e : i + 0 ≡ i = omega arith in ap (λ (k : ℕ). sets l k ys) e
@@ -40,3 +41,25 @@ room_first xs ys at room r = let e = length-append xs ys in omega arith
 pub room_after : {out : List ℕ} {at : ℕ} {xs : List ℕ} {next : ℕ} {out' : List ℕ} (ys : List ℕ) → Written out at xs next out' → at + length (xs ++ ys) ≤ length out
     → next + length ys ≤ length out'
 room_after {xs = xs} ys w r = let e = length-append xs ys in let p = w.place in let k = written_length w in omega arith
+
+-- The same of outputs.
+module _ {o o' : Output} {xs : List ℕ} (v : IsWritten o o' xs) where
+  -- The buffer keeps its length.
+  pub length_kept : length o'.bytes.now ≡ length o.bytes.now
+  length_kept = written_length v.written
+
+  -- Where there was room for them and others, there is room for the others.
+  pub room_left : (ys : List ℕ) → o.at + length (xs ++ ys) ≤ length o.bytes.now → o'.at + length ys ≤ length o'.bytes.now
+  room_left ys r = room_after ys v.written r
+
+  -- Other bytes written behind them.
+  pub written_on : {o'' : Output} {ys : List ℕ} → IsWritten o' o'' ys → IsWritten o o'' (xs ++ ys)
+  written_on w = record { written = and_then v.written w.written; lent = w.lent ∙ v.lent }
+
+  -- The same bytes, said otherwise.
+  pub said_as : {ys : List ℕ} → xs ≡ ys → IsWritten o o' ys
+  said_as e = record { written = written_as v.written e; lent = v.lent }
+
+  -- What the buffer holds when it is given back.
+  pub written_in : {out' : List ℕ} → out' ≡ o'.bytes.now → Written o.bytes.now o.at xs o'.at out'
+  written_in e = record { buffer = e ∙ v.written.buffer; place = v.written.place }

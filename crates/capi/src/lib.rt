@@ -27,9 +27,6 @@ use unifier::Workspace;
 // A refusal is told as so many times its number: more than any count and any line.
 const REFUSAL: u64 = 0x1_0000_0000;
 
-// Refusal 1: what is lent is too short or not in form.
-const REFUSED: u64 = REFUSAL;
-
 // Limits of 0, for those that a function does not read.
 const NO_LIMITS: words::Limits = words::Limits {
     text: 0,
@@ -202,7 +199,7 @@ pub fn horn_load(
     ensures { LoadedAs text.now bytes nodes (record { tokens = tokens.old; rows = rows.old; calls = calls.old; sorts = sorts.old; symbols = symbols.old; rules = rules.old; words = words.old; evals = evals.old }) counts.old result (record { tokens = tokens.new; rows = rows.new; calls = calls.new; sorts = sorts.new; symbols = symbols.new; rules = rules.new; words = words.new; evals = evals.new }) counts.new }
 {
     if counts.len() < 5 {
-        return REFUSED;
+        return packed_refusal(Refusal::Storage);
     }
     let limits = words::Limits {
         text: bytes,
@@ -256,11 +253,11 @@ pub fn horn_check_signature(
         words.now counts.now result }
 {
     if counts.len() < 4 {
-        return REFUSED;
+        return packed_refusal(Refusal::Storage);
     }
     let signature = stored_signature(sorts, symbols, rules, words, counts);
     if !signature::check_signature(text, signature) {
-        return REFUSED;
+        return packed_refusal(Refusal::Storage);
     }
     0
 }
@@ -289,10 +286,10 @@ pub fn horn_evaluate(
         (record { words = words.new; links = links.new; trees = trees.new }) results.new }
 {
     if counts.len() < 4 {
-        return REFUSED;
+        return packed_refusal(Refusal::Storage);
     }
     if results.len() < 3 {
-        return REFUSED;
+        return packed_refusal(Refusal::Storage);
     }
     let limits = words::Limits {
         words: limit,
@@ -337,7 +334,7 @@ pub fn horn_is_forward_call(
         counts.now rows.now at result }
 {
     if counts.len() < 4 {
-        return REFUSED;
+        return packed_refusal(Refusal::Storage);
     }
     let signature = stored_signature(sorts, symbols, rules, pattern, counts);
     let term = WrittenTerm { text, rows, at };
@@ -451,13 +448,13 @@ pub fn horn_prove(
         (record { links = links.new; marks = marks.new; stack = stack.new }) results.new }
 {
     if counts.len() < 4 {
-        return REFUSED;
+        return packed_refusal(Refusal::Storage);
     }
     if session.len() < 4 {
-        return REFUSED;
+        return packed_refusal(Refusal::Storage);
     }
     if results.len() < 6 {
-        return REFUSED;
+        return packed_refusal(Refusal::Storage);
     }
     let query = Query {
         signature: stored_signature(sorts, symbols, rules, pattern, counts),
@@ -504,7 +501,7 @@ pub fn horn_unify(
         bound,
     };
     if !checks::is_ready(terms, held, links, marks, stack, left, right) {
-        return REFUSED;
+        return packed_refusal(Refusal::Storage);
     }
     let mut workspace = Workspace {
         links,

@@ -80,4 +80,4 @@ NextIs q (Ok r) = r.next ≡ q
 pub record ClauseEntered (text : List ℕ) (rows : Rows) (p n : ℕ) (symbols : List Symbol) (title : Title) (w : List ℕ) (u room : ℕ) (rules : Rows) (number : ℕ)
     (r : Result EnteredRule Refusal) (w' : List ℕ) (rules' : Rows) : Type 0 where
   pub same : (ts : Written many) (q : ℕ) → parsed.Stands text rows p ts q → size ts ≡ n → (t : Written one) (q' : ℕ) → parsed.Stands text rows q t q' → (k : ℕ) → title.clause ≡ suc k
-      → NextIs q' r × Entering text (arities_of symbols) title w u room rules number w' rules' (entering number (clause_of symbols (part_of text title.start title.size) k ts t room)) (entered r)
+      → NextIs q' r × Entering text (arities_of symbols) title w u room rules number w' rules' (entering number (clause_of symbols (part_of text title.word.start title.word.size) k ts t room)) (entered r)

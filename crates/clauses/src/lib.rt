@@ -70,11 +70,7 @@ pub fn clause(
     ensures { ClauseEntered clause.entry.source.text.now clause.entry.source.rows.now clause.entry.at clause.entry.n (symbols_of clause.entry.source.text.now clause.entry.source.symbols.now (length clause.entry.source.symbols.now)) title words.old place.space.used place.space.room rules.old place.number result words.new rules.new }
 {
     let SourceClause { source, at, n } = clause;
-    let word = Word {
-        start: title.start,
-        size: title.size,
-    };
-    let right = heading(source.rows, at, n, word, out);
+    let right = heading(source.rows, at, n, title.word, out);
     let from = Place {
         next: right,
         top: right - at + 1,

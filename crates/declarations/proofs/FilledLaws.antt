@@ -101,9 +101,9 @@ module _ {text : List ℕ} {limit : ℕ} {ts : List Title} {s : Signature} {symb
   told_by title g m e rules' words' o h =
       subst (λ (x : ℕ). Told st x o) (sym e) (told_fits title rules' words' (entering st.rules (g s.symbols (min 1024 st.left))) o (as_given title g m e rules' words' o h))
 
-  module _ (title : Title) (inside : NamePlace text title.start title.size) (clause : title.clause ≤ st.rules + 1) (rules' : Rows) (words' : List ℕ) (lentRules : length rules' ≡ length rules) (lent_words : length words' ≡ length words) where
+  module _ (title : Title) (inside : NamePlace text title.word.start title.word.size) (clause : title.clause ≤ st.rules + 1) (rules' : Rows) (words' : List ℕ) (lentRules : length rules' ≡ length rules) (lent_words : length words' ≡ length words) where
     -- The row of a rule with this title is named.
-    row_named : (row : List ℕ) → (column row 0 ≡ title.start) × (column row 1 ≡ title.size) × (column row 2 ≡ title.clause) → st.rules < 1024 → RuleNamed text row
+    row_named : (row : List ℕ) → (column row 0 ≡ title.word.start) × (column row 1 ≡ title.word.size) × (column row 2 ≡ title.clause) → st.rules < 1024 → RuleNamed text row
     row_named row h few = let e = h.2 in record { place = rw (h.0, h.1) inside; clause = omega arith }
 
     -- A rule entered behind the others is held.

@@ -45,7 +45,7 @@ pub struct Source<'a> {
 }
 
 // What rules are written to: their rows and words, and scratch in which clauses are flattened.
-// Stays: beside the symbols, which are read while a rule is written, and the counts, which are answered anew.
+// Stays: symbols go beside it, as they are read while a rule is written, and so do the counts, of which each declaration answers new ones.
 #[derive(Drop)]
 pub struct Store<'a> {
     pub rules: &'a mut [RuleRow],
@@ -197,11 +197,8 @@ fn declare_clause(
             room: m,
         },
     };
-    let title = Title {
-        start: word.start,
-        size: word.size,
-        clause: number as u32 + 1,
-    };
+    let clause = number as u32 + 1;
+    let title = Title { word, clause };
     let terms = SourceTerms {
         text,
         rows,
@@ -305,6 +302,7 @@ fn declare_def(
 }
 
 // One declaration, by the keyword in its row. An `#eval` waits.
+// Stays: the parser's rows are numbers in lent buffers; an enum of keywords would be made by a `match` on the same six names, only to be matched again here.
 pub fn declare(
     source: Source,
     sorts: &mut [SortRow],

@@ -34,7 +34,7 @@ use Rattle.search_machine.specs.declared.Allowed.{Allowed}
 use Rattle.search_machine.specs.declared.Machine.{Machine}
 use Rattle.search_machine.specs.declared.Mode.{Mode}
 use Rattle.search_machine.specs.declared.Mode.TheVariants.{Enter, Try, Fail, Proved, Over, Refused}
-use Rattle.deepening.specs.Clearing.{zero_row, Cleared}
+use Rattle.deepening.specs.Clearing.{zero_row}
 use Rattle.deepening.specs.Trees.{tree_rows, Nodes}
 use Rattle.deepening.specs.Bounds.{Asking, bounded_of, Extended, Bounded, Wiped, Leaves, Left, Leaving}
 use Rattle.deepening.specs.ClearingLaws.{cleared_back, cleared_from_lem, kept_part}
@@ -56,20 +56,17 @@ module _ {F F' : Rows} {W W' : List ℕ} {T T' : Rows} {m : Machine} {d t u : �
   left_at : (r : Result Came Refusal) (k : Mode) → m.mode ≡ k → Leaves F F' W W' T T' m d t u r k → Left F F' W W' T T' m d t u r
   left_at r k e l = record { is = subst (λ (k : Mode). Leaves F F' W W' T T' m d t u r k) (sym e) l }
 
-  pub left_proved : {F₁ : Rows} → m.mode ≡ Proved → F₁ ≡ tree_rows d F m.frames → T' ≡ T → Cleared 0 0 W W' m.used m.top
-      → Cleared [] zero_row F₁ F' m.frames m.high → Left F F' W W' T T' m d t u
-      (Ok (Found m.frames m.steps m.counter m.bound m.used))
-  left_proved e f b w r =
+  pub left_proved : {F₁ : Rows} → m.mode ≡ Proved → F₁ ≡ tree_rows d F m.frames → T' ≡ T → Wiped F₁ F' W W' m m.used m.frames
+      → Left F F' W W' T T' m d t u (Ok (Found m.frames m.steps m.counter m.bound m.used))
+  left_proved e f b w =
       left_at (Ok (Found m.frames m.steps m.counter m.bound m.used)) Proved e
-      (refl, b, record { words = w; frames = subst (λ (B : Rows). Cleared [] zero_row B F' m.frames m.high) f r })
+      (refl, b, subst (λ (B : Rows). Wiped B F' W W' m m.used m.frames) f w)
 
-  pub left_over : m.mode ≡ Over → T' ≡ T → Cleared 0 0 W W' u m.top → Cleared [] zero_row F F' 0 m.high
-      → Left F F' W W' T T' m d t u (Ok (Failed m.steps m.cut m.counter))
-  left_over e b w r = left_at (Ok (Failed m.steps m.cut m.counter)) Over e (refl, b, record { words = w; frames = r })
+  pub left_over : m.mode ≡ Over → T' ≡ T → Wiped F F' W W' m u 0 → Left F F' W W' T T' m d t u (Ok (Failed m.steps m.cut m.counter))
+  left_over e b w = left_at (Ok (Failed m.steps m.cut m.counter)) Over e (refl, b, w)
 
-  pub left_refused : m.mode ≡ Refused → T' ≡ undone T t (m.bound - t) → Cleared 0 0 W W' u m.top → Cleared [] zero_row F F' 0 m.high
-      → Left F F' W W' T T' m d t u (Err OverLimit)
-  left_refused e b w r = left_at (Err OverLimit) Refused e (refl, b, record { words = w; frames = r })
+  pub left_refused : m.mode ≡ Refused → T' ≡ undone T t (m.bound - t) → Wiped F F' W W' m u 0 → Left F F' W W' T T' m d t u (Err OverLimit)
+  left_refused e b w = left_at (Err OverLimit) Refused e (refl, b, w)
 
 -- Other words that agree below those in use, and as many.
 well_kept : {a : Allowed} {W W' : List ℕ} {T : Rows} {c t u : ℕ} → Well a W T c t u → Same term_room (cells W) (cells W') u

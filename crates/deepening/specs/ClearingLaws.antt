@@ -1,5 +1,5 @@
 -- Laws of clearing: one element more, and what a list is of which all that was written is cleared.
-use Rattle.std.specs.Prelude.{ℕ, zero, suc, ◌+◌, ◌-◌, ◌++◌, ◌≤◌, ◌<◌, ◌≡◌, refl, List, length, get_or, take, drop, replicate, min}
+use Rattle.std.specs.Prelude.{ℕ, ◌+◌, ◌-◌, ◌++◌, ◌≤◌, ◌<◌, ◌≡◌, List, length, get_or, take, drop, replicate, min}
 use Rattle.std.proofs.Common.{arith, sym, subst, ap, ◌∙◌, length-drop, get_or-take, get_or-drop, length-append, length-take-le, ext_get_or}
 use Rattle.std.proofs.lemmas.List.{length-replicate, length-take, get_or_append_left, get_or-append_right, get_or-replicate}
 use Rattle.terms.specs.Numbers.{by_less}
@@ -43,23 +43,18 @@ module _ {A : Type 0} (d z : A) (l : List A) (from end : ℕ) (short : end ≤ l
   })
 
 -- A list that is z from a place on, by its elements.
-replicate_at : {A : Type 0} (d z : A) (n i : ℕ) → i < n → get_or (replicate n z) i d ≡ z
-replicate_at d z zero i l = absurd (let x : ⊥ = omega arith in x)
-replicate_at d z (suc n) zero l = refl
-replicate_at d z (suc n) (suc i) l = replicate_at d z n i (omega arith)
-
 pub clear_at : {A : Type 0} (d z : A) (l : List A) (from : ℕ) → ClearFrom z l from → (i : ℕ) → from ≤ i → i < length l → get_or l i d ≡ z
 clear_at {A} d z l from h i p q =
     let e : from + (i - from) ≡ i = omega arith in
     ap (λ (j : ℕ). get_or l j d) (sym e) ∙ sym (get_or-drop from l (i - from) d) ∙ ap (λ (k : List A). get_or k (i - from) d) h
-    ∙ replicate_at d z (length l - from) (i - from) (omega arith)
+    ∙ get_or-replicate (length l - from) (i - from) z d (omega arith)
 
 pub clear_from : {A : Type 0} (d z : A) (l : List A) (from : ℕ) → ((i : ℕ) → from ≤ i → i < length l → get_or l i d ≡ z) → ClearFrom z l from
 clear_from d z l from h =
     let a : length (drop from l) ≡ length l - from = length-drop from l in
     let b : length (replicate (length l - from) z) ≡ length l - from = length-replicate (length l - from) z in
     ext_get_or d (drop from l) (replicate (length l - from) z) (omega arith)
-    (λ i p. get_or-drop from l i d ∙ h (from + i) (omega arith) (omega arith) ∙ sym (replicate_at d z (length l - from) i (omega arith)))
+    (λ i p. get_or-drop from l i d ∙ h (from + i) (omega arith) (omega arith) ∙ sym (get_or-replicate (length l - from) i z d (omega arith)))
 
 -- Zero at entry from a place on, written below `to` and cleared again: the very list.
 pub cleared_back : {A : Type 0} {d z : A} {l l' l'' : List A} {from to : ℕ} → ClearFrom z l from → length l' ≡ length l

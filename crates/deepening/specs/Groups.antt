@@ -1,11 +1,10 @@
 -- The contracts over what travels together: a program, a store, and a goal that is asked.
-use Rattle.std.specs.Prelude.{ℕ, ◌≡◌, [], Result}
+use Rattle.std.specs.Prelude.{ℕ, ◌≡◌, Result}
 use Rattle.refusals.specs.declared.Refusal.{Refusal}
 use Rattle.search_machine.specs.declared.Machine.{Machine}
 use Rattle.search_machine.specs.declared.Program.{Program}
 use Rattle.search_machine.specs.declared.Store.{Store}
-use Rattle.deepening.specs.Clearing.{Cleared, zero_row}
-use Rattle.deepening.specs.Bounds.{Asking, Bounded, Left, Deepened}
+use Rattle.deepening.specs.Bounds.{Asking, Bounded, Wiped, Left, Deepened}
 use Rattle.deepening.specs.declared.Answer.{Answer}
 use Rattle.deepening.specs.declared.Question.{Question}
 use Rattle.deepening.specs.declared.bound.Came.{Came}
@@ -22,8 +21,7 @@ BoundedIn p s s' q depth r =
 
 -- Of the words those from `used` on that a machine wrote are zero, of the frames those from `frames` on; what else a store lends is as it was.
 pub record WrittenCleared (s s' : Store) (used frames : ℕ) (m : Machine) : Type 0 where
-  pub words : Cleared 0 0 s.words.now s'.words.now used m.top
-  pub rows : Cleared [] zero_row s.frames.now s'.frames.now frames m.high
+  pub wiped : Wiped s.frames.now s'.frames.now s.words.now s'.words.now m used frames
   pub bindings : s'.bindings.now ≡ s.bindings.now
   pub links : s'.links.now ≡ s.links.now
   pub marks : s'.marks.now ≡ s.marks.now

@@ -2,13 +2,13 @@
 -- are the tree's.
 use Prim.Native.Nat.{ℕ, zero, suc, ◌+◌, ◌-◌, ◌≤◌, ◌<◌}
 use native.Mathlib.Omega.{arith}
-use Rattle.std.proofs.Common.{le_refl, sym, ◌∙◌, subst}
+use Rattle.std.proofs.Common.{le_refl, sym, ◌∙◌, subst, take, drop, min, get_or-take}
 use Rattle.std.proofs.Math.Path.{◌≡◌, refl, ap, ap₂}
 use mathlib.Core.List.{List, [], ◌∷◌, ◌++◌, append_assoc, append-nil}
 use Rattle.std.specs.Prelude.{length}
 use Rattle.std.proofs.Math.ListN.{get_or, set, length-set}
 use Rattle.std.proofs.Math.Seq.{get_or-set_same, get_or-set_other}
-use Rattle.std.proofs.lemmas.List.{set_past}
+use Rattle.std.proofs.lemmas.List.{set_past, set-append_left, take-append-drop, length-take-le}
 use Rattle.terms.specs.Numbers.{by_same}
 use Rattle.terms.specs.Term.{Kind, Term, var}
 use Rattle.terms.specs.Term.Kind.{one as single}
@@ -74,6 +74,24 @@ module _ (D : ℕ) (F : Rows) where
       ∙ ap (λ (j : ℕ). tree_row (D - (frame_at F j).depth) (frame_at F j).rule (frame_at F j).goal) (sym p))
       (λ p e. get_or-set_other (tree_rows D F n) n k (tree_row (D - (frame_at F n).depth) (frame_at F n).rule (frame_at F n).goal) [] p
       ∙ tree_row_lem n k (omega arith) (omega arith))
+
+-- The first frames, lent as a part of the table.
+tree_front : (D : ℕ) (F : Rows) (k j : ℕ) → j ≤ k → k ≤ length F → tree_rows D (take k F) j ++ drop k F ≡ tree_rows D F j
+unfolding tree_rows frame_at
+tree_front D F k zero l m = take-append-drop k F
+tree_front D F k (suc j) l m =
+    let long = tree_length D (take k F) j in
+    let front = length-take-le k F m in
+    let e : frame_at (take k F) j ≡ frame_at F j = ap frame_of (get_or-take k F j [] (omega arith)) in
+    sym (set-append_left (tree_rows D (take k F) j) (drop k F) j _ (omega (arith, long, front)))
+    ∙ ap₂ (λ (r : Rows) (x : Frame). set r j (tree_row (D - x.depth) x.rule x.goal)) (tree_front D F k j (omega arith) m) e
+
+pub tree_part : (D : ℕ) (F : Rows) (n : ℕ) {k : ℕ} {part : Rows} → k ≡ min (length F) n → part ≡ tree_rows D (take k F) (length (take k F))
+    → part ++ drop k F ≡ tree_rows D F n
+tree_part D F n {k} {part} e h =
+    let front : length (take k F) ≡ k = length-take-le k F (omega arith) in
+    ap (λ (p : Rows). p ++ drop k F) (h ∙ ap (tree_rows D (take k F)) front)
+    ∙ tree_front D F k k (le_refl k) (omega arith) ∙ tree_end D F n k (omega arith) (λ l. omega arith)
 
 -- As many entries as rows.
 pub entries_count : (W : List ℕ) (F : Rows) (p n : ℕ) → n ≡ length (entries_from term_room W F p n)

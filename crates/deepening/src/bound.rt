@@ -11,7 +11,7 @@ use refusals::Refusal;
 use search_machine::{Machine, Mode, Program, Store, run};
 
 // What came of one depth bound that the limits allow.
-// Stays: no case is an error, and a `Result` in a `Result` would be no plainer.
+// Stays: a bound without a proof is no error, and an `Option` would leave out the steps and the variables that it took.
 #[derive(Clone, Copy)]
 pub enum Came {
     // A proof: the number of its applications, steps left, and variables, bindings and words in use.

@@ -10,9 +10,9 @@ pub fn write_tree(frames: &mut [[u32; 8]], count: u32, depth: u32)
     ensures { frames.new ≡ tree_rows depth frames.old count }
 {
     let end = frames.len().min(count as usize);
-    for i in 0..end {
-        let x = Frame::from(frames[i]);
+    for row in &mut frames[..end] {
+        let x = Frame::from(*row);
         let height = depth.saturating_sub(x.depth);
-        frames[i] = [height, 0, x.rule, x.goal, 0, 0, 0, 0];
+        *row = [height, 0, x.rule, x.goal, 0, 0, 0, 0];
     }
 }

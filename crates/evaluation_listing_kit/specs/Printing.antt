@@ -1,11 +1,20 @@
--- Where a printer of terms stands, and what it writes.
+-- Where a printer of terms and its output stand, and what is written.
 use Rattle.std.specs.Prelude.{◌≡◌, ◌≤◌, length}
+use Rattle.byte_output.specs.declared.Output.{Output}
 use Rattle.evaluation_listing_kit.specs.declared.prefix.Printer.{Printer}
 
--- It has written no more than the buffer holds, and no more nodes are open than the stack holds.
-abbrev pub Within : Printer → Type 0
-Within p = (p.at ≤ length p.out.now) × (p.depth ≤ length p.stack.now)
+-- No more is written than the buffer holds.
+abbrev pub Fits : Output → Type 0
+Fits o = o.at ≤ length o.bytes.now
 
--- It has written on, and the buffer and the stack are as long as they were.
-abbrev pub Written : Printer → Printer → Type 0
-Written old new = (old.at ≤ new.at) × (new.at ≤ length new.out.now) × (new.depth ≤ length new.stack.now) × (length new.out.now ≡ length old.out.now) × (length new.stack.now ≡ length old.stack.now)
+-- It is written on, and the buffer is as long as it was.
+abbrev pub Moved : Output → Output → Type 0
+Moved o o' = (o.at ≤ o'.at) × (o'.at ≤ length o'.bytes.now) × (length o'.bytes.now ≡ length o.bytes.now)
+
+-- No more nodes are open than the stack holds.
+abbrev pub Within : Printer → Type 0
+Within p = p.depth ≤ length p.stack.now
+
+-- It has opened and closed nodes, and the stack is as long as it was.
+abbrev pub Stepped : Printer → Printer → Type 0
+Stepped p p' = (p'.depth ≤ length p'.stack.now) × (length p'.stack.now ≡ length p.stack.now)

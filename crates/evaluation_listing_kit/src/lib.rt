@@ -7,8 +7,9 @@
 mod output; // bytes and numbers, as long as there is room
 mod prefix; // terms in prefix form
 
-ghost use Rattle.std.specs.Prelude.{◌≤◌, length};
+ghost use Rattle.evaluation_listing_kit.specs.Printing.{Fits, Moved};
 
+use byte_output::Output;
 use function_calls::TreeRow;
 use names::Word;
 use output::{put, put_byte, put_decimal};
@@ -19,43 +20,48 @@ use rules::RuleRow;
 // Standard output.
 const STDOUT_FILENO: i32 = 1;
 
-// Writes the line that ends at a place.
-fn write_line(out: &[u8], end: usize) {
-    if out.len() <= end {
+// Ends a line, and writes it.
+fn write_line(out: &mut Output)
+    requires { Fits out.old }
+{
+    put_byte(out, b'\n');
+    let end = out.at;
+    if out.bytes.len() <= end {
         io::write_all(STDOUT_FILENO, b"wrong: no room for the line\n");
         return;
     }
-    io::write_all(STDOUT_FILENO, words::word(out, 0, end));
+    io::write_all(STDOUT_FILENO, words::word(out.bytes, 0, end));
 }
 
 // Writes the line of a value.
 pub fn list_value(terms: StoredTerms, value: u32, stack: &mut [OpenRow], out: &mut [u8]) {
-    let term = put(b"value ", out, 0);
-    let last = put_term(terms, value, stack, out, term);
-    let end = put_byte(out, last, b'\n');
-    write_line(out, end);
+    let mut line = Output { bytes: out, at: 0 };
+    put(b"value ", &mut line);
+    put_term(terms, value, stack, &mut line);
+    write_line(&mut line);
 }
 
 // Writes a rule's name into the line, that of a clause with its number.
-fn put_rule(text: &[u8], rules: &[RuleRow], number: u32, out: &mut [u8], at: usize) -> usize
-    requires { at ≤ length out.old }
-    ensures { (at ≤ result) × (result ≤ length out.old) }
+fn put_rule(text: &[u8], rules: &[RuleRow], number: u32, out: &mut Output)
+    requires { Fits out.old }
+    ensures { Moved out.old out.new }
 {
     let i = number as usize;
     if rules.len() <= i {
-        return put(b"wrong: no such rule", out, at);
+        put(b"wrong: no such rule", out);
+        return;
     }
     let clause = rules[i][2];
     let word = Word {
         start: rules[i][0],
         size: rules[i][1],
     };
-    let name = put_name(text, word, out, at);
+    put_name(text, word, out);
     if clause == 0 {
-        return name;
+        return;
     }
-    let dot = put_byte(out, name, b'.');
-    put_decimal(clause - 1, out, dot)
+    put_byte(out, b'.');
+    put_decimal(clause - 1, out);
 }
 
 // Writes the line of a call.
@@ -66,13 +72,13 @@ fn list_call(
     stack: &mut [OpenRow],
     out: &mut [u8],
 ) {
-    let height = put_decimal(row[0], out, 0);
-    let rule = put_byte(out, height, b' ');
-    let name = put_rule(terms.text, rules, row[2], out, rule);
-    let goal = put_byte(out, name, b' ');
-    let last = put_term(terms, row[3], stack, out, goal);
-    let end = put_byte(out, last, b'\n');
-    write_line(out, end);
+    let mut line = Output { bytes: out, at: 0 };
+    put_decimal(row[0], &mut line);
+    put_byte(&mut line, b' ');
+    put_rule(terms.text, rules, row[2], &mut line);
+    put_byte(&mut line, b' ');
+    put_term(terms, row[3], stack, &mut line);
+    write_line(&mut line);
 }
 
 // Writes the lines of calls.

@@ -1,10 +1,11 @@
 // Terms in prefix form, as the Rust's `pat_text` prints them. A term may be as deep as it has nodes, so it is written by a loop over a stack of open nodes.
 ghost use Rattle.std.specs.Prelude.{◌≡◌, ◌+◌, ◌≤◌, ◌<◌, length, get_or, IfSome};
 ghost use Rattle.evaluation_listing_kit.specs.Headers.{header_at, arity_of};
-ghost use Rattle.evaluation_listing_kit.specs.Printing.{Within, Written};
+ghost use Rattle.evaluation_listing_kit.specs.Printing.{Fits, Moved, Within, Stepped};
 
 use super::output::{put, put_byte};
 use arena::{HEADERS, SYMBOL_STEP};
+use byte_output::Output;
 use names::{SymbolRow, Word};
 
 // The column of a symbol's row that has its output, 0 for a predicate.
@@ -21,13 +22,11 @@ pub struct StoredTerms<'a> {
     pub words: &'a [u32],
 }
 
-// A printer of terms: how far it has written the buffer, and the open nodes, which are `depth`.
+// A printer of terms: the open nodes, which are `depth`.
 #[derive(Drop)]
 struct Printer<'a> {
     terms: StoredTerms<'a>,
     stack: &'a mut [OpenRow],
-    out: &'a mut [u8],
-    at: usize,
     depth: usize,
 }
 
@@ -70,11 +69,11 @@ fn argument_at(words: &[u32], address: u32, number: u32) -> u32
 }
 
 // Writes a name of the text.
-pub fn put_name(text: &[u8], word: Word, out: &mut [u8], at: usize) -> usize
-    requires { at ≤ length out.old }
-    ensures { (at ≤ result) × (result ≤ length out.old) }
+pub fn put_name(text: &[u8], word: Word, out: &mut Output)
+    requires { Fits out.old }
+    ensures { Moved out.old out.new }
 {
-    put(names::part(text, word), out, at)
+    put(names::part(text, word), out);
 }
 
 // Is the node with a header written without parentheses, as a constructor that has no arguments?
@@ -93,13 +92,13 @@ fn is_bare(symbols: &[SymbolRow], header: u32) -> bool
 
 impl Printer<'_> {
     // Writes the name of the symbol of a header.
-    fn put_symbol(&mut self, header: u32)
-        requires { (1048576 ≤ header) × Within self.old }
-        ensures { Written self.old self.new }
+    fn put_symbol(&self, header: u32, out: &mut Output)
+        requires { (1048576 ≤ header) × Fits out.old }
+        ensures { Moved out.old out.new }
     {
         let i = ((header - HEADERS) / SYMBOL_STEP) as usize;
         if self.terms.symbols.len() <= i {
-            self.at = put(b"wrong: no such symbol", self.out, self.at);
+            put(b"wrong: no such symbol", out);
             return;
         }
         let row = self.terms.symbols[i];
@@ -107,84 +106,75 @@ impl Printer<'_> {
             start: row[0],
             size: row[1],
         };
-        self.at = put_name(self.terms.text, word, self.out, self.at);
+        put_name(self.terms.text, word, out);
     }
 
     // Writes the start of a node that has parentheses, and opens it.
-    fn open_node(&mut self, header: u32, address: u32)
-        requires { (1048576 ≤ header) × Within self.old }
-        ensures { Written self.old self.new }
+    fn open_node(&mut self, header: u32, address: u32, out: &mut Output)
+        requires { (1048576 ≤ header) × Within self.old × Fits out.old }
+        ensures { Stepped self.old self.new × Moved out.old out.new }
     {
         let depth = self.depth;
         if self.stack.len() <= depth {
-            self.at = self.out.len();
+            out.at = out.bytes.len();
             return;
         }
         self.stack[depth] = [address, 0];
         self.depth = depth + 1;
-        self.at = put_byte(self.out, self.at, b'(');
-        self.put_symbol(header);
+        put_byte(out, b'(');
+        self.put_symbol(header, out);
     }
 
     // Writes the start of the node at an address, which is all of one without parentheses.
-    fn enter(&mut self, address: u32)
-        requires { Within self.old }
-        ensures { Written self.old self.new }
+    fn enter(&mut self, address: u32, out: &mut Output)
+        requires { Within self.old × Fits out.old }
+        ensures { Stepped self.old self.new × Moved out.old out.new }
     {
         let Some(header) = header_at(self.terms.words, address) else {
-            self.at = put(b"wrong: no node", self.out, self.at);
+            put(b"wrong: no node", out);
             return;
         };
         if is_bare(self.terms.symbols, header) {
-            self.put_symbol(header);
+            self.put_symbol(header, out);
             return;
         }
-        self.open_node(header, address);
+        self.open_node(header, address, out);
     }
 
     // Writes on at the innermost open node: the start of its next argument, or its end.
-    fn step(&mut self)
-        requires { (self.old.at < length self.old.out.now) × (0 < self.old.depth) × Within self.old }
-        ensures { (self.old.at < self.new.at) × Written self.old self.new }
+    fn step(&mut self, out: &mut Output)
+        requires { (out.old.at < length out.old.bytes.now) × (0 < self.old.depth) × Within self.old }
+        ensures { (out.old.at < out.new.at) × Stepped self.old self.new × Moved out.old out.new }
     {
         let top = self.depth - 1;
         let address = self.stack[top][0];
         let next = self.stack[top][1];
         if arity_at(self.terms.words, address) <= next {
-            self.at = put_byte(self.out, self.at, b')');
+            put_byte(out, b')');
             self.depth = top;
             return;
         }
         self.stack[top] = [address, next + 1];
-        self.at = put_byte(self.out, self.at, b' ');
-        self.enter(argument_at(self.terms.words, address, next));
+        put_byte(out, b' ');
+        self.enter(argument_at(self.terms.words, address, next), out);
     }
 }
 
 // Writes the term whose root is at an address.
-pub fn put_term(
-    terms: StoredTerms,
-    address: u32,
-    stack: &mut [OpenRow],
-    out: &mut [u8],
-    at: usize,
-) -> usize
-    requires { at ≤ length out.old }
-    ensures { (at ≤ result) × (result ≤ length out.old) }
+pub fn put_term(terms: StoredTerms, address: u32, stack: &mut [OpenRow], out: &mut Output)
+    requires { Fits out.old }
+    ensures { Moved out.old out.new }
 {
     let mut printer = Printer {
         terms,
         stack,
-        out,
-        at,
         depth: 0,
     };
-    printer.enter(address);
+    printer.enter(address, out);
     while 0 < printer.depth {
-        if printer.out.len() <= printer.at {
-            return printer.out.len();
+        if out.bytes.len() <= out.at {
+            return;
         }
-        printer.step();
+        printer.step(out);
     }
-    printer.at
 }

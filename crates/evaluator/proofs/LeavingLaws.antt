@@ -25,7 +25,6 @@ use Rattle.term_check.specs.TermLaws.{term_stands}
 use Rattle.tree_rows.specs.Trees.{Lists}
 use Rattle.tree_rows.proofs.TreeLaws.{lists_grown, lists_same}
 use Rattle.evaluation.specs.Expressions.{Evaluated, failed, evaluated, evaluate_of}
-use Rattle.evaluation.proofs.CountLaws.{evaluation_spends}
 use Rattle.clause_matching.specs.Building.{Stands as Built}
 use Rattle.function_calls.specs.Calls.{tree_rows, Working}
 use Rattle.expressions.specs.Terms.{expressed, ExpressionAsked, Evaluates, ExpressionAnswered}

@@ -105,7 +105,7 @@ pub fn evaluate_listed(
         }
         Ok(expressed) => {
             let spent = expressed.spent;
-            arena::clear(buffers.words, spent.used);
+            slices::clear_from(buffers.words, spent.used as usize, 0);
             slices::clear_from(buffers.trees, spent.calls as usize, [0; 8]);
             Ok(Evaluation {
                 value: expressed.value,

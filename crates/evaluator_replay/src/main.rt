@@ -44,22 +44,6 @@ struct LoadedText<'a> {
     limits: Limits,
 }
 
-fn loaded_text<'a>(
-    text: &'a [u8],
-    signature: StoredSignature<'a>,
-    rows: &'a [TermRow],
-    evals: &'a [EvalRow],
-    limits: Limits,
-) -> LoadedText<'a> {
-    LoadedText {
-        text,
-        signature,
-        rows,
-        evals,
-        limits,
-    }
-}
-
 // Lists a value and its calls.
 fn list_value(loaded: LoadedText, evaluation: Evaluation, storage: &Buffers) {
     let signature = loaded.signature;
@@ -154,19 +138,16 @@ fn list_eval(loaded: LoadedText, eval: EvalRow, storage: &mut Buffers) {
     list_evaluation(loaded, answer, storage);
 }
 
-// The row of the first `#eval`; 0, where no term stands, if there is none.
-fn first_row(evals: &[EvalRow]) -> usize {
-    match evals.first() {
-        Some(eval) => term_row(*eval),
-        None => 0,
-    }
-}
-
 // Tests calls that must be refused, with the first `#eval`.
 fn test_refused(loaded: LoadedText, storage: &mut Buffers) {
+    // Where there is no `#eval`, any place serves: each of these calls is refused before the term there is read.
+    let at = match loaded.evals.first() {
+        Some(eval) => term_row(*eval),
+        None => 0,
+    };
     let query = Query {
         signature: loaded.signature,
-        term: term_at(loaded, first_row(loaded.evals)),
+        term: term_at(loaded, at),
         limits: loaded.limits,
     };
     refused::test_unlisted_forward(query.signature, query.term);
@@ -243,21 +224,14 @@ fn list_text(text: &[u8], limits: Limits) {
                 counts: loaded.counts,
             };
             let count = usize::min(loaded.evals as usize, evals.len());
-            let listed = loaded_text(text, signature, &rows, &evals[..count], limits);
-            list_loaded(listed);
+            list_loaded(LoadedText {
+                text,
+                signature,
+                rows: &rows,
+                evals: &evals[..count],
+                limits,
+            });
         }
-    }
-}
-
-// Limits on a text's bytes, on nodes and on words; the others matter only to the search.
-fn limits_of(text: u32, nodes: usize, words: u32) -> Limits {
-    let nodes = usize::min(nodes, 65536) as u32;
-    Limits {
-        text: text,
-        nodes: nodes,
-        steps: 0,
-        variables: 0,
-        words: words,
     }
 }
 
@@ -279,14 +253,15 @@ fn read(list: &[u8], at: usize) -> Text
     let words = recorded::read_decimal(list, text.start);
     let start = words.next;
     let size = text.length;
-    let bytes = text.limits;
-    let limits = limits_of(bytes.text, text.rows, words.value);
-    let next = start + size + 1;
     Text {
-        start: start,
-        size: size,
-        limits: limits,
-        next: next,
+        start,
+        size,
+        limits: Limits {
+            nodes: text.rows.min(65536) as u32,
+            words: words.value,
+            ..text.limits
+        },
+        next: start + size + 1,
     }
 }
 
@@ -296,12 +271,13 @@ fn replay_one(list: &[u8], at: usize) -> usize
     ensures { (at < result) × (result ≤ at + 3000000) }
 {
     let text = read(list, at);
-    let bytes = words::word(list, text.start, text.size);
-    let limits = text.limits;
-    list_text(bytes, limits);
+    list_text(words::word(list, text.start, text.size), text.limits);
     text.next
 }
 
+// Goes through a list from text to text.
+// Stays: a line has a fourth number, and the text stands behind it; for `recorded::replay` to read both kinds of lines it would be over a trait of lines, with
+// a law that the next one is further on, and an impl for each.
 fn replay(list: &[u8]) {
     let end = recorded::end(list);
     let mut at = 0;

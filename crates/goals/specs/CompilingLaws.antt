@@ -22,12 +22,9 @@ use Rattle.sessions.specs.Goals.{WrittenTerm, variable_for, name_for, closing, g
 use Rattle.goals.specs.Compiling.{Agrees, GoalMade}
 use Rattle.goals.specs.declared.Goal.{Goal}
 use Rattle.std.specs.Prelude.{Result, Ok, Err}
+use Rattle.std.proofs.lemmas.List.{map-append}
 
 -- Names as variables
-
-map_more : {A B : Type 0} (f : A → B) (l : List A) (a : A) → map f (l ++ (a ∷ [])) ≡ map f l ++ (f a ∷ [])
-map_more f [] a = refl
-map_more {A} {B} f (x ∷ l) a = ap (λ (r : List B). f x ∷ r) (map_more f l a)
 
 module _ (text : List ℕ) (names : Rows) (i : ℕ) (l : i < length names) where
   abbrev variable : Variable
@@ -42,8 +39,8 @@ module _ (text : List ℕ) (names : Rows) (i : ℕ) (l : i < length names) where
   names_more =
       ap (λ (j : ℕ). map variable_for (map (named_in text) (take j names))) (add-one i)
       ∙ ap (λ (x : Rows). map variable_for (map (named_in text) x)) (take-suc names i [] l)
-      ∙ ap (map variable_for) (map_more (named_in text) (take i names) (row_at names i))
-      ∙ map_more variable_for (map (named_in text) (take i names)) (named_in text (row_at names i))
+      ∙ ap (map variable_for) (map-append (named_in text) (take i names) (row_at names i ∷ []))
+      ∙ map-append variable_for (map (named_in text) (take i names)) (named_in text (row_at names i) ∷ [])
 
   -- A turn of the copy.
   pub copied_more : (vs : Rows) → i < length vs → variables_of text vs i ≡ map variable_for (names_in text names i)

@@ -20,7 +20,7 @@ use Rattle.resolution.specs.Session.{Named, variable_at}
 use Rattle.attempts.specs.StoredRules.{Part, Root}
 use Rattle.attempts.specs.Parts.{copied_form, copied_grown, copied_reference, copied_denotes}
 use Rattle.rules.specs.LayingLaws.{lying_one, lying_part, lying_root, lying_form}
-use Rattle.signature.proofs.UsedLaws.{used_length, row_used, part_row}
+use Rattle.signature.proofs.UsedLaws.{used_length, row_used, part_length, part_row}
 use Rattle.sessions.specs.Storage.{named_in, names_in}
 use Rattle.sessions.specs.declared.SessionCounts.{SessionCounts}
 use Rattle.goals.specs.Storing.{name_row, NamesEntered, PlacesPut, GoalLying, StoreAsked, GoalStored}
@@ -99,6 +99,25 @@ entered_part vs names part n v c a lv ln long each =
 pub put_used : (names : Rows) (v : ℕ) (places : List ℕ) → v ≤ length names → PlacesPut (take v names) (length (take v names)) places
     → PlacesPut names v places
 put_used names v places l h i b = let e = used_length names v l in rw (row_used names v l i b) at (h i (omega arith))
+
+-- What `store` lends as parts of tables, and writes: the rows of the new names, and the variables of all names.
+module _ {vs : Rows} {pattern : List ℕ} {g : Goal} {names : Rows} {words : List ℕ} {n : SessionCounts} (asked : StoreAsked vs pattern g names words n)
+    (part : Rows) (long : length part ≡ length (take (g.variables - n.names) (drop n.names names)))
+    (each : (i : ℕ) → i < length (take (g.variables - n.names) (drop n.names vs))
+    → row_at part i ≡ name_row (row_at (take (g.variables - n.names) (drop n.names vs)) i) (n.variables + i)) where
+  abbrev pub stored_names : Rows
+  stored_names = take n.names names ++ (part ++ drop (g.variables - n.names) (drop n.names names))
+
+  pub names_entered : NamesEntered vs n.names g.variables n.variables names stored_names
+  names_entered =
+      let of = part_length vs n.names g.variables asked.variables in
+      let to = part_length names n.names g.variables asked.lent in
+      entered_part vs names part n.names g.variables n.variables asked.order asked.variables asked.lent (omega (arith, long, to))
+      (λ i l. each i (omega (arith, of, l)))
+
+  pub places_put : (places : List ℕ) → PlacesPut (take g.variables stored_names) (length (take g.variables stored_names)) places
+      → PlacesPut stored_names g.variables places
+  places_put places = let e = names_entered.long in let l = asked.lent in put_used stored_names g.variables places (omega arith)
 
 -- Places
 

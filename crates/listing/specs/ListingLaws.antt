@@ -19,13 +19,6 @@ use Rattle.refusals.specs.declared.Rejection.{Rejection}
 use Rattle.byte_output.specs.Output.{numeral, Written}
 use Rattle.listing.specs.Listing.{keyword_word, sign_word, kind_word, line_word, line_end, token_line, token_lines, refused_line, reading_lines, listing_of, listing_size, ListingWritten}
 
--- The words of kinds.
-pub kind_keyword : (kind : ℕ) → kind < name_kind → kind_word kind ≡ keyword_word
-kind_keyword kind h = rw (lt-ltb kind name_kind h)
-
-pub kind_sign : (kind : ℕ) → name_kind ≤ kind → (kind ≡ name_kind → ⊥) → (kind ≡ metavariable_kind → ⊥) → (kind ≡ numeral_kind → ⊥) → kind_word kind ≡ sign_word
-kind_sign kind h a b c = rw (le-ltb kind name_kind h, ne_eqb kind name_kind a, ne_eqb kind metavariable_kind b, ne_eqb kind numeral_kind c)
-
 -- How long a token's line is.
 pub line_length : (text row : List ℕ)
     → length (token_line text row) ≡ length (numeral (get_or row 3 0)) + (length (kind_word (get_or row 0 0)) + (length (part_of text (get_or row 1 0) (get_or row 2 0)) + 1))

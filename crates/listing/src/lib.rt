@@ -6,8 +6,10 @@ mod lines; // the line of a token, and of a refused text
 
 ghost use Rattle.std.specs.Prelude.{◌≡◌, ◌≤◌, length};
 ghost use Rattle.byte_output.specs.Output.{Written};
-ghost use Rattle.listing.specs.Listing.{token_lines, listing_size, listed_buffer, listed_rows, ListingWritten};
+ghost use Rattle.listing.specs.Listing.{token_lines, refused_line, listing_size, listed_buffer, listed_rows, ListingWritten};
+ghost use Rattle.refusals.specs.Refusals.{number_of};
 
+use byte_output::Output;
 use lines::{write_refused_line, write_token};
 use refusals::Rejection;
 use words::{Limits, Row};
@@ -27,11 +29,21 @@ fn write_tokens(text: &[u8], rows: &[Row], out: &mut [u8]) -> usize
     requires { length (token_lines text.now rows.now) ≤ length out.old }
     ensures { Written out.old 0 (token_lines text.now rows.now) result out.new }
 {
-    let mut at = 0;
+    let mut output = Output { bytes: out, at: 0 };
     for row in rows {
-        at = write_token(text, *row, out, at);
+        write_token(text, *row, &mut output);
     }
-    at
+    output.at
+}
+
+// Writes the one line of a refused text.
+fn write_refused(rejection: Rejection, out: &mut [u8]) -> usize
+    requires { length (refused_line (number_of rejection.refusal) rejection.line) ≤ length out.old }
+    ensures { Written out.old 0 (refused_line (number_of rejection.refusal) rejection.line) result out.new }
+{
+    let mut output = Output { bytes: out, at: 0 };
+    write_refused_line(rejection, &mut output);
+    output.at
 }
 
 // Writes a line `LINE KIND TEXT` for each token of a text, or the one line `refused N line L`, from the buffer's start on, and answers how many
@@ -45,7 +57,7 @@ pub fn write_listing(text: &[u8], limits: Limits, rows: &mut [Row], out: &mut [u
     }
     let end = match words::lex(text, limits, rows) {
         Ok(count) => write_tokens(text, &rows[..count], out),
-        Err(rejection) => write_refused_line(rejection, out, 0),
+        Err(rejection) => write_refused(rejection, out),
     };
     Some(end)
 }
@@ -64,6 +76,6 @@ pub fn list(text: &[u8], limits: Limits, rows: &mut [Row], out: &mut [u8])
 // Writes the line `refused N line L` to standard output.
 pub fn write_refusal(rejection: Rejection) {
     let mut out = [0u8; 35];
-    let n = write_refused_line(rejection, &mut out, 0);
+    let n = write_refused(rejection, &mut out);
     io::write_all(STDOUT_FILENO, words::word(&out, 0, n));
 }

@@ -1,53 +1,49 @@
 // The line of a token, and of a refused text.
-ghost use Rattle.std.specs.Prelude.{◌+◌, ◌≤◌, length};
-ghost use Rattle.byte_output.specs.Output.{Written};
+// Stays: formatted writing promises its bytes only where they go into a `String`, and there is no heap here.
+ghost use Rattle.std.specs.Prelude.{◌≡◌, ◌+◌, ◌≤◌, length};
+ghost use Rattle.byte_output.specs.Output.{IsWritten};
 ghost use Rattle.refusals.specs.Refusals.{number_of};
 ghost use Rattle.listing.specs.Listing.{kind_word, token_line, refused_line};
 
-use byte_output::{write_byte, write_bytes, write_decimal};
+use byte_output::Output;
 use refusals::Rejection;
-use words::Row;
+use words::{METAVARIABLE, NAME, NUMERAL, Row};
 
-// Writes a token's kind between spaces.
-fn write_kind(kind: u32, out: &mut [u8], at: usize) -> usize
-    requires { at + length (kind_word kind) ≤ length out.old }
-    ensures { Written out.old at (kind_word kind) result out.new }
+// The word for a token's kind, between spaces.
+fn kind_word(kind: u32) -> &'static [u8]
+    ensures { result.now ≡ kind_word kind }
 {
-    if kind < words::NAME {
-        return write_bytes(b" keyword ", out, at);
+    if kind < NAME {
+        return b" keyword ";
     }
-    if kind == words::NAME {
-        return write_bytes(b" name ", out, at);
+    match kind {
+        NAME => b" name ",
+        METAVARIABLE => b" metavariable ",
+        NUMERAL => b" numeral ",
+        _ => b" sign ",
     }
-    if kind == words::METAVARIABLE {
-        return write_bytes(b" metavariable ", out, at);
-    }
-    if kind == words::NUMERAL {
-        return write_bytes(b" numeral ", out, at);
-    }
-    write_bytes(b" sign ", out, at)
 }
 
 // Writes the line of a token.
-pub fn write_token(text: &[u8], row: Row, out: &mut [u8], at: usize) -> usize
-    requires { at + length (token_line text.now row) ≤ length out.old }
-    ensures { Written out.old at (token_line text.now row) result out.new }
+pub fn write_token(text: &[u8], row: Row, out: &mut Output)
+    requires { out.old.at + length (token_line text.now row) ≤ length out.old.bytes.now }
+    ensures { IsWritten out.old out.new (token_line text.now row) }
 {
-    let kind = write_decimal(out, at, row[3]);
-    let word = write_kind(row[0], out, kind);
-    let token = words::word(text, row[1] as usize, row[2] as usize);
-    let end = write_bytes(token, out, word);
-    write_byte(out, end, b'\n')
+    let [kind, start, length, line] = row;
+    out.write_decimal(line);
+    out.write(kind_word(kind));
+    out.write(words::word(text, start as usize, length as usize));
+    out.write_byte(b'\n');
 }
 
 // Writes the line `refused N line L`.
-pub fn write_refused_line(rejection: Rejection, out: &mut [u8], at: usize) -> usize
-    requires { at + length (refused_line (number_of rejection.refusal) rejection.line) ≤ length out.old }
-    ensures { Written out.old at (refused_line (number_of rejection.refusal) rejection.line) result out.new }
+pub fn write_refused_line(rejection: Rejection, out: &mut Output)
+    requires { out.old.at + length (refused_line (number_of rejection.refusal) rejection.line) ≤ length out.old.bytes.now }
+    ensures { IsWritten out.old out.new (refused_line (number_of rejection.refusal) rejection.line) }
 {
-    let digits = write_bytes(b"refused ", out, at);
-    let word = write_decimal(out, digits, u32::from(rejection.refusal));
-    let last = write_bytes(b" line ", out, word);
-    let end = write_decimal(out, last, rejection.line);
-    write_byte(out, end, b'\n')
+    out.write(b"refused ");
+    out.write_decimal(u32::from(rejection.refusal));
+    out.write(b" line ");
+    out.write_decimal(rejection.line);
+    out.write_byte(b'\n');
 }

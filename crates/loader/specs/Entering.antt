@@ -43,5 +43,5 @@ pub record RuleAsked (text : List ℕ) (rows : Rows) (p k : ℕ) (symbols : Rows
 pub record RuleEntered (text : List ℕ) (rows : Rows) (p k start size : ℕ) (symbols : List Symbol) (w : List ℕ) (u room : ℕ) (rules : Rows) (number : ℕ)
     (r : Result EnteredRule Refusal) (w' : List ℕ) (rules' : Rows) : Type 0 where
   pub same : (j : Source one) (js : List (Source one)) (q : ℕ) → JudgmentsStand text rows p j js q → k ≡ length (j ∷ js)
-      → NextIs q r × Entering text (arities_of symbols) (record { start = start; size = size; clause = 0 }) w u room rules number w' rules'
+      → NextIs q r × Entering text (arities_of symbols) (record { word = record { start = start; size = size }; clause = 0 }) w u room rules number w' rules'
       (entering number (rule_of symbols (part_of text start size) (spelled text (all_of (front_of (j ∷ js)))) (spelled text (last_judgment j js)) room)) (entered r)

@@ -21,7 +21,7 @@ untitled = record { sorts = []; symbols = []; rules = [] }
 
 -- The title of a rule whose name stands there (0), or of the clause n of the function whose name stands there (n + 1).
 abbrev pub title_at : Place → ℕ → Title
-title_at (place start size) clause = record { start = start; size = size; clause = clause }
+title_at (place start size) clause = record { word = record { start = start; size = size }; clause = clause }
 
 -- With one sort more, and with one symbol more.
 abbrev pub sort_titled : Titles → Place → Titles

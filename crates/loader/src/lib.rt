@@ -256,11 +256,7 @@ pub fn enter_rule(
         conclusions: rows,
         here,
     };
-    let title = Title {
-        start: word.start,
-        size: word.size,
-        clause: 0,
-    };
+    let title = Title { word, clause: 0 };
     let left = rules::rule(rule, title, words, rules, place)?;
     Ok(EnteredRule { next, space: left })
 }

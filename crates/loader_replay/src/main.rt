@@ -21,20 +21,6 @@ fn stored_in<'a>(lent: &'a Lent, counts: Counts) -> StoredSignature<'a> {
     }
 }
 
-// Tests what is lent: the value past the counts, and the rows of declarations and of `#eval` past so many.
-fn test_lent(lent: &Lent, rows: usize, evals: usize, counts: Counts, value: u32) {
-    buffers::test_scratch(
-        lent.tokens,
-        lent.rows,
-        rows,
-        lent.calls,
-        lent.evals,
-        evals,
-        value,
-    );
-    buffers::test_signature(stored_in(lent, counts), value);
-}
-
 // Lists what was loaded, and tests the buffers: zero past the counts.
 fn list_loaded(text: &[u8], loaded: Loaded, parsed: Result<Parsed, Rejection>, lent: &Lent) {
     let n = loaded.evals as usize;
@@ -49,7 +35,7 @@ fn list_loaded(text: &[u8], loaded: Loaded, parsed: Result<Parsed, Rejection>, l
         loaded.declarations == parsed.declarations,
         b"as many declarations as parsed",
     );
-    test_lent(lent, parsed.rows, n, loaded.counts, 0);
+    buffers::test(lent, parsed.rows, n, loaded.counts, 0);
     buffers::expect(
         signature::check_signature(text, stored),
         b"loaded in the listed form",
@@ -70,13 +56,12 @@ fn list_refused(rejection: Rejection, lent: &Lent) {
     } else {
         0
     };
-    test_lent(lent, 0, 0, none, value);
+    buffers::test(lent, 0, 0, none, value);
 }
 
 // Loads a text into buffers that hold junk.
 fn load_text(text: &[u8], limits: Limits, lent: &mut Lent) -> Result<Loaded, Rejection> {
-    buffers::fill_scratch(lent.tokens, lent.rows, lent.calls, lent.evals);
-    buffers::fill_signature(lent.sorts, lent.symbols, lent.rules, lent.words);
+    buffers::fill(lent);
     load::load(text, limits, lent)
 }
 
@@ -87,14 +72,7 @@ fn list_text(text: &[u8], limits: Limits, lent: &mut Lent) {
         Err(rejection) => list_refused(rejection, lent),
         Ok(loaded) => {
             list_loaded(text, loaded, parsed, lent);
-            damage::test(
-                text,
-                lent.sorts,
-                lent.symbols,
-                lent.rules,
-                lent.words,
-                loaded.counts,
-            );
+            damage::test(text, lent, loaded.counts);
         }
     }
 }

@@ -26,7 +26,7 @@ pub struct EnteredVariable {
 }
 
 // The number of the variable that a row names, entered if it is new. Its sort is checked, and set where it was not known.
-// Stays: a new variable's row is written behind those that there are, so that the table is lent with their number.
+// Stays: a new variable's row is written just behind the `count` rows in use, which a slice of those alone would not reach.
 pub fn enter(
     text: &[u8],
     variables: &mut [VariableRow],
@@ -170,7 +170,7 @@ fn numeral_misfit(
 }
 
 // Writes n times `succ` on `zero` behind the used words.
-// Stays: the words are written behind the used ones, so that they are lent with their number.
+// Stays: the numeral's words are written just behind the `used` ones, which a slice of those alone would not reach.
 fn numeral_words(words: &mut [u32], used: usize, numerals: NumeralSymbols, n: usize) -> u32
     requires { (used + 1 + 2 * n ≤ length words.old) × (used + 2 * n ≤ 65536) × (numerals.succ < 1024) × (numerals.zero < 1024) }
     ensures { lay (tower numerals.succ numerals.zero n) words.old used ≡ laid (result ∷ []) words.new (used + 1 + 2 * n) }
@@ -233,6 +233,7 @@ fn numeral(
 }
 
 // The pattern of the source term at a row, at a place of the sort want (0: a judgment).
+// Stays: the rows of symbols, which C callers lend, have 0 where there is no sort, and the sorts of places are compared with theirs.
 #[cycle(node_pattern)]
 pub fn pattern(
     source: SourceTerms,

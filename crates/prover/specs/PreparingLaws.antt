@@ -44,7 +44,7 @@ use Rattle.refusals.specs.declared.Refusal.TheVariants.{OverLimit}
 use Rattle.prover.specs.Preparing.{search_limits, PrepareAsked, IsStored, Within, Prepares, Preparing}
 
 -- The symbols in use, lent as a part of a table, are the table's first ones.
-pub made_used : {text : List ℕ} {rows : Rows} {at : ℕ} {names : Rows} {w : List ℕ} {r : Result Goal Refusal} {vx : Rows} {wx : List ℕ}
+made_used : {text : List ℕ} {rows : Rows} {at : ℕ} {names : Rows} {w : List ℕ} {r : Result Goal Refusal} {vx : Rows} {wx : List ℕ}
     (symbols : Rows) (count : ℕ) → count ≤ length symbols
     → GoalMade text rows at (symbols_of text (take count symbols) (length (take count symbols))) names w r vx wx
     → GoalMade text rows at (symbols_of text symbols count) names w r vx wx
@@ -175,7 +175,10 @@ module _ {text : List ℕ} {limits : Limits} {symbols : Rows} {count : ℕ} {row
   -- What was compiled
   module _ {vx : Rows} {w wx : List ℕ} {r : Result Goal Refusal} (lent : 64 ≤ length vx) (long : 2048 ≤ length w)
       (bounds : Bounds (length (take n.names names)) r)
-      (made : GoalMade text rows at known (take n.names names) w r vx wx) where
+      (made_there : GoalMade text rows at (symbols_of text (take count symbols) (length (take count symbols))) (take n.names names) w r vx wx) where
+    made : GoalMade text rows at known (take n.names names) w r vx wx
+    made = made_used symbols count asked.lent made_there
+
     agrees : (q : ℕ) (t : TermAt text rows at q) (o : Result Goal Refusal) → r ≡ o
         → Agrees text rows at q n.names w (goal_compiled known (goal_in t) old) o vx wx
     agrees q t o e =

@@ -1,7 +1,7 @@
 -- Laws of walks through a row's premises: from the first on, where their words are counted, and from the last back.
-use mathlib.Core.Path.{◌≡◌, refl, ap}
-use mathlib.Core.Bool.{true, false}
-use Rattle.terms.specs.Numbers.{true_false}
+use mathlib.Core.Path.{◌≡◌, refl, sym, ap, ◌∙◌}
+use mathlib.Core.Bool.{Bool, true, false}
+use Rattle.terms.specs.Numbers.{by_bool, true_false}
 use mathlib.Core.List.{List, [], ◌∷◌}
 use Prim.Native.Nat.{ℕ, suc, ◌+◌, ◌-◌, ◌≤◌, ◌<◌}
 use native.Mathlib.Omega.{arith}
@@ -12,7 +12,8 @@ use Rattle.resolution.specs.Fresh.{met, met_back}
 use Rattle.resolution.specs.Search.{words}
 use Rattle.names.specs.Symbols.{column, columns}
 use Rattle.rule_checks.specs.Steps.{Walked}
-use Rattle.std.specs.Prelude.{Option}
+use Rattle.std.specs.Prelude.{Option, eqb}
+use Rattle.std.proofs.lemmas.Bool.{eqb-true, eq-eqb}
 
 -- Answers
 
@@ -22,9 +23,16 @@ pub walked_differs : {k : Kind} (t : Syn k) {size : ℕ} {table : List (Option �
 walked_differs t d = record { other = λ q. d; fits = λ q. true_false q refl; records = λ q. true_false q refl }
 
 -- A term of the words that it is to take.
-pub walked_fits : {k : Kind} (t : Syn k) {size : ℕ} {table : List (Option ℕ)} {count : ℕ} {table' : List (Option ℕ)} {count' : ℕ} → words t ≡ size
+walked_fits : {k : Kind} (t : Syn k) {size : ℕ} {table : List (Option ℕ)} {count : ℕ} {table' : List (Option ℕ)} {count' : ℕ} → words t ≡ size
     → ((e : List ℕ) → Records e table count → Records (met t e) table' count') → Walked t size table count true table' count'
 walked_fits t d h = record { other = λ q. true_false refl q; fits = λ q. d; records = λ q. h }
+
+-- Whether it takes so many words is told by comparing them.
+pub walked_tells : {k : Kind} (t : Syn k) {size spent : ℕ} {r : Bool} {table : List (Option ℕ)} {count : ℕ} {table' : List (Option ℕ)} {count' : ℕ} → r ≡ eqb spent size → words t ≡ spent
+    → ((e : List ℕ) → Records e table count → Records (met t e) table' count') → Walked t size table count r table' count'
+walked_tells t {size} {spent} e w h = by_bool (eqb spent size)
+    (λ q. rw (e, q) (walked_fits t (w ∙ eqb-true spent size q) h))
+    (λ q. rw (e, q) (walked_differs t (λ d. true_false (eq-eqb spent size (sym w ∙ d)) q)))
 
 -- References
 

@@ -1,9 +1,11 @@
 -- Laws of tables of places: in one that a term's walk left just the term's variables have one.
 use mathlib.Core.Path.{◌≡◌, refl, sym, ◌∙◌}
-use mathlib.Core.Bool.{Bool, true}
+use mathlib.Core.Bool.{Bool, true, false, not}
 use Rattle.std.specs.List.{list_all}
-use Rattle.std.specs.Prelude.{zip}
-use Rattle.std.proofs.lemmas.Bool.{eq-eqb}
+use Rattle.std.specs.Prelude.{zip, ◌||◌, eqb, leb, EachIndex, slice_index}
+use Rattle.std.specs.Option.{option_eq}
+use Rattle.std.proofs.lemmas.Bool.{eq-eqb, lt-leb, leb-false}
+use Rattle.arena.specs.Copies.{pattern_room}
 use Rattle.unifier.specs.Promises.{Tells}
 use Rattle.meeting.specs.Places.{is_place}
 use Rattle.meeting.specs.PlaceLaws.{place_is}
@@ -19,8 +21,9 @@ use Rattle.meeting.specs.PlaceLaws.{placed_yes, placed_no}
 use Rattle.resolution.specs.Fresh.{met, met_back, place}
 use Rattle.rules.specs.CountLaws.{elem_met, all_met}
 use Rattle.rule_checks.specs.RuleForm.{rule_in}
+use Rattle.rule_checks.proofs.PartLaws.{each_passes}
 use Rattle.names.specs.Symbols.{column}
-use Rattle.rule_checks.specs.Steps.{Placed, Listed, premises_of, conclusion_of, InOrder}
+use Rattle.rule_checks.specs.Steps.{PlacedWord, Placed, Listed, premises_of, conclusion_of, InOrder}
 
 -- The numbers below n are n.
 pub numbers_count : (n : ℕ) → length (numbers_below n) ≡ n
@@ -68,3 +71,23 @@ columns_places (p ∷ table) (c ∷ columns) l h =
 pub columns_tell : (table : List (Option ℕ)) (columns : List ℕ) → length columns ≤ length table → {r : Bool} → r ≡ list_all (λ (p : Option ℕ × ℕ). is_place p.0 p.1) (zip table columns)
     → Tells r ((x : ℕ) → x < length columns → get_or table x None ≡ Some (get_or columns x 0))
 columns_tell table columns l e = record { yes = λ q. places_columns table columns l (sym e ∙ q); back = λ h. e ∙ columns_places table columns l h }
+
+-- Is a word no variable, or one with a place?
+abbrev pub is_placed : List (Option ℕ) → ℕ → Bool
+is_placed table word = leb pattern_room word || not (option_eq eqb (get_or table word None) None)
+
+placed_word : (table : List (Option ℕ)) (word : ℕ) → is_placed table word ≡ true → PlacedWord table word
+placed_word table word h l n = true_false h (rw (lt-leb pattern_room word l, n) refl)
+
+word_placed : (table : List (Option ℕ)) (word : ℕ) → PlacedWord table word → is_placed table word ≡ true
+word_placed table word h = by_bool (leb pattern_room word) (λ q. rw q refl) (λ q. go (get_or table word None) refl q)
+  where
+    go : (p : Option ℕ) → get_or table word None ≡ p → leb pattern_room word ≡ false → is_placed table word ≡ true
+    go None e q = absurd (h (leb-false pattern_room word q) e)
+    go (Some p) e q = rw (q, e) refl
+
+pub placed_words : (table : List (Option ℕ)) (words : List ℕ) (r : Bool) → r ≡ list_all (is_placed table) words
+    → Tells r (EachIndex words (λ k. PlacedWord table (slice_index words k)))
+placed_words table words r e =
+    let t = each_passes (is_placed table) (PlacedWord table) (placed_word table) (word_placed table) words r e in
+    record { yes = t.0; back = t.1 }

@@ -187,12 +187,7 @@ fn walk_premises(words: &[u32], rule: &RuleRow, places: &mut Places, stack: &mut
 fn are_placed(words: &[u32], places: &Places) -> bool
     ensures { Tells result (EachIndex words.now (λ k. PlacedWord places.now.places (slice_index words.now k))) }
 {
-    for word in words {
-        if *word < ROOM && places.places[*word as usize] == None {
-            return false;
-        }
-    }
-    true
+    words.iter().all(|word| *word >= ROOM || places.places[*word as usize] != None)
 }
 
 // Whether the terms of a row take the words that it counts, and its variables are numbered in writing order. The stack is scratch.

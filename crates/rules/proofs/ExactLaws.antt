@@ -47,7 +47,7 @@ places_exact R v appear table placed long =
 numbers_exact : (title : Title) (R : Rule) (from middle used conclusion n v meets : ℕ) (heads : List ℕ)
     → heads ≡ references R.premises from → conclusion ∷ [] ≡ references R.conclusion middle → length R.sorts ≡ v → length heads ≡ n
     → middle ≡ from + words R.premises → used ≡ middle + words R.conclusion → meets ≡ length (head_vars R)
-    → title.start ∷ title.size ∷ title.clause ∷ v ∷ n ∷ conclusion ∷ from ∷ (middle - from) ∷ (used - middle) ∷ meets ∷ [] ≡ rule_numbers title from R
+    → title.word.start ∷ title.word.size ∷ title.clause ∷ v ∷ n ∷ conclusion ∷ from ∷ (middle - from) ∷ (used - middle) ∷ meets ∷ [] ≡ rule_numbers title from R
 numbers_exact title R from middle used conclusion n v meets heads hs ref many number m u counts =
     let a : n ≡ count R.premises = sym number ∙ ap length hs ∙ references_length R.premises from in
     let b : conclusion ≡ get_or (references R.conclusion (from + words R.premises)) 0 0 =
@@ -60,7 +60,7 @@ numbers_exact title R from middle used conclusion n v meets heads hs ref many nu
 pub row_exact : (title : Title) (R : Rule) (from middle used conclusion n v meets : ℕ) (heads sorts places : List ℕ)
     → heads ≡ references R.premises from → conclusion ∷ [] ≡ references R.conclusion middle → sorts ≡ R.sorts → length sorts ≡ v → length heads ≡ n
     → middle ≡ from + words R.premises → used ≡ middle + words R.conclusion → meets ≡ length (head_vars R) → places ≡ map (place (all_vars R)) (numbers_below v)
-    → rule_row (title.start ∷ title.size ∷ title.clause ∷ v ∷ n ∷ conclusion ∷ from ∷ (middle - from) ∷ (used - middle) ∷ meets ∷ []) heads sorts places ≡ row_of title from R
+    → rule_row (title.word.start ∷ title.word.size ∷ title.clause ∷ v ∷ n ∷ conclusion ∷ from ∷ (middle - from) ∷ (used - middle) ∷ meets ∷ []) heads sorts places ≡ row_of title from R
 unfolding row_of
 row_exact title R from middle used conclusion n v meets heads sorts places hs ref ss many number m u counts ps =
     let l : length R.sorts ≡ v = ap length (sym ss) ∙ many in

@@ -8,11 +8,10 @@ use lib.ListN.{length, get_or, take, drop, set, length-set, get_or-map}
 use borrow.Rule.Slice.PartMut.{put_mid}
 use Rattle.std.proofs.lemmas.List.{take-append-drop, drop-drop, drop-set-lt}
 use Rattle.std.proofs.Common.{append_assoc}
-use lib.Seq.{sets, take-suc, take-suc-set, length-take-le}
+use lib.Seq.{sets, take-suc, take-suc-set, length-take-le, get_or-set_same, set-set}
 use Rattle.names.specs.Symbols.{Rows, Variable, row_at, column, variable_of, variables_of}
 use Rattle.std.specs.Prelude.{Option, None}
 use Rattle.std.specs.Option.{unwrap_or}
-use native.Mathlib.Omega.{arith}
 use Rattle.arena.specs.Copies.{pattern_room}
 use Rattle.meeting.specs.Places.{place_numbers}
 use Rattle.names.specs.SearchLaws.{map_length, table_length}
@@ -74,6 +73,14 @@ sorts_next text row rows at j l =
     let v : get_or xs j 0 ≡ column (row_at rows j) 3 = get_or-map f rows j [] in
     let m : j < length xs = rw (map_length f rows) l in
     ap₂ (λ (a : List ℕ) (b : ℕ). set (sets row at a) (at + j) b) (e j) (sym v) ∙ sets_next row xs at j m ∙ ap (sets row at) (sym (e (j + 1)))
+
+-- A row changed again.
+pub over : (rules rules' rules'' : Rows) (i : ℕ) → i < length rules → (row : List ℕ) (f : List ℕ → List ℕ) → rules' ≡ set rules i row → rules'' ≡ set rules' i (f (row_at rules' i)) → rules'' ≡ set rules i (f row)
+over rules rules' rules'' i l row f e d =
+    d ∙ ap (λ (x : Rows). set x i (f (row_at x i))) e ∙ set-set rules i row _ ∙ ap (λ (x : List ℕ). set rules i (f x)) (get_or-set_same rules i row [] l)
+
+pub still_there : (rules rules' : Rows) (i : ℕ) → i < length rules → (row : List ℕ) → rules' ≡ set rules i row → i < length rules'
+still_there rules rules' i l row e = rw e (rw (length-set rules i row) l)
 
 -- A place as a number.
 pub number_unwrapped : (table : List (Option ℕ)) (j : ℕ) → j < length table → get_or (place_numbers table) j 0 ≡ unwrap_or (get_or table j None) pattern_room

@@ -18,7 +18,7 @@ the_words : rule_words 0 step ≡ 1048642 ∷ 0 ∷ 1 ∷ 1048609 ∷ 1 ∷ 1048
 unfolding step references laid_words rule_words
 the_words = refl
 
-the_row : row_of (record { start = 64; size = 4; clause = 0 }) 0 step
+the_row : row_of (record { word = record { start = 64; size = 4 }; clause = 0 }) 0 step
     ≡ rule_row (64 ∷ 4 ∷ 0 ∷ 2 ∷ 1 ∷ 69 ∷ 0 ∷ 3 ∷ 5 ∷ 2 ∷ []) (64 ∷ []) (1 ∷ 1 ∷ []) (1 ∷ 0 ∷ [])
 unfolding same step references row_of
 the_row = refl

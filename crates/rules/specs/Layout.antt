@@ -32,7 +32,7 @@ rule_words u R = laid_words R.premises u ++ laid_words R.conclusion (u + words R
 -- The ten numbers of a rule, in the order of the columns.
 abbrev pub rule_numbers : Title → ℕ → Rule → List ℕ
 rule_numbers title u R =
-    title.start ∷ title.size ∷ title.clause ∷ length R.sorts ∷ count R.premises
+    title.word.start ∷ title.word.size ∷ title.clause ∷ length R.sorts ∷ count R.premises
     ∷ get_or (references R.conclusion (u + words R.premises)) 0 0
     ∷ u ∷ words R.premises ∷ words R.conclusion ∷ length (head_vars R) ∷ []
 

@@ -86,9 +86,9 @@ pub record KeepAsked (pattern : List ℕ) (from middle used : ℕ) (heads : List
 
 -- What it owes: a row that keeps that rule, where the variables are those of the rule and the title is its name.
 pub record Keeping (pattern : List ℕ) (from middle used : ℕ) (heads : List ℕ) (conclusion : ℕ) (variables : Rows) (title : Title) (row : List ℕ) : Type 0 where
-  pub placed : (column row 0 ≡ title.start) × (column row 1 ≡ title.size) × (column row 2 ≡ title.clause)
+  pub placed : (column row 0 ≡ title.word.start) × (column row 1 ≡ title.word.size) × (column row 2 ≡ title.clause)
   pub kept : (text arities : List ℕ) (R : Rule) → RuleLying arities R pattern from heads middle conclusion used
-      → titled text title.start title.size title.clause ≡ R.name → map (λ x. x.sort) (variables_of text variables (length variables)) ≡ R.sorts
+      → titled text title.word.start title.word.size title.clause ≡ R.name → map (λ x. x.sort) (variables_of text variables (length variables)) ≡ R.sorts
       → met R.conclusion (met R.premises []) ≡ numbers_below (length R.sorts)
       → Kept text arities pattern row R from used
   -- It is the row of that rule, where the references are those of its terms.
@@ -126,7 +126,7 @@ pub record RuleDone (text arities : List ℕ) (title : Title) (w : List ℕ) (u 
   pub is : r ≡ Ok (record { used = used; room = room' })
   pub row : List ℕ
   pub written : rules' ≡ set rules number row
-  pub placed : (column row 0 ≡ title.start) × (column row 1 ≡ title.size) × (column row 2 ≡ title.clause)
+  pub placed : (column row 0 ≡ title.word.start) × (column row 1 ≡ title.word.size) × (column row 2 ≡ title.clause)
   pub kept : Kept text arities w' row R u used
   -- Row and words are the rule's, and no other word changed.
   pub exact : row ≡ row_of title u R
@@ -143,4 +143,4 @@ Entering text arities title w u room rules number w' rules' (ruled R room') r = 
 pub record RuleEntered (text : List ℕ) (premises : Rows) (p n : ℕ) (conclusions : Rows) (here : ℕ) (symbols : List Symbol) (title : Title) (w : List ℕ) (u room : ℕ)
     (rules : Rows) (number : ℕ) (r : Result Space Refusal) (w' : List ℕ) (rules' : Rows) : Type 0 where
   pub same : (ps : Written many) (q : ℕ) → Stands text premises p ps q → size ps ≡ n → (c : Written one) (q' : ℕ) → Stands text conclusions here c q'
-      → Entering text (arities_of symbols) title w u room rules number w' rules' (entering number (rule_of symbols (titled text title.start title.size title.clause) ps c room)) r
+      → Entering text (arities_of symbols) title w u room rules number w' rules' (entering number (rule_of symbols (titled text title.word.start title.word.size title.clause) ps c room)) r

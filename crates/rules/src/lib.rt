@@ -15,7 +15,7 @@ ghost use Rattle.rules.specs.Promises.{Judging, OrderAsked, Ordered, Keeping, Ke
 
 use arena::PATTERN_ROOM;
 use meeting::Places;
-use names::{SourceTerms, SymbolRow, TermRow, VariableRow};
+use names::{SourceTerms, SymbolRow, TermRow, VariableRow, Word};
 use patterns::Place;
 use refusals::Refusal;
 
@@ -222,10 +222,10 @@ fn store(
 }
 
 // Where a rule's name stands, and the number of its clause + 1; 0 for a written rule.
+// Stays: C callers lend the rules' rows, in which a clause is its number + 1 and a written rule 0, and a title is only carried to such a row.
 #[derive(Clone, Copy)]
 pub struct Title {
-    pub start: u32,
-    pub size: u32,
+    pub word: Word,
     pub clause: u32,
 }
 
@@ -258,8 +258,8 @@ fn keep(
     };
     let met = order_sized(terms, &mut places);
     let numbers = [
-        title.start,
-        title.size,
+        title.word.start,
+        title.word.size,
         title.clause,
         v as u32,
         heads.len() as u32,
@@ -273,6 +273,7 @@ fn keep(
 }
 
 // Where a rule is entered: its number, and the space for its words.
+// Stays: words and rows go beside it; a struct of the two would be made anew from four buffers at each call, and each contract would say they come back.
 #[derive(Clone, Copy)]
 pub struct RulePlace {
     pub number: usize,

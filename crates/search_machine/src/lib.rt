@@ -41,6 +41,7 @@ pub struct Program<'a> {
 }
 
 // What a search writes: the session's words and bindings, the scratch of unification, and a row for each rule that is entered.
+// Stays: each function promises that the same buffers are lent afterwards (`IsLent`); an invariant tells of one value, and not of the one before.
 #[derive(Drop)]
 pub struct Store<'a> {
     pub words: &'a mut [u32],
@@ -53,6 +54,7 @@ pub struct Store<'a> {
 
 impl Store<'_> {
     // The frame at a number.
+    #[tactic(auto, unfolding(crate::specs::State::frame_at))]
     fn frame(&self, at: u32) -> Frame
         requires { at < length self.now.frames.now }
         ensures { result ≡ frame_at self.now.frames.now at }

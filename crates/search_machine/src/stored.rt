@@ -29,6 +29,7 @@ fn stored_in(row: &RuleRow) -> Stored
 }
 
 // The number of premises of a rule.
+#[tactic(auto, unfolding(crate::specs::State::arity))]
 pub fn arity_of(rules: &[RuleRow], rule: u32) -> u32
     requires { rule < length rules.now }
     ensures { result ≡ arity rules.now rule }

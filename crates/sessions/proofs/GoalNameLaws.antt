@@ -4,7 +4,7 @@ use Prim.Native.Nat.{ℕ, zero, suc, ◌+◌, ◌≤◌, ◌<◌}
 use Rattle.std.proofs.Common.{arith, sym, ap, ap₂, ◌∙◌, subst, length-append, length-drop, take-append-drop, get_or-drop, get_or-take, length-take-le, ext_get_or, ltb-true, ltb-false}
 use Rattle.std.specs.Prelude.{◌≡◌, refl, true, ◌&&◌, eqb, ltb, length, get_or, take, drop}
 use mathlib.Core.List.{List, [], ◌∷◌, ◌++◌, map}
-use Rattle.std.proofs.lemmas.List.{length-map}
+use Rattle.std.proofs.lemmas.List.{length-map, map-append}
 use Rattle.std.proofs.Math.ListN.{get_or-append, get_or-map}
 use Rattle.std.proofs.Math.Seq.{map-set_same, get_or-append_seam}
 use Rattle.source_text.specs.Bytes.{same_bytes}
@@ -157,10 +157,6 @@ texts_new : (vs : List Variable) → new_texts (map name_for vs) ≡ names_of vs
 texts_new [] = refl
 texts_new (v ∷ vs) = ap (λ (l : List Name). v.name ∷ l) (texts_new vs)
 
-map_append : {A B : Type 0} (f : A → B) (a b : List A) → map f (a ++ b) ≡ map f a ++ map f b
-map_append f [] b = refl
-map_append {A} {B} f (x ∷ a) b = ap (λ (l : List B). f x ∷ l) (map_append f a b)
-
 -- The first variables keep their names.
 names_front : (vs vs' : List Variable) → Grown vs vs' → names_of (take (length vs) vs') ≡ names_of vs
 names_front vs vs' g =
@@ -202,7 +198,7 @@ module _ (symbols : List Symbol) (sorts : ℕ) (inputs : InputsUpto sorts symbol
           ∙ texts_for ns in
           let whole : names_of vs' ≡ texts_of ns ++ new_texts (map name_for (drop (length ns) vs')) =
           ap names_of (sym (take-append-drop (length ns) vs'))
-          ∙ map_append (λ (v : Variable). v.name) (take (length ns) vs') (drop (length ns) vs')
+          ∙ map-append (λ (v : Variable). v.name) (take (length ns) vs') (drop (length ns) vs')
           ∙ ap₂ (λ (x y : List Name). x ++ y) front (sym (texts_new (drop (length ns) vs'))) in
           record {
             few = omega arith;

@@ -105,7 +105,8 @@ pub fn put_places<const N: usize>(rows: &[[u32; N]], at: usize, places: &mut [So
     }
 }
 
-// Does no name serve twice among sorts and symbols? Their places are sorted by their names: for k names some k times log2 k comparisons, each at most as long as the shorter name.
+// Does no name serve twice among sorts and symbols? Their places are sorted by their names: for k names some k times log2 k comparisons, each at most as
+// long as the shorter name.
 fn are_names_distinct(text: &[u8], sorts: &[SortRow], symbols: &[SymbolRow]) -> bool
     requires { (length sorts.now ≤ 256) × (length symbols.now ≤ 1024) }
     ensures { Tells result (Distinct (names_of (sorts_of text.now sorts.now (length sorts.now)) (symbols_of text.now symbols.now (length symbols.now)))) }
@@ -126,7 +127,7 @@ fn are_numbers_formed(sorts: u32, output: u32, inputs: u32, free: u32) -> bool
 }
 
 // A function has no output, and its last input is its result; only a function has clauses.
-// Stays: a `match` on the number of a mark, which C callers lend, by the names of the two marks.
+// Stays: C callers lend the mark as a number that may be neither; an enum would be made by the same `match`, only to be matched again here.
 fn is_mark_formed(output: u32, mark: u32, clauses: u32, inputs: u32) -> bool
     ensures { Tells result (MarkFormed output mark clauses inputs) }
 {

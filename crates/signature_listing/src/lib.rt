@@ -7,7 +7,7 @@ ghost use Rattle.source_text.specs.Parts.{part_of};
 ghost use Rattle.signature_listing.specs.Nodes.{arity_at};
 
 use load_storage::EvalRow;
-use names::{SortRow, SymbolRow};
+use names::{NO_FUNCTION, SortRow, SymbolRow};
 use rules::RuleRow;
 use signature::StoredSignature;
 
@@ -25,7 +25,7 @@ const ARITIES: u32 = 32;
 // The columns of a symbol's row: its output, its function mark, its first clause, how many clauses and inputs it has, and where its inputs start.
 const OUTPUT: usize = 2;
 
-const FUNCTION: usize = 3;
+const MARK: usize = 3;
 
 const FIRST_CLAUSE: usize = 4;
 
@@ -59,6 +59,7 @@ const FIRST_SORT: usize = 26;
 
 const FIRST_PLACE: usize = 90;
 
+// Stays: `Display` writes `str`, and names are bytes of a text: each would be tested as UTF-8 at every print, with an answer where it is none.
 fn write(bytes: &[u8]) {
     io::write_all(STDOUT_FILENO, bytes);
 }
@@ -140,7 +141,7 @@ fn list_sorts(text: &[u8], sorts: &[SortRow]) {
 
 // Writes where a function's clauses start and how many there are.
 fn write_clauses(row: &SymbolRow) {
-    if row[FUNCTION] == 0 {
+    if row[MARK] == NO_FUNCTION {
         return;
     }
     write(b" function ");
@@ -175,6 +176,7 @@ fn write_symbol_name(text: &[u8], symbols: &[SymbolRow], number: u32) {
 }
 
 // The arity of the node at an address; 0 where there is no header.
+// Stays: a word that is no header is passed over alone, as one of arity 0 is; an option would be turned into that at once.
 fn arity_at(words: &[u32], address: usize) -> usize
     ensures value { result ≡ arity_at words.now address }
     ensures upper_bound { result ≤ 31 }
@@ -186,44 +188,36 @@ fn arity_at(words: &[u32], address: usize) -> usize
 }
 
 // Lists the node at an address.
-fn list_node(text: &[u8], symbols: &[SymbolRow], words: &[u32], address: usize, first: u32) {
-    let Some(header) = words.get(address) else {
+fn list_node(text: &[u8], signature: StoredSignature, address: usize, first: u32) {
+    let words = signature.words;
+    let Some(&header) = words.get(address) else {
         write(b"wrong: no such word\n");
         return;
     };
-    let header = *header;
     if header < FIRST_HEADER {
         write(b"wrong: no header\n");
         return;
     }
     write(b"  #");
-    io::print_decimal(
-        STDOUT_FILENO,
-        std::num::wrapping_sub_u64(address as u64, first as u64),
-    );
+    io::print_decimal(STDOUT_FILENO, (address as u64).wrapping_sub(first as u64));
     write(b" ");
-    write_symbol_name(text, symbols, (header - FIRST_HEADER) / ARITIES);
+    write_symbol_name(text, signature.symbols, (header - FIRST_HEADER) / ARITIES);
     write_references(part(words, address + 1, arity_at(words, address)), first);
     write(b"\n");
 }
 
-// Lists the nodes of a rule, whose words start at the first: those of its premises and those of its conclusion.
-fn list_nodes(
-    text: &[u8],
-    symbols: &[SymbolRow],
-    words: &[u32],
-    first: u32,
-    premises: u32,
-    conclusion: u32,
-) {
-    let count = premises as usize + conclusion as usize;
+// Lists the nodes of a rule: those of its premises and those of its conclusion.
+fn list_nodes(text: &[u8], signature: StoredSignature, row: &RuleRow) {
+    let words = signature.words;
+    let first = row[FIRST_WORD];
+    let count = row[PREMISE_WORDS] as usize + row[CONCLUSION_WORDS] as usize;
     let mut done = 0;
     while done < count {
         if words.len() <= done {
             return;
         }
         let address = first as usize + done;
-        list_node(text, symbols, words, address, first);
+        list_node(text, signature, address, first);
         done += 1 + arity_at(words, address);
     }
 }
@@ -265,14 +259,7 @@ fn list_references(row: &RuleRow) {
 
 fn list_rule(text: &[u8], signature: StoredSignature, row: &RuleRow) {
     list_heading(text, signature.sorts, row);
-    list_nodes(
-        text,
-        signature.symbols,
-        signature.words,
-        row[FIRST_WORD],
-        row[PREMISE_WORDS],
-        row[CONCLUSION_WORDS],
-    );
+    list_nodes(text, signature, row);
     list_references(row);
 }
 
@@ -287,7 +274,7 @@ fn list_evals(evals: &[EvalRow]) {
 }
 
 // The first rows, so many as are in use, or all where there are not as many.
-// Stays: it is what makes the used part of a table and its count.
+// Stays: this is where the part of a table in use is made from the table and its count.
 fn used<T>(rows: &[T], count: u32) -> &[T] {
     &rows[..rows.len().min(count as usize)]
 }

@@ -1,11 +1,10 @@
 // The lent buffers: what they hold before a call, and the tests of what they hold afterwards.
 ghost use Rattle.std.specs.Prelude.{◌≡◌, ◌&&◌, length, drop, replicate, nat_le};
-ghost use Rattle.signature_tests.specs.Rows.{are_all, is_all, junk, Filled};
+ghost use Rattle.load_storage.specs.Lent.{buffers_of, IsLent};
+ghost use Rattle.signature_tests.specs.Rows.{are_all, is_all, AllFilled};
 
-use load_storage::EvalRow;
-use names::{SortRow, SymbolRow, TermRow};
-use rules::RuleRow;
-use signature::StoredSignature;
+use load_storage::LentBuffers;
+use signature::Counts;
 
 // Standard output.
 const STDOUT_FILENO: i32 = 1;
@@ -19,32 +18,19 @@ pub fn fill_words(words: &mut [u32], value: u32)
     words.fill(value);
 }
 
-pub fn fill_scratch(
-    tokens: &mut [TermRow],
-    rows: &mut [TermRow],
-    calls: &mut [TermRow],
-    evals: &mut [EvalRow],
-)
-    ensures { Filled (replicate 4 junk) tokens.old tokens.new × Filled (replicate 4 junk) rows.old rows.new × Filled (replicate 4 junk) calls.old calls.new × Filled (replicate 2 junk) evals.old evals.new }
+// Fills all that a load is lent.
+pub fn fill(lent: &mut LentBuffers)
+    ensures filled { AllFilled (buffers_of lent.old) (buffers_of lent.new) }
+    ensures lent { IsLent lent.old lent.new }
 {
-    tokens.fill([JUNK; 4]);
-    rows.fill([JUNK; 4]);
-    calls.fill([JUNK; 4]);
-    evals.fill([JUNK; 2]);
-}
-
-pub fn fill_signature(
-    sorts: &mut [SortRow],
-    symbols: &mut [SymbolRow],
-    rules: &mut [RuleRow],
-    words: &mut [u32],
-)
-    ensures { Filled (replicate 2 junk) sorts.old sorts.new × Filled (replicate 24 junk) symbols.old symbols.new × Filled (replicate 154 junk) rules.old rules.new × Filled junk words.old words.new }
-{
-    sorts.fill([JUNK; 2]);
-    symbols.fill([JUNK; 24]);
-    rules.fill([JUNK; 154]);
-    fill_words(words, JUNK);
+    lent.tokens.fill([JUNK; 4]);
+    lent.rows.fill([JUNK; 4]);
+    lent.calls.fill([JUNK; 4]);
+    lent.sorts.fill([JUNK; 2]);
+    lent.symbols.fill([JUNK; 24]);
+    lent.rules.fill([JUNK; 154]);
+    lent.words.fill(JUNK);
+    lent.evals.fill([JUNK; 2]);
 }
 
 // Is each of the numbers the value?
@@ -86,40 +72,28 @@ pub fn expect(holds: bool, claim: &[u8]) {
     io::write_all(STDOUT_FILENO, b"\n");
 }
 
-// Tests that the declarations' rows past `used` and those of `#eval` past n hold the value, and the scratch throughout.
+// Tests that a signature's storage past the counts, the declarations' rows past so many and those of `#eval` past so many hold the value, and the
+// scratch throughout.
 // Stays: a count past the end is one of the faults that the test tells, so that the used part cannot be lent.
-pub fn test_scratch(
-    tokens: &[TermRow],
-    rows: &[TermRow],
-    used: usize,
-    calls: &[TermRow],
-    evals: &[EvalRow],
-    n: usize,
-    value: u32,
-) {
-    expect(are_rows(tokens, 0, value), b"tokens as lent or zero");
-    expect(are_rows(rows, used, value), b"rows as lent or zero");
-    expect(are_rows(calls, 0, value), b"calls as lent or zero");
-    expect(are_rows(evals, n, value), b"evals as lent or zero");
-}
-
-// Tests that a signature's storage past the counts holds the value.
-pub fn test_signature(signature: StoredSignature, value: u32) {
-    let counts = signature.counts;
+pub fn test(lent: &LentBuffers, rows: usize, evals: usize, counts: Counts, value: u32) {
+    expect(are_rows(lent.tokens, 0, value), b"tokens as lent or zero");
+    expect(are_rows(lent.rows, rows, value), b"rows as lent or zero");
+    expect(are_rows(lent.calls, 0, value), b"calls as lent or zero");
+    expect(are_rows(lent.evals, evals, value), b"evals as lent or zero");
     expect(
-        are_rows(signature.sorts, counts.sorts as usize, value),
+        are_rows(lent.sorts, counts.sorts as usize, value),
         b"sorts as lent or zero",
     );
     expect(
-        are_rows(signature.symbols, counts.symbols as usize, value),
+        are_rows(lent.symbols, counts.symbols as usize, value),
         b"symbols as lent or zero",
     );
     expect(
-        are_rows(signature.rules, counts.rules as usize, value),
+        are_rows(lent.rules, counts.rules as usize, value),
         b"rules as lent or zero",
     );
     expect(
-        is_all(signature.words, counts.words as usize, value),
+        is_all(lent.words, counts.words as usize, value),
         b"words as lent or zero",
     );
 }

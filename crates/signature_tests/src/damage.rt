@@ -1,12 +1,15 @@
 // Damaged signatures, which `check_signature` must refuse: in a stored one that it accepts a single number is changed, and then put back.
 ghost use Rattle.std.specs.Prelude.{◌≡◌, ◌<◌, length};
+ghost use Rattle.load_storage.specs.Lent.{buffers_of, IsLent};
 ghost use Rattle.signature.specs.Storage.{SignatureChecked};
 ghost use Rattle.signature_tests.specs.Damage.{Stands, number_at, changed, loaded_in};
 
 use crate::buffers;
+use load_storage::LentBuffers;
 use names::{SortRow, SymbolRow};
 use rules::RuleRow;
 use signature::{Counts, StoredSignature};
+use std::mem;
 
 // The most bytes of a name, and the largest clause number.
 const BYTES: u32 = 64;
@@ -19,8 +22,8 @@ const NO_WORD: u32 = 0xFFFF_FFFF;
 // Where references to nodes start.
 const FIRST_NODE: u32 = 64;
 
-// The columns that are changed: of a name its place and its length, of a symbol its output and its first clause, of a rule its clause number, its number of variables and its
-// first premise.
+// The columns that are changed: of a name its place and its length, of a symbol its output and its first clause, of a rule its clause number, its number
+// of variables and its first premise.
 const PLACE: usize = 0;
 
 const SIZE: usize = 1;
@@ -85,26 +88,10 @@ fn exchange(loaded: &mut Loaded, spot: Spot, value: u32) -> u32
     ensures changed { loaded.new ≡ changed spot loaded.old value }
 {
     match spot {
-        Spot::Sort { row, column } => {
-            let before = loaded.sorts[row][column];
-            loaded.sorts[row][column] = value;
-            before
-        }
-        Spot::Symbol { row, column } => {
-            let before = loaded.symbols[row][column];
-            loaded.symbols[row][column] = value;
-            before
-        }
-        Spot::Rule { row, column } => {
-            let before = loaded.rules[row][column];
-            loaded.rules[row][column] = value;
-            before
-        }
-        Spot::Word { at } => {
-            let before = loaded.words[at];
-            loaded.words[at] = value;
-            before
-        }
+        Spot::Sort { row, column } => mem::replace(&mut loaded.sorts[row][column], value),
+        Spot::Symbol { row, column } => mem::replace(&mut loaded.symbols[row][column], value),
+        Spot::Rule { row, column } => mem::replace(&mut loaded.rules[row][column], value),
+        Spot::Word { at } => mem::replace(&mut loaded.words[at], value),
     }
 }
 
@@ -175,7 +162,7 @@ fn test_symbol(loaded: &mut Loaded, i: usize)
         past,
     );
     buffers::expect(!placed, b"refused with a symbol's name past the text");
-    let no_sort = std::num::wrapping_add_u32(loaded.counts.sorts, 1);
+    let no_sort = loaded.counts.sorts.wrapping_add(1);
     let sorted = is_taken_with(
         loaded,
         Spot::Symbol {
@@ -304,7 +291,7 @@ fn test_variables(loaded: &mut Loaded, i: usize)
     requires { i < length loaded.old.rules.now }
     ensures { loaded.new ≡ loaded.old }
 {
-    let more = std::num::wrapping_add_u32(loaded.rules[i][VARIABLES], 1);
+    let more = loaded.rules[i][VARIABLES].wrapping_add(1);
     let taken = is_taken_with(
         loaded,
         Spot::Rule {
@@ -318,7 +305,7 @@ fn test_variables(loaded: &mut Loaded, i: usize)
 
 // The reference of a node past so many words of premises.
 fn past_premises(first: u32, count: u32) -> u32 {
-    std::num::wrapping_add_u32(FIRST_NODE, std::num::wrapping_add_u32(first, count))
+    FIRST_NODE.wrapping_add(first).wrapping_add(count)
 }
 
 // Tests the first premise of one rule, if it has any.
@@ -343,7 +330,7 @@ fn test_premise(loaded: &mut Loaded, i: usize)
 }
 
 // Tests each sort.
-// Stays: the four functions count by four fields and call tests of their own; one loop would take both from closures over what is loaded, for bodies of a line to four.
+// Stays: each of the four functions has its own count and tests; one loop would take both as closures over what is loaded, for bodies of a line to four.
 fn test_sorts(loaded: &mut Loaded)
     ensures { loaded.new ≡ loaded.old }
 {
@@ -376,7 +363,7 @@ fn test_rules(loaded: &mut Loaded)
 }
 
 // Tests each word.
-// Stays: the four functions count by four fields and call tests of their own; one loop would take both from closures over what is loaded, for bodies of a line to four.
+// Stays: each of the four functions has its own count and tests; one loop would take both as closures over what is loaded, for bodies of a line to four.
 fn test_words(loaded: &mut Loaded)
     ensures { loaded.new ≡ loaded.old }
 {
@@ -386,21 +373,17 @@ fn test_words(loaded: &mut Loaded)
     }
 }
 
-// Tests a signature that was loaded.
-pub fn test(
-    text: &[u8],
-    sorts: &mut [SortRow],
-    symbols: &mut [SymbolRow],
-    rules: &mut [RuleRow],
-    words: &mut [u32],
-    counts: Counts,
-) {
+// Tests a signature that was loaded, and leaves what is lent as it was.
+pub fn test(text: &[u8], lent: &mut LentBuffers, counts: Counts)
+    ensures lent { IsLent lent.old lent.new }
+    ensures kept { buffers_of lent.new ≡ buffers_of lent.old }
+{
     let mut loaded = Loaded {
         text,
-        sorts,
-        symbols,
-        rules,
-        words,
+        sorts: &mut *lent.sorts,
+        symbols: &mut *lent.symbols,
+        rules: &mut *lent.rules,
+        words: &mut *lent.words,
         counts,
     };
     test_sorts(&mut loaded);

@@ -33,7 +33,7 @@ pub struct Input<'a> {
 }
 
 // Where a reader stands: the place of the next token, and how many rows are in use.
-// Stays: beside the input, which is read, and the rows, which are written: in one struct all would be lent to be written, and each reader would have to promise that the input stands.
+// Stays: apart from the input, which is read, and the rows, which are written: a struct of all three would be lent to be written, input and all.
 #[derive(Clone, Copy)]
 pub struct Position {
     pub at: usize,

@@ -100,6 +100,7 @@ pub fn atom(
 }
 
 // A term applied to terms by juxtaposition: the first atom takes those behind it.
+// Stays: `items::all` has no `left`: its items would become values, of which only atoms hold a number, and its loop would be in the cycle of calls.
 #[cycle(app_atom_term)]
 pub fn app(input: Input, from: Position, left: u32, out: &mut [[u32; 4]]) -> Result<Read, Rejection>
     requires { Room input.tokens.now from.at from.used out.old }

@@ -11,6 +11,7 @@ use super::{Input, Position, Read, Token};
 use refusals::{Refusal, Rejection};
 
 // The token at a place; past the end all its numbers are 0. No other function reads the list.
+// Stays: no kind is 0, so each caller compares the kind alone; of an `Option` each would ask `is_some_and(|token| token.kind == NAME)`.
 pub fn peek(tokens: &[[u32; 4]], at: usize) -> Token
     ensures { result ≡ token_of (drop at tokens.now) }
 {
@@ -31,6 +32,7 @@ pub fn peek(tokens: &[[u32; 4]], at: usize) -> Token
 }
 
 // The line of the token at a place, or that of the last one.
+// Stays: line 0 means no line, as in every `Rejection`.
 pub fn line(tokens: &[[u32; 4]], at: usize) -> u32
     ensures { result ≡ line_of (last_line tokens.now) (drop at tokens.now) }
 {

@@ -38,7 +38,7 @@ pub record KeepsName (text row : List ℕ) (p : Place) : Type 0 where
 -- A rule's row keeps this title: at its place stands a whole word, which is the name of the rule or that of the clause's function, and the
 -- row's start, length and number are the title's. (The number is 0 for a written rule and n + 1 for the clause `f.n`.)
 pub record KeepsTitle (text row : List ℕ) (t : Title) : Type 0 where
-  pub word : NameAt text t.start t.size
+  pub word : NameAt text t.word.start t.word.size
   pub is : row_title row ≡ t
 
 -- Storage keeps the names of the declarations ds whole, in as many rows of each kind as are counted.
@@ -87,7 +87,7 @@ module _ (text : List ℕ) (limits : Limits) (ds : List Declared) (s : Signature
           is = symbol_placed zero_symbol (length b₀.symbols) t.symbols s.symbols b.symbols (sym m) (ap (λ (c : Buffers). c.symbols) e) i (omega arith);
         };
         rules = λ i l. record {
-          word = each_at (λ (r : Title). NameAt text r.start r.size) t.rules (title_at (place 0 0) 0) names.whole.rules i (omega arith);
+          word = each_at (λ (r : Title). NameAt text r.word.start r.word.size) t.rules (title_at (place 0 0) 0) names.whole.rules i (omega arith);
           is = rule_placed zero_rule (length b₀.rules) t.rules s.rules b.rules (sym k) (ap (λ (c : Buffers). c.rules) e) i (omega arith);
         };
         one_sort = one_sort_lem text ds s names b x y;

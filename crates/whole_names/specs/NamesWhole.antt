@@ -33,7 +33,7 @@ use Rattle.whole_names.specs.VariablesWhole.{variables_whole}
 pub record TitlesWhole (text : List ℕ) (t : Titles) : Type 0 where
   pub sorts : Each (WholeName text) t.sorts
   pub symbols : Each (WholeName text) t.symbols
-  pub rules : Each (λ r. NameAt text r.start r.size) t.rules
+  pub rules : Each (λ r. NameAt text r.word.start r.word.size) t.rules
 
 -- The names of the signature s of the declarations ds are whole.
 pub record NamesWhole (text : List ℕ) (ds : List Declared) (s : Signature) : Type 0 where
@@ -53,7 +53,7 @@ pub record NamesWhole (text : List ℕ) (ds : List Declared) (s : Signature) : T
 
 module _ (text : List ℕ) where
   abbrev RuleWhole : Title → Type 0
-  RuleWhole r = NameAt text r.start r.size
+  RuleWhole r = NameAt text r.word.start r.word.size
 
   clauses_whole : (cs : List Clause) (ts : List Title) (p : Place) (n : ℕ) → WholeName text p → Each RuleWhole ts
       → Each RuleWhole (with_clauses ts p n cs)

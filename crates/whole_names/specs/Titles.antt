@@ -9,7 +9,7 @@ use Rattle.loader.specs.Stored.{title_at}
 
 -- What a title spells: the bytes at its place, and `.n` behind them for the clause with number n.
 abbrev pub spelling : List ℕ → Title → Name
-spelling text t = titled text t.start t.size t.clause
+spelling text t = titled text t.word.start t.word.size t.clause
 
 -- The place that the row of a sort or a symbol keeps: its columns 0 and 1 are start and length of the name.
 abbrev pub row_place : List ℕ → Place
@@ -17,7 +17,7 @@ row_place row = place (column row 0) (column row 1)
 
 -- The title that a rule's row keeps: its columns are start and length of the name, and 0 or a clause's number + 1.
 abbrev pub row_title : List ℕ → Title
-row_title row = record { start = column row 0; size = column row 1; clause = column row 2 }
+row_title row = record { word = record { start = column row 0; size = column row 1 }; clause = column row 2 }
 
 -- The place and the title with number i.
 abbrev pub place_number : List Place → ℕ → Place

@@ -1,34 +1,8 @@
 -- `declare` meets its contract: the keyword in the declaration's row says which function declares it.
-use Rattle.declarations.proofs.DeclarationLaws.{first_row}
-use Rattle.declarations.proofs.DeclareLaws.{sort_there, sort_done, ctor_asked, ctor_none, ctor_done, pred_asked, pred_done, rule_asked, rule_done, def_asked, def_done, eval_done, others_done}
+use Rattle.declarations.proofs.DeclareLaws.{sort_done, ctor_asked, ctor_none, ctor_done, pred_asked, pred_done, rule_asked, rule_done, def_asked, def_done, eval_done, others_done}
 use mathlib.Core.Path.{refl}
 use native.Mathlib.Omega.{arith}
 use Rattle.declarations.proofs.declare.Goals as goal
-
-pub offset_bounds-rows-at : goal.offset_bounds-rows-at
-offset_bounds-rows-at c = let w = (first_row c.requires.stand.2).within in omega (arith, c.requires.short)
-
-pub bounds-rows-at : goal.bounds-rows-at
-bounds-rows-at c = let w = (first_row c.requires.stand.2).within in omega arith
-
-pub declare_sort-requires : goal.declare_sort-requires
-declare_sort-requires c =
-    let pre = c.requires in
-    let t = sort_there pre.ready.3 pre.stand.2 c.in-1.is in (
-      t,
-      pre.short,
-      pre.ready.3.names.sorts_lent,
-      pre.ready.3.names.few_sorts,
-      (let a = pre.ready.3.names.symbols_lent in
-          let b = pre.ready.3.names.few_symbols in
-          omega arith),
-    )
-
-pub offset_bounds-rows-at-in-2 : goal.offset_bounds-rows-at-in-2
-offset_bounds-rows-at-in-2 c = let w = (first_row c.requires.stand.2).within in omega (arith, c.requires.short)
-
-pub bounds-rows-at-in-2 : goal.bounds-rows-at-in-2
-bounds-rows-at-in-2 c = let w = (first_row c.requires.stand.2).within in omega arith
 
 pub returns-then-rows-at-eq0-clause-declared : goal.returns-then-rows-at-eq0-clause-declared
 returns-then-rows-at-eq0-clause-declared c = record { same = λ limit ts s held d q st. ctor_none held st _ _ _ _ c.in-2.is c.if-rows-at-eq0.true }
@@ -52,12 +26,6 @@ pub declare_def-requires : goal.declare_def-requires
 declare_def-requires c =
     let pre = c.requires in
     def_asked pre.ready.3 pre.stand.2 _ _ pre.short pre.out_lent pre.calls_lent c.in-5.is
-
-pub overflow_add-at : goal.overflow_add-at
-overflow_add-at c = let w = (first_row c.requires.stand.2).within in omega (arith, c.requires.short)
-
-pub skip-requires : goal.skip-requires
-skip-requires c = (c.requires.short, omega arith)
 
 pub returns-in-1-clause-declared : goal.returns-in-1-clause-declared
 returns-in-1-clause-declared c =

@@ -29,7 +29,7 @@ told-requires c =
     let clause = c.clause-outcome in
     let st = pre.stand.2 in
     let e : args.number + 1 ≡ suc args.number = omega arith in
-    told_by pre.ready.3 (record { start = args.word.start; size = args.word.size; clause = args.number + 1 }) (λ (F : List Symbol) (m : ℕ). clause_of F (part_of args.source.text.now args.word.start args.word.size) args.number (spelled args.source.text.now (all_of pre.stand.0.patterns)) (spelled args.source.text.now pre.stand.0.body) m) room.result room.ensures (clause.new.rules) (clause.new.words) clause.result ((rw known at clause.ensures).same _ _ st.patterns (patterns_number st) _ _ st.right args.number e).1
+    told_by pre.ready.3 (record { word = args.word; clause = args.number + 1 }) (λ (F : List Symbol) (m : ℕ). clause_of F (part_of args.source.text.now args.word.start args.word.size) args.number (spelled args.source.text.now (all_of pre.stand.0.patterns)) (spelled args.source.text.now pre.stand.0.body) m) room.result room.ensures (clause.new.rules) (clause.new.words) clause.result ((rw known at clause.ensures).same _ _ st.patterns (patterns_number st) _ _ st.right args.number e).1
 
 pub returns-clause-declared : goal.returns-clause-declared
 returns-clause-declared c =
@@ -42,8 +42,7 @@ returns-clause-declared c =
       same = λ limit ts s ready inside counted cl q st. let e : args.number + 1 ≡ suc args.number = omega arith in
           let h = (rw known at clause.ensures).same _ _ st.patterns (patterns_number st) _ _ st.right args.number e in
           advanced_by ready (record {
-            start = args.word.start;
-            size = args.word.size;
+            word = args.word;
             clause = args.number + 1;
           }) inside (omega (arith, counted)) (clause.new.rules) (clause.new.words) (clause.auto.rules) (clause.auto.words) (λ (F : List Symbol) (m : ℕ). clause_of F (part_of args.source.text.now args.word.start args.word.size) args.number (spelled args.source.text.now (all_of cl.patterns)) (spelled args.source.text.now cl.body) m) room.result room.ensures q clause.result told.result h.0 h.1 told.ensures;
     }

@@ -1,13 +1,10 @@
 -- `declare_clauses` meets its contract. The loop's invariant: the clauses before the number i are entered, and the others are left to enter from the row p on.
 use mathlib.Core.Path.{refl}
 use Rattle.refusals.specs.Refused.{handed_on}
-use Rattle.declarations.specs.Lent.{lent_start, lent_on}
-use Rattle.declarations.proofs.ClauseLaws.{going_start, going_clause, going_refused, going_on, going_end}
+use Rattle.declarations.specs.Lent.{lent_on}
+use Rattle.declarations.proofs.ClauseLaws.{going_clause, going_refused, going_on, going_end}
 use native.Mathlib.Omega.{arith}
 use Rattle.declarations.proofs.declare_clauses.Goals as goal
-
-pub loop-i-init : goal.loop-i-init
-loop-i-init c = (lent_start, going_start)
 
 pub declare_clause-requires : goal.declare_clause-requires
 declare_clause-requires c =
@@ -34,9 +31,6 @@ returns-in_err-progress-clause-declared c =
       same = λ limit ts s ready cs q st n. let g = c.loop-i.invariant.1 limit ts s ready cs q st n in
           rw (going_refused c.requires.inside c.declare_clause.ensures.declared g c.loop-i-test.true c.in_err-progress.was) refl;
     })
-
-pub returns-in_err-progress-clause-lent : goal.returns-in_err-progress-clause-lent
-returns-in_err-progress-clause-lent c = lent_on c.loop-i.invariant.0 c.declare_clause.ensures.lent
 
 pub loop-i-preserved : goal.loop-i-preserved
 loop-i-preserved c =

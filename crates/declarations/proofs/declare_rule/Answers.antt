@@ -1,5 +1,4 @@
 -- `declare_rule` meets its contract: the rule is entered with the room that is left.
-use mathlib.Core.Path.{refl}
 use Prim.Native.Nat.{ℕ, ◌+◌}
 use mathlib.Core.List.{List, ◌∷◌}
 use Rattle.term_parser.specs.Source.{all_of}
@@ -13,14 +12,6 @@ use Rattle.declarations.proofs.UsedLaws.{storage_used}
 use Rattle.declarations.proofs.FilledLaws.{storage, told_by, advanced_by}
 use native.Mathlib.Omega.{arith}
 use Rattle.declarations.proofs.declare_rule.Goals as goal
-
-pub returns-then-k-eq0-clause-declared : goal.returns-then-k-eq0-clause-declared
-returns-then-k-eq0-clause-declared c =
-    record {
-      none = λ z. refl;
-      same = λ limit ts s ready inside j js q st kn. absurd (let z = c.if-k-eq0.true in
-          omega arith);
-    }
 
 pub enter_rule-outcome-requires : goal.enter_rule-outcome-requires
 enter_rule-outcome-requires c =
@@ -50,7 +41,7 @@ told-requires c =
     let room = c.room-m in
     let enter-rule = c.enter_rule-outcome in
     let st = pre.stand (omega (arith, if1.false)) in
-    told_by pre.ready.3 (record { start = column (row_at args.source.rows.now (args.source.at + 1)) 1; size = column (row_at args.source.rows.now (args.source.at + 1)) 2; clause = 0 }) (λ (F : List Symbol) (m : ℕ). rule_of F (name_at args.source.text.now args.source.rows.now (args.source.at + 1)) (spelled args.source.text.now (all_of (front_of (st.0 ∷ st.1)))) (spelled args.source.text.now (last_judgment st.0 st.1)) m) room.result room.ensures (enter-rule.new.rules) (enter-rule.new.words) enter-rule.result ((rw known at enter-rule.ensures).same st.0 st.1 st.2 st.3 st.4).1
+    told_by pre.ready.3 (record { word = record { start = column (row_at args.source.rows.now (args.source.at + 1)) 1; size = column (row_at args.source.rows.now (args.source.at + 1)) 2 }; clause = 0 }) (λ (F : List Symbol) (m : ℕ). rule_of F (name_at args.source.text.now args.source.rows.now (args.source.at + 1)) (spelled args.source.text.now (all_of (front_of (st.0 ∷ st.1)))) (spelled args.source.text.now (last_judgment st.0 st.1)) m) room.result room.ensures (enter-rule.new.rules) (enter-rule.new.words) enter-rule.result ((rw known at enter-rule.ensures).same st.0 st.1 st.2 st.3 st.4).1
 
 pub returns-clause-declared : goal.returns-clause-declared
 returns-clause-declared c =
@@ -63,5 +54,5 @@ returns-clause-declared c =
     record {
       none = λ z. absurd (if1.false z);
       same = λ limit ts s ready inside j js q st kn. let h = (rw known at enter-rule.ensures).same j js q st kn in
-          advanced_by ready (record { start = column (row_at args.source.rows.now (args.source.at + 1)) 1; size = column (row_at args.source.rows.now (args.source.at + 1)) 2; clause = 0 }) inside (omega arith) (enter-rule.new.rules) (enter-rule.new.words) (enter-rule.auto.rules) (enter-rule.auto.words) (λ (F : List Symbol) (m : ℕ). rule_of F (name_at args.source.text.now args.source.rows.now (args.source.at + 1)) (spelled args.source.text.now (all_of (front_of (j ∷ js)))) (spelled args.source.text.now (last_judgment j js)) m) room.result room.ensures q enter-rule.result told.result h.0 h.1 told.ensures;
+          advanced_by ready (record { word = record { start = column (row_at args.source.rows.now (args.source.at + 1)) 1; size = column (row_at args.source.rows.now (args.source.at + 1)) 2 }; clause = 0 }) inside (omega arith) (enter-rule.new.rules) (enter-rule.new.words) (enter-rule.auto.rules) (enter-rule.auto.words) (λ (F : List Symbol) (m : ℕ). rule_of F (name_at args.source.text.now args.source.rows.now (args.source.at + 1)) (spelled args.source.text.now (all_of (front_of (j ∷ js)))) (spelled args.source.text.now (last_judgment j js)) m) room.result room.ensures q enter-rule.result told.result h.0 h.1 told.ensures;
     }

@@ -25,4 +25,4 @@ returns-in-Ok-clause-left c =
     let l = c.expression.ensures.lent in
     left_valued c.requires _ (ap (λ (l : Limits). l.words) c.capped-most.ensures) (c.fill.ensures.after (λ y e. e))
     (part_answered _ _ _ (symbols_within c.requires.readable) c.expression.ensures.answered) _ _ _ _ c.in-Ok.is l.trees_kept
-    c.clear.ensures c.clear_from.ensures (search (rules, l.words)) (search (rules, l.links)) (search (rules, l.trees))
+    c.clear_from.ensures c.clear_from-in-Ok.ensures (search (rules, l.words)) (search (rules, l.links)) (search (rules, l.trees))

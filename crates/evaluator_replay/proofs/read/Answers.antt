@@ -11,29 +11,13 @@ behind : (list : List ℕ) (at : ℕ) (r : Recorded) → r ≡ recorded_at list 
 behind list at r e = ap (λ (t : Recorded). t.next) e ∙ sym (ap (λ (t : Recorded). t.start + t.length + 1) e)
 
 pub read_decimal-words-requires : goal.read_decimal-words-requires
-read_decimal-words-requires c =
-    let args = c.args in
-    let text = c.read-text in
-    let h = behind args.list.now args.at text.result text.ensures.is in
-    omega arith
+read_decimal-words-requires c = let h = behind c.args.list.now c.args.at c.read-text.result c.read-text.ensures.is in omega arith
 
-pub overflow_add-next : goal.overflow_add-next
-overflow_add-next c =
-    let args = c.args in
-    let text = c.read-text in
-    let h = behind args.list.now args.at text.result text.ensures.is in
-    omega arith
+pub overflow_add-result : goal.overflow_add-result
+overflow_add-result c = let h = behind c.args.list.now c.args.at c.read-text.result c.read-text.ensures.is in omega arith
 
-pub overflow_add-next-2 : goal.overflow_add-next-2
-overflow_add-next-2 c =
-    let args = c.args in
-    let text = c.read-text in
-    let h = behind args.list.now args.at text.result text.ensures.is in
-    omega arith
+pub overflow_add-result-2 : goal.overflow_add-result-2
+overflow_add-result-2 c = let h = behind c.args.list.now c.args.at c.read-text.result c.read-text.ensures.is in omega arith
 
 pub returns : goal.returns
-returns c =
-    let args = c.args in
-    let text = c.read-text in
-    let h = behind args.list.now args.at text.result text.ensures.is in
-    (omega arith, omega arith)
+returns c = let h = behind c.args.list.now c.args.at c.read-text.result c.read-text.ensures.is in (omega arith, omega arith)

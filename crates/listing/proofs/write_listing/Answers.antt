@@ -26,8 +26,8 @@ write_tokens-end-requires c =
     let s = c.size.ensures in
     omega arith
 
-pub write_refused_line-end-requires : goal.write_refused_line-end-requires
-write_refused_line-end-requires c =
+pub write_refused-end-requires : goal.write_refused-end-requires
+write_refused-end-requires c =
     let e = sym c.in-Err.is ∙ c.lex.ensures.answer in
     let l = ap length (refusal_listed c.args.text.now c.args.limits c.args.rows.now c.lex.ensures.rows e) in
     let f = listing_fits c.args.text.now c.args.limits (length c.args.rows.now) in
@@ -46,4 +46,4 @@ returns-in-Err c =
     let left = c.lex.ensures.rows in
     let e = sym c.in-Err.is ∙ c.lex.ensures.answer in
     let s = c.size.ensures in
-    listing_done c.args.text.now c.args.limits c.args.rows.now c.args.out.now (omega arith) (written_as c.write_refused_line-end.ensures (refusal_listed c.args.text.now c.args.limits c.args.rows.now left e)) left
+    listing_done c.args.text.now c.args.limits c.args.rows.now c.args.out.now (omega arith) (written_as c.write_refused-end.ensures (refusal_listed c.args.text.now c.args.limits c.args.rows.now left e)) left

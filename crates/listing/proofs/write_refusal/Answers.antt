@@ -4,5 +4,5 @@ use Rattle.listing.specs.SizeLaws.{refused_short}
 use native.Mathlib.Omega.{arith}
 use Rattle.listing.proofs.write_refusal.Goals as goal
 
-pub write_refused_line-n-requires : goal.write_refused_line-n-requires
-write_refused_line-n-requires c = let h = refused_short (number_of c.args.rejection.refusal) c.args.rejection.line in omega arith
+pub write_refused-n-requires : goal.write_refused-n-requires
+write_refused-n-requires c = let h = refused_short (number_of c.args.rejection.refusal) c.args.rejection.line in omega arith

@@ -1,14 +1,8 @@
 -- `check_symbol` meets its contract: one law for each way out.
 use Rattle.std.proofs.Common.{length, arith, le_refl}
 use Rattle.patterns.proofs.Terms.{symbols_length}
-use Rattle.loader.proofs.EntryLaws.{symbol_taken, symbol_wide, symbol_new, symbol_full}
+use Rattle.loader.proofs.EntryLaws.{symbol_new, symbol_full}
 use Rattle.loader.proofs.check_symbol.Goals as goal
-
-pub returns-then-is_taken : goal.returns-then-is_taken
-returns-then-is_taken c = (symbol_taken _ _ _ c.is_taken.ensures c.if-is_taken.true c.args.k, omega arith)
-
-pub returns-then-k-gt-INPUTS : goal.returns-then-k-gt-INPUTS
-returns-then-k-gt-INPUTS c = (symbol_wide _ _ _ c.is_taken.ensures c.if-is_taken.false c.args.k c.if-k-gt-INPUTS.true, omega arith)
 
 pub returns-then-count-lt-SYMBOLS : goal.returns-then-count-lt-SYMBOLS
 returns-then-count-lt-SYMBOLS c =

@@ -10,8 +10,8 @@ use Rattle.loader.specs.Signature.{numbers_of, symbol_refusal}
 use Rattle.loader.specs.Kinds.{is_constructor, mark_in, first_in, clauses_in}
 use Rattle.loader.specs.Arrows.{names_at}
 use Rattle.loader.specs.SymbolEntry.{arrow_refusal}
-use Rattle.refusals.specs.Refused.{handed_on, none_is}
-use Rattle.loader.proofs.SymbolLaws.{arrow_count, arrow_unknown, arrow_known, inputs_count, row_is, not_refused, same_numbers}
+use Rattle.refusals.specs.Refused.{handed_on}
+use Rattle.loader.proofs.SymbolLaws.{arrow_count, arrow_known, inputs_count, row_is, not_refused, same_numbers}
 use Rattle.patterns.proofs.Terms.{symbols_length}
 use native.Mathlib.Omega.{arith}
 use Rattle.loader.proofs.enter_symbol.Goals as goal
@@ -51,33 +51,6 @@ bounds-symbols-count c =
     let f = not_refused (sorts_of (args.part.text.now) (args.sorts.now) (length args.sorts.now)) (symbols_of (args.part.text.now) (args.symbols.now) (args.count)) (part_of (args.part.text.now) (column (row_at (args.part.rows.now) (args.part.at)) 1) (column (row_at (args.part.rows.now) (args.part.at)) 2)) (input-count.result) (sym (rw (known, c.part.ensures) at c.in_ok-check_symbol.ensures)) in
     let l = symbols_length (args.part.text.now) (args.symbols.now) (args.count) (omega (arith, pre.3, pre.4)) in
     omega arith
-
-pub put_symbol-requires : goal.put_symbol-requires
-put_symbol-requires c =
-    let args = c.args in
-    let find-arrow = c.find_arrow in
-    let input-count = c.input_count-n in
-    let known = symbols_used args.symbols.now args.count (omega (arith, c.requires.3, c.requires.4)) args.part.text.now in
-    let pre = c.requires in
-    let look = arrow_known (numbers_of (sorts_of (args.part.text.now) (args.sorts.now) (length args.sorts.now)) (names_at (args.part.text.now) (args.part.rows.now) (args.part.at + 1) (args.part.k))) (find-arrow.result) _ (args.part.k) _ (find-arrow.ensures) c.in_ok-last.ensures.ok_part in
-    let c₁ = arrow_count (sorts_of (args.part.text.now) (args.sorts.now) (length args.sorts.now)) (args.part.text.now) (args.part.rows.now) (args.part.at + 1) (args.part.k) look.found look.is in
-    let n = inputs_count (is_constructor args.kind) look.found (args.part.k) c₁ in
-    let f = not_refused (sorts_of (args.part.text.now) (args.sorts.now) (length args.sorts.now)) (symbols_of (args.part.text.now) (args.symbols.now) (args.count)) (part_of (args.part.text.now) (column (row_at (args.part.rows.now) (args.part.at)) 1) (column (row_at (args.part.rows.now) (args.part.at)) 2)) (input-count.result) (sym (rw (known, c.part.ensures) at c.in_ok-check_symbol.ensures)) in
-    let l = symbols_length (args.part.text.now) (args.symbols.now) (args.count) (omega (arith, pre.3, pre.4)) in
-    let h = find-arrow.auto.inputs in
-    let t : length (take c.input_count-n.result find-arrow.new.inputs) ≡ c.input_count-n.result = length-take-le c.input_count-n.result find-arrow.new.inputs (let g = f.0 in omega arith) in
-    omega arith
-
-pub returns-in_err-last : goal.returns-in_err-last
-returns-in_err-last c =
-    let args = c.args in
-    let find-arrow = c.find_arrow in
-    rw (handed_on c.from_residual.result c.from_residual.ensures.1, none_is c.find_arrow.result c.in_err-last.ensures.ok_part c.in_err-last.ensures.value)
-    (record {
-      number = 18;
-      answer = (refl, omega arith);
-      comes_to = record { refusal = ap (arrow_refusal (sorts_of (args.part.text.now) (args.sorts.now) (length args.sorts.now)) (symbols_of (args.part.text.now) (args.symbols.now) (args.count)) _ (is_constructor args.kind)) (sym (arrow_unknown (numbers_of (sorts_of (args.part.text.now) (args.sorts.now) (length args.sorts.now)) (names_at (args.part.text.now) (args.part.rows.now) (args.part.at + 1) (args.part.k))) (find-arrow.result) _ (args.part.k) (find-arrow.ensures) c.in_err-last.ensures.ok_part)); refused = λ z. refl; entered = λ z. absurd (omega arith) };
-    })
 
 pub returns : goal.returns
 returns c =

@@ -1,8 +1,7 @@
 -- `find_arrow` meets its contract. The loop's invariant: the numbers of the first i names are known, and written as far as there is room.
 use mathlib.Core.Path.{refl}
 use Prim.Native.Nat.{◌+◌}
-use Rattle.loader.proofs.ArrowLaws.{name_at, some_sort, unknown_sort, sofar_none, sofar_more, one_unknown, all_known_lem}
-use native.Mathlib.Omega.{arith}
+use Rattle.loader.proofs.ArrowLaws.{name_at, some_sort, unknown_sort, sofar_none, sofar_more, one_unknown}
 use Rattle.loader.proofs.find_arrow.Goals as goal
 
 pub loop-i-init : goal.loop-i-init
@@ -14,25 +13,8 @@ returns-in_err-s c =
     let l = unknown_sort a.text.now c.args.sorts.now (name_at a.text.now a.rows.now (a.at + c.loop-i.i)) (rw c.part.ensures at c.in_err-s.ensures) in
     rw c.from_residual.ensures (one_unknown a.text.now a.rows.now a.at a.k c.args.sorts.now _ refl l c.loop-i-test.true)
 
-pub overflow_cast-last : goal.overflow_cast-last
-overflow_cast-last c =
-    let a = c.args.part in
-    let (e, l) = some_sort a.text.now c.args.sorts.now (name_at a.text.now a.rows.now (a.at + c.loop-i.i)) c.in_ok-s.s (rw c.part.ensures at c.in_ok-s.ensures) in
-    omega arith
-
-pub overflow_add-last : goal.overflow_add-last
-overflow_add-last c =
-    let a = c.args.part in
-    let (e, l) = some_sort a.text.now c.args.sorts.now (name_at a.text.now a.rows.now (a.at + c.loop-i.i)) c.in_ok-s.s (rw c.part.ensures at c.in_ok-s.ensures) in
-    omega arith
-
 pub loop-i-preserved : goal.loop-i-preserved
 loop-i-preserved c =
     let a = c.args.part in
     let (e, l) = some_sort a.text.now c.args.sorts.now (name_at a.text.now a.rows.now (a.at + c.loop-i.i)) c.in_ok-s.s (rw c.part.ensures at c.in_ok-s.ensures) in
     sofar_more a.text.now a.rows.now a.at a.k c.args.sorts.now c.loop-i.invariant e l c.put.ensures
-
-pub returns : goal.returns
-returns c =
-    let a = c.args.part in
-    all_known_lem a.text.now a.rows.now a.at a.k c.args.sorts.now c.loop-i.invariant (omega (arith, c.loop-i-test.false, c.loop-i.auto.i-end))

@@ -14,11 +14,6 @@ use Rattle.rule_checks.proofs.TableLaws.{numbers_count, placed_listed, listed_pl
 use native.Mathlib.Omega.{arith}
 use Rattle.rule_checks.proofs.is_in_order.Goals as goal
 
-pub walk_premises-requires : goal.walk_premises-requires
-walk_premises-requires c =
-    let s = c.requires.0.small in
-    (omega arith, (_, c.requires.1), c.requires.2, c.new-places.ensures)
-
 pub returns-then-not-are_placed : goal.returns-then-not-are_placed
 returns-then-not-are_placed c =
     let walk-premises = c.walk_premises in
@@ -28,12 +23,6 @@ returns-then-not-are_placed c =
     let m = pre.0.middle in
     let z = pre.0.last in
     tells_no (λ h. tells_false c.are_placed.ensures c.if-not-are_placed.true (each_part args.rule.words.now args.rule.from args.rule.middle (PlacedWord walk-premises.new.places.places) (omega (arith, pre.1.within)) (listed_placed (premises_of args.rule.words.now args.rule.row.now) rec args.rule.words.now args.rule.from args.rule.middle (λ a l b. h.listed a l (omega arith)))))
-
-pub meet-requires : goal.meet-requires
-meet-requires c =
-    let s = c.requires.0.small in
-    let w = c.requires.1 in
-    record { used = _; within = w.within; low = w.low; formed = w.formed; root = w.root; room = omega (arith, c.requires.2) }
 
 pub returns-then-places-row : goal.returns-then-places-row
 returns-then-places-row c =

@@ -1,13 +1,11 @@
 -- `walk_premises` meets its contract: the variables of premises of so many words are met.
-use Rattle.std.proofs.Common.{◌≡◌, ℕ, ◌+◌, ◌-◌, ◌<◌, ◌≤◌, List, length, get_or, take, drop, sym, ◌∙◌, arith, nat_eq}
-use Rattle.std.proofs.lemmas.Bool.{eqb-true, eq-eqb}
-use Rattle.terms.specs.Numbers.{by_bool, true_false}
+use Rattle.std.proofs.Common.{◌≡◌, ℕ, ◌+◌, ◌-◌, ◌<◌, ◌≤◌, List, length, get_or, take, drop, arith, refl}
 use Rattle.meeting.specs.Contract.{term_of}
 use Rattle.meeting.specs.WalkLaws.{walked_over, walked_words}
 use Rattle.names.specs.Symbols.{column}
 use Rattle.rule_checks.specs.Steps.{premises_of}
 use Rattle.rule_checks.proofs.PartLaws.{part_index, part_length}
-use Rattle.rule_checks.proofs.PremiseLaws.{walked_differs, walked_fits, going_start, going_on, going_over, going_words, going_records}
+use Rattle.rule_checks.proofs.PremiseLaws.{walked_differs, walked_tells, going_on, going_over, going_words, going_records}
 use Rattle.rule_checks.proofs.walk_premises.Goals as goal
 
 -- The references of n premises, as the row lends them.
@@ -22,9 +20,6 @@ module _ (row : List ℕ) (n : ℕ) (few : n ≤ 16) (long : length row ≡ 154)
   heads_index : (k : ℕ) → k < length (heads row n) → get_or (heads row n) k 0 ≡ column row (10 + k)
   unfolding heads
   heads_index k l = let m = heads_length in part_index row 10 (10 + n) k (omega arith)
-
-pub loop-reference-init : goal.loop-reference-init
-loop-reference-init c = (omega arith, going_start (term_of c.args.words.now) c.args.rule.now _ c.args.places.now.places c.args.places.now.count)
 
 pub meet-requires : goal.meet-requires
 unfolding heads
@@ -83,7 +78,5 @@ returns c =
     let loop = c.loop-reference in
     let n = heads_length args.rule.now _ c.requires.1.1.premises c.told-rule in
     let l : column args.rule.now 4 ≤ loop.reference-index = omega (arith, c.loop-reference-test.false) in
-    let words = going_words (term_of args.words.now) args.rule.now _ loop.invariant.1 l in
-    by_bool (nat_eq loop.spent (column args.rule.now 7))
-    (λ q. rw q (walked_fits (premises_of args.words.now args.rule.now) (words ∙ eqb-true _ _ q) (going_records (term_of args.words.now) args.rule.now _ loop.invariant.1 l)))
-    (λ q. rw q (walked_differs (premises_of args.words.now args.rule.now) (λ r. true_false (eq-eqb _ _ (sym words ∙ r)) q)))
+    walked_tells (premises_of args.words.now args.rule.now) refl (going_words (term_of args.words.now) args.rule.now _ loop.invariant.1 l)
+    (going_records (term_of args.words.now) args.rule.now _ loop.invariant.1 l)

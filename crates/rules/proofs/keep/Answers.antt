@@ -24,7 +24,7 @@ returns c =
     let v = length args.variables.now in
     let table = place_numbers order-sized.new.places.places in
     let long : length table ≡ 64 = rw length-map order-sized.new.places.long in
-    let numbers : List ℕ = args.title.start ∷ args.title.size ∷ args.title.clause ∷ v ∷ length args.heads.now ∷ args.body.conclusion ∷ args.from ∷ (args.body.middle - args.from) ∷ (args.body.space.used - args.body.middle) ∷ order-sized.result ∷ [] in
+    let numbers : List ℕ = args.title.word.start ∷ args.title.word.size ∷ args.title.clause ∷ v ∷ length args.heads.now ∷ args.body.conclusion ∷ args.from ∷ (args.body.middle - args.from) ∷ (args.body.space.used - args.body.middle) ∷ order-sized.result ∷ [] in
     rw (c.store.ensures [], map_take)
     (record {
       placed = (
@@ -33,7 +33,7 @@ returns c =
         title_at_lem v numbers args.heads.now (sorts_in [] args.variables.now v) table refl pre.few (sorts_length [] args.variables.now v (omega arith)) pre.vars long 2 (omega arith),
       );
       kept = λ text arities R lying named sorted appear. let k = all_recorded args.heads.now lying order-sized.ensures in
-          row_kept args.heads.now lying text v args.title.start args.title.size args.title.clause _ table order-sized.result pre.rising pre.few pre.vars long (sorts_length [] args.variables.now v (omega arith)) named (sorts_column [] args.variables.now v
+          row_kept args.heads.now lying text v args.title.word.start args.title.word.size args.title.clause _ table order-sized.result pre.rising pre.few pre.vars long (sorts_length [] args.variables.now v (omega arith)) named (sorts_column [] args.variables.now v
           ∙ sym (sorts_column text args.variables.now v)
           ∙ sorted) (appear
           ∙ ap numbers_below (ap length (sym sorted) ∙ sorts_length text args.variables.now v (omega arith))) k.0 (records_placed R _ _ k.1);

@@ -7,11 +7,6 @@ use Rattle.rules.proofs.OrderLaws.{met_none, met_more}
 use native.Mathlib.Omega.{arith}
 use Rattle.rules.proofs.order.Goals as goal
 
-pub meet-requires : goal.meet-requires
-meet-requires c =
-    let a = c.requires.0 in
-    record { used = a.used; within = a.within; low = a.low; formed = a.formed; root = a.head.root; room = c.requires.2 }
-
 pub loop-k-init : goal.loop-k-init
 loop-k-init c =
     met_none (term_of c.args.rule.words.now) c.args.rule.heads.now c.args.rule.conclusion _ _ (c.meet.ensures.recorded c.requires.0.head.small [] c.requires.1)

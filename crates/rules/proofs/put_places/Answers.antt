@@ -6,9 +6,6 @@ use Rattle.rules.proofs.RowLaws.{sets_next, number_unwrapped, numbers_all}
 use native.Mathlib.Omega.{arith}
 use Rattle.rules.proofs.put_places.Goals as goal
 
-pub loop-j-init : goal.loop-j-init
-loop-j-init c = refl
-
 pub loop-j-preserved : goal.loop-j-preserved
 loop-j-preserved c =
     let places = c.args.places.now in

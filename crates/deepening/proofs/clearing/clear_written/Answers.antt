@@ -4,8 +4,7 @@ use Rattle.deepening.proofs.clearing.clear_written.Goals as goal
 
 pub returns-clause-cleared : goal.returns-clause-cleared
 returns-clause-cleared c = record {
-  words = c.clear.ensures 0;
-  rows = c.clear-2.ensures [];
+  wiped = record { words = c.clear.ensures 0; frames = c.clear-2.ensures [] };
   bindings = refl;
   links = refl;
   marks = refl;

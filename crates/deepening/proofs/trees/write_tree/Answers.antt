@@ -1,18 +1,20 @@
--- `write_tree` meets its contract: one row more in each turn; the frames behind it are as they were.
-use Rattle.std.proofs.Common.{refl, arith, ◌∙◌}
+-- `write_tree` meets its contract: one row more in each turn; the frames behind the first are as they were.
+use Rattle.std.proofs.Common.{◌≡◌, refl, ap, arith, ◌∙◌, length, take}
 use Rattle.search_machine.specs.State.{frame_at}
-use Rattle.deepening.specs.TreeLaws.{tree_start, tree_next, tree_end}
+use Rattle.deepening.specs.Trees.{tree_rows}
+use Rattle.deepening.specs.TreeLaws.{tree_start, tree_next, tree_part}
 use Rattle.deepening.proofs.trees.write_tree.Goals as goal
 
-pub loop-i-init : goal.loop-i-init
-loop-i-init c = tree_start c.args.depth c.args.frames.now
+pub loop-row-init : goal.loop-row-init
+loop-row-init c = tree_start _ _
 
-pub loop-i-preserved : goal.loop-i-preserved
+pub loop-row-preserved : goal.loop-row-preserved
 unfolding frame_at
-loop-i-preserved c = tree_next c.args.depth c.args.frames.now c.loop-i.i c.loop-i.invariant c.from-x.ensures
+loop-row-preserved c = tree_next c.args.depth _ c.loop-row.row-index c.loop-row.invariant c.from-x.ensures
     c.saturating_sub-height.ensures refl
 
 pub returns : goal.returns
 returns c =
-    let e = c.min-end.ensures in
-    c.loop-i.invariant ∙ tree_end c.args.depth c.args.frames.now c.args.count c.loop-i.i (omega arith) (λ l. omega arith)
+    let part = take c.min-end.result c.args.frames.now in
+    let all : c.loop-row.row-index ≡ length part = omega (arith, c.loop-row.auto.row-index-end, c.loop-row-test.false) in
+    tree_part c.args.depth c.args.frames.now c.args.count c.min-end.ensures (c.loop-row.invariant ∙ ap (tree_rows c.args.depth part) all)

@@ -3,5 +3,5 @@ use Rattle.std.proofs.Common.{◌≡◌}
 use Rattle.deepening.specs.Trees.{tree_rows}
 use Rattle.deepening.proofs.trees.write_tree.Given as goal
 
-abbrev pub invariant-loop-i : goal.invariant-loop-i
-invariant-loop-i l = l.frames ≡ tree_rows l.depth l.initial.frames l.i
+abbrev pub invariant-loop-row : goal.invariant-loop-row
+invariant-loop-row l = l.row-items ≡ tree_rows l.depth l.initial.row-items l.row-index

@@ -1,5 +1,6 @@
 -- `put_decimal` meets its contract: a number has at most ten digits.
 use Rattle.byte_output.specs.NumeralLaws.{numeral_short}
+use Rattle.byte_output.specs.OutputLaws.{length_kept}
 use native.Mathlib.Omega.{arith}
 use Rattle.evaluation_listing_kit.proofs.output.put_decimal.Goals as goal
 
@@ -9,5 +10,6 @@ write_decimal-requires c = let h = numeral_short c.args.number in omega arith
 pub returns : goal.returns
 returns c =
     let h = numeral_short c.args.number in
-    let p = c.write_decimal.ensures.place in
-    (omega arith, omega arith)
+    let p = c.write_decimal.ensures.written.place in
+    let k = length_kept c.write_decimal.ensures in
+    (omega arith, omega arith, k)

@@ -1,75 +1,46 @@
 -- `write_refused_line` meets its contract: each part stands behind the one before, and there is room for it.
-use Rattle.refusals.specs.Refusals.{number_of}
 use mathlib.Core.Path.{ap}
-use lib.ListN.{length}
-use Rattle.byte_output.specs.Output.{numeral}
-use Rattle.byte_output.specs.OutputLaws.{written_length, and_then, written_as}
-use Rattle.listing.specs.ListingLaws.{refused_length}
+use mathlib.Core.List.{◌++◌}
 use native.Mathlib.Omega.{arith}
+use Rattle.refusals.specs.Refusals.{number_of}
+use Rattle.byte_output.specs.Output.{numeral}
+use Rattle.byte_output.specs.OutputLaws.{room_first, room_left, written_on, said_as}
+use Rattle.listing.specs.Listing.{refused_word, line_word, line_end}
 use Rattle.listing.proofs.lines.write_refused_line.Goals as goal
 
-pub write_bytes-digits-requires : goal.write_bytes-digits-requires
-write_bytes-digits-requires c = let e = refused_length (number_of c.args.rejection.refusal) c.args.rejection.line in omega arith
+pub write-requires : goal.write-requires
+write-requires c = room_first refused_word (numeral (number_of c.args.rejection.refusal) ++ (line_word ++ (numeral c.args.rejection.line ++ line_end))) _ _ c.requires
 
-pub write_decimal-word-requires : goal.write_decimal-word-requires
-write_decimal-word-requires c =
-    let write_bytes = c.write_bytes-digits in
-    let e = refused_length (number_of c.args.rejection.refusal) c.args.rejection.line in
-    let d = ap (λ k. length (numeral k)) c.from.ensures in
-    let p = write_bytes.ensures.place in
-    let k = written_length (write_bytes.ensures) in
-    omega arith
+pub write_decimal-requires : goal.write_decimal-requires
+write_decimal-requires c =
+    let number = numeral (number_of c.args.rejection.refusal) in
+    let line = numeral c.args.rejection.line in
+    let room = room_left c.write.ensures (number ++ (line_word ++ (line ++ line_end))) c.requires in
+    rw c.from.ensures (room_first number (line_word ++ (line ++ line_end)) _ _ room)
 
-pub write_bytes-last-requires : goal.write_bytes-last-requires
-write_bytes-last-requires c =
-    let write_bytes = c.write_bytes-digits in
-    let write-decimal = c.write_decimal-word in
-    let e = refused_length (number_of c.args.rejection.refusal) c.args.rejection.line in
-    let d = ap (λ k. length (numeral k)) c.from.ensures in
-    let p = write_bytes.ensures.place in
-    let k = written_length (write_bytes.ensures) in
-    let q = write-decimal.ensures.place in
-    let l = written_length (write-decimal.ensures) in
-    omega arith
+pub write-requires-2 : goal.write-requires-2
+write-requires-2 c =
+    let number = numeral (number_of c.args.rejection.refusal) in
+    let line = numeral c.args.rejection.line in
+    let room = room_left c.write.ensures (number ++ (line_word ++ (line ++ line_end))) c.requires in
+    room_first line_word (line ++ line_end) _ _ (room_left (said_as c.write_decimal.ensures (ap numeral c.from.ensures)) (line_word ++ (line ++ line_end)) room)
 
-pub write_decimal-end-requires : goal.write_decimal-end-requires
-write_decimal-end-requires c =
-    let write_bytes = c.write_bytes-digits in
-    let write-decimal = c.write_decimal-word in
-    let write-bytes2 = c.write_bytes-last in
-    let e = refused_length (number_of c.args.rejection.refusal) c.args.rejection.line in
-    let d = ap (λ k. length (numeral k)) c.from.ensures in
-    let p = write_bytes.ensures.place in
-    let k = written_length (write_bytes.ensures) in
-    let q = write-decimal.ensures.place in
-    let l = written_length (write-decimal.ensures) in
-    let s = write-bytes2.ensures.place in
-    let m = written_length (write-bytes2.ensures) in
-    omega arith
+pub write_decimal-requires-2 : goal.write_decimal-requires-2
+write_decimal-requires-2 c =
+    let number = numeral (number_of c.args.rejection.refusal) in
+    let line = numeral c.args.rejection.line in
+    let room = room_left c.write.ensures (number ++ (line_word ++ (line ++ line_end))) c.requires in
+    let after = room_left (said_as c.write_decimal.ensures (ap numeral c.from.ensures)) (line_word ++ (line ++ line_end)) room in
+    room_first line line_end _ _ (room_left c.write-2.ensures (line ++ line_end) after)
 
 pub write_byte-requires : goal.write_byte-requires
 write_byte-requires c =
-    let write_bytes = c.write_bytes-digits in
-    let write-decimal = c.write_decimal-word in
-    let write-bytes2 = c.write_bytes-last in
-    let write-decimal2 = c.write_decimal-end in
-    let e = refused_length (number_of c.args.rejection.refusal) c.args.rejection.line in
-    let d = ap (λ k. length (numeral k)) c.from.ensures in
-    let p = write_bytes.ensures.place in
-    let k = written_length (write_bytes.ensures) in
-    let q = write-decimal.ensures.place in
-    let l = written_length (write-decimal.ensures) in
-    let s = write-bytes2.ensures.place in
-    let m = written_length (write-bytes2.ensures) in
-    let t = write-decimal2.ensures.place in
-    let n = written_length (write-decimal2.ensures) in
+    let number = numeral (number_of c.args.rejection.refusal) in
+    let line = numeral c.args.rejection.line in
+    let room = room_left c.write.ensures (number ++ (line_word ++ (line ++ line_end))) c.requires in
+    let after = room_left (said_as c.write_decimal.ensures (ap numeral c.from.ensures)) (line_word ++ (line ++ line_end)) room in
+    let last = room_left c.write_decimal-2.ensures line_end (room_left c.write-2.ensures (line ++ line_end) after) in
     omega arith
 
 pub returns : goal.returns
-returns c =
-    let write_bytes = c.write_bytes-digits in
-    let write-decimal = c.write_decimal-word in
-    let write-bytes2 = c.write_bytes-last in
-    let write-decimal2 = c.write_decimal-end in
-    let write_byte = c.write_byte in
-    and_then (write_bytes.ensures) (and_then (written_as (write-decimal.ensures) (ap numeral c.from.ensures)) (and_then (write-bytes2.ensures) (and_then (write-decimal2.ensures) (write_byte.ensures))))
+returns c = written_on c.write.ensures (written_on (said_as c.write_decimal.ensures (ap numeral c.from.ensures)) (written_on c.write-2.ensures (written_on c.write_decimal-2.ensures c.write_byte.ensures)))

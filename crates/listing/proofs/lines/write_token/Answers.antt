@@ -1,59 +1,33 @@
 -- `write_token` meets its contract: each part stands behind the one before, and there is room for it.
-use mathlib.Core.Path.{ap}
-use lib.ListN.{length}
-use Rattle.byte_output.specs.OutputLaws.{written_length, and_then, written_as}
-use Rattle.listing.specs.ListingLaws.{line_length}
+use lib.ListN.{get_or}
+use mathlib.Core.List.{◌++◌}
 use native.Mathlib.Omega.{arith}
+use Rattle.source_text.specs.Parts.{part_of}
+use Rattle.byte_output.specs.OutputLaws.{room_first, room_left, written_on, said_as}
+use Rattle.listing.specs.Listing.{kind_word, line_end}
 use Rattle.listing.proofs.lines.write_token.Goals as goal
 
-pub write_decimal-kind-requires : goal.write_decimal-kind-requires
-write_decimal-kind-requires c = let e = line_length (c.args.text.now) (c.args.row) in omega arith
+pub write-requires : goal.write-requires
+write-requires c =
+    let kind = kind_word (get_or c.args.row 0 0) in
+    let token = part_of c.args.text.now (get_or c.args.row 1 0) (get_or c.args.row 2 0) in
+    let room = room_left c.write_decimal.ensures (kind ++ (token ++ line_end)) c.requires in
+    rw c.kind_word.ensures (room_first kind (token ++ line_end) _ _ room)
 
-pub write_kind-word-requires : goal.write_kind-word-requires
-write_kind-word-requires c =
-    let args = c.args in
-    let write-decimal = c.write_decimal-kind in
-    let e = line_length (args.text.now) (args.row) in
-    let p = write-decimal.ensures.place in
-    let k = written_length (write-decimal.ensures) in
-    omega arith
-
-pub write_bytes-end-requires : goal.write_bytes-end-requires
-write_bytes-end-requires c =
-    let args = c.args in
-    let write-decimal = c.write_decimal-kind in
-    let write-kind = c.write_kind-word in
-    let word' = c.word-token in
-    let e = line_length (args.text.now) (args.row) in
-    let p = write-decimal.ensures.place in
-    let k = written_length (write-decimal.ensures) in
-    let q = write-kind.ensures.place in
-    let l = written_length (write-kind.ensures) in
-    let n = ap length (word'.ensures) in
-    omega arith
+pub write-requires-2 : goal.write-requires-2
+write-requires-2 c =
+    let kind = kind_word (get_or c.args.row 0 0) in
+    let token = part_of c.args.text.now (get_or c.args.row 1 0) (get_or c.args.row 2 0) in
+    let room = room_left c.write_decimal.ensures (kind ++ (token ++ line_end)) c.requires in
+    rw c.word.ensures (room_first token line_end _ _ (room_left (said_as c.write.ensures c.kind_word.ensures) (token ++ line_end) room))
 
 pub write_byte-requires : goal.write_byte-requires
 write_byte-requires c =
-    let args = c.args in
-    let write-decimal = c.write_decimal-kind in
-    let write-kind = c.write_kind-word in
-    let word' = c.word-token in
-    let write_bytes = c.write_bytes-end in
-    let e = line_length (args.text.now) (args.row) in
-    let p = write-decimal.ensures.place in
-    let k = written_length (write-decimal.ensures) in
-    let q = write-kind.ensures.place in
-    let l = written_length (write-kind.ensures) in
-    let n = ap length (word'.ensures) in
-    let s = write_bytes.ensures.place in
-    let m = written_length (write_bytes.ensures) in
+    let kind = kind_word (get_or c.args.row 0 0) in
+    let token = part_of c.args.text.now (get_or c.args.row 1 0) (get_or c.args.row 2 0) in
+    let room = room_left c.write_decimal.ensures (kind ++ (token ++ line_end)) c.requires in
+    let last = room_left (said_as c.write-2.ensures c.word.ensures) line_end (room_left (said_as c.write.ensures c.kind_word.ensures) (token ++ line_end) room) in
     omega arith
 
 pub returns : goal.returns
-returns c =
-    let write-decimal = c.write_decimal-kind in
-    let write-kind = c.write_kind-word in
-    let write_bytes = c.write_bytes-end in
-    let word' = c.word-token in
-    let write_byte = c.write_byte in
-    and_then (write-decimal.ensures) (and_then (write-kind.ensures) (and_then (written_as (write_bytes.ensures) (word'.ensures)) (write_byte.ensures)))
+returns c = written_on c.write_decimal.ensures (written_on (said_as c.write.ensures c.kind_word.ensures) (written_on (said_as c.write-2.ensures c.word.ensures) c.write_byte.ensures))
