@@ -15,7 +15,7 @@ use Rattle.arena.specs.NodeLaws.{reference_same}
 use Rattle.arena.specs.Copies.{pattern_room}
 use Rattle.arena.specs.Rows.{Rows}
 use Rattle.evaluation.specs.Matching.{Built, barred, built, if_built, instantiate_of}
-use Rattle.clause_matching.specs.Stored.{Environment, Value, Values, Holds, pattern_at, value_at}
+use Rattle.clause_matching.specs.Stored.{Value, Values, Holds, pattern_at, value_at}
 use Rattle.clause_matching.specs.Building.{built_at, InstantiateAsked, Stands, Tells, Instantiated, ArgumentsAsked, TellsAll, ArgumentsBuilt}
 use Rattle.clause_matching.specs.declared.building.Built.{Built as Answer}
 use Rattle.std.specs.Prelude.{Result, Ok, Err}
@@ -48,7 +48,7 @@ found (built t u) value used' values values' used limit (v, e, s) =
     }
 
 -- What holds at each turn.
-pub record Turn (pattern : List ℕ) (first count : ℕ) (environment : Environment) (values₀ : List ℕ) (used₀ limit : ℕ) (stack₀ : Rows) (slots₀ : List ℕ)
+pub record Turn (pattern : List ℕ) (first count : ℕ) (environment values₀ : List ℕ) (used₀ limit : ℕ) (stack₀ : Rows) (slots₀ : List ℕ)
     (values : List ℕ) (stack : Rows) (slots : List ℕ) (spent k : ℕ) : Type 0 where
   pub asked : ArgumentsAsked pattern first count environment values₀ used₀ limit stack₀ slots₀
   pub kept : length values ≡ length values₀
@@ -74,7 +74,7 @@ append_more : (ts : Terms) (t : Term) (us : Terms) → append ts (cons t us) ≡
 append_more nil t us = refl
 append_more (cons u ts) t us = ap (cons u) (append_more ts t us)
 
-pub turn_start : {pattern : List ℕ} {first count : ℕ} {environment : Environment} {values : List ℕ} {used limit : ℕ} {stack : Rows} {slots : List ℕ}
+pub turn_start : {pattern : List ℕ} {first count : ℕ} {environment values : List ℕ} {used limit : ℕ} {stack : Rows} {slots : List ℕ}
     → ArgumentsAsked pattern first count environment values used limit stack slots
     → Turn pattern first count environment values used limit stack slots values stack slots used 0
 turn_start {pattern} {first} {count} {used = used} {limit = limit} h = record {
@@ -94,7 +94,7 @@ turn_start {pattern} {first} {count} {used = used} {limit = limit} h = record {
       ∙ ap₂ (λ (p n : ℕ). instantiate_of limit β (args (denote pattern_room (cells pattern)) (cells pattern) p n) used) e f;
 }
 
-module _ {pattern : List ℕ} {first count : ℕ} {environment : Environment} {values₀ : List ℕ} {used₀ limit : ℕ} {stack₀ : Rows} {slots₀ : List ℕ}
+module _ {pattern : List ℕ} {first count : ℕ} {environment values₀ : List ℕ} {used₀ limit : ℕ} {stack₀ : Rows} {slots₀ : List ℕ}
     {values : List ℕ} {stack : Rows} {slots : List ℕ} {spent k : ℕ}
     (h : Turn pattern first count environment values₀ used₀ limit stack₀ slots₀ values stack slots spent k) where
   abbrev grown : (β : Bindings) → Holds environment values₀ used₀ β → Holds environment values spent β

@@ -17,7 +17,7 @@ use Rattle.arena.specs.Copies.{pattern_room}
 use Rattle.arena.specs.Rows.{Rows, column}
 use Rattle.resolution.specs.Search.{words}
 use Rattle.evaluation.specs.Matching.{Fitted, misfit, fitted, if_fitted, bind_of}
-use Rattle.clause_matching.specs.Stored.{Environment, Value, Holds, pattern_at, value_at}
+use Rattle.clause_matching.specs.Stored.{Value, Holds, pattern_at, value_at}
 use Rattle.clause_matching.specs.Matching.{Says, Lent, Matched, BindAsked}
 use Rattle.clause_matching.proofs.Open.{unmet, pending, Row, words_append, size_append, args_count, unmet_put, bind_append, bind_uneven, bind_alone}
 
@@ -29,14 +29,14 @@ abbrev pub values_left : List ℕ → Rows → ℕ → Terms
 values_left values stack depth = unmet 0 1 (cells values) stack depth
 
 -- The values known after so many turns: matching what is left with them comes to the whole.
-pub record Reached (ps ts : Terms) (whole : Fitted) (environment : Environment) (values : List ℕ) (used : ℕ) : Type 0 where
+pub record Reached (ps ts : Terms) (whole : Fitted) (environment values : List ℕ) (used : ℕ) : Type 0 where
   pub γ : Bindings
   pub holds : Holds environment values used γ
   pub comes : bind_of ps ts γ ≡ whole
 
 -- What holds at each turn.
-pub record Turn (pattern : List ℕ) (reference : ℕ) (values : List ℕ) (used value : ℕ) (environment₀ : Environment) (links₀ : List ℕ) (stack₀ : Rows)
-    (environment : Environment) (links : List ℕ) (stack : Rows) (depth next other : ℕ) (waiting : Bool) : Type 0 where
+pub record Turn (pattern : List ℕ) (reference : ℕ) (values : List ℕ) (used value : ℕ) (environment₀ links₀ : List ℕ) (stack₀ : Rows)
+    (environment links : List ℕ) (stack : Rows) (depth next other : ℕ) (waiting : Bool) : Type 0 where
   pub asked : BindAsked pattern reference values used value environment₀ links₀ stack₀
   pub kept : length environment ≡ length environment₀
   pub keeps : length stack ≡ length stack₀
@@ -60,7 +60,7 @@ one false = 1
 abbrev pub left : List ℕ → Rows → ℕ → ℕ → Bool → ℕ
 left pattern stack depth next waiting = 4 * size (pending waiting (pattern_at pattern next) (patterns_left pattern stack depth)) + 2 * depth + one waiting
 
-pub turn_start : {pattern : List ℕ} {reference : ℕ} {values : List ℕ} {used value : ℕ} {environment : Environment} {links : List ℕ} {stack : Rows}
+pub turn_start : {pattern : List ℕ} {reference : ℕ} {values : List ℕ} {used value : ℕ} {environment links : List ℕ} {stack : Rows}
     → BindAsked pattern reference values used value environment links stack
     → Turn pattern reference values used value environment links stack environment links stack 0 reference value true
 turn_start h = record {
@@ -77,11 +77,11 @@ turn_start h = record {
 }
 
 -- What an answer says of matching.
-pub says_false : (o : Fitted) (environment : Environment) (values : List ℕ) (used : ℕ) → Says o false environment values used → o ≡ misfit
+pub says_false : (o : Fitted) (environment values : List ℕ) (used : ℕ) → Says o false environment values used → o ≡ misfit
 says_false misfit environment values used h = refl
 says_false (fitted γ) environment values used h = true_false h.0 refl
 
-pub says_true : (o : Fitted) (environment : Environment) (values : List ℕ) (used : ℕ) → Says o true environment values used → (γ : Bindings) × (o ≡ fitted γ) × Holds environment values used γ
+pub says_true : (o : Fitted) (environment values : List ℕ) (used : ℕ) → Says o true environment values used → (γ : Bindings) × (o ≡ fitted γ) × Holds environment values used γ
 says_true misfit environment values used h = true_false {b = true} refl h
 says_true (fitted γ) environment values used h = (γ, refl, h.1)
 
@@ -90,14 +90,14 @@ nothing_left : (pattern values : List ℕ) (stack : Rows) (depth : ℕ) (γ : Bi
 unfolding bind_of
 nothing_left pattern values stack depth γ z = rw z
 
-module _ {pattern : List ℕ} {reference : ℕ} {values : List ℕ} {used value : ℕ} {environment₀ : Environment} {links₀ : List ℕ} {stack₀ : Rows}
-    {environment : Environment} {links : List ℕ} {stack : Rows} {depth next other : ℕ} {waiting : Bool}
+module _ {pattern : List ℕ} {reference : ℕ} {values : List ℕ} {used value : ℕ} {environment₀ links₀ : List ℕ} {stack₀ : Rows}
+    {environment links : List ℕ} {stack : Rows} {depth next other : ℕ} {waiting : Bool}
     (h : Turn pattern reference values used value environment₀ links₀ stack₀ environment links stack depth next other waiting) where
   abbrev whole : Bindings → Fitted
   whole β = bind_of (pattern_at pattern reference) (value_at values value) β
 
   -- A misfit is the answer.
-  misfits : {environment' : Environment} {links' : List ℕ} → length environment' ≡ length environment → links' ≡ links
+  misfits : {environment' links' : List ℕ} → length environment' ≡ length environment → links' ≡ links
       → ((β : Bindings) → Holds environment₀ values used β → whole β ≡ misfit)
       → Matched (pattern_at pattern reference) values used value environment₀ links₀ false environment' links'
   misfits {environment'} l k n = record {
@@ -131,7 +131,7 @@ module _ {pattern : List ℕ} {reference : ℕ} {values : List ℕ} {used value 
       pub less_variable : left pattern stack depth next false < left pattern stack depth next waiting
       less_variable = let s = size_pos (pattern_at pattern next) in rw q (omega arith)
 
-      module _ (r : Bool) (environment' : Environment) (links' : List ℕ) (m : Matched (var next) values used other environment links r environment' links') where
+      module _ (r : Bool) (environment' links' : List ℕ) (m : Matched (var next) values used other environment links r environment' links') where
         pub variable_misfits : r ≡ false → Matched (pattern_at pattern reference) values used value environment₀ links₀ false environment' links'
         unfolding bind_of
         variable_misfits e = misfits m.kept m.restored (λ β k.
@@ -440,8 +440,8 @@ module _ {pattern : List ℕ} {reference : ℕ} {values : List ℕ} {used value 
             }
 
 -- The next argument is taken, and it is a variable: both steps at once.
-module _ {pattern : List ℕ} {reference : ℕ} {values : List ℕ} {used value : ℕ} {environment₀ : Environment} {links₀ : List ℕ} {stack₀ : Rows}
-    {environment : Environment} {links : List ℕ} {stack : Rows} {depth next other : ℕ} {waiting : Bool}
+module _ {pattern : List ℕ} {reference : ℕ} {values : List ℕ} {used value : ℕ} {environment₀ links₀ : List ℕ} {stack₀ : Rows}
+    {environment links : List ℕ} {stack : Rows} {depth next other : ℕ} {waiting : Bool}
     (h : Turn pattern reference values used value environment₀ links₀ stack₀ environment links stack depth next other waiting)
     (q : waiting ≡ false) (n : depth ≢ 0) (o : column 2 stack (depth - 1) ≢ 0) (v : cells pattern (column 0 stack (depth - 1)) < pattern_room) where
   abbrev row_after : List ℕ
@@ -462,7 +462,7 @@ module _ {pattern : List ℕ} {reference : ℕ} {values : List ℕ} {used value 
       let y = less_variable (turn_next h q n o) refl v in
       rw q (omega arith)
 
-  module _ (r : Bool) (environment' : Environment) (links' : List ℕ) (m : Matched (var next_after) values used other_after environment links r environment' links') where
+  module _ (r : Bool) (environment' links' : List ℕ) (m : Matched (var next_after) values used other_after environment links r environment' links') where
     pub turn_taken : r ≡ true
         → Turn pattern reference values used value environment₀ links₀ stack₀ environment' links' stack_after depth next_after other_after waiting
     turn_taken e =

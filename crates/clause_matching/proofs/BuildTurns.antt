@@ -20,11 +20,10 @@ use Rattle.arena.specs.Copies.{pattern_room}
 use Rattle.arena.specs.Rows.{Rows, column}
 use Rattle.resolution.specs.Search.{words}
 use Rattle.evaluation.specs.Matching.{Built, barred, built, if_built, build_node, value_of, instantiate_of}
-use Rattle.clause_matching.specs.Stored.{Environment, Value, Values, Valued, Holds, pattern_at, value_at}
-use Rattle.std.specs.Prelude.{Option as Optional, None, Some, Err}
+use Rattle.clause_matching.specs.Stored.{Value, Values, Valued, Holds, pattern_at, value_at}
+use Rattle.std.specs.Prelude.{Err}
 use Rattle.refusals.specs.declared.Refusal.TheVariants.{Unbound, OverLimit}
 use Rattle.clause_matching.specs.Building.{built_at, rule_words, Pushed, InstantiateAsked, Tells, Instantiated}
-use Rattle.clause_matching.proofs.Taking.{valued_some}
 use Rattle.clause_matching.proofs.Open.{args_count}
 use Rattle.clause_matching.proofs.Forming.{FormsKept, forms_same, pushed_form, unbuilt_forms, built_forms}
 use Rattle.clause_matching.proofs.Frames.{Frame, frame, carry, resume, carry_alone, carry_given, resume_next, resume_entered, resume_full, node_fits, node_over}
@@ -68,11 +67,11 @@ pub record Open (pattern : List ℕ) (bound a k : ℕ) : Type 0 where
   pub few : k ≤ arity_of (cells pattern a)
 
 -- What a turn comes to, for all values that the environment may hold.
-abbrev pub Comes : List ℕ → ℕ → Environment → List ℕ → ℕ → ℕ → (Bindings → Built single) → Type 0
+abbrev pub Comes : List ℕ → ℕ → List ℕ → List ℕ → ℕ → ℕ → (Bindings → Built single) → Type 0
 Comes pattern reference environment values₀ used₀ limit now =
     (β : Bindings) → Holds environment values₀ used₀ β → now β ≡ instantiate_of limit β (pattern_at pattern reference) used₀
 
-module _ (pattern : List ℕ) (reference : ℕ) (environment : Environment) (values₀ : List ℕ) (used₀ limit : ℕ) where
+module _ (pattern : List ℕ) (reference : ℕ) (environment values₀ : List ℕ) (used₀ limit : ℕ) where
   -- A pattern waits to be built.
   pub record Waiting (bound : ℕ) (values : List ℕ) (stack : Rows) (depth top spent next : ℕ) : Type 0 where
     pub ahead : Reference pattern_room (cells pattern) pattern_room bound next
@@ -103,7 +102,7 @@ module _ (pattern : List ℕ) (reference : ℕ) (environment : Environment) (val
   Moment false bound values stack depth top spent next = Idle values stack depth top spent
 
 -- What holds at each turn.
-pub record Turn (pattern : List ℕ) (reference : ℕ) (environment : Environment) (values₀ : List ℕ) (used₀ limit : ℕ) (stack₀ : Rows)
+pub record Turn (pattern : List ℕ) (reference : ℕ) (environment values₀ : List ℕ) (used₀ limit : ℕ) (stack₀ : Rows)
     (values : List ℕ) (stack : Rows) (depth top spent next : ℕ) (waiting : Bool) : Type 0 where
   pub asked : InstantiateAsked pattern reference environment values₀ used₀ limit stack₀
   pub kept : length values ≡ length values₀
@@ -194,20 +193,19 @@ module _ (pattern : List ℕ) (stack : Rows) (i : ℕ) (row : List ℕ) where
       rw e (h.0, h.1, places_set limit d (get_or (get_or stack d []) 2 0) (omega arith) h.2)
 
 -- An environment holds the same values in words that have grown.
-pub holds_grown : {environment : Environment} {values₀ values : List ℕ} {used₀ spent : ℕ} (β : Bindings) → Values values₀ used₀ → Same 0 (cells values₀) (cells values) used₀ → used₀ ≤ spent
+pub holds_grown : {environment values₀ values : List ℕ} {used₀ spent : ℕ} (β : Bindings) → Values values₀ used₀ → Same 0 (cells values₀) (cells values) used₀ → used₀ ≤ spent
     → Holds environment values₀ used₀ β → Holds environment values spent β
-holds_grown {environment} {values₀} {values} {used₀} {spent} β v s g h = record { valued = λ x l. grown (get_or environment x None) (lookup β x) (h.valued x l) }
+holds_grown {environment} {values₀} {values} {used₀} {spent} β v s g h = record { valued = λ x l. grown (get_or environment x 0) (lookup β x) (h.valued x l) }
   where
-    grown : (e : Optional ℕ) (o : Option Term) → Valued values₀ used₀ e o → Valued values spent e o
+    grown : (e : ℕ) (o : Option Term) → Valued values₀ used₀ e o → Valued values spent e o
     grown e none k = k
-    grown e (some t) (r, q, k, i) = (
-      r,
-      q,
-      reference_up 0 (omega arith) g (reference_same 0 s k),
-      sym (frame_denote 0 (cells values₀) 0 used₀ v.formed (cells values) s r k) ∙ i,
+    grown e (some t) k = (
+      k.0,
+      reference_up 0 (omega arith) g (reference_same 0 s k.1),
+      sym (frame_denote 0 (cells values₀) 0 used₀ v.formed (cells values) s (e - 1) k.1) ∙ k.2,
     )
 
-pub turn_start : {pattern : List ℕ} {reference : ℕ} {environment : Environment} {values : List ℕ} {used limit : ℕ} {stack : Rows}
+pub turn_start : {pattern : List ℕ} {reference : ℕ} {environment values : List ℕ} {used limit : ℕ} {stack : Rows}
     → InstantiateAsked pattern reference environment values used limit stack
     → Turn pattern reference environment values used limit stack values stack 0 limit used reference true
 turn_start {limit = limit} h = record {
@@ -230,7 +228,7 @@ turn_start {limit = limit} h = record {
 }
 
 -- The stack that was lent may be another of the same length.
-pub turn_lent : {pattern : List ℕ} {reference : ℕ} {environment : Environment} {values₀ : List ℕ} {used₀ limit : ℕ} {stack₀ : Rows}
+pub turn_lent : {pattern : List ℕ} {reference : ℕ} {environment values₀ : List ℕ} {used₀ limit : ℕ} {stack₀ : Rows}
     {values : List ℕ} {stack : Rows} {depth top spent next : ℕ} {waiting : Bool} (stack₁ : Rows) → length stack₁ ≡ length stack₀
     → Turn pattern reference environment values₀ used₀ limit stack₀ values stack depth top spent next waiting
     → Turn pattern reference environment values₀ used₀ limit stack₁ values stack depth top spent next waiting
@@ -258,7 +256,7 @@ turn_lent stack₁ e h = record {
   moment = h.moment;
 }
 
-module _ {pattern : List ℕ} {reference : ℕ} {environment : Environment} {values₀ : List ℕ} {used₀ limit : ℕ} {stack₀ : Rows}
+module _ {pattern : List ℕ} {reference : ℕ} {environment values₀ : List ℕ} {used₀ limit : ℕ} {stack₀ : Rows}
     {values : List ℕ} {stack : Rows} {depth top spent next : ℕ} {waiting : Bool}
     (h : Turn pattern reference environment values₀ used₀ limit stack₀ values stack depth top spent next waiting) where
   -- A value is given to the open nodes: its reference v stands at the place that waits for it, in words that may have grown.
@@ -349,11 +347,11 @@ module _ {pattern : List ℕ} {reference : ℕ} {environment : Environment} {val
       pub in_environment : next < length environment
       in_environment = let l = h.asked.long in omega arith
 
-      unbound : (β : Bindings) (o : Option Term) → get_or environment next None ≡ None → Valued values₀ used₀ (get_or environment next None) o → value_of o spent ≡ barred 36
+      unbound : (β : Bindings) (o : Option Term) → get_or environment next 0 ≡ 0 → Valued values₀ used₀ (get_or environment next 0) o → value_of o spent ≡ barred 36
       unbound β none z k = refl
-      unbound β (some t) z (r, e, k, i) = absurd (let y : ⊥ = cc in y)
+      unbound β (some t) z k = absurd (let a = k.0 in let y : ⊥ = omega arith in y)
 
-      pub variable_unbound : get_or environment next None ≡ None → Instantiated pattern reference environment values₀ used₀ limit (Err Unbound) values
+      pub variable_unbound : get_or environment next 0 ≡ 0 → Instantiated pattern reference environment values₀ used₀ limit (Err Unbound) values
       unfolding instantiate_of
       variable_unbound z = record {
         tells = λ β k.
@@ -367,14 +365,19 @@ module _ {pattern : List ℕ} {reference : ℕ} {environment : Environment} {val
       }
 
       -- It has a value.
-      module _ {known_value : ℕ} (n : get_or environment next None ≡ Some known_value) where
+      module _ (n : get_or environment next 0 ≢ 0) where
+        abbrev known_value : ℕ
+        known_value = get_or environment next 0 - 1
+
         abbrev entered : List ℕ
         entered = set values top known_value
 
+        bound_value : (o : Option Term) → Valued values spent (get_or environment next 0) o → Value values spent known_value × (value_of o spent ≡ built (value_at values known_value) spent)
+        bound_value none k = absurd (n k)
+        bound_value (some t) k = (k.1, ap (λ (u : Term). built u spent) (sym k.2))
+
         the_value : (β : Bindings) → Holds environment values₀ used₀ β → Value values spent known_value × (value_of (lookup β next) spent ≡ built (value_at values known_value) spent)
-        the_value β k =
-            let (t, p, u, i) = valued_some values spent (lookup β next) n ((holds_grown β h.asked.stored h.same h.grows k).valued next v) in
-            (u, ap (λ (o : Option Term). value_of o spent) p ∙ ap (λ (w : Term). built w spent) (sym i))
+        the_value β k = bound_value (lookup β next) ((holds_grown β h.asked.stored h.same h.grows k).valued next v)
 
         same_entered : Same 0 (cells values) (cells entered) spent
         same_entered i l = let (a, b, c) = top_inside in let w = h.within in sym (get_or-set_other values top i known_value 0 (λ e. omega arith))

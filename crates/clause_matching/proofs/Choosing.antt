@@ -17,7 +17,7 @@ use Rattle.arena.specs.Copies.{pattern_room}
 use Rattle.names.specs.Symbols.{Rows}
 use Rattle.resolution.specs.Search.{words as words_in}
 use Rattle.evaluation.specs.Matching.{Fitted, misfit, fitted, if_fitted, bind_of}
-use Rattle.clause_matching.specs.Stored.{Environment, Holds, pattern_at, value_at}
+use Rattle.clause_matching.specs.Stored.{Holds, pattern_at, value_at}
 use Rattle.clause_matching.specs.Matching.{Says, Matched, BindAsked}
 use Rattle.clause_matching.specs.Choice.{Referable, pattern_from, patterns_from, ApartAsked, conclusion_in, values_of, fit_of, ConclusionIn, ClauseAsked, Chosen}
 use Rattle.clause_matching.specs.declared.choice.Pattern.{Pattern}
@@ -25,8 +25,8 @@ use Rattle.clause_matching.specs.declared.choice.Pattern.TheVariants.{Variable, 
 use Rattle.clause_matching.proofs.BindTurns.{says_false, says_true}
 
 -- No clause before i fits.
-pub record Choosing (rules : Rows) (pattern : List ℕ) (from end : ℕ) (values words : List ℕ) (used : ℕ) (environment₀ : Environment) (links₀ : List ℕ) (stack₀ : Rows)
-    (environment : Environment) (links : List ℕ) (stack : Rows) (i : ℕ) : Type 0 where
+pub record Choosing (rules : Rows) (pattern : List ℕ) (from end : ℕ) (values words : List ℕ) (used : ℕ) (environment₀ links₀ : List ℕ) (stack₀ : Rows)
+    (environment links : List ℕ) (stack : Rows) (i : ℕ) : Type 0 where
   pub asked : ClauseAsked rules pattern from end values words used environment₀ links₀ stack₀
   pub kept : length environment ≡ length environment₀
   pub keeps : length stack ≡ length stack₀
@@ -35,14 +35,14 @@ pub record Choosing (rules : Rows) (pattern : List ℕ) (from end : ℕ) (values
   pub missed : (j : ℕ) → from ≤ j → j < i → fit_of rules pattern values words j ≡ misfit
 
 -- Values that make matching what is left come to the whole.
-pub record Reached (ps ts : Terms) (whole : Fitted) (environment : Environment) (words : List ℕ) (used : ℕ) : Type 0 where
+pub record Reached (ps ts : Terms) (whole : Fitted) (environment words : List ℕ) (used : ℕ) : Type 0 where
   pub γ : Bindings
   pub holds : Holds environment words used γ
   pub comes : bind_of ps ts γ ≡ whole
 
 -- The first k patterns of the clause i fit.
-pub record Trying (rules : Rows) (pattern values words : List ℕ) (used : ℕ) (environment₀ : Environment) (links₀ : List ℕ) (stack₀ : Rows) (i base : ℕ)
-    (environment : Environment) (links : List ℕ) (stack : Rows) (k : ℕ) : Type 0 where
+pub record Trying (rules : Rows) (pattern values words : List ℕ) (used : ℕ) (environment₀ links₀ : List ℕ) (stack₀ : Rows) (i base : ℕ)
+    (environment links : List ℕ) (stack : Rows) (k : ℕ) : Type 0 where
   pub kept : length environment ≡ length environment₀
   pub keeps : length stack ≡ length stack₀
   pub restored : links ≡ links₀
@@ -51,7 +51,7 @@ pub record Trying (rules : Rows) (pattern values words : List ℕ) (used : ℕ) 
   pub reached : Reached (args (denote pattern_room (cells pattern)) (cells pattern) (base + k) (length values - k))
       (args (denote 0 (cells words)) (cells values) k (length values - k)) (fit_of rules pattern values words i) environment words used
 
-pub choosing_start : {rules : Rows} {pattern : List ℕ} {from end : ℕ} {values words : List ℕ} {used : ℕ} {environment : Environment} {links : List ℕ} {stack : Rows}
+pub choosing_start : {rules : Rows} {pattern : List ℕ} {from end : ℕ} {values words : List ℕ} {used : ℕ} {environment links : List ℕ} {stack : Rows}
     → ClauseAsked rules pattern from end values words used environment links stack
     → Choosing rules pattern from end values words used environment links stack environment links stack from
 choosing_start h = record {
@@ -71,8 +71,8 @@ words_argument g w p (suc n) (suc k) l =
     let e : p + suc k ≡ suc p + k = omega arith in
     let h = words_argument g w (suc p) n k (omega arith) in rw e (omega arith)
 
-module _ {rules : Rows} {pattern : List ℕ} {from end : ℕ} {values words : List ℕ} {used : ℕ} {environment₀ : Environment} {links₀ : List ℕ} {stack₀ : Rows}
-    {environment : Environment} {links : List ℕ} {stack : Rows} {i : ℕ}
+module _ {rules : Rows} {pattern : List ℕ} {from end : ℕ} {values words : List ℕ} {used : ℕ} {environment₀ links₀ : List ℕ} {stack₀ : Rows}
+    {environment links : List ℕ} {stack : Rows} {i : ℕ}
     (h : Choosing rules pattern from end values words used environment₀ links₀ stack₀ environment links stack i) where
   -- The loop is left behind all clauses.
   pub none_fits : end ≤ i → Chosen rules pattern from end values words used environment₀ links₀ None environment links
@@ -152,7 +152,7 @@ module _ {rules : Rows} {pattern : List ℕ} {from end : ℕ} {values words : Li
         }
 
     -- The clause is tried with a cleared environment.
-    pub trying_start : (environment' : Environment) (base : ℕ) → environment' ≡ replicate (length environment - 0) None → base ≡ suc address
+    pub trying_start : (environment' : List ℕ) (base : ℕ) → environment' ≡ replicate (length environment) 0 → base ≡ suc address
         → Trying rules pattern values words used environment' links stack i base environment' links stack 0
     trying_start environment' base e b = record {
       kept = refl;
@@ -163,15 +163,15 @@ module _ {rules : Rows} {pattern : List ℕ} {from end : ℕ} {values words : Li
       reached = record {
         γ = start;
         holds = record {
-          valued = λ x l. ap (λ (t : Environment). get_or t x None) e
-              ∙ get_or-replicate (length environment - 0) x None None (let a = h.asked.long in let k = h.kept in omega arith);
+          valued = λ x l. ap (λ (t : List ℕ). get_or t x 0) e
+              ∙ get_or-replicate (length environment) x 0 0 (let a = h.asked.long in let k = h.kept in omega arith);
         };
         comes = (let x : base + 0 ≡ suc address = omega arith in let y : length values - 0 ≡ length values = omega arith in
             ap₂ (λ (p n : ℕ). bind_of (args (denote pattern_room (cells pattern)) (cells pattern) p n) (args (denote 0 (cells words)) (cells values) 0 n) start) x y);
       };
     }
 
-    module _ {environment' : Environment} {base : ℕ} (long : length environment' ≡ length environment) {environment'' : Environment} {links'' : List ℕ} {stack'' : Rows} {k : ℕ}
+    module _ {environment' : List ℕ} {base : ℕ} (long : length environment' ≡ length environment) {environment'' links'' : List ℕ} {stack'' : Rows} {k : ℕ}
         (t : Trying rules pattern values words used environment' links stack i base environment'' links'' stack'' k) where
       -- The loop is left at the clause.
       pub clause_fits : length values ≤ k → Chosen rules pattern from end values words used environment₀ links₀ (Some i) environment'' links''
@@ -242,7 +242,7 @@ module _ {rules : Rows} {pattern : List ℕ} {from end : ℕ} {values words : Li
             ∙ ap (λ (j : ℕ). bind_of (args (denote pattern_room (cells pattern)) (cells pattern) (base + k) j) (args (denote 0 (cells words)) (cells values) k j) t.reached.γ) (sym n)
             ∙ t.reached.comes
 
-        module _ {r : Bool} {environment''' : Environment} {links''' : List ℕ} (b : Matched (pattern_at pattern head) words used (cells values k) environment'' links'' r environment''' links''')
+        module _ {r : Bool} {environment''' links''' : List ℕ} (b : Matched (pattern_at pattern head) words used (cells values k) environment'' links'' r environment''' links''')
             {stack''' : Rows} (size : length stack''' ≡ length stack'') where
           pub choosing_next : r ≡ false → Choosing rules pattern from end values words used environment₀ links₀ stack₀ environment''' links''' stack''' (i + 1)
           choosing_next q =

@@ -1,7 +1,8 @@
 -- A pattern that is a variable: what is built is its value, which stands already; and it takes a value, or is compared with it.
-use Prim.Native.Nat.{ℕ, ◌<◌}
+use Prim.Native.Nat.{ℕ, ◌-◌, ◌<◌}
 use native.Mathlib.Omega.{arith}
 use mathlib.Core.Path.{◌≡◌, refl, sym, ap, subst}
+use mathlib.Core.Logic.{◌≢◌}
 use mathlib.Core.Bool.{Bool}
 use mathlib.Core.Option.{Option, none, some}
 use mathlib.Core.List.{List}
@@ -13,40 +14,42 @@ use Rattle.arena.specs.Cells.{cells, denote_variable}
 use Rattle.arena.specs.Copies.{pattern_room}
 use Rattle.arena.specs.Rows.{Rows}
 use Rattle.evaluation.specs.Matching.{Built, value_of, instantiate_of}
-use Rattle.clause_matching.specs.Stored.{Environment, Valued, pattern_at}
-use Rattle.std.specs.Prelude.{Err, None, Some}
+use Rattle.clause_matching.specs.Stored.{Valued, pattern_at}
+use Rattle.std.specs.Prelude.{Err}
 use Rattle.refusals.specs.declared.Refusal.TheVariants.{Unbound}
 use Rattle.clause_matching.specs.Building.{built_at, InstantiateAsked, Tells, Instantiated}
 use Rattle.clause_matching.specs.Matching.{Matched}
-use Rattle.clause_matching.proofs.Taking.{valued_some}
 use Rattle.clause_matching.proofs.Forming.{unbuilt_forms, built_forms}
 
 -- The pattern of such a reference.
 variable_is : (pattern : List ℕ) (reference : ℕ) → reference < pattern_room → pattern_at pattern reference ≡ var reference
 variable_is pattern reference v = denote_variable pattern_room (cells pattern) reference v
 
-module _ {pattern : List ℕ} {reference : ℕ} {environment : Environment} {values : List ℕ} {used limit : ℕ} {stack : Rows}
+module _ {pattern : List ℕ} {reference : ℕ} {environment values : List ℕ} {used limit : ℕ} {stack : Rows}
     (h : InstantiateAsked pattern reference environment values used limit stack) (v : reference < pattern_room) where
   pub in_environment : reference < length environment
   in_environment = let l = h.long in omega arith
 
   -- What building a variable comes to, by the number that the environment has for it.
-  none_tells : (o : Option Term) → get_or environment reference None ≡ None → Valued values used (get_or environment reference None) o
+  none_tells : (o : Option Term) → get_or environment reference 0 ≡ 0 → Valued values used (get_or environment reference 0) o
       → Tells (value_of o used) (Err Unbound) values values used limit
   none_tells none z k = refl
-  none_tells (some t) z (r, e, k, i) = absurd (let y : ⊥ = cc in y)
+  none_tells (some t) z k = absurd (let a = k.0 in let y : ⊥ = omega arith in y)
 
-  value_tells : (o : Option Term) {value : ℕ} → get_or environment reference None ≡ Some value → Valued values used (get_or environment reference None) o
-      → Tells (value_of o used) (built_at value used) values values used limit
-  value_tells o {value} n k =
-      let (t, p, v, i) = valued_some values used o n k in
-      rw p (value, refl, record { stored = h.stored; root = v; is = i; same = λ i l. refl; grows = omega arith; within = h.fits })
+  value_tells : (o : Option Term) → get_or environment reference 0 ≢ 0 → Valued values used (get_or environment reference 0) o
+      → Tells (value_of o used) (built_at (get_or environment reference 0 - 1) used) values values used limit
+  value_tells none n k = absurd (n k)
+  value_tells (some t) n k = (
+    get_or environment reference 0 - 1,
+    refl,
+    record { stored = h.stored; root = k.1; is = k.2; same = λ i l. refl; grows = omega arith; within = h.fits },
+  )
 
   built_is : (β : Bindings) → instantiate_of limit β (pattern_at pattern reference) used ≡ value_of (lookup β reference) used
   unfolding instantiate_of
   built_is β = ap (λ (p : Term). instantiate_of limit β p used) (variable_is pattern reference v)
 
-  pub variable_unbound : get_or environment reference None ≡ None → Instantiated pattern reference environment values used limit (Err Unbound) values
+  pub variable_unbound : get_or environment reference 0 ≡ 0 → Instantiated pattern reference environment values used limit (Err Unbound) values
   variable_unbound z = record {
     tells = λ β k. subst (λ (b : Built single). Tells b (Err Unbound) values values used limit) (sym (built_is β))
         (none_tells (lookup β reference) z (k.valued reference v));
@@ -54,17 +57,17 @@ module _ {pattern : List ℕ} {reference : ℕ} {environment : Environment} {val
     kept = refl;
   }
 
-  pub variable_value : {value : ℕ} → get_or environment reference None ≡ Some value
-      → Instantiated pattern reference environment values used limit (built_at value used) values
-  variable_value {value} n = record {
-    tells = λ β k. subst (λ (b : Built single). Tells b (built_at value used) values values used limit) (sym (built_is β))
+  pub variable_value : get_or environment reference 0 ≢ 0
+      → Instantiated pattern reference environment values used limit (built_at (get_or environment reference 0 - 1) used) values
+  variable_value n = record {
+    tells = λ β k. subst (λ (b : Built single). Tells b (built_at (get_or environment reference 0 - 1) used) values values used limit) (sym (built_is β))
         (value_tells (lookup β reference) n (k.valued reference v));
-    forms = built_forms pattern value used values values used (λ arities d f. f);
+    forms = built_forms pattern (get_or environment reference 0 - 1) used values values used (λ arities d f. f);
     kept = refl;
   }
 
 -- A variable matched with the value is the pattern matched with it.
-pub variable_matched : (pattern : List ℕ) (reference : ℕ) {values : List ℕ} {used value : ℕ} {environment : Environment} {links : List ℕ} {r : Bool} {environment' : Environment} {links' : List ℕ}
+pub variable_matched : (pattern : List ℕ) (reference : ℕ) {values : List ℕ} {used value : ℕ} {environment links : List ℕ} {r : Bool} {environment' links' : List ℕ}
     → reference < pattern_room → Matched (var reference) values used value environment links r environment' links'
     → Matched (pattern_at pattern reference) values used value environment links r environment' links'
 variable_matched pattern reference {values} {used} {value} {environment} {links} {r} {environment'} {links'} v m =

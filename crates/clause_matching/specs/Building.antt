@@ -7,7 +7,7 @@ use Rattle.arena.specs.Cells.{headers, cells, args, denote, Same}
 use Rattle.arena.specs.Copies.{pattern_room}
 use Rattle.arena.specs.Rows.{Rows}
 use Rattle.evaluation.specs.Matching.{Built, barred, built, instantiate_of}
-use Rattle.clause_matching.specs.Stored.{Environment, Value, Values, PatternIn, Holds, Headed, Formed, value_at, pattern_at}
+use Rattle.clause_matching.specs.Stored.{Value, Values, PatternIn, Holds, Headed, Formed, value_at, pattern_at}
 use Rattle.refusals.specs.declared.Refusal.{Refusal}
 use Rattle.refusals.specs.Refused.{Refuses}
 use Rattle.clause_matching.specs.declared.building.Built.{Built as Answer}
@@ -30,7 +30,7 @@ pub record Pushed (words : List ℕ) (used header from count : ℕ) (words' : Li
   pub kept : length words' ≡ length words
 
 -- What `instantiate` asks: a pattern, values for its variables, and scratch behind the limit.
-pub record InstantiateAsked (pattern : List ℕ) (reference : ℕ) (environment : Environment) (values : List ℕ) (used limit : ℕ) (stack : Rows) : Type 0 where
+pub record InstantiateAsked (pattern : List ℕ) (reference : ℕ) (environment values : List ℕ) (used limit : ℕ) (stack : Rows) : Type 0 where
   pub size : ℕ
   pub patterned : PatternIn pattern size reference rule_words
   pub stored : Values values used
@@ -60,13 +60,13 @@ abbrev pub BuiltFormed : List ℕ → Result Answer Refusal → List ℕ → Lis
 BuiltFormed pattern r values values' used =
     (arities : List ℕ) → Headed arities pattern → Formed arities values used → (value u : ℕ) → r ≡ built_at value u → Formed arities values' u
 
-pub record Instantiated (pattern : List ℕ) (reference : ℕ) (environment : Environment) (values : List ℕ) (used limit : ℕ) (r : Result Answer Refusal) (values' : List ℕ) : Type 0 where
+pub record Instantiated (pattern : List ℕ) (reference : ℕ) (environment values : List ℕ) (used limit : ℕ) (r : Result Answer Refusal) (values' : List ℕ) : Type 0 where
   pub tells : (β : Bindings) → Holds environment values used β → Tells (instantiate_of limit β (pattern_at pattern reference) used) r values values' used limit
   pub forms : BuiltFormed pattern r values values' used
   pub kept : length values' ≡ length values
 
 -- What `instantiate_arguments` asks: references into the pattern, and a place for each.
-pub record ArgumentsAsked (pattern : List ℕ) (first count : ℕ) (environment : Environment) (values : List ℕ) (used limit : ℕ) (stack : Rows) (slots : List ℕ) : Type 0 where
+pub record ArgumentsAsked (pattern : List ℕ) (first count : ℕ) (environment values : List ℕ) (used limit : ℕ) (stack : Rows) (slots : List ℕ) : Type 0 where
   pub size : ℕ
   pub patterned : (i : ℕ) → i < count → PatternIn pattern size (cells pattern (first + i)) rule_words
   pub inside : first + count ≤ length pattern
@@ -97,7 +97,7 @@ abbrev pub ArgumentsFormed : List ℕ → Result ℕ Refusal → List ℕ → Li
 ArgumentsFormed pattern r values values' used =
     (arities : List ℕ) → Headed arities pattern → Formed arities values used → (u : ℕ) → r ≡ Ok u → Formed arities values' u
 
-pub record ArgumentsBuilt (pattern : List ℕ) (first count : ℕ) (environment : Environment) (values : List ℕ) (used limit : ℕ) (r : Result ℕ Refusal) (values' slots : List ℕ) : Type 0 where
+pub record ArgumentsBuilt (pattern : List ℕ) (first count : ℕ) (environment values : List ℕ) (used limit : ℕ) (r : Result ℕ Refusal) (values' slots : List ℕ) : Type 0 where
   pub tells : (β : Bindings) → Holds environment values used β
       → TellsAll (instantiate_of limit β (args (denote pattern_room (cells pattern)) (cells pattern) first count) used) r values values' slots count used limit
   pub forms : ArgumentsFormed pattern r values values' used

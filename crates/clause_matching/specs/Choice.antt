@@ -7,7 +7,7 @@ use Rattle.arena.specs.Cells.{headers, cells, arity_of, args, denote}
 use Rattle.arena.specs.Copies.{pattern_room}
 use Rattle.names.specs.Symbols.{Rows, column, row_at}
 use Rattle.evaluation.specs.Matching.{Fitted, misfit, fitted, bind_of}
-use Rattle.clause_matching.specs.Stored.{Environment, Value, Values, PatternIn, Holds, Links}
+use Rattle.clause_matching.specs.Stored.{Value, Values, PatternIn, Holds, Links}
 use Rattle.clause_matching.specs.Building.{rule_words}
 use Rattle.clause_matching.specs.declared.choice.Pattern.{Pattern}
 use Rattle.clause_matching.specs.declared.choice.Pattern.TheVariants.{Variable, Node}
@@ -52,7 +52,7 @@ pub record ConclusionIn (pattern : List ℕ) (size reference n : ℕ) : Type 0 w
   pub node : pattern_room ≤ reference
   pub inputs : arity_of (cells pattern (reference - pattern_room)) ≡ suc n
 
-pub record ClauseAsked (rules : Rows) (pattern : List ℕ) (from end : ℕ) (values words : List ℕ) (used : ℕ) (environment : Environment) (links : List ℕ) (stack : Rows) : Type 0 where
+pub record ClauseAsked (rules : Rows) (pattern : List ℕ) (from end : ℕ) (values words : List ℕ) (used : ℕ) (environment links : List ℕ) (stack : Rows) : Type 0 where
   pub size : ℕ
   pub conclusions : (i : ℕ) → from ≤ i → i < end → ConclusionIn pattern size (conclusion_in rules i) (length values)
   pub lent : end ≤ length rules
@@ -63,19 +63,19 @@ pub record ClauseAsked (rules : Rows) (pattern : List ℕ) (from end : ℕ) (val
   pub rows : rule_words ≤ length stack
 
 -- The clause i fits, and the environment holds the values of its variables.
-pub record Fits (rules : Rows) (pattern values words : List ℕ) (used i : ℕ) (environment : Environment) : Type 0 where
+pub record Fits (rules : Rows) (pattern values words : List ℕ) (used i : ℕ) (environment : List ℕ) : Type 0 where
   pub β : Bindings
   pub fits : fit_of rules pattern values words i ≡ fitted β
   pub holds : Holds environment words used β
 
 -- The first clause that fits; or none does.
-abbrev pub Chooses : Rows → List ℕ → ℕ → ℕ → List ℕ → List ℕ → ℕ → Option ℕ → Environment → Type 0
+abbrev pub Chooses : Rows → List ℕ → ℕ → ℕ → List ℕ → List ℕ → ℕ → Option ℕ → List ℕ → Type 0
 Chooses rules pattern from end values words used (Some i) environment =
     (from ≤ i) × (i < end) × ((j : ℕ) → from ≤ j → j < i → fit_of rules pattern values words j ≡ misfit) × Fits rules pattern values words used i environment
 Chooses rules pattern from end values words used None environment = (j : ℕ) → from ≤ j → j < end → fit_of rules pattern values words j ≡ misfit
 
-pub record Chosen (rules : Rows) (pattern : List ℕ) (from end : ℕ) (values words : List ℕ) (used : ℕ) (environment : Environment) (links : List ℕ) (r : Option ℕ)
-    (environment' : Environment) (links' : List ℕ) : Type 0 where
+pub record Chosen (rules : Rows) (pattern : List ℕ) (from end : ℕ) (values words : List ℕ) (used : ℕ) (environment links : List ℕ) (r : Option ℕ)
+    (environment' links' : List ℕ) : Type 0 where
   pub chooses : Chooses rules pattern from end values words used r environment'
   pub kept : length environment' ≡ length environment
   pub restored : links' ≡ links

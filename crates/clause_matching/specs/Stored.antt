@@ -1,6 +1,6 @@
 -- Values and environments in storage (docs/STORAGE.md, "Stored terms"). Values have no variables: they are stored terms with room for none, so that a reference
--- is an address. An environment has a place for each of 64 variables: the reference of its value, if it has one.
-use Rattle.std.specs.Prelude.{ℕ, ◌+◌, ◌≤◌, ◌<◌, ◌≡◌, true, List, get_or, length, Option as Optional, None, Some}
+-- is an address. An environment has a number for each of 64 variables: 0 for none, else 1 + the reference of its value.
+use Rattle.std.specs.Prelude.{ℕ, ◌+◌, ◌-◌, ◌≤◌, ◌<◌, ◌≡◌, true, List, get_or, length}
 use Rattle.std.proofs.Math.Option.{Option, none, some}
 use Rattle.terms.specs.Term.{Term}
 use Rattle.terms.specs.Bindings.{Bindings, lookup}
@@ -35,17 +35,14 @@ pub record PatternIn (pattern : List ℕ) (size reference most : ℕ) : Type 0 w
   pub root : Reference pattern_room (cells pattern) pattern_room size reference
   pub small : words (pattern_at pattern reference) ≤ most
 
-abbrev pub Environment : Type 0
-Environment = List (Optional ℕ)
-
--- What a place of an environment says of its variable.
-abbrev pub Valued : List ℕ → ℕ → Optional ℕ → Option Term → Type 0
-Valued values used e none = e ≡ None
-Valued values used e (some t) = (r : ℕ) × (e ≡ Some r) × Value values used r × (value_at values r ≡ t)
+-- What a number of an environment says of its variable.
+abbrev pub Valued : List ℕ → ℕ → ℕ → Option Term → Type 0
+Valued values used e none = e ≡ 0
+Valued values used e (some t) = (0 < e) × Value values used (e - 1) × (value_at values (e - 1) ≡ t)
 
 -- An environment holds the values of the variables.
-pub record Holds (environment : Environment) (values : List ℕ) (used : ℕ) (β : Bindings) : Type 0 where
-  pub valued : (x : ℕ) → x < pattern_room → Valued values used (get_or environment x None) (lookup β x)
+pub record Holds (environment values : List ℕ) (used : ℕ) (β : Bindings) : Type 0 where
+  pub valued : (x : ℕ) → x < pattern_room → Valued values used (get_or environment x 0) (lookup β x)
 
 -- Storage for comparing: a link for each word in use, all zero.
 pub record Links (links : List ℕ) (used : ℕ) : Type 0 where

@@ -36,7 +36,7 @@ fn push_values(words: &mut [u32], address: u32, header: u32, from: u32, count: u
 fn instantiate_node(
     pattern: &[u32],
     reference: u32,
-    environment: &[Option<u32>],
+    environment: &[u32],
     words: &mut [u32],
     room: Room,
     stack: &mut [[u32; 3]],
@@ -61,10 +61,11 @@ fn instantiate_node(
             stack[row] = [address, taken + 1, base];
             let next = pattern[(address + 1 + taken) as usize];
             if next < PATTERN_ROOM {
-                let Some(value) = environment[next as usize] else {
+                let entry = environment[next as usize];
+                if entry == 0 {
                     return Err(Refusal::Unbound);
-                };
-                words[top as usize] = value;
+                }
+                words[top as usize] = entry - 1;
                 top += 1;
             } else {
                 stack[depth] = [next - PATTERN_ROOM, 0, top];
@@ -90,7 +91,7 @@ fn instantiate_node(
 pub fn instantiate(
     pattern: &[u32],
     reference: u32,
-    environment: &[Option<u32>],
+    environment: &[u32],
     words: &mut [u32],
     room: Room,
     stack: &mut [[u32; 3]],
@@ -99,11 +100,12 @@ pub fn instantiate(
     ensures { Instantiated pattern.now reference environment.now words.old room.used room.limit result words.new }
 {
     if reference < PATTERN_ROOM {
-        let Some(value) = environment[reference as usize] else {
+        let entry = environment[reference as usize];
+        if entry == 0 {
             return Err(Refusal::Unbound);
-        };
+        }
         return Ok(Built {
-            value,
+            value: entry - 1,
             used: room.used,
         });
     }
@@ -115,7 +117,7 @@ pub fn instantiate_arguments(
     pattern: &[u32],
     first: u32,
     count: usize,
-    environment: &[Option<u32>],
+    environment: &[u32],
     words: &mut [u32],
     room: Room,
     stack: &mut [[u32; 3]],

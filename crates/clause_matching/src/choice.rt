@@ -61,7 +61,7 @@ pub fn find_clause(
     clauses: Clauses,
     arguments: &[u32],
     values: Values,
-    environment: &mut [Option<u32>],
+    environment: &mut [u32],
     links: &mut [u32],
     stack: &mut [[u32; 3]],
 ) -> Option<usize>
@@ -79,7 +79,7 @@ pub fn find_clause(
         if is_apart(clauses.pattern, base, values.words, arguments) {
             continue 'clauses;
         }
-        slices::clear_from(environment, 0, None);
+        environment.fill(0);
         for k in 0..arguments.len() {
             let reference = clauses.pattern[base + k];
             if !bind(

@@ -1,5 +1,6 @@
-// Patterns against values: the Rust's `bind`. Values are stored terms with room for no variable, so that a reference is an address. An environment has a place
-// for each variable of a clause: the reference of its value, if it has one.
+// Patterns against values: the Rust's `bind`. Values are stored terms with room for no variable, so that a reference is an address. An environment has a row
+// for each variable of a clause: 0 for none, else 1 + the reference of its value.
+// Stays: tried with `Option<u32>`: 512 bytes are then cleared for each clause in place of 256, and evaluating `mul 60 60` takes an eighth longer.
 ghost use Rattle.std.specs.Prelude.{◌≤◌, ◌<◌};
 ghost use Rattle.terms.specs.Term.{var};
 ghost use Rattle.arena.specs.Copies.{pattern_room};
@@ -19,7 +20,7 @@ pub struct Values<'a> {
 fn take(
     values: Values,
     value: u32,
-    environment: &mut [Option<u32>],
+    environment: &mut [u32],
     variable: u32,
     links: &mut [u32],
 ) -> bool
@@ -27,17 +28,18 @@ fn take(
     ensures { Matched (var variable) values.entry.words.now values.entry.used value environment.old links.old result environment.new links.new }
 {
     let i = variable as usize;
-    let Some(old) = environment[i] else {
-        environment[i] = Some(value);
+    let old = environment[i];
+    if old == 0 {
+        environment[i] = value + 1;
         return true;
-    };
+    }
     let terms = Terms {
         words: values.words,
         room: 0,
         variables: 0,
         used: values.used,
     };
-    arena::equal(terms, links, old, value)
+    arena::equal(terms, links, old - 1, value)
 }
 
 // As `bind`, of a pattern that is a node.
@@ -46,7 +48,7 @@ fn bind_node(
     reference: u32,
     values: Values,
     value: u32,
-    environment: &mut [Option<u32>],
+    environment: &mut [u32],
     links: &mut [u32],
     stack: &mut [[u32; 3]],
 ) -> bool
@@ -96,12 +98,13 @@ fn bind_node(
 }
 
 // Whether the value fits the pattern; its variables take their values.
+// Stays: the environment is the caller's local, links and stack its store's; each function on a struct of the three would promise that the same come back.
 pub fn bind(
     pattern: &[u32],
     reference: u32,
     values: Values,
     value: u32,
-    environment: &mut [Option<u32>],
+    environment: &mut [u32],
     links: &mut [u32],
     stack: &mut [[u32; 3]],
 ) -> bool

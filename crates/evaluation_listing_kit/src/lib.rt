@@ -2,6 +2,7 @@
 //
 // A line is made in a lent buffer, and written to standard output from there. A line for which the buffer, or the stack of open nodes, is too short is
 // listed as `wrong`.
+// Stays: names are bytes, which `write!` does not write, and it writes to a writer of std, which needs the handle that std's `main` is given.
 #![tactic(auto)]
 
 mod output; // bytes and numbers, as long as there is room

@@ -51,6 +51,7 @@ fn header_at(words: &[u32], address: u32) -> Option<u32>
 }
 
 // How many arguments the node at an address has.
+// Stays: where no node stands there are no arguments, so that 0 is their number, and an `Option` would be turned into it at once.
 fn arity_at(words: &[u32], address: u32) -> u32
     ensures is { result ≡ arity_of (header_at words.now address) }
     ensures small { result < 32 }
@@ -62,6 +63,7 @@ fn arity_at(words: &[u32], address: u32) -> u32
 }
 
 // The address of an argument of the node at an address.
+// Stays: it is 0 only where the words end inside a node, which no evaluation leaves; for an `Option` the caller would have a case that never comes.
 fn argument_at(words: &[u32], address: u32, number: u32) -> u32
     ensures { result ≡ get_or words.now (address + 1 + number) 0 }
 {

@@ -35,7 +35,7 @@ fn test_forward(signature: StoredSignature, term: WrittenTerm, claim: &[u8]) {
 }
 
 // Lends each buffer one too short: a word, a link and a row of trees less than is asked.
-// Stays: tried behind `Buffers`, where a part of one slice is lent while another is used, and no generated proof covers that.
+// Stays: tried with `&mut Buffers`: a part of one of its slices would be lent beside the two others, and no generated proof covers that.
 pub fn test_short(query: Query, words: &mut [u32], links: &mut [u32], trees: &mut [TreeRow]) {
     if let Some(last) = words.len().checked_sub(1) {
         let mut short = Buffers {

@@ -26,6 +26,7 @@ const WORDS: u32 = 65536;
 // The words that are lent behind those of the limit.
 const SCRATCH: usize = 2049;
 
+// Stays: `write!` writes to a writer of std, which needs the handle that std's `main` is given.
 fn write(bytes: &[u8]) {
     io::write_all(STDOUT_FILENO, bytes);
 }
@@ -276,8 +277,7 @@ fn replay_one(list: &[u8], at: usize) -> usize
 }
 
 // Goes through a list from text to text.
-// Stays: a line has a fourth number, and the text stands behind it; for `recorded::replay` to read both kinds of lines it would be over a trait of lines, with
-// a law that the next one is further on, and an impl for each.
+// Stays: here a line has a fourth number before its text; for both kinds of lines `recorded::replay` would be over a trait with a law, and an impl for each.
 fn replay(list: &[u8]) {
     let end = recorded::end(list);
     let mut at = 0;

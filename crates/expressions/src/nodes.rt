@@ -10,7 +10,7 @@ use names::SymbolRow;
 use refusals::Refusal;
 
 // The sort of a value by its header: the output of its symbol.
-// Stays: the definition gives no symbol the output 0, and an option would be turned into it at once.
+// Stays: the definition says 0 where no symbol stands, and the caller compares the answer with a sort; an `Option` would be turned into 0 first.
 pub fn sort_of(symbols: &[SymbolRow], header: u32) -> u32
     requires { headers ≤ header }
     ensures { (text : List ℕ) → result ≡ (symbol_at (symbols_of text symbols.now (length symbols.now)) (symbolIn header)).output }

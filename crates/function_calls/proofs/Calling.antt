@@ -15,7 +15,6 @@ use Rattle.names.specs.Symbols.{Rows, Symbol, column, row_at, symbol_at}
 use Rattle.resolution.specs.Rules.{Rule, rule_at_lem}
 use Rattle.evaluation.specs.Matching.{Fitted, misfit, fitted, bind_of}
 use Rattle.evaluation.specs.Calls.{Spent, Called, refused, premises_of, concluded, patterns_of, taken_or, tried, clauses_of, call_of}
-use Rattle.clause_matching.specs.Stored.{Environment}
 use Rattle.clause_matching.specs.Choice.{values_of, fit_of, ClauseAsked, Chosen, Chooses}
 use Rattle.function_calls.specs.Calls.{ClauseIn, Program, Answers, CallAsked, CallAnswered, FollowAsked, Followed}
 use Rattle.function_calls.specs.declared.calls.Outcome.{Outcome}
@@ -132,7 +131,7 @@ module _ {symbol_rows rule_rows : Rows} {pattern : List ℕ} {symbol : ℕ} {val
           ap (λ (n : ℕ). call_of limit symbols rules n symbol (values_of words values) (record { calls = calls; words = used })) is_suc
           ∙ rw (lt-ltb calls 10000 m) (ap₂ (λ (n i : ℕ). clauses_of limit symbols rules (calling symbols rules) n i (values_of words values) counted) (P.clauses symbol k) (P.first symbol k))
 
-      pub clause_asked : (environment : Environment) → 64 ≤ length environment → ClauseAsked rule_rows pattern from end values words used environment links stack
+      pub clause_asked : (environment : List ℕ) → 64 ≤ length environment → ClauseAsked rule_rows pattern from end values words used environment links stack
       clause_asked environment e = record {
         size = h.size;
         conclusions = λ i a b. (h.program.clause symbol i (length values) h.known h.inputs a b).2.conclusion;
@@ -151,7 +150,7 @@ module _ {symbol_rows rule_rows : Rows} {pattern : List ℕ} {symbol : ℕ} {val
           let (R, e, cl) = P.clause symbol j (length values) k i a b in
           (R, e, ap (λ (ps : Terms). bind_of ps (values_of words values) start) (patterns_are cl) ∙ f)
 
-      module _ {environment : Environment} {clause : Optional ℕ} {environment' : Environment} {links' : List ℕ}
+      module _ {environment : List ℕ} {clause : Optional ℕ} {environment' links' : List ℕ}
           (c : Chosen rule_rows pattern from end values words used environment links clause environment' links') where
         pub no_clause : clause ≡ None
             → CallAnswered symbol_rows rule_rows pattern symbol values depth height calls used limit words links trees

@@ -20,7 +20,7 @@ use Rattle.evaluation.specs.Matching.{Fitted, misfit, fitted, bind_of, Built, ba
 use Rattle.evaluation.specs.Calls.{Spent, Called, refused, returned, Walked, stopped, walked, if_arguments, if_called, if_result, under_first, premises_of, concluded_by, concluded, call_of}
 use Rattle.evaluation.specs.CallLaws.{Growing}
 use Rattle.evaluation.proofs.CallLaws.{instantiate_grows}
-use Rattle.clause_matching.specs.Stored.{Environment, Value, Values, Holds, pattern_at, value_at}
+use Rattle.clause_matching.specs.Stored.{Value, Values, Holds, pattern_at, value_at}
 use Rattle.clause_matching.specs.Building.{built_at, InstantiateAsked, Tells, Instantiated}
 use Rattle.clause_matching.specs.Choice.{Referable, pattern_from, ConclusionIn}
 use Rattle.function_calls.specs.Calls.{outcome, PremiseIn, ClauseIn, Program, Working, TreesListed, Answers, FollowAsked, Followed, Steps, PremiseAsked, PremiseAnswered}
@@ -123,7 +123,7 @@ is_node limit β f ps used = go (instantiate_of limit β ps used) (counts limit 
 
 -- What the premises come to for one reading of the storage; their calls follow those before, at the height below.
 pub record Reached (limit : ℕ) (call : ℕ → Terms → Spent → Called) (left : Terms) (trees₀ : Rows) (before height made spent : ℕ)
-    (environment : Environment) (words : List ℕ) (trees : Rows) (whole : Walked) : Type 0 where
+    (environment words : List ℕ) (trees : Rows) (whole : Walked) : Type 0 where
   pub branches : Tree several
   pub γ : Bindings
   pub holds : Holds environment words spent γ
@@ -135,7 +135,7 @@ left_of pattern row j = args (denote pattern_room (cells pattern)) (column row) 
 
 -- What holds at each premise.
 pub record Turn (symbol_rows rule_rows : Rows) (pattern : List ℕ) (rule depth height calls used limit : ℕ)
-    (environment₀ : Environment) (words₀ links₀ : List ℕ) (trees₀ stack₀ : Rows) (environment : Environment) (words links : List ℕ) (trees stack : Rows)
+    (environment₀ words₀ links₀ : List ℕ) (trees₀ stack₀ : Rows) (environment words links : List ℕ) (trees stack : Rows)
     (made spent j : ℕ) : Type 0 where
   pub asked : FollowAsked symbol_rows rule_rows pattern rule depth height calls used limit environment₀ words₀ links₀ trees₀ stack₀
   pub kept : length words ≡ length words₀
@@ -156,7 +156,7 @@ pub record Turn (symbol_rows rule_rows : Rows) (pattern : List ℕ) (rule depth 
       environment words trees
       (premises_of limit (call_of limit symbols rules (128 - depth)) R.premises β (record { calls = suc calls; words = used }))
 
-pub turn_start : {symbol_rows rule_rows : Rows} {pattern : List ℕ} {rule depth height calls used limit : ℕ} {environment : Environment} {words links : List ℕ}
+pub turn_start : {symbol_rows rule_rows : Rows} {pattern : List ℕ} {rule depth height calls used limit : ℕ} {environment words links : List ℕ}
     {trees stack : Rows}
     → FollowAsked symbol_rows rule_rows pattern rule depth height calls used limit environment words links trees stack
     → Turn symbol_rows rule_rows pattern rule depth height calls used limit environment words links trees stack
@@ -192,7 +192,7 @@ turn_start {rule_rows = rule_rows} {pattern = pattern} {rule = rule} {depth = de
     }
 
 module _ {symbol_rows rule_rows : Rows} {pattern : List ℕ} {rule depth height calls used limit : ℕ}
-    {environment₀ : Environment} {words₀ links₀ : List ℕ} {trees₀ stack₀ : Rows} {environment : Environment} {words links : List ℕ} {trees stack : Rows} {made spent j : ℕ}
+    {environment₀ words₀ links₀ : List ℕ} {trees₀ stack₀ : Rows} {environment words links : List ℕ} {trees stack : Rows} {made spent j : ℕ}
     (h : Turn symbol_rows rule_rows pattern rule depth height calls used limit environment₀ words₀ links₀ trees₀ stack₀
     environment words links trees stack made spent j) where
   abbrev row : List ℕ
@@ -270,7 +270,7 @@ module _ {symbol_rows rule_rows : Rows} {pattern : List ℕ} {rule depth height 
       }
 
       -- The premise is done.
-      module _ {answer : Result Outcome Refusal} {environment' : Environment} {words' links' : List ℕ} {trees' : Rows}
+      module _ {answer : Result Outcome Refusal} {environment' words' links' : List ℕ} {trees' : Rows}
           (p : PremiseAnswered symbol_rows rule_rows pattern header first depth height made spent limit environment words links trees
           answer environment' words' links' trees') where
         abbrev later : Terms

@@ -17,7 +17,7 @@ use Rattle.resolution.specs.Rules.{Rule, Tree, leaf, ◌◂◌}
 use Rattle.resolution.specs.Search.{words as words_in}
 use Rattle.evaluation.specs.Matching.{Fitted, bind_of, Built, barred, built, instantiate_of, front, last}
 use Rattle.evaluation.specs.Calls.{Spent, Called, refused, returned, Walked, walked, if_arguments, if_called, if_result, premises_of, call_of}
-use Rattle.clause_matching.specs.Stored.{Environment, Value, PatternIn, Holds, pattern_at, value_at}
+use Rattle.clause_matching.specs.Stored.{Value, PatternIn, Holds, pattern_at, value_at}
 use Rattle.clause_matching.specs.Matching.{Says, Matched, BindAsked}
 use Rattle.clause_matching.specs.Building.{rule_words, Stands, ArgumentsAsked, StandAll, TellsAll, ArgumentsBuilt}
 use Rattle.clause_matching.specs.Choice.{values_of}
@@ -175,11 +175,11 @@ step_at_lem {pattern} {reference = reference} p limit call header first count β
 
 -- The ways through a premise. The values of variables β are those before it.
 module _ (limit : ℕ) (pattern : List ℕ) (call : ℕ → Terms → Spent → Called) (header first count : ℕ) (β : Bindings)
-    (calls used : ℕ) (environment : Environment) (words : List ℕ) (trees : Rows) (height : ℕ) where
+    (calls used : ℕ) (environment words : List ℕ) (trees : Rows) (height : ℕ) where
   abbrev now : Walked
   now = step_at limit pattern call header first count β calls used
 
-  arguments_stop : (refusal : Refusal) (words' : List ℕ) (environment' : Environment) (slots : List ℕ) (trees' : Rows)
+  arguments_stop : (refusal : Refusal) (words' environment' slots : List ℕ) (trees' : Rows)
       → TellsAll (instantiate_of limit β (args (denote pattern_room (cells pattern)) (cells pattern) first count) used) (Err refusal) words words' slots count used limit
       → Steps now (Err refusal) words trees words' environment' trees' used limit calls height
   arguments_stop refusal words' environment' slots trees' t =
@@ -201,7 +201,7 @@ module _ (limit : ℕ) (pattern : List ℕ) (call : ℕ → Terms → Spent → 
         ∙ ap (λ (vs : Terms). if_called (call (symbol_of header) vs (record { calls = calls; words = before }))
         (λ v p d. if_result (bind_of (pattern_at pattern (cells pattern (first + count))) v β) (λ γ. walked γ (p ◂ leaf) d))) (sym (values_taken words₁ slots count room ∙ f.stand.are))
 
-    call_stop : (refusal : Refusal) (words₂ : List ℕ) (environment' : Environment) (trees₂ : Rows)
+    call_stop : (refusal : Refusal) (words₂ environment' : List ℕ) (trees₂ : Rows)
         → Answers called (Err refusal) words₁ trees words₂ trees₂ before limit calls (suc height)
         → Steps now (Err refusal) words trees words₂ environment' trees₂ used limit calls height
     call_stop refusal words₂ environment' trees₂ a =
@@ -218,14 +218,14 @@ module _ (limit : ℕ) (pattern : List ℕ) (call : ℕ → Terms → Spent → 
           ∙ ap (λ (b : Called). if_called b (λ v p d. if_result (bind_of (pattern_at pattern (cells pattern (first + count))) v β) (λ γ. walked γ (p ◂ leaf) d))) r.comes
           ∙ ap (λ (v : Term). if_result (bind_of (pattern_at pattern (cells pattern (first + count))) v β) (λ γ. walked γ (r.tree ◂ leaf) (record { calls = made; words = after }))) (sym r.stands.is)
 
-      result_stop : (environment' : Environment) → Says (bind_of (pattern_at pattern (cells pattern (first + count))) (value_at words₂ value) β) false environment' words₂ after
+      result_stop : (environment' : List ℕ) → Says (bind_of (pattern_at pattern (cells pattern (first + count))) (value_at words₂ value) β) false environment' words₂ after
           → Steps now (Err Inconsistent) words trees words₂ environment' trees₂ used limit calls height
       result_stop environment' s =
           let o = says_false (bind_of (pattern_at pattern (cells pattern (first + count))) (value_at words₂ value) β) environment' words₂ after s in
           subst (λ (x : Walked). Steps x (Err Inconsistent) words trees words₂ environment' trees₂ used limit calls height)
           (ap (λ (b : Fitted). if_result b (λ γ. walked γ (r.tree ◂ leaf) (record { calls = made; words = after }))) (sym o) ∙ sym now_result) refl
 
-      result_fits : (environment' : Environment) → Says (bind_of (pattern_at pattern (cells pattern (first + count))) (value_at words₂ value) β) true environment' words₂ after
+      result_fits : (environment' : List ℕ) → Says (bind_of (pattern_at pattern (cells pattern (first + count))) (value_at words₂ value) β) true environment' words₂ after
           → Steps now (outcome value made after) words trees words₂ environment' trees₂ used limit calls height
       result_fits environment' s =
           let (γ, o, w) = says_true (bind_of (pattern_at pattern (cells pattern (first + count))) (value_at words₂ value) β) environment' words₂ after s in
@@ -244,7 +244,7 @@ module _ (limit : ℕ) (pattern : List ℕ) (call : ℕ → Terms → Spent → 
           })
 
 -- The premise of the code.
-module _ {symbol_rows rule_rows : Rows} {pattern : List ℕ} {header first depth height calls used limit : ℕ} {environment : Environment} {words links : List ℕ}
+module _ {symbol_rows rule_rows : Rows} {pattern : List ℕ} {header first depth height calls used limit : ℕ} {environment words links : List ℕ}
     {trees stack : Rows}
     (h : PremiseAsked symbol_rows rule_rows pattern header first depth height calls used limit environment words links trees stack) where
   abbrev count : ℕ
@@ -448,7 +448,7 @@ module _ {symbol_rows rule_rows : Rows} {pattern : List ℕ} {header first depth
                 };
               }
 
-          module _ {fits : Bool} {environment' : Environment} {links' : List ℕ}
+          module _ {fits : Bool} {environment' links' : List ℕ}
               (b : Matched (pattern_at pattern (cells pattern (first + count))) words₂ after value environment links₂ fits environment' links') where
             pub result_failed : fits ≡ false
                 → PremiseAnswered symbol_rows rule_rows pattern header first depth height calls used limit environment words links trees

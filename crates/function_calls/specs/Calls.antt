@@ -11,7 +11,7 @@ use Rattle.resolution.specs.Rules.{Rule, rule_at_lem, Tree}
 use Rattle.tree_rows.specs.Trees.{Lists}
 use Rattle.evaluation.specs.Calls.{Spent, Called, refused, returned, Walked, stopped, walked, max_calls, premises_of, concluded, call_of}
 use Rattle.evaluation.specs.Expressions.{max_depth}
-use Rattle.clause_matching.specs.Stored.{Environment, Value, Values, PatternIn, Holds, Links, Headed, Formed, pattern_at}
+use Rattle.clause_matching.specs.Stored.{Value, Values, PatternIn, Holds, Links, Headed, Formed, pattern_at}
 use Rattle.clause_matching.specs.Building.{rule_words, Stands}
 use Rattle.refusals.specs.Refused.{Refuses}
 use Rattle.clause_matching.specs.Choice.{ConclusionIn, values_of}
@@ -125,7 +125,7 @@ pub record CallAnswered (symbol_rows rule_rows : Rows) (pattern : List ℕ) (sym
 
 -- The clause that was taken, with the values of its variables.
 pub record FollowAsked (symbol_rows rule_rows : Rows) (pattern : List ℕ) (rule depth height calls used limit : ℕ)
-    (environment : Environment) (words links : List ℕ) (trees stack : Rows) : Type 0 where
+    (environment words links : List ℕ) (trees stack : Rows) : Type 0 where
   pub size : ℕ
   pub symbols : List Symbol
   pub rules : List Rule
@@ -142,7 +142,7 @@ pub record FollowAsked (symbol_rows rule_rows : Rows) (pattern : List ℕ) (rule
   pub many : calls < 10000
   pub spent : 2 * suc calls ≤ used + 2 * depth
 
-pub record Followed (symbol_rows rule_rows : Rows) (pattern : List ℕ) (rule depth height calls used limit : ℕ) (environment : Environment) (words links : List ℕ) (trees : Rows)
+pub record Followed (symbol_rows rule_rows : Rows) (pattern : List ℕ) (rule depth height calls used limit : ℕ) (environment words links : List ℕ) (trees : Rows)
     (r : Result Outcome Refusal) (words' links' : List ℕ) (trees' : Rows) : Type 0 where
   pub says : (size : ℕ) (symbols : List Symbol) (rules : List Rule) → Program symbol_rows rule_rows pattern size symbols rules
       → (n : ℕ) (R : Rule) → ClauseIn symbols pattern size (row_at rule_rows rule) n R → (β : Bindings) → Holds environment words used β
@@ -155,7 +155,7 @@ pub record Followed (symbol_rows rule_rows : Rows) (pattern : List ℕ) (rule de
   pub restored : links' ≡ links
 
 -- An answer says what a premise comes to: its call's rows stand one level below.
-pub record Stepped (words : List ℕ) (trees : Rows) (used limit calls height : ℕ) (words' : List ℕ) (environment' : Environment) (trees' : Rows) (γ : Bindings) (ps : Tree several)
+pub record Stepped (words : List ℕ) (trees : Rows) (used limit calls height : ℕ) (words' environment' : List ℕ) (trees' : Rows) (γ : Bindings) (ps : Tree several)
     (c : Spent) (r : Result Outcome Refusal) : Type 0 where
   pub value : ℕ
   pub is : r ≡ outcome value c.calls c.words
@@ -166,13 +166,13 @@ pub record Stepped (words : List ℕ) (trees : Rows) (used limit calls height : 
   pub within : c.words ≤ limit
   pub listed : TreesListed trees calls (suc height) words' trees' ps c
 
-abbrev pub Steps : Walked → Result Outcome Refusal → List ℕ → Rows → List ℕ → Environment → Rows → ℕ → ℕ → ℕ → ℕ → Type 0
+abbrev pub Steps : Walked → Result Outcome Refusal → List ℕ → Rows → List ℕ → List ℕ → Rows → ℕ → ℕ → ℕ → ℕ → Type 0
 Steps (stopped e) r words trees words' environment' trees' used limit calls height = Refuses r e
 Steps (walked γ ps c) r words trees words' environment' trees' used limit calls height =
     Stepped words trees used limit calls height words' environment' trees' γ ps c r
 
 pub record PremiseAsked (symbol_rows rule_rows : Rows) (pattern : List ℕ) (header first depth height calls used limit : ℕ)
-    (environment : Environment) (words links : List ℕ) (trees stack : Rows) : Type 0 where
+    (environment words links : List ℕ) (trees stack : Rows) : Type 0 where
   pub size : ℕ
   pub symbols : List Symbol
   pub rules : List Rule
@@ -189,8 +189,8 @@ pub record PremiseAsked (symbol_rows rule_rows : Rows) (pattern : List ℕ) (hea
   -- the call whose premise this is has been counted:
   pub spent : 2 * calls ≤ used + 2 * depth
 
-pub record PremiseAnswered (symbol_rows rule_rows : Rows) (pattern : List ℕ) (header first depth height calls used limit : ℕ) (environment : Environment) (words links : List ℕ)
-    (trees : Rows) (r : Result Outcome Refusal) (environment' : Environment) (words' links' : List ℕ) (trees' : Rows) : Type 0 where
+pub record PremiseAnswered (symbol_rows rule_rows : Rows) (pattern : List ℕ) (header first depth height calls used limit : ℕ) (environment words links : List ℕ)
+    (trees : Rows) (r : Result Outcome Refusal) (environment' words' links' : List ℕ) (trees' : Rows) : Type 0 where
   pub says : (size : ℕ) (symbols : List Symbol) (rules : List Rule) → Program symbol_rows rule_rows pattern size symbols rules
       → (reference : ℕ) → PremiseIn symbols pattern size reference → header ≡ cells pattern (reference - pattern_room) → first ≡ suc (reference - pattern_room)
       → (β : Bindings) → Holds environment words used β

@@ -66,7 +66,7 @@ fn premise(
     first: u32,
     level: Level,
     spent: Spent,
-    environment: &mut [Option<u32>],
+    environment: &mut [u32],
     store: &mut Store,
 ) -> Result<Outcome, Refusal>
     requires { PremiseAsked program.symbols.now program.rules.now program.pattern.now header first level.depth level.height spent.calls spent.used program.limit
@@ -130,7 +130,7 @@ fn follow(
     rule: usize,
     level: Level,
     before: Spent,
-    environment: &mut [Option<u32>],
+    environment: &mut [u32],
     store: &mut Store,
 ) -> Result<Outcome, Refusal>
     requires { FollowAsked program.symbols.now program.rules.now program.pattern.now rule level.depth level.height before.calls before.used program.limit
@@ -208,7 +208,7 @@ pub fn call(
         from,
         end: from + program.symbols[symbol][5] as usize,
     };
-    let mut environment: [Option<u32>; 64] = [None; 64];
+    let mut environment = [0u32; 64];
     let words = &mut *store.words;
     let among = Values {
         words,

@@ -17,22 +17,22 @@ clauses-preserved-then-is_apart c =
 
 pub loop-k-init : goal.loop-k-init
 loop-k-init c =
-    trying_start c.clauses.invariant c.clauses-test.true _ _ c.clear_from.ensures (first_is c.clauses.invariant c.clauses-test.true _ _ _ c.pattern_at.ensures c.in-Node.is)
+    trying_start c.clauses.invariant c.clauses-test.true _ _ (c.fill.ensures.after (λ y e. e)) (first_is c.clauses.invariant c.clauses-test.true _ _ _ c.pattern_at.ensures c.in-Node.is)
 
 pub bind-requires : goal.bind-requires
 bind-requires c =
-    bind_asked c.clauses.invariant c.clauses-test.true c.clear_from.auto.items c.loop-k.invariant c.loop-k-test.true
+    bind_asked c.clauses.invariant c.clauses-test.true c.fill.auto.self c.loop-k.invariant c.loop-k-test.true
 
 pub clauses-preserved : goal.clauses-preserved
 clauses-preserved c =
-    choosing_next c.clauses.invariant c.clauses-test.true c.clear_from.auto.items c.loop-k.invariant c.loop-k-test.true c.bind.ensures c.bind.auto.stack c.if-not-bind.true
+    choosing_next c.clauses.invariant c.clauses-test.true c.fill.auto.self c.loop-k.invariant c.loop-k-test.true c.bind.ensures c.bind.auto.stack c.if-not-bind.true
 
 pub loop-k-preserved : goal.loop-k-preserved
 loop-k-preserved c =
-    trying_next c.clauses.invariant c.clauses-test.true c.clear_from.auto.items c.loop-k.invariant c.loop-k-test.true c.bind.ensures c.bind.auto.stack c.if-not-bind.false
+    trying_next c.clauses.invariant c.clauses-test.true c.fill.auto.self c.loop-k.invariant c.loop-k-test.true c.bind.ensures c.bind.auto.stack c.if-not-bind.false
 
 pub returns-in-clauses : goal.returns-in-clauses
-returns-in-clauses c = clause_fits c.clauses.invariant c.clauses-test.true c.clear_from.auto.items c.loop-k.invariant c.loop-k-test.false
+returns-in-clauses c = clause_fits c.clauses.invariant c.clauses-test.true c.fill.auto.self c.loop-k.invariant c.loop-k-test.false
 
 pub returns : goal.returns
 returns c = none_fits c.clauses.invariant c.clauses-test.false
