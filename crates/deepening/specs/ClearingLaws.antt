@@ -1,8 +1,8 @@
 -- Laws of clearing: one element more, and what a list is of which all that was written is cleared.
-use Rattle.std.specs.Prelude.{ℕ, ◌+◌, ◌-◌, ◌++◌, ◌≤◌, ◌<◌, ◌≡◌, List, length, get_or, take, drop, replicate, min}
-use Rattle.std.proofs.Common.{arith, sym, subst, ap, ◌∙◌, length-drop, get_or-take, get_or-drop, length-append, length-take-le, ext_get_or}
+use Rattle.std.specs.Prelude.{ℕ, ◌+◌, ◌-◌, ◌++◌, ◌≤◌, ◌<◌, ◌≡◌, refl, List, length, get_or, set, take, drop, replicate, min}
+use Rattle.std.proofs.Common.{arith, sym, subst, ap, ◌∙◌, length-set, length-drop, get_or-set_same, get_or-set_other, get_or-take, get_or-drop, length-append, length-take-le, ext_get_or}
 use Rattle.std.proofs.lemmas.List.{length-replicate, length-take, get_or_append_left, get_or-append_right, get_or-replicate}
-use Rattle.terms.specs.Numbers.{by_less}
+use Rattle.terms.specs.Numbers.{by_same, by_less}
 use Rattle.deepening.specs.Clearing.{Cleared, ClearFrom}
 
 -- The part before `end` of which what lies from `from` on is cleared, and what follows it.
@@ -41,6 +41,50 @@ module _ {A : Type 0} (d z : A) (l : List A) (from end : ℕ) (short : end ≤ l
     between = λ i p q r. part_between i p (omega (arith, e));
     behind = λ i p. part_behind i (omega (arith, e));
   })
+
+-- Nothing is cleared yet.
+pub cleared_none : {A : Type 0} {d z : A} (l : List A) (from : ℕ) → Cleared d z l l from from
+cleared_none l from = record {
+  long = refl;
+  before = λ i p. refl;
+  between = λ i p q r. let x : ⊥ = omega arith in absurd x;
+  behind = λ i p. refl;
+}
+
+-- One more.
+pub cleared_next : {A : Type 0} {d z : A} {l l' : List A} {from to : ℕ} → Cleared d z l l' from to → from ≤ to
+    → Cleared d z l (set l' to z) from (to + 1)
+cleared_next {A} {d} {z} {l} {l'} {from} {to} h le = record {
+  long = length-set l' to z ∙ h.long;
+  before = λ i p. get_or-set_other l' to i z d (λ e. omega arith) ∙ h.before i p;
+  between = λ i p q r.
+      by_same i to
+      (λ e w. ap (λ (j : ℕ). get_or (set l' to z) j d) e ∙ get_or-set_same l' to z d (let n = h.long in omega arith))
+      (λ e w. get_or-set_other l' to i z d e ∙ h.between i p (let x : i < to = omega (arith, e) in x) r);
+  behind = λ i p. get_or-set_other l' to i z d (λ e. omega arith) ∙ h.behind i (omega arith);
+}
+
+-- Up to the number, or to the end of the list.
+pub cleared_stop : {A : Type 0} {d z : A} {l l' : List A} {from at : ℕ} (to : ℕ) → Cleared d z l l' from at → at ≤ from + (to - from)
+    → to ≤ at
+    → Cleared d z l l' from to
+cleared_stop {from = from} to h le lt = record {
+  long = h.long;
+  before = h.before;
+  between = λ i p q r. h.between i p (omega arith) r;
+  behind = λ i p. by_less i from (λ x e. h.before i x) (λ x e. h.behind i (omega arith));
+}
+
+pub cleared_end : {A : Type 0} {d z : A} {l l' : List A} {from at : ℕ} (to : ℕ) → Cleared d z l l' from at → length l' ≤ at → at ≤ to
+    → Cleared d z l l' from to
+cleared_end to h le lt =
+    let n = h.long in
+    record {
+      long = h.long;
+      before = h.before;
+      between = λ i p q r. h.between i p (omega arith) r;
+      behind = λ i p. h.behind i (omega arith);
+    }
 
 -- A list that is z from a place on, by its elements.
 pub clear_at : {A : Type 0} (d z : A) (l : List A) (from : ℕ) → ClearFrom z l from → (i : ℕ) → from ≤ i → i < length l → get_or l i d ≡ z

@@ -35,6 +35,13 @@ refused_length number line =
     let b = length-append (numeral line) line_end in
     omega arith
 
+-- The words of kinds.
+pub kind_keyword : (kind : ℕ) → kind < name_kind → kind_word kind ≡ keyword_word
+kind_keyword kind h = rw (lt-ltb kind name_kind h)
+
+pub kind_sign : (kind : ℕ) → name_kind ≤ kind → (kind ≡ name_kind → ⊥) → (kind ≡ metavariable_kind → ⊥) → (kind ≡ numeral_kind → ⊥) → kind_word kind ≡ sign_word
+kind_sign kind h a b c = rw (le-ltb kind name_kind h, ne_eqb kind name_kind a, ne_eqb kind metavariable_kind b, ne_eqb kind numeral_kind c)
+
 module _ (text : List ℕ) where
   lines_append : (xs ys : List (List ℕ)) → token_lines text (xs ++ ys) ≡ token_lines text xs ++ token_lines text ys
   unfolding token_lines

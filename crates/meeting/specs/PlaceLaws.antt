@@ -170,17 +170,20 @@ pub place_is : (p : Option ℕ) (x : ℕ) → is_place p x ≡ true → p ≡ So
 place_is None x h = true_false h refl
 place_is (Some p) x h = ap Some (eqb-true p x h)
 
-order_each : (table : List (Option ℕ)) (n : ℕ) → in_order table n ≡ true → (x : ℕ) → x < n → get_or table x None ≡ Some x
+pub order_each : (table : List (Option ℕ)) (n : ℕ) → in_order table n ≡ true → (x : ℕ) → x < n → get_or table x None ≡ Some x
 unfolding in_order
 order_each table zero h x l = absurd (not-suc-le-zero l)
 order_each table (suc n) h x l = by_bool (is_place (get_or table n None) n)
     (λ p. by_same x n (λ q r. rw q (place_is (get_or table n None) n p)) (λ q r. order_each table n (rw p at h) x (by_less x n (λ k s. k) (λ k s. absurd (q (omega arith))))))
     (λ p. true_false h (rw p))
 
-each_order : (table : List (Option ℕ)) (n : ℕ) → ((x : ℕ) → x < n → get_or table x None ≡ Some x) → in_order table n ≡ true
+pub each_order : (table : List (Option ℕ)) (n : ℕ) → ((x : ℕ) → x < n → get_or table x None ≡ Some x) → in_order table n ≡ true
 unfolding in_order
 each_order table zero h = refl
 each_order table (suc n) h = rw (h n (omega arith), eq-eqb n n refl) (each_order table n (λ x l. h x (omega arith)))
+
+pub order_fails : (table : List (Option ℕ)) (n x : ℕ) → x < n → get_or table x None ≢ Some x → in_order table n ≡ false
+order_fails table n x l d = by_bool (in_order table n) (λ p. absurd (d (order_each table n p x l))) (λ p. p)
 
 -- The places beside the numbers from one on.
 abbrev pub are_places : List (Option ℕ) → ℕ → ℕ → Bool
