@@ -1,6 +1,6 @@
 -- Linking two references: the loop's invariant, its step, and its ways out.
 use Prim.Native.Nat.{ℕ, suc, ◌+◌, ◌-◌, ◌≤◌, ◌<◌}
-use Rattle.std.proofs.Common.{min, max}
+use Rattle.std.proofs.Common.{min, max, SomeIff, Some}
 use Rattle.std.proofs.Math.Nat.{min-eq_left, min-eq_right, max-eq_left, max-eq_right, min-le_left, min-le_right}
 use native.Mathlib.Omega.{arith}
 use mathlib.Core.Path.{◌≡◌, refl, sym, ap, ◌∙◌, subst}
@@ -23,6 +23,10 @@ pub ordered : (P : ℕ → ℕ → Type 0) (a b : ℕ) → (a < b → P b a) →
 ordered P a b f g = by_less a b
     (λ l _. let k : a ≤ b = omega arith in rw (max-eq_right k, min-eq_left k) (f l))
     (λ l _. rw (max-eq_left l, min-eq_right l) (g l))
+
+-- What a number that is not 0 is one more than.
+pub linked : {n z : ℕ} → SomeIff (Some z) (1 ≤ n) (n - 1) → n ≡ suc z
+linked e = omega (arith, e)
 
 -- A link after one was set.
 pub set_other : (L : List ℕ) (h v i : ℕ) → i ≢ h → cells (set L h v) i ≡ cells L i
@@ -157,12 +161,9 @@ module _ (room : ℕ) (L₀ : List ℕ) (a b : ℕ) where
             ((λ i x d. set_link L (p - room) (min q y) i x s' d (λ c f. rw (c, j, ← f) to) (λ c f. k.0 i x f)), sym at_y ∙ k.1);
       }
 
-  pub link_step : (L : List ℕ) (p q n v : ℕ) → Linking L p q → q < p → room ≤ q → p < room + length L → cells L (p - room) ≡ n → (n ≡ 0 → ⊥) → v ≡ min q (n - 1)
-      → Linking (set L (p - room) (v + 1)) (n - 1) q
-  link_step L p q n v h l m s z o e = rw e (link_next L p q (n - 1) h l m s (let k : n ≢ 0 = o in omega arith))
-
-  pub link_falls : (L : List ℕ) (p q n : ℕ) → Linking L p q → q < p → room ≤ q → cells L (p - room) ≡ n → (n ≡ 0 → ⊥) → n - 1 < p
-  link_falls L p q n h l m z o = let k : n ≢ 0 = o in let b = h.form.below (p - room) (n - 1) (omega arith) in omega arith
+  pub link_step : (L : List ℕ) (p q y v : ℕ) → Linking L p q → q < p → room ≤ q → p < room + length L → cells L (p - room) ≡ suc y → v ≡ min q y
+      → Linking (set L (p - room) (v + 1)) y q
+  link_step L p q y v h l m s z e = rw e (link_next L p q y h l m s z)
 
 pub link_start : (room : ℕ) (L : List ℕ) (a b : ℕ) → Descending room (cells L) → Linking room L a b L a b
 link_start room L a b f = record
