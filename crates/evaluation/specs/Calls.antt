@@ -1,8 +1,8 @@
 -- A call of a function on values (document 01, "Evaluated terms"; the Rust's `Evaluator::call`): the first clause that fits is taken for good, its premises
 -- are calls in order, and the instantiated conclusion has the value as its last argument.
-use Rattle.std.specs.Prelude.{ℕ, zero, suc, ◌+◌, List, ltb}
+use Rattle.std.specs.Prelude.{ℕ, zero, suc, List, ltb}
 use Rattle.std.proofs.Math.Option.{Option, none, some}
-use Rattle.terms.specs.Term.{Kind, one, many, var, app, nil, cons, Term, Terms}
+use Rattle.terms.specs.Term.{one, many, var, app, nil, cons, Term, Terms}
 use Rattle.terms.specs.Bindings.{Bindings, start}
 use Rattle.names.specs.Symbols.{Symbol, symbol_at}
 use Rattle.patterns.specs.Patterns.{when}

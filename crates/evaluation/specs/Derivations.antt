@@ -1,19 +1,18 @@
 -- The tree of a call is a derivation (document 01, "Evaluated terms"): each call is an application of its clause. Asked is the form of clauses: the conclusion
 -- is a node of its function, and each premise a node, with a result as the last argument.
-use Prim.Native.Nat.{ℕ, zero, suc, ◌+◌, ◌-◌, ◌<◌}
+use Prim.Native.Nat.{ℕ, zero, suc, ◌+◌, ◌<◌}
 use native.Mathlib.Omega.{arith}
-use Rattle.std.specs.Prelude.{◌≡◌, true, false, List, [], eqb, ltb, length}
+use Rattle.std.specs.Prelude.{◌≡◌, List, ltb}
 use Rattle.std.proofs.Math.Path.{refl}
 use Rattle.std.proofs.Common.{sym, ap, ap₂, ◌∙◌, subst}
 use Rattle.std.proofs.Math.Option.{Option, none, some}
 use Rattle.terms.specs.Numbers.{by_bool}
-use Rattle.terms.specs.Term.{Kind, Syn, var, app, nil, cons, Term, Terms, append, sub}
+use Rattle.terms.specs.Term.{var, app, nil, cons, Term, Terms, append, sub}
 use Rattle.terms.specs.Term.Kind.{one as single, many as several}
 use Rattle.terms.specs.TermLaws.{app_inj, sub_append}
-use Rattle.terms.specs.Bindings.{Bindings, start, lookup}
+use Rattle.terms.specs.Bindings.{Bindings, start}
 use Rattle.names.specs.Symbols.{Symbol, symbol_at}
-use Rattle.patterns.specs.Patterns.{when}
-use Rattle.resolution.specs.Rules.{Rule, rule_at_lem, Tree, node, leaf, ◌◂◌, root, roots, joined, Instance, Derivation}
+use Rattle.resolution.specs.Rules.{Rule, rule_at_lem, Tree, leaf, ◌◂◌, root, roots, joined, Derivation}
 use Rattle.evaluation.specs.Matching.{Fitted, misfit, fitted, bind_of, Built, barred, built, instantiate_of, front, last}
 use Rattle.evaluation.specs.MatchingLaws.{values_in, Keeps, keeps_all, keeps_on, Fits, bind_fits, Instantiates, instantiates, Some, front_last, front_sub, some_sub}
 use Rattle.evaluation.specs.Calls.{Spent, Called, refused, returned, Walked, stopped, walked, if_called, if_result, if_arguments, under_first, premises_of, concluded_by, concluded, patterns_of, taken_or, tried, clauses_of, max_calls, call_of}

@@ -1,7 +1,7 @@
 -- Evaluated terms (document 01, "Evaluated terms"; the Rust's `is_forward_call` and `Evaluator::expression`): which `#eval` is evaluated, and its value with
 -- the trees of the calls written in it, innermost first.
 use Rattle.std.specs.Prelude.{ℕ, zero, suc, ◌+◌, ◌-◌, Bool, true, false, cond, not, ◌&&◌, List, [], eqb, ltb, length}
-use Rattle.terms.specs.Term.{Kind, Syn, var, app, nil, cons, Term}
+use Rattle.terms.specs.Term.{Syn, var, app, nil, cons, Term}
 use Rattle.terms.specs.Term.Kind.{one as single, many as several}
 use Rattle.term_parser.specs.Source.{Arity, one, many}
 use Rattle.term_parser.specs.Standing.{Written, number, meta, called, applied, nil as none, cons as more, size}

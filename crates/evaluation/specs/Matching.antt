@@ -1,10 +1,10 @@
 -- Patterns against values (document 01, "Evaluated terms"; the Rust's `bind` and `instantiate`). Values have no variables; the variables of a clause take
 -- values one after another, newest first. Every node that is built takes a word for itself and one for each argument, and 37 is tested as it is built.
-use Rattle.std.specs.Prelude.{ℕ, suc, ◌+◌, Bool, true, false, cond, ltb}
+use Rattle.std.specs.Prelude.{ℕ, suc, ◌+◌, cond, ltb}
 use Rattle.std.proofs.Math.Option.{Option, none, some}
 use Rattle.terms.specs.Numbers.{same}
-use Rattle.terms.specs.Term.{Kind, one, many, Syn, var, app, nil, cons, Term, Terms, count}
-use Rattle.terms.specs.Bindings.{Bindings, start, bind, lookup}
+use Rattle.terms.specs.Term.{Kind, one, Syn, var, app, nil, cons, Term, Terms, count}
+use Rattle.terms.specs.Bindings.{Bindings, bind, lookup}
 use Rattle.arena.specs.Equality.{alike}
 use Rattle.patterns.specs.Patterns.{when}
 

@@ -1,13 +1,12 @@
 -- Laws of matching: values that fit a pattern are what the variables' values turn it into, and so is what is instantiated; values once taken stay.
-use Rattle.std.specs.Prelude.{ℕ, suc, ◌+◌, ◌≡◌, refl, Bool, true, false, cond, ltb}
-use Rattle.std.proofs.Common.{sym, ap, ap₂, ◌∙◌, subst}
+use Rattle.std.specs.Prelude.{ℕ, suc, ◌+◌, ◌≡◌, refl, ltb}
+use Rattle.std.proofs.Common.{ap, ap₂, ◌∙◌}
 use Rattle.std.proofs.Math.Option.{Option, none, some}
 use Rattle.terms.specs.Numbers.{same, same_refl, same_true, by_bool, by_same, some_none}
 use Rattle.terms.specs.Term.{Kind, Syn, var, app, nil, cons, Term, Terms, count, append, Subst, sub}
-use Rattle.terms.specs.Bindings.{Bindings, bind, lookup}
+use Rattle.terms.specs.Bindings.{Bindings, lookup}
 use Rattle.arena.specs.Equality.{alike}
 use Rattle.arena.specs.EqualityLaws.{alike_true}
-use Rattle.patterns.specs.Patterns.{when}
 use Rattle.evaluation.specs.Matching.{Fitted, misfit, fitted, if_fitted, takes, bind_of, Built, barred, built, if_built, build_node, value_of, instantiate_of, front, last}
 
 -- The values as a substitution.

@@ -6,7 +6,6 @@ use Rattle.std.specs.Prelude.{◌≡◌, true}
 use mathlib.Core.List.{List, [], ◌∷◌}
 use Rattle.std.proofs.Math.ListN.{length}
 use Rattle.names.specs.Symbols.{Symbol, symbol_at}
-use Rattle.patterns.specs.Patterns.{first}
 use Rattle.resolution.specs.Rules.{Rule}
 use Rattle.resolution.specs.Fresh.{elem}
 

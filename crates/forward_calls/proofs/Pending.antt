@@ -2,14 +2,17 @@
 use Prim.Native.Nat.{ℕ, ◌+◌, ◌-◌, ◌≤◌, ◌<◌}
 use native.Mathlib.Omega.{arith}
 use mathlib.Core.Path.{◌≡◌, refl, sym, ap, ◌∙◌, subst}
-use mathlib.Core.Bool.{Bool, true, false, ◌&&◌}
+use mathlib.Core.Bool.{Bool, true, false, cond, ◌&&◌}
 use mathlib.Core.List.{List, []}
+use lib.Dec.{eqb}
+use borrow.Author.Tests.{eqb-true, eqb-false}
 use lib.ListN.{length, get_or, take, drop}
 use Rattle.std.proofs.lemmas.List.{get_or-drop, take_rest}
 use Rattle.term_parser.specs.Source.{Arity, one, many}
 use Rattle.term_parser.specs.Rows.{Rows}
 use Rattle.term_parser.specs.Standing.{Written, number, meta, called, applied, nil, cons, size, Stands}
 use Rattle.evaluation.specs.Expressions.{is_ground}
+use Rattle.flattening.specs.Promises.{arity_of}
 use Rattle.forward_calls.specs.Ground.{GroundAsked, GroundAnswered}
 
 abbrev append : Written many → Written many → Written many
@@ -199,3 +202,11 @@ module _ {text : List ℕ} {rows : Rows} {at left left' : ℕ} (i : ℕ) (h : Tu
   turn_leaf_behind m a e =
       subst (λ (n : ℕ). Turn text rows at n (at + i + 1)) (sym e)
       (turn_leaf h l (λ k. m (row_behind rows at i 0 ∙ k)) (λ k. a (row_behind rows at i 0 ∙ k)))
+
+  -- Behind a row that is no metavariable stand as many terms more as the row has arguments.
+  pub turn_behind : (behind rows at i 0 ≡ 13 → ⊥) → left' ≡ left - 1 + arity_of (behind rows at i 0) (behind rows at i 3) → Turn text rows at left' (at + i + 1)
+  turn_behind m e = go (eqb (behind rows at i 0) 24) refl e
+    where
+      go : (b : Bool) → eqb (behind rows at i 0) 24 ≡ b → left' ≡ left - 1 + cond b (behind rows at i 3) 0 → Turn text rows at left' (at + i + 1)
+      go true p e = turn_application_behind (eqb-true (behind rows at i 0) 24 p) e
+      go false p e = turn_leaf_behind m (eqb-false (behind rows at i 0) 24 p) (omega arith)

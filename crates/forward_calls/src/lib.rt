@@ -1,6 +1,6 @@
 // Forward calls: which `#eval` is evaluated (document 01, "Evaluated terms"; the Rust's `is_forward_call`).
 //
-// Both functions serve the crates above: they ask for rows that stand for a term.
+// `is_forward_call` serves the crates above: it asks for rows that stand for a term.
 #![tactic(auto)]
 
 ghost use Rattle.forward_calls.specs.Ground.{GroundAsked, GroundAnswered};
@@ -17,7 +17,7 @@ pub struct WrittenTerm<'a> {
 }
 
 // Whether a term has no metavariable: its rows stand in preorder, so one pass over them sees every part.
-pub fn is_ground(term: WrittenTerm) -> bool
+fn is_ground(term: WrittenTerm) -> bool
     requires { GroundAsked term.text.now term.rows.now term.at }
     ensures { GroundAnswered term.entry.text.now term.entry.rows.now term.entry.at result }
 {
@@ -28,9 +28,7 @@ pub fn is_ground(term: WrittenTerm) -> bool
             return false;
         }
         left -= 1;
-        if row[0] == term_parser::APPLICATION {
-            left += row[3] as usize;
-        }
+        left += flattening::arity(row[0], row[3]);
         if left == 0 {
             return true;
         }
@@ -45,17 +43,10 @@ pub fn is_forward_call(term: WrittenTerm, symbols: &[SymbolRow]) -> bool
 {
     let row = &term.rows[term.at];
     let kind = row[0];
-    if kind == words::NUMERAL {
+    if kind == words::NUMERAL || kind == words::METAVARIABLE {
         return false;
     }
-    if kind == words::METAVARIABLE {
-        return false;
-    }
-    let word = Word {
-        start: row[1],
-        size: row[2],
-    };
-    let Some(i) = names::find_at(term.text, symbols, kind, word) else {
+    let Some(i) = names::find_at(term.text, symbols, kind, Word::behind_kind(row)) else {
         return false;
     };
     if symbols[i][3] != FUNCTION {

@@ -14,13 +14,11 @@ ghost use Rattle.unifier.specs.Promises.{Tells};
 ghost use Rattle.rule_checks.specs.RuleForm.{RuleCheckable, RuleChecked};
 ghost use Rattle.rule_checks.specs.Steps.{Numbers, Columns, place_from, Parts, Walkable, TermAsked, premises_of, Walked, PlacedWord, OrderAsked, InOrder, InPlaces};
 
-use arena::Terms;
+use arena::{PATTERN_ROOM, Terms};
 use meeting::Places;
 use names::{Word, is_word_place};
 use rules::RuleRow;
 
-// The room for variables in patterns.
-const ROOM: u32 = 64;
 // The most words that the terms of a rule take: 2 for each of 1,024 nodes.
 const MOST: u32 = 2048;
 // The most rules.
@@ -47,11 +45,7 @@ fn are_numbers(text: &[u8], rule: &RuleRow, from: u32, used: u32) -> bool
     requires { from ≤ used }
     ensures { Tells result (Numbers text.now used from rule.now) }
 {
-    let word = Word {
-        start: rule[0],
-        size: rule[1],
-    };
-    if !is_word_place(text, word) {
+    if !is_word_place(text, Word::at_start(rule)) {
         return false;
     }
     if RULES < rule[2] {
@@ -110,16 +104,13 @@ fn are_roots(words: &[u32], from: u32, middle: u32, references: &[u32]) -> bool
 {
     let terms = Terms {
         words,
-        room: ROOM,
-        variables: ROOM,
+        room: PATTERN_ROOM,
+        variables: PATTERN_ROOM,
         used: middle,
     };
-    for reference in references {
-        if !arena::is_argument(terms, from, *reference) {
-            return false;
-        }
-    }
-    true
+    references
+        .iter()
+        .all(|reference| arena::is_argument(terms, from, *reference))
 }
 
 // A rule's row and its words: those of its premises from `from` up to `middle`, and those of its conclusion from there up to `end`.
@@ -146,8 +137,8 @@ fn are_parts(arities: &[u32], rule: PlacedRule) -> bool
     } = rule;
     let premises = Terms {
         words,
-        room: ROOM,
-        variables: ROOM,
+        room: PATTERN_ROOM,
+        variables: PATTERN_ROOM,
         used: middle,
     };
     if !arena::check_words(premises, from, arities) {
@@ -187,7 +178,7 @@ fn walk_premises(words: &[u32], rule: &RuleRow, places: &mut Places, stack: &mut
 fn are_placed(words: &[u32], places: &Places) -> bool
     ensures { Tells result (EachIndex words.now (λ k. PlacedWord places.now.places (slice_index words.now k))) }
 {
-    words.iter().all(|word| *word >= ROOM || places.places[*word as usize] != None)
+    words.iter().all(|word| *word >= PATTERN_ROOM || places.places[*word as usize] != None)
 }
 
 // Whether the terms of a row take the words that it counts, and its variables are numbered in writing order. The stack is scratch.
@@ -268,7 +259,7 @@ fn is_in_places(rule: PlacedRule, stack: &mut [[u32; 2]]) -> bool
 
 // Tests a rule, whose words start at `from`; `used` words are in use, and there are so many sorts. Answers where the rule's words end, if row and words
 // are in form. The stack is scratch, lent once for all rules: laying one out takes longer than the walk through a small rule.
-// Stays: the answer is about the signature's whole table of words, which the callers keep; had of `&words[..used]`, it would have to be proved again for it.
+// Stays: the contract speaks of the whole table, as the callers' do; of `&words[..used]` each caller would have to prove it for the whole table again.
 pub fn check_rule(
     text: &[u8],
     arities: &[u32],

@@ -2,6 +2,7 @@
 use native.Mathlib.Omega.{arith}
 use Rattle.std.proofs.Common.{refl}
 use Rattle.forward_calls.proofs.Forwarding.{some_symbol, no_symbol, inside, of_numeral, of_meta, of_unknown, of_other, of_none, of_count, of_call, ground_asked}
+use Rattle.forward_calls.proofs.is_forward_call.Goals.{then-kind-eq-NUMERAL-via-then-kind-eq-NUMERAL, then-kind-eq-NUMERAL-via-else-kind-eq-NUMERAL+then-kind-eq-METAVARIABLE}
 use Rattle.forward_calls.proofs.is_forward_call.Goals as goal
 
 pub offset_bounds-term-term : goal.offset_bounds-term-term
@@ -11,25 +12,26 @@ pub bounds-term-term : goal.bounds-term-term
 bounds-term-term c = let i = inside c.requires in omega arith
 
 pub returns-then-kind-eq-NUMERAL : goal.returns-then-kind-eq-NUMERAL
-returns-then-kind-eq-NUMERAL c = of_numeral c.requires c.if-kind-eq-NUMERAL.true
-
-pub returns-then-kind-eq-METAVARIABLE : goal.returns-then-kind-eq-METAVARIABLE
-returns-then-kind-eq-METAVARIABLE c = of_meta c.requires c.if-kind-eq-METAVARIABLE.true
+returns-then-kind-eq-NUMERAL c =
+    elim c.then-kind-eq-NUMERAL.branch [
+      | then-kind-eq-NUMERAL-via-then-kind-eq-NUMERAL w ↦ of_numeral c.requires w.if-kind-eq-NUMERAL.true
+      | then-kind-eq-NUMERAL-via-else-kind-eq-NUMERAL+then-kind-eq-METAVARIABLE w ↦ of_meta c.requires w.if-kind-eq-METAVARIABLE.true
+    ]
 
 pub returns-in_default : goal.returns-in_default
-returns-in_default c = of_unknown c.requires c.if-kind-eq-NUMERAL.false c.if-kind-eq-METAVARIABLE.false refl (no_symbol c.args.term.text.now c.args.symbols.now _ c.in_default.is c.find_at.ensures)
+returns-in_default c = of_unknown c.requires c.if-kind-eq-NUMERAL.false c.if-kind-eq-METAVARIABLE.false refl (no_symbol c.args.term.text.now c.args.symbols.now _ c.in_default.is (rw c.behind_kind.ensures at c.find_at.ensures))
 
 pub returns-then-symbols-i-ne-FUNCTION : goal.returns-then-symbols-i-ne-FUNCTION
-returns-then-symbols-i-ne-FUNCTION c = of_other c.requires c.if-kind-eq-NUMERAL.false c.if-kind-eq-METAVARIABLE.false (some_symbol c.args.term.text.now c.args.symbols.now _ _ c.in-Some.is c.find_at.ensures).0 (some_symbol c.args.term.text.now c.args.symbols.now _ _ c.in-Some.is c.find_at.ensures).1 c.if-symbols-i-ne-FUNCTION.true
+returns-then-symbols-i-ne-FUNCTION c = of_other c.requires c.if-kind-eq-NUMERAL.false c.if-kind-eq-METAVARIABLE.false (some_symbol c.args.term.text.now c.args.symbols.now _ _ c.in-Some.is (rw c.behind_kind.ensures at c.find_at.ensures)).0 (some_symbol c.args.term.text.now c.args.symbols.now _ _ c.in-Some.is (rw c.behind_kind.ensures at c.find_at.ensures)).1 c.if-symbols-i-ne-FUNCTION.true
 
 pub returns-then-inputs-eq0 : goal.returns-then-inputs-eq0
-returns-then-inputs-eq0 c = of_none c.requires c.if-kind-eq-NUMERAL.false c.if-kind-eq-METAVARIABLE.false (some_symbol c.args.term.text.now c.args.symbols.now _ _ c.in-Some.is c.find_at.ensures).0 (some_symbol c.args.term.text.now c.args.symbols.now _ _ c.in-Some.is c.find_at.ensures).1 c.if-inputs-eq0.true
+returns-then-inputs-eq0 c = of_none c.requires c.if-kind-eq-NUMERAL.false c.if-kind-eq-METAVARIABLE.false (some_symbol c.args.term.text.now c.args.symbols.now _ _ c.in-Some.is (rw c.behind_kind.ensures at c.find_at.ensures)).0 (some_symbol c.args.term.text.now c.args.symbols.now _ _ c.in-Some.is (rw c.behind_kind.ensures at c.find_at.ensures)).1 c.if-inputs-eq0.true
 
 pub returns-then-inputs-row : goal.returns-then-inputs-row
-returns-then-inputs-row c = of_count c.requires c.if-kind-eq-NUMERAL.false c.if-kind-eq-METAVARIABLE.false (some_symbol c.args.term.text.now c.args.symbols.now _ _ c.in-Some.is c.find_at.ensures).0 (some_symbol c.args.term.text.now c.args.symbols.now _ _ c.in-Some.is c.find_at.ensures).1 c.if-inputs-eq0.false c.if-inputs-row.true
+returns-then-inputs-row c = of_count c.requires c.if-kind-eq-NUMERAL.false c.if-kind-eq-METAVARIABLE.false (some_symbol c.args.term.text.now c.args.symbols.now _ _ c.in-Some.is (rw c.behind_kind.ensures at c.find_at.ensures)).0 (some_symbol c.args.term.text.now c.args.symbols.now _ _ c.in-Some.is (rw c.behind_kind.ensures at c.find_at.ensures)).1 c.if-inputs-eq0.false c.if-inputs-row.true
 
 pub is_ground-requires : goal.is_ground-requires
 is_ground-requires c = ground_asked c.requires
 
 pub returns : goal.returns
-returns c = of_call c.requires c.if-kind-eq-NUMERAL.false c.if-kind-eq-METAVARIABLE.false (some_symbol c.args.term.text.now c.args.symbols.now _ _ c.in-Some.is c.find_at.ensures).0 (some_symbol c.args.term.text.now c.args.symbols.now _ _ c.in-Some.is c.find_at.ensures).1 c.if-inputs-eq0.false c.if-symbols-i-ne-FUNCTION.false c.if-inputs-row.false c.is_ground.ensures
+returns c = of_call c.requires c.if-kind-eq-NUMERAL.false c.if-kind-eq-METAVARIABLE.false (some_symbol c.args.term.text.now c.args.symbols.now _ _ c.in-Some.is (rw c.behind_kind.ensures at c.find_at.ensures)).0 (some_symbol c.args.term.text.now c.args.symbols.now _ _ c.in-Some.is (rw c.behind_kind.ensures at c.find_at.ensures)).1 c.if-inputs-eq0.false c.if-symbols-i-ne-FUNCTION.false c.if-inputs-row.false c.is_ground.ensures

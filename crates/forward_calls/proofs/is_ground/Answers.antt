@@ -1,11 +1,10 @@
 -- `is_ground` meets its contract.
 use native.Mathlib.Omega.{arith}
 use native.Mathlib.Numerals.{unary_clauses}
-use Rattle.std.proofs.Common.{ℕ, ◌+◌, ◌≡◌, ◌∙◌, sym, subst}
+use Rattle.std.proofs.Common.{ℕ, ◌+◌, ◌-◌, ◌≡◌, refl, ◌∙◌, sym, subst}
 use Rattle.std.proofs.lemmas.List.{length-take, length-drop}
-use Rattle.forward_calls.proofs.Pending.{row_behind, Turn, turn_start, bounded, application_bounded, turn_meta, turn_application_behind, turn_leaf_behind, turn_done}
+use Rattle.forward_calls.proofs.Pending.{row_behind, Turn, turn_start, bounded, turn_meta, turn_behind, turn_done}
 use Rattle.forward_calls.proofs.is_ground.Goals as goal
-use Rattle.forward_calls.proofs.is_ground.Goals.{then-row-eq-APPLICATION, else-row-eq-APPLICATION}
 
 pub offset_bounds-term-term : goal.offset_bounds-term-term
 offset_bounds-term-term c = let b = bounded (turn_start c.requires) in omega arith
@@ -25,29 +24,19 @@ returns-then-row-eq-METAVARIABLE c =
 
 pub overflow_add-left : goal.overflow_add-left
 overflow_add-left c =
-    let e = row_behind c.args.term.rows.now c.args.term.at c.loop-row.row-index 3 in
-    let a = application_bounded c.loop-row.invariant.1 c.loop-row.invariant.0 (sym (row_behind c.args.term.rows.now c.args.term.at c.loop-row.row-index 0) ∙ c.if-row-eq-APPLICATION.true) in
-    let b = bounded (turn_start c.requires) in
+    let b = bounded c.loop-row.invariant.1 in
+    let a = c.arity-left.ensures.upper_bound in
     omega arith
 
 pub returns-then-left-eq0 : goal.returns-then-left-eq0
 returns-then-left-eq0 c =
-    let next : Turn c.args.term.text.now c.args.term.rows.now c.args.term.at c.if-row-eq-APPLICATION.left (c.args.term.at + c.loop-row.row-index + 1) =
-    elim c.if-row-eq-APPLICATION.branch [
-      | then-row-eq-APPLICATION w ↦ turn_application_behind c.loop-row.row-index c.loop-row.invariant.1 c.loop-row.invariant.0 w.if-row-eq-APPLICATION.true w.left-is
-      | else-row-eq-APPLICATION w ↦ turn_leaf_behind c.loop-row.row-index c.loop-row.invariant.1 c.loop-row.invariant.0 c.if-row-eq-METAVARIABLE.false w.if-row-eq-APPLICATION.false w.left-is
-    ] in
-    turn_done next c.if-left-eq0.true
+    turn_done (turn_behind c.loop-row.row-index c.loop-row.invariant.1 c.loop-row.invariant.0 c.if-row-eq-METAVARIABLE.false (rw c.arity-left.ensures.value refl)) c.if-left-eq0.true
 
 pub loop-row-preserved : goal.loop-row-preserved
 loop-row-preserved c =
-    let next : Turn c.args.term.text.now c.args.term.rows.now c.args.term.at c.if-row-eq-APPLICATION.left (c.args.term.at + c.loop-row.row-index + 1) =
-    elim c.if-row-eq-APPLICATION.branch [
-      | then-row-eq-APPLICATION w ↦ turn_application_behind c.loop-row.row-index c.loop-row.invariant.1 c.loop-row.invariant.0 w.if-row-eq-APPLICATION.true w.left-is
-      | else-row-eq-APPLICATION w ↦ turn_leaf_behind c.loop-row.row-index c.loop-row.invariant.1 c.loop-row.invariant.0 c.if-row-eq-METAVARIABLE.false w.if-row-eq-APPLICATION.false w.left-is
-    ] in
+    let next = turn_behind c.loop-row.row-index c.loop-row.invariant.1 c.loop-row.invariant.0 c.if-row-eq-METAVARIABLE.false (rw c.arity-left.ensures.value refl) in
     let s : c.args.term.at + c.loop-row.row-index + 1 ≡ c.args.term.at + (c.loop-row.row-index + 1) = omega arith in
-    (omega arith, subst (λ (i : ℕ). Turn c.args.term.text.now c.args.term.rows.now c.args.term.at c.if-row-eq-APPLICATION.left i) s next)
+    (omega arith, subst (λ (i : ℕ). Turn c.args.term.text.now c.args.term.rows.now c.args.term.at (c.loop-row.left - 1 + c.arity-left.result) i) s next)
 
 pub returns : goal.returns
 returns c =
