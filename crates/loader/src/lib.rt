@@ -21,9 +21,9 @@ use refusals::Refusal;
 use rules::{RulePlace, RuleRow, SourceRule, Title};
 
 // How many sorts, symbols and inputs there may be.
-const SORTS: usize = 256;
+pub const SORTS: usize = 256;
 
-const SYMBOLS: usize = 1024;
+pub const SYMBOLS: usize = 1024;
 
 const INPUTS: usize = 16;
 

@@ -10,16 +10,9 @@ ghost use Rattle.loader.specs.Legal.{Calls, ClauseFormed};
 ghost use Rattle.unifier.specs.Promises.{Tells};
 ghost use Rattle.signature.specs.Parts.{ClausesAsked, ClausesOf, ClausesListed};
 
+use arena::{HEADERS, PATTERN_ROOM, SYMBOL_STEP};
 use names::{FUNCTION, SymbolRow};
 use rules::RuleRow;
-
-// The room for variables in patterns: references from it on are nodes.
-const ROOM: u32 = 64;
-
-// The least header, and by what a symbol's number is multiplied in one.
-const HEADERS: u32 = 1048576;
-
-const SYMBOL: u32 = 32;
 
 // The symbol of the node at an address: that of its header. A word that is no header, or is not there, is read as one of symbol 0.
 // Stays: the definition gives such a word the symbol 0, and an option would be turned into it at once.
@@ -27,17 +20,17 @@ fn symbol_at(words: &[u32], at: usize) -> usize
     ensures { result ≡ symbol_of (get_or words.now at 0) }
 {
     let header = words.get(at).copied().unwrap_or(0);
-    (header.saturating_sub(HEADERS) / SYMBOL) as usize
+    (header.saturating_sub(HEADERS) / SYMBOL_STEP) as usize
 }
 
 // Is the term of a reference a node of the symbol i?
 fn is_node_of(words: &[u32], reference: u32, i: usize) -> bool
     ensures { Tells result ((ts : Terms) × (term_of words.now reference ≡ app i ts)) }
 {
-    if reference < ROOM {
+    if reference < PATTERN_ROOM {
         return false;
     }
-    symbol_at(words, (reference - ROOM) as usize) == i
+    symbol_at(words, (reference - PATTERN_ROOM) as usize) == i
 }
 
 // Is the term of a reference a call of one of the symbols?
@@ -45,10 +38,10 @@ fn is_call(words: &[u32], reference: u32, symbols: &[SymbolRow]) -> bool
     ensures { (text : List ℕ) → Tells result (Calls (symbols_of text symbols.now (length symbols.now))
         (term_of words.now reference)) }
 {
-    if reference < ROOM {
+    if reference < PATTERN_ROOM {
         return false;
     }
-    match symbols.get(symbol_at(words, (reference - ROOM) as usize)) {
+    match symbols.get(symbol_at(words, (reference - PATTERN_ROOM) as usize)) {
         Some(symbol) => symbol[3] == FUNCTION,
         None => false,
     }
@@ -60,12 +53,9 @@ fn are_calls(words: &[u32], rule: &RuleRow, symbols: &[SymbolRow]) -> bool
     ensures { (text : List ℕ) → Tells result (Calls (symbols_of text symbols.now (length symbols.now))
         (terms_of (term_of words.now) (heads_in rule.now))) }
 {
-    for reference in &rule[10..10 + rule[4] as usize] {
-        if !is_call(words, *reference, symbols) {
-            return false;
-        }
-    }
-    true
+    rule[10..10 + rule[4] as usize]
+        .iter()
+        .all(|reference| is_call(words, *reference, symbols))
 }
 
 // Is a rule a clause in form of the symbol i?
@@ -84,12 +74,11 @@ fn are_clauses_of(words: &[u32], rules: &[RuleRow], symbols: &[SymbolRow], i: us
 {
     let first = symbols[i][4] as usize;
     let n = symbols[i][5] as usize;
-    for rule in &rules[first..first + n] {
-        if !is_clause(words, rule, symbols, i) {
-            return false;
-        }
-    }
-    true
+    rules[first..first + n].iter().all(
+        |rule|
+            requires { column rule.now 4 ≤ 16 }
+        { is_clause(words, rule, symbols, i) },
+    )
 }
 
 // Are the clauses of all symbols in form? Clauses of two functions cannot be the same rule, so each rule is read once.
@@ -97,10 +86,9 @@ pub fn are_listed(words: &[u32], rules: &[RuleRow], symbols: &[SymbolRow]) -> bo
     requires { ClausesAsked symbols.now rules.now }
     ensures { (text : List ℕ) → Tells result (ClausesListed text symbols.now (length symbols.now) rules.now words.now) }
 {
-    for i in 0..symbols.len() {
-        if !are_clauses_of(words, rules, symbols, i) {
-            return false;
-        }
-    }
-    true
+    (0..symbols.len()).all(
+        |i|
+            requires { ClausesAsked symbols.now rules.now × (i < length symbols.now) }
+        { are_clauses_of(words, rules, symbols, i) },
+    )
 }

@@ -13,25 +13,19 @@ ghost use Rattle.signature.specs.Form.{SymbolFormed};
 ghost use Rattle.signature.specs.Parts.{Lent, Counted, SortsNamed, place_in, NumbersFormed, MarkFormed, ClausesFormed, InputsFormed, SymbolsFormed, RulesListed};
 ghost use Rattle.signature.specs.Storage.{store_of, SignatureChecked};
 
+pub mod columns;
 mod functions;
 
+use arena::INPUTS;
+pub use columns::ARITY;
+use loader::{SORTS, SYMBOLS};
 use names::{FUNCTION, NO_FUNCTION, SortRow, SymbolRow, Word};
 use rules::RuleRow;
 
-// How many sorts, symbols and rules there may be, and inputs of a symbol.
-const SORTS: usize = 256;
-
-const SYMBOLS: usize = 1024;
-
-// Names of sorts and symbols together.
+// How many names there may be: of sorts and symbols together.
 const NAMES: usize = SORTS + SYMBOLS;
 
 const RULES: usize = 1024;
-
-const INPUTS: usize = 16;
-
-// The column of a symbol's row that has the number of its inputs.
-pub const ARITY: usize = 6;
 
 // How many words there may be: 2 for each of 32,768 nodes.
 const WORDS: usize = 65536;
@@ -86,6 +80,7 @@ fn are_sorts_named(text: &[u8], sorts: &[SortRow]) -> bool
 }
 
 // Writes the numbers in one column of rows.
+// Stays: tried `numbers.iter_mut().zip(rows)`: the loop's invariant can't name the numbers then, and so nothing is known of what was written.
 pub fn put_column<const N: usize>(rows: &[[u32; N]], at: usize, numbers: &mut [u32])
     requires { (at < N) × (length rows.now ≤ length numbers.old) }
     ensures { (i : ℕ) → i < length rows.now → get_or numbers.new i 0 ≡ column (row_at rows.now i) at }
@@ -96,6 +91,7 @@ pub fn put_column<const N: usize>(rows: &[[u32; N]], at: usize, numbers: &mut [u
 }
 
 // Writes the places of names: where they start and how long they are, which stand in rows from a column on.
+// Stays: as in `put_column`, nothing would be known of places that were written through `iter_mut().zip(rows)`.
 pub fn put_places<const N: usize>(rows: &[[u32; N]], at: usize, places: &mut [SortRow])
     requires { (at + 1 < N) × (length rows.now ≤ length places.old) }
     ensures { (i : ℕ) → i < length rows.now → row_at places.new i ≡ place_in (row_at rows.now i) at }
@@ -123,7 +119,7 @@ fn are_names_distinct(text: &[u8], sorts: &[SortRow], symbols: &[SymbolRow]) -> 
 fn are_numbers_formed(sorts: u32, output: u32, inputs: u32, free: u32) -> bool
     ensures { Tells result (NumbersFormed sorts output inputs free) }
 {
-    output <= sorts && inputs as usize <= INPUTS && free == 0
+    output <= sorts && inputs <= INPUTS && free == 0
 }
 
 // A function has no output, and its last input is its result; only a function has clauses.

@@ -6,100 +6,27 @@ ghost use Rattle.std.specs.Prelude.{◌≡◌, ◌≤◌};
 ghost use Rattle.source_text.specs.Parts.{part_of};
 ghost use Rattle.signature_listing.specs.Nodes.{arity_at};
 
+use arena::{HEADERS, PATTERN_ROOM, SYMBOL_STEP};
+use listing::{write, write_number};
 use load_storage::EvalRow;
-use names::{NO_FUNCTION, SortRow, SymbolRow};
+use names::{NO_FUNCTION, SymbolRow};
 use rules::RuleRow;
 use signature::StoredSignature;
-
-// Standard output.
-const STDOUT_FILENO: i32 = 1;
-
-// References to nodes start here, those below are variables; headers start at the other.
-const FIRST_NODE: u32 = 64;
-
-const FIRST_HEADER: u32 = 0x10_0000;
-
-// A header holds its symbol above its arity.
-const ARITIES: u32 = 32;
-
-// The columns of a symbol's row: its output, its function mark, its first clause, how many clauses and inputs it has, and where its inputs start.
-const OUTPUT: usize = 2;
-
-const MARK: usize = 3;
-
-const FIRST_CLAUSE: usize = 4;
-
-const CLAUSES: usize = 5;
-
-const INPUTS: usize = 6;
-
-const FIRST_INPUT: usize = 8;
-
-// Those of a rule's row: its clause number + 1, how many variables and premises it has, its conclusion, its first word, how many words premises and
-// conclusion have, how many variables are met in the conclusion, and where premises, sorts and places start.
-const CLAUSE: usize = 2;
-
-const VARIABLES: usize = 3;
-
-const PREMISES: usize = 4;
-
-const CONCLUSION: usize = 5;
-
-const FIRST_WORD: usize = 6;
-
-const PREMISE_WORDS: usize = 7;
-
-const CONCLUSION_WORDS: usize = 8;
-
-const MET: usize = 9;
-
-const FIRST_PREMISE: usize = 10;
-
-const FIRST_SORT: usize = 26;
-
-const FIRST_PLACE: usize = 90;
-
-// Stays: `Display` writes `str`, and names are bytes of a text: each would be tested as UTF-8 at every print, with an answer where it is none.
-fn write(bytes: &[u8]) {
-    io::write_all(STDOUT_FILENO, bytes);
-}
-
-fn write_number(number: u32) {
-    io::print_decimal(STDOUT_FILENO, number as u64);
-}
-
-fn write_name(text: &[u8], start: u32, length: u32) {
-    write(words::word(text, start as usize, length as usize));
-}
+use signature::columns::{
+    ARITY, CLAUSE, CLAUSES, CONCLUSION, CONCLUSION_WORDS, FIRST_CLAUSE, FIRST_INPUT, FIRST_PLACE,
+    FIRST_PREMISE, FIRST_SORT, FIRST_WORD, MARK, MET, OUTPUT, PREMISE_WORDS, PREMISES, SIZE, START,
+    VARIABLES,
+};
 
 // So many of the numbers from a place on, none where there are not as many.
-fn part<'a>(numbers: &'a [u32], start: usize, count: usize) -> &'a [u32]
+// Stays: `source_text::word` is this for bytes; in a function for both, its definition `part_of` would be of any type, as would the laws of names that cite it.
+fn numbers_from<'a>(numbers: &'a [u32], start: usize, count: usize) -> &'a [u32]
     ensures { result.now ≡ part_of numbers.now start count }
 {
     if start <= numbers.len() && count <= numbers.len() - start {
         return &numbers[start..start + count];
     }
     &numbers[0..0]
-}
-
-// Writes the name of a sort, `Prop` for none.
-fn write_sort(text: &[u8], sorts: &[SortRow], number: u32) {
-    if number == 0 {
-        write(b"Prop");
-        return;
-    }
-    match sorts.get(number as usize - 1) {
-        Some(row) => write_name(text, row[0], row[1]),
-        None => write(b"wrong: no such sort"),
-    }
-}
-
-// Writes the names of sorts, a blank before each.
-fn write_sorts(text: &[u8], sorts: &[SortRow], numbers: &[u32]) {
-    for number in numbers {
-        write(b" ");
-        write_sort(text, sorts, *number);
-    }
 }
 
 fn write_numbers(numbers: &[u32]) {
@@ -111,12 +38,12 @@ fn write_numbers(numbers: &[u32]) {
 
 // Writes a reference; addresses are counted from a rule's first word.
 fn write_reference(reference: u32, first: u32) {
-    if reference < FIRST_NODE {
+    if reference < PATTERN_ROOM {
         write(b" ?v");
         write_number(reference);
         return;
     }
-    let address = reference - FIRST_NODE;
+    let address = reference - PATTERN_ROOM;
     if address < first {
         write(b" wrong: a node of another rule");
         return;
@@ -131,14 +58,6 @@ fn write_references(references: &[u32], first: u32) {
     }
 }
 
-fn list_sorts(text: &[u8], sorts: &[SortRow]) {
-    for row in sorts {
-        write(b"sort ");
-        write_name(text, row[0], row[1]);
-        write(b"\n");
-    }
-}
-
 // Writes where a function's clauses start and how many there are.
 fn write_clauses(row: &SymbolRow) {
     if row[MARK] == NO_FUNCTION {
@@ -150,117 +69,19 @@ fn write_clauses(row: &SymbolRow) {
     write_number(row[CLAUSES]);
 }
 
-fn list_symbol(text: &[u8], sorts: &[SortRow], row: &SymbolRow) {
-    write(b"symbol ");
-    write_name(text, row[0], row[1]);
-    write(b" :");
-    let inputs = row[INPUTS] as usize;
-    write_sorts(text, sorts, part(row, FIRST_INPUT, inputs));
-    write(b" -> ");
-    write_sort(text, sorts, row[OUTPUT]);
-    write_clauses(row);
-    write(b"\n");
-}
-
-fn list_symbols(text: &[u8], sorts: &[SortRow], symbols: &[SymbolRow]) {
-    for row in symbols {
-        list_symbol(text, sorts, row);
-    }
-}
-
-fn write_symbol_name(text: &[u8], symbols: &[SymbolRow], number: u32) {
-    match symbols.get(number as usize) {
-        Some(row) => write_name(text, row[0], row[1]),
-        None => write(b"wrong: no such symbol"),
-    }
-}
-
-// The arity of the node at an address; 0 where there is no header.
-// Stays: a word that is no header is passed over alone, as one of arity 0 is; an option would be turned into that at once.
-fn arity_at(words: &[u32], address: usize) -> usize
-    ensures value { result ≡ arity_at words.now address }
-    ensures upper_bound { result ≤ 31 }
-{
-    match words.get(address) {
-        Some(header) if FIRST_HEADER <= *header => (*header % ARITIES) as usize,
-        _ => 0,
-    }
-}
-
-// Lists the node at an address.
-fn list_node(text: &[u8], signature: StoredSignature, address: usize, first: u32) {
-    let words = signature.words;
-    let Some(&header) = words.get(address) else {
-        write(b"wrong: no such word\n");
-        return;
-    };
-    if header < FIRST_HEADER {
-        write(b"wrong: no header\n");
-        return;
-    }
-    write(b"  #");
-    io::print_decimal(STDOUT_FILENO, (address as u64).wrapping_sub(first as u64));
-    write(b" ");
-    write_symbol_name(text, signature.symbols, (header - FIRST_HEADER) / ARITIES);
-    write_references(part(words, address + 1, arity_at(words, address)), first);
-    write(b"\n");
-}
-
-// Lists the nodes of a rule: those of its premises and those of its conclusion.
-fn list_nodes(text: &[u8], signature: StoredSignature, row: &RuleRow) {
-    let words = signature.words;
-    let first = row[FIRST_WORD];
-    let count = row[PREMISE_WORDS] as usize + row[CONCLUSION_WORDS] as usize;
-    let mut done = 0;
-    while done < count {
-        if words.len() <= done {
-            return;
-        }
-        let address = first as usize + done;
-        list_node(text, signature, address, first);
-        done += 1 + arity_at(words, address);
-    }
-}
-
-// Writes a rule's name, that of a clause with its number.
-fn write_rule_name(text: &[u8], row: &RuleRow) {
-    write_name(text, row[0], row[1]);
-    let number = row[CLAUSE];
-    if number == 0 {
-        return;
-    }
-    write(b".");
-    write_number(number - 1);
-}
-
-fn list_heading(text: &[u8], sorts: &[SortRow], row: &RuleRow) {
-    write(b"rule ");
-    write_rule_name(text, row);
-    write(b" vars");
-    let variables = row[VARIABLES] as usize;
-    write_sorts(text, sorts, part(row, FIRST_SORT, variables));
-    write(b"\n");
-}
-
 fn list_references(row: &RuleRow) {
     let variables = row[VARIABLES] as usize;
     let premises = row[PREMISES] as usize;
     let first = row[FIRST_WORD];
     write(b"  premises");
-    write_references(part(row, FIRST_PREMISE, premises), first);
+    write_references(numbers_from(row, FIRST_PREMISE, premises), first);
     write(b" conclusion");
     write_reference(row[CONCLUSION], first);
     write(b" met ");
     write_number(row[MET]);
     write(b" places");
-    write_numbers(part(row, FIRST_PLACE, variables));
+    write_numbers(numbers_from(row, FIRST_PLACE, variables));
     write(b"\n");
-}
-
-fn list_rule(text: &[u8], signature: StoredSignature, row: &RuleRow) {
-    list_heading(text, signature.sorts, row);
-    list_nodes(text, signature, row);
-    list_references(row);
 }
 
 fn list_evals(evals: &[EvalRow]) {
@@ -273,20 +94,161 @@ fn list_evals(evals: &[EvalRow]) {
     }
 }
 
+// The arity of the node at an address; 0 where there is no header.
+// Stays: a word that is no header is passed over alone, as one of arity 0 is; an option would be turned into that at once.
+fn arity_at(words: &[u32], address: usize) -> u32
+    ensures value { result ≡ arity_at words.now address }
+    ensures upper_bound { result ≤ 31 }
+{
+    match words.get(address) {
+        Some(header) if HEADERS <= *header => *header % SYMBOL_STEP,
+        _ => 0,
+    }
+}
+
 // The first rows, so many as are in use, or all where there are not as many.
 // Stays: this is where the part of a table in use is made from the table and its count.
 fn used<T>(rows: &[T], count: u32) -> &[T] {
     &rows[..rows.len().min(count as usize)]
 }
 
+// A stored signature, and the text in which its names stand.
+#[derive(Clone, Copy)]
+struct NamedSignature<'a> {
+    text: &'a [u8],
+    signature: StoredSignature<'a>,
+}
+
+impl NamedSignature<'_> {
+    // Writes the name that a row begins with.
+    fn write_name(self, start: u32, size: u32) {
+        write(words::word(self.text, start as usize, size as usize));
+    }
+
+    // Writes the name of a sort, `Prop` for none.
+    fn write_sort(self, number: u32) {
+        if number == 0 {
+            write(b"Prop");
+            return;
+        }
+        match self.signature.sorts.get(number as usize - 1) {
+            Some(row) => self.write_name(row[START], row[SIZE]),
+            None => write(b"wrong: no such sort"),
+        }
+    }
+
+    // Writes the names of sorts, a blank before each.
+    fn write_sorts(self, numbers: &[u32]) {
+        for number in numbers {
+            write(b" ");
+            self.write_sort(*number);
+        }
+    }
+
+    fn write_symbol(self, number: u32) {
+        match self.signature.symbols.get(number as usize) {
+            Some(row) => self.write_name(row[START], row[SIZE]),
+            None => write(b"wrong: no such symbol"),
+        }
+    }
+
+    fn list_sorts(self) {
+        for row in used(self.signature.sorts, self.signature.counts.sorts) {
+            write(b"sort ");
+            self.write_name(row[START], row[SIZE]);
+            write(b"\n");
+        }
+    }
+
+    fn list_symbol(self, row: &SymbolRow) {
+        write(b"symbol ");
+        self.write_name(row[START], row[SIZE]);
+        write(b" :");
+        let inputs = row[ARITY] as usize;
+        self.write_sorts(numbers_from(row, FIRST_INPUT, inputs));
+        write(b" -> ");
+        self.write_sort(row[OUTPUT]);
+        write_clauses(row);
+        write(b"\n");
+    }
+
+    fn list_symbols(self) {
+        for row in used(self.signature.symbols, self.signature.counts.symbols) {
+            self.list_symbol(row);
+        }
+    }
+
+    // Lists the node at a place past a rule's first word.
+    fn list_node(self, first: u32, past: u32) {
+        let words = self.signature.words;
+        let address = first as usize + past as usize;
+        let Some(&header) = words.get(address) else {
+            write(b"wrong: no such word\n");
+            return;
+        };
+        if header < HEADERS {
+            write(b"wrong: no header\n");
+            return;
+        }
+        write(b"  #");
+        write_number(past);
+        write(b" ");
+        self.write_symbol((header - HEADERS) / SYMBOL_STEP);
+        let arity = arity_at(words, address) as usize;
+        write_references(numbers_from(words, address + 1, arity), first);
+        write(b"\n");
+    }
+
+    // Lists the nodes of a rule: those of its premises and those of its conclusion.
+    fn list_nodes(self, row: &RuleRow) {
+        let words = self.signature.words;
+        let first = row[FIRST_WORD];
+        let count = row[PREMISE_WORDS].saturating_add(row[CONCLUSION_WORDS]);
+        let mut done = 0;
+        while done < count {
+            if words.len() <= done as usize {
+                return;
+            }
+            self.list_node(first, done);
+            let arity = arity_at(words, first as usize + done as usize);
+            done = done.saturating_add(1 + arity);
+        }
+    }
+
+    // Writes a rule's name, that of a clause with its number.
+    fn write_rule_name(self, row: &RuleRow) {
+        self.write_name(row[START], row[SIZE]);
+        let number = row[CLAUSE];
+        if number == 0 {
+            return;
+        }
+        write(b".");
+        write_number(number - 1);
+    }
+
+    fn list_heading(self, row: &RuleRow) {
+        write(b"rule ");
+        self.write_rule_name(row);
+        write(b" vars");
+        let variables = row[VARIABLES] as usize;
+        self.write_sorts(numbers_from(row, FIRST_SORT, variables));
+        write(b"\n");
+    }
+
+    fn list_rules(self) {
+        for row in used(self.signature.rules, self.signature.counts.rules) {
+            self.list_heading(row);
+            self.list_nodes(row);
+            list_references(row);
+        }
+    }
+}
+
 // Lists a signature, and the `#eval`s that wait.
 pub fn list(text: &[u8], signature: StoredSignature, evals: &[EvalRow]) {
-    let sorts = signature.sorts;
-    let counts = signature.counts;
-    list_sorts(text, used(sorts, counts.sorts));
-    list_symbols(text, sorts, used(signature.symbols, counts.symbols));
-    for row in used(signature.rules, counts.rules) {
-        list_rule(text, signature, row);
-    }
+    let named = NamedSignature { text, signature };
+    named.list_sorts();
+    named.list_symbols();
+    named.list_rules();
     list_evals(evals);
 }

@@ -1,33 +1,21 @@
 -- `are_calls` meets its contract: the references are those of the row's premises.
-use Rattle.std.proofs.Common.{◌+◌, length, arith, below_more}
+use Rattle.std.proofs.Common.{rules, ◌+◌, ◌-◌, ◌<◌, length, take, drop, arith}
+use Rattle.std.proofs.lemmas.Iterator.{YieldsList-from_slice}
 use Rattle.meeting.specs.Contract.{term_of}
 use Rattle.names.specs.Symbols.{column, symbols_of}
-use Rattle.unifier.specs.Checking.{tells_yes, tells_no, tells_false}
 use Rattle.loader.specs.Legal.{Calls}
 use Rattle.rule_checks.proofs.PartLaws.{part_length, part_index}
-use Rattle.signature.proofs.Laws.{holds}
+use Rattle.signature.proofs.Laws.{same, all_tell}
 use Rattle.signature.proofs.ClauseLaws.{premises_call, premise_calls}
 use Rattle.signature.proofs.functions.are_calls.Goals as goal
-
-pub returns-then-not-is_call : goal.returns-then-not-is_call
-returns-then-not-is_call c =
-    let row = c.args.rule.now in
-    let k = c.loop-reference.reference-index in
-    let n = part_length row 10 (10 + column row 4) (omega (arith, c.told-rule, c.requires)) in
-    let e = part_index row 10 (10 + column row 4) k (omega (arith, c.loop-reference-test.true)) in
-    λ text. tells_no (λ h. tells_false (c.is_call.ensures text) c.if-not-is_call.true (rw e (premise_calls (symbols_of text c.args.symbols.now (length c.args.symbols.now)) c.args.words.now row h k (omega (arith, c.loop-reference-test.true)))))
-
-pub loop-reference-preserved : goal.loop-reference-preserved
-loop-reference-preserved c =
-    let row = c.args.rule.now in
-    let k = c.loop-reference.reference-index in
-    let n = part_length row 10 (10 + column row 4) (omega (arith, c.told-rule, c.requires)) in
-    let e = part_index row 10 (10 + column row 4) k (omega (arith, c.loop-reference-test.true)) in
-    λ text. below_more (λ j. Calls (symbols_of text c.args.symbols.now (length c.args.symbols.now)) (term_of c.args.words.now (column row (10 + j)))) k (c.loop-reference.invariant text)
-    (rw e at (holds (c.is_call.ensures text) c.if-not-is_call.false-raw))
 
 pub returns : goal.returns
 returns c =
     let row = c.args.rule.now in
+    let words = c.args.words.now in
     let n = part_length row 10 (10 + column row 4) (omega (arith, c.told-rule, c.requires)) in
-    λ text. tells_yes (premises_call (symbols_of text c.args.symbols.now (length c.args.symbols.now)) c.args.words.now row (λ j l. c.loop-reference.invariant text j (omega (arith, c.loop-reference-test.false))))
+    λ text. let symbols = symbols_of text c.args.symbols.now (length c.args.symbols.now) in
+    same
+    (λ h. premises_call symbols words row (λ j (l : j < column row 4). rw (part_index row 10 (10 + column row 4) j (omega arith)) at (h j (omega arith))))
+    (λ h j (l : j < length (take (10 + column row 4 - 10) (drop 10 row))). rw (part_index row 10 (10 + column row 4) j (omega arith)) (premise_calls symbols words row h j (omega arith)))
+    (all_tell (λ r. Calls symbols (term_of words r)) 0 _ _ c.all.result c.all.ensures.ran (YieldsList-from_slice _ cc) (λ x b q e. (search rules, search rules)))

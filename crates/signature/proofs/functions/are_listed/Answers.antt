@@ -1,17 +1,22 @@
 -- `are_listed` meets its contract: each symbol's clauses are tested.
-use Rattle.std.proofs.Common.{length, arith, below_more}
-use Rattle.unifier.specs.Checking.{tells_yes, tells_no, tells_false}
+use Rattle.std.proofs.Common.{rules, ◌≡◌, ◌<◌, length, get_or, arith}
+use borrow.Author.Tests.{tests}
+use Rattle.std.specs.List.{range_with_len}
+use Rattle.std.proofs.lemmas.List.FromFn.{length-range_with_len, get_or-range_with_len}
+use Rattle.std.proofs.lemmas.Iterator.{YieldsList-from_range, serves_from_Range}
 use Rattle.signature.specs.Parts.{ClausesOf}
-use Rattle.signature.proofs.Laws.{holds}
+use Rattle.signature.proofs.Laws.{same, all_tell}
 use Rattle.signature.proofs.functions.are_listed.Goals as goal
 
-pub returns-then-not-are_clauses_of : goal.returns-then-not-are_clauses_of
-returns-then-not-are_clauses_of c =
-    λ text. tells_no (λ h. tells_false (c.are_clauses_of.ensures text) c.if-not-are_clauses_of.true (h c.loop-i.i (omega (arith, c.loop-i-test.true))))
-
-pub loop-i-preserved : goal.loop-i-preserved
-loop-i-preserved c =
-    λ text. below_more (ClausesOf text c.args.symbols.now (length c.args.symbols.now) c.args.rules.now c.args.words.now) c.loop-i.i (c.loop-i.invariant text) (holds (c.are_clauses_of.ensures text) c.if-not-are_clauses_of.false-raw)
+pub all-requires-clause-callable : goal.all-requires-clause-callable
+all-requires-clause-callable c = serves_from_Range (λ x q r. search (rules, tests)) (λ x h k. search (rules, tests))
 
 pub returns : goal.returns
-returns c = λ text. tells_yes (λ a l. c.loop-i.invariant text a (omega (arith, c.loop-i-test.false)))
+returns c =
+    let symbols = c.args.symbols.now in
+    let m = length symbols in
+    let n = length-range_with_len 0 m in
+    λ text. same
+    (λ h i (l : i < m). let e : get_or (range_with_len 0 m) i 0 ≡ i = omega (arith, get_or-range_with_len 0 m i 0 l) in rw e at (h i (omega arith)))
+    (λ h i (l : i < length (range_with_len 0 m)). let e : get_or (range_with_len 0 m) i 0 ≡ i = omega (arith, get_or-range_with_len 0 m i 0 (omega arith)) in rw e (h i (omega arith)))
+    (all_tell (ClausesOf text symbols m c.args.rules.now c.args.words.now) 0 _ _ c.all.result c.all.ensures.ran (YieldsList-from_range 0 m m (cc) (omega arith)) (λ x b q e. (search rules, search rules)))

@@ -8,19 +8,19 @@ use Rattle.unifier.specs.Checking.{tells_no}
 use Rattle.signature.proofs.ClauseLaws.{no_call, past_call, call_told}
 use Rattle.signature.proofs.functions.is_call.Goals as goal
 
-pub returns-then-reference-lt-ROOM : goal.returns-then-reference-lt-ROOM
-returns-then-reference-lt-ROOM c =
-    λ text. tells_no (λ h. no_call c.args.words.now c.args.reference (symbols_of text c.args.symbols.now (length c.args.symbols.now)) c.if-reference-lt-ROOM.true h)
+pub returns-then-reference-lt-PATTERN_ROOM : goal.returns-then-reference-lt-PATTERN_ROOM
+returns-then-reference-lt-PATTERN_ROOM c =
+    λ text. tells_no (λ h. no_call c.args.words.now c.args.reference (symbols_of text c.args.symbols.now (length c.args.symbols.now)) c.if-reference-lt-PATTERN_ROOM.true h)
 
 pub returns-in-Some : goal.returns-in-Some
 returns-in-Some c =
     let rows = c.args.symbols.now in
     let l : c.symbol_at.result < length rows = ltb-true _ _ (sym c.in-Some.ensures.lookup.0) in
     let e : c.in-Some.symbol.now ≡ row_at rows c.symbol_at.result = c.in-Some.ensures.lookup.1 ∙ get_d_any rows _ _ _ l in
-    λ text. rw e (call_told text c.args.words.now c.args.reference rows (length rows) c.symbol_at.result (le_refl _) c.if-reference-lt-ROOM.false c.symbol_at.ensures l)
+    λ text. rw e (call_told text c.args.words.now c.args.reference rows (length rows) c.symbol_at.result (le_refl _) c.if-reference-lt-PATTERN_ROOM.false c.symbol_at.ensures l)
 
 pub returns-in-None : goal.returns-in-None
 returns-in-None c =
     let rows = c.args.symbols.now in
     let l : length rows ≤ c.symbol_at.result = search (arith, c.in-None.ensures.lookup.0) in
-    λ text. tells_no (λ h. past_call text c.args.words.now c.args.reference rows (length rows) c.symbol_at.result (le_refl _) c.if-reference-lt-ROOM.false c.symbol_at.ensures l h)
+    λ text. tells_no (λ h. past_call text c.args.words.now c.args.reference rows (length rows) c.symbol_at.result (le_refl _) c.if-reference-lt-PATTERN_ROOM.false c.symbol_at.ensures l h)
