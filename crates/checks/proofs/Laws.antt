@@ -2,23 +2,18 @@
 use Prim.Native.Nat.{ℕ, ◌+◌, ◌≤◌, ◌<◌}
 use native.Mathlib.Omega.{arith}
 use mathlib.Core.Path.{◌≡◌, refl}
-use mathlib.Core.Bool.{Bool, false}
 use mathlib.Core.List.{List, []}
 use lib.Dec.{eqb}
 use lib.Bits.{bit_or, or_add_and, and_le_l, and_le_r}
 use lib.ListN.{get_or, length, get_or-eq_default}
 use borrow.Author.Count.{below_more}
 use borrow.Author.Tests.{eqb-true, eq-eqb}
-use Rattle.arena.specs.Cells.{cells, Reference}
 use Rattle.bindings.specs.Orders.{by_order}
 use Rattle.arena.specs.Rows.{Rows}
 use Rattle.bindings.specs.Tables.{Empty}
 use Rattle.bindings.specs.TableLaws.{column_past}
-use Rattle.bindings.specs.Stored.{Form}
-use Rattle.bindings.specs.Promises.{Tells, BindingsChecked}
-use Rattle.bindings.specs.Checking.{tells_no}
-use Rattle.checks.specs.ReadyLaws.{zeros_free}
-use Rattle.checks.specs.Ready.{ZeroRow, Joined, Zeros, Stored, Formed, FormTold, Ready, ReadyTold}
+use Rattle.bindings.specs.Promises.{Tells}
+use Rattle.checks.specs.Ready.{ZeroRow, Joined, Zeros}
 
 -- Rows that are zero below their number are zero.
 pub empty_rows : (rows : Rows) (i : ℕ) → length rows ≤ i → ((k : ℕ) → k < i → ZeroRow (get_or rows k [])) → Empty rows
@@ -75,40 +70,3 @@ seen_all {rows} {i} {seen} l m h = record {
   yes = λ e. record { lent = m; empty = empty_rows rows i l (h.yes (eqb-true seen 0 e)) };
   back = λ z. eq-eqb seen 0 (h.back (λ k n c. z.empty c k));
 }
-
--- What the tests told together
-
-pub form_stored : {N : ℕ} {w : List ℕ} {b : Rows} {variables used bound : ℕ} → Form N w b variables used bound → Stored N w variables used
-form_stored f = record { formed = f.words; few = f.few; low = f.low; lent = f.lent_words }
-
--- What `is_form` tells.
-module _ {N : ℕ} {w : List ℕ} {b m : Rows} {variables used bound : ℕ} where
-  pub form_no : (Formed N w b m variables used bound → ⊥) → FormTold N w b m m variables used bound false
-  form_no n = record { tells = tells_no n; kept = refl }
-
-  pub form_told : {m' : Rows} {answer : Bool} → Zeros m (N + used) → BindingsChecked N w b m m' variables used bound answer
-      → FormTold N w b m m' variables used bound answer
-  form_told z h = record {
-    tells = record { yes = λ e. record { form = h.tells.yes e; free = zeros_free z }; back = λ f. h.tells.back f.form };
-    kept = h.marks;
-  }
-
--- What `is_ready` tells.
-module _ {N : ℕ} {w : List ℕ} {b l m m' s : Rows} {variables used bound left right : ℕ} (kept : m' ≡ m) where
-  pub ready_no : (Ready N w b l m s variables used bound left right → ⊥) → ReadyTold N w b l m m' s variables used bound left right false
-  ready_no n = record { tells = tells_no n; kept = kept }
-
-  pub ready_told : {answer : Bool} → Formed N w b m variables used bound → Reference N (cells w) variables used left → Reference N (cells w) variables used right
-      → Zeros l (N + used) → Tells answer (Zeros s used) → ReadyTold N w b l m m' s variables used bound left right answer
-  ready_told f x y z h = record {
-    tells = record {
-      yes = λ e. record {
-        form = f.form;
-        left_refers = x;
-        right_refers = y;
-        scratch = record { links_free = zeros_free z; marks_free = f.free; stack_lent = (h.yes e).lent; stack_empty = (h.yes e).empty };
-      };
-      back = λ r. h.back (record { lent = r.scratch.stack_lent; empty = r.scratch.stack_empty });
-    };
-    kept = kept;
-  }

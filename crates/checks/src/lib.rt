@@ -9,7 +9,7 @@ ghost use Rattle.checks.specs.Ready.{FormTold, ReadyTold};
 use arena::Terms;
 use bindings::{StoredBindings, is_reference};
 pub use nodes::are_terms;
-pub use zeros::are_zero;
+pub use zeros::{are_zero, is_scratch_zero};
 
 // Whether words and bindings are in form and the marks are zero; these are left as they are.
 pub fn is_form(terms: Terms, bindings: StoredBindings, marks: &mut [[u32; 2]]) -> bool
@@ -26,7 +26,7 @@ pub fn is_form(terms: Terms, bindings: StoredBindings, marks: &mut [[u32; 2]]) -
 }
 
 // Whether storage and two references are what `unifier::unify` asks; the marks are left as they are.
-// Stays: of links, marks and stack the marks alone are written; a `Workspace` would ask for all three to be lent so.
+// Stays: only the marks are written; with a `Workspace` the contract would have to promise besides that links and stack are as before.
 pub fn is_ready(
     terms: Terms,
     bindings: StoredBindings,
@@ -39,17 +39,17 @@ pub fn is_ready(
     ensures { ReadyTold terms.entry.room terms.entry.words.now bindings.entry.rows.now links.now marks.old marks.new
         stack.now terms.entry.variables terms.entry.used bindings.entry.bound left right result }
 {
-    if !is_form(terms, bindings, marks) {
+    if !are_terms(terms) {
+        return false;
+    }
+    if !is_scratch_zero(terms.room, terms.used, links, marks, stack) {
+        return false;
+    }
+    if !bindings::check_bindings(terms, bindings, marks) {
         return false;
     }
     if !is_reference(terms, left) {
         return false;
     }
-    if !is_reference(terms, right) {
-        return false;
-    }
-    if !are_zero(links, (terms.room + terms.used) as usize) {
-        return false;
-    }
-    are_zero(stack, terms.used as usize)
+    is_reference(terms, right)
 }

@@ -1,5 +1,6 @@
 // Whether scratch is zero: its numbers are or-ed together, and looked at once.
 ghost use Rattle.bindings.specs.Promises.{Tells};
+ghost use Rattle.unifier.specs.Promises.{Scratch};
 ghost use Rattle.checks.specs.Ready.{Joined, Zeros};
 
 // Or-s a row to what was seen.
@@ -25,4 +26,25 @@ pub fn are_zero<const N: usize>(rows: &[[u32; N]], least: usize) -> bool
         seen = join(seen, row);
     }
     seen == 0
+}
+
+// Whether links, marks and stack are zero, and long enough for words of which `used` are in use, with room for `room` variables.
+// Stays: all three are only read here, and a `Workspace` would ask its callers to lend them for writing.
+pub fn is_scratch_zero(
+    room: u32,
+    used: u32,
+    links: &[[u32; 2]],
+    marks: &[[u32; 2]],
+    stack: &[[u32; 3]],
+) -> bool
+    ensures { Tells result (Scratch room used links.now marks.now stack.now) }
+{
+    let references = room as usize + used as usize;
+    if !are_zero(links, references) {
+        return false;
+    }
+    if !are_zero(marks, references) {
+        return false;
+    }
+    are_zero(stack, used as usize)
 }
