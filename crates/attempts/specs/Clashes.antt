@@ -1,6 +1,7 @@
 -- A clash that shows before anything is copied: the heads of a goal and a conclusion differ, or those of two arguments at the same place. Then they do not
 -- unify, whatever the conclusion's variables become.
-use Rattle.std.specs.Prelude.{ℕ, zero, suc, ◌+◌, ◌-◌, ◌/◌, ◌%◌, ◌≤◌, ◌<◌, ◌≡◌, refl, ◌≢◌, List, length}
+use Rattle.std.specs.Prelude.{ℕ, zero, suc, ◌+◌, ◌-◌, ◌/◌, ◌%◌, ◌≤◌, ◌<◌, ◌≡◌, refl, ◌≢◌, List, length, Option, Some}
+use Rattle.std.specs.Option.{MatchOption}
 use Rattle.std.proofs.Common.{arith, ◌∙◌, subst}
 use Rattle.std.proofs.Math.Path.{sym, ap}
 use Rattle.terms.specs.Term.{app, nil, cons, var, Term, Terms, Subst, sub, count, Below}
@@ -29,6 +30,17 @@ clash_fails c β g h ac bb bg bh k = go (unify c β g h) (unify_ok c β g h ac b
     go unfinished u = absurd u
     go fails u = refl
     go (unified β') u = let s = u.sound (full β') (full_solves β' u.acyclic) in absurd (k (full β') s.0 s.1.0)
+
+-- The bindings lead from the reference r to the node that is told, and else to a variable.
+abbrev pub LeadsTo : List ℕ → Rows → ℕ → ℕ → ℕ → ℕ → Option ℕ → Type 0
+LeadsTo words rows variables used bound r node =
+    MatchOption node ((q : ℕ) × (q < term_room) × Walked term_room words rows variables used bound r q)
+    (λ q. (term_room ≤ q) × Walked term_room words rows variables used bound r q)
+
+-- Where a node is told, they lead to it.
+pub led : {words : List ℕ} {rows : Rows} {variables used bound r q : ℕ} {node : Option ℕ} → LeadsTo words rows variables used bound r node → node ≡ Some q
+    → (term_room ≤ q) × Walked term_room words rows variables used bound r q
+led l e = rw e at l
 
 -- What comparing a goal's reference with a pattern's asks: a state and a pattern in form.
 pub record Comparable (pattern words : List ℕ) (rows : Rows) (variables used bound r s : ℕ) : Type 0 where

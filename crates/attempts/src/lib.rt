@@ -3,7 +3,10 @@
 
 ghost use Rattle.std.specs.Prelude.{◌≡◌, ◌+◌, ◌<◌, true};
 ghost use Rattle.resolution.specs.Search.{within, over};
-ghost use Rattle.attempts.specs.Clashes.{Comparable, Clashes};
+ghost use Rattle.arena.specs.Cells.{cells, Reference};
+ghost use Rattle.arena.specs.Copies.{term_room};
+ghost use Rattle.bindings.specs.Stored.{Form};
+ghost use Rattle.attempts.specs.Clashes.{LeadsTo, Comparable, Clashes};
 ghost use Rattle.unifier.specs.Lending.{SameBuffers};
 ghost use Rattle.attempts.specs.Promises.{Asked, Attempted, HeadAsked, HeadTried, BodyAsked, BodyTried};
 
@@ -25,7 +28,8 @@ pub struct Stored {
 }
 
 // A stored rule with the parts of storage that are lent with it: the words of the patterns, the references of its premises, and the places of its variables.
-// Stays: beside the words and the bindings, which are written while the rule is read.
+// The references of its premises are named only in contracts: what an attempt makes of them is told by `Attempted`, and its callers compute it.
+// Stays: the rule goes apart from words and bindings: it is read while these are written, and they have another owner.
 #[derive(Clone, Copy)]
 pub struct LentRule<'a> {
     pub pattern: &'a [u32],
@@ -70,6 +74,30 @@ pub enum Tried {
     Entered { counter: u32, bound: u32, used: u32 },
 }
 
+// The reference of the node that the bindings lead to from the goal; none where they lead to a variable.
+pub fn goal_node(words: &[u32], bindings: &[[u32; 2]], at: SearchState) -> Option<u32>
+    // The callers hold a goal and bindings in form.
+    requires form { Form term_room words.now bindings.now at.counter at.used at.bound }
+    requires refers { Reference term_room (cells words.now) at.counter at.used at.goal }
+    ensures { LeadsTo words.now bindings.now at.counter at.used at.bound at.goal result }
+{
+    let terms = Terms {
+        words,
+        room: TERM_ROOM,
+        variables: at.counter,
+        used: at.used,
+    };
+    let held = StoredBindings {
+        rows: bindings,
+        bound: at.bound,
+    };
+    let end = walk(terms, held, at.goal);
+    if end < TERM_ROOM {
+        return None;
+    }
+    Some(end)
+}
+
 // Whether two heads differ: where the bindings lead from the goal, and a pattern's, both nodes.
 fn heads_differ(
     pattern: &[u32],
@@ -84,20 +112,9 @@ fn heads_differ(
     if other < PATTERN_ROOM {
         return false;
     }
-    let terms = Terms {
-        words,
-        room: TERM_ROOM,
-        variables: at.counter,
-        used: at.used,
-    };
-    let held = StoredBindings {
-        rows: bindings,
-        bound: at.bound,
-    };
-    let end = walk(terms, held, at.goal);
-    if end < TERM_ROOM {
+    let Some(end) = goal_node(words, bindings, at) else {
         return false;
-    }
+    };
     let node = (end - TERM_ROOM) as usize;
     let from = (other - PATTERN_ROOM) as usize;
     words[node] != pattern[from]
@@ -118,20 +135,9 @@ pub fn clashes(
     if conclusion < PATTERN_ROOM {
         return false;
     }
-    let terms = Terms {
-        words,
-        room: TERM_ROOM,
-        variables: at.counter,
-        used: at.used,
-    };
-    let held = StoredBindings {
-        rows: bindings,
-        bound: at.bound,
-    };
-    let end = walk(terms, held, at.goal);
-    if end < TERM_ROOM {
+    let Some(end) = goal_node(words, bindings, at) else {
         return false;
-    }
+    };
     let node = (end - TERM_ROOM) as usize;
     let from = (conclusion - PATTERN_ROOM) as usize;
     let header = words[node];
@@ -233,7 +239,8 @@ fn try_body(
 }
 
 // One attempt: the goal with a rule, under the bindings that stand, with new variables from the counter on; where it takes more variables or words than
-// the search may use, it is refused. The premises' references are named only in the contract: what they become is `premise_at`, which `arena::moved_word` computes.
+// the search may use, it is refused. The premises' references are named only in the contract: what they become is `premise_at`, which `arena::moved_word`
+// computes.
 pub fn try_rule(
     rule: LentRule,
     words: &mut [u32],

@@ -35,6 +35,7 @@ pub struct Goal {
 }
 
 // The session's names as variables: the first four columns of each row.
+// Stays: tried with `variables.iter_mut().zip(names)`: what is written behind a `zip` is told by no law of the library, and `returns` did not close.
 fn copy_names(names: &[NameRow], variables: &mut [VariableRow])
     requires { length names.now ≤ length variables.old }
     ensures { (text : List ℕ) → variables_of text variables.new (length names.now)
@@ -79,6 +80,7 @@ pub fn compile(
 }
 
 // Writes the rows of a goal's new names, with variables from `counter` on.
+// Stays: tried with a `zip` as at `copy_names`, which did not close either.
 fn enter_names(variables: &[VariableRow], names: &mut [NameRow], counter: u32)
     requires { (length variables.now ≤ 64) × (length variables.now ≤ length names.old) × (counter + length variables.now ≤ term_room) }
     ensures { (i : ℕ) → i < length variables.now → row_at names.new i ≡ name_row (row_at variables.now i) (counter + i) }
@@ -91,7 +93,7 @@ fn enter_names(variables: &[VariableRow], names: &mut [NameRow], counter: u32)
 }
 
 // Copies a goal's words behind the used words of a session, and answers the goal's reference there.
-// Stays: the words behind those in use are written, so a part in use would not do.
+// Stays: lent the words from the used ones on alone, the caller would have to join what comes back to the words before, of which its contract speaks too.
 fn copy_goal(pattern: &[u32], goal: Goal, places: &[u32], words: &mut [u32], used: u32) -> u32
     requires { (Copyable pattern.now 0 goal.words places.now words.old term_room used 0) × (Movable places.now 0 pattern_room (term_room + used) goal.node) }
     ensures value { result ≡ moved places.now 0 pattern_room (term_room + used) goal.node }

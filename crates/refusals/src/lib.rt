@@ -97,8 +97,7 @@ impl From<Refusal> for u32 {
             Refusal::NoDeclaration => 0,
             Refusal::Storage => 1,
             Refusal::TextLength => 2,
-            Refusal::NotUtf8 => 3,
-            Refusal::OutsideDomain => 3,
+            Refusal::NotUtf8 | Refusal::OutsideDomain => 3,
             Refusal::UnexpectedCharacter => 4,
             Refusal::NumeralTooLarge => 5,
             Refusal::WordTooLong => 6,
@@ -139,6 +138,7 @@ impl From<Refusal> for u32 {
 }
 
 // The refusal of a text, and the line that it is about; 0: no line.
+// Stays: programs in C and document 01 have 0 for no line, and each use would only make that of it.
 #[derive(Clone, Copy, Debug, PartialEq, Eq)]
 pub struct Rejection {
     pub refusal: Refusal,

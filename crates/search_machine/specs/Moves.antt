@@ -1,6 +1,8 @@
 -- The machine's next states, and the number that falls with each.
 use Rattle.std.specs.Prelude.{ℕ, zero, suc, ◌+◌, ◌-◌, ◌*◌, Bool, false}
 use Rattle.arena.specs.Rows.{Rows}
+use Rattle.attempts.specs.declared.SearchLimits.{SearchLimits}
+use Rattle.attempts.specs.declared.SearchState.{SearchState}
 use Rattle.search_machine.specs.State.{frame_at}
 use Rattle.search_machine.specs.declared.Machine.{Machine}
 use Rattle.search_machine.specs.declared.Mode.{Mode}
@@ -75,6 +77,10 @@ to_start goal depth steps counter bound used =
       top = used;
       high = 0;
     }
+
+-- Where an attempt with the next rule starts.
+abbrev pub state_for : Machine → SearchLimits → SearchState
+state_for m limits = record { limits = limits; counter = m.counter; used = m.used; bound = m.bound; goal = m.goal }
 
 -- The frame of an application that is entered.
 abbrev pub frame_for : Machine → Frame

@@ -1,9 +1,9 @@
 -- The parts of a rule's row that are lent to an attempt are the references of its premises and the places of its variables.
 use Rattle.std.specs.Prelude.{ℕ, zero, suc, ◌+◌, ◌-◌, ◌≤◌, ◌≡◌, refl, length, take, drop}
-use Rattle.std.proofs.Common.{arith, ap, sym, ◌∙◌, subst, drop-cons}
+use Rattle.std.proofs.Common.{arith, ap, sym, ◌∙◌, drop-cons}
 use Rattle.std.proofs.Math.Path.{ap₂}
 use mathlib.Core.List.{List, ◌∷◌}
-use Rattle.arena.specs.Copies.{pattern_room, term_room, moved, Movable}
+use Rattle.arena.specs.Copies.{pattern_room, term_room, moved}
 use Rattle.arena.specs.Rows.{Rows}
 use Rattle.names.specs.Symbols.{column, columns, row_at}
 use Rattle.rules.specs.StoredRows.{heads_in, places_in, stored_in}
@@ -23,41 +23,26 @@ from_columns row j (suc n) l =
 pub part_columns : (row : List ℕ) (j n : ℕ) → j + n ≤ length row → take (j + n - j) (drop j row) ≡ columns row j n
 part_columns row j n l = let e : j + n - j ≡ n = omega arith in ap (λ (k : ℕ). take k (drop j row)) e ∙ from_columns row j n l
 
+-- The places of a rule's variables are the part of its row that is lent.
+pub places_lent : (row : List ℕ) → column row 3 ≤ 64 → length row ≡ 154 → take (90 + column row 3 - 90) (drop 90 row) ≡ places_in row
+places_lent row few long = part_columns row 90 (column row 3) (omega arith)
+
 module _ {most limit : ℕ} {pattern : List ℕ} {rules : Rows} {words : List ℕ} {rows links marks stack : Rows} {counter used bound goal r : ℕ}
     (asked : RowAsked most limit pattern rules words rows links marks stack counter used bound goal r)
     (long : length (row_at rules r) ≡ 154) where
   heads_lent : take (10 + column (row_at rules r) 4 - 10) (drop 10 (row_at rules r)) ≡ heads_in (row_at rules r)
   heads_lent = let a = asked.premises in part_columns (row_at rules r) 10 (column (row_at rules r) 4) (omega arith)
 
-  places_lent : take (90 + column (row_at rules r) 3 - 90) (drop 90 (row_at rules r)) ≡ places_in (row_at rules r)
-  places_lent = let a = asked.variables in part_columns (row_at rules r) 90 (column (row_at rules r) 3) (omega arith)
-
-  module _ {stored : Stored} (is : stored ≡ stored_in (row_at rules r)) where
-    pub parts_asked : Asked most limit pattern (take (10 + column (row_at rules r) 4 - 10) (drop 10 (row_at rules r)))
-        (take (90 + column (row_at rules r) 3 - 90) (drop 90 (row_at rules r))) stored words rows links marks stack counter used bound goal
-    parts_asked =
-        subst (λ (s : Stored). Asked most limit pattern (take (10 + column (row_at rules r) 4 - 10) (drop 10 (row_at rules r)))
-        (take (90 + column (row_at rules r) 3 - 90) (drop 90 (row_at rules r))) s words rows links marks stack counter used bound goal)
-        (sym is)
-        (subst (λ (p : List ℕ). Asked most limit pattern (take (10 + column (row_at rules r) 4 - 10) (drop 10 (row_at rules r))) p
-        (stored_in (row_at rules r)) words rows links marks stack counter used bound goal) (sym places_lent)
-        (subst (λ (p : List ℕ). Asked most limit pattern p (places_in (row_at rules r))
-        (stored_in (row_at rules r)) words rows links marks stack counter used bound goal) (sym heads_lent) asked.asked))
+  module _ {places : List ℕ} {stored : Stored} (lent : places ≡ places_in (row_at rules r)) (is : stored ≡ stored_in (row_at rules r)) where
+    pub parts_asked : Asked most limit pattern (take (10 + column (row_at rules r) 4 - 10) (drop 10 (row_at rules r))) places stored words rows
+        links marks stack counter used bound goal
+    parts_asked = rw (is, lent, heads_lent) asked.asked
 
     pub parts_tried : {words' : List ℕ} {rows' links' marks' stack' : Rows} {answer : Attempt}
-        → Attempted most limit pattern (take (10 + column (row_at rules r) 4 - 10) (drop 10 (row_at rules r)))
-        (take (90 + column (row_at rules r) 3 - 90) (drop 90
-        (row_at rules r))) stored words words' rows rows' links links' marks marks' stack stack' counter used bound goal answer
+        → Attempted most limit pattern (take (10 + column (row_at rules r) 4 - 10) (drop 10 (row_at rules r))) places stored words words' rows rows'
+        links links' marks marks' stack stack' counter used bound goal answer
         → RowTried most limit pattern rules words words' rows rows' links links' marks marks' stack stack' counter used bound goal r answer
-    parts_tried {words'} {rows'} {links'} {marks'} {stack'} {answer} h =
-        subst (λ (p : List ℕ). Attempted most limit pattern p (places_in (row_at rules r))
-        (stored_in (row_at rules r)) words words' rows rows' links links' marks marks' stack stack' counter used bound goal answer) heads_lent
-        (subst (λ (p : List ℕ). Attempted most limit pattern (take (10 + column (row_at rules r) 4 - 10) (drop 10 (row_at rules r))) p
-        (stored_in (row_at rules r)) words words' rows rows' links links' marks marks' stack stack' counter used bound goal answer)
-        places_lent
-        (subst (λ (s : Stored). Attempted most limit pattern (take (10 + column (row_at rules r) 4 - 10) (drop 10 (row_at rules r)))
-        (take (90 + column (row_at rules r) 3 - 90) (drop 90
-        (row_at rules r))) s words words' rows rows' links links' marks marks' stack stack' counter used bound goal answer) is h))
+    parts_tried h = rw (is, lent, heads_lent) at h
 
 -- What was tried with a workspace was tried with the buffers that it was made of.
 pub tried_lent : {most limit : ℕ} {pattern premises places : List ℕ} {stored : Stored} {words words' : List ℕ} {rows rows' links links' links'' marks marks' marks'' stack stack' stack'' : Rows}
@@ -66,25 +51,12 @@ pub tried_lent : {most limit : ℕ} {pattern premises places : List ℕ} {stored
     → Attempted most limit pattern premises places stored words words' rows rows' links links'' marks marks'' stack stack'' counter used bound goal answer
 tried_lent p q o h = rw (p, q, o) h
 
--- The word of a premise, moved by the part of the row that has the places.
-module _ {rules : Rows} {x : Frame} {k : ℕ} (asked : PremiseAsked rules x k) (long : length (row_at rules x.rule) ≡ 154) where
-  moving_places : take (90 + column (row_at rules x.rule) 3 - 90) (drop 90 (row_at rules x.rule)) ≡ places_in (row_at rules x.rule)
-  moving_places = let a = asked.variables in part_columns (row_at rules x.rule) 90 (column (row_at rules x.rule) 3) (omega arith)
-
-  pub premise_lent : Movable (take (90 + column (row_at rules x.rule) 3 - 90) (drop 90 (row_at rules x.rule))) x.counter
-      (pattern_room + column (row_at rules x.rule) 6)
-      (term_room + (x.used + column (row_at rules x.rule) 8)) (column (row_at rules x.rule) (10 + k))
-  premise_lent =
-      subst (λ (p : List ℕ). Movable p x.counter (pattern_room + column (row_at rules x.rule) 6)
-      (term_room + (x.used + column (row_at rules x.rule) 8)) (column (row_at rules x.rule) (10 + k)))
-      (sym moving_places) asked.movable
-
-  pub premise_is : {r : ℕ} → r ≡ moved (take (90 + column (row_at rules x.rule) 3 - 90) (drop 90 (row_at rules x.rule))) x.counter
-      (pattern_room + column (row_at rules x.rule) 6)
-      (term_room + (x.used + column (row_at rules x.rule) 8)) (column (row_at rules x.rule) (10 + k))
-      → r ≡ premise_ref rules x k
-  unfolding premise_ref
-  premise_is e =
-      e ∙ ap₂ (λ (p : List ℕ) (w : ℕ). moved p x.counter (pattern_room + column (row_at rules x.rule) 6)
-      (term_room + (x.used + column (row_at rules x.rule) 8)) w)
-      moving_places (sym asked.premise)
+-- The word of a premise, moved by the places.
+pub premise_is : {rules : Rows} {x : Frame} {k r : ℕ} {places : List ℕ} → PremiseAsked rules x k → places ≡ places_in (row_at rules x.rule)
+    → r ≡ moved places x.counter (pattern_room + column (row_at rules x.rule) 6) (term_room + (x.used + column (row_at rules x.rule) 8))
+    (column (row_at rules x.rule) (10 + k))
+    → r ≡ premise_ref rules x k
+unfolding premise_ref
+premise_is {rules} {x} {k} asked lent e =
+    e ∙ ap₂ (λ (p : List ℕ) (w : ℕ). moved p x.counter (pattern_room + column (row_at rules x.rule) 6)
+    (term_room + (x.used + column (row_at rules x.rule) 8)) w) lent (sym asked.premise)

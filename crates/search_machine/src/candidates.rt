@@ -5,31 +5,21 @@ ghost use Rattle.names.specs.Symbols.{column, row_at};
 ghost use Rattle.attempts.specs.Clashes.{Clashes};
 ghost use Rattle.search_machine.specs.Choosing.{Goal, Heads, Readable, Differs, Judged, Choosing, Chosen};
 
+use super::columns::{BODY, CONCLUSION, HEAD, MET};
 use super::{Machine, Mode, Program, Store};
-use arena::{PATTERN_ROOM, TERM_ROOM, Terms};
-use attempts::{SearchState, clashes};
-use bindings::{StoredBindings, walk};
+use arena::{PATTERN_ROOM, TERM_ROOM};
+use attempts::{clashes, goal_node};
 
 // The header that the bindings lead to from the goal; none where they lead to a variable.
-fn goal_header(store: &Store, m: Machine) -> Option<u32>
+fn goal_header(program: Program, store: &Store, m: Machine) -> Option<u32>
     requires { Goal store.now.words.now store.now.bindings.now m.counter m.used m.bound m.goal }
     ensures { IfSome result (Heads store.now.words.now store.now.bindings.now m.counter m.used m.bound m.goal) }
 {
-    let terms = Terms {
-        words: store.words,
-        room: TERM_ROOM,
-        variables: m.counter,
-        used: m.used,
-    };
-    let held = StoredBindings {
-        rows: store.bindings,
-        bound: m.bound,
-    };
-    let end = walk(terms, held, m.goal);
-    if end < TERM_ROOM {
+    let at = m.state(program.allowed.limits);
+    let Some(node) = goal_node(store.words, store.bindings, at) else {
         return None;
-    }
-    Some(store.words[(end - TERM_ROOM) as usize])
+    };
+    Some(store.words[(node - TERM_ROOM) as usize])
 }
 
 // Whether the conclusion of a rule may unify with a goal that leads to this header: a node with another one cannot.
@@ -40,7 +30,7 @@ fn may_unify(program: Program, header: Option<u32>, rule: u32) -> bool
     let Some(header) = header else {
         return true;
     };
-    let conclusion = program.rules[rule as usize][5];
+    let conclusion = program.rules[rule as usize][CONCLUSION];
     if conclusion < PATTERN_ROOM {
         return true;
     }
@@ -56,14 +46,8 @@ fn is_candidate(program: Program, store: &Store, m: Machine, header: Option<u32>
     if !may_unify(program, header, rule) {
         return false;
     }
-    let conclusion = program.rules[rule as usize][5];
-    let at = SearchState {
-        limits: program.allowed.limits,
-        counter: m.counter,
-        used: m.used,
-        bound: m.bound,
-        goal: m.goal,
-    };
+    let conclusion = program.rules[rule as usize][CONCLUSION];
+    let at = m.state(program.allowed.limits);
     !clashes(program.pattern, store.words, store.bindings, at, conclusion)
 }
 
@@ -72,16 +56,16 @@ pub fn next_candidate(program: Program, store: &Store, m: Machine) -> Machine
     requires { Choosing program.allowed program.pattern.now program.rules.now store.now.words.now store.now.bindings.now m }
     ensures { Chosen program.entry.allowed program.entry.pattern.now program.entry.rules.now store.now.words.now store.now.bindings.now m result }
 {
-    let header = goal_header(store, m);
+    let header = goal_header(program, store, m);
     let mut counter = m.counter;
     for rule in m.rule..program.allowed.rules {
         let row = &program.rules[rule as usize];
-        let head = m.used + row[8];
+        let head = m.used + row[HEAD];
         if is_candidate(program, store, m, header, rule) {
-            let top = m.top.max(head + row[7]);
+            let top = m.top.max(head + row[BODY]);
             return m.at_rule(rule, counter, top);
         }
-        let met = counter + row[9];
+        let met = counter + row[MET];
         if program.allowed.limits.exceeds(met, head) {
             return m
                 .at_rule(rule, counter, m.top)

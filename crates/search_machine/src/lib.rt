@@ -7,6 +7,7 @@
 #![tactic(auto)]
 
 mod candidates; // the rules that a goal passes over
+mod columns; // the columns of a rule's row
 mod frames; // one row for each rule that is entered
 mod moves; // the machine's next states
 mod stored; // what an attempt reads in a rule's row
@@ -15,7 +16,7 @@ ghost use Rattle.std.specs.Prelude.{◌≡◌, ◌<◌, true, false, length};
 ghost use Rattle.search_machine.specs.Promises.{Moved, Seen, Known, Choice, Live, Stopped};
 ghost use Rattle.search_machine.specs.State.{frame_at};
 ghost use Rattle.search_machine.specs.Groups.{ReadyIn, SteppedIn, ReturnedIn, SearchedIn, IsLent};
-ghost use Rattle.search_machine.specs.declared.Mode.TheVariants.{Enter, Try, Fail};
+ghost use Rattle.search_machine.specs.declared.Mode.TheVariants.{Try};
 
 use attempts::{SearchLimits, Tried};
 use bindings::undo;
@@ -24,7 +25,9 @@ pub use frames::Frame;
 use rules::RuleRow;
 use stored::{arity_of, premise, try_stored};
 
-// What the search may use: variables of the session and words, and frames; and how many rules there are.
+// What the search may use: variables of the session and words, and frames; and how many rules there are. The number of frames is named only in contracts:
+// so many rows are lent, and the steps left do not outnumber those that are free.
+// Stays: `rules` counts the used part of a table; with that part lent, each promise of a rule's row would be carried over from the part to the table.
 #[derive(Clone, Copy)]
 pub struct Allowed {
     pub limits: SearchLimits,
@@ -94,7 +97,7 @@ impl Mode {
 pub struct Machine {
     pub mode: Mode,
     // The place: the application, counted from 1, and the number of its premise; application 0 is the top.
-    // Stays: a row of a frame, which C callers lend, holds the application as such a number.
+    // Stays: so the number goes into a frame's row as it is; with an option both `From` of `Frame` would convert it at each frame.
     pub parent: u32,
     pub place: u32,
     // How many applications there are.
@@ -195,7 +198,7 @@ fn back(allowed: Allowed, store: &mut Store, m: Machine) -> Machine
 }
 
 // One step of the machine.
-// Stays: the program is read, the store written, and the state comes in and goes out by value; as one struct, each step would have to promise besides that the program stands.
+// Stays: the program is read, the store written, and the state goes by value; as one struct, each step would promise besides that the program stands.
 fn step(program: Program, store: &mut Store, m: Machine) -> Machine
     requires ready { ReadyIn program store.old m }
     requires live { Live m.mode }

@@ -1,14 +1,18 @@
 // What an attempt reads in a rule's row.
-ghost use Rattle.std.specs.Prelude.{◌≡◌, ◌<◌, length};
-ghost use Rattle.rules.specs.StoredRows.{stored_in};
+ghost use Rattle.std.specs.Prelude.{◌≡◌, ◌≤◌, ◌<◌, length};
+ghost use Rattle.names.specs.Symbols.{column};
+ghost use Rattle.rules.specs.StoredRows.{places_in, stored_in};
 ghost use Rattle.search_machine.specs.Storage.{PremiseAsked};
 ghost use Rattle.search_machine.specs.Groups.{AskedIn, TriedIn, IsLent};
 ghost use Rattle.search_machine.specs.State.{arity, premise_ref};
 
+use super::columns::{
+    BODY, CONCLUSION, FIRST_PLACE, FIRST_PREMISE, FIRST_WORD, HEAD, MET, PREMISES, VARIABLES,
+};
 use super::frames::Frame;
 use super::{Machine, Program, Store};
 use arena::{PATTERN_ROOM, TERM_ROOM, moved_word};
-use attempts::{LentRule, SearchState, Stored, Tried, try_rule};
+use attempts::{LentRule, Stored, Tried, try_rule};
 use refusals::Refusal;
 use rules::RuleRow;
 use unifier::Workspace;
@@ -19,12 +23,12 @@ fn stored_in(row: &RuleRow) -> Stored
     ensures { result ≡ stored_in row.now }
 {
     Stored {
-        from: row[6],
-        head: row[8],
-        body: row[7],
-        conclusion: row[5],
-        met: row[9],
-        variables: row[3],
+        from: row[FIRST_WORD],
+        head: row[HEAD],
+        body: row[BODY],
+        conclusion: row[CONCLUSION],
+        met: row[MET],
+        variables: row[VARIABLES],
     }
 }
 
@@ -34,7 +38,16 @@ pub fn arity_of(rules: &[RuleRow], rule: u32) -> u32
     requires { rule < length rules.now }
     ensures { result ≡ arity rules.now rule }
 {
-    rules[rule as usize][4]
+    rules[rule as usize][PREMISES]
+}
+
+// The places of a rule's variables: the part of its row that has them.
+fn places(row: &RuleRow) -> &[u32]
+    requires { column row.now 3 ≤ 64 }
+    ensures { result.now ≡ places_in row.now }
+{
+    let end = FIRST_PLACE + row[VARIABLES] as usize;
+    &row[FIRST_PLACE..end]
 }
 
 // The reference of a premise of an application.
@@ -43,11 +56,10 @@ pub fn premise(rules: &[RuleRow], x: Frame, place: u32) -> u32
     ensures { result ≡ premise_ref rules.now x place }
 {
     let row = &rules[x.rule as usize];
-    let end = 90 + row[3] as usize;
-    let at = 10 + place as usize;
-    let first = PATTERN_ROOM + row[6];
-    let base = TERM_ROOM + (x.used + row[8]);
-    moved_word(row[at], &row[90..end], x.counter, first, base)
+    let at = FIRST_PREMISE + place as usize;
+    let first = PATTERN_ROOM + row[FIRST_WORD];
+    let base = TERM_ROOM + (x.used + row[HEAD]);
+    moved_word(row[at], places(row), x.counter, first, base)
 }
 
 // One attempt with the rule that a state has come to.
@@ -59,25 +71,18 @@ pub fn try_stored(program: Program, store: &mut Store, m: Machine) -> Result<Tri
 {
     let row = &program.rules[m.rule as usize];
     let stored = stored_in(row);
-    let heads = 10 + row[4] as usize;
-    let places = 90 + row[3] as usize;
+    let heads = FIRST_PREMISE + row[PREMISES] as usize;
     let rule = LentRule {
         pattern: program.pattern,
-        premises: &row[10..heads],
-        places: &row[90..places],
+        premises: &row[FIRST_PREMISE..heads],
+        places: places(row),
         stored,
-    };
-    let at = SearchState {
-        limits: program.allowed.limits,
-        counter: m.counter,
-        used: m.used,
-        bound: m.bound,
-        goal: m.goal,
     };
     let mut workspace = Workspace {
         links: store.links,
         marks: store.marks,
         stack: store.stack,
     };
+    let at = m.state(program.allowed.limits);
     try_rule(rule, store.words, store.bindings, &mut workspace, at)
 }

@@ -8,10 +8,8 @@ ghost use Rattle.session_check.specs.Parts.{SessionCounted};
 use arena::TERM_ROOM;
 use sessions::StoredSession;
 
-// Document 01's limits: names in a session, its variables and its words.
-const NAMES: u32 = 64;
-
-const VARIABLES: u32 = 65536;
+// Document 01's limits: names in a session, and its words. For its variables words have `TERM_ROOM`.
+pub const NAMES: usize = 64;
 
 const WORDS: u32 = 262144;
 
@@ -35,7 +33,7 @@ impl Lengths {
         let capped = limits.capped();
         let most = capped.words as usize;
         let references = TERM_ROOM as usize + most;
-        self.names < NAMES as usize
+        self.names < NAMES
             || self.words < most
             || self.bindings < capped.variables as usize
             || self.links < references
@@ -49,8 +47,8 @@ pub fn is_counted(session: StoredSession) -> bool
     ensures { Tells result (SessionCounted session.entry.counts (length session.entry.words.now)) }
 {
     let counts = session.counts;
-    counts.names <= NAMES
-        && counts.variables <= VARIABLES
+    counts.names as usize <= NAMES
+        && counts.variables <= TERM_ROOM
         && counts.bound <= counts.variables
         && counts.words <= WORDS
         && counts.words as usize <= session.words.len()

@@ -7,7 +7,6 @@
 mod lengths; // lengths and counts
 mod naming; // the rows of names
 mod nodes; // words over the signature's arities
-mod scratch; // scratch that is zero
 
 ghost use Rattle.std.specs.Prelude.{◌≤◌, length};
 ghost use Rattle.sessions.specs.Storage.{part_in};
@@ -15,17 +14,17 @@ ghost use Rattle.session_check.specs.Parts.{SessionChecked};
 
 use arena::{TERM_ROOM, Terms};
 use bindings::StoredBindings;
+use checks::is_scratch_zero;
 pub use lengths::Lengths;
 use lengths::is_counted;
-use naming::{Known, are_names_listed};
+use naming::{NameBounds, are_names_listed};
 use nodes::are_words_formed;
-use scratch::is_scratch_zero;
 use sessions::StoredSession;
 use signature::StoredSignature;
 
 // Is a session's storage in form, lent as the limits ask, with zero scratch? Every entry point that is lent one asks this before it
 // writes. The marks are left as they are.
-// Stays: of links, marks and stack the marks alone are written; a `Workspace` would ask for all three to be lent so.
+// Stays: only the marks are written; with a `Workspace` the contract would have to promise besides that links and stack are as before.
 pub fn check_session(
     text: &[u8],
     limits: words::Limits,
@@ -56,11 +55,11 @@ pub fn check_session(
         return false;
     }
     let names = &session.names[..counts.names as usize];
-    let known = Known {
+    let bounds = NameBounds {
         sorts: signature.counts.sorts,
         variables: counts.variables,
     };
-    if !are_names_listed(text, names, known) {
+    if !are_names_listed(text, names, bounds) {
         return false;
     }
     let symbols = &signature.symbols[..signature.counts.symbols as usize];
@@ -73,7 +72,7 @@ pub fn check_session(
     if !are_words_formed(symbols, terms) {
         return false;
     }
-    if !is_scratch_zero(terms, links, marks, stack) {
+    if !is_scratch_zero(TERM_ROOM, counts.words, links, marks, stack) {
         return false;
     }
     let held = StoredBindings {
