@@ -20,8 +20,8 @@ use Rattle.evaluation.specs.Matching.{Fitted, misfit, fitted, if_fitted, bind_of
 use Rattle.clause_matching.specs.Stored.{Holds, pattern_at, value_at}
 use Rattle.clause_matching.specs.Matching.{Says, Matched, BindAsked}
 use Rattle.clause_matching.specs.Choice.{Referable, pattern_from, patterns_from, ApartAsked, conclusion_in, values_of, fit_of, ConclusionIn, ClauseAsked, Chosen}
-use Rattle.clause_matching.specs.declared.choice.Pattern.{Pattern}
-use Rattle.clause_matching.specs.declared.choice.Pattern.TheVariants.{Variable, Node}
+use Rattle.clause_matching.specs.declared.references.Pattern.{Pattern}
+use Rattle.clause_matching.specs.declared.references.Pattern.TheVariants.{Variable, Node}
 use Rattle.clause_matching.proofs.BindTurns.{says_false, says_true}
 
 -- No clause before i fits.

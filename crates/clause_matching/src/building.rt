@@ -3,6 +3,7 @@ ghost use Rattle.std.specs.Prelude.{suc, ◌+◌, ◌≤◌, ◌<◌, length};
 ghost use Rattle.arena.specs.Copies.{pattern_room};
 ghost use Rattle.clause_matching.specs.Building.{Pushed, InstantiateAsked, Instantiated, ArgumentsAsked, ArgumentsBuilt};
 
+use super::references::{Pattern, pattern_at};
 use arena::{PATTERN_ROOM, SYMBOL_STEP};
 use refusals::Refusal;
 
@@ -99,17 +100,21 @@ pub fn instantiate(
     requires { InstantiateAsked pattern.now reference environment.now words.old room.used room.limit stack.old }
     ensures { Instantiated pattern.now reference environment.now words.old room.used room.limit result words.new }
 {
-    if reference < PATTERN_ROOM {
-        let entry = environment[reference as usize];
-        if entry == 0 {
-            return Err(Refusal::Unbound);
+    match pattern_at(pattern, reference) {
+        Pattern::Variable { index } => {
+            let entry = environment[index as usize];
+            if entry == 0 {
+                return Err(Refusal::Unbound);
+            }
+            Ok(Built {
+                value: entry - 1,
+                used: room.used,
+            })
         }
-        return Ok(Built {
-            value: entry - 1,
-            used: room.used,
-        });
+        Pattern::Node { header: _, first: _ } => {
+            instantiate_node(pattern, reference, environment, words, room, stack)
+        }
     }
-    instantiate_node(pattern, reference, environment, words, room, stack)
 }
 
 // The arguments of a pattern's node, `count` of them from the address `first` on, built from left to right: how many words are then used. Their references go to `values`.

@@ -1,35 +1,12 @@
 // The clause of a function that fits values: part of the Rust's `Evaluator::call`.
 ghost use Rattle.std.specs.Prelude.{◌≡◌, true, ◌<◌, length};
-ghost use Rattle.arena.specs.Copies.{pattern_room};
 ghost use Rattle.terms.specs.Bindings.{start};
 ghost use Rattle.evaluation.specs.Matching.{misfit, bind_of};
-ghost use Rattle.clause_matching.specs.Choice.{pattern_from, patterns_from, values_of, Referable, ApartAsked, ClauseAsked, Chosen};
+ghost use Rattle.clause_matching.specs.Choice.{patterns_from, values_of, ApartAsked, ClauseAsked, Chosen};
 
 use super::matching::{Values, bind};
-use arena::PATTERN_ROOM;
+use super::references::{Pattern, pattern_at};
 use rules::RuleRow;
-
-// A stored pattern: a variable, or a node by its header and the address of its first argument.
-#[derive(Clone, Copy)]
-pub enum Pattern {
-    Variable { index: u32 },
-    Node { header: u32, first: u32 },
-}
-
-// The pattern of a reference.
-pub fn pattern_at(pattern: &[u32], reference: u32) -> Pattern
-    requires { Referable pattern.now reference }
-    ensures { result ≡ pattern_from pattern.now reference }
-{
-    if reference < PATTERN_ROOM {
-        return Pattern::Variable { index: reference };
-    }
-    let address = reference - PATTERN_ROOM;
-    Pattern::Node {
-        header: pattern[address as usize],
-        first: address + 1,
-    }
-}
 
 // Is the first pattern, whose reference stands at an address, a node of another symbol than the first value? Then the patterns do not fit.
 fn is_apart(pattern: &[u32], base: usize, words: &[u32], values: &[u32]) -> bool
@@ -40,11 +17,10 @@ fn is_apart(pattern: &[u32], base: usize, words: &[u32], values: &[u32]) -> bool
     if values.len() == 0 {
         return false;
     }
-    let reference = pattern[base];
-    if reference < PATTERN_ROOM {
-        return false;
+    match pattern_at(pattern, pattern[base]) {
+        Pattern::Variable { index: _ } => false,
+        Pattern::Node { header, first: _ } => header != words[values[0] as usize],
     }
-    pattern[(reference - PATTERN_ROOM) as usize] != words[values[0] as usize]
 }
 
 // The clauses of a function: the rules from one on up to another, and the words of their patterns.

@@ -28,8 +28,8 @@ use Rattle.std.specs.Prelude.{Result, Err}
 use Rattle.refusals.specs.declared.Refusal.{Refusal}
 use Rattle.refusals.specs.Refusals.{number_of}
 use Rattle.clause_matching.specs.declared.building.Built.{Built as Reply}
-use Rattle.clause_matching.specs.declared.choice.Pattern.{Pattern}
-use Rattle.clause_matching.specs.declared.choice.Pattern.TheVariants.{Variable, Node}
+use Rattle.clause_matching.specs.declared.references.Pattern.{Pattern}
+use Rattle.clause_matching.specs.declared.references.Pattern.TheVariants.{Variable, Node}
 use Rattle.function_calls.specs.declared.calls.Outcome.{Outcome}
 use Rattle.clause_matching.proofs.Open.{args_count}
 use Rattle.clause_matching.proofs.Forming.{FormsKept, ok_is}
