@@ -103,6 +103,9 @@ module _ {rules : Rows} {pattern : List ℕ} {from end : ℕ} {values words : Li
         let f = p.formed.fits address (omega arith) (p.root.header c) in
         let a = conclusion.inputs in omega arith
 
+    pub part_inside : (base : ℕ) → base ≡ suc address → base + length values ≤ length pattern
+    part_inside base b = let n = inside in let w = conclusion.patterned.within in omega arith
+
     pub is_no_variable : (r : Pattern) (x : ℕ) → r ≡ pattern_from pattern (conclusion_in rules i) → r ≡ Variable x → ⊥
     is_no_variable r x e q = let e' = e ∙ is_node in let w : ◌≡◌ {A = ℕ} 0 1 = cc in let z : ⊥ = omega arith in z
 

@@ -3,7 +3,8 @@ use Prim.Native.Nat.{ℕ, ◌+◌, ◌-◌, ◌≤◌, ◌<◌}
 use native.Mathlib.Omega.{arith}
 use mathlib.Core.Path.{◌≡◌, sym, ◌∙◌}
 use mathlib.Core.List.{List}
-use lib.ListN.{length}
+use lib.ListN.{length, get_or, take, drop, length-drop}
+use lib.Seq.{get_or-take, get_or-drop, length-take-le}
 use Rattle.terms.specs.Numbers.{by_less}
 use Rattle.arena.specs.Cells.{headers, cells}
 use Rattle.arena.specs.Copies.{pattern_room}
@@ -33,3 +34,15 @@ in_storage {pattern} {size} {reference} p = (
   by_less reference pattern_room (λ l t. let z : reference < headers = omega arith in z)
       (λ l t. let n = p.root.node l in let b = p.low in let z : reference < headers = omega arith in z),
 )
+
+-- The part of n references from an address on, as it is lent.
+pub part_long : (pattern : List ℕ) (first n : ℕ) → first + n ≤ length pattern → length (take (first + n - first) (drop first pattern)) ≡ n
+part_long pattern first n l =
+    let e : first + n - first ≡ n = omega arith in
+    let d = length-drop first pattern in
+    rw e (length-take-le n (drop first pattern) (omega arith))
+
+pub part_cell : (pattern : List ℕ) (first n k : ℕ) → k < n → get_or (take (first + n - first) (drop first pattern)) k 0 ≡ cells pattern (first + k)
+part_cell pattern first n k l =
+    let e : first + n - first ≡ n = omega arith in
+    rw e (get_or-take n (drop first pattern) k 0 l) ∙ get_or-drop first pattern k 0

@@ -24,6 +24,7 @@ fn is_apart(pattern: &[u32], base: usize, words: &[u32], values: &[u32]) -> bool
 }
 
 // The clauses of a function: the rules from one on up to another, and the words of their patterns.
+// Stays: lent as a part of the rules, they would need their first one's number beside them still, as the answer is a rule's number among all.
 #[derive(Clone, Copy)]
 pub struct Clauses<'a> {
     pub rules: &'a [RuleRow],
@@ -46,6 +47,7 @@ pub fn find_clause(
     ensures { Chosen clauses.entry.rules.now clauses.entry.pattern.now clauses.entry.from clauses.entry.end arguments.now
         values.entry.words.now values.entry.used environment.old links.old result environment.new links.new }
 {
+    // Stays: docs/DECISIONS.md, "Forms", asks for an outer loop over clauses with a label, by which the inner one goes on where a pattern does not fit.
     'clauses: for i in clauses.from..clauses.end {
         let Pattern::Node { header: _, first } = pattern_at(clauses.pattern, clauses.rules[i][5])
         else {
@@ -56,13 +58,13 @@ pub fn find_clause(
             continue 'clauses;
         }
         environment.fill(0);
-        for k in 0..arguments.len() {
-            let reference = clauses.pattern[base + k];
+        let patterns = &clauses.pattern[base..base + arguments.len()];
+        for (reference, argument) in patterns.iter().zip(arguments) {
             if !bind(
                 clauses.pattern,
-                reference,
+                *reference,
                 values,
-                arguments[k],
+                *argument,
                 environment,
                 links,
                 stack,

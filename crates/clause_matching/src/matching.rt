@@ -64,6 +64,7 @@ fn bind_node(
         match waiting {
             Some((next, other)) => {
                 waiting = None;
+                // Stays: with `pattern_at` here, a `let .. else` would answer for a variable, which never waits.
                 let address = next - PATTERN_ROOM;
                 let header = pattern[address as usize];
                 if header != values.words[other as usize] {
@@ -113,8 +114,9 @@ pub fn bind(
 {
     match pattern_at(pattern, reference) {
         Pattern::Variable { index } => take(values, value, environment, index, links),
-        Pattern::Node { header: _, first: _ } => {
-            bind_node(pattern, reference, values, value, environment, links, stack)
-        }
+        Pattern::Node {
+            header: _,
+            first: _,
+        } => { bind_node(pattern, reference, values, value, environment, links, stack) }
     }
 }
