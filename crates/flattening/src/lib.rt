@@ -10,7 +10,7 @@ ghost use Rattle.names.specs.Symbols.{column, symbols_of};
 ghost use Rattle.flattening.specs.Flattening.{is_function};
 ghost use Rattle.flattening.specs.Promises.{call_limit, arity_of, is_call, Copied, Finishes, Room, Flattens};
 
-use names::{FUNCTION, SourceTerms, SymbolRow, TermRow, Word};
+use names::{FUNCTION, SourceTerms, TermRow, Word};
 
 // How far flattening is: the next row of the source, where the next row of the term and of the premises goes, and how many calls were made.
 #[derive(Clone, Copy)]
@@ -33,27 +33,23 @@ pub fn move_rows(source: &[TermRow], from: usize, n: usize, to: &mut [TermRow], 
 }
 
 // Is the word at a place of the text the name of a function?
-fn is_function(text: &[u8], symbols: &[SymbolRow], word: Word) -> bool
-    ensures { result ≡ is_function (symbols_of text.now symbols.now (length symbols.now)) (part_of text.now word.start word.size) }
+fn is_function(source: SourceTerms, word: Word) -> bool
+    ensures { result ≡ is_function (symbols_of source.entry.text.now source.entry.symbols.now (length source.entry.symbols.now)) (part_of source.entry.text.now word.start word.size) }
 {
-    match names::find(text, symbols, names::part(text, word)) {
-        Some(i) => symbols[i][3] == FUNCTION,
+    match names::find(source.text, source.symbols, names::part(source.text, word)) {
+        Some(i) => source.symbols[i][3] == FUNCTION,
         None => false,
     }
 }
 
 // Does a row stand for a call?
-fn is_call(text: &[u8], symbols: &[SymbolRow], row: TermRow) -> bool
-    ensures { result ≡ is_call (symbols_of text.now symbols.now (length symbols.now)) (column row 0) (part_of text.now (column row 1) (column row 2)) }
+fn is_call(source: SourceTerms, row: &TermRow) -> bool
+    ensures { result ≡ is_call (symbols_of source.entry.text.now source.entry.symbols.now (length source.entry.symbols.now)) (column row.now 0) (part_of source.entry.text.now (column row.now 1) (column row.now 2)) }
 {
-    let [kind, start, size, _] = row;
-    if kind == words::METAVARIABLE {
-        return false;
+    match row[0] {
+        words::METAVARIABLE | words::NUMERAL => false,
+        _ => is_function(source, Word::behind_kind(row)),
     }
-    if kind == words::NUMERAL {
-        return false;
-    }
-    is_function(text, symbols, Word { start, size })
 }
 
 // How many arguments follow a row.
@@ -126,11 +122,7 @@ pub fn flatten(
     requires { Room source.rows.now from.next source.symbols.now (length source.symbols.now) out.old from.top calls.old from.end from.number }
     ensures { Flattens source.entry.text.now source.entry.rows.now from.next (symbols_of source.entry.text.now source.entry.symbols.now (length source.entry.symbols.now)) out.old from.top calls.old from.end from.number out.new calls.new result }
 {
-    let SourceTerms {
-        text,
-        rows,
-        symbols,
-    } = source;
+    let rows = source.rows;
     let at = from.next;
     let top = from.top;
     // No term stands past the last row, so that any answer serves there.
@@ -138,8 +130,7 @@ pub fn flatten(
         return None;
     }
     let row = rows[at];
-    let [kind, start, size, more] = row;
-    let n = arity(kind, more);
+    let n = arity(row[0], row[3]);
     out[top] = row;
     let mut place = Place {
         next: at + 1,
@@ -149,8 +140,8 @@ pub fn flatten(
     for _i in 0..n {
         place = flatten(source, out, calls, place)?;
     }
-    if is_call(text, symbols, row) {
-        return finish(out, top, calls, place, Word { start, size }, n);
+    if is_call(source, &row) {
+        return finish(out, top, calls, place, Word::behind_kind(&row), n);
     }
     Some(place)
 }

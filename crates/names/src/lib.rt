@@ -1,12 +1,12 @@
 // Names: sorts, symbols and variables, found by their whole names. Every comparison reads every byte.
 #![tactic(auto)]
 
-ghost use Rattle.std.specs.Prelude.{ℕ, ◌≡◌, List, position, IsTrue, ◌↔◌};
+ghost use Rattle.std.specs.Prelude.{ℕ, ◌≡◌, ◌≤◌, List, position, IsTrue, ◌↔◌};
 ghost use Rattle.source_text.specs.Bytes.{same_bytes};
 ghost use Rattle.source_text.specs.Parts.{part_of};
 ghost use Rattle.names.specs.Names.{Name, result_names, name_of, name_in};
 ghost use Rattle.names.specs.NamePlaces.{NamePlace, is_word_place};
-ghost use Rattle.names.specs.Symbols.{sort_of};
+ghost use Rattle.names.specs.Symbols.{column, sort_of};
 
 // A sort: start, length.
 pub type SortRow = [u32; 2];
@@ -35,8 +35,29 @@ pub struct Word {
     pub size: u32,
 }
 
+impl Word {
+    // The word that a row begins with, as those of sorts, symbols and rules do.
+    pub fn at_start<const N: usize>(row: &[u32; N]) -> Word
+        requires { 2 ≤ N }
+        ensures { result ≡ record { start = column row.now 0; size = column row.now 1 } }
+    {
+        Word {
+            start: row[0],
+            size: row[1],
+        }
+    }
+
+    // The word behind a row's kind, where source terms and variables have theirs.
+    pub fn behind_kind(row: &[u32; 4]) -> Word
+        ensures { result ≡ record { start = column row.now 1; size = column row.now 2 } }
+    {
+        let [_, start, size, _] = *row;
+        Word { start, size }
+    }
+}
+
 // The kind of a row that stands for a variable of flattening, whose place is in `RESULT_NAMES`.
-// Stays: C callers lend the rows, so a kind is a number there, and may be none of these; a type of kinds would be converted at each read and write.
+// Stays: flattening writes it into scratch only, but in the column of the kinds that C callers lend, which may be any number: `check_term` refuses it there.
 pub const RESULT: u32 = 27;
 
 // The marks in a symbol's row: of a constructor or predicate, and of a function.
@@ -88,7 +109,7 @@ fn is_result(word: Word, w: &[u8]) -> bool
 }
 
 // Is the name at a place w?
-pub fn is_named(text: &[u8], kind: u32, word: Word, w: &[u8]) -> bool
+fn is_named(text: &[u8], kind: u32, word: Word, w: &[u8]) -> bool
     ensures { result ≡ same_bytes (name_of text.now kind word.start word.size) w.now }
 {
     if kind == RESULT {
@@ -110,8 +131,7 @@ impl Named for SortRow {
     ghost name = { sort_of };
 
     fn is_called(&self, text: &[u8], w: &[u8]) -> bool {
-        let [start, size] = *self;
-        is_word(text, Word { start, size }, w)
+        is_word(text, Word::at_start(self), w)
     }
 }
 
@@ -119,11 +139,7 @@ impl Named for SymbolRow {
     ghost name = { sort_of };
 
     fn is_called(&self, text: &[u8], w: &[u8]) -> bool {
-        let word = Word {
-            start: self[0],
-            size: self[1],
-        };
-        is_word(text, word, w)
+        is_word(text, Word::at_start(self), w)
     }
 }
 
@@ -131,8 +147,7 @@ impl Named for VariableRow {
     ghost name = { name_in };
 
     fn is_called(&self, text: &[u8], w: &[u8]) -> bool {
-        let [kind, start, size, _] = *self;
-        is_named(text, kind, Word { start, size }, w)
+        is_named(text, self[0], Word::behind_kind(self), w)
     }
 }
 

@@ -1,7 +1,7 @@
 -- Laws of numerals.
 use mathlib.Core.Path.{◌≡◌, refl, sym, ◌∙◌}
 use mathlib.Core.List.{List, [], ◌∷◌}
-use mathlib.Core.Bool.{Bool, true, false, cond}
+use mathlib.Core.Bool.{Bool, true, false, cond, ◌&&◌}
 use Rattle.std.specs.Prelude.{Some, None}
 use Rattle.std.proofs.Common.{ltb-true}
 use Rattle.source_text.specs.ByteLaws.{and_left}
@@ -153,15 +153,12 @@ module _ (ss : List Symbol) (w : Name) where
 
 -- `numeral`
 module _ (text : List ℕ) (sr : Rows) (n : ℕ) (hs : n ≤ length sr) (v s : ℕ) (vs : List Variable) (m : ℕ) (w : List ℕ) (u : ℕ) where
-  pub no_zero : is_ctor (symbols_of text sr n) zero_name ≡ false → no 26 ≡ stored [] (pattern_of (symbols_of text sr n) (number v) (s ∷ []) vs m) w u
+  pub no_numerals : is_ctor (symbols_of text sr n) zero_name && is_ctor (symbols_of text sr n) succ_name ≡ false
+      → no 26 ≡ stored [] (pattern_of (symbols_of text sr n) (number v) (s ∷ []) vs m) w u
   unfolding pattern_of
-  no_zero h = simp h
+  no_numerals h = simp h
 
   module _ {z : ℕ} (ez : z ≡ symbol_number (symbols_of text sr n) zero_name) (cz : is_ctor (symbols_of text sr n) zero_name ≡ true) (lz : z < length (symbols_of text sr n)) where
-    pub no_succ : is_ctor (symbols_of text sr n) succ_name ≡ false → no 26 ≡ stored [] (pattern_of (symbols_of text sr n) (number v) (s ∷ []) vs m) w u
-    unfolding pattern_of
-    no_succ h = simp (cz, h)
-
     module _ {y : ℕ} (ey : y ≡ symbol_number (symbols_of text sr n) succ_name) (cy : is_ctor (symbols_of text sr n) succ_name ≡ true) (ly : y < length (symbols_of text sr n)) where
       it_is : pattern_of (symbols_of text sr n) (number v) (s ∷ []) vs m ≡ chain (symbols_of text sr n) y z v s vs m
       unfolding pattern_of

@@ -1,5 +1,5 @@
 -- Laws of `enter`, one for each way out, and of a variable as a pattern.
-use mathlib.Core.Path.{◌≡◌, sym, ap, ◌∙◌}
+use mathlib.Core.Path.{◌≡◌, refl, sym, ap, ◌∙◌}
 use mathlib.Core.List.{List, [], ◌∷◌, ◌++◌}
 use Prim.Native.Nat.{ℕ, zero, suc, ◌+◌, ◌-◌, ◌≤◌, ◌<◌}
 use native.Mathlib.Omega.{arith}
@@ -15,6 +15,15 @@ use Rattle.std.specs.Prelude.{Result, Ok, Err}
 use Rattle.refusals.specs.declared.Refusal.{Refusal}
 use Rattle.refusals.specs.declared.Refusal.TheVariants.{Full}
 use Rattle.patterns.specs.declared.EnteredVariable.{EnteredVariable}
+
+-- A row whose last number is changed.
+pub last_changed : (row : List ℕ) (s : ℕ) → length row ≡ 4 → set row 3 s ≡ column row 0 ∷ column row 1 ∷ column row 2 ∷ s ∷ []
+last_changed [] s e = absurd (omega arith)
+last_changed (a ∷ []) s e = absurd (omega arith)
+last_changed (a ∷ b ∷ []) s e = absurd (omega arith)
+last_changed (a ∷ b ∷ c ∷ []) s e = absurd (omega arith)
+last_changed (a ∷ b ∷ c ∷ d ∷ []) s e = refl
+last_changed (a ∷ b ∷ c ∷ d ∷ x ∷ l) s e = absurd (omega arith)
 
 module _ (text : List ℕ) (rs : Rows) (n : ℕ) (h : n ≤ length rs) (w : Name) (s : ℕ) (i : ℕ) (e : i ≡ variable_number (variables_of text rs n) w) where
   pub many_vars : length (variables_of text rs n) ≡ n

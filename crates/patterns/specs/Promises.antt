@@ -1,12 +1,12 @@
 -- What the functions of `patterns` ask of and owe to each other.
-use Rattle.std.specs.Prelude.{ℕ, zero, suc, ◌+◌, ◌*◌, ◌≤◌, ◌<◌, ◌≡◌, cond, Option, Some, None, Result, Ok, Err, List, [], ◌∷◌, length, take}
+use Rattle.std.specs.Prelude.{ℕ, zero, suc, ◌+◌, ◌*◌, ◌≤◌, ◌<◌, ◌≡◌, true, false, cond, ◌&&◌, Option, Some, None, Result, Ok, Err, List, [], ◌∷◌, length, take}
 use Rattle.terms.specs.Term.{Term, app, nil, cons}
 use Rattle.words.specs.Names.{numeral_kind}
 use Rattle.term_parser.specs.Source.{Arity, one, many}
 use Rattle.term_parser.specs.Rows.{application_kind}
 use Rattle.term_parser.specs.Standing.{Written, number, size}
 use Rattle.names.specs.Symbols.{Rows, Symbol, Variable, column, row_at, variables_of, symbol_number, symbol_at}
-use Rattle.patterns.specs.Patterns.{Entry, refused, entered, Out, bad, good, bind, misfit, spent, unless, first, is_ctor, pattern_of}
+use Rattle.patterns.specs.Patterns.{Entry, refused, entered, Out, bad, good, bind, misfit, spent, unless, first, is_ctor, zero_name, succ_name, pattern_of}
 use Rattle.names.specs.Names.{Name}
 use Rattle.names.specs.Standing.{Stands}
 use Rattle.patterns.specs.Laying.{Laid, laid, after, lay}
@@ -14,6 +14,7 @@ use Rattle.refusals.specs.declared.Refusal.{Refusal}
 use Rattle.refusals.specs.Refusals.{number_of}
 use Rattle.patterns.specs.declared.EnteredVariable.{EnteredVariable}
 use Rattle.patterns.specs.declared.CompiledTerm.{CompiledTerm}
+use Rattle.patterns.specs.declared.NumeralSymbols.{NumeralSymbols}
 use Rattle.patterns.specs.declared.Place.{Place}
 
 -- What the code hands back: a refusal, or references, words, variables and the room left.
@@ -126,6 +127,15 @@ RefusedFor n (Err e) = (number_of e ≡ n) × (0 < number_of e)
 -- The number of the constructor with a name.
 abbrev pub constructor_of : List Symbol → Name → Option ℕ
 constructor_of symbols w = cond (is_ctor symbols w) (Some (symbol_number symbols w)) None
+
+-- The constructor with a name has a number.
+abbrev pub ConstructorAt : List Symbol → Name → ℕ → Type 0
+ConstructorAt symbols w i = (i ≡ symbol_number symbols w) × (is_ctor symbols w ≡ true) × (i < length symbols)
+
+-- The constructors of numerals are found; or one of their names has none, which is refused.
+abbrev pub NumeralsFound : List Symbol → Result NumeralSymbols Refusal → Type 0
+NumeralsFound symbols (Ok found) = ConstructorAt symbols zero_name found.zero × ConstructorAt symbols succ_name found.succ
+NumeralsFound symbols (Err e) = (number_of e ≡ 26) × (is_ctor symbols zero_name && is_ctor symbols succ_name ≡ false)
 
 -- What n times f on g is refused for, at a place of the sort s with room for so many nodes; 0: nothing.
 abbrev pub or_full : ℕ → ℕ → (ℕ → ℕ) → ℕ

@@ -8,7 +8,7 @@ ghost use Rattle.names.specs.Names.{name_of};
 ghost use Rattle.names.specs.Symbols.{column, row_at, symbol_of, symbols_of, variables_of};
 ghost use Rattle.patterns.specs.Patterns.{enter as enterOf, counted, misfit as misfitOf};
 ghost use Rattle.patterns.specs.Laying.{lay, laid};
-ghost use Rattle.patterns.specs.Promises.{stored, entry_of, Grew, answer, Small, NextIs, Ready, Compiled, NodeMade, tower, refusal, RefusedFor, constructor_of, Numbered, Judged};
+ghost use Rattle.patterns.specs.Promises.{stored, entry_of, Grew, answer, Small, NextIs, Ready, Compiled, NodeMade, tower, refusal, RefusedFor, constructor_of, NumeralsFound, Numbered, Judged};
 ghost use Rattle.patterns.specs.Promises.{LiesAt, EntryPlaced, MadePlaced};
 
 use arena::{HEADERS, PATTERN_ROOM, SYMBOL_STEP};
@@ -25,7 +25,9 @@ pub struct EnteredVariable {
     pub count: usize,
 }
 
-// The number of the variable that a row names, entered if it is new. Its sort is checked, and set where it was not known.
+// The number of the variable that a row names, entered if it is new. Its sort (0: not known) is checked, and set where it was not known.
+// Stays: the sort is a column of the symbols' rows, which C callers lend with 0 for none, and goes into a column of the variable's row.
+// Stays: the table is as long as the caller's: `goals` is lent one of any length, of which an array of 64 rows would have to be made first.
 // Stays: a new variable's row is written just behind the `count` rows in use, which a slice of those alone would not reach.
 pub fn enter(
     text: &[u8],
@@ -42,9 +44,9 @@ pub fn enter(
     let [kind, start, size, _] = row;
     match names::find_at(text, &variables[..count], kind, Word { start, size }) {
         Some(index) => {
-            let [k, s, l, old] = variables[index];
+            let old = variables[index][3];
             if old == 0 {
-                variables[index] = [k, s, l, sort];
+                variables[index][3] = sort;
                 return Ok(EnteredVariable { index, count });
             }
             if sort == 0 {
@@ -69,6 +71,7 @@ pub fn enter(
 }
 
 // How far the compiler is: the next row, how many variables there are, how many words are used, and the room for nodes left.
+// Stays: apart from the source, which is read, and from variables and words, which are written: a struct of all would be lent to be written, source and all.
 #[derive(Clone, Copy)]
 pub struct Place {
     pub next: usize,
@@ -121,7 +124,19 @@ pub struct NumeralSymbols {
     pub succ: usize,
 }
 
-// What the symbol i is refused for at a place of the sort want, with so many arguments.
+impl NumeralSymbols {
+    // Those among a text's symbols.
+    pub fn find(text: &[u8], symbols: &[SymbolRow]) -> Result<Self, Refusal>
+        ensures { NumeralsFound (symbols_of text.now symbols.now (length symbols.now)) result }
+    {
+        let zero = constructor(text, symbols, b"zero").ok_or(Refusal::NoNumerals)?;
+        let succ = constructor(text, symbols, b"succ").ok_or(Refusal::NoNumerals)?;
+        Ok(NumeralSymbols { zero, succ })
+    }
+}
+
+// What the symbol i is refused for at a place of the sort want (0: a judgment), with so many arguments.
+// Stays: `want` is compared with the output in a symbol's row, where 0 is a predicate's; of an `Option` it would be made a number again first.
 fn misfit(symbols: &[SymbolRow], i: usize, want: u32, arguments: usize) -> Result<(), Refusal>
     requires { i < length symbols.now }
     ensures { (text : List ℕ) → RefusedFor (misfitOf (symbol_of text (row_at symbols.now i)) want arguments) result }
@@ -216,9 +231,7 @@ fn numeral(
     requires { (length symbols.now ≤ 1024) × (from.variables ≤ 64) × (from.used + 2 * from.room ≤ length words.old) × (from.used + 2 * from.room ≤ 65536) }
     ensures { Numbered text.now (symbols_of text.now symbols.now (length symbols.now)) n want from.variables from.next words.old from.used from.room result words.new }
 {
-    let zero = constructor(text, symbols, b"zero").ok_or(Refusal::NoNumerals)?;
-    let succ = constructor(text, symbols, b"succ").ok_or(Refusal::NoNumerals)?;
-    let numerals = NumeralSymbols { zero, succ };
+    let numerals = NumeralSymbols::find(text, symbols)?;
     numeral_misfit(symbols, numerals, n, want, from.room)?;
     let r = numeral_words(words, from.used, numerals, n);
     Ok(CompiledTerm {
@@ -259,23 +272,21 @@ pub fn pattern(
         next: from.next + 1,
         ..from
     };
-    if kind == words::NUMERAL {
-        return numeral(text, symbols, want, more as usize, words, behind);
-    }
-    if kind == words::METAVARIABLE {
-        return variable(text, variables, row, want, behind);
-    }
-    match names::find_at(text, symbols, kind, Word { start, size }) {
-        Some(i) => node(source, more as usize, i, want, variables, words, behind),
-        None => {
-            if kind == term_parser::APPLICATION {
-                return Err(Refusal::UnknownSymbol);
+    match kind {
+        words::NUMERAL => numeral(text, symbols, want, more as usize, words, behind),
+        words::METAVARIABLE => variable(text, variables, row, want, behind),
+        _ => match names::find_at(text, symbols, kind, Word { start, size }) {
+            Some(i) => node(source, more as usize, i, want, variables, words, behind),
+            None => {
+                if kind == term_parser::APPLICATION {
+                    return Err(Refusal::UnknownSymbol);
+                }
+                if want == 0 {
+                    return Err(Refusal::UnknownPredicate);
+                }
+                variable(text, variables, row, want, behind)
             }
-            if want == 0 {
-                return Err(Refusal::UnknownPredicate);
-            }
-            variable(text, variables, row, want, behind)
-        }
+        },
     }
 }
 

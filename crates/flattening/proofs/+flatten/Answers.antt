@@ -29,7 +29,7 @@ finish-requires t c = finish_room c.requires c.if-rows-at.false c.arity-n.ensure
 pub returns-then-is_call : goal.returns-then-is_call
 returns-then-is_call t c =
     end_call c.requires c.if-rows-at.false c.arity-n.ensures.value c.loop-i.invariant c.loop-i-test.false (sym c.is_call.ensures
-    ∙ c.if-is_call.true) _ _ c.finish.result c.finish.auto.out c.finish.auto.calls c.finish.ensures
+    ∙ c.if-is_call.true) _ _ c.finish.result c.finish.auto.out c.finish.auto.calls (rw c.behind_kind.ensures at c.finish.ensures)
 
 pub returns : goal.returns
 returns t c = end_plain c.requires c.if-rows-at.false c.arity-n.ensures.value c.loop-i.invariant c.loop-i-test.false (sym c.is_call.ensures ∙ c.if-is_call.false)

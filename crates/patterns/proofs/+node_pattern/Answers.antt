@@ -144,34 +144,32 @@ pattern-returns-then-rows-from t c =
       same = λ t q st. out_of_rows (c.args.source.text.now) (c.args.source.rows.now) (c.args.from.next) (c.if-rows-from.true) t q st;
     }
 
-pub pattern-returns-then-kind-eq-NUMERAL : goal.pattern-returns-then-kind-eq-NUMERAL
-pattern-returns-then-kind-eq-NUMERAL t c =
+pub pattern-returns-in-14 : goal.pattern-returns-in-14
+pattern-returns-in-14 t c =
     let pre = c.requires in
     let numeral = c.numeral in
     let args = c.args in
-    let if2 = c.if-kind-eq-NUMERAL in
     let low = pre.low in
     record {
       small = numeral.ensures.small;
       placed = placed_none args.source.rows.now args.from.next args.variables.now args.from.variables numeral.result numeral.ensures.none_new;
-      same = λ t q st. let x = is_numeral_lem (args.source.text.now) (args.source.rows.now) (args.from.next) (symbols_of (args.source.text.now) (args.source.symbols.now) (length args.source.symbols.now)) (args.want) (variables_of (args.source.text.now) (args.variables.now) (args.from.variables)) (args.from.room) t q st (omega arith) (if2.true) in (
+      same = λ t q st. let x = is_numeral_lem (args.source.text.now) (args.source.rows.now) (args.from.next) (symbols_of (args.source.text.now) (args.source.symbols.now) (length args.source.symbols.now)) (args.want) (variables_of (args.source.text.now) (args.variables.now) (args.from.variables)) (args.from.room) t q st (omega arith) c.in-14.is in (
         rw x.0 at (numeral.ensures.going),
         numeral.ensures.same args.variables.now
             ∙ ap (λ (y : Out one). stored [] y (args.words.now) (args.from.used)) x.1,
       );
     }
 
-pub pattern-returns-then-kind-eq-METAVARIABLE : goal.pattern-returns-then-kind-eq-METAVARIABLE
-pattern-returns-then-kind-eq-METAVARIABLE t c =
+pub pattern-returns-in-13 : goal.pattern-returns-in-13
+pattern-returns-in-13 t c =
     let variable = c.variable in
     let args = c.args in
-    let if3 = c.if-kind-eq-METAVARIABLE in
     record {
       small = variable.ensures.small;
-      placed = let k = if3.true in
+      placed = let k : column (row_at args.source.rows.now args.from.next) 0 ≡ 13 = c.in-13.is in
           placed_variable args.source.rows.now args.from.next args.variables.now args.from.variables _ variable.result (λ e. omega arith) (λ e. omega arith)
           variable.ensures.next_is variable.ensures.made_placed;
-      same = λ t q st. let x = is_meta (args.source.text.now) (args.source.rows.now) (args.from.next) (symbols_of (args.source.text.now) (args.source.symbols.now) (length args.source.symbols.now)) (args.want) (variables_of (args.source.text.now) (args.variables.now) (args.from.variables)) (args.from.room) t q st (if3.true) in (
+      same = λ t q st. let x = is_meta (args.source.text.now) (args.source.rows.now) (args.from.next) (symbols_of (args.source.text.now) (args.source.symbols.now) (length args.source.symbols.now)) (args.want) (variables_of (args.source.text.now) (args.variables.now) (args.from.variables)) (args.from.room) t q st (c.in-13.is) in (
         rw x.0 at (variable.ensures.next_is),
         variable.ensures.by_index (args.words.now)
             ∙ ap (λ (y : Out one). stored [] y (args.words.now) (args.from.used)) x.1,
@@ -183,14 +181,12 @@ pattern-returns-in-Some t c =
     let args = c.args in
     let pre = c.requires in
     let node = c.node in
-    let if2 = c.if-kind-eq-NUMERAL in
-    let if3 = c.if-kind-eq-METAVARIABLE in
     let e = some_symbol args.source.text.now args.source.symbols.now (name_of args.source.text.now (column (row_at args.source.rows.now args.from.next) 0) (column (row_at args.source.rows.now args.from.next) 1) (column (row_at args.source.rows.now args.from.next) 2)) c.in-Some.i c.in-Some.ensures in
     let n = symbols_length (args.source.text.now) (args.source.symbols.now) (length args.source.symbols.now) (pre.lent) in
     record {
       small = node.ensures.small;
       placed = placed_node args.source.rows.now args.from.next args.variables.now args.from.variables _ node.result node.ensures.placed;
-      same = λ t q st. let x = is_node (args.source.text.now) (args.source.rows.now) (args.from.next) (symbols_of (args.source.text.now) (args.source.symbols.now) (length args.source.symbols.now)) (args.want) (variables_of (args.source.text.now) (args.variables.now) (args.from.variables)) (args.from.room) t q st c.in-Some.i e.0 (if2.false) (if3.false) (rw n e.1) in
+      same = λ t q st. let x = is_node (args.source.text.now) (args.source.rows.now) (args.from.next) (symbols_of (args.source.text.now) (args.source.symbols.now) (length args.source.symbols.now)) (args.want) (variables_of (args.source.text.now) (args.variables.now) (args.from.variables)) (args.from.room) t q st c.in-Some.i e.0 (λ e. omega (arith, c.in_default)) (λ e. omega (arith, c.in_default)) (rw n e.1) in
           let y = node.ensures.same x.0 q x.1 x.2 in
           (y.0, y.1 ∙ ap (λ (z : Out one). stored [] z (args.words.now) (args.from.used)) x.3);
     }
@@ -199,23 +195,19 @@ pub pattern-returns-then-kind-eq-APPLICATION : goal.pattern-returns-then-kind-eq
 pattern-returns-then-kind-eq-APPLICATION t c =
     let args = c.args in
     let pre = c.requires in
-    let if2 = c.if-kind-eq-NUMERAL in
-    let if3 = c.if-kind-eq-METAVARIABLE in
     let if5 = c.if-kind-eq-APPLICATION in
     let l = no_symbol args.source.text.now args.source.symbols.now (name_of args.source.text.now (column (row_at args.source.rows.now args.from.next) 0) (column (row_at args.source.rows.now args.from.next) 1) (column (row_at args.source.rows.now args.from.next) 2)) c.in-None.ensures in
     let n = symbols_length (args.source.text.now) (args.source.symbols.now) (length args.source.symbols.now) (pre.lent) in
     record {
       small = tt;
       placed = tt;
-      same = λ t q st. (tt, ap (λ (z : Out one). stored [] z (args.words.now) (args.from.used)) (is_unknown (args.source.text.now) (args.source.rows.now) (args.from.next) (symbols_of (args.source.text.now) (args.source.symbols.now) (length args.source.symbols.now)) (args.want) (variables_of (args.source.text.now) (args.variables.now) (args.from.variables)) (args.from.room) t q st _ refl (if2.false) (if3.false) (rw n l) (if5.true)));
+      same = λ t q st. (tt, ap (λ (z : Out one). stored [] z (args.words.now) (args.from.used)) (is_unknown (args.source.text.now) (args.source.rows.now) (args.from.next) (symbols_of (args.source.text.now) (args.source.symbols.now) (length args.source.symbols.now)) (args.want) (variables_of (args.source.text.now) (args.variables.now) (args.from.variables)) (args.from.room) t q st _ refl (λ e. omega (arith, c.in_default)) (λ e. omega (arith, c.in_default)) (rw n l) (if5.true)));
     }
 
 pub pattern-returns-then-want-eq0 : goal.pattern-returns-then-want-eq0
 pattern-returns-then-want-eq0 t c =
     let args = c.args in
     let pre = c.requires in
-    let if2 = c.if-kind-eq-NUMERAL in
-    let if3 = c.if-kind-eq-METAVARIABLE in
     let if5 = c.if-kind-eq-APPLICATION in
     let if6 = c.if-want-eq0 in
     let l = no_symbol args.source.text.now args.source.symbols.now (name_of args.source.text.now (column (row_at args.source.rows.now args.from.next) 0) (column (row_at args.source.rows.now args.from.next) 1) (column (row_at args.source.rows.now args.from.next) 2)) c.in-None.ensures in
@@ -223,7 +215,7 @@ pattern-returns-then-want-eq0 t c =
     record {
       small = tt;
       placed = tt;
-      same = λ t q st. (tt, ap (λ (z : Out one). stored [] z (args.words.now) (args.from.used)) (is_judgment (args.source.text.now) (args.source.rows.now) (args.from.next) (symbols_of (args.source.text.now) (args.source.symbols.now) (length args.source.symbols.now)) (args.want) (variables_of (args.source.text.now) (args.variables.now) (args.from.variables)) (args.from.room) t q st _ refl (if2.false) (if3.false) (rw n l) (if5.false) (if6.true)));
+      same = λ t q st. (tt, ap (λ (z : Out one). stored [] z (args.words.now) (args.from.used)) (is_judgment (args.source.text.now) (args.source.rows.now) (args.from.next) (symbols_of (args.source.text.now) (args.source.symbols.now) (length args.source.symbols.now)) (args.want) (variables_of (args.source.text.now) (args.variables.now) (args.from.variables)) (args.from.room) t q st _ refl (λ e. omega (arith, c.in_default)) (λ e. omega (arith, c.in_default)) (rw n l) (if5.false) (if6.true)));
     }
 
 pub pattern-returns-else-want-eq0 : goal.pattern-returns-else-want-eq0
@@ -231,17 +223,15 @@ pattern-returns-else-want-eq0 t c =
     let args = c.args in
     let pre = c.requires in
     let variable2 = c.variable-in-None in
-    let if2 = c.if-kind-eq-NUMERAL in
-    let if3 = c.if-kind-eq-METAVARIABLE in
     let if5 = c.if-kind-eq-APPLICATION in
     let if6 = c.if-want-eq0 in
     let l = no_symbol args.source.text.now args.source.symbols.now (name_of args.source.text.now (column (row_at args.source.rows.now args.from.next) 0) (column (row_at args.source.rows.now args.from.next) 1) (column (row_at args.source.rows.now args.from.next) 2)) c.in-None.ensures in
     let n = symbols_length (args.source.text.now) (args.source.symbols.now) (length args.source.symbols.now) (pre.lent) in
     record {
       small = variable2.ensures.small;
-      placed = placed_variable args.source.rows.now args.from.next args.variables.now args.from.variables _ variable2.result if2.false if5.false
+      placed = placed_variable args.source.rows.now args.from.next args.variables.now args.from.variables _ variable2.result (λ e. omega (arith, c.in_default)) if5.false
           variable2.ensures.next_is variable2.ensures.made_placed;
-      same = λ t q st. let x = is_variable (args.source.text.now) (args.source.rows.now) (args.from.next) (symbols_of (args.source.text.now) (args.source.symbols.now) (length args.source.symbols.now)) (args.want) (variables_of (args.source.text.now) (args.variables.now) (args.from.variables)) (args.from.room) t q st _ refl (if2.false) (if3.false) (rw n l) (if5.false) (if6.false) in (
+      same = λ t q st. let x = is_variable (args.source.text.now) (args.source.rows.now) (args.from.next) (symbols_of (args.source.text.now) (args.source.symbols.now) (length args.source.symbols.now)) (args.want) (variables_of (args.source.text.now) (args.variables.now) (args.from.variables)) (args.from.room) t q st _ refl (λ e. omega (arith, c.in_default)) (λ e. omega (arith, c.in_default)) (rw n l) (if5.false) (if6.false) in (
         rw x.0 at (variable2.ensures.next_is),
         variable2.ensures.by_index (args.words.now)
             ∙ ap (λ (y : Out one). stored [] y (args.words.now) (args.from.used)) x.1,

@@ -1,51 +1,31 @@
 -- `numeral` meets its contract: one law for each way out.
-use mathlib.Core.Path.{refl, sym, ◌∙◌}
+use mathlib.Core.Path.{refl}
 use Prim.Native.Nat.{◌<◌, ◌≤◌}
 use lib.ListN.{length}
 use mathlib.Core.List.{[]}
-use Rattle.names.specs.Symbols.{symbols_of, variables_of}
-use Rattle.patterns.specs.Patterns.{zero_name, succ_name}
-use Rattle.refusals.specs.Refused.{handed_on, none_is}
-use Rattle.patterns.proofs.Numerals.{constructor_some, constructor_none, no_zero, no_succ, inside, number_refused, number_room, number_done}
+use Rattle.names.specs.Symbols.{variables_of}
+use Rattle.refusals.specs.Refused.{handed_on}
+use Rattle.patterns.proofs.Numerals.{no_numerals, inside, number_refused, number_room, number_done}
 use native.Mathlib.Omega.{arith}
 use Rattle.patterns.proofs.numeral.Goals as goal
 
-pub returns-in_err-zero : goal.returns-in_err-zero
-returns-in_err-zero c =
+pub returns-in_err-numerals : goal.returns-in_err-numerals
+returns-in_err-numerals c =
     let a = c.args in
     let h : length a.symbols.now ≤ length a.symbols.now = omega arith in
-    let ss = symbols_of a.text.now a.symbols.now (length a.symbols.now) in
-    rw (handed_on c.from_residual.result c.from_residual.ensures.1, none_is c.constructor.result c.in_err-zero.ensures.ok_part c.in_err-zero.ensures.value)
+    rw (handed_on c.from_residual.result c.from_residual.ensures.1)
     (record {
       small = tt;
       going = tt;
       none_new = tt;
-      same = λ vx. no_zero a.text.now a.symbols.now (length a.symbols.now) h a.n a.want (variables_of a.text.now vx a.from.variables) a.from.room a.words.now a.from.used
-          (constructor_none ss zero_name (sym c.in_err-zero.ensures.ok_part ∙ c.constructor.ensures));
-    })
-
-pub returns-in_err-succ : goal.returns-in_err-succ
-returns-in_err-succ c =
-    let a = c.args in
-    let h : length a.symbols.now ≤ length a.symbols.now = omega arith in
-    let ss = symbols_of a.text.now a.symbols.now (length a.symbols.now) in
-    let (ez, cz, lz) = constructor_some ss zero_name c.in_ok-zero.zero (sym c.in_ok-zero.ensures.ok_part ∙ c.constructor.ensures) in
-    rw (handed_on c.from_residual-in_err-succ.result c.from_residual-in_err-succ.ensures.1, none_is c.constructor-2.result c.in_err-succ.ensures.ok_part c.in_err-succ.ensures.value)
-    (record {
-      small = tt;
-      going = tt;
-      none_new = tt;
-      same = λ vx. no_succ a.text.now a.symbols.now (length a.symbols.now) h a.n a.want (variables_of a.text.now vx a.from.variables) a.from.room a.words.now a.from.used ez cz lz
-          (constructor_none ss succ_name (sym c.in_err-succ.ensures.ok_part ∙ c.constructor-2.ensures));
+      same = λ vx. rw c.in_err-numerals.ensures.0 (no_numerals a.text.now a.symbols.now (length a.symbols.now) h a.n a.want (variables_of a.text.now vx a.from.variables) a.from.room a.words.now a.from.used c.in_err-numerals.ensures.1);
     })
 
 pub numeral_misfit-requires : goal.numeral_misfit-requires
 numeral_misfit-requires c =
     let a = c.args in
     let h : length a.symbols.now ≤ length a.symbols.now = omega arith in
-    let ss = symbols_of a.text.now a.symbols.now (length a.symbols.now) in
-    let (ez, cz, lz) = constructor_some ss zero_name c.in_ok-zero.zero (sym c.in_ok-zero.ensures.ok_part ∙ c.constructor.ensures) in
-    let (ey, cy, ly) = constructor_some ss succ_name c.in_ok-succ.succ (sym c.in_ok-succ.ensures.ok_part ∙ c.constructor-2.ensures) in
+    let ((ez, cz, lz), (ey, cy, ly)) = c.in_ok-numerals.ensures in
     let (b, d) = inside a.text.now a.symbols.now (length a.symbols.now) h a.n a.want [] a.from.room a.words.now a.from.used ez cz lz ey cy ly in
     (omega arith, omega arith)
 
@@ -53,9 +33,7 @@ pub returns-in_err-numeral_misfit : goal.returns-in_err-numeral_misfit
 returns-in_err-numeral_misfit c =
     let a = c.args in
     let h : length a.symbols.now ≤ length a.symbols.now = omega arith in
-    let ss = symbols_of a.text.now a.symbols.now (length a.symbols.now) in
-    let (ez, cz, lz) = constructor_some ss zero_name c.in_ok-zero.zero (sym c.in_ok-zero.ensures.ok_part ∙ c.constructor.ensures) in
-    let (ey, cy, ly) = constructor_some ss succ_name c.in_ok-succ.succ (sym c.in_ok-succ.ensures.ok_part ∙ c.constructor-2.ensures) in
+    let ((ez, cz, lz), (ey, cy, ly)) = c.in_ok-numerals.ensures in
     let e = c.in_err-numeral_misfit.ensures a.text.now in
     rw (handed_on c.from_residual-in_err-numeral_misfit.result c.from_residual-in_err-numeral_misfit.ensures.1)
     (record {
@@ -69,9 +47,7 @@ pub numeral_words-r-requires : goal.numeral_words-r-requires
 numeral_words-r-requires c =
     let a = c.args in
     let h : length a.symbols.now ≤ length a.symbols.now = omega arith in
-    let ss = symbols_of a.text.now a.symbols.now (length a.symbols.now) in
-    let (ez, cz, lz) = constructor_some ss zero_name c.in_ok-zero.zero (sym c.in_ok-zero.ensures.ok_part ∙ c.constructor.ensures) in
-    let (ey, cy, ly) = constructor_some ss succ_name c.in_ok-succ.succ (sym c.in_ok-succ.ensures.ok_part ∙ c.constructor-2.ensures) in
+    let ((ez, cz, lz), (ey, cy, ly)) = c.in_ok-numerals.ensures in
     let (b, d) = inside a.text.now a.symbols.now (length a.symbols.now) h a.n a.want [] a.from.room a.words.now a.from.used ez cz lz ey cy ly in
     let l : a.n < a.from.room = number_room a.text.now a.symbols.now (length a.symbols.now) h a.n a.want [] a.from.room a.words.now a.from.used ez cz lz ey cy ly (c.in_ok-numeral_misfit.ensures a.text.now) in
     (omega arith, omega arith, omega arith, omega arith)
@@ -80,9 +56,7 @@ pub overflow_mul-result : goal.overflow_mul-result
 overflow_mul-result c =
     let a = c.args in
     let h : length a.symbols.now ≤ length a.symbols.now = omega arith in
-    let ss = symbols_of a.text.now a.symbols.now (length a.symbols.now) in
-    let (ez, cz, lz) = constructor_some ss zero_name c.in_ok-zero.zero (sym c.in_ok-zero.ensures.ok_part ∙ c.constructor.ensures) in
-    let (ey, cy, ly) = constructor_some ss succ_name c.in_ok-succ.succ (sym c.in_ok-succ.ensures.ok_part ∙ c.constructor-2.ensures) in
+    let ((ez, cz, lz), (ey, cy, ly)) = c.in_ok-numerals.ensures in
     let l : a.n < a.from.room = number_room a.text.now a.symbols.now (length a.symbols.now) h a.n a.want [] a.from.room a.words.now a.from.used ez cz lz ey cy ly (c.in_ok-numeral_misfit.ensures a.text.now) in
     omega arith
 
@@ -90,9 +64,7 @@ pub overflow_add-result-2 : goal.overflow_add-result-2
 overflow_add-result-2 c =
     let a = c.args in
     let h : length a.symbols.now ≤ length a.symbols.now = omega arith in
-    let ss = symbols_of a.text.now a.symbols.now (length a.symbols.now) in
-    let (ez, cz, lz) = constructor_some ss zero_name c.in_ok-zero.zero (sym c.in_ok-zero.ensures.ok_part ∙ c.constructor.ensures) in
-    let (ey, cy, ly) = constructor_some ss succ_name c.in_ok-succ.succ (sym c.in_ok-succ.ensures.ok_part ∙ c.constructor-2.ensures) in
+    let ((ez, cz, lz), (ey, cy, ly)) = c.in_ok-numerals.ensures in
     let l : a.n < a.from.room = number_room a.text.now a.symbols.now (length a.symbols.now) h a.n a.want [] a.from.room a.words.now a.from.used ez cz lz ey cy ly (c.in_ok-numeral_misfit.ensures a.text.now) in
     omega arith
 
@@ -100,9 +72,7 @@ pub overflow_sub-result : goal.overflow_sub-result
 overflow_sub-result c =
     let a = c.args in
     let h : length a.symbols.now ≤ length a.symbols.now = omega arith in
-    let ss = symbols_of a.text.now a.symbols.now (length a.symbols.now) in
-    let (ez, cz, lz) = constructor_some ss zero_name c.in_ok-zero.zero (sym c.in_ok-zero.ensures.ok_part ∙ c.constructor.ensures) in
-    let (ey, cy, ly) = constructor_some ss succ_name c.in_ok-succ.succ (sym c.in_ok-succ.ensures.ok_part ∙ c.constructor-2.ensures) in
+    let ((ez, cz, lz), (ey, cy, ly)) = c.in_ok-numerals.ensures in
     let l : a.n < a.from.room = number_room a.text.now a.symbols.now (length a.symbols.now) h a.n a.want [] a.from.room a.words.now a.from.used ez cz lz ey cy ly (c.in_ok-numeral_misfit.ensures a.text.now) in
     omega arith
 
@@ -110,9 +80,7 @@ pub overflow_sub-result-2 : goal.overflow_sub-result-2
 overflow_sub-result-2 c =
     let a = c.args in
     let h : length a.symbols.now ≤ length a.symbols.now = omega arith in
-    let ss = symbols_of a.text.now a.symbols.now (length a.symbols.now) in
-    let (ez, cz, lz) = constructor_some ss zero_name c.in_ok-zero.zero (sym c.in_ok-zero.ensures.ok_part ∙ c.constructor.ensures) in
-    let (ey, cy, ly) = constructor_some ss succ_name c.in_ok-succ.succ (sym c.in_ok-succ.ensures.ok_part ∙ c.constructor-2.ensures) in
+    let ((ez, cz, lz), (ey, cy, ly)) = c.in_ok-numerals.ensures in
     let l : a.n < a.from.room = number_room a.text.now a.symbols.now (length a.symbols.now) h a.n a.want [] a.from.room a.words.now a.from.used ez cz lz ey cy ly (c.in_ok-numeral_misfit.ensures a.text.now) in
     omega arith
 
@@ -120,9 +88,7 @@ pub returns : goal.returns
 returns c =
     let a = c.args in
     let h : length a.symbols.now ≤ length a.symbols.now = omega arith in
-    let ss = symbols_of a.text.now a.symbols.now (length a.symbols.now) in
-    let (ez, cz, lz) = constructor_some ss zero_name c.in_ok-zero.zero (sym c.in_ok-zero.ensures.ok_part ∙ c.constructor.ensures) in
-    let (ey, cy, ly) = constructor_some ss succ_name c.in_ok-succ.succ (sym c.in_ok-succ.ensures.ok_part ∙ c.constructor-2.ensures) in
+    let ((ez, cz, lz), (ey, cy, ly)) = c.in_ok-numerals.ensures in
     let q = c.in_ok-numeral_misfit.ensures a.text.now in
     let l : a.n < a.from.room = number_room a.text.now a.symbols.now (length a.symbols.now) h a.n a.want [] a.from.room a.words.now a.from.used ez cz lz ey cy ly q in
     record {

@@ -4,4 +4,4 @@ use Rattle.names.proofs.VariableRowNamed.is_called.Goals as goal
 
 pub returns : goal.returns
 unfolding name_in
-returns c = c.is_named.ensures
+returns c = rw c.behind_kind.ensures at c.is_named.ensures
