@@ -1,6 +1,9 @@
 -- Recorded lists of texts: for each text a line `LENGTH LIMIT ROWS`, then LENGTH bytes, then a line end.
-use Rattle.std.specs.Prelude.{Option, Some, None, ℕ, zero, suc, ◌+◌, ◌*◌, ◌-◌, min, cond, List, ltb, get_or, length}
+use Rattle.std.specs.Prelude.{Option, Some, None, ℕ, zero, suc, ◌+◌, ◌*◌, ◌-◌, min, cond, List, eqb, ltb, get_or, length}
 use Rattle.source_text.specs.Bytes.{within}
+use Rattle.refusals.specs.declared.Refusal.{Refusal}
+use Rattle.refusals.specs.Refusals.{number_of}
+use Rattle.words.specs.declared.Limits.{Limits}
 use Rattle.listing.specs.declared.recorded.Decimal.{Decimal}
 use Rattle.listing.specs.declared.recorded.Recorded.{Recorded}
 
@@ -49,3 +52,18 @@ abbrev pub recorded_at : List ℕ → ℕ → Recorded
 recorded_at list at =
     recorded_by (decimal_at list at) (decimal_at list (decimal_at list at).next)
     (decimal_at list (decimal_at list (decimal_at list at).next).next)
+
+-- Its limits, where its number of lent rows limits the nodes.
+abbrev pub node_limits : Recorded → Limits
+node_limits r =
+    record {
+      text = r.limits.text;
+      nodes = min r.rows 65536;
+      steps = r.limits.steps;
+      variables = r.limits.variables;
+      words = r.limits.words;
+    }
+
+-- What each number of a lent buffer is after a refusal: 0xA5A5A5A5, as it was, after refusal 1, else zero.
+abbrev pub value_after : Refusal → ℕ
+value_after refusal = cond (eqb (number_of refusal) 1) 2779096485 0

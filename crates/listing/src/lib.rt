@@ -1,7 +1,10 @@
 // The token listing of a text, written into a lent buffer, and from there to standard output.
 #![tactic(auto)]
 
+pub use output::{write, write_number};
+
 pub mod recorded; // recorded lists of texts
+mod output; // bytes and numbers, to standard output
 mod lines; // the line of a token, and of a refused text
 
 ghost use Rattle.std.specs.Prelude.{◌≡◌, ◌≤◌, length};
@@ -13,9 +16,6 @@ use byte_output::Output;
 use lines::{write_refused_line, write_token};
 use refusals::Rejection;
 use words::{Limits, Row};
-
-// Standard output.
-const STDOUT_FILENO: i32 = 1;
 
 // A buffer of so many bytes is enough for the listing of any text under these limits.
 pub fn size(limits: Limits) -> usize
@@ -70,12 +70,12 @@ pub fn list(text: &[u8], limits: Limits, rows: &mut [Row], out: &mut [u8])
     let Some(n) = write_listing(text, limits, rows, out) else {
         return;
     };
-    io::write_all(STDOUT_FILENO, words::word(out, 0, n));
+    write(words::word(out, 0, n));
 }
 
 // Writes the line `refused N line L` to standard output.
 pub fn write_refusal(rejection: Rejection) {
     let mut out = [0u8; 35];
     let n = write_refused(rejection, &mut out);
-    io::write_all(STDOUT_FILENO, words::word(&out, 0, n));
+    write(words::word(&out, 0, n));
 }

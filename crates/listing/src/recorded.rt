@@ -2,9 +2,10 @@
 //
 // A list has for each text a line `LENGTH LIMIT ROWS`, then LENGTH bytes, then a line end. A line may have more numbers; they are read one by one.
 ghost use Rattle.std.specs.Prelude.{◌≡◌, ◌+◌, ◌^◌, ◌≤◌, ◌<◌, IfSome};
-ghost use Rattle.listing.specs.Recorded.{end_of, digit_at, read_digit, decimal_at, recorded_at};
+ghost use Rattle.listing.specs.Recorded.{end_of, digit_at, read_digit, decimal_at, recorded_at, node_limits, value_after};
 
-use crate::STDOUT_FILENO;
+use crate::output::{write, write_number};
+use refusals::Refusal;
 use words::Limits;
 
 // A text of a list: where it stands, the limits and the number of lent rows to read it with, and the place of the next one's line.
@@ -15,6 +16,34 @@ pub struct Recorded {
     pub limits: Limits,
     pub rows: usize,
     pub next: usize,
+}
+
+// What each number of a lent buffer is before a call.
+pub const JUNK: u32 = 0xA5A5_A5A5;
+
+// The most nodes that a recorded text asks for.
+const NODES: usize = 65536;
+
+impl Recorded {
+    // The limits of a text whose number of lent rows limits the nodes.
+    pub fn node_limits(self) -> Limits
+        ensures { result ≡ node_limits self }
+    {
+        Limits {
+            nodes: self.rows.min(NODES) as u32,
+            ..self.limits
+        }
+    }
+}
+
+// What each number of a lent buffer is after a refusal: as it was after refusal 1, else zero.
+pub fn value_after(refusal: Refusal) -> u32
+    ensures { result ≡ value_after refusal }
+{
+    match refusal {
+        Refusal::Storage => JUNK,
+        _ => 0,
+    }
 }
 
 // A decimal number of a list and the place past it and the byte that ends it.
@@ -74,7 +103,7 @@ fn digit(list: &[u8], at: usize) -> Option<u32>
     Some(u32::from(c - b'0'))
 }
 
-// The text whose line is at a place. Only its bytes are limited: no other limit matters before the search.
+// The text whose line is at a place. The line limits the bytes alone; a program that reads by other limits too sets them itself.
 pub fn read(list: &[u8], at: usize) -> Recorded
     requires { at < 2 ^ 61 }
     ensures is { result ≡ recorded_at list.now at }
@@ -103,9 +132,9 @@ pub fn read(list: &[u8], at: usize) -> Recorded
 
 // Writes the line `text K`.
 pub fn write_heading(number: u32) {
-    io::write_all(STDOUT_FILENO, b"text ");
-    io::print_decimal(STDOUT_FILENO, number as u64);
-    io::write_all(STDOUT_FILENO, b"\n");
+    write(b"text ");
+    write_number(number);
+    write(b"\n");
 }
 
 // Goes through a list from text to text, with a heading for each, and hands on its bytes and what the list says of it.

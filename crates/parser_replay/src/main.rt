@@ -2,65 +2,41 @@
 // afterwards. A test that fails writes a line that begins with `wrong`.
 #![tactic(auto)]
 
-ghost use Rattle.std.specs.Prelude.{◌&&◌, ◌≡◌, leb, drop, length};
-ghost use Rattle.parser_replay.specs.Rows.{are_all, is_all};
-
-use listing::recorded::{self, Recorded};
+use listing::recorded::{self, JUNK, Recorded};
+use listing::{write, write_number};
 use parser::Parsed;
-use refusals::Refusal;
+use slices::are_all;
 use words::{Limits, Row};
-
-// Standard output.
-const STDOUT_FILENO: i32 = 1;
-
-// What each number of the lent rows is before a call.
-const JUNK: u32 = 0xA5A5_A5A5;
-
-// Whether a place is within the rows or their end, and each number from there on is the value.
-fn are_all(rows: &[Row], from: usize, value: u32) -> bool
-    ensures { result ≡ leb from (length rows.now) && are_all value (drop from rows.now) }
-{
-    from <= rows.len() && rows[from..].iter().all(|row| is_all(*row, value))
-}
-
-fn is_all(row: Row, value: u32) -> bool
-    ensures { result ≡ is_all value row }
-{
-    row.iter().all(|n| *n == value)
-}
 
 // Tests that the rows from a place on hold the value.
 fn expect_all(name: &[u8], rows: &[Row], from: usize, value: u32) {
-    if are_all(rows, from, value) {
+    if are_all(rows, from, [value; 4]) {
         return;
     }
-    io::write_all(STDOUT_FILENO, b"wrong: not every number of the ");
-    io::write_all(STDOUT_FILENO, name);
-    io::write_all(STDOUT_FILENO, b" rows from ");
-    io::print_decimal(STDOUT_FILENO, from as u64);
-    io::write_all(STDOUT_FILENO, b" on is ");
-    io::print_decimal(STDOUT_FILENO, value as u64);
-    io::write_all(STDOUT_FILENO, b"\n");
+    write(b"wrong: not every number of the ");
+    write(name);
+    write(b" rows from ");
+    write_number(u32::try_from(from).unwrap_or(u32::MAX));
+    write(b" on is ");
+    write_number(value);
+    write(b"\n");
 }
 
-// Stays: the kit's `println!` takes the runtime that `main` is given: each function here would take it too, and hand on a `Result`.
 // Writes the four numbers of a row.
 fn list_row(row: Row) {
-    io::print_decimal(STDOUT_FILENO, row[0] as u64);
-    io::write_all(STDOUT_FILENO, b" ");
-    io::print_decimal(STDOUT_FILENO, row[1] as u64);
-    io::write_all(STDOUT_FILENO, b" ");
-    io::print_decimal(STDOUT_FILENO, row[2] as u64);
-    io::write_all(STDOUT_FILENO, b" ");
-    io::print_decimal(STDOUT_FILENO, row[3] as u64);
-    io::write_all(STDOUT_FILENO, b"\n");
+    write_number(row[0]);
+    for number in &row[1..] {
+        write(b" ");
+        write_number(*number);
+    }
+    write(b"\n");
 }
 
 // Lists the declarations, and their rows.
 fn list_declarations(parsed: Parsed, rows: &[Row]) {
-    io::write_all(STDOUT_FILENO, b"declarations ");
-    io::print_decimal(STDOUT_FILENO, u64::from(parsed.declarations));
-    io::write_all(STDOUT_FILENO, b"\n");
+    write(b"declarations ");
+    write_number(parsed.declarations);
+    write(b"\n");
     for row in rows.iter().take(parsed.rows) {
         list_row(*row);
     }
@@ -81,11 +57,7 @@ fn list(text: &[u8], limits: Limits, tokens: &mut [Row], rows: &mut [Row]) {
         }
         Err(rejection) => {
             listing::write_refusal(rejection);
-            let value = if rejection.refusal == Refusal::Storage {
-                JUNK
-            } else {
-                0
-            };
+            let value = recorded::value_after(rejection.refusal);
             expect_all(b"token", tokens, 0, value);
             expect_all(b"declaration", rows, 0, value);
         }
@@ -95,11 +67,11 @@ fn list(text: &[u8], limits: Limits, tokens: &mut [Row], rows: &mut [Row]) {
 // Lists a text with the first rows of each kind lent, as many as the list says.
 fn list_lent(text: &[u8], recorded: Recorded, tokens: &mut [Row], rows: &mut [Row]) {
     let Some(tokens) = tokens.get_mut(..recorded.rows) else {
-        io::write_all(STDOUT_FILENO, b"wrong: too few token rows to lend\n");
+        write(b"wrong: too few token rows to lend\n");
         return;
     };
     let Some(rows) = rows.get_mut(..recorded.rows) else {
-        io::write_all(STDOUT_FILENO, b"wrong: too few rows to lend\n");
+        write(b"wrong: too few rows to lend\n");
         return;
     };
     list(text, recorded.limits, tokens, rows);

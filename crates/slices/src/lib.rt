@@ -1,9 +1,10 @@
-// Slices: an item put at a place, and the items from a place on cleared, of any type that is copied.
+// Slices of any type that is copied: an item put at a place, and the items from a place on cleared, or compared with a value.
 //
-// Both ask nothing of their caller.
+// None asks anything of its caller.
 #![tactic(auto)]
 
-ghost use Rattle.std.specs.Prelude.{◌≡◌, ◌++◌, ◌-◌, length, take, replicate, set};
+ghost use Rattle.std.specs.Prelude.{◌≡◌, ◌&&◌, ◌++◌, ◌-◌, nat_le, length, take, drop, replicate, set};
+ghost use Rattle.std.specs.List.{list_all};
 
 // Puts an item at a place; where there is no such place, nothing changes.
 pub fn put<T: Copy>(items: &mut [T], at: usize, item: T)
@@ -22,4 +23,11 @@ pub fn clear_from<T: Copy>(items: &mut [T], from: usize, zero: T)
     for item in &mut items[start..] {
         *item = zero;
     }
+}
+
+// Is a place within the items or their end, and each item from there on the value?
+pub fn are_all<T: Copy + PartialEq>(items: &[T], from: usize, value: T) -> bool
+    ensures { result ≡ nat_le from (length items.now) && list_all (λ item. T.eq item value) (drop from items.now) }
+{
+    from <= items.len() && items[from..].iter().all(|item| *item == value)
 }

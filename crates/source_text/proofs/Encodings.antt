@@ -1,15 +1,15 @@
 -- Laws of UTF-8 and of characters, at a place of a text.
 use mathlib.Core.Path.{◌≡◌, refl, sym, ap, ◌∙◌}
-use mathlib.Core.Bool.{Bool, true, false, cond, ◌&&◌, ◌||◌, and-false}
+use mathlib.Core.Bool.{Bool, true, false, cond, ◌&&◌, ◌||◌}
 use mathlib.Core.List.{List, [], ◌∷◌}
 use Prim.Native.Nat.{ℕ, zero, suc, ◌+◌, ◌-◌, ◌≤◌, ◌<◌}
 use native.Mathlib.Numerals.{add-one}
 use native.Mathlib.Nat.{add-zero}
 use native.Mathlib.Omega.{arith}
-use lib.ListN.{length, get_or, drop, replicate, length-drop, length-replicate, drop_of_length-le}
+use lib.ListN.{length, get_or, take, drop, replicate, length-drop, length-replicate, drop_of_length-le}
 use lib.Seq.{drop-cons, drop-drop}
 use lib.Dec.{T, eqb, ltb, eqb→eq}
-use borrow.Author.Tests.{eq-eqb, ne_eqb, le-leb, lt-leb, lt-ltb, le-ltb}
+use borrow.Author.Tests.{eq-eqb, ne_eqb, lt-ltb, le-ltb}
 use Rattle.source_text.specs.Bytes.{within, starts_with}
 use Rattle.source_text.specs.Utf8.{starting, positive, lead_of, asks, tails_of, character_length, utf8_after}
 use Rattle.source_text.specs.Characters.{Classed, class_number, class_numbers, arrow, character_of, outside_after, class_of, classes_from, class_table}
@@ -18,6 +18,7 @@ use Rattle.source_text.specs.declared.characters.Class.{Class}
 use Rattle.source_text.specs.declared.characters.Class.TheVariants.{Stray, Blank, Letter, Digit, Sign, Outside}
 use Rattle.std.specs.Prelude.{Some, None, unwrap_or}
 use Rattle.std.specs.Bool.{then_some}
+use Rattle.std.specs.List.{list_all}
 use Rattle.source_text.proofs.Table.{both, both_left, both_right, every, at}
 use Rattle.source_text.proofs.Scans.{by_bool, and_right, prefix_fits}
 
@@ -58,25 +59,7 @@ starting_some l m e =
     (λ z. absurd (let f : None ≡ Some m = rw z at e in let y : ◌≡◌ {A = ℕ} 0 1 = cc in omega arith))
     (λ z. let f : Some l ≡ Some m = rw z at e in let g : l ≡ m = cc in let k : l.length ≡ 0 → ⊥ = λ q. (let y : ◌≡◌ {A = ℕ} 0 1 = grind (arith, eq-eqb _ _ q) in omega arith) in (sym g, rw (← g) (omega arith)))
 
--- Tails, at place i of s.
-module _ (s : List ℕ) (i n low high : ℕ) where
-  pub tails_short : length s ≤ i → 0 < n → tails_of n low high (drop i s) ≡ false
-  unfolding tails_of
-  tails_short h p = let e : n ≡ suc (n - 1) = omega arith in rw e (simp (drop_of_length-le s h))
-
-  module _ (h : i < length s) (p : 0 < n) where
-    pub tails_low : get_or s i 0 < low → tails_of n low high (drop i s) ≡ false
-    unfolding tails_of
-    tails_low q = let e : n ≡ suc (n - 1) = omega arith in rw e (simp (drop-cons s i 0 h, lt-leb _ _ q))
-
-    pub tails_high : high < get_or s i 0 → tails_of n low high (drop i s) ≡ false
-    unfolding tails_of
-    tails_high q = let e : n ≡ suc (n - 1) = omega arith in rw e (simp (drop-cons s i 0 h, lt-leb _ _ q, and-false))
-
-    pub tails_next : low ≤ get_or s i 0 → get_or s i 0 ≤ high → tails_of n low high (drop i s) ≡ tails_of (n - 1) 0x80 0xBF (drop (i + 1) s)
-    unfolding tails_of
-    tails_next q r = let e : n ≡ suc (n - 1) = omega arith in ap (λ m. tails_of m low high (drop i s)) e ∙ simp (drop-cons s i 0 h, le-leb _ _ q, le-leb _ _ r, add-one)
-
+-- Tails.
 pub tails_none : (s : List ℕ) (n low high : ℕ) → n ≤ 0 → tails_of n low high s ≡ true
 unfolding tails_of
 tails_none s n low high h = let e : n ≡ 0 = omega arith in rw e
@@ -87,6 +70,22 @@ unfolding tails_of
 tails_fit zero low high s e = omega arith
 tails_fit (suc n) low high [] e = absurd (let z : ◌≡◌ {A = ℕ} 0 1 = cc in omega arith)
 tails_fit (suc n) low high (c ∷ s) e = let h : n ≤ length s = tails_fit n 0x80 0xBF s (and_right (within low high c) (tails_of n 0x80 0xBF s) e) in omega arith
+
+-- Tails from 0x80 to 0xBF, one by one; and those whose first is from low to high.
+tails_each : (n : ℕ) (s : List ℕ) → n ≤ length s → tails_of n 0x80 0xBF s ≡ list_all (within 0x80 0xBF) (take n s)
+unfolding tails_of
+tails_each zero s h = refl
+tails_each (suc n) [] h = absurd (omega arith)
+tails_each (suc n) (c ∷ s) h = ap (λ b. within 0x80 0xBF c && b) (tails_each n s (omega arith))
+
+pub tails_by : (n low high : ℕ) (s : List ℕ) (a : ℕ) (t : List ℕ) → n ≤ length s → take n s ≡ a ∷ t → tails_of n low high s ≡ within low high a && list_all (within 0x80 0xBF) t
+unfolding tails_of
+tails_by zero low high s a t h e = absurd (let z : ◌≡◌ {A = ℕ} 0 1 = cc in omega arith)
+tails_by (suc n) low high [] a t h e = absurd (omega arith)
+tails_by (suc n) low high (c ∷ s) a t h e =
+    let f : c ≡ a = cc in
+    let g : take n s ≡ t = cc in
+    ap (λ b. within low high c && b) (tails_each n s (omega arith)) ∙ rw (f, g) refl
 
 pub tails_long : (n low high : ℕ) (s : List ℕ) → length s < n → tails_of n low high s ≡ false
 tails_long n low high s h = by_bool (tails_of n low high s) (λ e. absurd (let f : n ≤ length s = tails_fit n low high s e in omega arith)) (λ e. e)

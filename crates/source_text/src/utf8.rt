@@ -1,5 +1,6 @@
 // UTF-8 as RFC 3629 has it.
 ghost use Rattle.std.specs.Prelude.{◌≡◌, ◌+◌, ◌<◌, length, drop};
+ghost use Rattle.source_text.specs.Bytes.{within};
 ghost use Rattle.source_text.specs.Utf8.{starting, positive, lead_of, tails_of, character_length, is_utf8};
 
 // What a first byte asks of its character: the length in bytes, and the range of the second byte.
@@ -29,6 +30,13 @@ fn lead_of(a: u8) -> Option<Lead>
     Some(Lead { length, low, high })
 }
 
+// Is a byte from low to high?
+fn is_within(c: u8, low: u8, high: u8) -> bool
+    ensures { result ≡ within low high c }
+{
+    low <= c && c <= high
+}
+
 // Are the next `count` bytes tails, the first from low to high?
 // Stays: `count` is how many tails the first byte asks for, and there may be fewer bytes.
 fn tails(rest: &[u8], count: usize, low: u8, high: u8) -> bool
@@ -37,16 +45,10 @@ fn tails(rest: &[u8], count: usize, low: u8, high: u8) -> bool
     let Some(tails) = rest.get(..count) else {
         return false;
     };
-    let mut from = low;
-    let mut to = high;
-    for c in tails {
-        if *c < from || to < *c {
-            return false;
-        }
-        from = 0x80;
-        to = 0xBF;
-    }
-    true
+    let Some((first, others)) = tails.split_first() else {
+        return true;
+    };
+    is_within(*first, low, high) && others.iter().all(|c| is_within(*c, 0x80, 0xBF))
 }
 
 // The length of the character at a place, if there is one.

@@ -15,7 +15,7 @@ pub use source_text::{numeral, word};
 pub use tokens::Row;
 
 mod names; // keywords and kinds of words
-mod signs; // the signs, longest first
+mod signs; // the signs
 mod tokens; // one token, one line, all lines
 
 ghost use Rattle.std.specs.Prelude.{◌≡◌, ◌≤◌, length};

@@ -1,6 +1,5 @@
 -- `clear_from` meets its contract.
-use Rattle.std.proofs.Common.{rules, arith, ◌≡◌, refl, sym, ◌∙◌, ℕ, ◌<◌, length, take, drop, replicate, ◌-◌, [], append-nil, drop_of_length-le}
-use Prim.Native.Nat.{◌+◌}
+use Rattle.std.proofs.Common.{rules, arith, ◌≡◌, refl, sym, ◌∙◌, ◌<◌, length, take, drop, replicate, ◌-◌, [], append-nil, drop_of_length-le}
 use lib.Seq.{length-take-le}
 use lib.ListN.{length-drop}
 use Rattle.std.proofs.lemmas.List.{take_all, take_min, take_more_set, replicate-append-replicate}

@@ -1,37 +1,35 @@
--- `tails` meets its contract. The bytes read are those of the rest, in order.
+-- `tails` meets its contract: the first byte is tested by its own range, and the others by that of all tails.
 use mathlib.Core.Path.{◌≡◌, sym, ap, ◌∙◌}
-use Prim.Native.Nat.{◌-◌, ◌+◌, ◌≤◌}
+use mathlib.Core.Bool.{true, false, ◌&&◌}
+use mathlib.Core.List.{◌∷◌}
+use Prim.Native.Nat.{◌≤◌}
 use native.Mathlib.Omega.{arith}
-use lib.ListN.{length, get_or, drop}
+use lib.ListN.{length, take}
 use borrow.Author.Rules.{rules}
-use Rattle.std.proofs.lemmas.Grind.{common_steps}
-use Rattle.source_text.specs.Utf8.{tails_of}
-use Rattle.source_text.proofs.Encodings.{tails_low, tails_high, tails_next, tails_none, tails_long}
+use Rattle.std.proofs.lemmas.Iterator.Search.{all_from_yields_List}
+use Rattle.std.proofs.lemmas.Iterator.{YieldsList-from_slice}
+use Rattle.std.specs.List.{list_all}
+use Rattle.source_text.specs.Bytes.{within}
+use Rattle.source_text.proofs.Encodings.{tails_by, tails_none, tails_long}
 use Rattle.source_text.proofs.utf8.tails.Goals as goal
-use Rattle.source_text.proofs.utf8.tails.Goals.{then-c-from-via-then-c-from, then-c-from-via-else-c-from+then-to-c}
 
 pub returns-in_default : goal.returns-in_default
 returns-in_default c = sym (tails_long c.args.count c.args.low c.args.high c.args.rest.now (omega (arith, c.in_default.ensures.lookup)))
 
-pub returns-then-c-from : goal.returns-then-c-from
-returns-then-c-from c =
-    let n : length c.in-Some.tails.now ≡ c.args.count = search rules in
-    let s : c.args.count ≤ length c.args.rest.now = search rules in
-    let q : get_or c.in-Some.tails.now c.loop-c.c-index 0 ≡ get_or c.args.rest.now c.loop-c.c-index 0 = grind (arith, common_steps) in
-    elim c.then-c-from.branch [
-      | then-c-from-via-then-c-from w ↦ sym (c.loop-c.invariant ∙ tails_low _ c.loop-c.c-index _ _ _ (omega arith) (omega arith) (omega (arith, w.if-c-from)))
-      | then-c-from-via-else-c-from+then-to-c w ↦ sym (c.loop-c.invariant ∙ tails_high _ c.loop-c.c-index _ _ _ (omega arith) (omega arith) (omega (arith, w.if-to-c)))
-    ]
+pub returns-in_default-split_first : goal.returns-in_default-split_first
+returns-in_default-split_first c = sym (tails_none c.args.rest.now c.args.count c.args.low c.args.high (let n : length c.in-Some.tails.now ≡ c.args.count = search rules in omega (arith, c.in_default-split_first.ensures.cases)))
 
-pub loop-c-preserved : goal.loop-c-preserved
-loop-c-preserved c =
-    let n : length c.in-Some.tails.now ≡ c.args.count = search rules in
+pub returns-then-is_within : goal.returns-then-is_within
+returns-then-is_within c =
     let s : c.args.count ≤ length c.args.rest.now = search rules in
-    let q : get_or c.in-Some.tails.now c.loop-c.c-index 0 ≡ get_or c.args.rest.now c.loop-c.c-index 0 = grind (arith, common_steps) in
-    let m : c.args.count - c.loop-c.c-index - 1 ≡ c.args.count - (c.loop-c.c-index + 1) = omega arith in
-    c.loop-c.invariant ∙ tails_next _ c.loop-c.c-index _ _ _ (omega arith) (omega arith) (omega (arith, c.if-c-from.false)) (omega (arith, c.if-to-c.false)) ∙ ap (λ k. tails_of k 0x80 0xBF (drop (c.loop-c.c-index + 1) c.args.rest.now)) m
+    let e : take c.args.count c.args.rest.now ≡ c.in-Some-split_first.first.now ∷ c.in-Some-split_first.others.now = (let p : take c.args.count c.args.rest.now ≡ c.in-Some.tails.now = search rules in p ∙ c.in-Some-split_first.ensures.cases.0) in
+    let r : c.all.result ≡ list_all (within 0x80 0xBF) c.in-Some-split_first.others.now = all_from_yields_List (within 0x80 0xBF) _ _ c.all.result c.all.ensures.ran (YieldsList-from_slice c.in-Some-split_first.others.now cc) (λ x b q e. (search rules, search rules)) in
+    let b : within c.args.low c.args.high c.in-Some-split_first.first.now ≡ true = sym c.is_within.ensures ∙ c.if-is_within.true in
+    r ∙ sym (tails_by _ _ _ _ _ _ s e ∙ ap (λ t. t && list_all (within 0x80 0xBF) c.in-Some-split_first.others.now) b)
 
-pub returns : goal.returns
-returns c =
-    let n : length c.in-Some.tails.now ≡ c.args.count = search rules in
-    sym (c.loop-c.invariant ∙ tails_none _ _ _ _ (omega arith))
+pub returns-else-is_within : goal.returns-else-is_within
+returns-else-is_within c =
+    let s : c.args.count ≤ length c.args.rest.now = search rules in
+    let e : take c.args.count c.args.rest.now ≡ c.in-Some-split_first.first.now ∷ c.in-Some-split_first.others.now = (let p : take c.args.count c.args.rest.now ≡ c.in-Some.tails.now = search rules in p ∙ c.in-Some-split_first.ensures.cases.0) in
+    let b : within c.args.low c.args.high c.in-Some-split_first.first.now ≡ false = sym c.is_within.ensures ∙ c.if-is_within.false in
+    c.if-is_within.false ∙ sym (tails_by _ _ _ _ _ _ s e ∙ ap (λ t. t && list_all (within 0x80 0xBF) c.in-Some-split_first.others.now) b)

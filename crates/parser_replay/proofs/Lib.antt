@@ -1,2 +1,0 @@
--- What the proofs of `parser_replay` share.
-pub mod Laws

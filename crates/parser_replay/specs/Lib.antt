@@ -1,2 +1,0 @@
--- What the contracts of `parser_replay` cite.
-pub mod Rows
