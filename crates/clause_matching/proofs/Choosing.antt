@@ -20,8 +20,8 @@ use Rattle.evaluation.specs.Matching.{Fitted, misfit, fitted, if_fitted, bind_of
 use Rattle.clause_matching.specs.Stored.{Holds, pattern_at, value_at}
 use Rattle.clause_matching.specs.Matching.{Says, Matched, BindAsked}
 use Rattle.clause_matching.specs.Choice.{Referable, pattern_from, patterns_from, ApartAsked, conclusion_in, values_of, fit_of, ConclusionIn, ClauseAsked, Chosen}
-use Rattle.clause_matching.specs.declared.choice.Pattern.{Pattern}
-use Rattle.clause_matching.specs.declared.choice.Pattern.TheVariants.{Variable, Node}
+use Rattle.clause_matching.specs.declared.references.Pattern.{Pattern}
+use Rattle.clause_matching.specs.declared.references.Pattern.TheVariants.{Variable, Node}
 use Rattle.clause_matching.proofs.BindTurns.{says_false, says_true}
 
 -- No clause before i fits.
@@ -102,6 +102,9 @@ module _ {rules : Rows} {pattern : List ℕ} {from end : ℕ} {values words : Li
         let p = conclusion.patterned in let n = p.root.node conclusion.node in let c = conclusion.node in
         let f = p.formed.fits address (omega arith) (p.root.header c) in
         let a = conclusion.inputs in omega arith
+
+    pub part_inside : (base : ℕ) → base ≡ suc address → base + length values ≤ length pattern
+    part_inside base b = let n = inside in let w = conclusion.patterned.within in omega arith
 
     pub is_no_variable : (r : Pattern) (x : ℕ) → r ≡ pattern_from pattern (conclusion_in rules i) → r ≡ Variable x → ⊥
     is_no_variable r x e q = let e' = e ∙ is_node in let w : ◌≡◌ {A = ℕ} 0 1 = cc in let z : ⊥ = omega arith in z

@@ -1,4 +1,5 @@
 -- Laws that the proofs cite, in reading order.
+pub mod PatternOf
 pub mod Taking
 pub mod Open
 pub mod BindTurns

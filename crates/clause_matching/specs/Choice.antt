@@ -9,8 +9,8 @@ use Rattle.names.specs.Symbols.{Rows, column, row_at}
 use Rattle.evaluation.specs.Matching.{Fitted, misfit, fitted, bind_of}
 use Rattle.clause_matching.specs.Stored.{Value, Values, PatternIn, Holds, Links}
 use Rattle.clause_matching.specs.Building.{rule_words}
-use Rattle.clause_matching.specs.declared.choice.Pattern.{Pattern}
-use Rattle.clause_matching.specs.declared.choice.Pattern.TheVariants.{Variable, Node}
+use Rattle.clause_matching.specs.declared.references.Pattern.{Pattern}
+use Rattle.clause_matching.specs.declared.references.Pattern.TheVariants.{Variable, Node}
 
 -- A variable, or a node in the pattern's words.
 abbrev pub Referable : List ℕ → ℕ → Type 0

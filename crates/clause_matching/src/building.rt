@@ -1,8 +1,10 @@
 // Values from patterns: the Rust's `instantiate`.
+// Stays: in one struct, words, room and stack would be put together and taken apart at each call, as the caller's store lends words and stack apart to `bind`.
 ghost use Rattle.std.specs.Prelude.{suc, ◌+◌, ◌≤◌, ◌<◌, length};
 ghost use Rattle.arena.specs.Copies.{pattern_room};
 ghost use Rattle.clause_matching.specs.Building.{Pushed, InstantiateAsked, Instantiated, ArgumentsAsked, ArgumentsBuilt};
 
+use super::references::{Pattern, pattern_at};
 use arena::{PATTERN_ROOM, SYMBOL_STEP};
 use refusals::Refusal;
 
@@ -68,6 +70,7 @@ fn instantiate_node(
                 words[top as usize] = entry - 1;
                 top += 1;
             } else {
+                // Stays: a row has the node's address, which `pattern_at` gives only as one less than that of the first argument.
                 stack[depth] = [next - PATTERN_ROOM, 0, top];
                 depth += 1;
             }
@@ -99,41 +102,46 @@ pub fn instantiate(
     requires { InstantiateAsked pattern.now reference environment.now words.old room.used room.limit stack.old }
     ensures { Instantiated pattern.now reference environment.now words.old room.used room.limit result words.new }
 {
-    if reference < PATTERN_ROOM {
-        let entry = environment[reference as usize];
-        if entry == 0 {
-            return Err(Refusal::Unbound);
+    match pattern_at(pattern, reference) {
+        Pattern::Variable { index } => {
+            let entry = environment[index as usize];
+            if entry == 0 {
+                return Err(Refusal::Unbound);
+            }
+            Ok(Built {
+                value: entry - 1,
+                used: room.used,
+            })
         }
-        return Ok(Built {
-            value: entry - 1,
-            used: room.used,
-        });
+        Pattern::Node {
+            header: _,
+            first: _,
+        } => { instantiate_node(pattern, reference, environment, words, room, stack) }
     }
-    instantiate_node(pattern, reference, environment, words, room, stack)
 }
 
-// The arguments of a pattern's node, `count` of them from the address `first` on, built from left to right: how many words are then used. Their references go to `values`.
+// The arguments of a pattern's node from the address `first` on, one for each place of `values`, built from left to right: how many words are then used. Their
+// references go to `values`.
 pub fn instantiate_arguments(
     pattern: &[u32],
     first: u32,
-    count: usize,
     environment: &[u32],
     words: &mut [u32],
     room: Room,
     stack: &mut [[u32; 3]],
     values: &mut [u32],
 ) -> Result<u32, Refusal>
-    requires { ArgumentsAsked pattern.now first count environment.now words.old room.used room.limit stack.old values.old }
-    ensures { ArgumentsBuilt pattern.now first count environment.now words.old room.used room.limit result words.new values.new }
+    requires { ArgumentsAsked pattern.now first (length values.old) environment.now words.old room.used room.limit stack.old values.old }
+    ensures { ArgumentsBuilt pattern.now first (length values.old) environment.now words.old room.used room.limit result words.new values.new }
 {
     let base = first as usize;
     let mut spent = room.used;
-    for k in 0..count {
+    for (k, reference) in pattern[base..base + values.len()].iter().enumerate() {
         let left = Room {
             used: spent,
             ..room
         };
-        let built = instantiate(pattern, pattern[base + k], environment, words, left, stack)?;
+        let built = instantiate(pattern, *reference, environment, words, left, stack)?;
         values[k] = built.value;
         spent = built.used;
     }

@@ -1,35 +1,12 @@
 // The clause of a function that fits values: part of the Rust's `Evaluator::call`.
 ghost use Rattle.std.specs.Prelude.{◌≡◌, true, ◌<◌, length};
-ghost use Rattle.arena.specs.Copies.{pattern_room};
 ghost use Rattle.terms.specs.Bindings.{start};
 ghost use Rattle.evaluation.specs.Matching.{misfit, bind_of};
-ghost use Rattle.clause_matching.specs.Choice.{pattern_from, patterns_from, values_of, Referable, ApartAsked, ClauseAsked, Chosen};
+ghost use Rattle.clause_matching.specs.Choice.{patterns_from, values_of, ApartAsked, ClauseAsked, Chosen};
 
 use super::matching::{Values, bind};
-use arena::PATTERN_ROOM;
+use super::references::{Pattern, pattern_at};
 use rules::RuleRow;
-
-// A stored pattern: a variable, or a node by its header and the address of its first argument.
-#[derive(Clone, Copy)]
-pub enum Pattern {
-    Variable { index: u32 },
-    Node { header: u32, first: u32 },
-}
-
-// The pattern of a reference.
-pub fn pattern_at(pattern: &[u32], reference: u32) -> Pattern
-    requires { Referable pattern.now reference }
-    ensures { result ≡ pattern_from pattern.now reference }
-{
-    if reference < PATTERN_ROOM {
-        return Pattern::Variable { index: reference };
-    }
-    let address = reference - PATTERN_ROOM;
-    Pattern::Node {
-        header: pattern[address as usize],
-        first: address + 1,
-    }
-}
 
 // Is the first pattern, whose reference stands at an address, a node of another symbol than the first value? Then the patterns do not fit.
 fn is_apart(pattern: &[u32], base: usize, words: &[u32], values: &[u32]) -> bool
@@ -40,14 +17,14 @@ fn is_apart(pattern: &[u32], base: usize, words: &[u32], values: &[u32]) -> bool
     if values.len() == 0 {
         return false;
     }
-    let reference = pattern[base];
-    if reference < PATTERN_ROOM {
-        return false;
+    match pattern_at(pattern, pattern[base]) {
+        Pattern::Variable { index: _ } => false,
+        Pattern::Node { header, first: _ } => header != words[values[0] as usize],
     }
-    pattern[(reference - PATTERN_ROOM) as usize] != words[values[0] as usize]
 }
 
 // The clauses of a function: the rules from one on up to another, and the words of their patterns.
+// Stays: lent as a part of the rules, they would need their first one's number beside them still, as the answer is a rule's number among all.
 #[derive(Clone, Copy)]
 pub struct Clauses<'a> {
     pub rules: &'a [RuleRow],
@@ -70,6 +47,7 @@ pub fn find_clause(
     ensures { Chosen clauses.entry.rules.now clauses.entry.pattern.now clauses.entry.from clauses.entry.end arguments.now
         values.entry.words.now values.entry.used environment.old links.old result environment.new links.new }
 {
+    // Stays: docs/DECISIONS.md, "Forms", asks for an outer loop over clauses with a label, by which the inner one goes on where a pattern does not fit.
     'clauses: for i in clauses.from..clauses.end {
         let Pattern::Node { header: _, first } = pattern_at(clauses.pattern, clauses.rules[i][5])
         else {
@@ -80,13 +58,13 @@ pub fn find_clause(
             continue 'clauses;
         }
         environment.fill(0);
-        for k in 0..arguments.len() {
-            let reference = clauses.pattern[base + k];
+        let patterns = &clauses.pattern[base..base + arguments.len()];
+        for (reference, argument) in patterns.iter().zip(arguments) {
             if !bind(
                 clauses.pattern,
-                reference,
+                *reference,
                 values,
-                arguments[k],
+                *argument,
                 environment,
                 links,
                 stack,

@@ -4,10 +4,12 @@
 // All functions here serve the crates above: they ask for patterns, values and environments in storage (specs/Stored.antt).
 #![tactic(auto)]
 
+mod references; // what a pattern's reference stands for
 mod matching; // patterns against values
 mod building; // values from patterns
 mod choice; // the clause that fits values
 
 pub use building::{Built, Room, instantiate, instantiate_arguments};
-pub use choice::{Clauses, Pattern, find_clause, pattern_at};
+pub use choice::{Clauses, find_clause};
 pub use matching::{Values, bind};
+pub use references::{Pattern, pattern_at};

@@ -7,6 +7,7 @@ ghost use Rattle.arena.specs.Copies.{pattern_room};
 ghost use Rattle.clause_matching.specs.Stored.{pattern_at};
 ghost use Rattle.clause_matching.specs.Matching.{Lent, Matched, BindAsked};
 
+use super::references::{Pattern, pattern_at};
 use arena::{PATTERN_ROOM, SYMBOL_STEP, Terms};
 
 // Values: words of stored terms, of which so many are in use.
@@ -55,42 +56,42 @@ fn bind_node(
     requires { (pattern_room ≤ reference) × BindAsked pattern.now reference values.words.now values.used value environment.old links.old stack.old }
     ensures { Matched (pattern_at pattern.now reference) values.entry.words.now values.entry.used value environment.old links.old result environment.new links.new }
 {
-    // A row of the stack is an open node: the addresses of its next argument in the pattern and in the value, and how many are left. The node `next` is to
-    // fit `other` if `waiting`.
+    // A row of the stack is an open node: the addresses of its next argument in the pattern and in the value, and how many are left. `waiting` is a node and
+    // the value that it is to fit.
     let mut depth: usize = 0;
-    let mut next = reference;
-    let mut other = value;
-    let mut waiting = true;
+    let mut waiting = Some((reference, value));
     loop {
-        if waiting {
-            waiting = false;
-            let address = next - PATTERN_ROOM;
-            let header = pattern[address as usize];
-            if header != values.words[other as usize] {
-                return false;
+        match waiting {
+            Some((next, other)) => {
+                waiting = None;
+                // Stays: with `pattern_at` here, a `let .. else` would answer for a variable, which never waits.
+                let address = next - PATTERN_ROOM;
+                let header = pattern[address as usize];
+                if header != values.words[other as usize] {
+                    return false;
+                }
+                stack[depth] = [address + 1, other + 1, header % SYMBOL_STEP];
+                depth += 1;
             }
-            stack[depth] = [address + 1, other + 1, header % SYMBOL_STEP];
-            depth += 1;
-        } else {
-            if depth == 0 {
-                return true;
-            }
-            let row = depth - 1;
-            let at = stack[row][0];
-            let across = stack[row][1];
-            let left = stack[row][2];
-            if left == 0 {
-                depth -= 1;
-            } else {
-                stack[row] = [at + 1, across + 1, left - 1];
-                next = pattern[at as usize];
-                other = values.words[across as usize];
-                if next < PATTERN_ROOM {
-                    if !take(values, other, environment, next, links) {
-                        return false;
-                    }
+            None => {
+                if depth == 0 {
+                    return true;
+                }
+                let row = depth - 1;
+                let [at, across, left] = stack[row];
+                if left == 0 {
+                    depth -= 1;
                 } else {
-                    waiting = true;
+                    stack[row] = [at + 1, across + 1, left - 1];
+                    let next = pattern[at as usize];
+                    let other = values.words[across as usize];
+                    if next < PATTERN_ROOM {
+                        if !take(values, other, environment, next, links) {
+                            return false;
+                        }
+                    } else {
+                        waiting = Some((next, other));
+                    }
                 }
             }
         }
@@ -111,8 +112,11 @@ pub fn bind(
     requires { BindAsked pattern.now reference values.words.now values.used value environment.old links.old stack.old }
     ensures { Matched (pattern_at pattern.now reference) values.entry.words.now values.entry.used value environment.old links.old result environment.new links.new }
 {
-    if reference < PATTERN_ROOM {
-        return take(values, value, environment, reference, links);
+    match pattern_at(pattern, reference) {
+        Pattern::Variable { index } => take(values, value, environment, index, links),
+        Pattern::Node {
+            header: _,
+            first: _,
+        } => { bind_node(pattern, reference, values, value, environment, links, stack) }
     }
-    bind_node(pattern, reference, values, value, environment, links, stack)
 }

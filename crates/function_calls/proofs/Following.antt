@@ -5,8 +5,10 @@ use native.Mathlib.Numerals.{add-one}
 use mathlib.Core.Path.{◌≡◌, refl, sym, ap, ap₂, ◌∙◌, subst}
 use mathlib.Core.List.{List}
 use lib.Dec.{ltb}
-use lib.ListN.{length, set}
-use Rattle.terms.specs.Numbers.{by_bool, less_no}
+use lib.ListN.{length, set, get_or, take, drop, length-drop}
+use lib.Seq.{get_or-take, get_or-drop, length-take-le}
+use Rattle.std.proofs.lemmas.List.{get_or_past}
+use Rattle.terms.specs.Numbers.{by_bool, by_less, less_no}
 use Rattle.terms.specs.Term.{Term, Terms, var, app, nil, cons, count}
 use Rattle.terms.specs.Term.Kind.{one as single, many as several}
 use Rattle.terms.specs.TermLaws.{app_inj}
@@ -28,8 +30,8 @@ use Rattle.std.specs.Prelude.{Result, Err}
 use Rattle.refusals.specs.declared.Refusal.{Refusal}
 use Rattle.refusals.specs.Refusals.{number_of}
 use Rattle.clause_matching.specs.declared.building.Built.{Built as Reply}
-use Rattle.clause_matching.specs.declared.choice.Pattern.{Pattern}
-use Rattle.clause_matching.specs.declared.choice.Pattern.TheVariants.{Variable, Node}
+use Rattle.clause_matching.specs.declared.references.Pattern.{Pattern}
+use Rattle.clause_matching.specs.declared.references.Pattern.TheVariants.{Variable, Node}
 use Rattle.function_calls.specs.declared.calls.Outcome.{Outcome}
 use Rattle.clause_matching.proofs.Open.{args_count}
 use Rattle.clause_matching.proofs.Forming.{FormsKept, ok_is}
@@ -225,6 +227,24 @@ module _ {symbol_rows rule_rows : Rows} {pattern : List ℕ} {rule depth height 
   mine = h.reached h.asked.size h.asked.symbols h.asked.rules h.asked.program h.asked.patterns h.asked.R h.asked.clause h.asked.known.0 h.asked.known.1
 
   -- A premise is left.
+  -- The references of the premises, as they are lent.
+  long_row : column row 4 ≤ length row - 10
+  long_row = by_less (length row - 10) (column row 4)
+      (λ l t. let p = (h.asked.clause.premises (length row - 10) l).node in
+      let z : column row (10 + (length row - 10)) ≡ 0 = get_or_past row (10 + (length row - 10)) 0 (omega arith) in absurd (let w : ⊥ = omega arith in w))
+      (λ l t. l)
+
+  pub part_long : length (take (10 + column row 4 - 10) (drop 10 row)) ≡ column row 4
+  part_long =
+      let e : 10 + column row 4 - 10 ≡ column row 4 = omega arith in
+      let d = length-drop 10 row in let n = long_row in
+      rw e (length-take-le (column row 4) (drop 10 row) (omega arith))
+
+  pub part_cell : j < column row 4 → get_or (take (10 + column row 4 - 10) (drop 10 row)) j 0 ≡ column row (10 + j)
+  part_cell l =
+      let e : 10 + column row 4 - 10 ≡ column row 4 = omega arith in
+      rw e (get_or-take (column row 4) (drop 10 row) j 0 l) ∙ get_or-drop 10 row j 0
+
   module _ (l : j < column row 4) where
     abbrev reference : ℕ
     reference = column row (10 + j)

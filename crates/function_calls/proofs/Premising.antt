@@ -4,8 +4,8 @@ use native.Mathlib.Omega.{arith}
 use native.Mathlib.Numerals.{add-one}
 use mathlib.Core.Path.{◌≡◌, refl, sym, ap, ap₂, ◌∙◌, subst}
 use mathlib.Core.Bool.{Bool, true, false}
-use mathlib.Core.List.{List}
-use lib.ListN.{length, take, length-take}
+use mathlib.Core.List.{List, ◌++◌}
+use lib.ListN.{length, take, drop, length-take, length-drop, length-append, get_or-append}
 use lib.Seq.{get_or-take}
 use Rattle.terms.specs.Term.{Term, Terms, app, nil, cons}
 use Rattle.terms.specs.Term.Kind.{one as single, many as several}
@@ -94,6 +94,33 @@ module _ (words : List ℕ) (trees : Rows) (words' : List ℕ) (trees' : Rows) (
             (subst (λ (y : ℕ). Stands words used limit words' v y c.words) b s);
         listed = subst (λ (m : Spent). TreesListed trees before height words' trees' p m) spent t;
       }
+
+-- What is said of an array's first part is said of the array.
+whole_tells : (o : Built several) (r : Result ℕ Refusal) (values values' part slots : List ℕ) (count used limit : ℕ) → ((i : ℕ) → i < count → cells slots i ≡ cells part i)
+    → TellsAll o r values values' part count used limit → TellsAll o r values values' slots count used limit
+whole_tells (barred e) r values values' part slots count used limit s h = h
+whole_tells (built ts u) r values values' part slots count used limit s (e, h) = (
+  e,
+  record {
+    stored = h.stored;
+    roots = λ i m. rw (s i m) (h.roots i m);
+    are = args_same 0 (denote 0 (cells values')) (denote 0 (cells values')) (cells slots) (cells part) 0 count
+        (λ i m. let z : 0 + i ≡ i = omega arith in ap (denote 0 (cells values')) (ap (cells slots) z ∙ s i m ∙ ap (cells part) (sym z)))
+        ∙ h.are;
+    same = h.same;
+    grows = h.grows;
+    within = h.within;
+  },
+)
+
+pub built_whole : {pattern : List ℕ} {first count : ℕ} {environment values : List ℕ} {used limit : ℕ} {r : Result ℕ Refusal} {values' part : List ℕ} (slots : List ℕ)
+    → ((i : ℕ) → i < count → cells slots i ≡ cells part i)
+    → ArgumentsBuilt pattern first count environment values used limit r values' part → ArgumentsBuilt pattern first count environment values used limit r values' slots
+built_whole {pattern} {first} {count} {environment} {values} {used} {limit} {r} {values'} {part} slots s h = record {
+  tells = λ β b. whole_tells (instantiate_of limit β (args (denote pattern_room (cells pattern)) (cells pattern) first count) used) r values values' part slots count used limit s (h.tells β b);
+  forms = h.forms;
+  kept = h.kept;
+}
 
 -- The values of the first references of an array.
 values_taken : (words slots : List ℕ) (count : ℕ) → count ≤ length slots → values_of words (take count slots) ≡ args (denote 0 (cells words)) (cells slots) 0 count
@@ -286,6 +313,37 @@ module _ {symbol_rows rule_rows : Rows} {pattern : List ℕ} {header first depth
 
   pub taken_count : (slots : List ℕ) → length slots ≡ 16 → count ≡ length (take count slots)
   taken_count slots n = let s = sizes in let b = s.few in let l : length (take count slots) ≡ count = simp length-take (omega arith) in sym l
+
+  -- The part of the places that is lent, and all of them afterwards.
+  pub part_asked : (slots : List ℕ) → length slots ≡ 16
+      → ArgumentsAsked pattern first (length (take count slots)) environment words used limit stack (take count slots)
+  part_asked slots n =
+      let a = arguments_asked slots n in let e = taken_count slots n in
+      rw (sym e) (record {
+        size = a.size;
+        patterned = a.patterned;
+        inside = a.inside;
+        places = omega arith;
+        stored = a.stored;
+        long = a.long;
+        known = a.known;
+        fits = a.fits;
+        low = a.low;
+        scratch = a.scratch;
+        rows = a.rows;
+      })
+
+  pub part_whole : {r : Result ℕ Refusal} {words' part : List ℕ} (slots : List ℕ) → length slots ≡ 16 → length part ≡ length (take count slots)
+      → ArgumentsBuilt pattern first (length (take count slots)) environment words used limit r words' part
+      → ArgumentsBuilt pattern first count environment words used limit r words' (part ++ drop count slots)
+  part_whole {part = part} slots n k a =
+      let e = taken_count slots n in
+      built_whole (part ++ drop count slots) (λ i l. get_or-append part (drop count slots) 0 i (omega arith)) (rw (sym e) at a)
+
+  pub part_length : (part slots : List ℕ) → length slots ≡ 16 → length part ≡ length (take count slots) → length (part ++ drop count slots) ≡ 16
+  part_length part slots n k =
+      let e = taken_count slots n in let d = length-drop count slots in let b = sizes.few in
+      length-append part (drop count slots) ∙ (let z : length part + length (drop count slots) ≡ 16 = omega arith in z)
 
   -- What any reading of the storage says of the call: its function is known, and has these inputs.
   call_fits : (symbols : List Symbol) (size reference : ℕ) → PremiseIn symbols pattern size reference → header ≡ cells pattern (reference - pattern_room)

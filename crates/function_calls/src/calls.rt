@@ -9,15 +9,13 @@ use clause_matching::{
 use names::SymbolRow;
 use refusals::Refusal;
 use rules::RuleRow;
+pub use tree_rows::TreeRow;
 
 // The deepest expression or call.
 pub const MAX_DEPTH: u32 = 128;
 
 // The most calls of one evaluation.
 pub const MAX_CALLS: u32 = 10000;
-
-// A node of a tree: height, kind (0: a rule), rule, reference of the goal; the others are zero.
-pub type TreeRow = [u32; 8];
 
 // What an evaluation has spent: the calls made and the words used.
 #[derive(Clone, Copy)]
@@ -41,6 +39,7 @@ pub struct Level {
 }
 
 // A program: its symbols, its rules, the words of their patterns, and how many words its values may take.
+// Stays: that it is in form is no ghost field: each contract speaks of the symbols and rules that stand in it, and would have to name them still.
 #[derive(Clone, Copy)]
 pub struct Program<'a> {
     pub symbols: &'a [SymbolRow],
@@ -58,6 +57,7 @@ pub struct Store<'a> {
     pub stack: &'a mut [[u32; 3]],
 }
 
+// Stays: a program is read, a store written, level and spent come by value; as one struct, each function would promise besides that the program stands.
 // One premise of a clause, a node by its header and the address of its first argument: its call, whose value has to fit its last argument.
 #[cycle(call_follow_premise)]
 fn premise(
@@ -86,12 +86,11 @@ fn premise(
     let before = instantiate_arguments(
         program.pattern,
         first,
-        count,
         environment,
         store.words,
         room,
         store.stack,
-        &mut values,
+        &mut values[..count],
     )?;
     let symbol = ((header - HEADERS) / SYMBOL_STEP) as usize;
     let below = Level {
@@ -145,11 +144,9 @@ fn follow(
         calls: before.calls + 1,
         ..before
     };
-    for j in 0..program.rules[rule][4] as usize {
-        let Pattern::Node { header, first } = pattern_at(
-            program.pattern,
-            program.rules[rule][10 + j],
-        ) else {
+    let row = &program.rules[rule];
+    for reference in &row[10..10 + row[4] as usize] {
+        let Pattern::Node { header, first } = pattern_at(program.pattern, *reference) else {
             return Err(Refusal::Storage);
         };
         let outcome = premise(program, header, first, level, spent, environment, store)?;
@@ -167,7 +164,7 @@ fn follow(
         room,
         store.stack,
     )?;
-    store.trees[before.calls as usize] = [level.height, 0, rule as u32, built.value, 0, 0, 0, 0];
+    store.trees[before.calls as usize] = tree_rows::row(level.height, rule as u32, built.value);
     let header = store.words[built.value as usize];
     Ok(Outcome {
         value: store.words[(built.value + header % SYMBOL_STEP) as usize],

@@ -1,9 +1,17 @@
 -- `is_apart` meets its contract: a node is compared by its header, and a variable fits any value.
 use native.Mathlib.Omega.{arith}
+use mathlib.Core.Path.{◌∙◌}
 use borrow.Author.Tests.{eq-eqb}
 use Rattle.terms.specs.Numbers.{true_false}
+use Rattle.clause_matching.proofs.PatternOf.{in_storage, node_is}
 use Rattle.clause_matching.proofs.Apart.{apart}
 use Rattle.clause_matching.proofs.choice.is_apart.Goals as goal
 
-pub returns : goal.returns
-returns c = let z = c.if-values-eq0.false in λ e. apart c.requires (omega arith) c.if-reference-lt-PATTERN_ROOM.false (λ q. true_false e (rw (eq-eqb _ _ q)))
+pub pattern_at-requires : goal.pattern_at-requires
+pattern_at-requires c = let z = c.if-values-eq0.false in in_storage (c.requires.patterned (omega arith))
+
+pub returns-in-Node : goal.returns-in-Node
+returns-in-Node c =
+    let z = c.if-values-eq0.false in
+    let (v, h, f) = node_is _ _ c.pattern_at.ensures _ _ c.in-Node.is in
+    λ e. apart c.requires (omega arith) v (λ q. true_false e (rw (eq-eqb _ _ (h ∙ q))))

@@ -1,10 +1,21 @@
 -- `bind` meets its contract: a variable takes the value or is compared with it, and a node is matched.
+use mathlib.Core.Path.{sym}
+use Rattle.clause_matching.proofs.PatternOf.{in_storage, variable_is, node_is}
 use Rattle.clause_matching.proofs.Variables.{variable_matched}
 use Rattle.clause_matching.proofs.matching.bind.Goals as goal
 
-pub returns-then-reference-lt-PATTERN_ROOM : goal.returns-then-reference-lt-PATTERN_ROOM
-returns-then-reference-lt-PATTERN_ROOM c =
-    let args = c.args in
-    let if1 = c.if-reference-lt-PATTERN_ROOM in
-    let take = c.take in
-    variable_matched (args.pattern.now) (args.reference) (if1.true) (take.ensures)
+pub pattern_at-requires : goal.pattern_at-requires
+pattern_at-requires c = in_storage c.requires.patterned
+
+pub take-requires : goal.take-requires
+take-requires c =
+    let (v, e) = variable_is _ _ c.pattern_at.ensures _ c.in-Variable.is in
+    rw e (v, c.requires.lent)
+
+pub bind_node-requires : goal.bind_node-requires
+bind_node-requires c = (((node_is _ _ c.pattern_at.ensures _ _ c.in-Node.is).0), c.requires)
+
+pub returns-in-Variable : goal.returns-in-Variable
+returns-in-Variable c =
+    let (v, e) = variable_is _ _ c.pattern_at.ensures _ c.in-Variable.is in
+    variable_matched c.args.pattern.now c.args.reference v (rw e at c.take.ensures)

@@ -3,8 +3,8 @@
 use native.Mathlib.Omega.{arith}
 use mathlib.Core.Path.{refl, ◌∙◌}
 use Rattle.refusals.specs.Refused.{handed_on}
-use Rattle.function_calls.proofs.Premising.{arguments_asked, arguments_refused, call_asked, call_failed, bind_asked, result_failed, result_fitted}
-use Rattle.function_calls.proofs.Following.{turn_start, referable, no_variable_lem, premise_asked, premise_refused, turn_next, conclusion_asked, conclusion_refused, result_inside, conclusion_built}
+use Rattle.function_calls.proofs.Premising.{part_asked, part_whole, part_length, arguments_refused, call_asked, call_failed, bind_asked, result_failed, result_fitted}
+use Rattle.function_calls.proofs.Following.{part_long, part_cell, turn_start, referable, no_variable_lem, premise_asked, premise_refused, turn_next, conclusion_asked, conclusion_refused, result_inside, conclusion_built}
 use Rattle.function_calls.proofs.Calling.{too_deep, too_many, clause_asked, no_clause, follow_asked, followed}
 use Rattle.function_calls.proofs.Lending.{lent_start, lent_on}
 use Prim.Native.Nat.{◌≤◌}
@@ -32,84 +32,109 @@ call-follow-requires t c = (
 pub call-returns-clause-answered : goal.call-returns-clause-answered
 call-returns-clause-answered t c = followed c.requires c.if-level-gt-MAX_DEPTH.false c.if-spent-ge-MAX_CALLS.false c.find_clause.ensures _ c.in-Some.is c.follow.ensures.answered
 
-pub follow-loop-j-init : goal.follow-loop-j-init
-follow-loop-j-init t c = record { turn = turn_start c.requires; lent = lent_start }
+pub follow-loop-reference-init : goal.follow-loop-reference-init
+follow-loop-reference-init t c = record { turn = turn_start c.requires; lent = lent_start }
 
 pub follow-pattern_at-requires : goal.follow-pattern_at-requires
-follow-pattern_at-requires t c = referable c.loop-j.invariant.turn c.loop-j-test.true
+follow-pattern_at-requires t c =
+    let l = rw (part_long c.loop-reference.invariant.turn) at c.loop-reference-test.true in
+    rw (part_cell c.loop-reference.invariant.turn l) (referable c.loop-reference.invariant.turn l)
 
 pub follow-returns-in_default-clause-answered : goal.follow-returns-in_default-clause-answered
-follow-returns-in_default-clause-answered t c = absurd (no_variable_lem c.loop-j.invariant.turn c.loop-j-test.true _ _ c.pattern_at.ensures c.in_default.is)
+follow-returns-in_default-clause-answered t c =
+    let l = rw (part_long c.loop-reference.invariant.turn) at c.loop-reference-test.true in
+    let p = rw (part_cell c.loop-reference.invariant.turn l) at c.pattern_at.ensures in
+    absurd (no_variable_lem c.loop-reference.invariant.turn l _ _ p c.in_default.is)
 
 pub follow-premise-requires : goal.follow-premise-requires
 follow-premise-requires t c =
-    (let d = c.loop-j.invariant.turn.asked.deep in omega arith, premise_asked c.loop-j.invariant.turn c.loop-j-test.true _ _ _ c.pattern_at.ensures c.in-Node.is)
+    let l = rw (part_long c.loop-reference.invariant.turn) at c.loop-reference-test.true in
+    let p = rw (part_cell c.loop-reference.invariant.turn l) at c.pattern_at.ensures in
+    (let d = c.loop-reference.invariant.turn.asked.deep in omega arith, premise_asked c.loop-reference.invariant.turn l _ _ _ p c.in-Node.is)
 
 pub follow-returns-in_err-outcome-clause-answered : goal.follow-returns-in_err-outcome-clause-answered
 follow-returns-in_err-outcome-clause-answered t c =
+    let l = rw (part_long c.loop-reference.invariant.turn) at c.loop-reference-test.true in
+    let p = rw (part_cell c.loop-reference.invariant.turn l) at c.pattern_at.ensures in
     rw (handed_on c.from_residual.result c.from_residual.ensures.1)
-    (premise_refused c.loop-j.invariant.turn c.loop-j-test.true _ _ _ c.pattern_at.ensures c.in-Node.is c.premise.ensures.answered _ c.in_err-outcome.was)
+    (premise_refused c.loop-reference.invariant.turn l _ _ _ p c.in-Node.is c.premise.ensures.answered _ c.in_err-outcome.was)
 
-pub follow-loop-j-preserved : goal.follow-loop-j-preserved
-follow-loop-j-preserved t c = record {
-  turn = turn_next c.loop-j.invariant.turn c.loop-j-test.true _ _ _ c.pattern_at.ensures c.in-Node.is c.premise.ensures.answered _ _ _ c.in_ok-outcome.was _
-      c.premise.ensures.lent.trees_kept c.premise.ensures.lent.stack_kept;
-  lent = lent_on c.loop-j.invariant.lent c.premise.ensures.lent;
-}
+pub follow-loop-reference-preserved : goal.follow-loop-reference-preserved
+follow-loop-reference-preserved t c =
+    let l = rw (part_long c.loop-reference.invariant.turn) at c.loop-reference-test.true in
+    let p = rw (part_cell c.loop-reference.invariant.turn l) at c.pattern_at.ensures in
+    record {
+      turn = turn_next c.loop-reference.invariant.turn l _ _ _ p c.in-Node.is c.premise.ensures.answered _ _ _ c.in_ok-outcome.was _
+          c.premise.ensures.lent.trees_kept c.premise.ensures.lent.stack_kept;
+      lent = lent_on c.loop-reference.invariant.lent c.premise.ensures.lent;
+    }
 
 pub follow-instantiate-requires : goal.follow-instantiate-requires
-follow-instantiate-requires t c = conclusion_asked c.loop-j.invariant.turn c.loop-j-test.false
+follow-instantiate-requires t c = conclusion_asked c.loop-reference.invariant.turn (rw (part_long c.loop-reference.invariant.turn) at c.loop-reference-test.false)
 
 pub follow-bounds-store-built : goal.follow-bounds-store-built
 follow-bounds-store-built t c =
-    let (x, y, z) = result_inside c.loop-j.invariant.turn c.loop-j-test.false c.instantiate.ensures _ _ c.in_ok-built.was in omega arith
+    let (x, y, z) = result_inside c.loop-reference.invariant.turn (rw (part_long c.loop-reference.invariant.turn) at c.loop-reference-test.false) c.instantiate.ensures _ _ c.in_ok-built.was in omega arith
 
 pub follow-overflow_add-result : goal.follow-overflow_add-result
 follow-overflow_add-result t c =
-    let (x, y, z) = result_inside c.loop-j.invariant.turn c.loop-j-test.false c.instantiate.ensures _ _ c.in_ok-built.was in omega arith
+    let (x, y, z) = result_inside c.loop-reference.invariant.turn (rw (part_long c.loop-reference.invariant.turn) at c.loop-reference-test.false) c.instantiate.ensures _ _ c.in_ok-built.was in omega arith
 
 pub follow-bounds-store-built-2 : goal.follow-bounds-store-built-2
 follow-bounds-store-built-2 t c =
-    let (x, y, z) = result_inside c.loop-j.invariant.turn c.loop-j-test.false c.instantiate.ensures _ _ c.in_ok-built.was in omega arith
+    let (x, y, z) = result_inside c.loop-reference.invariant.turn (rw (part_long c.loop-reference.invariant.turn) at c.loop-reference-test.false) c.instantiate.ensures _ _ c.in_ok-built.was in omega arith
 
 pub follow-returns-in_err-built-clause-answered : goal.follow-returns-in_err-built-clause-answered
 follow-returns-in_err-built-clause-answered t c =
     rw (handed_on c.from_residual-in_err-built.result c.from_residual-in_err-built.ensures.1)
-    (conclusion_refused c.loop-j.invariant.turn c.loop-j-test.false c.instantiate.ensures _ c.in_err-built.was)
+    (conclusion_refused c.loop-reference.invariant.turn (rw (part_long c.loop-reference.invariant.turn) at c.loop-reference-test.false) c.instantiate.ensures _ c.in_err-built.was)
 
 pub follow-returns-clause-answered : goal.follow-returns-clause-answered
-follow-returns-clause-answered t c = conclusion_built c.loop-j.invariant.turn c.loop-j-test.false c.instantiate.ensures _ _ c.in_ok-built.was
+follow-returns-clause-answered t c =
+    rw c.row.ensures
+    (conclusion_built c.loop-reference.invariant.turn (rw (part_long c.loop-reference.invariant.turn) at c.loop-reference-test.false) c.instantiate.ensures _ _ c.in_ok-built.was)
 
 pub premise-instantiate_arguments-requires : goal.premise-instantiate_arguments-requires
-premise-instantiate_arguments-requires t c = arguments_asked c.requires _ refl
+premise-instantiate_arguments-requires t c = part_asked c.requires _ refl
 
 pub premise-returns-in_err-before-clause-answered : goal.premise-returns-in_err-before-clause-answered
 premise-returns-in_err-before-clause-answered t c =
+    let a = part_whole c.requires _ refl c.instantiate_arguments.auto.values c.instantiate_arguments.ensures in
     rw (handed_on c.from_residual.result c.from_residual.ensures.1)
-    (arguments_refused c.requires c.instantiate_arguments.ensures _ c.in_err-before.was)
+    (arguments_refused c.requires a _ c.in_err-before.was)
 
 pub premise-call-requires : goal.premise-call-requires
-premise-call-requires t c = (
-  let d = c.requires.deep in omega arith,
-  call_asked c.requires c.instantiate_arguments.ensures _ c.in_ok-before.was c.instantiate_arguments.auto.values _ c.instantiate_arguments.auto.stack,
-)
+premise-call-requires t c =
+    let a = part_whole c.requires _ refl c.instantiate_arguments.auto.values c.instantiate_arguments.ensures in
+    let n = part_length c.requires _ _ refl c.instantiate_arguments.auto.values in (
+      let d = c.requires.deep in omega arith,
+      call_asked c.requires a _ c.in_ok-before.was n _ c.instantiate_arguments.auto.stack,
+    )
 
 pub premise-returns-in_err-outcome-clause-answered : goal.premise-returns-in_err-outcome-clause-answered
 premise-returns-in_err-outcome-clause-answered t c =
+    let a = part_whole c.requires _ refl c.instantiate_arguments.auto.values c.instantiate_arguments.ensures in
+    let n = part_length c.requires _ _ refl c.instantiate_arguments.auto.values in
     rw (handed_on c.from_residual-in_err-outcome.result c.from_residual-in_err-outcome.ensures.1)
-    (call_failed c.requires c.instantiate_arguments.ensures _ c.in_ok-before.was c.instantiate_arguments.auto.values c.call.ensures.answered _ c.in_err-outcome.was)
+    (call_failed c.requires a _ c.in_ok-before.was n c.call.ensures.answered _ c.in_err-outcome.was)
 
 pub premise-bind-requires : goal.premise-bind-requires
 premise-bind-requires t c =
-    bind_asked c.requires c.instantiate_arguments.ensures _ c.in_ok-before.was c.instantiate_arguments.auto.values c.call.ensures.answered _ _ _ c.in_ok-outcome.was _
+    let a = part_whole c.requires _ refl c.instantiate_arguments.auto.values c.instantiate_arguments.ensures in
+    let n = part_length c.requires _ _ refl c.instantiate_arguments.auto.values in
+    bind_asked c.requires a _ c.in_ok-before.was n c.call.ensures.answered _ _ _ c.in_ok-outcome.was _
     (c.call.ensures.lent.stack_kept ∙ c.instantiate_arguments.auto.stack)
 
 pub premise-returns-then-not-bind-clause-answered : goal.premise-returns-then-not-bind-clause-answered
 premise-returns-then-not-bind-clause-answered t c =
-    result_failed c.requires c.instantiate_arguments.ensures _ c.in_ok-before.was c.instantiate_arguments.auto.values c.call.ensures.answered _ _ _ c.in_ok-outcome.was
+    let a = part_whole c.requires _ refl c.instantiate_arguments.auto.values c.instantiate_arguments.ensures in
+    let n = part_length c.requires _ _ refl c.instantiate_arguments.auto.values in
+    result_failed c.requires a _ c.in_ok-before.was n c.call.ensures.answered _ _ _ c.in_ok-outcome.was
     c.bind.ensures c.if-not-bind.true
 
 pub premise-returns-clause-answered : goal.premise-returns-clause-answered
 premise-returns-clause-answered t c =
-    result_fitted c.requires c.instantiate_arguments.ensures _ c.in_ok-before.was c.instantiate_arguments.auto.values c.call.ensures.answered _ _ _ c.in_ok-outcome.was
+    let a = part_whole c.requires _ refl c.instantiate_arguments.auto.values c.instantiate_arguments.ensures in
+    let n = part_length c.requires _ _ refl c.instantiate_arguments.auto.values in
+    result_fitted c.requires a _ c.in_ok-before.was n c.call.ensures.answered _ _ _ c.in_ok-outcome.was
     c.bind.ensures c.if-not-bind.false

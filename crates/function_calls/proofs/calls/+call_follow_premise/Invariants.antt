@@ -14,10 +14,10 @@ decreases-follow l = 3 * (130 - l.level.depth) - 1
 abbrev pub decreases-premise : goal.decreases-premise
 decreases-premise l = 3 * (130 - l.level.depth) - 2
 
-abbrev pub invariant-follow-loop-j : goal.invariant-follow-loop-j
-invariant-follow-loop-j l = record {
+abbrev pub invariant-follow-loop-reference : goal.invariant-follow-loop-reference
+invariant-follow-loop-reference l = record {
   turn : Turn l.program.symbols.now l.program.rules.now l.program.pattern.now l.rule l.level.depth l.level.height l.before.calls l.before.used l.program.limit
       l.initial.environment l.initial.store.words.now l.initial.store.links.now l.initial.store.trees.now l.initial.store.stack.now
-      l.environment l.store.words.now l.store.links.now l.store.trees.now l.store.stack.now l.spent.calls l.spent.used l.j;
+      l.environment l.store.words.now l.store.links.now l.store.trees.now l.store.stack.now l.spent.calls l.spent.used l.reference-index;
   lent : IsLent l.initial.store l.store;
 }
