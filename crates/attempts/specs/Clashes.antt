@@ -1,6 +1,6 @@
 -- A clash that shows before anything is copied: the heads of a goal and a conclusion differ, or those of two arguments at the same place. Then they do not
 -- unify, whatever the conclusion's variables become.
-use Rattle.std.specs.Prelude.{ℕ, zero, suc, ◌+◌, ◌-◌, ◌/◌, ◌%◌, ◌≤◌, ◌<◌, ◌≡◌, refl, ◌≢◌, List, length, Option, Some}
+use Rattle.std.specs.Prelude.{ℕ, zero, suc, ◌+◌, ◌-◌, ◌/◌, ◌%◌, ◌≤◌, ◌<◌, ◌≡◌, refl, ◌≢◌, List, length, Option}
 use Rattle.std.specs.Option.{MatchOption}
 use Rattle.std.proofs.Common.{arith, ◌∙◌, subst}
 use Rattle.std.proofs.Math.Path.{sym, ap}
@@ -36,11 +36,6 @@ abbrev pub LeadsTo : List ℕ → Rows → ℕ → ℕ → ℕ → ℕ → Optio
 LeadsTo words rows variables used bound r node =
     MatchOption node ((q : ℕ) × (q < term_room) × Walked term_room words rows variables used bound r q)
     (λ q. (term_room ≤ q) × Walked term_room words rows variables used bound r q)
-
--- Where a node is told, they lead to it.
-pub led : {words : List ℕ} {rows : Rows} {variables used bound r q : ℕ} {node : Option ℕ} → LeadsTo words rows variables used bound r node → node ≡ Some q
-    → (term_room ≤ q) × Walked term_room words rows variables used bound r q
-led l e = rw e at l
 
 -- What comparing a goal's reference with a pattern's asks: a state and a pattern in form.
 pub record Comparable (pattern words : List ℕ) (rows : Rows) (variables used bound r s : ℕ) : Type 0 where

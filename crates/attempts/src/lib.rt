@@ -145,16 +145,13 @@ pub fn clashes(
         return true;
     }
     let count = (header % SYMBOL_STEP) as usize;
-    for i in 0..count {
+    (0..count).any(|i| {
         let argument = SearchState {
             goal: words[node + 1 + i],
             ..at
         };
-        if heads_differ(pattern, words, bindings, argument, pattern[from + 1 + i]) {
-            return true;
-        }
-    }
-    false
+        heads_differ(pattern, words, bindings, argument, pattern[from + 1 + i])
+    })
 }
 
 // Copies the conclusion behind the used words, if the limits allow it, and unifies the goal with it; the answer is how many bindings there are then, where

@@ -1,2 +1,3 @@
 -- What the contracts of `samples` cite.
-pub mod Same
+pub mod Building
+pub mod Scratch

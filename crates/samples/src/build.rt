@@ -1,19 +1,20 @@
 // Words of terms: two constants, and towers of nodes on a leaf.
 ghost use Rattle.std.specs.Prelude.{◌≡◌, ◌≤◌, set, length};
 ghost use Rattle.arena.specs.Form.{inputs};
+ghost use Rattle.samples.specs.Building.{NodePut, TowerPut};
 
-use arena::{HEADERS, SYMBOL_STEP, TERM_ROOM};
+use arena::{HEADERS, SYMBOL_STEP};
 
 // Headers: of two constants, and of symbols with one argument and with two.
-pub const CONSTANT: u32 = 0x10_0000;
+pub const CONSTANT: u32 = HEADERS;
 
-pub const OTHER: u32 = 0x10_0000 + 96;
+pub const OTHER: u32 = HEADERS + 3 * SYMBOL_STEP;
 
-pub const UNARY: u32 = 0x10_0000 + 32 + 1;
+pub const UNARY: u32 = HEADERS + SYMBOL_STEP + 1;
 
-pub const BINARY: u32 = 0x10_0000 + 64 + 2;
+pub const BINARY: u32 = HEADERS + 2 * SYMBOL_STEP + 2;
 
-// The most words.
+// The most words, the greatest address and the most levels of a tower.
 const MOST: u32 = 262144;
 
 // Writes the two constants, at the addresses 0 and 1.
@@ -24,35 +25,63 @@ pub fn put_constants(words: &mut [u32])
     slices::put(words, 1, OTHER);
 }
 
-// Writes a node with these arguments, unless there is no room; the address behind it.
-pub fn put_node(words: &mut [u32], at: u32, arguments: &[u32]) -> u32
+// Writes a node with these arguments: the address behind it; none where there is no room, and nothing changes.
+pub fn put_node(words: &mut [u32], at: u32, arguments: &[u32]) -> Option<u32>
     requires { length arguments.now ≤ inputs }
+    ensures { NodePut words.old words.new at arguments.now result }
 {
     if MOST < at {
-        return at;
+        return None;
     }
     let arity = arguments.len() as u32;
     let next = at + 1 + arity;
-    if next as usize <= words.len() {
-        let header = HEADERS + (SYMBOL_STEP + 1) * arity;
-        arena::push_node(words, at, header, arguments);
+    if words.len() < next as usize {
+        return None;
     }
-    next
+    let header = HEADERS + (SYMBOL_STEP + 1) * arity;
+    arena::push_node(words, at, header, arguments);
+    Some(next)
 }
 
-// Writes a tower of nodes with `arity` arguments, all arguments of a node the one below, from an address on; the address behind it.
-pub fn put_tower(words: &mut [u32], at: u32, height: u32, leaf: u32, arity: u32) -> u32
-    requires { arity ≤ inputs }
+// A tower that was built: the address behind it, and its reference.
+#[derive(Clone, Copy)]
+pub struct Built {
+    pub next: u32,
+    pub root: u32,
+}
+
+// Nodes one on the other: how many, of how many arguments, all of which are the one below, and what they stand on.
+#[derive(Clone, Copy)]
+pub struct Tower {
+    pub height: u32,
+    pub leaf: u32,
+    pub arity: u32,
+}
+
+// Writes a tower from an address on, with references to nodes from `room` on; none where there is no room, and nothing changes.
+pub fn put_tower(words: &mut [u32], room: u32, at: u32, tower: Tower) -> Option<Built>
+    requires { tower.arity ≤ inputs }
+    ensures { TowerPut words.old words.new room at tower result }
 {
-    let mut next = at;
-    let mut below = leaf;
-    for _ in 0..height {
-        if MOST < next {
-            break;
-        }
-        let arguments = [below; 16];
-        below = TERM_ROOM + next;
-        next = put_node(words, next, &arguments[..arity as usize]);
+    let Tower {
+        height,
+        leaf,
+        arity,
+    } = tower;
+    if MOST < room || MOST < at || MOST < height {
+        return None;
     }
-    next
+    if words.len() < (at + height * (1 + arity)) as usize {
+        return None;
+    }
+    let header = HEADERS + (SYMBOL_STEP + 1) * arity;
+    let mut next = at;
+    let mut root = leaf;
+    for _ in 0..height {
+        let arguments = [root; 16];
+        arena::push_node(words, next, header, &arguments[..arity as usize]);
+        root = room + next;
+        next += 1 + arity;
+    }
+    Some(Built { next, root })
 }

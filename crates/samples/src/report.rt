@@ -1,4 +1,6 @@
 // Lines of output.
+use super::unification::Fault;
+
 // Standard output.
 const STDOUT_FILENO: i32 = 1;
 
@@ -35,4 +37,16 @@ pub fn bindings(table: &[[u32; 2]], from: u32, to: u32) {
 fn bound_to(table: &[[u32; 2]], variable: u32) -> Option<u32> {
     let [value, _] = table.get(variable as usize)?;
     value.checked_sub(1)
+}
+
+// Writes why a call has no answer.
+pub fn fault(fault: Fault) {
+    match fault {
+        Fault::NotReady => {
+            text(b": not as the call asks");
+        }
+        Fault::ScratchLeft => {
+            text(b": scratch is left");
+        }
+    }
 }

@@ -1,25 +1,23 @@
 // One call of `unify`, `occurs` or `check_bindings` on storage that is tested first, and of `undo` after it.
-ghost use Rattle.samples.specs.Same.{Clean};
+ghost use Rattle.samples.specs.Scratch.{Clean};
 ghost use Rattle.bindings.specs.Promises.{Tells};
 
-use super::{report, rows};
+use super::report;
 use arena::{TERM_ROOM, Terms};
 use bindings::StoredBindings;
 use unifier::Workspace;
 
-// The counts of storage, and two references.
+// How many variables, words and bindings of storage are in use.
 #[derive(Clone, Copy)]
-pub struct Case {
+pub struct Counts {
     pub variables: u32,
     pub used: u32,
     pub bound: u32,
-    pub left: u32,
-    pub right: u32,
 }
 
 // What a call leaves: the words, the bindings and the marks, beside the bindings that stood before it.
 #[derive(Drop)]
-pub struct Left<'a> {
+pub struct Remains<'a> {
     pub words: &'a [u32],
     pub before: &'a [[u32; 2]],
     pub bindings: &'a mut [[u32; 2]],
@@ -39,38 +37,28 @@ pub enum Fault {
 pub fn is_clean(workspace: &Workspace) -> bool
     ensures { Tells result (Clean workspace.now.links.now workspace.now.marks.now workspace.now.stack.now) }
 {
-    if !checks::are_zero(workspace.links, 0) {
-        return false;
-    }
-    if !checks::are_zero(workspace.marks, 0) {
-        return false;
-    }
-    checks::are_zero(workspace.stack, 0)
+    checks::is_scratch_zero(0, 0, workspace.links, workspace.marks, workspace.stack)
 }
 
 // Whether the two references unify: how many bindings there are then.
 pub fn solve(
-    words: &[u32],
+    terms: Terms,
     bindings: &mut [[u32; 2]],
     workspace: Workspace,
-    case: Case,
+    bound: u32,
+    left: u32,
+    right: u32,
 ) -> Result<Option<u32>, Fault> {
     let Workspace {
         links,
         marks,
         stack,
     } = workspace;
-    let terms = Terms {
-        words,
-        room: TERM_ROOM,
-        variables: case.variables,
-        used: case.used,
-    };
     let held = StoredBindings {
         rows: bindings,
-        bound: case.bound,
+        bound,
     };
-    if !checks::is_ready(terms, held, links, marks, stack, case.left, case.right) {
+    if !checks::is_ready(terms, held, links, marks, stack, left, right) {
         return Err(Fault::NotReady);
     }
     let mut lent = Workspace {
@@ -78,47 +66,34 @@ pub fn solve(
         marks,
         stack,
     };
-    let ended = unifier::unify(
-        terms, bindings, &mut lent, case.bound, case.left, case.right,
-    );
+    let ended = unifier::unify(terms, bindings, &mut lent, bound, left, right);
     if !is_clean(&lent) {
         return Err(Fault::ScratchLeft);
     }
     Ok(ended)
 }
 
-// Whether the variable `left` occurs in what `right` denotes.
+// Whether the variable occurs in what the reference denotes.
 pub fn ask(
-    words: &[u32],
-    bindings: &[[u32; 2]],
+    terms: Terms,
+    held: StoredBindings,
     marks: &mut [[u32; 2]],
-    case: Case,
+    variable: u32,
+    reference: u32,
 ) -> Result<bool, Fault> {
-    let x = case.left;
-    let r = case.right;
-    let terms = Terms {
-        words,
-        room: TERM_ROOM,
-        variables: case.variables,
-        used: case.used,
-    };
-    let held = StoredBindings {
-        rows: bindings,
-        bound: case.bound,
-    };
     if !checks::is_form(terms, held, marks) {
         return Err(Fault::NotReady);
     }
-    if !bindings::is_reference(terms, r) {
+    if !bindings::is_reference(terms, reference) {
         return Err(Fault::NotReady);
     }
-    if case.variables <= x {
+    if terms.variables <= variable {
         return Err(Fault::NotReady);
     }
-    if bindings[x as usize][0] != 0 {
+    if held.rows[variable as usize][0] != 0 {
         return Err(Fault::NotReady);
     }
-    let answer = bindings::occurs(terms, held, marks, x, r);
+    let answer = bindings::occurs(terms, held, marks, variable, reference);
     if !checks::are_zero(marks, 0) {
         return Err(Fault::ScratchLeft);
     }
@@ -126,28 +101,13 @@ pub fn ask(
 }
 
 // Whether rows are bindings in form.
-pub fn check(
-    words: &[u32],
-    bindings: &[[u32; 2]],
-    marks: &mut [[u32; 2]],
-    case: Case,
-) -> Result<bool, Fault> {
-    let terms = Terms {
-        words,
-        room: TERM_ROOM,
-        variables: case.variables,
-        used: case.used,
-    };
+pub fn check(terms: Terms, held: StoredBindings, marks: &mut [[u32; 2]]) -> Result<bool, Fault> {
     if !checks::are_terms(terms) {
         return Err(Fault::NotReady);
     }
-    if !checks::are_zero(marks, (TERM_ROOM + case.used) as usize) {
+    if !checks::are_zero(marks, (terms.room + terms.used) as usize) {
         return Err(Fault::NotReady);
     }
-    let held = StoredBindings {
-        rows: bindings,
-        bound: case.bound,
-    };
     let answer = bindings::check_bindings(terms, held, marks);
     if !checks::are_zero(marks, 0) {
         return Err(Fault::ScratchLeft);
@@ -157,46 +117,52 @@ pub fn check(
 
 // Takes back the bindings from the mark on, where all of them are in form.
 pub fn take_back(
-    words: &[u32],
+    terms: Terms,
     bindings: &mut [[u32; 2]],
     marks: &mut [[u32; 2]],
-    case: Case,
+    bound: u32,
     mark: u32,
 ) -> bool {
-    let terms = Terms {
-        words,
-        room: TERM_ROOM,
-        variables: case.variables,
-        used: case.used,
-    };
     let held = StoredBindings {
         rows: bindings,
-        bound: case.bound,
+        bound,
     };
     if !checks::is_form(terms, held, marks) {
         return false;
     }
-    if case.bound < mark {
+    if bound < mark {
         return false;
     }
-    bindings::undo(bindings, case.bound, mark);
+    bindings::undo(bindings, bound, mark);
     checks::are_zero(marks, 0)
 }
 
+// Whether two lists of rows are the same.
+// Stays: tried `bindings != before` in `finish`: the borrow checker does not cover it, since one of the two was lent to be written in between.
+fn are_same(left: &[[u32; 2]], right: &[[u32; 2]]) -> bool {
+    left == right
+}
+
 // Writes the new bindings, takes them back, and says so if that does not give the rows that stood before.
-pub fn finish(left: Left, case: Case, mark: u32) {
-    let Left {
+pub fn finish(remains: Remains, counts: Counts, mark: u32) {
+    let Remains {
         words,
         before,
         bindings,
         marks,
-    } = left;
-    report::bindings(bindings, mark, case.bound);
-    if !take_back(words, bindings, marks, case, mark) {
+    } = remains;
+    let terms = Terms {
+        words,
+        room: TERM_ROOM,
+        variables: counts.variables,
+        used: counts.used,
+    };
+    report::bindings(bindings, mark, counts.bound);
+    if !take_back(terms, bindings, marks, counts.bound, mark) {
         report::text(b", which are not in form");
         return;
     }
-    if !rows::are_same(bindings, before) {
+    if !are_same(bindings, before) {
         report::text(b", and undoing left other bindings");
         return;
     }
@@ -204,8 +170,8 @@ pub fn finish(left: Left, case: Case, mark: u32) {
 }
 
 // Says so if the bindings are not those that stood before.
-pub fn compare(left: &Left) {
-    if !rows::are_same(left.bindings, left.before) {
+pub fn compare(remains: &Remains) {
+    if *remains.bindings != *remains.before {
         report::text(b", and other bindings stand");
     }
 }

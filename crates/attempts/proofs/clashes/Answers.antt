@@ -1,28 +1,47 @@
 -- `clashes` meets its contract: where it says so, the heads differ, or those of two arguments at the same place.
--- The loop's invariant: no more arguments were passed than there are.
-use native.Mathlib.Omega.{arith}
-use Rattle.attempts.specs.Clashes.{led, heads_clash, arguments_comparable, arguments_clash}
+use Rattle.std.proofs.Common.{ℕ, ◌≡◌, ◌+◌, ◌-◌, ◌<◌, Bool, true, false, length, get_or, refl, ◌∙◌, subst, arith, rules}
+use Rattle.std.specs.Bool.{MatchBool}
+use Rattle.std.specs.List.{range_with_len, HoldsAt, AllWithin}
+use Rattle.std.proofs.lemmas.Iterator.{serves_from_Range, YieldsList-from_range, cases_from_any}
+use Rattle.std.proofs.lemmas.List.FromFn.{length-range_with_len, get_or-range_with_len}
+use Rattle.arena.specs.Cells.{cells, arity_of}
+use Rattle.arena.specs.Copies.{pattern_room, term_room}
+use Rattle.attempts.specs.Clashes.{Clashes, heads_clash, arguments_comparable, arguments_clash}
 use Rattle.attempts.proofs.clashes.Goals as goal
 
 pub returns-then-header-pattern : goal.returns-then-header-pattern
 returns-then-header-pattern c =
     let pre = c.requires in
-    let l = led c.goal_node.ensures c.in-Some.is in
+    let l = c.in-Some.ensures in
     λ e. heads_clash pre l.1 l.0 (omega arith) c.if-header-pattern.true
 
-pub heads_differ-requires : goal.heads_differ-requires
-heads_differ-requires c =
-    let pre = c.requires in
-    let l = led c.goal_node.ensures c.in-Some.is in
-    let if3 = c.if-header-pattern in
-    let loop = c.loop-i in
-    arguments_comparable pre l.1 l.0 (omega arith) if3.false loop.i (omega arith)
+pub any-requires-clause-callable : goal.any-requires-clause-callable
+any-requires-clause-callable c =
+    serves_from_Range (λ x q e. search rules)
+    (λ x low high.
+    let l = c.in-Some.ensures in
+    let k = arguments_comparable c.requires l.1 l.0 (omega arith) c.if-header-pattern.false x high in
+    search rules)
 
-pub returns-then-heads_differ : goal.returns-then-heads_differ
-returns-then-heads_differ c =
-    let pre = c.requires in
-    let l = led c.goal_node.ensures c.in-Some.is in
-    let if3 = c.if-header-pattern in
-    let loop = c.loop-i in
-    let heads-differ = c.heads_differ in
-    λ e. arguments_clash pre l.1 l.0 (omega arith) if3.false loop.i (omega arith) (heads-differ.ensures c.if-heads_differ.true)
+-- A place of a range at which the answer was yes.
+found : (Yes : ℕ → Type 0) (n : ℕ) (B : Type 0) (r : Bool)
+    → MatchBool r ((k : ℕ) × (k < length (range_with_len 0 n)) × HoldsAt Yes (range_with_len 0 n) k) B → r ≡ true → (k : ℕ) × (k < n) × Yes k
+found Yes n B true h e =
+    let low = subst (λ (m : ℕ). h.0 < m) (length-range_with_len 0 n) h.1 in
+    let is : get_or (range_with_len 0 n) h.0 0 ≡ h.0 = get_or-range_with_len 0 n h.0 0 low ∙ (let z : 0 + h.0 ≡ h.0 = omega arith in z) in
+    (h.0, low, subst Yes is (h.2 0))
+found Yes n B false h e = absurd (let w : false ≡ true = e in cc)
+
+pub returns : goal.returns
+returns c = λ e.
+    let l = c.in-Some.ensures in
+    let w = c.args.words.now in
+    let p = c.args.pattern.now in
+    let a = c.in-Some.end - term_room in
+    let b = c.args.conclusion - pattern_room in
+    let n = arity_of (cells w a) in
+    let Differ : ℕ → Type 0 = λ i. Clashes p w c.args.bindings.now c.args.at.bound (cells w (a + 1 + i)) (cells p (b + 1 + i)) in
+    let hit = found Differ n (AllWithin (λ _. Unit {0}) (range_with_len 0 n) 0 (length (range_with_len 0 n))) c.any.result
+    (cases_from_any _ _ c.any.result Differ (λ _. Unit {0}) c.any.ensures.ran (YieldsList-from_range 0 n n refl (omega arith)) (λ x q k. search rules) (λ x q k. (search rules, tt)))
+    e in
+    arguments_clash c.requires l.1 l.0 (omega arith) c.if-header-pattern.false hit.0 hit.1 hit.2

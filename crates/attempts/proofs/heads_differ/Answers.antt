@@ -2,9 +2,9 @@
 -- There is no loop here: one way out says so, and the others say nothing.
 use native.Mathlib.Omega.{arith}
 use borrow.Author.Tests.{not-true, eqb-false}
-use Rattle.attempts.specs.Clashes.{led, heads_clash}
+use Rattle.attempts.specs.Clashes.{heads_clash}
 use Rattle.attempts.proofs.heads_differ.Goals as goal
 
 pub returns : goal.returns
 returns c =
-    λ e. let l = led c.goal_node.ensures c.in-Some.is in heads_clash c.requires l.1 l.0 (omega arith) (eqb-false _ _ (not-true _ e))
+    λ e. let l = c.in-Some.ensures in heads_clash c.requires l.1 l.0 (omega arith) (eqb-false _ _ (not-true _ e))

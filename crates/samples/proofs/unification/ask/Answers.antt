@@ -8,8 +8,8 @@ pub is_reference-requires : goal.is_reference-requires
 is_reference-requires c =
     let f = c.is_form.ensures.tells.yes (c.if-not-is_form.false) in f.form.lent_words
 
-pub bounds-bindings-x : goal.bounds-bindings-x
-bounds-bindings-x c =
+pub bounds-held-variable : goal.bounds-held-variable
+bounds-held-variable c =
     let f = c.is_form.ensures.tells.yes (c.if-not-is_form.false) in let l = f.form.lent_rows in omega arith
 
 pub occurs-answer-requires : goal.occurs-answer-requires

@@ -1,0 +1,47 @@
+-- What the builders of words leave.
+use Rattle.std.specs.Prelude.{ℕ, zero, suc, ◌+◌, ◌*◌, ◌≤◌, ◌<◌, ◌≡◌, List, ◌∷◌, length, replicate, Option}
+use Rattle.std.specs.Option.{MatchOption}
+use Rattle.std.proofs.lemmas.List.Edits.{sets}
+use Rattle.arena.specs.Cells.{headers}
+use Rattle.samples.specs.declared.build.Built.{Built}
+use Rattle.samples.specs.declared.build.Tower.{Tower}
+
+-- The most words, and the greatest address.
+abbrev pub most : ℕ
+most = 262144
+
+-- A node of the symbol whose number is its number of arguments.
+abbrev pub node_words : List ℕ → ℕ → List ℕ → List ℕ
+node_words words at arguments = sets words at ((headers + 33 * length arguments) ∷ arguments)
+
+-- A node was put, or there was no room.
+abbrev pub NodePut : List ℕ → List ℕ → ℕ → List ℕ → Option ℕ → Type 0
+NodePut words words' at arguments put =
+    MatchOption put ((words' ≡ words) × (at ≤ most → length words < at + 1 + length arguments))
+    (λ next. (at ≤ most) × (next ≤ length words) × (next ≡ at + 1 + length arguments) × (words' ≡ node_words words at arguments))
+
+-- Words, the next address and the reference of what stands below it.
+pub record Level : Type 0 where
+  pub words : List ℕ
+  pub next : ℕ
+  pub root : ℕ
+
+-- One node more, and so many.
+abbrev pub raised : ℕ → ℕ → Level → Level
+raised room arity l = record {
+  words = sets l.words l.next ((headers + 33 * arity) ∷ replicate arity l.root);
+  next = l.next + (1 + arity);
+  root = room + l.next;
+}
+
+abbrev pub raised_by : ℕ → ℕ → ℕ → Level → Level
+raised_by zero room arity l = l
+raised_by (suc n) room arity l = raised_by n room arity (raised room arity l)
+
+-- A tower was put, or there was no room.
+abbrev pub TowerPut : List ℕ → List ℕ → ℕ → ℕ → Tower → Option Built → Type 0
+TowerPut words words' room at tower put =
+    MatchOption put
+    ((words' ≡ words) × (room ≤ most → at ≤ most → tower.height ≤ most → length words < at + tower.height * (1 + tower.arity)))
+    (λ built. record { words = words'; next = built.next; root = built.root }
+    ≡ raised_by tower.height room tower.arity (record { words = words; next = at; root = tower.leaf }))
