@@ -1,6 +1,6 @@
 -- Linking two references: the loop's invariant, its step, and its ways out.
 use Prim.Native.Nat.{ℕ, suc, ◌+◌, ◌-◌, ◌≤◌, ◌<◌}
-use Rattle.std.proofs.Common.{min, max, SomeIff, Some}
+use Rattle.std.proofs.Common.{min, max}
 use Rattle.std.proofs.Math.Nat.{min-eq_left, min-eq_right, max-eq_left, max-eq_right, min-le_left, min-le_right}
 use native.Mathlib.Omega.{arith}
 use mathlib.Core.Path.{◌≡◌, refl, sym, ap, ◌∙◌, subst}
@@ -23,10 +23,6 @@ pub ordered : (P : ℕ → ℕ → Type 0) (a b : ℕ) → (a < b → P b a) →
 ordered P a b f g = by_less a b
     (λ l _. let k : a ≤ b = omega arith in rw (max-eq_right k, min-eq_left k) (f l))
     (λ l _. rw (max-eq_left l, min-eq_right l) (g l))
-
--- What a number that is not 0 is one more than.
-pub linked : {n z : ℕ} → SomeIff (Some z) (1 ≤ n) (n - 1) → n ≡ suc z
-linked e = omega (arith, e)
 
 -- A link after one was set.
 pub set_other : (L : List ℕ) (h v i : ℕ) → i ≢ h → cells (set L h v) i ≡ cells L i

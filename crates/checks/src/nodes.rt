@@ -1,5 +1,5 @@
 // Whether words are terms in form.
-ghost use Rattle.std.specs.Prelude.{◌+◌, ◌<◌, ◌≤◌, length};
+ghost use Rattle.std.specs.Prelude.{◌<◌, ◌≤◌, length};
 ghost use Rattle.arena.specs.Cells.{cells, headers, WellFormed};
 ghost use Rattle.bindings.specs.Promises.{Tells};
 ghost use Rattle.checks.specs.Ready.{NodeFormed, Stored};
@@ -8,6 +8,7 @@ use arena::{HEADERS, SYMBOL_STEP, Terms};
 use bindings::is_reference;
 
 // Whether the word at an address is no header, or that of a node in form.
+// Stays: tried with `all` over the range of the arguments: that its answer tells of each of them did not close.
 fn is_node(terms: Terms, address: u32) -> bool
     requires { (address < terms.used) × (terms.used ≤ length terms.words.now) × (terms.used ≤ headers) }
     ensures { Tells result (NodeFormed terms.entry.room (cells terms.entry.words.now) terms.entry.variables terms.entry.used address) }
@@ -38,12 +39,7 @@ fn are_nodes(terms: Terms) -> bool
     requires { (terms.used ≤ length terms.words.now) × (terms.used ≤ headers) }
     ensures { Tells result (WellFormed terms.entry.room (cells terms.entry.words.now) terms.entry.variables terms.entry.used) }
 {
-    for a in 0..terms.used {
-        if !is_node(terms, a) {
-            return false;
-        }
-    }
-    true
+    (0..terms.used).all(|address| is_node(terms, address))
 }
 
 // Whether the words in use are terms in form, there is room for the variables, and all references are below the headers.

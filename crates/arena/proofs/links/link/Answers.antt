@@ -1,5 +1,6 @@
 -- `link` meets its contract. The loop's invariant: p and q have to be the same, by the links, exactly where a and b have to be, by the first links.
-use Rattle.arena.proofs.Linking.{linked, link_order, link_in, link_same, link_clash, link_new, link_step}
+use Rattle.arena.specs.Rows.{one_more}
+use Rattle.arena.proofs.Linking.{link_order, link_in, link_same, link_clash, link_new, link_step}
 use Rattle.std.proofs.Math.Nat.{max-add-min}
 use native.Mathlib.Omega.{arith}
 use Rattle.arena.proofs.links.link.Goals as goal
@@ -121,7 +122,7 @@ loop-p-smaller c =
     let loop-test = c.loop-p-test in
     let if1 = c.if-lower-room in
     let o = link_order args.room args.links.now args.a args.b loop.links loop.p loop.q high.result lower.result loop.invariant loop-test.true high.ensures lower.ensures in
-    omega (arith, o.0.form.below _ _ (linked c.in-Some.ensures), max-add-min loop.p loop.q)
+    omega (arith, o.0.form.below _ _ (one_more c.in-Some.ensures), max-add-min loop.p loop.q)
 
 pub loop-p-preserved : goal.loop-p-preserved
 loop-p-preserved c =
@@ -135,7 +136,7 @@ loop-p-preserved c =
     let if1 = c.if-lower-room in
     let o = link_order args.room args.links.now args.a args.b loop.links loop.p loop.q high.result lower.result loop.invariant loop-test.true high.ensures lower.ensures in
     let b = link_in args.room args.links.now args.a args.b loop.links high.result lower.result o.0 pre in
-    link_step args.room args.links.now args.a args.b loop.links high.result lower.result _ shorter.result o.0 o.1 if1.false b (linked c.in-Some.ensures) shorter.ensures
+    link_step args.room args.links.now args.a args.b loop.links high.result lower.result _ shorter.result o.0 o.1 if1.false b (one_more c.in-Some.ensures) shorter.ensures
 
 pub returns : goal.returns
 returns c =
