@@ -1,7 +1,7 @@
 -- `character_at` meets its contract.
 use mathlib.Core.Path.{sym, ◌∙◌}
 use Rattle.source_text.proofs.Encodings.{positive_or, character_past, character_ascii, character_wide}
-use Rattle.source_text.proofs.characters.character_at.Goals as goal
+use Rattle.source_text.proofs.characters.Classes.character_at.Goals as goal
 
 pub returns-then-text-at : goal.returns-then-text-at
 returns-then-text-at c = sym (character_past _ _ c.if-text-at.true)
