@@ -183,7 +183,7 @@ impl Classes {
     }
 
     // The character at a place of a text; past the end, no class and no length.
-    // Stays: each caller asks at a place in the text, where an `Option` would be unwrapped.
+    // Stays: each caller goes through the places of a text: it would cut the text at each, and unwrap an `Option` where there is always a character.
     pub fn character_at(&self, text: &[u8], at: usize) -> Character
         ensures { classed_of result ≡ character_of (drop at text.now) }
     {
@@ -200,7 +200,7 @@ impl Classes {
                 length: 1,
             };
         }
-        if starts_with(text, at, &UNICODE_ARROW) {
+        if starts_with(&text[at..], &UNICODE_ARROW) {
             return Character {
                 class: Class::Sign,
                 length: 3,
@@ -208,7 +208,7 @@ impl Classes {
         }
         Character {
             class: Class::Outside,
-            length: character_length(text, at).unwrap_or(0),
+            length: character_length(&text[at..]).unwrap_or(0),
         }
     }
 

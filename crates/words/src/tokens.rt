@@ -23,6 +23,7 @@ pub struct Lexeme {
 }
 
 // The place past the word that starts at a place.
+// Stays: tokens are told by their places in the line, here and in `item_at`; a rest would be cut off at each place.
 fn word_end(classes: &Classes, line: &[u8], at: usize) -> usize
     requires { at ≤ length line.now }
     ensures { result ≡ at + length (word_of (drop at line.now)) }
@@ -115,6 +116,7 @@ pub fn read_lines(text: &[u8], rows: &mut [Row]) -> Result<usize, Rejection>
 }
 
 // The first line with a character outside the domain and not in a comment.
+// Stays: goes through the lines as `read_lines` does; one loop for both would take a closure that may end it, with a contract on the rows it writes.
 pub fn outside_line(text: &[u8]) -> Option<u32>
     requires { length text.now ≤ 65536 }
     ensures { result ≡ positive (outside_line (lines text.now) 1) }
