@@ -33,8 +33,8 @@ impl Output<'_> {
         self.at = end;
     }
 
-    // Stays: formatted writing promises its bytes only where they go into a `String`, and there is no heap here.
     // Writes a number in decimal: the digits of its tenth, and then its last digit. A number of 32 bits has at most ten digits.
+    // Stays: a formatter would write the same digits by way of a trait whose contract does not fix each byte.
     pub fn write_decimal(&mut self, number: u32)
         requires { self.old.at + length (numeral number) ≤ length self.old.bytes.now }
         ensures { IsWritten self.old self.new (numeral number) }

@@ -1,5 +1,5 @@
 // The line of a token, and of a refused text.
-// Stays: formatted writing promises its bytes only where they go into a `String`, and there is no heap here.
+// Stays: a formatter would write the same bytes by way of a trait whose contract does not fix each of them.
 ghost use Rattle.std.specs.Prelude.{◌≡◌, ◌+◌, ◌≤◌, length};
 ghost use Rattle.byte_output.specs.Output.{IsWritten};
 ghost use Rattle.refusals.specs.Refusals.{number_of};

@@ -16,7 +16,7 @@ use term_parser::items::{Item, Judgment, Name, Repeated, all, list};
 use term_parser::lists::{arrows, judgments, name, names, patterns, title};
 use term_parser::terms::{app, term};
 use term_parser::tokens::{peek, rejection, sign};
-use term_parser::{Input, PARENTHESES, Position, Read};
+use term_parser::{Input, PARENTHESES, Position, Read, Token};
 use words::{
     AUTO, BAR, BY, CHECK, CLOSE, COLON, CTOR, DEF, DEFINES, DOUBLE_ARROW, EVAL, INDUCTION, NAME,
     OPEN, PRED, RULE, SORT, THEOREM,
@@ -96,55 +96,53 @@ pub fn tactic(input: Input, from: Position, out: &mut [[u32; 4]]) -> Result<Read
     if peek(input.tokens, from.at + 1).kind != BY {
         return Err(rejection(Refusal::ByForm, input.tokens, from.at + 1));
     }
-    let k = peek(input.tokens, from.at + 2).kind;
     let behind = Position {
         at: from.at + 3,
         ..from
     };
-    if k == AUTO {
-        return Ok(Read {
+    match peek(input.tokens, from.at + 2).kind {
+        AUTO => Ok(Read {
             position: behind,
             count: 0,
-        });
+        }),
+        INDUCTION => name(input, behind, out),
+        _ => Err(rejection(Refusal::ByForm, input.tokens, from.at + 1)),
     }
-    if k == INDUCTION {
-        return name(input, behind, out);
-    }
-    Err(rejection(Refusal::ByForm, input.tokens, from.at + 1))
 }
 
-// `sort n`, from its keyword on, as each declaration below.
+// `sort n`, from its keyword on, which is in this line, as each declaration below.
+// Stays: what these ask for speaks of the rows too, which they write: a struct of input, place and rows would be lent to be written, input and all.
 pub fn sort(
     input: Input,
     from: Position,
     out: &mut [[u32; 4]],
-    number: u32,
+    line: u32,
 ) -> Result<Read, Rejection>
     requires fact_1 { Room input.tokens.now from.at from.used out.old }
     requires fact_2 { from.at < length input.tokens.now }
-    ensures { Declares (declaration_rows number) (λ _. sort_of) input.entry from out.old (step result) out.new }
+    ensures { Declares (declaration_rows line) (λ _. sort_of) input.entry from out.old (step result) out.new }
 {
     let behind = Position {
         at: from.at + 1,
         used: from.used + 1,
     };
     let n = name(input, behind, out)?;
-    out[from.used] = [SORT, number, 0, 0];
+    out[from.used] = [SORT, line, 0, 0];
     Ok(Read { count: 1, ..n })
 }
 
 // `n : A → B`, from the keyword on, whose number is `kind`.
-// Stays: the kind and the number of the declaration go into one row, and have nothing else in common.
+// Stays: `kind` and `line` are two of a `Token`'s four numbers; `ctor` and `rule` know their kinds, and would have to ask that the token has it.
 pub fn titled<I: Item>(
     input: Input,
     from: Position,
     out: &mut [[u32; 4]],
     kind: u32,
-    number: u32,
+    line: u32,
 ) -> Result<Read, Rejection>
     requires fact_1 { Room input.tokens.now from.at from.used out.old }
     requires fact_2 { from.at < length input.tokens.now }
-    ensures { Declares (titled_rows I.rows kind number) (λ text last. titled_of last (separated I.SIGN (I.grammar text last)))
+    ensures { Declares (titled_rows I.rows kind line) (λ text last. titled_of last (separated I.SIGN (I.grammar text last)))
         input.entry from out.old (step result) out.new }
 {
     let behind = Position {
@@ -153,7 +151,7 @@ pub fn titled<I: Item>(
     };
     let n = title(input, behind, out)?;
     let items = list::<I>(input, n.position, out)?;
-    out[from.used] = [kind, number, items.count, 0];
+    out[from.used] = [kind, line, items.count, 0];
     Ok(Read { count: 1, ..items })
 }
 
@@ -162,13 +160,13 @@ pub fn ctor(
     input: Input,
     from: Position,
     out: &mut [[u32; 4]],
-    number: u32,
+    line: u32,
 ) -> Result<Read, Rejection>
     requires fact_1 { Room input.tokens.now from.at from.used out.old }
     requires fact_2 { from.at < length input.tokens.now }
-    ensures { Declares (declaration_rows number) (λ _. ctor_of) input.entry from out.old (step result) out.new }
+    ensures { Declares (declaration_rows line) (λ _. ctor_of) input.entry from out.old (step result) out.new }
 {
-    titled::<Name>(input, from, out, CTOR, number)
+    titled::<Name>(input, from, out, CTOR, line)
 }
 
 // Is a name's row that of `Prop`?
@@ -184,11 +182,11 @@ pub fn pred(
     input: Input,
     from: Position,
     out: &mut [[u32; 4]],
-    number: u32,
+    line: u32,
 ) -> Result<Read, Rejection>
     requires fact_1 { Room input.tokens.now from.at from.used out.old }
     requires fact_2 { from.at < length input.tokens.now }
-    ensures { Declares (declaration_rows number) pred_of input.entry from out.old (step result) out.new }
+    ensures { Declares (declaration_rows line) pred_of input.entry from out.old (step result) out.new }
 {
     let behind = Position {
         at: from.at + 1,
@@ -199,7 +197,7 @@ pub fn pred(
     let last = sorts.position.used - 1;
     let row = out[last];
     if is_prop(input.text, row) {
-        out[from.used] = [PRED, number, sorts.count - 1, 0];
+        out[from.used] = [PRED, line, sorts.count - 1, 0];
         return Ok(Read {
             position: Position {
                 used: last,
@@ -216,25 +214,20 @@ pub fn rule(
     input: Input,
     from: Position,
     out: &mut [[u32; 4]],
-    number: u32,
+    line: u32,
 ) -> Result<Read, Rejection>
     requires fact_1 { Room input.tokens.now from.at from.used out.old }
     requires fact_2 { from.at < length input.tokens.now }
-    ensures { Declares (declaration_rows number) rule_of input.entry from out.old (step result) out.new }
+    ensures { Declares (declaration_rows line) rule_of input.entry from out.old (step result) out.new }
 {
-    titled::<Judgment>(input, from, out, RULE, number)
+    titled::<Judgment>(input, from, out, RULE, line)
 }
 
 // `def n : A → B`, and its clauses
-pub fn def(
-    input: Input,
-    from: Position,
-    out: &mut [[u32; 4]],
-    number: u32,
-) -> Result<Read, Rejection>
+pub fn def(input: Input, from: Position, out: &mut [[u32; 4]], line: u32) -> Result<Read, Rejection>
     requires fact_1 { Room input.tokens.now from.at from.used out.old }
     requires fact_2 { from.at < length input.tokens.now }
-    ensures { Declares (declaration_rows number) def_of input.entry from out.old (step result) out.new }
+    ensures { Declares (declaration_rows line) def_of input.entry from out.old (step result) out.new }
 {
     let behind = Position {
         at: from.at + 1,
@@ -243,7 +236,7 @@ pub fn def(
     let n = title(input, behind, out)?;
     let sorts = arrows(input, n.position, out)?;
     let clauses = all::<Clause>(input, sorts.position, out)?;
-    out[from.used] = [DEF, number, sorts.count, clauses.count];
+    out[from.used] = [DEF, line, sorts.count, clauses.count];
     Ok(Read {
         count: 1,
         ..clauses
@@ -251,12 +244,11 @@ pub fn def(
 }
 
 // Puts a number at the end of a row.
-pub fn mark(out: &mut [[u32; 4]], at: usize, number: u32)
+pub fn mark(out: &mut [[u32; 4]], at: usize, last: u32)
     requires { at < length out.old }
-    ensures { out.new ≡ set out.old at (numbered (get_or out.old at []) number) }
+    ensures { out.new ≡ set out.old at (numbered (get_or out.old at []) last) }
 {
-    let row = out[at];
-    out[at] = [row[0], row[1], row[2], number];
+    out[at][3] = last;
 }
 
 // `theorem n (x : S) : J → J := by …`
@@ -264,11 +256,11 @@ pub fn theorem(
     input: Input,
     from: Position,
     out: &mut [[u32; 4]],
-    number: u32,
+    line: u32,
 ) -> Result<Read, Rejection>
     requires fact_1 { Room input.tokens.now from.at from.used out.old }
     requires fact_2 { from.at < length input.tokens.now }
-    ensures { Declares (declaration_rows number) theorem_of input.entry from out.old (step result) out.new }
+    ensures { Declares (declaration_rows line) theorem_of input.entry from out.old (step result) out.new }
 {
     let behind = Position {
         at: from.at + 1,
@@ -284,55 +276,52 @@ pub fn theorem(
         from.used + 1,
         (proof.position.used - terms.position.used) as u32,
     );
-    out[from.used] = [THEOREM, number, bound.count, terms.count];
+    out[from.used] = [THEOREM, line, bound.count, terms.count];
     Ok(Read { count: 1, ..proof })
 }
 
-// `#eval t` or `#check t`: the keyword's number says which.
-// Stays: the kind and the number of the declaration go into one row, and have nothing else in common.
+// `#eval t` or `#check t`, from the keyword on, which says which.
 pub fn asked(
     input: Input,
     from: Position,
     out: &mut [[u32; 4]],
-    kind: u32,
-    number: u32,
+    token: Token,
 ) -> Result<Read, Rejection>
     requires fact_1 { Room input.tokens.now from.at from.used out.old }
     requires fact_2 { from.at < length input.tokens.now }
-    requires kinds { (kind ≡ EVAL) ⊎ (kind ≡ CHECK) }
-    ensures { Declares (declaration_rows number) (λ text last. asked_of text last kind) input.entry from out.old (step result) out.new }
+    requires kinds { (token.kind ≡ EVAL) ⊎ (token.kind ≡ CHECK) }
+    ensures { Declares (declaration_rows token.line) (λ text last. asked_of text last token.kind) input.entry from out.old (step result) out.new }
 {
     let behind = Position {
         at: from.at + 1,
         used: from.used + 1,
     };
     let t = term(input, behind, PARENTHESES, out)?;
-    out[from.used] = [kind, number, 0, 0];
+    out[from.used] = [token.kind, token.line, 0, 0];
     Ok(Read { count: 1, ..t })
 }
 
-// What a keyword starts, from the keyword on: its number says which declaration.
-// Stays: the number is that of a token's row, which C callers may lend, and may be none of these; a type of kinds would be made for this one `match`.
+// What a token starts, from it on: its kind says which declaration.
+// Stays: the kind is that of a token's row, which `lex` wrote, and may be that of a name or a sign; a type of the keywords would be made for this one `match`.
 pub fn body(
     input: Input,
     from: Position,
     out: &mut [[u32; 4]],
-    kind: u32,
-    number: u32,
+    token: Token,
 ) -> Result<Read, Rejection>
     requires fact_1 { Room input.tokens.now from.at from.used out.old }
     requires fact_2 { from.at < length input.tokens.now }
-    ensures { Declares (declaration_rows number) (λ text last. body_of text last kind (drop from.at input.entry.tokens.now)) input.entry from out.old (step result) out.new }
+    ensures { Declares (declaration_rows token.line) (λ text last. body_of text last token.kind (drop from.at input.entry.tokens.now)) input.entry from out.old (step result) out.new }
 {
-    match kind {
-        SORT => sort(input, from, out, number),
-        CTOR => ctor(input, from, out, number),
-        PRED => pred(input, from, out, number),
-        RULE => rule(input, from, out, number),
-        DEF => def(input, from, out, number),
-        THEOREM => theorem(input, from, out, number),
+    match token.kind {
+        SORT => sort(input, from, out, token.line),
+        CTOR => ctor(input, from, out, token.line),
+        PRED => pred(input, from, out, token.line),
+        RULE => rule(input, from, out, token.line),
+        DEF => def(input, from, out, token.line),
+        THEOREM => theorem(input, from, out, token.line),
         BY | AUTO | INDUCTION => Err(rejection(Refusal::OtherKeyword, input.tokens, from.at + 1)),
-        EVAL | CHECK => asked(input, from, out, kind, number),
+        EVAL | CHECK => asked(input, from, out, token),
         _ => Err(rejection(Refusal::DeclarationExpected, input.tokens, from.at)),
     }
 }
@@ -352,7 +341,7 @@ impl Repeated for Declaration {
             return Ok(None);
         }
         let t = peek(input.tokens, from.at);
-        Ok(Some(body(input, from, out, t.kind, t.line)?))
+        Ok(Some(body(input, from, out, t)?))
     }
 }
 

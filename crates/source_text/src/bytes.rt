@@ -1,5 +1,5 @@
 // Comparing bytes.
-ghost use Rattle.std.specs.Prelude.{◌≡◌, ◌≤◌, length, drop};
+ghost use Rattle.std.specs.Prelude.{◌≡◌};
 ghost use Rattle.source_text.specs.Bytes.{same_bytes, starts_with};
 
 // Are two words the same, byte by byte?
@@ -10,10 +10,10 @@ pub fn same(v: &[u8], w: &[u8]) -> bool
     v == w
 }
 
-// Does w stand at a place of a text?
-pub fn starts_with(text: &[u8], at: usize, w: &[u8]) -> bool
-    requires { at ≤ length text.now }
-    ensures { result ≡ starts_with w.now (drop at text.now) }
+// Does a text start with w?
+// Stays: as `same`.
+pub fn starts_with(text: &[u8], w: &[u8]) -> bool
+    ensures { result ≡ starts_with w.now text.now }
 {
-    text[at..].starts_with(w)
+    text.starts_with(w)
 }

@@ -19,10 +19,8 @@ pub enum Class {
     Outside,
 }
 
-pub type Classes = [Class; 128];
-
 // The class of each of the 128 ASCII codes.
-const CLASS: Classes = [
+const CLASS: [Class; 128] = [
     Class::Stray, // 0
     Class::Stray, // 1
     Class::Stray, // 2
@@ -156,69 +154,76 @@ const CLASS: Classes = [
 // → in UTF-8.
 pub const UNICODE_ARROW: [u8; 3] = [0xE2, 0x86, 0x92];
 
-// The class table, for the loops that read it.
-pub fn class_table() -> Classes
-    ensures { class_numbers result ≡ class_table }
-{
-    CLASS
-}
-
+// A character: its class, and its length in bytes.
 #[derive(Clone, Copy)]
 pub struct Character {
     pub class: Class,
     pub length: usize,
 }
 
-// The class of an ASCII code. The table is lent, since a constant is laid out anew wherever it is named.
-fn class_of(classes: &Classes, c: u8) -> Class
-    requires { (class_numbers classes.now ≡ class_table) × (c < 128) }
-    ensures { class_number result ≡ class_of c }
-{
-    classes[c as usize]
+// The class table, which is lent to the loops that read it, since a constant is laid out anew wherever it is named.
+#[derive(Clone, Copy)]
+pub struct Classes {
+    codes: [Class; 128],
+    ghost table: { class_numbers codes ≡ class_table },
 }
 
-// The character at a place of a text; past the end, no class and no length.
-pub fn character_at(classes: &Classes, text: &[u8], at: usize) -> Character
-    requires { class_numbers classes.now ≡ class_table }
-    ensures { classed_of result ≡ character_of (drop at text.now) }
-{
-    if text.len() <= at {
-        return Character {
-            class: Class::Stray,
-            length: 0,
-        };
+impl Classes {
+    // The table.
+    pub fn new() -> Self {
+        Classes { codes: CLASS }
     }
-    let c = text[at];
-    if c < 128 {
-        return Character {
-            class: class_of(classes, c),
-            length: 1,
-        };
-    }
-    if starts_with(text, at, &UNICODE_ARROW) {
-        return Character {
-            class: Class::Sign,
-            length: 3,
-        };
-    }
-    Character {
-        class: Class::Outside,
-        length: character_length(text, at).unwrap_or(0),
-    }
-}
 
-// Has a line a character outside the domain?
-pub fn has_outside(classes: &Classes, line: &[u8]) -> bool
-    requires { class_numbers classes.now ≡ class_table }
-    ensures { result ≡ has_outside line.now }
-{
-    let mut at = 0;
-    while at < line.len() {
-        let c = character_at(classes, line, at);
-        if let Class::Outside = c.class {
-            return true;
+    // The class of an ASCII code.
+    fn class_of(&self, c: u8) -> Class
+        requires { c < 128 }
+        ensures { class_number result ≡ class_of c }
+    {
+        self.codes[c as usize]
+    }
+
+    // The character at a place of a text; past the end, no class and no length.
+    // Stays: each caller goes through the places of a text: it would cut the text at each, and unwrap an `Option` where there is always a character.
+    pub fn character_at(&self, text: &[u8], at: usize) -> Character
+        ensures { classed_of result ≡ character_of (drop at text.now) }
+    {
+        if text.len() <= at {
+            return Character {
+                class: Class::Stray,
+                length: 0,
+            };
         }
-        at += c.length;
+        let c = text[at];
+        if c < 128 {
+            return Character {
+                class: self.class_of(c),
+                length: 1,
+            };
+        }
+        if starts_with(&text[at..], &UNICODE_ARROW) {
+            return Character {
+                class: Class::Sign,
+                length: 3,
+            };
+        }
+        Character {
+            class: Class::Outside,
+            length: character_length(&text[at..]).unwrap_or(0),
+        }
     }
-    false
+
+    // Has a line a character outside the domain?
+    pub fn has_outside(&self, line: &[u8]) -> bool
+        ensures { result ≡ has_outside line.now }
+    {
+        let mut at = 0;
+        while at < line.len() {
+            let c = self.character_at(line, at);
+            if let Class::Outside = c.class {
+                return true;
+            }
+            at += c.length;
+        }
+        false
+    }
 }

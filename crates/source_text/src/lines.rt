@@ -5,6 +5,7 @@ ghost use Rattle.source_text.specs.Lines.{line_of, code_of, ends_code};
 use super::bytes::starts_with;
 
 // The end of the line that starts at a place: the next line feed, or the text's end.
+// Stays: the ends of lines are places of the text, as their starts are; of a rest alone each caller would add its start again.
 pub fn line_end(text: &[u8], at: usize) -> usize
     requires { at ≤ length text.now }
     ensures { result ≡ at + length (line_of (drop at text.now)) }
@@ -20,7 +21,7 @@ fn ends_code(text: &[u8], at: usize) -> bool
 {
     match text[at] {
         b'\n' => true,
-        b'-' => starts_with(text, at, b"--"),
+        b'-' => starts_with(&text[at..], b"--"),
         _ => false,
     }
 }

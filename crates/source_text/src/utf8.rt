@@ -51,18 +51,18 @@ fn tails(rest: &[u8], count: usize, low: u8, high: u8) -> bool
     is_within(*first, low, high) && others.iter().all(|c| is_within(*c, 0x80, 0xBF))
 }
 
-// The length of the character at a place, if there is one.
+// The length of the character at the start of a text, if there is one.
 #[inline]
-pub fn character_length(text: &[u8], at: usize) -> Option<usize>
-    ensures { result ≡ positive (character_length (drop at text.now)) }
+pub fn character_length(text: &[u8]) -> Option<usize>
+    ensures { result ≡ positive (character_length text.now) }
 {
-    let first = *text.get(at)?;
+    let (first, rest) = text.split_first()?;
     // Most characters are ASCII, so they come first.
-    if first < 0x80 {
+    if *first < 0x80 {
         return Some(1);
     }
-    let lead = lead_of(first)?;
-    tails(&text[at + 1..], lead.length - 1, lead.low, lead.high).then_some(lead.length)
+    let lead = lead_of(*first)?;
+    tails(rest, lead.length - 1, lead.low, lead.high).then_some(lead.length)
 }
 
 // Is the text UTF-8?
@@ -71,7 +71,7 @@ pub fn is_utf8(text: &[u8]) -> bool
 {
     let mut at = 0;
     while at < text.len() {
-        let Some(length) = character_length(text, at) else {
+        let Some(length) = character_length(&text[at..]) else {
             return false;
         };
         at += length;

@@ -4,6 +4,9 @@
 // What comes in lists is an item of a kind, which says how it is read.
 #![tactic(auto)]
 
+ghost use Rattle.std.specs.Prelude.{◌≡◌, [], ◌∷◌};
+ghost use Rattle.term_parser.specs.Parsing.{token_of};
+
 pub mod tokens; // reading tokens and writing rows
 pub mod terms; // terms: the cycle of calls
 pub mod items; // what lists are made of, and how they are read
@@ -23,6 +26,20 @@ pub struct Token {
     pub start: u32,
     pub length: u32,
     pub line: u32,
+}
+
+impl From<[u32; 4]> for Token {
+    ghost from_gives = { λ row token. token ≡ token_of (row ∷ []) };
+
+    fn from(row: [u32; 4]) -> Token {
+        let [kind, start, length, line] = row;
+        Token {
+            kind,
+            start,
+            length,
+            line,
+        }
+    }
 }
 
 // What is read: a text, and its tokens.

@@ -52,15 +52,17 @@ pub fn equate(
         count: 1,
     };
     let row = out[root];
-    if row[0] == NAME {
-        out[root] = [APPLICATION, row[1], row[2], 1];
-        return Ok(read);
+    match row {
+        [NAME, start, length, _] => {
+            out[root] = [APPLICATION, start, length, 1];
+            Ok(read)
+        }
+        [APPLICATION, start, length, more] => {
+            out[root] = [APPLICATION, start, length, more + 1];
+            Ok(read)
+        }
+        _ => Err(rejection(Refusal::LeftOfEquals, input.tokens, from.at)),
     }
-    if row[0] == APPLICATION {
-        out[root] = [APPLICATION, row[1], row[2], row[3] + 1];
-        return Ok(read);
-    }
-    Err(rejection(Refusal::LeftOfEquals, input.tokens, from.at))
 }
 
 // A name, a metavariable, a numeral, or a term in parentheses, of which `left` more may be open.
@@ -75,28 +77,25 @@ pub fn atom(
     ensures { Reads 1 rows_of (λ text last. atom_of text last (parenthesis text last left)) input.entry from out.old (maybe_step result) out.new }
 {
     let t = peek(input.tokens, from.at);
-    if t.kind == NAME {
-        return Ok(Some(push(out, from, [NAME, t.start, t.length, 0])));
-    }
-    if t.kind == METAVARIABLE {
-        return Ok(Some(push(out, from, [METAVARIABLE, t.start, t.length, 0])));
-    }
-    if t.kind == NUMERAL {
-        let value = saturated(input.text, t.start, t.length);
-        return Ok(Some(push(out, from, [NUMERAL, t.start, t.length, value])));
-    }
-    if t.kind == OPEN {
-        let inside = Position {
-            at: from.at + 1,
-            ..from
-        };
-        if left == 0 {
-            return Err(rejection(Refusal::ParenthesisLimit, input.tokens, from.at));
+    match t.kind {
+        NAME | METAVARIABLE => Ok(Some(push(out, from, [t.kind, t.start, t.length, 0]))),
+        NUMERAL => {
+            let value = saturated(input.text, t.start, t.length);
+            Ok(Some(push(out, from, [NUMERAL, t.start, t.length, value])))
         }
-        let inner = term(input, inside, left - 1, out)?;
-        return Ok(Some(sign(input, CLOSE, inner.position)?));
+        OPEN => {
+            let inside = Position {
+                at: from.at + 1,
+                ..from
+            };
+            if left == 0 {
+                return Err(rejection(Refusal::ParenthesisLimit, input.tokens, from.at));
+            }
+            let inner = term(input, inside, left - 1, out)?;
+            Ok(Some(sign(input, CLOSE, inner.position)?))
+        }
+        _ => Ok(None),
     }
-    Ok(None)
 }
 
 // A term applied to terms by juxtaposition: the first atom takes those behind it.

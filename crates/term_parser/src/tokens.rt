@@ -16,19 +16,9 @@ pub fn peek(tokens: &[[u32; 4]], at: usize) -> Token
     ensures { result ≡ token_of (drop at tokens.now) }
 {
     if at < tokens.len() {
-        return Token {
-            kind: tokens[at][0],
-            start: tokens[at][1],
-            length: tokens[at][2],
-            line: tokens[at][3],
-        };
+        return Token::from(tokens[at]);
     }
-    Token {
-        kind: 0,
-        start: 0,
-        length: 0,
-        line: 0,
-    }
+    Token::from([0; 4])
 }
 
 // The line of the token at a place, or that of the last one.

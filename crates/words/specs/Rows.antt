@@ -1,7 +1,5 @@
 -- What the inner readers ask of and owe to each other: they write token rows from a place on and answer as `lex` does.
 use Rattle.std.specs.Prelude.{◌≡◌, List, ℕ, ◌+◌, ◌≤◌, length, take}
-use Rattle.source_text.specs.Characters.{class_numbers, class_table}
-use Rattle.source_text.specs.declared.characters.Class.{Class}
 use Rattle.words.specs.Lexer.{count_of}
 use Rattle.words.specs.Tokens.{Reading, and_then}
 use Rattle.words.specs.Tokens.Reading.{tokens, refused}
@@ -20,8 +18,7 @@ pub record Read (reading : Reading) (most count : ℕ) (before : List (List ℕ)
   pub fits : count_of r ≤ most
   pub long : length after ≡ length before
 
--- What the reader of a line asks: the class table, and room for one row for each byte of it.
-pub record Room (classes : List Class) (code : List ℕ) (start : ℕ) (rows : List (List ℕ)) : Type 0 where
-  pub table : class_numbers classes ≡ class_table
+-- What the reader of a line asks: room for one row for each byte of it.
+pub record Room (code : List ℕ) (start : ℕ) (rows : List (List ℕ)) : Type 0 where
   pub lent : length code ≤ length rows
   pub small : start + length code ≤ 65536

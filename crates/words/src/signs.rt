@@ -44,7 +44,7 @@ pub fn sign_item(line: &[u8], at: usize) -> Result<Lexeme, Refusal>
         (b'|', _) => (BAR, 1),
         (b'=', _) => (EQUALS, 1),
         _ => {
-            if !starts_with(line, at, &UNICODE_ARROW) {
+            if !starts_with(&line[at..], &UNICODE_ARROW) {
                 return Err(Refusal::UnexpectedCharacter);
             }
             (ARROW, 3)

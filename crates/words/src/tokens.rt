@@ -1,6 +1,6 @@
 // One item, one line, all lines.
 ghost use Rattle.std.specs.Prelude.{◌≡◌, ◌+◌, ◌≤◌, ◌<◌, length, drop};
-ghost use Rattle.source_text.specs.Characters.{class_number, class_numbers, class_table};
+ghost use Rattle.source_text.specs.Characters.{class_number};
 ghost use Rattle.source_text.specs.Lines.{lines};
 ghost use Rattle.source_text.specs.Utf8.{positive};
 ghost use Rattle.words.specs.Items.{item};
@@ -10,7 +10,7 @@ ghost use Rattle.words.specs.Tokens.{is_word, word_of, item_of, read_after, read
 use super::names::word_item;
 use super::signs::sign_item;
 use refusals::{Refusal, Rejection};
-use source_text::characters::{Class, Classes, character_at, class_table, has_outside};
+use source_text::characters::{Class, Classes};
 use source_text::lines::{code_end, line_end};
 
 pub type Row = [u32; 4];
@@ -23,12 +23,13 @@ pub struct Lexeme {
 }
 
 // The place past the word that starts at a place.
+// Stays: tokens are told by their places in the line, here and in `item_at`; a rest would be cut off at each place.
 fn word_end(classes: &Classes, line: &[u8], at: usize) -> usize
-    requires { (class_numbers classes.now ≡ class_table) × (at ≤ length line.now) }
+    requires { at ≤ length line.now }
     ensures { result ≡ at + length (word_of (drop at line.now)) }
 {
     (at..line.len())
-        .find(|i| !in_word(character_at(classes, line, *i).class))
+        .find(|i| !in_word(classes.character_at(line, *i).class))
         .unwrap_or(line.len())
 }
 
@@ -41,10 +42,10 @@ fn in_word(class: Class) -> bool
 
 // What stands at a place of a line: a token, or nothing at a blank.
 fn item_at(classes: &Classes, line: &[u8], at: usize) -> Result<Option<Lexeme>, Refusal>
-    requires { (class_numbers classes.now ≡ class_table) × (at < length line.now) }
+    requires { at < length line.now }
     ensures { item result ≡ item_of (drop at line.now) }
 {
-    match character_at(classes, line, at).class {
+    match classes.character_at(line, at).class {
         Class::Blank => Ok(None),
         Class::Letter | Class::Digit => {
             let end = word_end(classes, line, at);
@@ -63,7 +64,7 @@ fn read_code(
     number: u32,
     rows: &mut [Row],
 ) -> Result<usize, Rejection>
-    requires { Room classes.now code.now start rows.old }
+    requires { Room code.now start rows.old }
     ensures { Read (read_after code.now 0 start number) (length code.now) 0 rows.old result rows.new }
 {
     let mut at = 0;
@@ -100,7 +101,7 @@ pub fn read_lines(text: &[u8], rows: &mut [Row]) -> Result<usize, Rejection>
     requires { (length text.now ≤ 65536) × (length text.now ≤ length rows.old) }
     ensures { Read (read_lines (lines text.now) 0 1) (length text.now) 0 rows.old result rows.new }
 {
-    let classes = class_table();
+    let classes = Classes::new();
     let mut at = 0;
     let mut number = 1;
     let mut count = 0;
@@ -115,16 +116,17 @@ pub fn read_lines(text: &[u8], rows: &mut [Row]) -> Result<usize, Rejection>
 }
 
 // The first line with a character outside the domain and not in a comment.
+// Stays: goes through the lines as `read_lines` does; one loop for both would take a closure that may end it, with a contract on the rows it writes.
 pub fn outside_line(text: &[u8]) -> Option<u32>
     requires { length text.now ≤ 65536 }
     ensures { result ≡ positive (outside_line (lines text.now) 1) }
 {
-    let classes = class_table();
+    let classes = Classes::new();
     let mut at = 0;
     let mut number = 1;
     while at < text.len() {
         let end = code_end(text, at);
-        if has_outside(&classes, &text[at..end]) {
+        if classes.has_outside(&text[at..end]) {
             return Some(number);
         }
         at = line_end(text, end) + 1;

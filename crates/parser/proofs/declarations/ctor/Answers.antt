@@ -10,4 +10,4 @@ use Rattle.parser.proofs.TitleLaws.{declares}
 use Rattle.parser.proofs.declarations.ctor.Goals as goal
 
 pub returns : goal.returns
-returns c = let ts = c.args.input.tokens.now in declares ctor name_rows 2 c.args.number (λ t. refl) (last_line ts) (arrows_of (last_line ts)) (drop (c.args.from.at + 1) ts) c.titled.ensures
+returns c = let ts = c.args.input.tokens.now in declares ctor name_rows 2 c.args.line (λ t. refl) (last_line ts) (arrows_of (last_line ts)) (drop (c.args.from.at + 1) ts) c.titled.ensures

@@ -10,4 +10,4 @@ use Rattle.parser.proofs.TitleLaws.{declares}
 use Rattle.parser.proofs.declarations.rule.Goals as goal
 
 pub returns : goal.returns
-returns c = let ts = c.args.input.tokens.now in declares rule rows_of 4 c.args.number (λ t. refl) (last_line ts) (judgments_of c.args.input.text.now (last_line ts)) (drop (c.args.from.at + 1) ts) c.titled.ensures
+returns c = let ts = c.args.input.tokens.now in declares rule rows_of 4 c.args.line (λ t. refl) (last_line ts) (judgments_of c.args.input.text.now (last_line ts)) (drop (c.args.from.at + 1) ts) c.titled.ensures

@@ -27,55 +27,25 @@ returns-then-peek-ne-BY c =
     rw c.rejection.ensures (no_by args.input.tokens.now args.from.at args.from.used _ (sym (ap (λ x. x.kind) peek.ensures)
     ∙ if1.false) (λ e. if2.true (ap (λ x. x.kind) peek2.ensures ∙ e)) refl)
 
-pub returns-then-k-eq-AUTO : goal.returns-then-k-eq-AUTO
-returns-then-k-eq-AUTO c =
-    let args = c.args in
-    let peek = c.peek in
-    let if1 = c.if-peek-ne-DEFINES in
-    let peek2 = c.peek-2 in
-    let if2 = c.if-peek-ne-BY in
-    let peek3 = c.peek-k in
-    let if3 = c.if-k-eq-AUTO in
-    by_auto args.input.tokens.now args.from.at args.from.used _ (sym (ap (λ x. x.kind) peek.ensures)
-    ∙ if1.false) (sym (ap (λ x. x.kind) peek2.ensures)
-    ∙ if2.false) (sym (ap (λ x. x.kind) peek3.ensures)
-    ∙ if3.true)
+pub returns-in-8 : goal.returns-in-8
+returns-in-8 c =
+    by_auto c.args.input.tokens.now c.args.from.at c.args.from.used _ (sym (ap (λ x. x.kind) c.peek.ensures) ∙ c.if-peek-ne-DEFINES.false)
+    (sym (ap (λ x. x.kind) c.peek-2.ensures) ∙ c.if-peek-ne-BY.false) (sym (ap (λ x. x.kind) c.peek-3.ensures) ∙ c.in-8.is)
 
 pub name-requires : goal.name-requires
 name-requires c =
-    let args = c.args in
-    let peek3 = c.peek-k in
-    let if4 = c.if-k-eq-INDUCTION in
-    let pre = c.requires in
-    let e : kind_of (drop (args.from.at + 2) args.input.tokens.now) ≡ 9 = sym (ap (λ x. x.kind) peek3.ensures) ∙ if4.true in
-    let h = token_there args.input.tokens.now (args.from.at + 2) (omega arith) in
-    room_on pre _ _ _ (omega arith) (omega arith) refl
+    let e : kind_of (drop (c.args.from.at + 2) c.args.input.tokens.now) ≡ 9 = sym (ap (λ x. x.kind) c.peek-3.ensures) ∙ c.in-9.is in
+    let h = token_there c.args.input.tokens.now (c.args.from.at + 2) (omega arith) in
+    room_on c.requires _ _ _ (omega arith) (omega arith) refl
 
-pub returns-then-k-eq-INDUCTION : goal.returns-then-k-eq-INDUCTION
-returns-then-k-eq-INDUCTION c =
-    let args = c.args in
-    let peek = c.peek in
-    let if1 = c.if-peek-ne-DEFINES in
-    let peek2 = c.peek-2 in
-    let if2 = c.if-peek-ne-BY in
-    let peek3 = c.peek-k in
-    let if4 = c.if-k-eq-INDUCTION in
-    let name = c.name in
-    by_induction args.input.tokens.now args.from.at args.from.used _ (sym (ap (λ x. x.kind) peek.ensures)
-    ∙ if1.false) (sym (ap (λ x. x.kind) peek2.ensures)
-    ∙ if2.false) (sym (ap (λ x. x.kind) peek3.ensures)
-    ∙ if4.true) name.ensures
+pub returns-in-9 : goal.returns-in-9
+returns-in-9 c =
+    by_induction c.args.input.tokens.now c.args.from.at c.args.from.used _ (sym (ap (λ x. x.kind) c.peek.ensures) ∙ c.if-peek-ne-DEFINES.false)
+    (sym (ap (λ x. x.kind) c.peek-2.ensures) ∙ c.if-peek-ne-BY.false) (sym (ap (λ x. x.kind) c.peek-3.ensures) ∙ c.in-9.is) c.name.ensures
 
-pub returns : goal.returns
-returns c =
-    let args = c.args in
-    let peek = c.peek in
-    let if1 = c.if-peek-ne-DEFINES in
-    let peek2 = c.peek-2 in
-    let if2 = c.if-peek-ne-BY in
-    let if3 = c.if-k-eq-AUTO in
-    let peek3 = c.peek-k in
-    let if4 = c.if-k-eq-INDUCTION in
-    rw c.rejection-2.ensures (neither args.input.tokens.now args.from.at args.from.used _ (sym (ap (λ x. x.kind) peek.ensures)
-    ∙ if1.false) (sym (ap (λ x. x.kind) peek2.ensures)
-    ∙ if2.false) (λ e. if3.false (ap (λ x. x.kind) peek3.ensures ∙ e)) (λ e. if4.false (ap (λ x. x.kind) peek3.ensures ∙ e)) refl)
+pub returns-in_default : goal.returns-in_default
+returns-in_default c =
+    rw c.rejection-in_default.ensures (neither c.args.input.tokens.now c.args.from.at c.args.from.used _ (sym (ap (λ x. x.kind) c.peek.ensures) ∙ c.if-peek-ne-DEFINES.false)
+    (sym (ap (λ x. x.kind) c.peek-2.ensures) ∙ c.if-peek-ne-BY.false)
+    (λ e. let k : c.peek-3.result.kind ≡ 8 = ap (λ x. x.kind) c.peek-3.ensures ∙ e in omega arith)
+    (λ e. let k : c.peek-3.result.kind ≡ 9 = ap (λ x. x.kind) c.peek-3.ensures ∙ e in omega arith) refl)

@@ -1,6 +1,9 @@
 -- `ends_code` meets its contract.
-use mathlib.Core.Path.{◌≡◌, refl, sym, ◌∙◌}
-use lib.ListN.{get_or}
+use mathlib.Core.Path.{◌≡◌, refl, sym, ap, ◌∙◌}
+use mathlib.Core.List.{[], ◌∷◌}
+use lib.ListN.{get_or, length-drop}
+use Rattle.std.proofs.lemmas.List.{take_all}
+use Rattle.source_text.specs.Bytes.{starts_with}
 use native.Mathlib.Omega.{arith}
 use borrow.Author.Tests.{eq-eqb, ne_eqb}
 use Rattle.source_text.proofs.Scans.{one_at, ends_at}
@@ -10,7 +13,7 @@ pub returns-in-10 : goal.returns-in-10
 returns-in-10 c = sym (ends_at c.args.text.now c.args.at ∙ simp (eq-eqb _ _ c.in-10.is))
 
 pub returns-in-45 : goal.returns-in-45
-returns-in-45 c = sym (simp (one_at 10 refl c.args.text.now c.args.at, c.in-45.is, ← c.starts_with.ensures))
+returns-in-45 c = sym (simp (one_at 10 refl c.args.text.now c.args.at, c.in-45.is, ← (c.starts_with.ensures ∙ ap (starts_with (45 ∷ 45 ∷ [])) (take_all _ _ (simp length-drop (omega arith))))))
 
 pub returns-in_default : goal.returns-in_default
 returns-in_default c =

@@ -1,11 +1,17 @@
 -- `atom`, `app` and `term` call each other in turn: the tokens left fall, and with the same tokens left the rank of the three.
-use mathlib.Core.Path.{refl, sym, ap, ◌∙◌}
+use mathlib.Core.Path.{◌≡◌, refl, sym, ap, ◌∙◌}
+use mathlib.Core.List.{[], ◌∷◌}
+use Prim.Native.Nat.{ℕ}
+use lib.Dec.{eqb}
+use lib.ListN.{set}
+use borrow.Author.Tests.{eqb-true, eq-eqb}
+use Rattle.source_text.proofs.Scans.{by_bool}
 use native.Mathlib.Omega.{arith}
 use Rattle.term_parser.proofs.TokenLaws.{token_there}
 use Rattle.term_parser.proofs.Readers.{stopped_err, exits, exits_maybe, maybe_exits, moved}
 use Rattle.term_parser.specs.Steps.{step, maybe_step}
-use Rattle.std.specs.Prelude.{Ok, Some}
-use Rattle.term_parser.proofs.TermLaws.{room_on, there, is_name, is_meta, is_numeral_lem, is_open, is_none, too_deep, inner_stopped, inner_closed, atoms_start, atoms_room, atoms_from, atoms_past, atoms_few, atoms_turn, atoms_none, atoms_applied, atoms_refused, term_stopped, term_plain, second_stopped, root_room, term_equated}
+use Rattle.std.specs.Prelude.{Ok, Some, ◌≢◌}
+use Rattle.term_parser.proofs.TermLaws.{room_on, is_name, is_meta, is_numeral_lem, is_open, is_none, too_deep, inner_stopped, inner_closed, atoms_start, atoms_room, atoms_from, atoms_past, atoms_few, atoms_turn, atoms_none, atoms_applied, atoms_refused, term_stopped, term_plain, second_stopped, root_room, term_equated}
 use Rattle.term_parser.proofs.terms.+app_atom_term.Goals as goal
 
 pub app-loop-more-init : goal.app-loop-more-init
@@ -34,146 +40,6 @@ app-returns t c = let args = c.args in let pre = c.requires in let atom = c.atom
 
 pub app-returns-in_err-more : goal.app-returns-in_err-more
 app-returns-in_err-more t c = let args = c.args in let pre = c.requires in let atom = c.atom in let loop = c.loop-more in rw (maybe_exits _ _ c.in_err-more.was c.from_residual.ensures.1, ap maybe_step c.in_err-more.was) (atoms_refused (args.input.text.now) (args.input.tokens.now) (args.left) (pre) (atom.ensures) (loop.invariant) (ap maybe_step c.in_err-more.was))
-
-pub atom-push-requires : goal.atom-push-requires
-atom-push-requires t c =
-    let args = c.args in
-    let pre = c.requires in
-    let peek = c.peek-t in
-    let if1 = c.if-t-eq-NAME in
-    let h = there args.input.text.now args.input.tokens.now args.left pre peek.ensures if1.true (omega arith) in
-    (omega (arith, pre.lent, pre.below), omega (arith, pre.small, pre.below), omega (arith, pre.small))
-
-pub atom-returns-then-t-eq-NAME : goal.atom-returns-then-t-eq-NAME
-atom-returns-then-t-eq-NAME t c =
-    let args = c.args in
-    let pre = c.requires in
-    let peek = c.peek-t in
-    let push = c.push in
-    let if1 = c.if-t-eq-NAME in
-    is_name args.input.text.now args.input.tokens.now args.left pre peek.ensures (ap (λ r. maybe_step (Ok (Some r))) push.ensures.0) if1.true push.ensures.1
-
-pub atom-push-requires-then-t-eq-METAVARIABLE : goal.atom-push-requires-then-t-eq-METAVARIABLE
-atom-push-requires-then-t-eq-METAVARIABLE t c =
-    let args = c.args in
-    let pre = c.requires in
-    let peek = c.peek-t in
-    let if2 = c.if-t-eq-METAVARIABLE in
-    let h = there args.input.text.now args.input.tokens.now args.left pre peek.ensures if2.true (omega arith) in
-    (omega (arith, pre.lent, pre.below), omega (arith, pre.small, pre.below), omega (arith, pre.small))
-
-pub atom-returns-then-t-eq-METAVARIABLE : goal.atom-returns-then-t-eq-METAVARIABLE
-atom-returns-then-t-eq-METAVARIABLE t c =
-    let args = c.args in
-    let pre = c.requires in
-    let peek = c.peek-t in
-    let push2 = c.push-then-t-eq-METAVARIABLE in
-    let if1 = c.if-t-eq-NAME in
-    let if2 = c.if-t-eq-METAVARIABLE in
-    is_meta args.input.text.now args.input.tokens.now args.left pre peek.ensures (ap (λ r. maybe_step (Ok (Some r))) push2.ensures.0) if1.false if2.true push2.ensures.1
-
-pub atom-push-requires-then-t-eq-NUMERAL : goal.atom-push-requires-then-t-eq-NUMERAL
-atom-push-requires-then-t-eq-NUMERAL t c =
-    let args = c.args in
-    let pre = c.requires in
-    let peek = c.peek-t in
-    let if3 = c.if-t-eq-NUMERAL in
-    let h = there args.input.text.now args.input.tokens.now args.left pre peek.ensures if3.true (omega arith) in
-    (omega (arith, pre.lent, pre.below), omega (arith, pre.small, pre.below), omega (arith, pre.small))
-
-pub atom-returns-then-t-eq-NUMERAL : goal.atom-returns-then-t-eq-NUMERAL
-atom-returns-then-t-eq-NUMERAL t c =
-    let args = c.args in
-    let pre = c.requires in
-    let peek = c.peek-t in
-    let push3 = c.push-then-t-eq-NUMERAL in
-    let if1 = c.if-t-eq-NAME in
-    let if2 = c.if-t-eq-METAVARIABLE in
-    let if3 = c.if-t-eq-NUMERAL in
-    let saturated = c.saturated-value in
-    is_numeral_lem args.input.text.now args.input.tokens.now args.left pre peek.ensures (ap (λ r. maybe_step (Ok (Some r))) push3.ensures.0) if1.false if2.false if3.true saturated.ensures push3.ensures.1
-
-pub atom-overflow_add-inside : goal.atom-overflow_add-inside
-atom-overflow_add-inside t c =
-    let args = c.args in
-    let pre = c.requires in
-    let peek = c.peek-t in
-    let if4 = c.if-t-eq-OPEN in
-    let h = there args.input.text.now args.input.tokens.now args.left pre peek.ensures if4.true (omega arith) in
-    omega (arith, pre.small)
-
-pub atom-returns-then-left-eq0 : goal.atom-returns-then-left-eq0
-atom-returns-then-left-eq0 t c =
-    let args = c.args in
-    let pre = c.requires in
-    let peek = c.peek-t in
-    let if1 = c.if-t-eq-NAME in
-    let if2 = c.if-t-eq-METAVARIABLE in
-    let if3 = c.if-t-eq-NUMERAL in
-    let if4 = c.if-t-eq-OPEN in
-    let if5 = c.if-left-eq0 in
-    rw c.rejection.ensures (too_deep args.input.text.now args.input.tokens.now args.from.at args.left args.from.used _ (is_open args.input.text.now args.input.tokens.now args.left pre peek.ensures if1.false if2.false if3.false if4.true) if5.true refl)
-
-pub atom-term-requires : goal.atom-term-requires
-atom-term-requires t c =
-    let args = c.args in
-    let pre = c.requires in
-    let peek = c.peek-t in
-    let if4 = c.if-t-eq-OPEN in
-    let h = there args.input.text.now args.input.tokens.now args.left pre peek.ensures if4.true (omega arith) in
-    (omega (arith), room_on pre _ _ _ (omega arith) (omega arith) refl)
-
-pub atom-returns-in_err-inner : goal.atom-returns-in_err-inner
-atom-returns-in_err-inner t c =
-    let args = c.args in
-    let pre = c.requires in
-    let peek = c.peek-t in
-    let if1 = c.if-t-eq-NAME in
-    let if2 = c.if-t-eq-METAVARIABLE in
-    let if3 = c.if-t-eq-NUMERAL in
-    let if4 = c.if-t-eq-OPEN in
-    let if5 = c.if-left-eq0 in
-    let term = c.term in
-    rw (exits_maybe _ _ c.in_err-inner.was c.from_residual.ensures.1) (inner_stopped args.input.text.now args.input.tokens.now args.from.at args.left args.from.used _ (is_open args.input.text.now args.input.tokens.now args.left pre peek.ensures if1.false if2.false if3.false if4.true) if5.false term.ensures (stopped_err _ c.in_err-inner.was))
-
-pub atom-returns-then-t-eq-OPEN : goal.atom-returns-then-t-eq-OPEN
-atom-returns-then-t-eq-OPEN t c =
-    let args = c.args in
-    let pre = c.requires in
-    let peek = c.peek-t in
-    let if1 = c.if-t-eq-NAME in
-    let if2 = c.if-t-eq-METAVARIABLE in
-    let if3 = c.if-t-eq-NUMERAL in
-    let if4 = c.if-t-eq-OPEN in
-    let if5 = c.if-left-eq0 in
-    let term = c.term in
-    let sign = c.sign in
-    rw (ap step c.in_ok-sign.was) at (inner_closed args.input.text.now args.input.tokens.now args.from.at args.left args.from.used _ (is_open args.input.text.now args.input.tokens.now args.left pre peek.ensures if1.false if2.false if3.false if4.true) if5.false term.ensures (ap step c.in_ok-inner.was) sign.ensures)
-
-pub atom-returns-in_err-sign : goal.atom-returns-in_err-sign
-atom-returns-in_err-sign t c =
-    let args = c.args in
-    let pre = c.requires in
-    let peek = c.peek-t in
-    let if1 = c.if-t-eq-NAME in
-    let if2 = c.if-t-eq-METAVARIABLE in
-    let if3 = c.if-t-eq-NUMERAL in
-    let if4 = c.if-t-eq-OPEN in
-    let if5 = c.if-left-eq0 in
-    let term = c.term in
-    let sign = c.sign in
-    rw (exits_maybe _ _ c.in_err-sign.was c.from_residual-in_err-sign.ensures.1) (inner_closed args.input.text.now args.input.tokens.now args.from.at args.left args.from.used _ (is_open args.input.text.now args.input.tokens.now args.left pre peek.ensures if1.false if2.false if3.false if4.true) if5.false term.ensures (ap step c.in_ok-inner.was) sign.ensures)
-
-pub atom-returns : goal.atom-returns
-atom-returns t c =
-    let args = c.args in
-    let pre = c.requires in
-    let peek = c.peek-t in
-    let if1 = c.if-t-eq-NAME in
-    let if2 = c.if-t-eq-METAVARIABLE in
-    let if3 = c.if-t-eq-NUMERAL in
-    let if4 = c.if-t-eq-OPEN in
-    is_none args.input.text.now args.input.tokens.now args.left pre peek.ensures if1.false if2.false if3.false if4.false
 
 pub term-returns-in_err-first : goal.term-returns-in_err-first
 term-returns-in_err-first t c =
@@ -242,3 +108,43 @@ term-returns t c =
     let app2 = c.app-2 in
     let equate = c.equate in
     term_equated args.input.text.now args.input.tokens.now args.left pre app.ensures (ap step c.in_ok-first.was) (ap (λ x. x.kind) (sym peek.ensures) ∙ if1.false) app2.ensures (ap step c.in_ok-second.was) equate.ensures
+
+pub atom-returns-in-12 : goal.atom-returns-in-12
+atom-returns-in-12 t c =
+    let args = c.args in
+    let row = λ (n : ℕ). set args.out.now args.from.used (n ∷ c.peek-t.result.start ∷ c.peek-t.result.length ∷ 0 ∷ []) in
+    let e = ap (λ r. maybe_step (Ok (Some r))) c.push-in-12.ensures.0 in
+    by_bool (eqb c.peek-t.result.kind 12)
+    (λ z. let k = eqb-true _ _ z in is_name args.input.text.now args.input.tokens.now args.left c.requires c.peek-t.ensures e k (c.push-in-12.ensures.1 ∙ ap row k))
+    (λ z. let d : c.peek-t.result.kind ≢ 12 = λ k. absurd (let y : ◌≡◌ {A = ℕ} 0 1 = grind (arith, z, eq-eqb _ _ k) in omega arith) in let k : c.peek-t.result.kind ≡ 13 = omega arith in is_meta args.input.text.now args.input.tokens.now args.left c.requires c.peek-t.ensures e d k (c.push-in-12.ensures.1 ∙ ap row k))
+
+pub atom-returns-in_default : goal.atom-returns-in_default
+atom-returns-in_default t c = is_none c.args.input.text.now c.args.input.tokens.now c.args.left c.requires c.peek-t.ensures (λ e. omega arith) (λ e. omega arith) (λ e. omega arith) (λ e. omega arith)
+
+pub atom-returns-in_default-2 : goal.atom-returns-in_default-2
+atom-returns-in_default-2 t c = is_none c.args.input.text.now c.args.input.tokens.now c.args.left c.requires c.peek-t.ensures (λ e. omega arith) (λ e. omega arith) (λ e. omega arith) (λ e. omega arith)
+
+pub atom-returns-in-14 : goal.atom-returns-in-14
+atom-returns-in-14 t c =
+    let args = c.args in
+    is_numeral_lem args.input.text.now args.input.tokens.now args.left c.requires c.peek-t.ensures (ap (λ r. maybe_step (Ok (Some r))) c.push.ensures.0) (λ e. omega (arith, c.in-14.is)) (λ e. omega (arith, c.in-14.is)) c.in-14.is c.saturated-value.ensures c.push.ensures.1
+
+pub atom-returns-then-left-eq0 : goal.atom-returns-then-left-eq0
+atom-returns-then-left-eq0 t c =
+    let args = c.args in
+    rw c.rejection.ensures (too_deep args.input.text.now args.input.tokens.now args.from.at args.left args.from.used _ (is_open args.input.text.now args.input.tokens.now args.left c.requires c.peek-t.ensures (λ e. omega (arith, c.in-18.is)) (λ e. omega (arith, c.in-18.is)) (λ e. omega (arith, c.in-18.is)) c.in-18.is) c.if-left-eq0.true refl)
+
+pub atom-returns-in_err-inner-in-18 : goal.atom-returns-in_err-inner-in-18
+atom-returns-in_err-inner-in-18 t c =
+    let args = c.args in
+    rw (exits_maybe _ _ c.in_err-inner-in-18.was c.from_residual.ensures.1) (inner_stopped args.input.text.now args.input.tokens.now args.from.at args.left args.from.used _ (is_open args.input.text.now args.input.tokens.now args.left c.requires c.peek-t.ensures (λ e. omega (arith, c.in-18.is)) (λ e. omega (arith, c.in-18.is)) (λ e. omega (arith, c.in-18.is)) c.in-18.is) c.if-left-eq0.false c.term.ensures (stopped_err _ c.in_err-inner-in-18.was))
+
+pub atom-returns-in_ok-sign-in-18 : goal.atom-returns-in_ok-sign-in-18
+atom-returns-in_ok-sign-in-18 t c =
+    let args = c.args in
+    rw (ap step c.in_ok-sign-in-18.was) at (inner_closed args.input.text.now args.input.tokens.now args.from.at args.left args.from.used _ (is_open args.input.text.now args.input.tokens.now args.left c.requires c.peek-t.ensures (λ e. omega (arith, c.in-18.is)) (λ e. omega (arith, c.in-18.is)) (λ e. omega (arith, c.in-18.is)) c.in-18.is) c.if-left-eq0.false c.term.ensures (ap step c.in_ok-inner-in-18.was) c.sign.ensures)
+
+pub atom-returns-in_err-sign-in-18 : goal.atom-returns-in_err-sign-in-18
+atom-returns-in_err-sign-in-18 t c =
+    let args = c.args in
+    rw (exits_maybe _ _ c.in_err-sign-in-18.was c.from_residual-in_err-sign-in-18.ensures.1) (inner_closed args.input.text.now args.input.tokens.now args.from.at args.left args.from.used _ (is_open args.input.text.now args.input.tokens.now args.left c.requires c.peek-t.ensures (λ e. omega (arith, c.in-18.is)) (λ e. omega (arith, c.in-18.is)) (λ e. omega (arith, c.in-18.is)) c.in-18.is) c.if-left-eq0.false c.term.ensures (ap step c.in_ok-inner-in-18.was) c.sign.ensures)

@@ -1,9 +1,12 @@
 -- `sign_item` meets its contract: the sign follows from the first bytes and from whether → stands there.
-use mathlib.Core.Path.{◌≡◌, refl, sym, ◌∙◌}
+use mathlib.Core.Path.{◌≡◌, refl, sym, ap, ◌∙◌}
+use mathlib.Core.List.{[], ◌∷◌}
+use Rattle.std.proofs.lemmas.List.{take_all}
+use Rattle.source_text.specs.Bytes.{starts_with}
 use mathlib.Core.Bool.{Bool, cond}
 use Prim.Native.Nat.{◌+◌}
 use borrow.Author.Rules.{rules}
-use lib.ListN.{get_or}
+use lib.ListN.{get_or, length-drop}
 use borrow.Author.Tests.{ne_eqb}
 use native.Mathlib.Omega.{arith}
 use Rattle.refusals.specs.declared.Refusal.TheVariants.{UnexpectedCharacter}
@@ -68,7 +71,7 @@ returns-then-not-starts_with c =
       | in_default-via-in-45+in_default w ↦ λ t. sign_else a b t (λ e f. search rules) (λ e. omega arith) (λ e. omega arith) (λ e. omega arith) (λ e. omega arith) (λ e. omega arith) (λ e. omega arith)
       | in_default-via-in_default w ↦ λ t. sign_else a b t (λ e f. omega arith) (λ e. omega arith) (λ e. omega arith) (λ e. omega arith) (λ e. omega arith) (λ e. omega arith) (λ e. omega arith)
     ] in
-    sym (sign_at c.args.line.now c.args.at ∙ simp (← c.starts_with.ensures, c.if-not-starts_with.true, d))
+    sym (sign_at c.args.line.now c.args.at ∙ simp (← (c.starts_with.ensures ∙ ap (starts_with (226 ∷ 134 ∷ 146 ∷ [])) (take_all _ _ (simp length-drop (omega arith)))), c.if-not-starts_with.true, d))
 
 pub returns-else-not-starts_with : goal.returns-else-not-starts_with
 returns-else-not-starts_with c =
@@ -79,4 +82,4 @@ returns-else-not-starts_with c =
       | in_default-via-in-45+in_default w ↦ λ t. sign_else a b t (λ e f. search rules) (λ e. omega arith) (λ e. omega arith) (λ e. omega arith) (λ e. omega arith) (λ e. omega arith) (λ e. omega arith)
       | in_default-via-in_default w ↦ λ t. sign_else a b t (λ e f. omega arith) (λ e. omega arith) (λ e. omega arith) (λ e. omega arith) (λ e. omega arith) (λ e. omega arith) (λ e. omega arith)
     ] in
-    sym (sign_at c.args.line.now c.args.at ∙ simp (← c.starts_with.ensures, c.if-not-starts_with.false, d))
+    sym (sign_at c.args.line.now c.args.at ∙ simp (← (c.starts_with.ensures ∙ ap (starts_with (226 ∷ 134 ∷ 146 ∷ [])) (take_all _ _ (simp length-drop (omega arith)))), c.if-not-starts_with.false, d))

@@ -17,7 +17,7 @@ slice_bounds-word_item-end c = omega (arith, c.word_end-end.ensures, word_fits c
 
 pub word_item-requires : goal.word_item-requires
 word_item-requires c =
-    word_starts c.args.line.now c.args.at c.word_end-end.result _ c.requires.1 c.character_at.ensures (lettered _ c.in-Letter.is).0 c.word_end-end.ensures
+    word_starts c.args.line.now c.args.at c.word_end-end.result _ c.requires c.character_at.ensures (lettered _ c.in-Letter.is).0 c.word_end-end.ensures
 
 pub returns-in_err-word_item-in-Letter : goal.returns-in_err-word_item-in-Letter
 returns-in_err-word_item-in-Letter c =

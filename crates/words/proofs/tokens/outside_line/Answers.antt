@@ -24,9 +24,6 @@ pub slice_bounds-has_outside-end : goal.slice_bounds-has_outside-end
 slice_bounds-has_outside-end c =
     omega (arith, code_fits c.args.text.now c.loop-at.at c.code_end-end.result c.loop-at-test.true c.code_end-end.ensures)
 
-pub has_outside-requires : goal.has_outside-requires
-has_outside-requires c = c.class_table-classes.ensures
-
 pub returns-then-has_outside : goal.returns-then-has_outside
 returns-then-has_outside c =
     let loop = c.loop-at in

@@ -18,9 +18,6 @@ use Rattle.words.proofs.tokens.read_code.Goals as goal
 pub loop-at-init : goal.loop-at-init
 loop-at-init c = (search rules, search rules, refl, simp add-zero)
 
-pub item_at-requires : goal.item_at-requires
-item_at-requires c = (c.requires.table, c.loop-at-test.true)
-
 pub loop-at-preserved-in-Ok-None : goal.loop-at-preserved-in-Ok-None
 loop-at-preserved-in-Ok-None c =
     let loop = c.loop-at in

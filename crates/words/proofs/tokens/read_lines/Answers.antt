@@ -36,11 +36,9 @@ read_code-requires c =
     let loop = c.loop-at in
     let args = c.args in
     let loop-test = c.loop-at-test in
-    let class-table = c.class_table-classes in
     let pre = c.requires in
     let long : length (take (code-end.result - loop.at) (drop loop.at args.text.now)) ≡ code-end.result - loop.at = part_long args.text.now loop.at code-end.result (code_fits args.text.now loop.at code-end.result loop-test.true code-end.ensures) in
     record {
-      table = class-table.ensures;
       lent = let room : length (drop loop.count loop.rows) ≡ length loop.rows - loop.count = length-drop loop.count loop.rows in omega (arith, pre, loop.invariant, code_fits args.text.now loop.at code-end.result loop-test.true code-end.ensures);
       small = omega (arith, pre, code_fits args.text.now loop.at code-end.result loop-test.true code-end.ensures);
     }

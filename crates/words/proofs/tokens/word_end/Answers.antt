@@ -20,4 +20,4 @@ unfolding word_of
 returns c =
     let ends = λ (s : List ℕ). not (is_word (character_of s).class) in
     let first = first_from_Range _ _ _ _ (λ i. ends (drop i c.args.line.now) ≡ true) (λ i. ends (drop i c.args.line.now) ≡ false) c.find.ensures.ran (λ x q k. search (rules, tests)) (λ x q k. search (rules, tests)) in
-    c.unwrap_or.ensures ∙ scan_found ends c.args.line.now c.args.at c.find.result c.requires.1 first
+    c.unwrap_or.ensures ∙ scan_found ends c.args.line.now c.args.at c.find.result c.requires first

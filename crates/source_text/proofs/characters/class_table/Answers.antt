@@ -1,9 +1,0 @@
--- `class_table` meets its contract: the table holds the class of each code, computed over the whole table.
-use mathlib.Core.Path.{refl}
-use Rattle.source_text.specs.Bytes.{one_of}
-use Rattle.source_text.specs.Characters.{class_table, classes_from, class_of, class_numbers}
-use Rattle.source_text.proofs.characters.class_table.Goals as goal
-
-pub returns : goal.returns
-unfolding class_table classes_from class_of one_of class_numbers
-returns c = refl
