@@ -63,7 +63,7 @@ struct Body {
 // Compiles the premises, and then the conclusion; their variables are numbered together.
 fn judgments(
     source: SourceRule,
-    variables: &mut [VariableRow],
+    variables: &mut [VariableRow; 64],
     words: &mut [u32],
     space: Space,
     heads: &mut [u32],
