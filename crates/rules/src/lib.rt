@@ -188,18 +188,19 @@ fn put_sorts(row: &mut RuleRow, variables: &[VariableRow])
     requires { length variables.now ≤ 64 }
     ensures { (text : List ℕ) → row.new ≡ sets row.old 26 (mathlib.Core.List.map (λ v. v.sort) (variables_of text variables.now (length variables.now))) }
 {
-    for j in 0..variables.len() {
-        row[26 + j] = variables[j][3];
+    for (j, variable) in variables.iter().enumerate() {
+        row[26 + j] = variable[3];
     }
 }
 
 // Writes the places of variables into a row, from column 90 on.
+// Stays: C callers lend the rows, in which a place is a number; each variable of a kept rule has a place, so that the number for none is never written.
 fn put_places(row: &mut RuleRow, places: &[Option<u32>])
     requires { length places.now ≤ 64 }
     ensures { row.new ≡ sets row.old 90 (place_numbers places.now) }
 {
-    for j in 0..places.len() {
-        row[90 + j] = places[j].unwrap_or(PATTERN_ROOM);
+    for (j, place) in places.iter().enumerate() {
+        row[90 + j] = place.unwrap_or(PATTERN_ROOM);
     }
 }
 
