@@ -57,8 +57,9 @@ fn heading(rows: &[TermRow], at: usize, n: usize, word: Word, out: &mut [TermRow
 }
 
 // Enters a clause as a rule at a place. Its rows are flattened in `out` and `calls`, which are scratch.
+// Stays: words and rules go beside the place; a struct of the two buffers would be made anew at each call, and each contract would say they come back.
 pub fn clause(
-    clause: SourceClause,
+    written: SourceClause,
     title: Title,
     words: &mut [u32],
     rules: &mut [RuleRow],
@@ -66,10 +67,10 @@ pub fn clause(
     out: &mut [TermRow],
     calls: &mut [TermRow],
 ) -> Result<EnteredRule, Refusal>
-    requires { ClauseAsked clause.source.text.now clause.source.rows.now clause.at clause.n clause.source.symbols.now (length clause.source.symbols.now) words.old place.space.used place.space.room rules.old out.old calls.old }
-    ensures { ClauseEntered clause.entry.source.text.now clause.entry.source.rows.now clause.entry.at clause.entry.n (symbols_of clause.entry.source.text.now clause.entry.source.symbols.now (length clause.entry.source.symbols.now)) title words.old place.space.used place.space.room rules.old place.number result words.new rules.new }
+    requires { ClauseAsked written.source.text.now written.source.rows.now written.at written.n written.source.symbols.now (length written.source.symbols.now) words.old place.space.used place.space.room rules.old out.old calls.old }
+    ensures { ClauseEntered written.entry.source.text.now written.entry.source.rows.now written.entry.at written.entry.n (symbols_of written.entry.source.text.now written.entry.source.symbols.now (length written.entry.source.symbols.now)) title words.old place.space.used place.space.room rules.old place.number result words.new rules.new }
 {
-    let SourceClause { source, at, n } = clause;
+    let SourceClause { source, at, n } = written;
     let right = heading(source.rows, at, n, title.word, out);
     let from = Place {
         next: right,

@@ -8,7 +8,7 @@ ghost use Rattle.std.specs.List.{list_all};
 ghost use mathlib.Core.List.{List};
 ghost use Rattle.std.proofs.lemmas.List.Edits.{sets};
 ghost use Rattle.names.specs.Symbols.{column, symbols_of, variables_of};
-ghost use Rattle.meeting.specs.Places.{Records, place_numbers};
+ghost use Rattle.meeting.specs.Places.{place_numbers};
 ghost use Rattle.patterns.specs.Promises.{Ready};
 ghost use Rattle.rules.specs.StoredRows.{rule_row};
 ghost use Rattle.rules.specs.Promises.{Judging, OrderAsked, Ordered, Keeping, KeepAsked, RuleAsked, RuleEntered};
@@ -63,7 +63,7 @@ struct Body {
 // Compiles the premises, and then the conclusion; their variables are numbered together.
 fn judgments(
     source: SourceRule,
-    variables: &mut [VariableRow],
+    variables: &mut [VariableRow; 64],
     words: &mut [u32],
     space: Space,
     heads: &mut [u32],
@@ -142,11 +142,17 @@ struct RuleTerms<'a> {
     most: u32,
 }
 
+// The places of a rule's variables in meeting order, and how many variables are met in the conclusion.
+#[derive(Drop)]
+struct MeetingOrder {
+    met: u32,
+    places: Places,
+}
+
 // Gives the variables of a rule their places in meeting order: the conclusion's from left to right, then those of the premises from the last to the first.
-// Answers how many are met in the conclusion.
-fn order(rule: RuleTerms, places: &mut Places, stack: &mut [[u32; 2]]) -> u32
-    requires { OrderAsked rule.words.now rule.heads.now rule.conclusion rule.most × Records [] places.old.places places.old.count × (rule.most ≤ length stack.old) }
-    ensures { Ordered rule.entry.words.now rule.entry.heads.now rule.entry.conclusion result places.new.places places.new.count }
+fn order(rule: RuleTerms, stack: &mut [[u32; 2]]) -> MeetingOrder
+    requires { OrderAsked rule.words.now rule.heads.now rule.conclusion rule.most × (rule.most ≤ length stack.old) }
+    ensures { Ordered rule.entry.words.now rule.entry.heads.now rule.entry.conclusion result.met result.places.places result.places.count }
 {
     let RuleTerms {
         heads,
@@ -154,33 +160,34 @@ fn order(rule: RuleTerms, places: &mut Places, stack: &mut [[u32; 2]]) -> u32
         words,
         most,
     } = rule;
+    let mut places = Places::new();
     places.meet(words, conclusion, most, stack);
     let met = places.count;
     for k in (0..heads.len()).rev() {
         places.meet(words, heads[k], most, stack);
     }
-    met
+    MeetingOrder { met, places }
 }
 
 // The same with a stack of its own, for terms of at most N words.
-fn order_within<const N: usize>(rule: RuleTerms, places: &mut Places) -> u32
-    requires { OrderAsked rule.words.now rule.heads.now rule.conclusion rule.most × Records [] places.old.places places.old.count × (rule.most ≤ N) × (N ≤ 2048) }
-    ensures { Ordered rule.entry.words.now rule.entry.heads.now rule.entry.conclusion result places.new.places places.new.count }
+fn order_within<const N: usize>(rule: RuleTerms) -> MeetingOrder
+    requires { OrderAsked rule.words.now rule.heads.now rule.conclusion rule.most × (rule.most ≤ N) × (N ≤ 2048) }
+    ensures { Ordered rule.entry.words.now rule.entry.heads.now rule.entry.conclusion result.met result.places.places result.places.count }
 {
     let mut stack = [[0u32; 2]; N];
-    order(rule, places, &mut stack)
+    order(rule, &mut stack)
 }
 
 // The same with a stack for as many words as the rule has, at most 2 for each of 1,024 nodes: laying out the large one takes longer than the walk through
 // a small rule.
-fn order_sized(rule: RuleTerms, places: &mut Places) -> u32
-    requires { OrderAsked rule.words.now rule.heads.now rule.conclusion rule.most × Records [] places.old.places places.old.count × (rule.most ≤ 2048) }
-    ensures { Ordered rule.entry.words.now rule.entry.heads.now rule.entry.conclusion result places.new.places places.new.count }
+fn order_sized(rule: RuleTerms) -> MeetingOrder
+    requires { OrderAsked rule.words.now rule.heads.now rule.conclusion rule.most × (rule.most ≤ 2048) }
+    ensures { Ordered rule.entry.words.now rule.entry.heads.now rule.entry.conclusion result.met result.places.places result.places.count }
 {
     if rule.most <= FEW {
-        return order_within::<64>(rule, places);
+        return order_within::<64>(rule);
     }
-    order_within::<2048>(rule, places)
+    order_within::<2048>(rule)
 }
 
 // Writes the sorts of variables into a row, from column 26 on.
@@ -188,18 +195,19 @@ fn put_sorts(row: &mut RuleRow, variables: &[VariableRow])
     requires { length variables.now ≤ 64 }
     ensures { (text : List ℕ) → row.new ≡ sets row.old 26 (mathlib.Core.List.map (λ v. v.sort) (variables_of text variables.now (length variables.now))) }
 {
-    for j in 0..variables.len() {
-        row[26 + j] = variables[j][3];
+    for (j, variable) in variables.iter().enumerate() {
+        row[26 + j] = variable[3];
     }
 }
 
 // Writes the places of variables into a row, from column 90 on.
+// Stays: C callers lend the rows, in which a place is a number; each variable of a kept rule has a place, so that the number for none is never written.
 fn put_places(row: &mut RuleRow, places: &[Option<u32>])
     requires { length places.now ≤ 64 }
     ensures { row.new ≡ sets row.old 90 (place_numbers places.now) }
 {
-    for j in 0..places.len() {
-        row[90 + j] = places[j].unwrap_or(PATTERN_ROOM);
+    for (j, place) in places.iter().enumerate() {
+        row[90 + j] = place.unwrap_or(PATTERN_ROOM);
     }
 }
 
@@ -249,14 +257,13 @@ fn keep(
     } = body;
     let used = body.space.used;
     let v = variables.len();
-    let mut places = Places::new();
     let terms = RuleTerms {
         heads,
         conclusion,
         words,
         most: (used - from) as u32,
     };
-    let met = order_sized(terms, &mut places);
+    let order = order_sized(terms);
     let numbers = [
         title.word.start,
         title.word.size,
@@ -267,9 +274,9 @@ fn keep(
         from as u32,
         (middle - from) as u32,
         (used - middle) as u32,
-        met,
+        order.met,
     ];
-    store(row, &numbers, heads, variables, &places.places[..v]);
+    store(row, &numbers, heads, variables, &order.places.places[..v]);
 }
 
 // Where a rule is entered: its number, and the space for its words.

@@ -21,7 +21,7 @@ rule-requires c =
     let t = S.right in
     let q' = S.end in
     let st' = S.stands in
-    let P = prepared (args.clause.source.text.now) (heading.ensures) (pre.out_lent) (pre.later) (rw c.in_ok-flat.ensures.ok_part at flatten.ensures) ts q st sz t q' st' in
+    let P = prepared (args.written.source.text.now) (heading.ensures) (pre.out_lent) (pre.later) (rw c.in_ok-flat.ensures.ok_part at flatten.ensures) ts q st sz t q' st' in
     let p = pre in
     record {
       source = record { judgments = P.premises; behind = P.end; stand = P.stand; number = P.numbered; conclusion = _; end = P.top; stands = P.stands };
@@ -44,7 +44,7 @@ returns-in_err-flat c =
     let flatten = c.flatten in
     rw (handed_on c.from_residual.result c.from_residual.ensures.1, none_is c.flatten.result c.in_err-flat.ensures.ok_part c.in_err-flat.ensures.value)
     (record {
-      same = λ ts q st sz t q' st' k ck. (tt, rw (seventeenth (symbols_of (args.clause.source.text.now) (args.clause.source.symbols.now) (length args.clause.source.symbols.now)) (part_of (args.clause.source.text.now) (args.title.word.start) (args.title.word.size)) k ts t (args.place.space.room) (args.place.number) (over_limit (args.clause.source.text.now) (heading.ensures) (pre.out_lent) (pre.later) (symbols_of (args.clause.source.text.now) (args.clause.source.symbols.now) (length args.clause.source.symbols.now)) _ (rw c.in_err-flat.ensures.ok_part at flatten.ensures) ts q st sz t q' st')) refl);
+      same = λ ts q st sz t q' st' k ck. (tt, rw (seventeenth (symbols_of (args.written.source.text.now) (args.written.source.symbols.now) (length args.written.source.symbols.now)) (part_of (args.written.source.text.now) (args.title.word.start) (args.title.word.size)) k ts t (args.place.space.room) (args.place.number) (over_limit (args.written.source.text.now) (heading.ensures) (pre.out_lent) (pre.later) (symbols_of (args.written.source.text.now) (args.written.source.symbols.now) (length args.written.source.symbols.now)) _ (rw c.in_err-flat.ensures.ok_part at flatten.ensures) ts q st sz t q' st')) refl);
     })
 
 pub returns-in_err-left : goal.returns-in_err-left
@@ -56,8 +56,8 @@ returns-in_err-left c =
     let rule = c.rule in
     rw (handed_on c.from_residual-in_err-left.result c.from_residual-in_err-left.ensures.1)
     (record {
-      same = λ ts q st sz t q' st' k ck. let P = prepared (args.clause.source.text.now) (heading.ensures) (pre.out_lent) (pre.later) (rw c.in_ok-flat.ensures.ok_part at flatten.ensures) ts q st sz t q' st' in
-          let d = clause_is (symbols_of (args.clause.source.text.now) (args.clause.source.symbols.now) (length args.clause.source.symbols.now)) (args.clause.source.text.now) (args.title.word.start) (args.title.word.size) (args.title.clause) k ck ts t (args.place.space.room) P.is in
+      same = λ ts q st sz t q' st' k ck. let P = prepared (args.written.source.text.now) (heading.ensures) (pre.out_lent) (pre.later) (rw c.in_ok-flat.ensures.ok_part at flatten.ensures) ts q st sz t q' st' in
+          let d = clause_is (symbols_of (args.written.source.text.now) (args.written.source.symbols.now) (length args.written.source.symbols.now)) (args.written.source.text.now) (args.title.word.start) (args.title.word.size) (args.title.clause) k ck ts t (args.place.space.room) P.is in
           (tt, rw d at (c.in_err-left.ensures.same P.premises P.end P.stand P.numbered _ P.top P.stands));
     })
 
@@ -69,7 +69,7 @@ returns c =
     let flatten = c.flatten in
     let rule = c.rule in
     record {
-      same = λ ts q st sz t q' st' k ck. let P = prepared (args.clause.source.text.now) (heading.ensures) (pre.out_lent) (pre.later) (rw c.in_ok-flat.ensures.ok_part at flatten.ensures) ts q st sz t q' st' in
-          let d = clause_is (symbols_of (args.clause.source.text.now) (args.clause.source.symbols.now) (length args.clause.source.symbols.now)) (args.clause.source.text.now) (args.title.word.start) (args.title.word.size) (args.title.clause) k ck ts t (args.place.space.room) P.is in
+      same = λ ts q st sz t q' st' k ck. let P = prepared (args.written.source.text.now) (heading.ensures) (pre.out_lent) (pre.later) (rw c.in_ok-flat.ensures.ok_part at flatten.ensures) ts q st sz t q' st' in
+          let d = clause_is (symbols_of (args.written.source.text.now) (args.written.source.symbols.now) (length args.written.source.symbols.now)) (args.written.source.text.now) (args.title.word.start) (args.title.word.size) (args.title.clause) k ck ts t (args.place.space.room) P.is in
           (P.goes_on, rw d at (c.in_ok-left.ensures.same P.premises P.end P.stand P.numbered _ P.top P.stands));
     }

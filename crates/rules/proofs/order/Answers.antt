@@ -9,12 +9,12 @@ use Rattle.rules.proofs.order.Goals as goal
 
 pub loop-k-init : goal.loop-k-init
 loop-k-init c =
-    met_none (term_of c.args.rule.words.now) c.args.rule.heads.now c.args.rule.conclusion _ _ (c.meet.ensures.recorded c.requires.0.head.small [] c.requires.1)
+    met_none (term_of c.args.rule.words.now) c.args.rule.heads.now c.args.rule.conclusion _ _ (c.meet.ensures.recorded c.requires.0.head.small [] c.new-places.ensures)
 
 pub meet-requires-in-loop-k : goal.meet-requires-in-loop-k
 meet-requires-in-loop-k c =
     let a = c.requires.0 in
-    record { used = a.used; within = a.within; low = a.low; formed = a.formed; root = (a.body (c.loop-k.k - 1) (omega (arith, c.loop-k-test.true, c.loop-k.auto.k))).root; room = omega (arith, c.requires.2) }
+    record { used = a.used; within = a.within; low = a.low; formed = a.formed; root = (a.body (c.loop-k.k - 1) (omega (arith, c.loop-k-test.true, c.loop-k.auto.k))).root; room = omega (arith, c.requires.1) }
 
 pub loop-k-preserved : goal.loop-k-preserved
 loop-k-preserved c =
@@ -28,6 +28,6 @@ returns c =
     let loop = c.loop-k in
     let e : loop.k ≡ 0 = omega (arith, c.loop-k-test.false) in
     record {
-      counted = (c.meet.ensures.recorded c.requires.0.head.small [] c.requires.1).counted;
+      counted = (c.meet.ensures.recorded c.requires.0.head.small [] c.new-places.ensures).counted;
       recorded = rw e at loop.invariant;
     }
