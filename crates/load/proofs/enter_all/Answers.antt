@@ -12,17 +12,6 @@ loop-i-init c =
     let args = c.args in
     (refl, refl, refl, lent_start, sofar_start pre.evals_lent (held_none args.walk.text.now args.walk.limit args.sorts.now args.symbols.now args.store.now.rules.now args.store.now.words.now pre.sorts_lent pre.symbols_lent pre.rules_lent pre.words_lent pre.limited))
 
-pub offset_bounds-rows-progress : goal.offset_bounds-rows-progress
-offset_bounds-rows-progress c =
-    let loop = c.loop-i in
-    let pre = c.requires.1 in
-    let loop-test = c.loop-i-test in
-    let g = loop.invariant.4 pre.declared.0 pre.declared.1 pre.declared.2 pre.declared.3 in
-    let d = sofar_declaration g loop-test.true in
-    let w = (first_row d.2).within in
-    let s = pre.short in
-    omega arith
-
 pub bounds-rows-progress : goal.bounds-rows-progress
 bounds-rows-progress c =
     let loop = c.loop-i in
@@ -44,18 +33,6 @@ bounds-rows-progress-in-loop-i c =
     let w = (first_row d.2).within in
     let s = pre.short in
     omega arith
-
-pub note-count-requires : goal.note-count-requires
-note-count-requires c =
-    let loop = c.loop-i in
-    let pre = c.requires.1 in
-    let loop-test = c.loop-i-test in
-    let g = loop.invariant.4 pre.declared.0 pre.declared.1 pre.declared.2 pre.declared.3 in
-    let d = sofar_declaration g loop-test.true in
-    let w = (first_row d.2).within in
-    let s = pre.short in
-    let f = g.few in
-    (omega arith, omega arith)
 
 pub declare-requires : goal.declare-requires
 declare-requires c =
@@ -98,9 +75,6 @@ loop-i-preserved c =
       lent_on loop.invariant.3 declare.ensures.lent,
       λ ds a b t. rw (note.ensures.0, note.ensures.1) (sofar_on declare.ensures.declared {next = c.in-Ok.further.next} {st' = c.in-Ok.further.state} (loop.invariant.4 ds a b t) loop-test.true c.in-Ok.is),
     )
-
-pub returns-in-Err-clause-lent : goal.returns-in-Err-clause-lent
-returns-in-Err-clause-lent c = lent_on c.loop-i.invariant.3 c.declare.ensures.lent
 
 pub returns-clause-walked : goal.returns-clause-walked
 returns-clause-walked c = record { same = λ ds a b t. sofar_end (c.loop-i.invariant.4 ds a b t) (omega (arith, c.loop-i-test.false)) }

@@ -9,8 +9,8 @@ use Rattle.load.specs.Load.{declared_in}
 use Rattle.load_storage.specs.Storage.{Buffers}
 use Rattle.load_storage.specs.Lent.{buffers_of}
 use Rattle.load_storage.proofs.ShortLaws.{enough}
-use Rattle.load_storage.proofs.WipeLaws.{SameLengths, wiped_same}
-use Rattle.load.proofs.LoadLaws.{answered, parse_refused, refused_left, declared, rows_asked, accepted_left}
+use Rattle.load_storage.proofs.WipeLaws.{SameLengths}
+use Rattle.load.proofs.LoadLaws.{answered, declared, rows_asked, accepted_left}
 use Rattle.load.proofs.ToldLaws.{as_loading}
 use Rattle.load.proofs.load.Goals as goal
 
@@ -27,29 +27,6 @@ load_rows-requires c =
     let an = rw (c.in-Ok.is) at (answered parse-text.ensures lent.tokens_lent lent.rows_lent) in
     let lm = ap (λ (x : Limits). x.nodes) c.capped.ensures in
     rows_asked args.text.now args.limits b.tokens b.rows b.calls b.sorts b.symbols b.rules b.words b.evals lent an c.capped.result.nodes parse-text.new.tokens lm parse-text.auto.tokens parse-text.auto.rows
-
-pub returns-in-Err-clause-loaded : goal.returns-in-Err-clause-loaded
-returns-in-Err-clause-loaded c =
-    let args = c.args in
-    let b = buffers_of args.buffers.now in
-    let parse-text = c.parse_text in
-    let no = sym c.is_short.ensures ∙ c.if-is_short.false in
-    let lent = enough (capped_of args.limits).text (capped_of args.limits).nodes (length b.tokens) (length b.rows) (length b.calls) (length b.sorts) (length b.symbols) (length b.rules) (length b.words) (length b.evals) no in
-    let an = answered parse-text.ensures lent.tokens_lent lent.rows_lent in
-    let m : Buffers = record {
-      tokens = parse-text.new.tokens;
-      rows = parse-text.new.rows;
-      calls = b.calls;
-      sorts = b.sorts;
-      symbols = b.symbols;
-      rules = b.rules;
-      words = b.words;
-      evals = b.evals;
-    } in
-    let l : SameLengths b m = record { tokens = parse-text.auto.tokens; calls = refl; sorts = refl; symbols = refl; rules = refl; words = refl; evals = refl } in
-    let p = parse_refused (text_of args.text.now args.limits) (sym c.in-Err.is ∙ an.is) in
-    let w = c.leave_nothing.ensures.wiped.is ∙ wiped_same b m l parse-text.auto.rows in
-    as_loading _ _ _ _ _ (λ z. true_false z no) (λ z. refused_left args.text.now args.limits b (buffers_of c.leave_nothing.new.buffers) _ p w)
 
 pub returns-in-Ok-clause-loaded : goal.returns-in-Ok-clause-loaded
 returns-in-Ok-clause-loaded c =
