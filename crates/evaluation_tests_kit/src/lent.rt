@@ -23,8 +23,8 @@ fn fill(storage: &mut Buffers)
         × Filled (replicate 8 junk) storage.old.trees.now storage.new.trees.now }
     ensures lent { AreLent storage.old storage.new }
 {
-    buffers::fill_words(storage.words, buffers::JUNK);
-    buffers::fill_words(storage.links, buffers::JUNK);
+    storage.words.fill(buffers::JUNK);
+    storage.links.fill(buffers::JUNK);
     storage.trees.fill([buffers::JUNK; 8]);
 }
 
@@ -39,11 +39,11 @@ pub fn evaluate(query: Query, storage: &mut Buffers) -> Result<Evaluation, Refus
 // Tests that the words past those used and the rows past those of the calls hold the value, and the links throughout.
 pub fn test(storage: &Buffers, used: usize, calls: usize, value: u32) {
     buffers::expect(
-        buffers::is_all(storage.words, used, value),
+        slices::are_all(storage.words, used, value),
         b"words of values as lent or zero",
     );
     buffers::expect(
-        buffers::is_all(storage.links, 0, value),
+        slices::are_all(storage.links, 0, value),
         b"links as lent or zero",
     );
     buffers::expect(

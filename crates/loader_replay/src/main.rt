@@ -2,10 +2,10 @@
 // afterwards. A test that fails writes a line that begins with `wrong`.
 #![tactic(auto)]
 
-use listing::recorded::{self, Recorded};
+use listing::recorded;
 use load::{LentBuffers as Lent, Loaded};
 use parser::Parsed;
-use refusals::{Refusal, Rejection};
+use refusals::Rejection;
 use signature::{Counts, StoredSignature};
 use signature_tests::{buffers, damage};
 use words::Limits;
@@ -51,12 +51,7 @@ fn list_refused(rejection: Rejection, lent: &Lent) {
         rules: 0,
         words: 0,
     };
-    let value = if rejection.refusal == Refusal::Storage {
-        buffers::JUNK
-    } else {
-        0
-    };
-    buffers::test(lent, 0, 0, none, value);
+    buffers::test(lent, 0, 0, none, recorded::value_after(rejection.refusal));
 }
 
 // Loads a text into buffers that hold junk.
@@ -74,14 +69,6 @@ fn list_text(text: &[u8], limits: Limits, lent: &mut Lent) {
             list_loaded(text, loaded, parsed, lent);
             damage::test(text, lent, loaded.counts);
         }
-    }
-}
-
-// The limits of a recorded text; its number of lent rows limits the nodes.
-fn limits_of(recorded: Recorded) -> Limits {
-    Limits {
-        nodes: recorded.rows.min(65536) as u32,
-        ..recorded.limits
     }
 }
 
@@ -108,6 +95,6 @@ fn main() {
         evals: &mut evals,
     };
     recorded::replay(&list[..n], |text, recorded| {
-        list_text(text, limits_of(recorded), &mut lent);
+        list_text(text, recorded.node_limits(), &mut lent);
     });
 }

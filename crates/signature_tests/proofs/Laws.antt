@@ -2,7 +2,7 @@
 use Rattle.std.proofs.Common.{◌≡◌, ◌<◌, ℕ, List, [], length, slice_index_or, slice_set, ap, ◌∙◌, set-set}
 use Rattle.std.proofs.lemmas.List.{set-get_or, get_or-set_same}
 use Rattle.signature_tests.specs.Damage.{Stands, number_at, changed, in_rows}
-use Rattle.signature_tests.specs.declared.damage.Loaded.{Loaded}
+use Rattle.signature_tests.specs.declared.damage.LoadedSignature.{LoadedSignature}
 use Rattle.signature_tests.specs.declared.damage.Spot.{Spot}
 use Rattle.signature_tests.specs.declared.damage.Spot.TheVariants.{Sort, Symbol, Rule, Word}
 
@@ -13,7 +13,7 @@ rows_back rows i column value l =
     ∙ simp (set-set, set-get_or)
 
 -- The storage is as it was once the number that stood at a place stands there again.
-pub put_back : (spot : Spot) (l : Loaded) (value : ℕ) → Stands spot l → changed spot (changed spot l value) (number_at spot l) ≡ l
+pub put_back : (spot : Spot) (l : LoadedSignature) (value : ℕ) → Stands spot l → changed spot (changed spot l value) (number_at spot l) ≡ l
 put_back (Sort i column) l value h = ap (λ (rows : List (List ℕ)). record l { sorts = record l.sorts { now = rows } }) (rows_back l.sorts.now i column value h.0)
 put_back (Symbol i column) l value h = ap (λ (rows : List (List ℕ)). record l { symbols = record l.symbols { now = rows } }) (rows_back l.symbols.now i column value h.0)
 put_back (Rule i column) l value h = ap (λ (rows : List (List ℕ)). record l { rules = record l.rules { now = rows } }) (rows_back l.rules.now i column value h.0)

@@ -1,22 +1,12 @@
 // The lent buffers: what they hold before a call, and the tests of what they hold afterwards.
-ghost use Rattle.std.specs.Prelude.{◌≡◌, ◌&&◌, length, drop, replicate, nat_le};
+ghost use Rattle.std.specs.Prelude.{◌≡◌, ◌&&◌, length, drop, nat_le};
 ghost use Rattle.load_storage.specs.Lent.{buffers_of, IsLent};
 ghost use Rattle.signature_tests.specs.Rows.{are_all, is_all, AllFilled};
 
+pub use listing::recorded::JUNK;
+use listing::write;
 use load_storage::LentBuffers;
 use signature::Counts;
-
-// Standard output.
-const STDOUT_FILENO: i32 = 1;
-
-// What each number is before a call.
-pub const JUNK: u32 = 0xA5A5_A5A5;
-
-pub fn fill_words(words: &mut [u32], value: u32)
-    ensures { words.new ≡ replicate (length words.old) value }
-{
-    words.fill(value);
-}
 
 // Fills all that a load is lent.
 pub fn fill(lent: &mut LentBuffers)
@@ -40,26 +30,16 @@ fn is_value(numbers: &[u32], value: u32) -> bool
     numbers.iter().all(|number| *number == value)
 }
 
-// Is a place within the numbers or their end, and each number from there on the value?
-pub fn is_all(numbers: &[u32], from: usize, value: u32) -> bool
-    ensures { result ≡ nat_le from (length numbers.now) && is_all value (drop from numbers.now) }
-{
-    from <= numbers.len() && is_value(&numbers[from..], value)
-}
-
 // Is a place within rows or their end, and each number from there on the value?
 pub fn are_rows<const N: usize>(rows: &[[u32; N]], from: usize, value: u32) -> bool
     ensures { result ≡ nat_le from (length rows.now) && are_all value (drop from rows.now) }
 {
-    if rows.len() < from {
-        return false;
-    }
-    for row in &rows[from..] {
-        if !is_value(row, value) {
-            return false;
-        }
-    }
-    true
+    from <= rows.len()
+        && rows[from..].iter().all(
+            |row|
+                ensures { result ≡ is_all value row.now }
+            { is_value(row, value) },
+        )
 }
 
 // Writes that a test failed, where it did.
@@ -67,9 +47,9 @@ pub fn expect(holds: bool, claim: &[u8]) {
     if holds {
         return;
     }
-    io::write_all(STDOUT_FILENO, b"wrong: not so: ");
-    io::write_all(STDOUT_FILENO, claim);
-    io::write_all(STDOUT_FILENO, b"\n");
+    write(b"wrong: not so: ");
+    write(claim);
+    write(b"\n");
 }
 
 // Tests that a signature's storage past the counts, the declarations' rows past so many and those of `#eval` past so many hold the value, and the
@@ -93,7 +73,7 @@ pub fn test(lent: &LentBuffers, rows: usize, evals: usize, counts: Counts, value
         b"rules as lent or zero",
     );
     expect(
-        is_all(lent.words, counts.words as usize, value),
+        slices::are_all(lent.words, counts.words as usize, value),
         b"words as lent or zero",
     );
 }

@@ -5,49 +5,29 @@ ghost use Rattle.signature.specs.Storage.{SignatureChecked};
 ghost use Rattle.signature_tests.specs.Damage.{Stands, number_at, changed, loaded_in};
 
 use crate::buffers;
+use arena::PATTERN_ROOM;
 use load_storage::LentBuffers;
 use names::{SortRow, SymbolRow};
 use rules::RuleRow;
+use signature::columns::{
+    CLAUSE, FIRST_CLAUSE, FIRST_PREMISE, FIRST_WORD, OUTPUT, PREMISE_WORDS, PREMISES, SIZE, START,
+    VARIABLES,
+};
 use signature::{Counts, StoredSignature};
 use std::mem;
 
 // The most bytes of a name, and the largest clause number.
 const BYTES: u32 = 64;
 
-const CLAUSES: u32 = 1024;
+const LAST_CLAUSE: u32 = 1024;
 
 // Neither a header nor a reference.
 const NO_WORD: u32 = 0xFFFF_FFFF;
 
-// Where references to nodes start.
-const FIRST_NODE: u32 = 64;
-
-// The columns that are changed: of a name its place and its length, of a symbol its output and its first clause, of a rule its clause number, its number
-// of variables and its first premise.
-const PLACE: usize = 0;
-
-const SIZE: usize = 1;
-
-const CLAUSE: usize = 2;
-
-const OUTPUT: usize = 2;
-
-const FIRST: usize = 4;
-
-const VARIABLES: usize = 3;
-
-// Of a rule how many premises it has, its first word, and how many words the premises have.
-const PREMISES: usize = 4;
-
-const FIRST_WORD: usize = 6;
-
-const PREMISE_WORDS: usize = 7;
-
-const FIRST_PREMISE: usize = 10;
-
 // A signature that was loaded, whose storage is damaged and put right again.
+// Stays: with `LentBuffers` in it, the definitions of damage would speak of four buffers more, which no test here reads or changes.
 #[derive(Drop)]
-struct Loaded<'a> {
+struct LoadedSignature<'a> {
     text: &'a [u8],
     sorts: &'a mut [SortRow],
     symbols: &'a mut [SymbolRow],
@@ -56,17 +36,17 @@ struct Loaded<'a> {
     counts: Counts,
 }
 
-// Where a number stands: in a column of a row of one of the tables, or among the words.
+// Where a number stands: in a row and a column of one of the tables, or among the words.
 #[derive(Clone, Copy)]
 enum Spot {
-    Sort { row: usize, column: usize },
-    Symbol { row: usize, column: usize },
-    Rule { row: usize, column: usize },
-    Word { at: usize },
+    Sort(usize, usize),
+    Symbol(usize, usize),
+    Rule(usize, usize),
+    Word(usize),
 }
 
 // Is it accepted as it stands?
-fn is_taken(loaded: &Loaded) -> bool
+fn is_accepted(loaded: &LoadedSignature) -> bool
     ensures { SignatureChecked loaded.now.text.now (loaded_in loaded.now) result }
 {
     signature::check_signature(
@@ -82,29 +62,29 @@ fn is_taken(loaded: &Loaded) -> bool
 }
 
 // Puts a number at a place, and answers the one that stood there.
-fn exchange(loaded: &mut Loaded, spot: Spot, value: u32) -> u32
+fn exchange(loaded: &mut LoadedSignature, spot: Spot, value: u32) -> u32
     requires { Stands spot loaded.old }
     ensures before { result ≡ number_at spot loaded.old }
     ensures changed { loaded.new ≡ changed spot loaded.old value }
 {
     match spot {
-        Spot::Sort { row, column } => mem::replace(&mut loaded.sorts[row][column], value),
-        Spot::Symbol { row, column } => mem::replace(&mut loaded.symbols[row][column], value),
-        Spot::Rule { row, column } => mem::replace(&mut loaded.rules[row][column], value),
-        Spot::Word { at } => mem::replace(&mut loaded.words[at], value),
+        Spot::Sort(row, column) => mem::replace(&mut loaded.sorts[row][column], value),
+        Spot::Symbol(row, column) => mem::replace(&mut loaded.symbols[row][column], value),
+        Spot::Rule(row, column) => mem::replace(&mut loaded.rules[row][column], value),
+        Spot::Word(at) => mem::replace(&mut loaded.words[at], value),
     }
 }
 
 // Is it accepted with another number at a place? The storage is left as it was.
-fn is_taken_with(loaded: &mut Loaded, spot: Spot, value: u32) -> bool
+fn is_accepted_with(loaded: &mut LoadedSignature, spot: Spot, value: u32) -> bool
     requires { Stands spot loaded.old }
     ensures checked { SignatureChecked loaded.old.text.now (loaded_in (changed spot loaded.old value)) result }
     ensures kept { loaded.new ≡ loaded.old }
 {
     let before = exchange(loaded, spot, value);
-    let taken = is_taken(loaded);
+    let accepted = is_accepted(loaded);
     exchange(loaded, spot, before);
-    taken
+    accepted
 }
 
 // The place past a text, of which no more than 65,536 bytes are loaded.
@@ -112,111 +92,60 @@ fn end(text: &[u8]) -> u32 {
     usize::min(text.len(), 65536) as u32
 }
 
+// Tests that it is refused with another number at a place.
+fn expect_refused(loaded: &mut LoadedSignature, spot: Spot, value: u32, claim: &[u8])
+    requires { Stands spot loaded.old }
+    ensures { loaded.new ≡ loaded.old }
+{
+    let accepted = is_accepted_with(loaded, spot, value);
+    buffers::expect(!accepted, claim);
+}
+
+// Tests a name by the place of its length.
+fn test_name(loaded: &mut LoadedSignature, size: Spot)
+    requires { Stands size loaded.old }
+    ensures { loaded.new ≡ loaded.old }
+{
+    expect_refused(loaded, size, 0, b"refused with an empty name");
+    expect_refused(loaded, size, BYTES + 1, b"refused with a name of 65 bytes");
+}
+
 // Tests one sort.
-fn test_sort(loaded: &mut Loaded, i: usize)
+fn test_sort(loaded: &mut LoadedSignature, i: usize)
     requires { i < length loaded.old.sorts.now }
     ensures { loaded.new ≡ loaded.old }
 {
     let past = end(loaded.text);
-    let taken = is_taken_with(
-        loaded,
-        Spot::Sort {
-            row: i,
-            column: PLACE,
-        },
-        past,
-    );
-    buffers::expect(!taken, b"refused with a sort's name past the text");
-    let empty = is_taken_with(
-        loaded,
-        Spot::Sort {
-            row: i,
-            column: SIZE,
-        },
-        0,
-    );
-    buffers::expect(!empty, b"refused with an empty sort's name");
-    let long = is_taken_with(
-        loaded,
-        Spot::Sort {
-            row: i,
-            column: SIZE,
-        },
-        BYTES + 1,
-    );
-    buffers::expect(!long, b"refused with a sort's name of 65 bytes");
+    let claim = b"refused with a sort's name past the text";
+    expect_refused(loaded, Spot::Sort(i, START), past, claim);
+    test_name(loaded, Spot::Sort(i, SIZE));
 }
 
 // Tests one symbol.
-fn test_symbol(loaded: &mut Loaded, i: usize)
+fn test_symbol(loaded: &mut LoadedSignature, i: usize)
     requires { i < length loaded.old.symbols.now }
     ensures { loaded.new ≡ loaded.old }
 {
     let past = end(loaded.text);
-    let placed = is_taken_with(
-        loaded,
-        Spot::Symbol {
-            row: i,
-            column: PLACE,
-        },
-        past,
-    );
-    buffers::expect(!placed, b"refused with a symbol's name past the text");
+    let claim = b"refused with a symbol's name past the text";
+    expect_refused(loaded, Spot::Symbol(i, START), past, claim);
+    test_name(loaded, Spot::Symbol(i, SIZE));
     let no_sort = loaded.counts.sorts.wrapping_add(1);
-    let sorted = is_taken_with(
-        loaded,
-        Spot::Symbol {
-            row: i,
-            column: OUTPUT,
-        },
-        no_sort,
-    );
-    buffers::expect(!sorted, b"refused with an output past the sorts");
-}
-
-// Tests the length of one symbol's name.
-fn test_symbol_name(loaded: &mut Loaded, i: usize)
-    requires { i < length loaded.old.symbols.now }
-    ensures { loaded.new ≡ loaded.old }
-{
-    let empty = is_taken_with(
-        loaded,
-        Spot::Symbol {
-            row: i,
-            column: SIZE,
-        },
-        0,
-    );
-    buffers::expect(!empty, b"refused with an empty symbol's name");
-    let long = is_taken_with(
-        loaded,
-        Spot::Symbol {
-            row: i,
-            column: SIZE,
-        },
-        BYTES + 1,
-    );
-    buffers::expect(!long, b"refused with a symbol's name of 65 bytes");
+    let claim = b"refused with an output past the sorts";
+    expect_refused(loaded, Spot::Symbol(i, OUTPUT), no_sort, claim);
 }
 
 // Tests the clauses of one symbol: the rule before the first of them was loaded before the function, and so concludes in no node of it.
-fn test_first_clause(loaded: &mut Loaded, i: usize)
+fn test_first_clause(loaded: &mut LoadedSignature, i: usize)
     requires { i < length loaded.old.symbols.now }
     ensures { loaded.new ≡ loaded.old }
 {
-    let first = loaded.symbols[i][FIRST];
+    let first = loaded.symbols[i][FIRST_CLAUSE];
     if first == 0 {
         return;
     }
-    let taken = is_taken_with(
-        loaded,
-        Spot::Symbol {
-            row: i,
-            column: FIRST,
-        },
-        first - 1,
-    );
-    buffers::expect(!taken, b"refused with a clause of another function");
+    let claim = b"refused with a clause of another function";
+    expect_refused(loaded, Spot::Symbol(i, FIRST_CLAUSE), first - 1, claim);
 }
 
 // Has the text 64 bytes from a place on?
@@ -224,92 +153,49 @@ fn has_bytes(text: &[u8], start: u32) -> bool {
     start as usize + BYTES as usize <= text.len()
 }
 
-// Tests the length of one rule's name: rules may have the same name, so 64 bytes are accepted where the text has them.
-fn test_rule_name(loaded: &mut Loaded, i: usize)
+// Tests the name of one rule: rules may have the same name, so 64 bytes are accepted where the text has them.
+fn test_rule_name(loaded: &mut LoadedSignature, i: usize)
     requires { i < length loaded.old.rules.now }
     ensures { loaded.new ≡ loaded.old }
 {
-    let empty = is_taken_with(
-        loaded,
-        Spot::Rule {
-            row: i,
-            column: SIZE,
-        },
-        0,
-    );
-    buffers::expect(!empty, b"refused with an empty rule's name");
-    let long = is_taken_with(
-        loaded,
-        Spot::Rule {
-            row: i,
-            column: SIZE,
-        },
-        BYTES + 1,
-    );
-    buffers::expect(!long, b"refused with a rule's name of 65 bytes");
-    if !has_bytes(loaded.text, loaded.rules[i][PLACE]) {
+    let size = Spot::Rule(i, SIZE);
+    test_name(loaded, size);
+    if !has_bytes(loaded.text, loaded.rules[i][START]) {
         return;
     }
-    let taken = is_taken_with(
-        loaded,
-        Spot::Rule {
-            row: i,
-            column: SIZE,
-        },
-        BYTES,
-    );
-    buffers::expect(taken, b"accepted with a rule's name of 64 bytes");
+    let accepted = is_accepted_with(loaded, size, BYTES);
+    buffers::expect(accepted, b"accepted with a rule's name of 64 bytes");
 }
 
 // Tests the clause number of one rule.
-fn test_clause(loaded: &mut Loaded, i: usize)
+fn test_clause(loaded: &mut LoadedSignature, i: usize)
     requires { i < length loaded.old.rules.now }
     ensures { loaded.new ≡ loaded.old }
 {
-    let last = is_taken_with(
-        loaded,
-        Spot::Rule {
-            row: i,
-            column: CLAUSE,
-        },
-        CLAUSES,
-    );
-    buffers::expect(last, b"accepted with the clause number 1,024");
-    let past = is_taken_with(
-        loaded,
-        Spot::Rule {
-            row: i,
-            column: CLAUSE,
-        },
-        CLAUSES + 1,
-    );
-    buffers::expect(!past, b"refused with the clause number 1,025");
+    let number = Spot::Rule(i, CLAUSE);
+    let accepted = is_accepted_with(loaded, number, LAST_CLAUSE);
+    buffers::expect(accepted, b"accepted with the clause number 1,024");
+    let claim = b"refused with the clause number 1,025";
+    expect_refused(loaded, number, LAST_CLAUSE + 1, claim);
 }
 
 // Tests the variables of one rule.
-fn test_variables(loaded: &mut Loaded, i: usize)
+fn test_variables(loaded: &mut LoadedSignature, i: usize)
     requires { i < length loaded.old.rules.now }
     ensures { loaded.new ≡ loaded.old }
 {
     let more = loaded.rules[i][VARIABLES].wrapping_add(1);
-    let taken = is_taken_with(
-        loaded,
-        Spot::Rule {
-            row: i,
-            column: VARIABLES,
-        },
-        more,
-    );
-    buffers::expect(!taken, b"refused with one variable more");
+    let claim = b"refused with one variable more";
+    expect_refused(loaded, Spot::Rule(i, VARIABLES), more, claim);
 }
 
 // The reference of a node past so many words of premises.
 fn past_premises(first: u32, count: u32) -> u32 {
-    FIRST_NODE.wrapping_add(first).wrapping_add(count)
+    PATTERN_ROOM.wrapping_add(first).wrapping_add(count)
 }
 
 // Tests the first premise of one rule, if it has any.
-fn test_premise(loaded: &mut Loaded, i: usize)
+fn test_premise(loaded: &mut LoadedSignature, i: usize)
     requires { i < length loaded.old.rules.now }
     ensures { loaded.new ≡ loaded.old }
 {
@@ -318,20 +204,13 @@ fn test_premise(loaded: &mut Loaded, i: usize)
         return;
     }
     let past = past_premises(row[FIRST_WORD], row[PREMISE_WORDS]);
-    let taken = is_taken_with(
-        loaded,
-        Spot::Rule {
-            row: i,
-            column: FIRST_PREMISE,
-        },
-        past,
-    );
-    buffers::expect(!taken, b"refused with a premise past its part");
+    let claim = b"refused with a premise past its part";
+    expect_refused(loaded, Spot::Rule(i, FIRST_PREMISE), past, claim);
 }
 
 // Tests each sort.
 // Stays: each of the four functions has its own count and tests; one loop would take both as closures over what is loaded, for bodies of a line to four.
-fn test_sorts(loaded: &mut Loaded)
+fn test_sorts(loaded: &mut LoadedSignature)
     ensures { loaded.new ≡ loaded.old }
 {
     for i in 0..usize::min(loaded.counts.sorts as usize, loaded.sorts.len()) {
@@ -340,18 +219,17 @@ fn test_sorts(loaded: &mut Loaded)
 }
 
 // Tests each symbol.
-fn test_symbols(loaded: &mut Loaded)
+fn test_symbols(loaded: &mut LoadedSignature)
     ensures { loaded.new ≡ loaded.old }
 {
     for i in 0..usize::min(loaded.counts.symbols as usize, loaded.symbols.len()) {
         test_symbol(loaded, i);
-        test_symbol_name(loaded, i);
         test_first_clause(loaded, i);
     }
 }
 
 // Tests each rule.
-fn test_rules(loaded: &mut Loaded)
+fn test_rules(loaded: &mut LoadedSignature)
     ensures { loaded.new ≡ loaded.old }
 {
     for i in 0..usize::min(loaded.counts.rules as usize, loaded.rules.len()) {
@@ -364,12 +242,12 @@ fn test_rules(loaded: &mut Loaded)
 
 // Tests each word.
 // Stays: each of the four functions has its own count and tests; one loop would take both as closures over what is loaded, for bodies of a line to four.
-fn test_words(loaded: &mut Loaded)
+fn test_words(loaded: &mut LoadedSignature)
     ensures { loaded.new ≡ loaded.old }
 {
     for i in 0..usize::min(loaded.counts.words as usize, loaded.words.len()) {
-        let taken = is_taken_with(loaded, Spot::Word { at: i }, NO_WORD);
-        buffers::expect(!taken, b"refused with a word that is none");
+        let claim = b"refused with a word that is none";
+        expect_refused(loaded, Spot::Word(i), NO_WORD, claim);
     }
 }
 
@@ -378,7 +256,7 @@ pub fn test(text: &[u8], lent: &mut LentBuffers, counts: Counts)
     ensures lent { IsLent lent.old lent.new }
     ensures kept { buffers_of lent.new ≡ buffers_of lent.old }
 {
-    let mut loaded = Loaded {
+    let mut loaded = LoadedSignature {
         text,
         sorts: &mut *lent.sorts,
         symbols: &mut *lent.symbols,
