@@ -1,7 +1,7 @@
 // The functions that programs in other languages call: numbers, byte slices and rows. `capi_c` exports them.
 #![tactic(auto)]
 
-ghost use Rattle.std.specs.Prelude.{◌≡◌, ◌*◌, ◌^◌, ◌≤◌, cond, eqb, [], ◌∷◌, length, replicate};
+ghost use Rattle.std.specs.Prelude.{◌≡◌, ◌*◌, ◌^◌, ◌≤◌, cond, eqb, length, replicate};
 ghost use Rattle.std.proofs.lemmas.List.Edits.{sets};
 ghost use Rattle.capi.specs.Declarations.{ParsedAs};
 ghost use Rattle.capi.specs.Checks.{CheckedAs};
@@ -53,7 +53,7 @@ fn packed_rejection(rejection: Rejection) -> u64
 }
 
 // Limits on steps, variables and words.
-pub fn search_limits(steps: u32, variables: u32, words: u32) -> words::Limits
+pub fn limits_of(steps: u32, variables: u32, words: u32) -> words::Limits
     ensures { result ≡ search_limits steps variables words }
 {
     words::Limits {
@@ -64,8 +64,9 @@ pub fn search_limits(steps: u32, variables: u32, words: u32) -> words::Limits
     }
 }
 
-// The first four counts that `horn_load` leaves.
-pub fn signature_counts(counts: &[u32]) -> signature::Counts
+// The first four counts that `horn_load` leaves. Whether there are so many is asked by each function that programs in C call.
+// Stays: with an `Option` here these would still tell the refusal, in as many lines, and `prover_capi`, which knows the length, would have a case for none.
+fn signature_counts(counts: &[u32]) -> signature::Counts
     requires { 4 ≤ length counts.now }
     ensures { result ≡ stored_counts counts.now }
 {
@@ -99,7 +100,7 @@ pub fn stored_signature<'a>(
 }
 
 // A session's four counts.
-// Stays: the four numbers go into fields with names of their own, as in `signature_counts`; one function of both would need a trait with these bodies as its impls.
+// Stays: the numbers go into fields with names of their own, as in `signature_counts`; one function of both would be a trait with these bodies as its impls.
 pub fn session_counts(counts: &[u32]) -> sessions::SessionCounts
     requires { 4 ≤ length counts.now }
     ensures { result ≡ counts_in counts.now }
@@ -363,7 +364,7 @@ pub fn horn_open(
         (record { names = names.new; words = words.new; bindings = bindings.new })
         (record { links = links.new; marks = marks.new; stack = stack.new }) }
 {
-    let limits = search_limits(0, variables, limit);
+    let limits = limits_of(0, variables, limit);
     match session_open::open(limits, names, words, bindings, links, marks, stack) {
         Ok(()) => 0,
         Err(refusal) => packed_refusal(refusal),
@@ -459,7 +460,7 @@ pub fn horn_prove(
     let query = Query {
         signature: stored_signature(sorts, symbols, rules, pattern, counts),
         text,
-        limits: search_limits(most, variables, limit),
+        limits: limits_of(most, variables, limit),
         rows,
         at,
         steps,

@@ -1,5 +1,4 @@
 // What was written is cleared.
-ghost use Rattle.std.specs.Prelude.{◌≡◌};
 ghost use Rattle.search_machine.specs.Groups.{IsLent};
 ghost use Rattle.deepening.specs.Clearing.{Cleared};
 ghost use Rattle.deepening.specs.Groups.{WrittenCleared};

@@ -3,9 +3,10 @@ ghost use Rattle.std.specs.Prelude.{◌≡◌};
 ghost use Rattle.deepening.specs.Trees.{tree_rows};
 
 use search_machine::Frame;
+use tree_rows::row as row_of_node;
 
-// Turns the first frames into the rows of the proof: the height from the top, the kind (0: a rule was used), rule and goal.
-// Stays: tried with `&mut store.frames[..count]` lent: the goal `returns-in-Proved-clause-left` of `leave` does not close, as only the frames' length is known then.
+// Turns the first frames into the rows of the proof, with the height from the top.
+// Stays: tried with `&mut store.frames[..count]` lent: the contract of `leave` is not proved then, as only the length of the frames is known.
 pub fn write_tree(frames: &mut [[u32; 8]], count: u32, depth: u32)
     ensures { frames.new ≡ tree_rows depth frames.old count }
 {
@@ -13,6 +14,6 @@ pub fn write_tree(frames: &mut [[u32; 8]], count: u32, depth: u32)
     for row in &mut frames[..end] {
         let x = Frame::from(*row);
         let height = depth.saturating_sub(x.depth);
-        *row = [height, 0, x.rule, x.goal, 0, 0, 0, 0];
+        *row = row_of_node(height, x.rule, x.goal);
     }
 }

@@ -1,5 +1,6 @@
 -- The tests of `prove`: what fails one is not ready, and what passes all is.
 use Rattle.std.specs.Prelude.{ℕ, ◌≤◌, ◌<◌, ◌≡◌, refl, Bool, true, false, not, List, length, Option, Some, None}
+use Rattle.std.specs.Option.{is_some}
 use Rattle.std.proofs.Common.{arith, sym, ap, subst}
 use Rattle.std.proofs.lemmas.Bool.{not-true, not-false}
 use Rattle.words.specs.Lexer.{capped_of}
@@ -29,6 +30,15 @@ pub symbols_known : (text : List ℕ) (sg : SignatureStore) {r : Bool} → Signa
     → (sg.counts.symbols ≤ 1024) × (sg.counts.symbols ≤ length sg.symbols)
 symbols_known text sg {r} k e = symbols_there_lem text sg (k.sound (not-false r e))
 
+-- What the test for none tells of a row.
+no_row : (t : Option ℕ) {none : Bool} → is_some t ≡ not none → none ≡ true → t ≡ None
+no_row None told e = refl
+no_row (Some q) told e = absurd (true_false (sym told) (ap not e))
+
+a_row : (t : Option ℕ) {none : Bool} → is_some t ≡ not none → none ≡ false → (q : ℕ) × (t ≡ Some q)
+a_row (Some q) told e = (q, refl)
+a_row None told e = absurd (true_false (ap not e) (sym told))
+
 module _ {sg : SignatureStore} {text : List ℕ} {limits : Limits} {rows : Rows} {at : ℕ} {proof : Rows} {space : Workspace}
     {b : SessionStore} {n : SessionCounts} where
   not_ready : ((steps depth : ℕ) → ProveReady sg (call_of text limits rows at steps depth proof space) b n → ⊥)
@@ -49,9 +59,10 @@ module _ {sg : SignatureStore} {text : List ℕ} {limits : Limits} {rows : Rows}
       → ReadyTold sg text limits rows at proof space b n space.marks false
   no_signature {r} k e = not_ready (λ steps depth h. true_false (k.complete h.signature) (not-true r e))
 
-  pub no_term : {r : Option ℕ} → Checking text rows at r → r ≡ None
+  pub no_term : {r : Option ℕ} {none : Bool} → Checking text rows at r → is_some r ≡ not none → none ≡ true
       → ReadyTold sg text limits rows at proof space b n space.marks false
-  no_term k e = not_ready (λ steps depth h.
+  no_term {r} k told e = not_ready (λ steps depth h.
+      let absent = no_row r told e in
       let f = k.complete h.next h.goal in
       let z : ◌≡◌ {A = ℕ} 0 1 = cc in
       let y : ⊥ = omega arith in
@@ -59,14 +70,15 @@ module _ {sg : SignatureStore} {text : List ℕ} {limits : Limits} {rows : Rows}
 
   -- The session's test decides the rest.
   pub session_told : {c : Limits} → c ≡ capped_of limits → c.steps ≤ length proof → {s : Bool} → SignatureTold text sg s → not s ≡ false
-      → {t : Option ℕ} {q : ℕ} → Checking text rows at t → t ≡ Some q → {marks' : Rows} {r : Bool}
+      → {t : Option ℕ} {none : Bool} → Checking text rows at t → is_some t ≡ not none → none ≡ false → {marks' : Rows} {r : Bool}
       → SessionChecked text limits sg.counts.sorts sg.symbols sg.counts.symbols b space n marks' r
       → ReadyTold sg text limits rows at proof space b n marks' r
-  session_told {c} e l {s} k f {q = q} g is told = record {
+  session_told {c} e l {s} k f {t} g there some told = record {
     tells = λ steps depth.
         let d : c.steps ≡ (capped_of limits).steps = ap (λ (x : Limits). x.steps) e in
+        let row = a_row t there some in
         record {
-          yes = λ y. part_ready q (omega arith) (k.sound (not-false s f)) (g.sound q is) (told.tells.yes y);
+          yes = λ y. part_ready row.0 (omega arith) (k.sound (not-false s f)) (g.sound row.0 row.1) (told.tells.yes y);
           back = λ h. told.tells.back (ready_part h);
         };
     kept = told.kept;

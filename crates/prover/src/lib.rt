@@ -26,10 +26,8 @@ use searching::search_goal;
 use sessions::{NameRow, SessionCounts, StoredSession, Verdict};
 use signature::StoredSignature;
 use testing::is_ready;
+use tree_rows::TreeRow;
 use words::Limits;
-
-// A row of a proof: height, kind, rule, goal; the other columns are zero.
-pub type ProofRow = [u32; 8];
 
 // What is asked of a signature: a text, the limits, the rows of its terms with the row where the goal starts, and how many steps and what depth the search
 // may take.
@@ -91,7 +89,7 @@ pub fn prove_listed(
 }
 
 // Proves the goal of a query, in a session.
-// Stays: tried behind a store: the test reads some of the buffers while it marks another, and no generated proof covers that.
+// Stays: tried with a `Store` as parameter: the test would be lent some of its buffers to read and the marks to write, and the proof of that did not close.
 pub fn prove(
     query: Query,
     names: &mut [NameRow],
@@ -101,7 +99,7 @@ pub fn prove(
     links: &mut [[u32; 2]],
     marks: &mut [[u32; 2]],
     stack: &mut [[u32; 3]],
-    proof: &mut [ProofRow],
+    proof: &mut [TreeRow],
 ) -> Result<Verdict, Refusal>
     ensures { Proving (store_of query.entry.signature) (asked_of query.entry proof.old links.old marks.old stack.old)
         (session_store names.old words.old bindings.old) session

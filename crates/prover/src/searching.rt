@@ -1,5 +1,6 @@
 // The search for a stored goal, and what it leaves.
 ghost use Rattle.std.specs.Prelude.{◌≡◌};
+ghost use Rattle.load_storage.specs.Storage.{cleared_from};
 ghost use Rattle.sessions.specs.Answers.{answer_in};
 ghost use Rattle.search_machine.specs.Groups.{IsLent};
 ghost use Rattle.prover.specs.Searching.{counts_then, SearchAskedIn, SearchLeftIn};
@@ -56,27 +57,28 @@ pub fn search_goal(
                 words: used,
             },
         }),
-        Ok(Deepened::Nothing { steps, counter }) => {
-            slices::clear_from(store.words, session.words as usize, 0);
-            Ok(Verdict::Nothing {
-                steps,
-                counts: counts_then(session, goal, counter),
-            })
-        }
-        Ok(Deepened::Undecided { steps, counter }) => {
-            slices::clear_from(store.words, session.words as usize, 0);
-            Ok(Verdict::Undecided {
-                steps,
-                counts: counts_then(session, goal, counter),
-            })
-        }
+        Ok(Deepened::Nothing { steps, counter }) => Ok(Verdict::Nothing {
+            steps,
+            counts: take_back(store.words, session, goal, counter),
+        }),
+        Ok(Deepened::Undecided { steps, counter }) => Ok(Verdict::Undecided {
+            steps,
+            counts: take_back(store.words, session, goal, counter),
+        }),
     }
 }
 
-// The session's counts after a search without a proof: the goal's names and the variables then, and else those before it.
-fn counts_then(session: SessionCounts, goal: StoredGoal, variables: u32) -> SessionCounts
-    ensures { result ≡ counts_then session goal variables }
+// After a search without a proof: clears the goal's words, and answers the counts, the goal's names and the variables then, and else those before it.
+fn take_back(
+    words: &mut [u32],
+    session: SessionCounts,
+    goal: StoredGoal,
+    variables: u32,
+) -> SessionCounts
+    ensures counts { result ≡ counts_then session goal variables }
+    ensures cleared { words.new ≡ cleared_from 0 session.words words.old }
 {
+    slices::clear_from(words, session.words as usize, 0);
     SessionCounts {
         names: goal.names,
         variables,

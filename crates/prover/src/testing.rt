@@ -3,18 +3,19 @@ ghost use Rattle.signature.specs.Storage.{store_of};
 ghost use Rattle.sessions.specs.Storage.{part_in};
 ghost use Rattle.prover.specs.Proving.{ReadyTold};
 
-use super::{ProofRow, Query};
+use super::Query;
 use sessions::StoredSession;
+use tree_rows::TreeRow;
 
 // Are signature, goal, session and scratch in form, and is enough lent? The marks are left as they are.
-// Stays: of links, marks and stack the marks alone are written; a `Workspace` would ask for all three to be lent so.
+// Stays: only the marks are written; with a `Workspace` the contract would have to promise besides that links and stack are as before.
 pub fn is_ready(
     query: Query,
     session: StoredSession,
     links: &[[u32; 2]],
     marks: &mut [[u32; 2]],
     stack: &[[u32; 3]],
-    proof: &[ProofRow],
+    proof: &[TreeRow],
 ) -> bool
     ensures { ReadyTold (store_of query.entry.signature) query.entry.text.now query.entry.limits query.entry.rows.now query.entry.at proof.now
         (record { links = links.now; marks = marks.old; stack = stack.now })
@@ -27,9 +28,9 @@ pub fn is_ready(
     if !signature::check_signature(query.text, query.signature) {
         return false;
     }
-    let Some(_) = term_check::check_term(query.text, query.rows, query.at) else {
+    if term_check::check_term(query.text, query.rows, query.at).is_none() {
         return false;
-    };
+    }
     session_check::check_session(
         query.text,
         query.limits,

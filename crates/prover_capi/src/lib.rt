@@ -8,7 +8,7 @@ ghost use Rattle.capi.specs.Sessions.{counts_in, search_limits};
 ghost use Rattle.prover.specs.Proving.{ClearedReady};
 ghost use Rattle.prover_capi.specs.Cleared.{ClearedTold};
 
-use capi::{search_limits, session_counts, stored_signature};
+use capi::{limits_of, session_counts, stored_signature};
 use prover::Query;
 use search_machine::Store;
 
@@ -73,7 +73,7 @@ pub extern "C" fn horn_prove_cleared(
     let query = Query {
         signature: stored_signature(sorts, symbols, rules, pattern, counts),
         text,
-        limits: search_limits(most, variables, limit),
+        limits: limits_of(most, variables, limit),
         rows,
         at,
         steps,

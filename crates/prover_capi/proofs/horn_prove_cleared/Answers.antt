@@ -18,7 +18,7 @@ left_with {k = k} {b = b} {n = n} {g = g} e h = subst (λ (sg : SignatureStore).
 
 pub prove_cleared-answer-requires : goal.prove_cleared-answer-requires
 prove_cleared-answer-requires c =
-    rw (c.stored_signature.ensures, c.search_limits.ensures, c.session_counts-used.ensures) c.requires.fact_2
+    rw (c.stored_signature.ensures, c.limits_of.ensures, c.session_counts-used.ensures) c.requires.fact_2
 
 pub tell_answer-requires : goal.tell_answer-requires
 tell_answer-requires c =
@@ -33,7 +33,7 @@ returns c =
       is = c.tell_answer.ensures.number;
       left = left_given c.prove_cleared-answer.new.store (search (rules, l.words)) (search (rules, l.bindings))
           (search (rules, l.frames)) (search (rules, l.links)) (search (rules, l.marks)) (search (rules, l.stack))
-          (rw (c.search_limits.ensures, c.session_counts-used.ensures)
+          (rw (c.limits_of.ensures, c.session_counts-used.ensures)
           at (left_with c.stored_signature.ensures c.prove_cleared-answer.ensures.left));
       written = c.tell_answer.ensures.results;
     }

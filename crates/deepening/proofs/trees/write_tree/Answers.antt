@@ -1,5 +1,5 @@
 -- `write_tree` meets its contract: one row more in each turn; the frames behind the first are as they were.
-use Rattle.std.proofs.Common.{◌≡◌, refl, ap, arith, ◌∙◌, length, take}
+use Rattle.std.proofs.Common.{◌≡◌, ap, arith, ◌∙◌, length, set, take}
 use Rattle.search_machine.specs.State.{frame_at}
 use Rattle.deepening.specs.Trees.{tree_rows}
 use Rattle.deepening.specs.TreeLaws.{tree_start, tree_next, tree_part}
@@ -11,7 +11,7 @@ loop-row-init c = tree_start _ _
 pub loop-row-preserved : goal.loop-row-preserved
 unfolding frame_at
 loop-row-preserved c = tree_next c.args.depth _ c.loop-row.row-index c.loop-row.invariant c.from-x.ensures
-    c.saturating_sub-height.ensures refl
+    c.saturating_sub-height.ensures (ap (set c.loop-row.row-items c.loop-row.row-index) c.row.ensures)
 
 pub returns : goal.returns
 returns c =

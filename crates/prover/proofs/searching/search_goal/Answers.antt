@@ -15,12 +15,12 @@ returns-in-Ok-Proved-clause-left c =
 
 pub returns-in-Ok-Nothing-clause-left : goal.returns-in-Ok-Nothing-clause-left
 returns-in-Ok-Nothing-clause-left c =
-    rw c.counts_then.ensures
+    rw c.take_back.ensures.counts
     (left_nothing c.args.names.now c.args.goal c.args.session c.prove.ensures.deepened _ _
-    (c.in-Ok-Nothing.is ∙ ap Ok c.in-Ok-Nothing.field-0-is) c.clear_from-in-Ok-Nothing.ensures)
+    (c.in-Ok-Nothing.is ∙ ap Ok c.in-Ok-Nothing.field-0-is) c.take_back.ensures.cleared)
 
 pub returns-in-Ok-Undecided-clause-left : goal.returns-in-Ok-Undecided-clause-left
 returns-in-Ok-Undecided-clause-left c =
-    rw c.counts_then-in-Ok-Undecided.ensures
+    rw c.take_back-in-Ok-Undecided.ensures.counts
     (left_undecided c.args.names.now c.args.goal c.args.session c.prove.ensures.deepened _ _
-    (c.in-Ok-Undecided.is ∙ ap Ok c.in-Ok-Undecided.field-0-is) c.clear_from-in-Ok-Undecided.ensures)
+    (c.in-Ok-Undecided.is ∙ ap Ok c.in-Ok-Undecided.field-0-is) c.take_back-in-Ok-Undecided.ensures.cleared)
