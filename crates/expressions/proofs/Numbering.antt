@@ -20,41 +20,15 @@ use Rattle.std.specs.Prelude.{Option, Some, None, cond, Result, Ok, Err}
 use Rattle.std.specs.Option.{ok_or}
 use Rattle.std.proofs.Common.{ltb-true, ltb-false}
 use Rattle.terms.specs.Numbers.{by_bool, true_false}
-use Rattle.patterns.specs.Promises.{constructor_of}
+use Rattle.patterns.specs.Promises.{NumeralsFound}
+use Rattle.patterns.specs.declared.NumeralSymbols.{NumeralSymbols}
 use Rattle.refusals.specs.declared.Refusal.{Refusal}
 use Rattle.refusals.specs.declared.Refusal.TheVariants.{NoNumerals}
 use Rattle.refusals.specs.Refusals.{number_of}
-use Rattle.expressions.specs.Numerals.{ConstructorFound, NumeralAsked, TowerAsked, TowerAnswered, Gives, NumeralAnswered}
+use Rattle.expressions.specs.Numerals.{NumeralAsked, TowerAsked, TowerAnswered, Gives, NumeralAnswered}
 use Rattle.forward_calls.proofs.Tables.{symbols_length}
 use Rattle.expressions.proofs.Forming.{barred_at}
 use Rattle.expressions.proofs.Misuses.{misuse_is, nothing_refused, refusal_row, refusal_of}
-
-and_no : (a : Bool) → (a && false) ≡ false
-and_no true = refl
-and_no false = refl
-
-module _ (text : List ℕ) (symbols : Rows) (count : ℕ) (h : count ≤ length symbols) (w : Name) {i : ℕ} (e : i ≡ symbol_number (symbols_of text symbols count) w) where
-  abbrev table : List Symbol
-  table = symbols_of text symbols count
-
-  pub ctor_unknown : count ≤ i → is_ctor table w ≡ false
-  ctor_unknown l = rw (← e, symbols_length text symbols count h, le-ltb i count l)
-
--- `find_constructor`: what `constructor` finds, or 26.
-module _ (text : List ℕ) (symbols : Rows) (count : ℕ) (w : Name) (h : count ≤ length symbols) where
-  abbrev number : ℕ
-  number = symbol_number (symbols_of text symbols count) w
-
-  ctor_within : is_ctor (symbols_of text symbols count) w ≡ true → number < count
-  ctor_within e = by_bool (ltb number count) (λ f. ltb-true _ _ f) (λ f. true_false e (ctor_unknown text symbols count h w refl (ltb-false _ _ f)))
-
-  found_by : (b : Bool) → is_ctor (symbols_of text symbols count) w ≡ b → (o : Option ℕ) → o ≡ cond b (Some number) None → (r : Result ℕ Refusal) → r ≡ ok_or o NoNumerals
-      → ConstructorFound text symbols count w r
-  found_by true e o p r q = rw (q, p) (refl, ctor_within e, e)
-  found_by false e o p r q = rw (q, p) (refl, e)
-
-  pub found_as : (o : Option ℕ) → o ≡ constructor_of (symbols_of text symbols count) w → (r : Result ℕ Refusal) → r ≡ ok_or o NoNumerals → ConstructorFound text symbols count w r
-  found_as = found_by (is_ctor (symbols_of text symbols count) w) refl
 
 unless_some : (e : ℕ) (f : ℕ → Evaluated one) → (e ≡ 0 → ⊥) → unless e f ≡ failed e
 unless_some zero f h = absurd (h refl)
@@ -81,21 +55,21 @@ module _ (text : List ℕ) (n : ℕ) {symbols : Rows} {count depth : ℕ} {words
       is : (v : ℕ) (rules : List Rule) (calls : ℕ) → numeral_of limit names rules v depth (record { calls = calls; words = used }) ≡ failed 26
       is v rules calls = rw b
 
-  pub no_zero : {r : Result ℕ Refusal} {x : Refusal} → ConstructorFound text symbols count zero_name r → r ≡ Err x
-      → NumeralAnswered text symbols count n depth words used limit (Err x) words
-  no_zero f q = let g = rw q at f in none g.0 (rw g.1)
+  pub not_found : {r : Result NumeralSymbols Refusal} {x : Refusal} → NumeralsFound names r → r ≡ Err x → NumeralAnswered text symbols count n depth words used limit (Err x) words
+  not_found f q = let g = rw q at f in none g.0 g.1
 
-  pub no_succ : {r : Result ℕ Refusal} {x : Refusal} → ConstructorFound text symbols count succ_name r → r ≡ Err x
-      → NumeralAnswered text symbols count n depth words used limit (Err x) words
-  no_succ f q = let g = rw q at f in none g.0 (rw g.1 (and_no (is_ctor names zero_name)))
+  module _ {r : Result NumeralSymbols Refusal} {found : NumeralSymbols} (f : NumeralsFound names r) (q : r ≡ Ok found) where
+    abbrev z : ℕ
+    z = found.zero
 
-  module _ {zero_found succ_found : Result ℕ Refusal} {z y : ℕ} (fz : ConstructorFound text symbols count zero_name zero_found) (qz : zero_found ≡ Ok z)
-      (fy : ConstructorFound text symbols count succ_name succ_found) (qy : succ_found ≡ Ok y) where
+    abbrev y : ℕ
+    y = found.succ
+
     found_z : (z ≡ symbol_number names zero_name) × (z < count) × (is_ctor names zero_name ≡ true)
-    found_z = rw qz at fz
+    found_z = let g = rw q at f in (g.0.0, rw (symbols_length text symbols count h.lent) at g.0.2, g.0.1)
 
     found_y : (y ≡ symbol_number names succ_name) × (y < count) × (is_ctor names succ_name ≡ true)
-    found_y = rw qy at fy
+    found_y = let g = rw q at f in (g.1.0, rw (symbols_length text symbols count h.lent) at g.1.2, g.1.1)
 
     pub check_asked : (y < count) × (z < count) × (depth ≤ 128)
     check_asked = (found_y.1, found_z.1, h.deep)

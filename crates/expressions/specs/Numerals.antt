@@ -15,12 +15,6 @@ use Rattle.clause_matching.specs.declared.building.Built.{Built as Answer}
 use Rattle.refusals.specs.declared.Refusal.{Refusal}
 use Rattle.refusals.specs.Refusals.{number_of}
 
--- The name is a constructor's, whose number it is; or there is none, which is 26.
-abbrev pub ConstructorFound : List ℕ → Rows → ℕ → Name → Result ℕ Refusal → Type 0
-ConstructorFound text symbols count name (Ok i) =
-    (i ≡ symbol_number (symbols_of text symbols count) name) × (i < count) × (is_ctor (symbols_of text symbols count) name ≡ true)
-ConstructorFound text symbols count name (Err refusal) = (number_of refusal ≡ 26) × (is_ctor (symbols_of text symbols count) name ≡ false)
-
 -- The symbols and the words that values are built in.
 pub record NumeralAsked (symbols : Rows) (count depth : ℕ) (words : List ℕ) (used limit : ℕ) : Type 0 where
   pub lent : count ≤ length symbols

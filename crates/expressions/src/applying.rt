@@ -19,6 +19,7 @@ pub fn check_use(symbols: &[SymbolRow], i: usize, arguments: usize) -> Result<()
     if symbols[i][3] == NO_FUNCTION && symbols[i][2] == 0 {
         return Err(Refusal::NoExpression);
     }
+    // Stays: the mark is how many of the inputs are results, 1 of a FUNCTION and 0 of any other; a test of it would say the same in two branches.
     let wanted = symbols[i][6] - symbols[i][3];
     if wanted as usize != arguments {
         return Err(Refusal::ArgumentCount);
@@ -27,6 +28,7 @@ pub fn check_use(symbols: &[SymbolRow], i: usize, arguments: usize) -> Result<()
 }
 
 // A constructor is built, a function called at the next depth.
+// Stays: program, depth, what is spent and store go apart, as at `function_calls::call`.
 pub fn apply(
     program: Program,
     depth: u32,

@@ -10,7 +10,7 @@ use names::SymbolRow;
 use refusals::Refusal;
 
 // The sort of a value by its header: the output of its symbol.
-// Stays: the definition says 0 where no symbol stands, and the caller compares the answer with a sort; an `Option` would be turned into 0 first.
+// Stays: where there is no such symbol the definition's output is 0, as a predicate's is, and the contract would have to say so of an option too.
 pub fn sort_of(symbols: &[SymbolRow], header: u32) -> u32
     requires { headers ≤ header }
     ensures { (text : List ℕ) → result ≡ (symbol_at (symbols_of text symbols.now (length symbols.now)) (symbolIn header)).output }

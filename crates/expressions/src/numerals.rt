@@ -4,20 +4,13 @@ ghost use Rattle.names.specs.Symbols.{symbols_of};
 ghost use Rattle.resolution.specs.Rules.{Rule};
 ghost use Rattle.evaluation.specs.Expressions.{numeral_misuse};
 ghost use Rattle.expressions.specs.Nodes.{Finds};
-ghost use Rattle.expressions.specs.Numerals.{ConstructorFound, TowerAsked, TowerAnswered, NumeralAsked, NumeralAnswered};
+ghost use Rattle.expressions.specs.Numerals.{TowerAsked, TowerAnswered, NumeralAsked, NumeralAnswered};
 
 use super::nodes::build;
 use function_calls::{Built, MAX_DEPTH, Room};
 use names::SymbolRow;
 use patterns::NumeralSymbols;
 use refusals::Refusal;
-
-// The constructor of a name, by its number.
-fn find_constructor(text: &[u8], symbols: &[SymbolRow], name: &[u8]) -> Result<usize, Refusal>
-    ensures { ConstructorFound text.now symbols.now (length symbols.now) name.now result }
-{
-    patterns::constructor(text, symbols, name).ok_or(Refusal::NoNumerals)
-}
 
 // What n times `succ` on `zero` is refused for at a depth, before anything is built, if it is.
 fn check_numeral(
@@ -84,9 +77,7 @@ pub fn numeral(
     requires { NumeralAsked symbols.now (length symbols.now) depth words.old room.used room.limit }
     ensures { NumeralAnswered text.now symbols.now (length symbols.now) number depth words.old room.used room.limit result words.new }
 {
-    let zero = find_constructor(text, symbols, b"zero")?;
-    let succ = find_constructor(text, symbols, b"succ")?;
-    let numerals = NumeralSymbols { zero, succ };
+    let numerals = NumeralSymbols::find(text, symbols)?;
     check_numeral(symbols, numerals, number, depth)?;
     tower(symbols, numerals, number, words, room)
 }

@@ -83,37 +83,38 @@ pub fn expression(
         return Err(Refusal::TooDeep);
     }
     let row = &term.rows[term.at];
-    let kind = row[0];
-    if kind == words::NUMERAL {
-        let room = Room {
-            used: spent.used,
-            limit: program.limit,
-        };
-        let built = numeral(term.text, program.symbols, row[3], depth, store.words, room)?;
-        return Ok(Expressed {
-            value: built.value,
-            next: term.at + 1,
-            spent: Spent {
-                used: built.used,
-                ..spent
-            },
-        });
+    match row[0] {
+        words::NUMERAL => {
+            let room = Room {
+                used: spent.used,
+                limit: program.limit,
+            };
+            let built = numeral(term.text, program.symbols, row[3], depth, store.words, room)?;
+            Ok(Expressed {
+                value: built.value,
+                next: term.at + 1,
+                spent: Spent {
+                    used: built.used,
+                    ..spent
+                },
+            })
+        }
+        words::METAVARIABLE => Err(Refusal::NotGround),
+        kind => {
+            let word = Word {
+                start: row[1],
+                size: row[2],
+            };
+            let Some(i) = names::find_at(term.text, program.symbols, kind, word) else {
+                return Err(Refusal::UnknownSymbol);
+            };
+            let arguments = row[3] as usize;
+            check_use(program.symbols, i, arguments)?;
+            let first = WrittenTerm {
+                at: term.at + 1,
+                ..term
+            };
+            application(first, arguments, program, i, depth, spent, store)
+        }
     }
-    if kind == words::METAVARIABLE {
-        return Err(Refusal::NotGround);
-    }
-    let word = Word {
-        start: row[1],
-        size: row[2],
-    };
-    let Some(i) = names::find_at(term.text, program.symbols, kind, word) else {
-        return Err(Refusal::UnknownSymbol);
-    };
-    let arguments = row[3] as usize;
-    check_use(program.symbols, i, arguments)?;
-    let first = WrittenTerm {
-        at: term.at + 1,
-        ..term
-    };
-    application(first, arguments, program, i, depth, spent, store)
 }

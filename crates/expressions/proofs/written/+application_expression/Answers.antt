@@ -62,44 +62,44 @@ expression-bounds-term-term t c = inside c.requires
 pub expression-numeral-requires : goal.expression-numeral-requires
 expression-numeral-requires t c = numeral_asked c.requires c.if-depth-gt-MAX_DEPTH.false
 
-pub expression-returns-in_err-built-clause-answered : goal.expression-returns-in_err-built-clause-answered
-expression-returns-in_err-built-clause-answered t c =
+pub expression-returns-in_err-built-in-14-clause-answered : goal.expression-returns-in_err-built-in-14-clause-answered
+expression-returns-in_err-built-in-14-clause-answered t c =
     rw (handed_on c.from_residual.result c.from_residual.ensures.1)
-    (number_refused c.requires c.if-depth-gt-MAX_DEPTH.false c.if-kind-eq-NUMERAL.true c.numeral.ensures c.in_err-built.was)
+    (number_refused c.requires c.if-depth-gt-MAX_DEPTH.false c.in-14.is c.numeral.ensures c.in_err-built-in-14.was)
 
-pub expression-returns-then-kind-eq-NUMERAL-clause-answered : goal.expression-returns-then-kind-eq-NUMERAL-clause-answered
-expression-returns-then-kind-eq-NUMERAL-clause-answered t c =
-    number_built c.requires c.if-depth-gt-MAX_DEPTH.false c.if-kind-eq-NUMERAL.true c.numeral.ensures c.in_ok-built.was
+pub expression-returns-in_ok-built-in-14-clause-answered : goal.expression-returns-in_ok-built-in-14-clause-answered
+expression-returns-in_ok-built-in-14-clause-answered t c =
+    number_built c.requires c.if-depth-gt-MAX_DEPTH.false c.in-14.is c.numeral.ensures c.in_ok-built-in-14.was
 
-pub expression-returns-then-kind-eq-METAVARIABLE-clause-answered : goal.expression-returns-then-kind-eq-METAVARIABLE-clause-answered
-expression-returns-then-kind-eq-METAVARIABLE-clause-answered t c = of_meta c.requires c.if-depth-gt-MAX_DEPTH.false c.if-kind-eq-METAVARIABLE.true
+pub expression-returns-in-13-clause-answered : goal.expression-returns-in-13-clause-answered
+expression-returns-in-13-clause-answered t c = of_meta c.requires c.if-depth-gt-MAX_DEPTH.false c.in-13.is
 
-pub expression-returns-in_default-clause-answered : goal.expression-returns-in_default-clause-answered
-expression-returns-in_default-clause-answered t c =
-    of_unknown c.requires c.if-depth-gt-MAX_DEPTH.false c.if-kind-eq-NUMERAL.false c.if-kind-eq-METAVARIABLE.false refl (no_symbol c.args.term.text.now c.args.program.symbols.now _ c.in_default.is c.find_at.ensures)
+pub expression-returns-in_default-find_at-clause-answered : goal.expression-returns-in_default-find_at-clause-answered
+expression-returns-in_default-find_at-clause-answered t c =
+    of_unknown c.requires c.if-depth-gt-MAX_DEPTH.false (λ e. omega (arith, c.in_default)) (λ e. omega (arith, c.in_default)) refl (no_symbol c.args.term.text.now c.args.program.symbols.now _ c.in_default-find_at.is c.find_at.ensures)
 
 pub expression-check_use-requires : goal.expression-check_use-requires
 expression-check_use-requires t c =
-    misuse_asked c.requires c.if-depth-gt-MAX_DEPTH.false c.if-kind-eq-NUMERAL.false c.if-kind-eq-METAVARIABLE.false (some_symbol c.args.term.text.now c.args.program.symbols.now _ _ c.in-Some.is c.find_at.ensures).0 (some_symbol c.args.term.text.now c.args.program.symbols.now _ _ c.in-Some.is c.find_at.ensures).1 refl
+    misuse_asked c.requires c.if-depth-gt-MAX_DEPTH.false (λ e. omega (arith, c.in_default)) (λ e. omega (arith, c.in_default)) (some_symbol c.args.term.text.now c.args.program.symbols.now _ _ c.in-Some.is c.find_at.ensures).0 (some_symbol c.args.term.text.now c.args.program.symbols.now _ _ c.in-Some.is c.find_at.ensures).1 refl
 
-pub expression-returns-in_err-check_use-clause-answered : goal.expression-returns-in_err-check_use-clause-answered
-expression-returns-in_err-check_use-clause-answered t c =
-    rw (handed_on c.from_residual-in_err-check_use.result c.from_residual-in_err-check_use.ensures.1)
-    (of_misuse c.requires c.if-depth-gt-MAX_DEPTH.false c.if-kind-eq-NUMERAL.false c.if-kind-eq-METAVARIABLE.false (some_symbol c.args.term.text.now c.args.program.symbols.now _ _ c.in-Some.is c.find_at.ensures).0 (some_symbol c.args.term.text.now c.args.program.symbols.now _ _ c.in-Some.is c.find_at.ensures).1 refl
-    (λ x. (found_wrong (c.check_use.ensures x) c.in_err-check_use.was).0) refl
-    (λ z. let w = found_wrong (c.check_use.ensures []) c.in_err-check_use.was in omega arith))
+pub expression-returns-in_err-check_use-in_default-clause-answered : goal.expression-returns-in_err-check_use-in_default-clause-answered
+expression-returns-in_err-check_use-in_default-clause-answered t c =
+    rw (handed_on c.from_residual-in_err-check_use-in_default.result c.from_residual-in_err-check_use-in_default.ensures.1)
+    (of_misuse c.requires c.if-depth-gt-MAX_DEPTH.false (λ e. omega (arith, c.in_default)) (λ e. omega (arith, c.in_default)) (some_symbol c.args.term.text.now c.args.program.symbols.now _ _ c.in-Some.is c.find_at.ensures).0 (some_symbol c.args.term.text.now c.args.program.symbols.now _ _ c.in-Some.is c.find_at.ensures).1 refl
+    (λ x. (found_wrong (c.check_use.ensures x) c.in_err-check_use-in_default.was).0) refl
+    (λ z. let w = found_wrong (c.check_use.ensures []) c.in_err-check_use-in_default.was in omega arith))
 
 pub expression-application-requires : goal.expression-application-requires
 expression-application-requires t c = (
   let d = c.if-depth-gt-MAX_DEPTH.false in omega arith,
-  application_asked c.requires c.if-depth-gt-MAX_DEPTH.false c.if-kind-eq-NUMERAL.false c.if-kind-eq-METAVARIABLE.false (some_symbol c.args.term.text.now c.args.program.symbols.now _ _ c.in-Some.is c.find_at.ensures).0 (some_symbol c.args.term.text.now c.args.program.symbols.now _ _ c.in-Some.is c.find_at.ensures).1 refl
-      (λ x. sym (found_nothing (c.check_use.ensures x) c.in_ok-check_use.was)) refl,
+  application_asked c.requires c.if-depth-gt-MAX_DEPTH.false (λ e. omega (arith, c.in_default)) (λ e. omega (arith, c.in_default)) (some_symbol c.args.term.text.now c.args.program.symbols.now _ _ c.in-Some.is c.find_at.ensures).0 (some_symbol c.args.term.text.now c.args.program.symbols.now _ _ c.in-Some.is c.find_at.ensures).1 refl
+      (λ x. sym (found_nothing (c.check_use.ensures x) c.in_ok-check_use-in_default.was)) refl,
 )
 
-pub expression-returns-clause-answered : goal.expression-returns-clause-answered
-expression-returns-clause-answered t c =
-    applied_to c.requires c.if-depth-gt-MAX_DEPTH.false c.if-kind-eq-NUMERAL.false c.if-kind-eq-METAVARIABLE.false (some_symbol c.args.term.text.now c.args.program.symbols.now _ _ c.in-Some.is c.find_at.ensures).0 (some_symbol c.args.term.text.now c.args.program.symbols.now _ _ c.in-Some.is c.find_at.ensures).1 refl
-    (λ x. sym (found_nothing (c.check_use.ensures x) c.in_ok-check_use.was)) refl c.application.ensures.answered
+pub expression-returns-in_ok-check_use-in_default-clause-answered : goal.expression-returns-in_ok-check_use-in_default-clause-answered
+expression-returns-in_ok-check_use-in_default-clause-answered t c =
+    applied_to c.requires c.if-depth-gt-MAX_DEPTH.false (λ e. omega (arith, c.in_default)) (λ e. omega (arith, c.in_default)) (some_symbol c.args.term.text.now c.args.program.symbols.now _ _ c.in-Some.is c.find_at.ensures).0 (some_symbol c.args.term.text.now c.args.program.symbols.now _ _ c.in-Some.is c.find_at.ensures).1 refl
+    (λ x. sym (found_nothing (c.check_use.ensures x) c.in_ok-check_use-in_default.was)) refl c.application.ensures.answered
 
 pub expression-overflow_add-first : goal.expression-overflow_add-first
 expression-overflow_add-first t c = let i = inside c.requires in omega arith
