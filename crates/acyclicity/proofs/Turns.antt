@@ -33,9 +33,9 @@ abbrev pub pending : ℕ → ℕ
 pending zero = 0
 pending (suc p) = 1
 
--- What is left to do: three turns for each step that a mark can still rise, two for each variable, one for the place ahead.
-abbrev pub left : Rows → ℕ → ℕ → ℕ → ℕ
-left rows variables next ahead = 3 * (length rows * 33 - total (column 0 rows) (length rows)) + pending ahead + 2 * (variables - next)
+-- What is left to do: two turns for each step that a mark can still rise, one for the place ahead.
+abbrev pub left : Rows → ℕ → ℕ
+left rows ahead = 2 * (length rows * 33 - total (column 0 rows) (length rows)) + pending ahead
 
 pub pending_most : (p : ℕ) → pending p ≤ 1
 pending_most zero = omega arith
@@ -46,9 +46,9 @@ pending_one zero n = absurd (n refl)
 pending_one (suc p) n = refl
 
 -- A mark has risen.
-pub risen : (rows : Rows) (x v b : ℕ) (variables next ahead ahead' : ℕ) → x < length rows → ((a : ℕ) → column 0 (set rows x (v ∷ b ∷ [])) a ≤ 33) → column 0 rows x < v
-    → left (set rows x (v ∷ b ∷ [])) variables next ahead' < left rows variables next ahead
-risen rows x v b variables next ahead ahead' l most g =
+pub risen : (rows : Rows) (x v b : ℕ) (ahead ahead' : ℕ) → x < length rows → ((a : ℕ) → column 0 (set rows x (v ∷ b ∷ [])) a ≤ 33) → column 0 rows x < v
+    → left (set rows x (v ∷ b ∷ [])) ahead' < left rows ahead
+risen rows x v b ahead ahead' l most g =
     let e = total_changed (length rows) (column_changed 0 rows x (v ∷ b ∷ []) l) l in
     let n = length-set rows x (v ∷ b ∷ []) in
     let c = total_most (column 0 (set rows x (v ∷ b ∷ []))) 33 (length rows) most in

@@ -3,13 +3,13 @@
 // nothing is recursive. A place is a reference or none; a row of scratch holds it as a number.
 #![tactic(auto)]
 
-ghost use Rattle.std.specs.Prelude.{◌≡◌, ◌+◌, ◌≤◌, length};
+ghost use Rattle.std.specs.Prelude.{◌≡◌, ◌≤◌};
 ghost use Rattle.arena.specs.Cells.{cells, headers};
 ghost use Rattle.arena.specs.Rows.{column};
 ghost use Rattle.acyclicity.specs.Contract.{Ready, Decided};
 ghost use Rattle.acyclicity.specs.Edges.{number, edge, Followable, Searchable, Searched};
 
-use arena::{SYMBOL_STEP, Terms};
+use arena::Terms;
 
 // The mark of a reference from which all edges were followed, and which no cycle was found through. Any other mark is 0 where the search has not been,
 // else 1 + the number of edges followed: below this, since a node has at most 31 arguments.
@@ -17,14 +17,11 @@ use arena::{SYMBOL_STEP, Terms};
 const CLOSED: u32 = 33;
 
 // A place as the number that stands for it in a row: 0 for none, else 1 + the reference.
-fn number_of(place: Option<u32>) -> u32
+fn held_of(place: Option<u32>) -> u32
     requires { number place ≤ headers }
     ensures { result ≡ number place }
 {
-    match place {
-        None => 0,
-        Some(reference) => reference + 1,
-    }
+    place.map_or(0, |reference| reference + 1)
 }
 
 // The place that a number in a row stands for.
@@ -45,65 +42,61 @@ fn edge_at(terms: Terms, bindings: &[[u32; 2]], reference: u32, i: u32) -> Optio
         }
         return None;
     }
-    let address = (reference - terms.room) as usize;
-    let arity = terms.words[address] % SYMBOL_STEP;
-    if i < arity {
-        return Some(terms.words[address + 1 + (i as usize)]);
+    if i < terms.arity(reference) {
+        return Some(terms.argument(reference, i));
     }
     None
 }
 
 // Whether the stored bindings are acyclic; leaves its marks in scratch.
-// Stays: the scratch is written, and terms and bindings, which are lent apart, are read.
+// Stays: terms, bindings and scratch have different owners, and in one struct the two that are only read would be lent for writing.
 fn search(terms: Terms, bindings: &[[u32; 2]], scratch: &mut [[u32; 2]]) -> bool
     requires { Searchable terms.words.now bindings.now terms.room terms.variables terms.used scratch.old }
     ensures { Searched terms.entry.words.now bindings.now terms.entry.room terms.entry.variables terms.entry.used scratch.old result scratch.new }
 {
-    // The variables below `next` are entered; `top` is the place that the search is at, `ahead` the place that it goes to.
-    let mut next = 0;
-    let mut top = None;
-    let mut ahead = None;
-    loop {
-        if let Some(reference) = ahead {
-            let row = reference as usize;
-            let mark = scratch[row][0];
-            if mark == CLOSED {
-                ahead = None;
-            } else if mark == 0 {
-                scratch[row] = [1, number_of(top)];
-                top = ahead;
-                ahead = None;
+    for variable in 0..terms.variables {
+        // `top` is the place that the search is at, `ahead` the place that it goes to.
+        let mut top = None;
+        let mut ahead = Some(variable);
+        loop {
+            if let Some(reference) = ahead {
+                let row = reference as usize;
+                let mark = scratch[row][0];
+                if mark == CLOSED {
+                    ahead = None;
+                } else if mark == 0 {
+                    scratch[row] = [1, held_of(top)];
+                    top = ahead;
+                    ahead = None;
+                } else {
+                    // An edge back to a reference on the way that the search has come.
+                    return false;
+                }
+            } else if let Some(reference) = top {
+                let row = reference as usize;
+                let followed = scratch[row][0] - 1;
+                let parent = scratch[row][1];
+                match edge_at(terms, bindings, reference, followed) {
+                    None => {
+                        scratch[row] = [CLOSED, parent];
+                        top = place_of(parent);
+                    }
+                    Some(target) => {
+                        scratch[row] = [followed + 2, parent];
+                        ahead = Some(target);
+                    }
+                }
             } else {
-                // An edge back to a reference on the way that the search has come.
-                return false;
+                break;
             }
-        } else if let Some(reference) = top {
-            let row = reference as usize;
-            let followed = scratch[row][0] - 1;
-            let parent = scratch[row][1];
-            match edge_at(terms, bindings, reference, followed) {
-                None => {
-                    scratch[row] = [CLOSED, parent];
-                    top = place_of(parent);
-                }
-                Some(target) => {
-                    scratch[row] = [followed + 2, parent];
-                    ahead = Some(target);
-                }
-            }
-        } else {
-            if next == terms.variables {
-                return true;
-            }
-            ahead = Some(next);
-            next += 1;
         }
     }
+    true
 }
 
 // Whether the stored bindings are acyclic: one search in depth through all that the variables lead to. Scratch has a row for
 // each reference; it is zero before and after.
-// Stays: the scratch is written, and terms and bindings, which are lent apart, are read.
+// Stays: terms, bindings and scratch have different owners, and in one struct the two that are only read would be lent for writing.
 pub fn is_acyclic(terms: Terms, bindings: &[[u32; 2]], scratch: &mut [[u32; 2]]) -> bool
     requires { Ready terms.words.now bindings.now terms.room terms.variables terms.used scratch.old }
     ensures { Decided terms.entry.words.now bindings.now terms.entry.room terms.entry.variables scratch.old result scratch.new }

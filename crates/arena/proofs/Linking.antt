@@ -157,12 +157,9 @@ module _ (room : ℕ) (L₀ : List ℕ) (a b : ℕ) where
             ((λ i x d. set_link L (p - room) (min q y) i x s' d (λ c f. rw (c, j, ← f) to) (λ c f. k.0 i x f)), sym at_y ∙ k.1);
       }
 
-  pub link_step : (L : List ℕ) (p q n v : ℕ) → Linking L p q → q < p → room ≤ q → p < room + length L → cells L (p - room) ≡ n → (n ≡ 0 → ⊥) → v ≡ min q (n - 1)
-      → Linking (set L (p - room) (v + 1)) (n - 1) q
-  link_step L p q n v h l m s z o e = rw e (link_next L p q (n - 1) h l m s (let k : n ≢ 0 = o in omega arith))
-
-  pub link_falls : (L : List ℕ) (p q n : ℕ) → Linking L p q → q < p → room ≤ q → cells L (p - room) ≡ n → (n ≡ 0 → ⊥) → n - 1 < p
-  link_falls L p q n h l m z o = let k : n ≢ 0 = o in let b = h.form.below (p - room) (n - 1) (omega arith) in omega arith
+  pub link_step : (L : List ℕ) (p q y v : ℕ) → Linking L p q → q < p → room ≤ q → p < room + length L → cells L (p - room) ≡ suc y → v ≡ min q y
+      → Linking (set L (p - room) (v + 1)) y q
+  link_step L p q y v h l m s z e = rw e (link_next L p q y h l m s z)
 
 pub link_start : (room : ℕ) (L : List ℕ) (a b : ℕ) → Descending room (cells L) → Linking room L a b L a b
 link_start room L a b f = record

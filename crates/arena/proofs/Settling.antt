@@ -3,7 +3,7 @@ use Prim.Native.Nat.{ℕ, suc, ◌+◌, ◌-◌, ◌≤◌, ◌<◌}
 use native.Mathlib.Omega.{arith}
 use mathlib.Core.Path.{◌≡◌, refl, sym, ◌∙◌}
 use mathlib.Core.Bool.{Bool, true, false}
-use mathlib.Core.Logic.{◌⊎◌, inl, inr, ⊎_elim, ◌≢◌}
+use mathlib.Core.Logic.{◌⊎◌, inl, inr, ⊎_elim}
 use mathlib.Core.List.{List}
 use Rattle.std.proofs.Common.{max}
 use lib.ListN.{length, set, length-set}
@@ -76,9 +76,12 @@ module _ (room : ℕ) (w L : List ℕ) (nv used at : ℕ) (h : Comparable room w
   }
 
   -- There is a link, to the node at the address b.
-  module _ (n b : ℕ) (linked : cells L at ≡ n) (some : n ≡ 0 → ⊥) (to : b ≡ n - 1 - room) where
+  module _ (z b : ℕ) (linked : cells L at ≡ suc z) (to : b ≡ z - room) where
+    pub room_for : room ≤ z
+    room_for = h.form.node at z linked
+
     link_is : cells L at ≡ suc (room + b)
-    link_is = let k : n ≢ 0 = some in let q = h.form.node at (n - 1) (omega arith) in omega arith
+    link_is = let q = room_for in omega arith
 
     pub lower : b < at
     lower = let q = h.form.below at (room + b) link_is in omega arith
@@ -94,9 +97,6 @@ module _ (room : ℕ) (w L : List ℕ) (nv used at : ℕ) (h : Comparable room w
 
     header_second : headers ≤ cells w b
     header_second = let d : room + b - room ≡ b = omega arith in rw d at (second.header (omega arith))
-
-    pub room_for : room + 1 ≤ n
-    room_for = let k = link_is in omega arith
 
     -- The headers differ.
     pub settle_clash : (same : Bool) (low : ℕ) → (cells w at ≡ cells w b → ⊥) → Settled room w L (set L at 0) nv used at same low low false

@@ -1,6 +1,5 @@
 // The tests on one word.
-ghost use Rattle.std.specs.Prelude.{◌≡◌, ◌+◌, ◌≤◌, length};
-ghost use Rattle.arena.specs.Cells.{headers};
+ghost use Rattle.std.specs.Prelude.{◌≡◌, ◌≤◌, length};
 ghost use Rattle.arena.specs.Form.{is_header, is_argument};
 
 use super::Terms;
@@ -24,19 +23,20 @@ pub fn is_header(arities: &[u32], word: u32) -> bool
 
 // Whether a word may be an argument of a node behind the words in use, or is a reference in form: a variable, or a node in use from the address `from` on.
 pub fn is_argument(terms: Terms, from: u32, word: u32) -> bool
-    // The words in use are among those lent, and all references are below the headers.
-    requires { (from ≤ terms.used) × (terms.used ≤ length terms.words.now) × (terms.room + terms.used ≤ headers) }
+    // The words in use are among those lent.
+    requires { terms.used ≤ length terms.words.now }
     ensures { result ≡ is_argument (record { words = terms.entry.words.now; room = terms.entry.room; variables = terms.entry.variables; from = from })
         terms.entry.used word }
 {
     if word < terms.room {
         return word < terms.variables;
     }
-    if word < terms.room + from {
+    let address = word - terms.room;
+    if address < from {
         return false;
     }
-    if word < terms.room + terms.used {
-        return terms.words[(word - terms.room) as usize] >= HEADERS;
+    if address < terms.used {
+        return terms.words[address as usize] >= HEADERS;
     }
     false
 }

@@ -9,9 +9,9 @@ mod copies; // one word of a copy
 mod form; // the tests on one word
 mod links; // nodes that have to denote the same term
 
-ghost use Rattle.std.specs.Prelude.{◌≡◌, ◌∷◌, ◌+◌, ◌≤◌, length};
+ghost use Rattle.std.specs.Prelude.{◌≡◌, suc, ◌∷◌, ◌+◌, ◌-◌, ◌<◌, ◌≤◌, length};
 ghost use Rattle.std.proofs.lemmas.List.Edits.{sets};
-ghost use Rattle.arena.specs.Cells.{headers, cells};
+ghost use Rattle.arena.specs.Cells.{headers, cells, arity_of};
 ghost use Rattle.arena.specs.Copies.{copied, Copyable};
 ghost use Rattle.arena.specs.Form.{in_form};
 ghost use Rattle.arena.specs.Equality.{Ready, Compared};
@@ -22,6 +22,8 @@ pub use format::{HEADERS, INPUTS, PATTERN_ROOM, SYMBOL_STEP, TERM_ROOM};
 use links::{link, past, settle};
 
 // Terms in lent words: of the words `used` are in use, and of the `room` variables that there is room for, `variables`.
+// Stays: words are lent whole, as terms are written into the same buffer behind those in use, so the contracts speak of the whole buffer.
+// Stays: that the words in use are among those lent is no invariant, since `checks::are_terms` is handed terms of any numbers and tests that.
 #[derive(Clone, Copy)]
 pub struct Terms<'a> {
     pub words: &'a [u32],
@@ -30,9 +32,28 @@ pub struct Terms<'a> {
     pub used: u32,
 }
 
-// Words of a rule: `count` words from the address `from` on, and for each variable its place among the new ones.
+impl Terms<'_> {
+    // The number of arguments of the node r.
+    pub fn arity(self, r: u32) -> u32
+        requires { (self.room ≤ r) × (r - self.room < length self.words.now) }
+        ensures { result ≡ arity_of (cells self.entry.words.now (r - self.entry.room)) }
+    {
+        self.words[(r - self.room) as usize] % SYMBOL_STEP
+    }
+
+    // Argument i of the node r.
+    pub fn argument(self, r: u32, i: u32) -> u32
+        requires { (self.room ≤ r) × (suc (r - self.room) + i < length self.words.now) }
+        ensures { result ≡ cells self.entry.words.now (suc (r - self.entry.room) + i) }
+    {
+        self.words[(r - self.room) as usize + 1 + i as usize]
+    }
+}
+
+// Part of the words of all rules, that of one rule: `count` words from the address `from` on, and for each variable its place among the new ones.
+// Stays: with these words alone lent, `from` would still stand beside them, since an address in them counts from the first word of all rules.
 #[derive(Clone, Copy)]
-pub struct Pattern<'a> {
+pub struct RulePart<'a> {
     pub words: &'a [u32],
     pub from: u32,
     pub count: u32,
@@ -40,7 +61,7 @@ pub struct Pattern<'a> {
 }
 
 // Writes a node, its header and its arguments, from the address `used` on.
-// Stays: lent the words from `used` on alone, each caller would join what comes back to the words before, which its contract speaks of too.
+// Stays: with the words from `used` on alone lent, each caller would have to join what comes back to the words before, of which its contract speaks too.
 pub fn push_node(words: &mut [u32], used: u32, header: u32, arguments: &[u32])
     // The node has room: the caller counts words before it writes.
     requires { used + 1 + length arguments.now ≤ length words.old }
@@ -51,27 +72,21 @@ pub fn push_node(words: &mut [u32], used: u32, header: u32, arguments: &[u32])
     words[at + 1..at + 1 + arguments.len()].copy_from_slice(arguments);
 }
 
-// Stays: lent the words from `used` on alone, each caller would join what comes back to the words before, which its contract speaks of too.
 // Copies a rule's words to the address `used`, with new variables from `counter` on.
-pub fn inst(pattern: Pattern, words: &mut [u32], room: u32, used: u32, counter: u32)
+// Stays: with the words from `used` on alone lent, each caller would have to join what comes back to the words before, of which its contract speaks too.
+pub fn inst(part: RulePart, words: &mut [u32], room: u32, used: u32, counter: u32)
     // The caller counts words and variables before it copies, and a signature in form has rules whose words refer to nothing outside.
-    requires { Copyable pattern.words.now pattern.from pattern.count pattern.places.now words.old room used counter }
+    requires { Copyable part.words.now part.from part.count part.places.now words.old room used counter }
     ensures { words.new ≡ sets words.old used
-        (copied pattern.entry.words.now pattern.entry.from pattern.entry.count pattern.entry.places.now room used counter) }
+        (copied part.entry.words.now part.entry.from part.entry.count part.entry.places.now room used counter) }
 {
-    let start = pattern.from as usize;
-    let end = pattern.count as usize;
+    let start = part.from as usize;
+    let end = part.count as usize;
     let at = used as usize;
-    let first = PATTERN_ROOM + pattern.from;
+    let first = PATTERN_ROOM + part.from;
     let base = room + used;
     for i in 0..end {
-        words[at + i] = moved_word(
-            pattern.words[start + i],
-            pattern.places,
-            counter,
-            first,
-            base,
-        );
+        words[at + i] = moved_word(part.words[start + i], part.places, counter, first, base);
     }
 }
 

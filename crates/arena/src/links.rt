@@ -29,17 +29,16 @@ pub fn link(links: &mut [u32], room: u32, a: u32, b: u32, low: u32) -> Linked
             return Linked { same: false, low };
         }
         let at = (high - room) as usize;
-        let next = links[at];
-        if next == 0 {
+        let Some(next) = links[at].checked_sub(1) else {
             links[at] = lower + 1;
             return Linked {
                 same: true,
                 low: low.min(high - room),
             };
-        }
+        };
         // The links of one class are shortened on the way, so that later ones take few steps.
-        links[at] = lower.min(next - 1) + 1;
-        p = next - 1;
+        links[at] = lower.min(next) + 1;
+        p = next;
         q = lower;
     }
     Linked { same: true, low }
@@ -89,14 +88,13 @@ pub fn settle(terms: Terms, links: &mut [u32], at: u32, linked: Linked) -> Linke
     ensures { Settled terms.entry.room terms.entry.words.now links.old links.new terms.entry.variables terms.entry.used at linked.same linked.low result.low result.same }
 {
     let i = at as usize;
-    let next = links[i];
-    if next == 0 {
+    let Some(next) = links[i].checked_sub(1) else {
         return linked;
-    }
+    };
     links[i] = 0;
     let low = linked.low;
     if linked.same {
-        let other = next - 1 - terms.room;
+        let other = next - terms.room;
         let header = terms.words[i];
         if header == terms.words[other as usize] {
             return link_arguments(terms, links, at, other, header % SYMBOL_STEP, low);

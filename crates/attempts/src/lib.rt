@@ -10,7 +10,7 @@ ghost use Rattle.attempts.specs.Clashes.{LeadsTo, Comparable, Clashes};
 ghost use Rattle.unifier.specs.Lending.{SameBuffers};
 ghost use Rattle.attempts.specs.Promises.{Asked, Attempted, HeadAsked, HeadTried, BodyAsked, BodyTried};
 
-use arena::{PATTERN_ROOM, Pattern, SYMBOL_STEP, TERM_ROOM, Terms, inst, moved_word};
+use arena::{PATTERN_ROOM, RulePart, SYMBOL_STEP, TERM_ROOM, Terms, inst, moved_word};
 use bindings::{StoredBindings, undo, walk};
 use refusals::Refusal;
 use unifier::{Workspace, unify};
@@ -189,7 +189,7 @@ fn try_head(
         PATTERN_ROOM + from,
         TERM_ROOM + at.used,
     );
-    let head = Pattern {
+    let head = RulePart {
         words: rule.pattern,
         from,
         count: stored.head,
@@ -225,7 +225,7 @@ fn try_body(
         undo(bindings, bound, at.bound);
         return Err(Refusal::OverLimit);
     }
-    let body = Pattern {
+    let body = RulePart {
         words: rule.pattern,
         from: stored.from,
         count: stored.body,

@@ -9,7 +9,7 @@ use Rattle.arena.specs.Rows.{Rows, column}
 use Rattle.bindings.specs.Tables.{undone}
 use Rattle.bindings.specs.Stored.{held, Form, Edge, into, argument, Reaches, here, step}
 use Rattle.bindings.specs.Promises.{Entered, Undoable}
-use Rattle.bindings.specs.Orders.{low_or_high, not_zero}
+use Rattle.bindings.specs.Orders.{low_or_high}
 use Rattle.bindings.specs.Entries.{Entries, entries_room, entries_more, entries_undoable, enter_changed, enter_back}
 use Rattle.bindings.specs.Holding.{form_holds}
 use Rattle.bindings.specs.Occurrence.{reach_mem, mem_reach}
@@ -101,12 +101,11 @@ grown_then {m = m} {m' = m'} {m'' = m''} {t = t} {t' = t'} {t'' = t''} g h =
 
 -- one argument more
 pub args_more : {limit : ℕ} (w : List ℕ) (a i : ℕ) {m m' m'' : Rows} {t t' t'' : ℕ} → Grown limit (ArgumentOf w a i) m t m' t'
-    → Grown limit (λ y. y ≡ cells w (a + 1 + i)) m' t' m'' t'' → Grown limit (ArgumentOf w a (i + 1)) m t m'' t''
+    → Grown limit (λ y. y ≡ cells w (suc a + i)) m' t' m'' t'' → Grown limit (ArgumentOf w a (i + 1)) m t m'' t''
 args_more w a i g h =
-    let e : a + 1 + i ≡ suc a + i = omega arith in
     grown_iff
-    (λ y. ⊎_elim (λ (j, l, p). (j, omega arith, p)) (λ p. (i, omega arith, rw e at p)))
-    (λ y (j, l, p). ⊎_elim (λ s. inl (j, s, p)) (λ s. let d : j ≡ i = omega arith in inr (rw (e, ← d) p)) (low_or_high j i))
+    (λ y. ⊎_elim (λ (j, l, p). (j, omega arith, p)) (λ p. (i, omega arith, p)))
+    (λ y (j, l, p). ⊎_elim (λ s. inl (j, s, p)) (λ s. let d : j ≡ i = omega arith in inr (rw (← d) p)) (low_or_high j i))
     (grown_then g h)
 
 pub args_none : {limit : ℕ} (w : List ℕ) (a : ℕ) (m : Rows) (t : ℕ) → Entries m limit t → Grown limit (ArgumentOf w a 0) m t m t
@@ -148,10 +147,9 @@ module _ {N : ℕ} where
     pub edges_free : (m : Rows) (t : ℕ) → Entries m (N + used) t → r < N → column 0 b r ≡ 0 → Grown (N + used) (Edge N (cells w) (column 0 b) r) m t m t
     edges_free m t n l e = mark_none (Edge N (cells w) (column 0 b) r) m t n (λ y d. absurd (edge_none l e d))
 
-    pub edges_bound : {m m' : Rows} {t t' : ℕ} → r < N → column 0 b r ≢ 0 → Grown (N + used) (λ z. z ≡ column 0 b r - 1) m t m' t' → Grown (N + used) (Edge N (cells w) (column 0 b) r) m t m' t'
-    edges_bound l n g =
-        let e = not_zero (column 0 b r) n in
-        grown_iff (λ y d. rw d (into l e)) (λ y d. edge_into l e d) g
+    pub edges_bound : (x : ℕ) {m m' : Rows} {t t' : ℕ} → r < N → column 0 b r ≡ suc x → Grown (N + used) (λ z. z ≡ x) m t m' t'
+        → Grown (N + used) (Edge N (cells w) (column 0 b) r) m t m' t'
+    edges_bound x l e g = grown_iff (λ y d. rw d (into l e)) (λ y d. edge_into l e d) g
 
     pub edges_arguments : {m m' : Rows} {t t' : ℕ} → N ≤ r
         → Grown (N + used) (ArgumentOf w (r - N) (arity_of (cells w (r - N)))) m t m' t' → Grown (N + used) (Edge N (cells w) (column 0 b) r) m t m' t'
@@ -161,8 +159,8 @@ module _ {N : ℕ} where
     pub row_in : r < N → r < length b
     row_in l = let v = h.variable l in let n = f.lent_rows in omega arith
 
-    pub value_in : r < N → column 0 b r ≢ 0 → column 0 b r - 1 < N + used
-    value_in l n = reference_low (edge_reference f h (into l (not_zero (column 0 b r) n)))
+    pub value_in : (x : ℕ) → r < N → column 0 b r ≡ suc x → x < N + used
+    value_in x l e = reference_low (edge_reference f h (into l e))
 
     pub node_in : N ≤ r → r - N + arity_of (cells w (r - N)) < length w
     node_in l = let n = h.node l in let g = f.words.fits (r - N) (omega arith) (h.header l) in let q = f.lent_words in omega arith

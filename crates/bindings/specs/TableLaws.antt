@@ -19,6 +19,19 @@ column_other c t d j row n = ap (λ (z : List ℕ). get_or z c 0) (get_or-set_ot
 pub column_past : (t : Rows) (c j : ℕ) → length t ≤ j → column c t j ≡ get_or [] c 0
 column_past t c j p = ap (λ (z : List ℕ). get_or z c 0) (get_or-eq_default t [] p)
 
+-- A pair with another number.
+pub first_set : (row : List ℕ) (v : ℕ) → length row ≡ 2 → set row 0 v ≡ v ∷ get_or row 1 0 ∷ []
+first_set [] v e = absurd (omega arith)
+first_set (x ∷ []) v e = absurd (omega arith)
+first_set (x ∷ y ∷ []) v e = refl
+first_set (x ∷ y ∷ z ∷ l) v e = absurd (omega arith)
+
+pub second_set : (row : List ℕ) (v : ℕ) → length row ≡ 2 → set row 1 v ≡ get_or row 0 0 ∷ v ∷ []
+second_set [] v e = absurd (omega arith)
+second_set (x ∷ []) v e = absurd (omega arith)
+second_set (x ∷ y ∷ []) v e = refl
+second_set (x ∷ y ∷ z ∷ l) v e = absurd (omega arith)
+
 -- A value set at a key, and a key set in the list.
 module _ (t : Rows) (key value : ℕ) (l : key < length t) where
   pub valued_at : column 0 (valued t key value) key ≡ value
@@ -129,7 +142,7 @@ module _ (t : Rows) (n key value : ℕ) (ln : n < length t) (lk : key < length t
   restored = ap (λ (k : ℕ). listed (valued (entered t n key value) k 0) n 0) ch.list
       ∙ ext_get_or [] (listed d n 0) t (length-set d n _ ∙ ld) (λ i l. each i)
 
--- An entry is made of two rows replaced, and so is its removal.
+-- An entry is made of two rows replaced.
 pub entered_is : (t t₁ t₂ : Rows) (n key value : ℕ) → n < length t → key < length t → Replaced t t₁ key 2 (valued t key value) → Replaced t₁ t₂ n 2 (listed t₁ n key) → Entered t t₂ n key value
 unfolding entered
 entered_is t t₁ t₂ n key value ln lk p q =
@@ -139,10 +152,47 @@ entered_is t t₁ t₂ n key value ln lk p q =
       back = λ zk zn. ap (λ (s : Rows). removed s n) e ∙ restored t n key value ln lk p.wide (ap (λ (s : Rows). length (get_or s n [])) (sym p.is) ∙ q.wide) zk zn;
     }
 
-pub removed_is : (t t₁ t₂ : Rows) (n key : ℕ) → key ≡ column 1 t n → t₁ ≡ valued t key 0 → t₂ ≡ listed t₁ n 0 → t₂ ≡ removed t n
-unfolding removed
-removed_is t t₁ t₂ n key k p q = q ∙ ap (λ (s : Rows). listed s n 0) (p ∙ ap (λ (j : ℕ). valued t j 0) k)
+-- Rows of two numbers, in which numbers are set.
+abbrev pub Pairs : Rows → Type 0
+Pairs t = (i : ℕ) → i < length t → length (get_or t i []) ≡ 2
 
+set_pairs : (t : Rows) (j : ℕ) (row : List ℕ) → Pairs t → length row ≡ 2 → Pairs (set t j row)
+set_pairs t j row p e i l =
+    let n = length-set t j row in
+    by_same i j
+    (λ q _. ap (λ (k : ℕ). length (get_or (set t j row) k [])) q ∙ ap length (get_or-set_same t j row [] (omega arith)) ∙ e)
+    (λ q _. ap length (get_or-set_other t j i row [] q) ∙ p i (omega arith))
+
+-- A value put at a key.
+abbrev value_put : Rows → ℕ → ℕ → Rows
+value_put t key value = set t key (set (get_or t key []) 0 value)
+
+-- And then a key put at position n of the list.
+abbrev pub both_put : Rows → ℕ → ℕ → ℕ → ℕ → Rows
+both_put t n key value k = set (value_put t key value) n (set (get_or (value_put t key value) n []) 1 k)
+
+module _ (t : Rows) (n key value : ℕ) (pairs : Pairs t) (ln : n < length t) (lk : key < length t) where
+  value_is : value_put t key value ≡ valued t key value
+  value_is = ap (set t key) (first_set (get_or t key []) value (pairs key lk))
+
+  valued_pairs : Pairs (valued t key value)
+  valued_pairs = set_pairs t key (value ∷ column 1 t key ∷ []) pairs refl
+
+  wide : length (get_or (valued t key value) n []) ≡ 2
+  wide = let e = length-set t key (value ∷ column 1 t key ∷ []) in valued_pairs n (omega arith)
+
+  pub both_is : (k : ℕ) → both_put t n key value k ≡ listed (valued t key value) n k
+  both_is k =
+      ap (λ (s : Rows). set s n (set (get_or s n []) 1 k)) value_is
+      ∙ ap (set (valued t key value) n) (second_set (get_or (valued t key value) n []) k wide)
+
+  pub put_pairs : (k : ℕ) → Pairs (both_put t n key value k)
+  put_pairs k = subst Pairs (sym (both_is k)) (set_pairs (valued t key value) n (column 0 (valued t key value) n ∷ k ∷ []) valued_pairs refl)
+
+  pub put_entered : Entered t (both_put t n key value key) n key value
+  put_entered = entered_is t (valued t key value) (both_put t n key value key) n key value ln lk (record { is = refl; wide = pairs key lk }) (record { is = both_is key; wide = wide })
+
+-- Taking back one more.
 -- Taking back one more.
 pub undone_more : (t t' : Rows) (mark n : ℕ) → mark ≤ n → removed t' n ≡ t → undone t' mark (n + 1 - mark) ≡ undone t mark (n - mark)
 unfolding undone
@@ -179,6 +229,16 @@ undo_step {t₀} {n₀} {mark} {t} {n} h l =
       keys = λ i p q. let x = d.others i (λ e. omega arith) in let y = h.keys i p (omega arith) in omega arith;
       is = sym z ∙ ap (λ (j : ℕ). undone t mark (j - mark)) q ∙ h.is;
     }
+
+-- The same, as it is written.
+pub undo_put : {t₀ : Rows} {n₀ mark : ℕ} {t : Rows} {n : ℕ} → Undoing t₀ n₀ mark t n → (pairs : Pairs t) → mark < n
+    → (let s = both_put t (n - 1) (column 1 t (n - 1)) 0 0 in Undoing t₀ n₀ mark s (n - 1) × Pairs s)
+unfolding removed
+undo_put {t₀} {n₀} {mark} {t} {n} h pairs l =
+    let a = h.long in let b = h.within in let k = h.keys (n - 1) (omega arith) (omega arith) in (
+      subst (λ (s : Rows). Undoing t₀ n₀ mark s (n - 1)) (sym (both_is t (n - 1) (column 1 t (n - 1)) 0 pairs (omega arith) (omega arith) 0)) (undo_step h l),
+      put_pairs t (n - 1) (column 1 t (n - 1)) 0 pairs (omega arith) (omega arith) 0,
+    )
 
 pub undo_end : {t₀ : Rows} {n₀ mark : ℕ} {t : Rows} {n : ℕ} → Undoing t₀ n₀ mark t n → n ≤ mark → t ≡ undone t₀ mark (n₀ - mark)
 unfolding undone

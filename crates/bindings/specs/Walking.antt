@@ -1,12 +1,11 @@
 -- The loop of `walk`: it goes the way that the values lead, and the number of bindings still to meet falls.
-use Rattle.std.specs.Prelude.{ℕ, ◌-◌, ◌<◌, ◌≢◌, List, length}
+use Rattle.std.specs.Prelude.{ℕ, suc, ◌<◌, ◌≡◌, List, length}
 use Rattle.std.proofs.Common.{arith}
 use Rattle.terms.specs.Loops.{walk_length}
 use Rattle.arena.specs.Cells.{cells, denote, Reference}
 use Rattle.arena.specs.Rows.{Rows, column}
 use Rattle.bindings.specs.Stored.{held, Form, WalksTo, bound}
 use Rattle.bindings.specs.Promises.{Walked}
-use Rattle.bindings.specs.Orders.{not_zero}
 use Rattle.bindings.specs.Holding.{form_holds, walks, walks_end, walk_falls}
 
 -- From q on it goes as from r.
@@ -24,17 +23,16 @@ module _ {N : ℕ} {w : List ℕ} {b : Rows} {variables used k r q : ℕ} (h : W
   pub walk_in : q < N → q < length b
   walk_in l = let a = h.in_form.variable l in let c = h.form.lent_rows in omega arith
 
-  pub walk_next : q < N → column 0 b q ≢ 0 → Walking N w b variables used k r (column 0 b q - 1)
-  walk_next l n = let e = not_zero (column 0 b q) n in record {
+  pub walk_next : (x : ℕ) → q < N → column 0 b q ≡ suc x → Walking N w b variables used k r x
+  walk_next x l e = record {
     form = h.form;
     first = h.first;
-    in_form = h.form.references q (column 0 b q - 1) (h.in_form.variable l) e;
+    in_form = h.form.references q x (h.in_form.variable l) e;
     on = λ p m. h.on p (bound l e m);
   }
 
-  pub walk_less : q < N → column 0 b q ≢ 0 → ahead N w b k (column 0 b q - 1) < ahead N w b k q
-  walk_less l n = let e = not_zero (column 0 b q) n in
-      let f = walk_falls h.form.words (form_holds h.form) q (column 0 b q - 1) h.in_form l e in omega arith
+  pub walk_less : (x : ℕ) → q < N → column 0 b q ≡ suc x → ahead N w b k x < ahead N w b k q
+  walk_less x l e = let f = walk_falls h.form.words (form_holds h.form) q x h.in_form l e in omega arith
 
   pub walk_end : WalksTo N (column 0 b) q q → Walked N w b variables used k r q
   walk_end v = record {

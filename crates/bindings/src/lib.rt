@@ -24,7 +24,8 @@ use visits::{visit, visit_edges};
 
 // Bindings in lent rows: by variable the value, 0 or 1 + a reference, and beside it the trail, whose first `bound` entries are the bound variables in
 // their order.
-// Stays: beside the terms, which other owners lend, and the marks, which are written.
+// Stays: terms, bindings and marks go apart, as they have different owners, and the marks alone are written. And the rows hold the values of all variables
+// beside the trail, so that no part of them up to `bound` can be lent.
 #[derive(Clone, Copy)]
 pub struct StoredBindings<'a> {
     pub rows: &'a [[u32; 2]],
@@ -39,11 +40,10 @@ pub fn walk(terms: Terms, bindings: StoredBindings, r: u32) -> u32
 {
     let mut q = r;
     while q < terms.room {
-        let value = bindings.rows[q as usize][0];
-        if value == 0 {
+        let Some(value) = bindings.rows[q as usize][0].checked_sub(1) else {
             return q;
-        }
-        q = value - 1;
+        };
+        q = value;
     }
     q
 }

@@ -8,7 +8,7 @@ ghost use Rattle.bindings.specs.Checking.{entered, TrailEntered, GoodValue, Trai
 
 use super::StoredBindings;
 use super::tables::{enter, undo};
-use arena::{HEADERS, Terms};
+use arena::{Terms, is_argument};
 
 // Enters the variables of the trail as marks; the error is how many stand before one that is out of use, or unbound, or entered already.
 fn enter_trail(bindings: StoredBindings, marks: &mut [[u32; 2]], variables: u32) -> Result<(), u32>
@@ -38,14 +38,7 @@ pub fn is_reference(terms: Terms, r: u32) -> bool
     requires { terms.used ≤ length terms.words.now }
     ensures { Tells result (Reference terms.entry.room (cells terms.entry.words.now) terms.entry.variables terms.entry.used r) }
 {
-    if r < terms.room {
-        return r < terms.variables;
-    }
-    let a = r - terms.room;
-    if terms.used <= a {
-        return false;
-    }
-    terms.words[a as usize] >= HEADERS
+    is_argument(terms, 0, r)
 }
 
 // Whether the value of v is 0 or in form.
@@ -54,17 +47,16 @@ fn good_value(terms: Terms, rows: &[[u32; 2]], marks: &[[u32; 2]], v: usize) -> 
     requires { (terms.used ≤ length terms.words.now) × (v < length rows.now) × (terms.variables ≤ length marks.now) }
     ensures { Tells result (GoodValue terms.entry.room terms.entry.words.now rows.now marks.now terms.entry.variables terms.entry.used v) }
 {
-    let value = rows[v][0];
-    if value == 0 {
+    let Some(value) = rows[v][0].checked_sub(1) else {
         return true;
-    }
+    };
     if (terms.variables as usize) <= v {
         return false;
     }
     if marks[v][0] == 0 {
         return false;
     }
-    is_reference(terms, value - 1)
+    is_reference(terms, value)
 }
 
 // Whether all values are 0 or in form.

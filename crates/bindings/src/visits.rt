@@ -1,6 +1,6 @@
 // Visiting references for the occurs check: marks by reference, with the queue as their list.
-ghost use Rattle.std.specs.Prelude.{◌≡◌, ℕ, suc, ◌+◌, ◌<◌, ◌≤◌, length};
-ghost use Rattle.arena.specs.Cells.{cells, headers, Reference};
+ghost use Rattle.std.specs.Prelude.{◌≡◌, ℕ, suc, ◌+◌, ◌-◌, ◌<◌, ◌≤◌, length};
+ghost use Rattle.arena.specs.Cells.{cells, headers, arity_of, Reference};
 ghost use Rattle.arena.specs.Rows.{column};
 ghost use Rattle.bindings.specs.Stored.{Form, Edge};
 ghost use Rattle.bindings.specs.Entries.{Entries};
@@ -8,7 +8,7 @@ ghost use Rattle.bindings.specs.Search.{Grown, ArgumentOf};
 
 use super::StoredBindings;
 use super::tables::enter;
-use arena::{SYMBOL_STEP, Terms};
+use arena::Terms;
 
 // Marks y and puts it at the queue's end, unless it is marked; the queue has t entries. Nothing of the terms is read: they serve the contract.
 // Stays: the marks of all references stand in the rows beside the queue, so that no part up to the queue's end can be lent.
@@ -26,17 +26,20 @@ pub fn visit(terms: Terms, marks: &mut [[u32; 2]], t: u32, y: u32) -> u32
     t
 }
 
-// Visits the n arguments of the node at address a.
-fn visit_args(terms: Terms, marks: &mut [[u32; 2]], a: usize, n: usize, t: u32) -> u32
+// Visits the arguments of the node r.
+// Stays: the marks of all references stand in the rows beside the queue, so that no part up to the queue's end can be lent.
+fn visit_args(terms: Terms, marks: &mut [[u32; 2]], t: u32, r: u32) -> u32
     requires fact_1 { Entries marks.old (terms.room + terms.used) t }
-    requires fact_2 { (a + n < length terms.words.now) × (terms.room + terms.used ≤ length marks.old) }
-    requires fact_3 { ((i : ℕ) → i < n → cells terms.words.now (suc a + i) < terms.room + terms.used) }
+    requires fact_2 { (terms.room ≤ r) × (r - terms.room + arity_of (cells terms.words.now (r - terms.room)) < length terms.words.now)
+        × (terms.room + terms.used ≤ length marks.old) }
+    requires fact_3 { (i : ℕ) → i < arity_of (cells terms.words.now (r - terms.room)) → cells terms.words.now (suc (r - terms.room) + i) < terms.room + terms.used }
     requires fact_4 { terms.room + terms.used ≤ headers }
-    ensures { Grown (terms.entry.room + terms.entry.used) (ArgumentOf terms.entry.words.now a n) marks.old t marks.new result }
+    ensures { Grown (terms.entry.room + terms.entry.used)
+        (ArgumentOf terms.entry.words.now (r - terms.entry.room) (arity_of (cells terms.entry.words.now (r - terms.entry.room)))) marks.old t marks.new result }
 {
     let mut s = t;
-    for i in 0..n {
-        s = visit(terms, marks, s, terms.words[a + 1 + i]);
+    for i in 0..terms.arity(r) {
+        s = visit(terms, marks, s, terms.argument(r, i));
     }
     s
 }
@@ -57,13 +60,10 @@ pub fn visit_edges(
     ensures { Grown (terms.entry.room + terms.entry.used) (Edge terms.entry.room (cells terms.entry.words.now) (column 0 bindings.entry.rows.now) r) marks.old t marks.new result }
 {
     if r < terms.room {
-        let value = bindings.rows[r as usize][0];
-        if value == 0 {
+        let Some(value) = bindings.rows[r as usize][0].checked_sub(1) else {
             return t;
-        }
-        return visit(terms, marks, t, value - 1);
+        };
+        return visit(terms, marks, t, value);
     }
-    let a = (r - terms.room) as usize;
-    let n = (terms.words[a] % SYMBOL_STEP) as usize;
-    visit_args(terms, marks, a, n, t)
+    visit_args(terms, marks, t, r)
 }

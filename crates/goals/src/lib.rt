@@ -14,7 +14,7 @@ ghost use Rattle.sessions.specs.Storage.{names_in};
 ghost use Rattle.goals.specs.Compiling.{Bounds, GoalMade};
 ghost use Rattle.goals.specs.Storing.{name_row, StoreAsked, GoalStored};
 
-use arena::{PATTERN_ROOM, Pattern, TERM_ROOM};
+use arena::{PATTERN_ROOM, RulePart, TERM_ROOM};
 use names::{SourceTerms, VariableRow};
 use patterns::Place;
 use refusals::Refusal;
@@ -98,7 +98,7 @@ fn copy_goal(pattern: &[u32], goal: Goal, places: &[u32], words: &mut [u32], use
     ensures words_after { words.new
         ≡ sets words.old used (copied pattern.now 0 goal.words places.now term_room used 0) }
 {
-    let copied = Pattern {
+    let copied = RulePart {
         words: pattern,
         from: 0,
         count: goal.words,

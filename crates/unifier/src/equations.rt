@@ -8,7 +8,6 @@ ghost use Rattle.unifier.specs.Equating.{Equated};
 ghost use Rattle.unifier.specs.Lending.{SameBuffers};
 
 use super::links::{find, link};
-use super::nodes::{argument, arity};
 use super::stack::put_pair;
 use super::{Decision, Ending, Workspace};
 use arena::{SYMBOL_STEP, Terms};
@@ -124,9 +123,9 @@ pub fn equate(
                 }
                 let last = (d - 1) as usize;
                 let [left, right, taken] = stack[last];
-                if taken < arity(terms, left) {
+                if taken < terms.arity(left) {
                     stack[last] = [left, right, taken + 1];
-                    pending = Some((argument(terms, left, taken), argument(terms, right, taken)));
+                    pending = Some((terms.argument(left, taken), terms.argument(right, taken)));
                 } else {
                     link(links, c, left, right);
                     c += 1;

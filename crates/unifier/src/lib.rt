@@ -4,7 +4,6 @@
 #![tactic(auto)]
 
 mod links; // links between equal nodes
-mod nodes; // the parts of a node
 mod stack; // the stack of open pairs
 mod equations; // one decision, and the loop of unification
 
@@ -18,9 +17,10 @@ ghost use Rattle.unifier.specs.Lending.{SameBuffers};
 use arena::Terms;
 use bindings::undo;
 use equations::equate;
-use stack::clear;
+use stack::clear_before;
 
 // What is to be done with two references that are to be made equal.
+// Stays: three of the four cases are steps of the loop, and the fourth, a clash, is its end and no error of a caller.
 #[derive(Clone, Copy)]
 pub enum Decision {
     // They are equal already.
@@ -33,8 +33,8 @@ pub enum Decision {
     Clash,
 }
 
-// Stays: `unify` needs the counts where the terms are not equal too, to undo what was entered.
 // How the loop of `unify` ended: whether the terms are equal, and how many bindings, links and open pairs there are.
+// Stays: `unify` needs the counts where the terms are not equal too, to undo what was entered.
 #[derive(Clone, Copy)]
 pub struct Ending {
     pub equal: bool,
@@ -44,6 +44,7 @@ pub struct Ending {
 }
 
 // The scratch of unification, which is lent, and left as it was: the links between equal nodes, the marks of the occurs check, and the stack of open pairs.
+// Stays: each function promises that the same buffers are lent afterwards (`SameBuffers`); an invariant tells of one value, and not of the one before.
 #[derive(Drop)]
 pub struct Workspace<'a> {
     pub links: &'a mut [[u32; 2]],
@@ -51,9 +52,9 @@ pub struct Workspace<'a> {
     pub stack: &'a mut [[u32; 3]],
 }
 
-// Stays: C programs take the answer as one number, and the count before it stands for none.
 // How unification ended, as one number for programs in other languages: how many variables are bound, and 2^31 more where the terms unify. `before` is how
 // many were bound before, as they are again where the terms do not unify.
+// Stays: programs in C take the answer as one number; where the terms do not unify it is the count of before.
 pub fn packed(ended: Option<u32>, before: u32) -> u64
     ensures { result ≡ packed_unify (is_some ended) (unwrap_or ended before) }
 {
@@ -83,7 +84,7 @@ pub fn unify(
 {
     let e = equate(terms, bindings, workspace, bound, r, t);
     undo(workspace.links, e.linked, 0);
-    clear(workspace.stack, e.pairs);
+    clear_before(workspace.stack, e.pairs);
     if e.equal {
         return Some(e.bound);
     }

@@ -14,11 +14,10 @@ pub fn find(links: &[[u32; 2]], r: u32) -> u32
 {
     let mut q = r;
     loop {
-        let next = links[q as usize][0];
-        if next == 0 {
+        let Some(next) = links[q as usize][0].checked_sub(1) else {
             return q;
-        }
-        q = next - 1;
+        };
+        q = next;
     }
 }
 
@@ -30,9 +29,5 @@ pub fn link(links: &mut [[u32; 2]], c: u32, x: u32, y: u32)
 {
     let p = find(links, x);
     let q = find(links, y);
-    if p < q {
-        enter(links, c, q, p + 1);
-        return;
-    }
-    enter(links, c, p, q + 1);
+    enter(links, c, p.max(q), p.min(q) + 1);
 }

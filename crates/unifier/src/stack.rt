@@ -13,7 +13,7 @@ pub fn put_pair(s: &mut [[u32; 3]], d: u32, left: u32, right: u32)
 }
 
 // Sets the rows of the stack below d to 0.
-pub fn clear(s: &mut [[u32; 3]], d: u32)
+pub fn clear_before(s: &mut [[u32; 3]], d: u32)
     requires { d ≤ length s.old }
     ensures { s.new ≡ cleared s.old d }
 {

@@ -1,6 +1,6 @@
 -- `edge_at` meets its contract: each way out is one case of the definition, and a reference's words are within the slices.
-use Prim.Native.Nat.{◌+◌, ◌-◌, suc}
-use mathlib.Core.Path.{◌≡◌, sym, ◌∙◌}
+use Prim.Native.Nat.{suc, ◌+◌, ◌-◌}
+use mathlib.Core.Path.{◌≡◌, sym, ap, ◌∙◌}
 use Rattle.arena.specs.Cells.{cells}
 use Rattle.arena.specs.Rows.{column}
 use Rattle.acyclicity.proofs.EdgeLaws.{edge_variable, edge_second, edge_argument, edge_past}
@@ -23,15 +23,12 @@ returns-then-reference-terms c =
 
 pub returns-then-i-arity : goal.returns-then-i-arity
 returns-then-i-arity c =
-    let args = c.args in
-    let if1 = c.if-reference-terms in
-    let if3 = c.if-i-arity in
-    let e : args.reference - args.terms.room + 1 + args.i ≡ args.reference - args.terms.room + suc args.i = omega arith in
-    rw e (sym (edge_argument args.terms.room (cells args.terms.words.now) (column 0 args.bindings.now) args.reference args.i if1.false if3.true))
+    let e : suc (c.args.reference - c.args.terms.room) + c.args.i ≡ c.args.reference - c.args.terms.room + suc c.args.i = omega arith in
+    ap suc (c.argument.ensures ∙ ap (cells c.args.terms.words.now) e)
+    ∙ sym (edge_argument c.args.terms.room (cells c.args.terms.words.now) (column 0 c.args.bindings.now) c.args.reference c.args.i
+    c.if-reference-terms.false (rw c.arity.ensures at c.if-i-arity.true))
 
 pub returns : goal.returns
 returns c =
-    let args = c.args in
-    let if1 = c.if-reference-terms in
-    let if3 = c.if-i-arity in
-    sym (edge_past args.terms.room (cells args.terms.words.now) (column 0 args.bindings.now) args.reference args.i if1.false if3.false)
+    sym (edge_past c.args.terms.room (cells c.args.terms.words.now) (column 0 c.args.bindings.now) c.args.reference c.args.i
+    c.if-reference-terms.false (rw c.arity.ensures at c.if-i-arity.false))

@@ -1,5 +1,4 @@
--- `search` meets its contract. The loop's invariant: a search in depth stands in order at `top`, on its way to `ahead`, and of the variables below `next`
--- none is new, but for one ahead. Each turn raises a mark, enters or passes over the place ahead, or goes on to the next variable.
+-- `search` meets its contract. Each turn raises a mark, or enters or passes over the place ahead.
 use Prim.Native.Nat.{suc, ◌+◌, ◌-◌}
 use mathlib.Core.Path.{refl, sym, ap, ◌∙◌}
 use Rattle.terms.specs.Numbers.{true_false}
@@ -9,8 +8,11 @@ use Rattle.acyclicity.proofs.Turns.{risen, turn_start, ahead_row, top_small, tur
 use native.Mathlib.Omega.{arith}
 use Rattle.acyclicity.proofs.search.Goals as goal
 
+pub loop-variable-init : goal.loop-variable-init
+loop-variable-init c = turn_start c.requires
+
 pub loop-ahead-init : goal.loop-ahead-init
-loop-ahead-init c = turn_start c.requires
+loop-ahead-init c = turn_begin c.loop-variable.invariant refl refl (λ e. omega arith)
 
 pub bounds-scratch-row : goal.bounds-scratch-row
 bounds-scratch-row c = (ahead_row c.loop-ahead.invariant _ (ap number c.in-Some.is)).0
@@ -18,8 +20,8 @@ bounds-scratch-row c = (ahead_row c.loop-ahead.invariant _ (ap number c.in-Some.
 pub loop-ahead-preserved-then-mark-eq-CLOSED : goal.loop-ahead-preserved-then-mark-eq-CLOSED
 loop-ahead-preserved-then-mark-eq-CLOSED c = turn_skip c.loop-ahead.invariant _ (ap number c.in-Some.is) c.if-mark-eq-CLOSED.true
 
-pub number_of-requires : goal.number_of-requires
-number_of-requires c = top_small c.loop-ahead.invariant
+pub held_of-requires : goal.held_of-requires
+held_of-requires c = top_small c.loop-ahead.invariant
 
 pub bounds-scratch-row-then-mark-eq0 : goal.bounds-scratch-row-then-mark-eq0
 bounds-scratch-row-then-mark-eq0 c = (ahead_row c.loop-ahead.invariant _ (ap number c.in-Some.is)).0
@@ -29,11 +31,11 @@ loop-ahead-smaller-then-mark-eq0 c =
     let loop = c.loop-ahead in
     let is = ap number c.in-Some.is in
     let d = turn_enter loop.invariant _ is c.if-mark-eq0.true in
-    rw c.number_of.ensures (risen loop.scratch c.in-Some.reference 1 (number loop.top) c.args.terms.variables loop.next (number loop.ahead) 0 (ahead_row loop.invariant _ is).0 d.state.most
+    rw c.held_of.ensures (risen loop.scratch c.in-Some.reference 1 (number loop.top) (number loop.ahead) 0 (ahead_row loop.invariant _ is).0 d.state.most
     (let e = c.if-mark-eq0.true in omega arith))
 
 pub loop-ahead-preserved-then-mark-eq0 : goal.loop-ahead-preserved-then-mark-eq0
-loop-ahead-preserved-then-mark-eq0 c = rw c.number_of.ensures (turn_enter c.loop-ahead.invariant _ (ap number c.in-Some.is) c.if-mark-eq0.true)
+loop-ahead-preserved-then-mark-eq0 c = rw c.held_of.ensures (turn_enter c.loop-ahead.invariant _ (ap number c.in-Some.is) c.if-mark-eq0.true)
 
 pub returns-else-mark-eq0 : goal.returns-else-mark-eq0
 returns-else-mark-eq0 c =
@@ -69,7 +71,7 @@ loop-ahead-smaller-in-None c =
     let loop = c.loop-ahead in
     let (v, a, b, d, f) = top_row loop.invariant (ap number c.in_default.is) _ (ap number c.in-Some-top.is) in
     let t = turn_close loop.invariant (ap number c.in_default.is) _ (ap number c.in-Some-top.is) _ c.edge_at.ensures (ap number c.in-None.is) in
-    risen loop.scratch c.in-Some-top.reference 33 (column 1 loop.scratch c.in-Some-top.reference) c.args.terms.variables loop.next (number loop.ahead) (number loop.ahead) a t.state.most (omega arith)
+    risen loop.scratch c.in-Some-top.reference 33 (column 1 loop.scratch c.in-Some-top.reference) (number loop.ahead) (number loop.ahead) a t.state.most (omega arith)
 
 pub loop-ahead-preserved-in-None : goal.loop-ahead-preserved-in-None
 loop-ahead-preserved-in-None c =
@@ -79,29 +81,30 @@ loop-ahead-preserved-in-None c =
 pub bounds-scratch-row-in-Some-edge_at : goal.bounds-scratch-row-in-Some-edge_at
 bounds-scratch-row-in-Some-edge_at c = let (v, a, b, d, f) = top_row c.loop-ahead.invariant (ap number c.in_default.is) _ (ap number c.in-Some-top.is) in a
 
-pub loop-ahead-smaller-in-Some-edge_at : goal.loop-ahead-smaller-in-Some-edge_at
-loop-ahead-smaller-in-Some-edge_at c =
+pub loop-ahead-smaller : goal.loop-ahead-smaller
+loop-ahead-smaller c =
     let loop = c.loop-ahead in
     let (v, a, b, d, f) = top_row loop.invariant (ap number c.in_default.is) _ (ap number c.in-Some-top.is) in
     let edge = sym (ap number c.in-Some-edge_at.is) ∙ c.edge_at.ensures in
     let t = turn_follow loop.invariant (ap number c.in_default.is) _ (ap number c.in-Some-top.is) _ edge (λ z. omega arith) in
     risen loop.scratch c.in-Some-top.reference (column 0 loop.scratch c.in-Some-top.reference - 1 + 2) (column 1 loop.scratch c.in-Some-top.reference)
-    c.args.terms.variables loop.next (number loop.ahead) (suc c.in-Some-edge_at.target) a t.state.most (omega arith)
+    (number loop.ahead) (suc c.in-Some-edge_at.target) a t.state.most (omega arith)
 
-pub loop-ahead-preserved-in-Some-edge_at : goal.loop-ahead-preserved-in-Some-edge_at
-loop-ahead-preserved-in-Some-edge_at c =
+pub loop-ahead-preserved : goal.loop-ahead-preserved
+loop-ahead-preserved c =
     turn_follow c.loop-ahead.invariant (ap number c.in_default.is) _ (ap number c.in-Some-top.is) _
     (sym (ap number c.in-Some-edge_at.is) ∙ c.edge_at.ensures) (λ z. omega arith)
 
-pub returns-then-next-terms : goal.returns-then-next-terms
-returns-then-next-terms c =
-    let loop = c.loop-ahead in
+pub loop-variable-preserved : goal.loop-variable-preserved
+loop-variable-preserved c = rw (ap number c.in_default.is, ap number c.in_default-top.is) at c.loop-ahead.invariant
+
+pub returns : goal.returns
+returns c =
+    let loop = c.loop-variable in
+    let few = loop.invariant.few in
     record {
-      accepted = λ e. turn_accept loop.invariant (ap number c.in_default.is) (ap number c.in_default-top.is) c.if-next-terms.true;
+      accepted = λ e. turn_accept loop.invariant refl refl (omega arith);
       refused = λ e. true_false refl e;
       long = loop.invariant.long;
       outside = loop.invariant.outside;
     }
-
-pub loop-ahead-preserved : goal.loop-ahead-preserved
-loop-ahead-preserved c = turn_begin c.loop-ahead.invariant (ap number c.in_default.is) (ap number c.in_default-top.is) c.if-next-terms.false

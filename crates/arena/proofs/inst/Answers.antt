@@ -14,5 +14,5 @@ loop-i-preserved c =
     let pre = c.requires in
     let loop = c.loop-i in
     let moved_word = c.moved_word in
-    let n = copied_length args.pattern.words.now args.pattern.from args.pattern.count args.pattern.places.now args.room args.used args.counter pre.part in
-    (refl, refl, refl, refl, refl, (simp length-set) ∙ loop.invariant.5, sym (write_step loop.words (copied args.pattern.words.now args.pattern.from args.pattern.count args.pattern.places.now args.room args.used args.counter) args.used loop.i _ (omega arith) (moved_word.ensures ∙ sym (copied_at args.pattern.words.now args.pattern.from args.pattern.count args.pattern.places.now args.room args.used args.counter pre.part loop.i (search rules)))) ∙ loop.invariant.6)
+    let n = copied_length args.part.words.now args.part.from args.part.count args.part.places.now args.room args.used args.counter pre.part in
+    (refl, refl, refl, refl, refl, (simp length-set) ∙ loop.invariant.5, sym (write_step loop.words (copied args.part.words.now args.part.from args.part.count args.part.places.now args.room args.used args.counter) args.used loop.i _ (omega arith) (moved_word.ensures ∙ sym (copied_at args.part.words.now args.part.from args.part.count args.part.places.now args.room args.used args.counter pre.part loop.i (search rules)))) ∙ loop.invariant.6)

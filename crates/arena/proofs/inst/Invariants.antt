@@ -7,4 +7,4 @@ use Rattle.arena.specs.Copies.{copied}
 use Rattle.arena.proofs.inst.Given as goal
 
 abbrev pub invariant-loop-i : goal.invariant-loop-i
-invariant-loop-i l = (l.start ≡ l.pattern.from) × (l.end ≡ l.pattern.count) × (l.at ≡ l.used) × (l.first ≡ 64 + l.pattern.from) × (l.base ≡ l.room + l.used) × (length l.words ≡ length l.initial.words) × (sets l.words (l.used + l.i) (drop l.i (copied l.pattern.words.now l.pattern.from l.pattern.count l.pattern.places.now l.room l.used l.counter)) ≡ sets l.initial.words l.used (copied l.pattern.words.now l.pattern.from l.pattern.count l.pattern.places.now l.room l.used l.counter))
+invariant-loop-i l = (l.start ≡ l.part.from) × (l.end ≡ l.part.count) × (l.at ≡ l.used) × (l.first ≡ 64 + l.part.from) × (l.base ≡ l.room + l.used) × (length l.words ≡ length l.initial.words) × (sets l.words (l.used + l.i) (drop l.i (copied l.part.words.now l.part.from l.part.count l.part.places.now l.room l.used l.counter)) ≡ sets l.initial.words l.used (copied l.part.words.now l.part.from l.part.count l.part.places.now l.room l.used l.counter))

@@ -6,7 +6,7 @@ pub returns-then-e-clause-unified : goal.returns-then-e-clause-unified
 returns-then-e-clause-unified c =
     let equate = c.equate-e in
     let undo = c.undo in
-    let clear = c.clear in
+    let clear = c.clear_before in
     let if1 = c.if-e in
     ended_yes equate.ensures.equated _ _ undo.ensures clear.ensures if1.true
 
@@ -17,7 +17,7 @@ pub returns-clause-unified : goal.returns-clause-unified
 returns-clause-unified c =
     let equate = c.equate-e in
     let undo = c.undo in
-    let clear = c.clear in
+    let clear = c.clear_before in
     let if1 = c.if-e in
     let pre = c.requires in
     let undo2 = c.undo-2 in

@@ -1,6 +1,6 @@
 -- `link` meets its contract. The loop's invariant: p and q have to be the same, by the links, exactly where a and b have to be, by the first links.
-use mathlib.Core.Path.{refl}
-use Rattle.arena.proofs.Linking.{link_order, link_in, link_same, link_clash, link_new, link_step, link_falls}
+use Rattle.arena.specs.Rows.{one_more}
+use Rattle.arena.proofs.Linking.{link_order, link_in, link_same, link_clash, link_new, link_step}
 use Rattle.std.proofs.Math.Nat.{max-add-min}
 use native.Mathlib.Omega.{arith}
 use Rattle.arena.proofs.links.link.Goals as goal
@@ -40,8 +40,8 @@ bounds-links-at c =
     let b = link_in args.room args.links.now args.a args.b loop.links high.result lower.result o.0 pre in
     omega (arith, b, o.1)
 
-pub offset_bounds-links-at-then-next-eq0 : goal.offset_bounds-links-at-then-next-eq0
-offset_bounds-links-at-then-next-eq0 c =
+pub offset_bounds-links-at-in_default : goal.offset_bounds-links-at-in_default
+offset_bounds-links-at-in_default c =
     let args = c.args in
     let loop = c.loop-p in
     let high = c.max-high in
@@ -52,8 +52,8 @@ offset_bounds-links-at-then-next-eq0 c =
     let b = link_in args.room args.links.now args.a args.b loop.links high.result lower.result o.0 pre in
     omega (arith, b)
 
-pub bounds-links-at-then-next-eq0 : goal.bounds-links-at-then-next-eq0
-bounds-links-at-then-next-eq0 c =
+pub bounds-links-at-in_default : goal.bounds-links-at-in_default
+bounds-links-at-in_default c =
     let args = c.args in
     let loop = c.loop-p in
     let high = c.max-high in
@@ -64,8 +64,8 @@ bounds-links-at-then-next-eq0 c =
     let b = link_in args.room args.links.now args.a args.b loop.links high.result lower.result o.0 pre in
     omega (arith, b, o.1)
 
-pub returns-then-next-eq0 : goal.returns-then-next-eq0
-returns-then-next-eq0 c =
+pub returns-in_default : goal.returns-in_default
+returns-in_default c =
     let args = c.args in
     let loop = c.loop-p in
     let high = c.max-high in
@@ -74,10 +74,9 @@ returns-then-next-eq0 c =
     let pre = c.requires in
     let floor = c.min in
     let if1 = c.if-lower-room in
-    let if2 = c.if-next-eq0 in
     let o = link_order args.room args.links.now args.a args.b loop.links loop.p loop.q high.result lower.result loop.invariant loop-test.true high.ensures lower.ensures in
     let b = link_in args.room args.links.now args.a args.b loop.links high.result lower.result o.0 pre in
-    link_new args.room args.links.now args.a args.b loop.links high.result lower.result args.low floor.result o.0 o.1 if1.false b if2.true floor.ensures
+    link_new args.room args.links.now args.a args.b loop.links high.result lower.result args.low floor.result o.0 o.1 if1.false b (omega arith) floor.ensures
 
 pub overflow_add-links-in-loop-p : goal.overflow_add-links-in-loop-p
 overflow_add-links-in-loop-p c =
@@ -122,9 +121,8 @@ loop-p-smaller c =
     let lower = c.min-lower in
     let loop-test = c.loop-p-test in
     let if1 = c.if-lower-room in
-    let if2 = c.if-next-eq0 in
     let o = link_order args.room args.links.now args.a args.b loop.links loop.p loop.q high.result lower.result loop.invariant loop-test.true high.ensures lower.ensures in
-    omega (arith, link_falls args.room args.links.now args.a args.b loop.links high.result lower.result _ o.0 o.1 if1.false refl if2.false, max-add-min loop.p loop.q)
+    omega (arith, o.0.form.below _ _ (one_more c.in-Some.ensures), max-add-min loop.p loop.q)
 
 pub loop-p-preserved : goal.loop-p-preserved
 loop-p-preserved c =
@@ -136,10 +134,9 @@ loop-p-preserved c =
     let pre = c.requires in
     let shorter = c.min-in-loop-p in
     let if1 = c.if-lower-room in
-    let if2 = c.if-next-eq0 in
     let o = link_order args.room args.links.now args.a args.b loop.links loop.p loop.q high.result lower.result loop.invariant loop-test.true high.ensures lower.ensures in
     let b = link_in args.room args.links.now args.a args.b loop.links high.result lower.result o.0 pre in
-    link_step args.room args.links.now args.a args.b loop.links high.result lower.result _ shorter.result o.0 o.1 if1.false b refl if2.false shorter.ensures
+    link_step args.room args.links.now args.a args.b loop.links high.result lower.result _ shorter.result o.0 o.1 if1.false b (one_more c.in-Some.ensures) shorter.ensures
 
 pub returns : goal.returns
 returns c =

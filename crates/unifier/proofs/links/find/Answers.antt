@@ -1,13 +1,15 @@
 -- `find` meets its contract. The loop's invariant: from q on the links lead where they lead from r; q falls.
+use Rattle.arena.specs.Rows.{one_more}
 use Rattle.unifier.specs.Promises.{stay}
 use Rattle.unifier.specs.Linking.{find_next}
+use native.Mathlib.Omega.{arith}
 use Rattle.unifier.proofs.links.find.Goals as goal
 
-pub returns-then-next-eq0 : goal.returns-then-next-eq0
-returns-then-next-eq0 c = (c.loop-r.invariant.on _ (stay c.if-next-eq0.true), c.loop-r.invariant.le)
+pub returns-in_default : goal.returns-in_default
+returns-in_default c = (c.loop-next.invariant.on _ (stay (omega arith)), c.loop-next.invariant.le)
 
-pub loop-r-smaller : goal.loop-r-smaller
-loop-r-smaller c = (find_next c.loop-r.invariant c.if-next-eq0.false).1
+pub loop-next-smaller : goal.loop-next-smaller
+loop-next-smaller c = (find_next _ c.loop-next.invariant (one_more c.in-Some.ensures)).1
 
-pub loop-r-preserved : goal.loop-r-preserved
-loop-r-preserved c = (find_next c.loop-r.invariant c.if-next-eq0.false).0
+pub loop-next-preserved : goal.loop-next-preserved
+loop-next-preserved c = (find_next _ c.loop-next.invariant (one_more c.in-Some.ensures)).0

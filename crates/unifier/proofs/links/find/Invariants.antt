@@ -2,8 +2,8 @@
 use Rattle.unifier.specs.Linking.{Finding}
 use Rattle.unifier.proofs.links.find.Given as goal
 
-abbrev pub invariant-loop-r : goal.invariant-loop-r
-invariant-loop-r l = Finding l.links l.r l.q
+abbrev pub invariant-loop-next : goal.invariant-loop-next
+invariant-loop-next l = Finding l.links l.r l.q
 
-abbrev pub decreases-loop-r : goal.decreases-loop-r
-decreases-loop-r l = l.q
+abbrev pub decreases-loop-next : goal.decreases-loop-next
+decreases-loop-next l = l.q

@@ -1,4 +1,4 @@
--- `clear` meets its contract.
+-- `clear_before` meets its contract.
 use native.Mathlib.Omega.{arith}
 use mathlib.Core.Path.{◌≡◌, ap, ap₂, ◌∙◌}
 use mathlib.Core.List.{[], ◌∷◌}
@@ -6,7 +6,7 @@ use Prim.Native.Nat.{ℕ}
 use lib.ListN.{length, take, get_or}
 use Rattle.std.proofs.Common.{min, length-take}
 use Rattle.unifier.specs.Ending.{triple_is, cleared_front}
-use Rattle.unifier.proofs.stack.clear.Goals as goal
+use Rattle.unifier.proofs.stack.clear_before.Goals as goal
 
 pub returns : goal.returns
 returns c =
