@@ -10,13 +10,13 @@ use bindings::is_reference;
 fn is_binding(terms: Terms, word: u32) -> bool
     ensures { result ≡ true → BindingInForm terms.entry.room (cells terms.entry.words.now) terms.entry.variables terms.entry.used word }
 {
-    if word == 0 {
+    let Some(reference) = word.checked_sub(1) else {
         return true;
-    }
+    };
     if terms.words.len() < terms.used as usize {
         return false;
     }
-    is_reference(terms, word - 1)
+    is_reference(terms, reference)
 }
 
 // Whether the bindings of the variables in use are in form.

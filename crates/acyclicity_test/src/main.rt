@@ -2,7 +2,7 @@
 #![tactic(auto)]
 
 use arena::{TERM_ROOM, Terms};
-use samples::build::{BINARY, CONSTANT, UNARY, put_tower};
+use samples::build::{BINARY, CONSTANT, Tower, UNARY, put_tower};
 use samples::report;
 use samples::rows::bind_chain;
 use samples::unification::Fault;
@@ -15,7 +15,7 @@ const MOST: u32 = 50000;
 const REFERENCES: usize = 125536;
 
 // The check's answer, where the storage is in form; scratch must come back unmarked.
-// Stays: the scratch is written, and terms and bindings, which are lent apart, are read.
+// Stays: terms, bindings and scratch have different owners, and in one struct the two that are only read would be lent for writing.
 fn answer(terms: Terms, bindings: &[[u32; 2]], scratch: &mut [[u32; 2]]) -> Result<bool, Fault> {
     if !checks::are_terms(terms) {
         return Err(Fault::NotReady);
@@ -68,9 +68,8 @@ fn two_variables(name: &[u8], first: u32, second: u32) {
 
 // Variables that are each bound to the next, and the last by the word given.
 fn chain(name: &[u8], last: u32) {
-    let mut bindings = [[0u32; 2]; 50000];
-    bind_chain(&mut bindings[..49999]);
-    slices::put(&mut bindings, MOST as usize - 1, [last, 0]);
+    let mut bindings = [[0u32; 2]; MOST as usize];
+    bind_chain(&mut bindings, [last, 0]);
     check(name, &[0], &bindings, MOST, 0);
 }
 
@@ -84,10 +83,23 @@ fn nodes(name: &[u8], reference: u32) {
 // A tower of 20,000 nodes over variable 1, as a tree of more than 2^20,000, and a variable bound to its top.
 fn tower(name: &[u8], variable: u32) {
     let mut words = [0u32; 60000];
-    let used = put_tower(&mut words, 0, 20000, 1, 2);
+    let shared = Tower {
+        height: 20000,
+        leaf: 1,
+        arity: 2,
+    };
+    let Some(built) = put_tower(&mut words, TERM_ROOM, 0, shared) else {
+        report::text(name);
+        report::text(b": no room\n");
+        return;
+    };
     let mut bindings = [[0u32; 2]; 2];
-    slices::put(&mut bindings, variable as usize, [TERM_ROOM + 59998, 0]);
-    check(name, &words, &bindings, 2, used);
+    slices::put(
+        &mut bindings,
+        variable as usize,
+        [built.root.saturating_add(1), 0],
+    );
+    check(name, &words, &bindings, 2, built.next);
 }
 
 fn main() {

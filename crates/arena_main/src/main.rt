@@ -3,126 +3,120 @@
 
 #![tactic(auto)]
 
-use arena::Terms;
+ghost use Rattle.std.specs.Prelude.{◌≤◌};
+ghost use Rattle.arena.specs.Form.{inputs};
 
-// A term that was built: the first free address behind it, and its reference.
-#[derive(Clone, Copy)]
-struct Built {
-    next: u32,
-    root: u32,
-}
+use arena::{PATTERN_ROOM, Terms};
+use samples::build::{BINARY, CONSTANT, OTHER, Tower, UNARY, put_tower};
 
-// A tower of nodes with `arity` arguments, two at most, on a leaf, all arguments of a node the one below, as far as there is room.
-fn tower(words: &mut [u32], at: u32, height: u32, leaf: u32, arity: u32) -> Built {
-    let arity = arity.min(2);
-    let mut next = at;
-    let mut root = leaf;
-    for _ in 0..height {
-        if next > 262144 {
-            break;
-        }
-        if (next as usize) + 1 + (arity as usize) > words.len() {
-            break;
-        }
-        let arguments = [root, root];
-        arena::push_node(
-            words,
-            next,
-            1048576 + 33 * arity,
-            &arguments[..arity as usize],
-        );
-        root = 64 + next;
-        next += 1 + arity;
-    }
-    Built { next, root }
-}
+// The most words.
+const MOST: usize = 262144;
 
-// Whether two references denote the same term, if the words and both are in form.
+// Whether two references denote the same term; none where the words or one of both are not in form.
 // Stays: `used` is what the builders say, and is tested against both slices here.
-fn compare(words: &[u32], links: &mut [u32], used: u32, a: u32, b: u32) -> u8 {
+fn compare(words: &[u32], links: &mut [u32], used: u32, a: u32, b: u32) -> Option<bool> {
     let arities = [0u32, 1, 2];
-    if used > 262144 {
-        return b'x';
+    let count = used as usize;
+    if count > MOST {
+        return None;
     }
-    if (used as usize) > words.len() {
-        return b'x';
+    if count > words.len() {
+        return None;
     }
-    if (used as usize) > links.len() {
-        return b'x';
+    if count > links.len() {
+        return None;
     }
     let terms = Terms {
         words,
-        room: 64,
+        room: PATTERN_ROOM,
         variables: 2,
         used,
     };
     if !arena::check_words(terms, 0, &arities) {
-        return b'x';
+        return None;
     }
     if !arena::is_argument(terms, 0, a) {
-        return b'x';
+        return None;
     }
     if !arena::is_argument(terms, 0, b) {
-        return b'x';
+        return None;
     }
     slices::clear_from(links, 0, 0);
-    if arena::equal(terms, links, a, b) {
-        return b'y';
-    }
-    b'n'
+    Some(arena::equal(terms, links, a, b))
 }
 
 // Two towers of the heights m and n with `arity` arguments in a node, the second on the leaf given; with two arguments they are shared terms.
-fn towers(m: u32, n: u32, leaf: u32, arity: u32) -> u8 {
-    let mut words = [0u32; 262144];
-    let mut links = [0u32; 262144];
-    let first = tower(&mut words, 0, m, 0, arity);
-    let second = tower(&mut words, first.next, n, leaf, arity);
+fn towers(m: u32, n: u32, leaf: u32, arity: u32) -> Option<bool>
+    requires { arity ≤ inputs }
+{
+    let mut words = [0u32; MOST];
+    let mut links = [0u32; MOST];
+    let lower = Tower {
+        height: m,
+        leaf: 0,
+        arity,
+    };
+    let first = put_tower(&mut words, PATTERN_ROOM, 0, lower)?;
+    let upper = Tower {
+        height: n,
+        leaf,
+        arity,
+    };
+    let second = put_tower(&mut words, PATTERN_ROOM, first.next, upper)?;
     compare(&words, &mut links, second.next, first.root, second.root)
 }
 
-// The words of a term with one word changed: whether they are in form.
-fn changed(place: usize, word: u32) -> u8 {
-    let mut words = [1048576u32, 1048609, 64, 1048642, 65, 1];
-    if place < 6 {
-        words[place] = word;
+// The letter for two terms.
+fn same(found: Option<bool>) -> u8 {
+    match found {
+        Some(true) => b'y',
+        Some(false) => b'n',
+        None => b'x',
     }
+}
+
+// The words of a term with one word changed: whether they are in form.
+fn changed(place: usize, word: u32) -> bool {
+    let mut words = [CONSTANT, UNARY, PATTERN_ROOM, BINARY, PATTERN_ROOM + 1, 1];
+    slices::put(&mut words, place, word);
     let arities = [0u32, 1, 2, 17];
     let terms = Terms {
         words: &words,
-        room: 64,
+        room: PATTERN_ROOM,
         variables: 2,
         used: 6,
     };
-    if arena::check_words(terms, 0, &arities) {
-        return b'f';
-    }
-    b'x'
+    arena::check_words(terms, 0, &arities)
+}
+
+// The letter for words.
+fn form(formed: bool) -> u8 {
+    if formed { b'f' } else { b'x' }
 }
 
 fn main() {
     let letters = [
-        towers(65000, 65000, 0, 1),
-        towers(65000, 64999, 0, 1),
-        towers(65000, 65000, 1, 1),
-        towers(1000, 1000, 0, 2),
-        towers(1000, 999, 0, 2),
-        towers(1000, 1000, 1, 2),
+        same(towers(65000, 65000, 0, 1)),
+        same(towers(65000, 64999, 0, 1)),
+        same(towers(65000, 65000, 1, 1)),
+        same(towers(1000, 1000, 0, 2)),
+        same(towers(1000, 999, 0, 2)),
+        same(towers(1000, 1000, 1, 2)),
         b'\n',
-        changed(6, 0),
-        changed(0, 64),
-        changed(0, 1048577),
-        changed(1, 1048610),
-        changed(1, 1048673),
-        changed(2, 65),
-        changed(3, 1048641),
-        changed(3, 1048689),
-        changed(4, 66),
-        changed(4, 67),
-        changed(4, 68),
-        changed(4, 1048576),
-        changed(5, 2),
-        changed(5, 0),
+        form(changed(6, 0)),
+        form(changed(0, PATTERN_ROOM)),
+        form(changed(0, CONSTANT + 1)),
+        form(changed(1, UNARY + 1)),
+        form(changed(1, OTHER + 1)),
+        form(changed(2, PATTERN_ROOM + 1)),
+        form(changed(3, BINARY - 1)),
+        form(changed(3, OTHER + 17)),
+        form(changed(4, PATTERN_ROOM + 2)),
+        form(changed(4, PATTERN_ROOM + 3)),
+        form(changed(4, PATTERN_ROOM + 4)),
+        form(changed(4, CONSTANT)),
+        form(changed(5, 2)),
+        form(changed(5, 0)),
         b'\n',
     ];
     io::write_all(1, &letters);

@@ -11,6 +11,24 @@ use samples::unification;
 use samples::unification::Fault;
 use unifier::Workspace;
 
+// The rule's words, the references of its premises, the places of its variables, and where its parts stand.
+const PATTERN: [u32; 13] = [
+    1048642, 1, 0, 1048609, 0, 1048609, 1, 1048609, 69, 1048609, 71, 1048609, 73,
+];
+
+pub const PREMISES: [u32; 2] = [64, 67];
+
+const PLACES: [u32; 2] = [1, 0];
+
+const RULE: Stored = Stored {
+    from: 0,
+    head: 8,
+    body: 5,
+    conclusion: 75,
+    met: 1,
+    variables: 2,
+};
+
 // Whether storage has room for what the limits allow, and the scratch is zero.
 fn has_room(words: &[u32], bindings: &[[u32; 2]], workspace: &Workspace, state: SearchState) -> bool
     ensures { result ≡ true → Room state.limits.variables state.limits.words words.now bindings.now
@@ -28,13 +46,13 @@ fn has_room(words: &[u32], bindings: &[[u32; 2]], workspace: &Workspace, state: 
     if bindings.len() < state.limits.variables as usize {
         return false;
     }
-    if !checks::are_zero(workspace.links, (TERM_ROOM + state.limits.words) as usize) {
-        return false;
-    }
-    if !checks::are_zero(workspace.marks, (TERM_ROOM + state.limits.words) as usize) {
-        return false;
-    }
-    checks::are_zero(workspace.stack, state.limits.words as usize)
+    checks::is_scratch_zero(
+        TERM_ROOM,
+        state.limits.words,
+        workspace.links,
+        workspace.marks,
+        workspace.stack,
+    )
 }
 
 // Whether storage is what an attempt asks; the marks are left as they are.
@@ -79,24 +97,11 @@ pub fn attempt(
     if !is_state(words, bindings, &mut lent, state) {
         return Err(Fault::NotReady);
     }
-    let pattern = [
-        1048642u32, 1, 0, 1048609, 0, 1048609, 1, 1048609, 69, 1048609, 71, 1048609, 73,
-    ];
-    let premises = [64u32, 67];
-    let places = [1u32, 0];
-    let stored = Stored {
-        from: 0,
-        head: 8,
-        body: 5,
-        conclusion: 75,
-        met: 1,
-        variables: 2,
-    };
     let rule = LentRule {
-        pattern: &pattern,
-        premises: &premises,
-        places: &places,
-        stored,
+        pattern: &PATTERN,
+        premises: &PREMISES,
+        places: &PLACES,
+        stored: RULE,
     };
     let tried = attempts::try_rule(rule, words, bindings, &mut lent, state);
     if !unification::is_clean(&lent) {
@@ -107,17 +112,15 @@ pub fn attempt(
 
 // What a premise's reference becomes by an attempt; none where no sum is sure to fit.
 pub fn premise(reference: u32, state: SearchState) -> Option<u32> {
-    let counter = state.counter;
-    let used = state.used;
-    if reference < 64 || 67 < reference || 262144 < used {
+    let [first, last] = PREMISES;
+    if reference < first || last < reference || 262144 < state.used {
         return None;
     }
-    let places = [1u32, 0];
     Some(arena::moved_word(
         reference,
-        &places,
-        counter,
+        &PLACES,
+        state.counter,
         PATTERN_ROOM,
-        TERM_ROOM + used + 8,
+        TERM_ROOM + state.used + RULE.head,
     ))
 }

@@ -4,7 +4,8 @@
 use arena::TERM_ROOM;
 use attempts::{SearchLimits, SearchState, Tried};
 use refusals::Refusal;
-use samples::unification::{Case, Fault, Left};
+use samples::build::Tower;
+use samples::unification::{Counts, Fault, Remains};
 use samples::{build, report, unification};
 use unifier::Workspace;
 
@@ -12,6 +13,9 @@ mod attempt; // one attempt
 
 // The limit on variables in most cases.
 const MOST: u32 = 64;
+
+// The levels of the tower.
+const LEVELS: u32 = 100000;
 
 // More words than a case needs, and a row for each reference.
 const WORDS: usize = 200100;
@@ -28,8 +32,13 @@ fn put_goal(
     spare: u32,
 ) -> Option<SearchState> {
     build::put_constants(words);
-    let used = build::put_tower(words, 2, 100000, TERM_ROOM, 1);
-    if 100000 < height || 100 < spare || 262144 < used {
+    let tower = Tower {
+        height: LEVELS,
+        leaf: TERM_ROOM,
+        arity: 1,
+    };
+    let used = build::put_tower(words, TERM_ROOM, 2, tower)?.next;
+    if LEVELS < height || 100 < spare || 262144 < used {
         return None;
     }
     slices::put(bindings, 0, [TERM_ROOM + 2 * height + 1, 0]);
@@ -59,29 +68,31 @@ fn report_premise(reference: u32, state: SearchState) {
 
 // Writes the references of the premises.
 fn report_premises(state: SearchState) {
+    let [first, second] = attempt::PREMISES;
     report::text(b", premises ");
-    report_premise(64, state);
+    report_premise(first, state);
     report::text(b" and ");
-    report_premise(67, state);
+    report_premise(second, state);
 }
 
 // Writes the line of an attempt.
-fn report_attempt(left: Left, state: SearchState, came: Result<Result<Tried, Refusal>, Fault>) {
+fn report_attempt(
+    remains: Remains,
+    state: SearchState,
+    came: Result<Result<Tried, Refusal>, Fault>,
+) {
     match came {
-        Err(Fault::NotReady) => {
-            report::text(b": not as the call asks");
-        }
-        Err(Fault::ScratchLeft) => {
-            report::text(b": scratch is left");
+        Err(fault) => {
+            report::fault(fault);
         }
         Ok(Err(_)) => {
             report::text(b": exceeded");
-            unification::compare(&left);
+            unification::compare(&remains);
         }
         Ok(Ok(Tried::Missed { counter })) => {
             report::text(b": missed, counter ");
             report::decimal(counter);
-            unification::compare(&left);
+            unification::compare(&remains);
         }
         Ok(
             Ok(
@@ -97,20 +108,18 @@ fn report_attempt(left: Left, state: SearchState, came: Result<Result<Tried, Ref
             report::text(b", words ");
             report::decimal(used);
             report_premises(state);
-            let after = Case {
+            let after = Counts {
                 variables: counter,
-                used: used,
-                bound: bound,
-                left: 0,
-                right: 0,
+                used,
+                bound,
             };
-            unification::finish(left, after, state.bound);
+            unification::finish(remains, after, state.bound);
         }
     }
 }
 
 // Tries the rule.
-fn try_rule(name: &[u8], most: u32, height: u32, spare: u32) {
+fn case(name: &[u8], most: u32, height: u32, spare: u32) {
     let mut words = [0u32; WORDS];
     let mut bindings = [[0u32; 2]; 64];
     let Some(state) = put_goal(&mut words, &mut bindings, most, height, spare) else {
@@ -133,31 +142,31 @@ fn try_rule(name: &[u8], most: u32, height: u32, spare: u32) {
         state,
     );
     report::text(name);
-    let left = Left {
+    let remains = Remains {
         words: &words,
         before: &before,
         bindings: &mut bindings,
         marks: &mut marks,
     };
-    report_attempt(left, state, came);
+    report_attempt(remains, state, came);
     report::text(b"\n");
 }
 
 // Attempts with a rule that takes 1 variable and 8 words for its conclusion, and 1 and 5 more for its premises; 2 variables are in use.
 fn main() {
-    try_rule(b"a rule and a tower of 100,000", MOST, 100000, 13);
-    try_rule(b"room for one word less", MOST, 100000, 12);
-    try_rule(b"room for the conclusion", MOST, 100000, 8);
-    try_rule(
+    case(b"a rule and a tower of 100,000", MOST, LEVELS, 13);
+    case(b"room for one word less", MOST, LEVELS, 12);
+    case(b"room for the conclusion", MOST, LEVELS, 8);
+    case(
         b"room for one word less than the conclusion",
         MOST,
         100000,
         7,
     );
-    try_rule(b"room for 4 variables", 4, 100000, 13);
-    try_rule(b"room for 3 variables", 3, 100000, 13);
-    try_rule(b"room for 2 variables", 2, 100000, 13);
-    try_rule(b"a rule and a tower of 4", MOST, 4, 13);
-    try_rule(b"a rule and a tower of 3", MOST, 3, 13);
-    try_rule(b"room for the conclusion, and a tower of 3", 3, 3, 8);
+    case(b"room for 4 variables", 4, LEVELS, 13);
+    case(b"room for 3 variables", 3, LEVELS, 13);
+    case(b"room for 2 variables", 2, LEVELS, 13);
+    case(b"a rule and a tower of 4", MOST, 4, 13);
+    case(b"a rule and a tower of 3", MOST, 3, 13);
+    case(b"room for the conclusion, and a tower of 3", 3, 3, 8);
 }

@@ -1,6 +1,8 @@
 // The cases: each builds its storage, runs one call, and writes a line.
-use arena::TERM_ROOM;
-use samples::unification::{Case, Fault, Left};
+use arena::{INPUTS, TERM_ROOM, Terms};
+use bindings::StoredBindings;
+use samples::build::Tower;
+use samples::unification::{Counts, Fault, Remains};
 use samples::{build, report, rows, unification};
 use unifier::Workspace;
 
@@ -13,12 +15,11 @@ const WORDS: usize = 210008;
 // A row for each reference.
 const REFERENCES: usize = 275544;
 
-// Stays: the number of arguments in place of `shared` is no plainer, as its bound, which `put_tower` asks, would go into the contracts of `unify` and `occurs`, which ask nothing.
-// Two towers, of nodes with one argument or with two, how high they are and on which references they stand, and the two references in question. A
-// pair may be built on each reference in question: of variable 0 and the left one, and of a constant and the right one.
+// Two towers, of nodes with so many arguments, how high they are and on which references they stand, and the two references in question. A pair may
+// be built on each reference in question: of variable 0 and the left one, and of a constant and the right one.
 #[derive(Clone, Copy)]
 pub struct Towers {
-    pub shared: bool,
+    pub arity: u32,
     pub first: u32,
     pub first_leaf: u32,
     pub second: u32,
@@ -28,35 +29,61 @@ pub struct Towers {
     pub paired: bool,
 }
 
-// The first free address behind the towers.
-fn put_towers(words: &mut [u32], towers: Towers) -> u32 {
-    build::put_constants(words);
-    let arity = if towers.shared { 2 } else { 1 };
-    let next = build::put_tower(words, 2, towers.first, towers.first_leaf, arity);
-    build::put_tower(words, next, towers.second, towers.second_leaf, arity)
+// The counts of storage, and two references.
+#[derive(Clone, Copy)]
+struct Case {
+    counts: Counts,
+    left: u32,
+    right: u32,
 }
 
-// Builds the towers, and the pairs where they are wanted; one binding stands already, of variable 60 to a constant.
-fn put_case(words: &mut [u32], towers: Towers) -> Case {
-    let top = put_towers(words, towers);
-    if towers.paired {
-        let next = build::put_node(words, top, &[0, towers.left]);
-        let used = build::put_node(words, next, &[TERM_ROOM, towers.right]);
-        return Case {
-            variables: VARIABLES,
-            used: used,
-            bound: 1,
-            left: TERM_ROOM.saturating_add(top),
-            right: TERM_ROOM.saturating_add(next),
-        };
-    }
-    Case {
+// The first free address behind the towers; none where there is no room.
+fn put_towers(words: &mut [u32], towers: Towers) -> Option<u32> {
+    build::put_constants(words);
+    let arity = towers.arity.min(INPUTS);
+    let first = Tower {
+        height: towers.first,
+        leaf: towers.first_leaf,
+        arity,
+    };
+    let below = build::put_tower(words, TERM_ROOM, 2, first)?;
+    let second = Tower {
+        height: towers.second,
+        leaf: towers.second_leaf,
+        arity,
+    };
+    let above = build::put_tower(words, TERM_ROOM, below.next, second)?;
+    Some(above.next)
+}
+
+// Builds the towers, and the pairs where they are wanted; one binding stands already, of variable 60 to a constant. None where there is no room.
+fn put_case(words: &mut [u32], towers: Towers) -> Option<Case> {
+    let top = put_towers(words, towers)?;
+    let counts = Counts {
         variables: VARIABLES,
         used: top,
         bound: 1,
+    };
+    if towers.paired {
+        let next = build::put_node(words, top, &[0, towers.left])?;
+        let used = build::put_node(words, next, &[TERM_ROOM, towers.right])?;
+        return Some(Case {
+            counts: Counts { used, ..counts },
+            left: TERM_ROOM.saturating_add(top),
+            right: TERM_ROOM.saturating_add(next),
+        });
+    }
+    Some(Case {
+        counts,
         left: towers.left,
         right: towers.right,
-    }
+    })
+}
+
+// Writes the line of a case that has no room.
+fn report_room(name: &[u8]) {
+    report::text(name);
+    report::text(b": no room\n");
 }
 
 // Binds variable 60 to the first constant.
@@ -66,38 +93,30 @@ fn bind_first(bindings: &mut [[u32; 2]]) {
 }
 
 // Writes the line of a unification.
-fn report_unify(left: Left, case: Case, found: Result<Option<u32>, Fault>) {
+fn report_unify(remains: Remains, counts: Counts, found: Result<Option<u32>, Fault>) {
     match found {
-        Err(Fault::NotReady) => {
-            report::text(b": not as the call asks\n");
-        }
-        Err(Fault::ScratchLeft) => {
-            report::text(b": scratch is left\n");
+        Err(fault) => {
+            report::fault(fault);
         }
         Ok(None) => {
             report::text(b": do not unify");
-            unification::compare(&left);
-            report::text(b"\n");
+            unification::compare(&remains);
         }
         Ok(Some(bound)) => {
             report::text(b": unify");
-            let after = Case {
-                variables: case.variables,
-                used: case.used,
-                bound: bound,
-                left: case.left,
-                right: case.right,
-            };
-            unification::finish(left, after, case.bound);
-            report::text(b"\n");
+            unification::finish(remains, Counts { bound, ..counts }, counts.bound);
         }
     }
+    report::text(b"\n");
 }
 
 // Unifies the two references.
 pub fn unify(name: &[u8], towers: Towers) {
     let mut words = [0u32; WORDS];
-    let case = put_case(&mut words, towers);
+    let Some(case) = put_case(&mut words, towers) else {
+        report_room(name);
+        return;
+    };
     let mut bindings = [[0u32; 2]; 64];
     bind_first(&mut bindings);
     let mut before = [[0u32; 2]; 64];
@@ -105,34 +124,40 @@ pub fn unify(name: &[u8], towers: Towers) {
     let mut links = [[0u32; 2]; REFERENCES];
     let mut marks = [[0u32; 2]; REFERENCES];
     let mut stack = [[0u32; 3]; WORDS];
+    let terms = Terms {
+        words: &words,
+        room: TERM_ROOM,
+        variables: case.counts.variables,
+        used: case.counts.used,
+    };
     let found = unification::solve(
-        &words,
+        terms,
         &mut bindings,
         Workspace {
             links: &mut links,
             marks: &mut marks,
             stack: &mut stack,
         },
-        case,
+        case.counts.bound,
+        case.left,
+        case.right,
     );
     report::text(name);
-    let left = Left {
+    let remains = Remains {
         words: &words,
         before: &before,
         bindings: &mut bindings,
         marks: &mut marks,
     };
-    report_unify(left, case, found);
+    report_unify(remains, case.counts, found);
 }
 
 // Writes the line of a question that has only yes and no for an answer.
 fn report_answer(found: Result<bool, Fault>, yes: &[u8], no: &[u8]) {
     match found {
-        Err(Fault::NotReady) => {
-            report::text(b": not as the call asks\n");
-        }
-        Err(Fault::ScratchLeft) => {
-            report::text(b": scratch is left\n");
+        Err(fault) => {
+            report::fault(fault);
+            report::text(b"\n");
         }
         Ok(true) => {
             report::text(yes);
@@ -146,11 +171,24 @@ fn report_answer(found: Result<bool, Fault>, yes: &[u8], no: &[u8]) {
 // Asks whether a variable occurs.
 pub fn occurs(name: &[u8], towers: Towers) {
     let mut words = [0u32; WORDS];
-    let case = put_case(&mut words, towers);
+    let Some(case) = put_case(&mut words, towers) else {
+        report_room(name);
+        return;
+    };
     let mut bindings = [[0u32; 2]; 64];
     bind_first(&mut bindings);
     let mut marks = [[0u32; 2]; REFERENCES];
-    let found = unification::ask(&words, &bindings, &mut marks, case);
+    let terms = Terms {
+        words: &words,
+        room: TERM_ROOM,
+        variables: case.counts.variables,
+        used: case.counts.used,
+    };
+    let held = StoredBindings {
+        rows: &bindings,
+        bound: case.counts.bound,
+    };
+    let found = unification::ask(terms, held, &mut marks, case.left, case.right);
     report::text(name);
     report_answer(found, b": occurs\n", b": does not occur\n");
 }
@@ -162,14 +200,17 @@ pub const MANY: u32 = 50000;
 fn check(name: &[u8], bindings: &[[u32; 2]], variables: u32, bound: u32) {
     let words = [build::UNARY, 0];
     let mut marks = [[0u32; 2]; 65538];
-    let case = Case {
-        variables: variables,
+    let terms = Terms {
+        words: &words,
+        room: TERM_ROOM,
+        variables,
         used: 2,
-        bound: bound,
-        left: 0,
-        right: 0,
     };
-    let found = unification::check(&words, bindings, &mut marks, case);
+    let held = StoredBindings {
+        rows: bindings,
+        bound,
+    };
+    let found = unification::check(terms, held, &mut marks);
     report::text(name);
     report_answer(found, b": in form\n", b": not in form\n");
 }
@@ -182,8 +223,7 @@ pub fn check_three(name: &[u8], first: [u32; 2], second: [u32; 2], third: [u32; 
 
 // Checks variables that are each bound to the next, and a last row.
 pub fn check_chain(name: &[u8], last: u32, listed: u32, bound: u32) {
-    let mut bindings = [[0u32; 2]; 50000];
-    rows::bind_chain(&mut bindings[..49999]);
-    slices::put(&mut bindings, MANY as usize - 1, [last, listed]);
+    let mut bindings = [[0u32; 2]; MANY as usize];
+    rows::bind_chain(&mut bindings, [last, listed]);
     check(name, &bindings, MANY, bound);
 }

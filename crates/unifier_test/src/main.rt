@@ -26,9 +26,9 @@ const SHARED_1999: u32 = TERM_ROOM + 3 * 1999 - 1;
 const SHARED_2000: u32 = TERM_ROOM + 3 * 2000 - 1;
 
 // The constants' references.
-const CONSTANT: u32 = TERM_ROOM;
+const FIRST_CONSTANT: u32 = TERM_ROOM;
 
-const OTHER: u32 = TERM_ROOM + 1;
+const SECOND_CONSTANT: u32 = TERM_ROOM + 1;
 
 // A chain of nodes with one argument, and two references.
 fn chain(height: u32, leaf: u32, left: u32, right: u32) -> Towers {
@@ -45,13 +45,13 @@ fn two_towers(
     right: u32,
 ) -> Towers {
     Towers {
-        shared: false,
-        first: first,
-        first_leaf: first_leaf,
-        second: second,
-        second_leaf: second_leaf,
-        left: left,
-        right: right,
+        arity: 1,
+        first,
+        first_leaf,
+        second,
+        second_leaf,
+        left,
+        right,
         paired: false,
     }
 }
@@ -59,42 +59,24 @@ fn two_towers(
 // A chain, and pairs with its nodes.
 fn pairs(height: u32, leaf: u32, left: u32, right: u32) -> Towers {
     Towers {
-        shared: false,
-        first: height,
-        first_leaf: leaf,
-        second: 0,
-        second_leaf: 0,
-        left: left,
-        right: right,
         paired: true,
+        ..chain(height, leaf, left, right)
     }
 }
 
 // Two shared towers, the first of 1,000 levels.
 fn shared(first_leaf: u32, second: u32, second_leaf: u32, right: u32) -> Towers {
     Towers {
-        shared: true,
-        first: 1000,
-        first_leaf: first_leaf,
-        second: second,
-        second_leaf: second_leaf,
-        left: SHARED_1000,
-        right: right,
-        paired: false,
+        arity: 2,
+        ..two_towers(1000, first_leaf, second, second_leaf, SHARED_1000, right)
     }
 }
 
 // A shared tower of 1,000 levels on variable 0, and a variable.
 fn variable_shared(variable: u32) -> Towers {
     Towers {
-        shared: true,
-        first: 1000,
-        first_leaf: 0,
-        second: 0,
-        second_leaf: 0,
-        left: variable,
-        right: SHARED_1000,
-        paired: false,
+        arity: 2,
+        ..chain(1000, 0, variable, SHARED_1000)
     }
 }
 
@@ -110,11 +92,11 @@ fn unify_towers() {
     );
     cases::unify(
         b"a constant after 100,000 levels",
-        chain(105000, CONSTANT, NODE_105000, NODE_100000),
+        chain(105000, FIRST_CONSTANT, NODE_105000, NODE_100000),
     );
     cases::unify(
         b"a binding, and a constant after 100,000 levels",
-        pairs(105000, CONSTANT, NODE_105000, NODE_100000),
+        pairs(105000, FIRST_CONSTANT, NODE_105000, NODE_100000),
     );
     cases::unify(
         b"a variable and a tower of 100,000 on it",
@@ -134,7 +116,7 @@ fn unify_towers() {
 fn unify_shared() {
     cases::unify(
         b"2^1000 leaves",
-        shared(CONSTANT, 1000, CONSTANT, SHARED_2000),
+        shared(FIRST_CONSTANT, 1000, FIRST_CONSTANT, SHARED_2000),
     );
     cases::unify(
         b"2^1000 leaves on two variables",
@@ -142,11 +124,11 @@ fn unify_shared() {
     );
     cases::unify(
         b"2^1000 leaves, another constant",
-        shared(CONSTANT, 1000, OTHER, SHARED_2000),
+        shared(FIRST_CONSTANT, 1000, SECOND_CONSTANT, SHARED_2000),
     );
     cases::unify(
         b"2^1000 and 2^999 leaves",
-        shared(CONSTANT, 999, CONSTANT, SHARED_1999),
+        shared(FIRST_CONSTANT, 999, FIRST_CONSTANT, SHARED_1999),
     );
     cases::unify(
         b"2^1000 and 2^999 leaves on a variable",

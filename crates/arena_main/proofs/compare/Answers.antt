@@ -9,11 +9,11 @@ pub equal-requires : goal.equal-requires
 equal-requires c =
     let args = c.args in
     let clear = c.clear_from in
-    let if2 = c.if-used-words in
-    let if1 = c.if-used-gt262144 in
+    let if2 = c.if-count-words in
+    let if1 = c.if-count-gt-MOST in
     let check-words = c.check_words in
     let if4 = c.if-not-check_words in
-    let if3 = c.if-used-links in
+    let if3 = c.if-count-links in
     let is-argument = c.is_argument in
     let if5 = c.if-not-is_argument in
     let is-argument2 = c.is_argument-2 in
