@@ -27,15 +27,16 @@ pub struct EnteredVariable {
 
 // The number of the variable that a row names, entered if it is new. Its sort (0: not known) is checked, and set where it was not known.
 // Stays: the sort is a column of the symbols' rows, which C callers lend with 0 for none, and goes into a column of the variable's row.
+// Stays: the table is as long as the caller's: `goals` is lent one of any length, of which an array of 64 rows would have to be made first.
 // Stays: a new variable's row is written just behind the `count` rows in use, which a slice of those alone would not reach.
 pub fn enter(
     text: &[u8],
-    variables: &mut [VariableRow; 64],
+    variables: &mut [VariableRow],
     count: usize,
     row: TermRow,
     sort: u32,
 ) -> Result<EnteredVariable, Refusal>
-    requires { count ≤ 64 }
+    requires { (count ≤ 64) × (64 ≤ length variables.old) }
     ensures grew { Grew count result }
     ensures variables_after { entry_of text.now result variables.new ≡ enterOf (variables_of text.now variables.old count) (name_of text.now (column row 0) (column row 1) (column row 2)) sort }
     ensures entry_placed { EntryPlaced (LiesAt (column row 0) (column row 1) (column row 2)) variables.old count result variables.new }
@@ -45,8 +46,7 @@ pub fn enter(
         Some(index) => {
             let old = variables[index][3];
             if old == 0 {
-                let known = &mut variables[index];
-                known[3] = sort;
+                variables[index][3] = sort;
                 return Ok(EnteredVariable { index, count });
             }
             if sort == 0 {
@@ -90,12 +90,12 @@ pub struct CompiledTerm {
 // A variable as a pattern: entered, then counted as a node.
 fn variable(
     text: &[u8],
-    variables: &mut [VariableRow; 64],
+    variables: &mut [VariableRow],
     row: TermRow,
     want: u32,
     from: Place,
 ) -> Result<CompiledTerm, Refusal>
-    requires { from.variables ≤ 64 }
+    requires { (from.variables ≤ 64) × (64 ≤ length variables.old) }
     ensures small { Small from.next from.variables from.used from.room result }
     ensures by_index { (w : List ℕ) → answer text.now result variables.new w ≡ stored [] (counted (enterOf (variables_of text.now variables.old from.variables) (name_of text.now (column row 0) (column row 1) (column row 2)) want) from.room) w from.used }
     ensures next_is { NextIs from.next result }
@@ -251,7 +251,7 @@ fn numeral(
 pub fn pattern(
     source: SourceTerms,
     want: u32,
-    variables: &mut [VariableRow; 64],
+    variables: &mut [VariableRow],
     words: &mut [u32],
     from: Place,
 ) -> Result<CompiledTerm, Refusal>
@@ -297,7 +297,7 @@ fn node(
     arguments: usize,
     i: usize,
     want: u32,
-    variables: &mut [VariableRow; 64],
+    variables: &mut [VariableRow],
     words: &mut [u32],
     from: Place,
 ) -> Result<CompiledTerm, Refusal>
@@ -334,7 +334,7 @@ fn node(
 pub fn judgments(
     source: SourceTerms,
     n: usize,
-    variables: &mut [VariableRow; 64],
+    variables: &mut [VariableRow],
     words: &mut [u32],
     heads: &mut [u32],
     from: Place,

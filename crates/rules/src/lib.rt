@@ -63,7 +63,7 @@ struct Body {
 // Compiles the premises, and then the conclusion; their variables are numbered together.
 fn judgments(
     source: SourceRule,
-    variables: &mut [VariableRow; 64],
+    variables: &mut [VariableRow],
     words: &mut [u32],
     space: Space,
     heads: &mut [u32],

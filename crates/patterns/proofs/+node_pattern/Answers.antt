@@ -93,7 +93,7 @@ node-loop-k-preserved t c =
     let pattern = c.pattern in
     let b : args.arguments ≡ column (row_at (args.source.symbols.now) (args.i)) 6 = misfit_args (args.source.text.now) (row_at (args.source.symbols.now) (args.i)) (args.want) (args.arguments) (c.in_ok-misfit.ensures args.source.text.now) in
     let x = pre.0.inputs (args.i) (pre.1.0) in
-    loop_turn (args.source.text.now) (args.source.rows.now) (args.from.next) (args.arguments) (symbols_of (args.source.text.now) (args.source.symbols.now) (length args.source.symbols.now)) (inputs_at (args.source.text.now) (args.source.symbols.now) (length args.source.symbols.now) (args.i)) (args.variables.now) (args.from.variables) (args.words.now) (args.from.used) (args.from.room - 1) (loop.k) (loop.place.next) (loop.variables) (loop.place.variables) (loop.words) (loop.place.used) (loop.place.room) (loop.refs) (loop.invariant) (loop-test.true) (column (row_at (args.source.symbols.now) (args.i)) (8 + loop.k)) (input_at (args.source.text.now) (args.source.symbols.now) (length args.source.symbols.now) (pre.0.lent) (args.i) (pre.1.0) 0 [] 0 (loop.k) (rw b at (loop-test.true))) (pattern.result) _ _ (pattern.ensures) c.in_ok-made.was (omega arith) (pattern.auto.words) (omega arith)
+    loop_turn (args.source.text.now) (args.source.rows.now) (args.from.next) (args.arguments) (symbols_of (args.source.text.now) (args.source.symbols.now) (length args.source.symbols.now)) (inputs_at (args.source.text.now) (args.source.symbols.now) (length args.source.symbols.now) (args.i)) (args.variables.now) (args.from.variables) (args.words.now) (args.from.used) (args.from.room - 1) (loop.k) (loop.place.next) (loop.variables) (loop.place.variables) (loop.words) (loop.place.used) (loop.place.room) (loop.refs) (loop.invariant) (loop-test.true) (column (row_at (args.source.symbols.now) (args.i)) (8 + loop.k)) (input_at (args.source.text.now) (args.source.symbols.now) (length args.source.symbols.now) (pre.0.lent) (args.i) (pre.1.0) 0 [] 0 (loop.k) (rw b at (loop-test.true))) (pattern.result) _ _ (pattern.ensures) c.in_ok-made.was (pattern.auto.variables) (pattern.auto.words) (omega arith)
 
 pub node-slice_bounds-refs-end : goal.node-slice_bounds-refs-end
 node-slice_bounds-refs-end t c =

@@ -3,7 +3,6 @@ use mathlib.Core.Path.{refl}
 use Prim.Native.Nat.{◌≤◌}
 use native.Mathlib.Omega.{arith}
 use lib.ListN.{length}
-use Rattle.std.proofs.Common.{rules}
 use Rattle.names.specs.Names.{name_of}
 use Rattle.names.specs.Symbols.{column, row_at}
 use Rattle.names.specs.SearchLaws.{variable_some, variable_none}
@@ -16,7 +15,7 @@ returns-then-old-eq0 c =
     let a = c.args in
     let h : a.count ≤ length a.variables.now = omega arith in
     let (e, l) = variable_some a.text.now a.variables.now a.count h (name_of a.text.now (column a.row 0) (column a.row 1) (column a.row 2)) c.in-Some.index c.in-Some.ensures in
-    rw (last_changed (row_at a.variables.now c.in-Some.index) a.sort (search rules)) (record {
+    rw (last_changed (row_at a.variables.now c.in-Some.index) a.sort (c.told-variables c.in-Some.index (omega arith))) (record {
       grew = (l, omega arith, omega arith);
       variables_after = sort_set a.text.now a.variables.now a.count h _ a.sort c.in-Some.index e l refl c.if-old-eq0.true;
       entry_placed = placed_sort _ a.variables.now a.count c.in-Some.index a.sort (omega arith);

@@ -32,7 +32,7 @@ loop-k-preserved c =
     let loop-test = c.loop-k-test in
     let pattern = c.pattern in
     let pre = c.requires in
-    loop_turn (args.source.text.now) (args.source.rows.now) (args.from.next) (args.n) (symbols_of (args.source.text.now) (args.source.symbols.now) (length args.source.symbols.now)) [] (args.variables.now) (args.from.variables) (args.words.now) (args.from.used) (args.from.room) (loop.k) (loop.place.next) (loop.variables) (loop.place.variables) (loop.words) (loop.place.used) (loop.place.room) (loop.heads) (loop.invariant) (loop-test.true) 0 (nothing_asked (loop.k)) (pattern.result) _ _ (pattern.ensures) c.in_ok-made.was (omega arith) (pattern.auto.words) (pre.fact_2.0)
+    loop_turn (args.source.text.now) (args.source.rows.now) (args.from.next) (args.n) (symbols_of (args.source.text.now) (args.source.symbols.now) (length args.source.symbols.now)) [] (args.variables.now) (args.from.variables) (args.words.now) (args.from.used) (args.from.room) (loop.k) (loop.place.next) (loop.variables) (loop.place.variables) (loop.words) (loop.place.used) (loop.place.room) (loop.heads) (loop.invariant) (loop-test.true) 0 (nothing_asked (loop.k)) (pattern.result) _ _ (pattern.ensures) c.in_ok-made.was (pattern.auto.variables) (pattern.auto.words) (pre.fact_2.0)
 
 pub returns : goal.returns
 returns c =
