@@ -21,10 +21,6 @@ use rules::RuleRow;
 
 // The most words that the terms of a rule take: 2 for each of 1,024 nodes.
 const MOST: u32 = 2048;
-
-// A walk through a rule's terms has a row of its stack for each word.
-pub type Stack = [[u32; 2]; 2048];
-
 // The most rules.
 const RULES: u32 = 1024;
 
@@ -163,8 +159,8 @@ fn are_parts(arities: &[u32], rule: PlacedRule) -> bool
 
 // Meets the variables of a row's premises in writing order, none of which has a place before; answers whether the premises take the words that the row
 // counts.
-fn walk_premises(words: &[u32], rule: &RuleRow, places: &mut Places, stack: &mut Stack) -> bool
-    requires { (column rule.now 7 ≤ 2048) × ((end : ℕ) × Walkable words.now end rule.now) × Records [] places.old.places places.old.count }
+fn walk_premises(words: &[u32], rule: &RuleRow, places: &mut Places, stack: &mut [[u32; 2]]) -> bool
+    requires { (column rule.now 7 ≤ 2048) × ((end : ℕ) × Walkable words.now end rule.now) × (2048 ≤ length stack.old) × Records [] places.old.places places.old.count }
     ensures { Walked (premises_of words.now rule.now) (column rule.now 7) places.old.places places.old.count result places.new.places places.new.count }
 {
     let size = rule[7];
@@ -186,8 +182,8 @@ fn are_placed(words: &[u32], places: &Places) -> bool
 }
 
 // Whether the terms of a row take the words that it counts, and its variables are numbered in writing order. The stack is scratch.
-fn is_in_order(rule: PlacedRule, stack: &mut Stack) -> bool
-    requires { OrderAsked rule.from rule.middle rule.end rule.row.now × Walkable rule.words.now rule.end rule.row.now }
+fn is_in_order(rule: PlacedRule, stack: &mut [[u32; 2]]) -> bool
+    requires { OrderAsked rule.from rule.middle rule.end rule.row.now × Walkable rule.words.now rule.end rule.row.now × (2048 ≤ length stack.old) }
     ensures { Tells result (InOrder rule.entry.words.now rule.entry.from rule.entry.row.now) }
 {
     let PlacedRule {
@@ -215,8 +211,8 @@ fn is_in_order(rule: PlacedRule, stack: &mut Stack) -> bool
 }
 
 // Meets the variables of a row's premises from the last to the first, behind those met before.
-fn walk_back(words: &[u32], rule: &RuleRow, places: &mut Places, stack: &mut Stack)
-    requires { (column rule.now 4 ≤ 16) × ((j : ℕ) → j < column rule.now 4 → TermAsked words.now (column rule.now (10 + j))) }
+fn walk_back(words: &[u32], rule: &RuleRow, places: &mut Places, stack: &mut [[u32; 2]])
+    requires { (column rule.now 4 ≤ 16) × ((j : ℕ) → j < column rule.now 4 → TermAsked words.now (column rule.now (10 + j))) × (2048 ≤ length stack.old) }
     ensures { (e : List ℕ) → Records e places.old.places places.old.count → Records (met_back (premises_of words.now rule.now) e) places.new.places places.new.count }
 {
     for k in (0..rule[4] as usize).rev() {
@@ -238,8 +234,8 @@ fn are_places(rule: &RuleRow, places: &Places) -> bool
 }
 
 // Whether a row has the variables of its conclusion counted and the places of all in meeting order. The stack is scratch.
-fn is_in_places(rule: PlacedRule, stack: &mut Stack) -> bool
-    requires { OrderAsked rule.from rule.middle rule.end rule.row.now × Walkable rule.words.now rule.end rule.row.now × InOrder rule.words.now rule.from rule.row.now }
+fn is_in_places(rule: PlacedRule, stack: &mut [[u32; 2]]) -> bool
+    requires { OrderAsked rule.from rule.middle rule.end rule.row.now × Walkable rule.words.now rule.end rule.row.now × InOrder rule.words.now rule.from rule.row.now × (2048 ≤ length stack.old) }
     ensures { Tells result (InPlaces rule.entry.words.now rule.entry.from rule.entry.row.now) }
 {
     let PlacedRule {
@@ -272,9 +268,10 @@ pub fn check_rule(
     from: u32,
     sorts: u32,
     rule: &RuleRow,
-    stack: &mut Stack,
+    stack: &mut [[u32; 2]],
 ) -> Option<u32>
-    requires { RuleCheckable words.now used from }
+    requires fact_1 { RuleCheckable words.now used from }
+    requires fact_2 { 2048 ≤ length stack.old }
     ensures { RuleChecked text.now arities.now words.now sorts used rule.now from result }
 {
     if !are_numbers(text, rule, from, used) {

@@ -20,7 +20,6 @@ use arena::INPUTS;
 pub use columns::ARITY;
 use loader::{SORTS, SYMBOLS};
 use names::{FUNCTION, NO_FUNCTION, SortRow, SymbolRow, Word};
-use rule_checks::Stack;
 use rules::RuleRow;
 
 // How many names there may be: of sorts and symbols together.
@@ -188,9 +187,9 @@ fn are_rules_listed(
     text: &[u8],
     arities: &[u32],
     signature: StoredSignature,
-    stack: &mut Stack,
+    stack: &mut [[u32; 2]],
 ) -> bool
-    requires { (signature.counts.words ≤ length signature.words.now) × (signature.counts.words ≤ 65536) × (signature.counts.rules ≤ length signature.rules.now) }
+    requires { (signature.counts.words ≤ length signature.words.now) × (signature.counts.words ≤ 65536) × (signature.counts.rules ≤ length signature.rules.now) × (2048 ≤ length stack.old) }
     ensures { Tells result (RulesListed text.now arities.now signature.entry.words.now signature.entry.counts.sorts signature.entry.rules.now signature.entry.counts.rules signature.entry.counts.words) }
 {
     let counts = signature.counts;

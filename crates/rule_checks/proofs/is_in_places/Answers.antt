@@ -24,7 +24,7 @@ returns-then-not-are_placed c =
 pub walk_back-requires : goal.walk_back-requires
 walk_back-requires c =
     let pre = c.requires in
-    (pre.1.premises, premise_asked pre.1 pre.0 pre.2)
+    (pre.1.premises, premise_asked pre.1 pre.0 pre.2, omega (arith, pre.3))
 
 pub returns : goal.returns
 returns c =

@@ -11,7 +11,7 @@ loop-k-init c = back_start (term_of c.args.words.now) c.args.rule.now _ c.args.p
 pub meet-requires : goal.meet-requires
 meet-requires c =
     let a = c.requires.1 (c.loop-k.k - 1) (omega (arith, c.loop-k-test.true, c.loop-k.auto.k)) in
-    record { used = a.end; within = a.within; low = a.low; formed = a.formed; root = a.root; room = omega arith }
+    record { used = a.end; within = a.within; low = a.low; formed = a.formed; root = a.root; room = omega (arith, c.requires.2) }
 
 pub loop-k-preserved : goal.loop-k-preserved
 loop-k-preserved c =

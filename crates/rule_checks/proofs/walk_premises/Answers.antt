@@ -26,6 +26,7 @@ unfolding heads
 meet-requires c =
     let loop = c.loop-reference in
     let (end, w) = c.requires.1 in
+    let s = c.requires.2 in
     let small = c.requires.0 in
     let n = heads_length c.args.rule.now _ w.premises c.told-rule in
     record {
