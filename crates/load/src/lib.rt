@@ -11,6 +11,7 @@ ghost use Rattle.load_storage.specs.Lent.{buffers_of, IsLent};
 ghost use Rattle.declarations.specs.Lent.{IsLent as IsLentFor};
 
 use declarations::{Progress, Source, State, Store};
+use load_storage::Used;
 pub use load_storage::{EvalRow, LentBuffers};
 use names::{SortRow, SymbolRow, TermRow};
 use refusals::{Refusal, Rejection};
@@ -125,17 +126,22 @@ fn load_rows(walk: Walk, buffers: &mut LentBuffers) -> Result<Loaded, Rejection>
             Err(rejection)
         }
         Ok(Entered { state, evals: k }) => {
-            let counts = Counts {
-                sorts: state.sorts as u32,
-                symbols: state.symbols as u32,
-                rules: state.rules as u32,
-                words: state.used as u32,
+            let used = Used {
+                sorts: state.sorts,
+                symbols: state.symbols,
+                rules: state.rules,
+                words: state.used,
             };
-            load_storage::leave(buffers, counts, k);
+            load_storage::leave(buffers, used, k);
             Ok(Loaded {
                 declarations: walk.n,
                 evals: k as u32,
-                counts,
+                counts: Counts {
+                    sorts: state.sorts as u32,
+                    symbols: state.symbols as u32,
+                    rules: state.rules as u32,
+                    words: state.used as u32,
+                },
             })
         }
     }

@@ -9,7 +9,6 @@ ghost use Rattle.load_storage.specs.Lent.{buffers_of, IsLent};
 
 use names::{SortRow, SymbolRow, TermRow};
 use rules::RuleRow;
-use signature::Counts;
 
 // An `#eval` that waits: its line, and the row of its term.
 pub type EvalRow = [u32; 2];
@@ -27,20 +26,29 @@ pub struct LentBuffers<'a> {
     pub evals: &'a mut [EvalRow],
 }
 
+// How much of a signature's storage is in use.
+#[derive(Clone, Copy)]
+pub struct Used {
+    pub sorts: usize,
+    pub symbols: usize,
+    pub rules: usize,
+    pub words: usize,
+}
+
 // Zeroes the scratch, and the rest of the storage from the counts on.
-pub fn leave(buffers: &mut LentBuffers, counts: Counts, waiting: usize)
+pub fn leave(buffers: &mut LentBuffers, used: Used, waiting: usize)
     ensures scratch_cleared { ScratchCleared buffers.old.tokens.now buffers.old.calls.now buffers.old.evals.now waiting buffers.new.tokens.now buffers.new.calls.now buffers.new.evals.now }
-    ensures signature_cleared { SignatureCleared buffers.old.sorts.now buffers.old.symbols.now buffers.old.rules.now buffers.old.words.now counts.sorts counts.symbols counts.rules counts.words buffers.new.sorts.now buffers.new.symbols.now buffers.new.rules.now buffers.new.words.now }
+    ensures signature_cleared { SignatureCleared buffers.old.sorts.now buffers.old.symbols.now buffers.old.rules.now buffers.old.words.now used.sorts used.symbols used.rules used.words buffers.new.sorts.now buffers.new.symbols.now buffers.new.rules.now buffers.new.words.now }
     ensures rows { buffers.new.rows.now ≡ buffers.old.rows.now }
     ensures lent { IsLent buffers.old buffers.new }
 {
     buffers.tokens.fill([0; 4]);
     buffers.calls.fill([0; 4]);
     slices::clear_from(buffers.evals, waiting, [0; 2]);
-    slices::clear_from(buffers.sorts, counts.sorts as usize, [0; 2]);
-    slices::clear_from(buffers.symbols, counts.symbols as usize, [0; 24]);
-    slices::clear_from(buffers.rules, counts.rules as usize, [0; 154]);
-    slices::clear_from(buffers.words, counts.words as usize, 0);
+    slices::clear_from(buffers.sorts, used.sorts, [0; 2]);
+    slices::clear_from(buffers.symbols, used.symbols, [0; 24]);
+    slices::clear_from(buffers.rules, used.rules, [0; 154]);
+    slices::clear_from(buffers.words, used.words, 0);
 }
 
 // Zeroes everything.
@@ -49,7 +57,7 @@ pub fn leave_nothing(buffers: &mut LentBuffers)
     ensures lent { IsLent buffers.old buffers.new }
 {
     buffers.rows.fill([0; 4]);
-    let none = Counts {
+    let none = Used {
         sorts: 0,
         symbols: 0,
         rules: 0,
