@@ -52,7 +52,7 @@ pub fn compile(
     source: SourceTerms,
     at: usize,
     names: &[NameRow],
-    variables: &mut [VariableRow; 64],
+    variables: &mut [VariableRow],
     words: &mut [u32],
 ) -> Result<Goal, Refusal>
     requires { Ready source.symbols.now (length source.symbols.now) variables.old (length names.now) words.old 0 1024 }

@@ -27,6 +27,7 @@ pub struct LentBuffers<'a> {
 }
 
 // How much of a signature's storage is in use.
+// Stays: `leave` takes counts of any size, and those of `signature::Counts` have 32 bits.
 #[derive(Clone, Copy)]
 pub struct Used {
     pub sorts: usize,

@@ -27,7 +27,7 @@ pub struct EnteredVariable {
 
 // The number of the variable that a row names, entered if it is new. Its sort (0: not known) is checked, and set where it was not known.
 // Stays: the sort is a column of the symbols' rows, which C callers lend with 0 for none, and goes into a column of the variable's row.
-// Stays: the table is as long as the caller's: `goals` is lent one of any length, of which an array of 64 rows would have to be made first.
+// Stays: callers may lend a longer table, and an array in its place would ask for exactly 64 rows.
 // Stays: a new variable's row is written just behind the `count` rows in use, which a slice of those alone would not reach.
 pub fn enter(
     text: &[u8],
