@@ -142,7 +142,7 @@ module _ (t : Rows) (n key value : ℕ) (ln : n < length t) (lk : key < length t
   restored = ap (λ (k : ℕ). listed (valued (entered t n key value) k 0) n 0) ch.list
       ∙ ext_get_or [] (listed d n 0) t (length-set d n _ ∙ ld) (λ i l. each i)
 
--- An entry is made of two rows replaced.
+-- An entry is made of two rows replaced, and so is its removal.
 pub entered_is : (t t₁ t₂ : Rows) (n key value : ℕ) → n < length t → key < length t → Replaced t t₁ key 2 (valued t key value) → Replaced t₁ t₂ n 2 (listed t₁ n key) → Entered t t₂ n key value
 unfolding entered
 entered_is t t₁ t₂ n key value ln lk p q =
@@ -151,6 +151,10 @@ entered_is t t₁ t₂ n key value ln lk p q =
       is = e;
       back = λ zk zn. ap (λ (s : Rows). removed s n) e ∙ restored t n key value ln lk p.wide (ap (λ (s : Rows). length (get_or s n [])) (sym p.is) ∙ q.wide) zk zn;
     }
+
+pub removed_is : (t t₁ t₂ : Rows) (n key : ℕ) → key ≡ column 1 t n → t₁ ≡ valued t key 0 → t₂ ≡ listed t₁ n 0 → t₂ ≡ removed t n
+unfolding removed
+removed_is t t₁ t₂ n key k p q = q ∙ ap (λ (s : Rows). listed s n 0) (p ∙ ap (λ (j : ℕ). valued t j 0) k)
 
 -- Rows of two numbers, in which numbers are set.
 abbrev pub Pairs : Rows → Type 0
@@ -192,7 +196,6 @@ module _ (t : Rows) (n key value : ℕ) (pairs : Pairs t) (ln : n < length t) (l
   pub put_entered : Entered t (both_put t n key value key) n key value
   put_entered = entered_is t (valued t key value) (both_put t n key value key) n key value ln lk (record { is = refl; wide = pairs key lk }) (record { is = both_is key; wide = wide })
 
--- Taking back one more.
 -- Taking back one more.
 pub undone_more : (t t' : Rows) (mark n : ℕ) → mark ≤ n → removed t' n ≡ t → undone t' mark (n + 1 - mark) ≡ undone t mark (n - mark)
 unfolding undone

@@ -42,10 +42,10 @@ find_next {links} {r} {q} x h e = let f = h.falls q x e in
     (record { falls = h.falls; room = h.room; le = let z = h.le in omega arith; on = λ p m. h.on p (go e m) }, f)
 
 -- Two roots are linked, the greater to the smaller.
-join_up : {links links' : Rows} {c x y p q : ℕ} → LeadsTo (column 0 links) x p → LeadsTo (column 0 links) y q → p < q → Entered links links' c q (p + 1) → Joined links links' c x y
+pub join_up : {links links' : Rows} {c x y p q : ℕ} → LeadsTo (column 0 links) x p → LeadsTo (column 0 links) y q → p < q → Entered links links' c q (p + 1) → Joined links links' c x y
 join_up {p = p} {q = q} lp lq l e = record { root_x = p; root_y = q; leads_x = lp; leads_y = lq; from = q; to = p; either = inr (refl, refl); falls = inr l; entered = e }
 
-join_down : {links links' : Rows} {c x y p q : ℕ} → LeadsTo (column 0 links) x p → LeadsTo (column 0 links) y q → q ≤ p → Entered links links' c p (q + 1) → Joined links links' c x y
+pub join_down : {links links' : Rows} {c x y p q : ℕ} → LeadsTo (column 0 links) x p → LeadsTo (column 0 links) y q → q ≤ p → Entered links links' c p (q + 1) → Joined links links' c x y
 join_down {p = p} {q = q} lp lq l e = record {
   root_x = p;
   root_y = q;
