@@ -4,7 +4,7 @@ ghost use Rattle.unifier.specs.Promises.{Scratch};
 ghost use Rattle.checks.specs.Ready.{Joined, Zeros};
 
 // Or-s a row to what was seen.
-// Stays: `all` would look at each number and stop at the first that is not zero; with no branch at a number the loop takes several at a time.
+// Stays: as a chain it is a `fold` of rows around a `fold` of numbers, which says no more than the two loops; `all` would have a branch at each number.
 fn join<const N: usize>(seen: u32, row: &[u32; N]) -> u32
     ensures { Joined seen row.now result }
 {
