@@ -13,7 +13,7 @@ ghost use Rattle.declarations.specs.Lent.{IsLent};
 ghost use Rattle.loader.specs.Kinds.{is_constructor, mark_in, first_in, clauses_in};
 
 use clauses::{EnteredRule, SourceClause};
-use loader::{Kind, Part};
+use loader::{Kind, Part, Source};
 use names::{SortRow, SourceTerms, SymbolRow, TermRow, Word};
 use refusals::Refusal;
 use rules::{RulePlace, RuleRow, Space, Title};
@@ -36,16 +36,8 @@ pub struct Progress {
     pub state: State,
 }
 
-// A declaration in rows: their text, and the row at which it stands.
-#[derive(Clone, Copy)]
-pub struct Source<'a> {
-    pub text: &'a [u8],
-    pub rows: &'a [TermRow],
-    pub at: usize,
-}
-
 // What rules are written to: their rows and words, and scratch in which clauses are flattened.
-// Stays: symbols go beside it, as they are read while a rule is written, and so do the counts, of which each declaration answers new ones.
+// Stays: sorts and symbols go beside it, as the functions that only read them would have to promise besides that they stand; and counts, which are answered.
 #[derive(Drop)]
 pub struct Store<'a> {
     pub rules: &'a mut [RuleRow],
@@ -97,12 +89,13 @@ fn declare_symbol(
     requires no_function { (mark_in kind ≡ 0) × (first_in kind ≡ 0) × (clauses_in kind ≡ 0) }
     ensures { SymbolDeclared source.entry.text.now source.entry.rows.now source.entry.at (is_constructor kind) sorts.now symbols.old state result symbols.new }
 {
-    let Source { text, rows, at } = source;
+    let Source { rows, at, .. } = source;
     let k = rows[at][2] as usize;
     let part = Part {
-        text,
-        rows,
-        at: at + 1,
+        source: Source {
+            at: at + 1,
+            ..source
+        },
         k,
     };
     loader::enter_symbol(part, kind, &sorts[..state.sorts], symbols, state.symbols)?;
@@ -143,7 +136,7 @@ fn declare_rule(
     ensures declared { RuleDeclared source.entry.text.now source.entry.rows.now source.entry.at symbols.now store.old.rules.now store.old.words.now state result store.new.rules.now store.new.words.now }
     ensures lent { IsLent store.old store.new }
 {
-    let Source { text, rows, at } = source;
+    let Source { rows, at, .. } = source;
     let k = rows[at][2] as usize;
     if k == 0 {
         return Err(Refusal::NoDeclaration);
@@ -158,9 +151,10 @@ fn declare_rule(
         },
     };
     let part = Part {
-        text,
-        rows,
-        at: at + 2,
+        source: Source {
+            at: at + 2,
+            ..source
+        },
         k,
     };
     let outcome = loader::enter_rule(
@@ -197,8 +191,10 @@ fn declare_clause(
             room: m,
         },
     };
-    let clause = number as u32 + 1;
-    let title = Title { word, clause };
+    let title = Title {
+        word,
+        clause: number as u32 + 1,
+    };
     let terms = SourceTerms {
         text,
         rows,
@@ -234,13 +230,14 @@ fn declare_clauses(
     ensures declared { ClausesDeclared source.entry.text.now source.entry.rows.now source.entry.at n word.start word.size symbols.now store.old.rules.now store.old.words.now state result store.new.rules.now store.new.words.now }
     ensures lent { IsLent store.old store.new }
 {
-    let Source { text, rows, at } = source;
-    let mut progress = Progress { next: at, state };
+    let mut progress = Progress {
+        next: source.at,
+        state,
+    };
     for i in 0..n {
         let clause = Source {
-            text,
-            rows,
             at: progress.next,
+            ..source
         };
         progress = declare_clause(clause, i, word, symbols, store, progress.state)?;
     }
@@ -271,7 +268,7 @@ fn declare_def(
     ensures declared { DefDeclared source.entry.text.now source.entry.rows.now source.entry.at sorts.now symbols.old store.old.rules.now store.old.words.now state result symbols.new store.new.rules.now store.new.words.now }
     ensures lent { IsLent store.old store.new }
 {
-    let Source { text, rows, at } = source;
+    let Source { rows, at, .. } = source;
     let k = rows[at][2] as usize;
     if k == 0 {
         return Err(Refusal::NoDeclaration);
@@ -279,9 +276,10 @@ fn declare_def(
     let n = rows[at][3] as usize;
     let [_, start, size, _] = rows[at + 1];
     let part = Part {
-        text,
-        rows,
-        at: at + 1,
+        source: Source {
+            at: at + 1,
+            ..source
+        },
         k,
     };
     let kind = Kind::Function {
@@ -294,9 +292,8 @@ fn declare_def(
         ..state
     };
     let clauses = Source {
-        text,
-        rows,
         at: at + 2 + k,
+        ..source
     };
     declare_clauses(clauses, n, Word { start, size }, symbols, store, with)
 }
@@ -314,7 +311,7 @@ pub fn declare(
     ensures declared { DeclareDone source.entry.text.now source.entry.rows.now source.entry.at sorts.old symbols.old store.old.rules.now store.old.words.now state result sorts.new symbols.new store.new.rules.now store.new.words.now }
     ensures lent { IsLent store.old store.new }
 {
-    let Source { text: _, rows, at } = source;
+    let Source { rows, at, .. } = source;
     match rows[at][0] {
         SORT => declare_sort(source, sorts, symbols, state),
         CTOR => {

@@ -10,9 +10,10 @@ ghost use Rattle.load.specs.Clearing.{RowsAsked, RowsLoaded};
 ghost use Rattle.load_storage.specs.Lent.{buffers_of, IsLent};
 ghost use Rattle.declarations.specs.Lent.{IsLent as IsLentFor};
 
-use declarations::{Progress, Source, State, Store};
+use declarations::{Progress, State, Store};
 use load_storage::Used;
 pub use load_storage::{EvalRow, LentBuffers};
+use loader::Source;
 use names::{SortRow, SymbolRow, TermRow};
 use refusals::{Refusal, Rejection};
 use signature::Counts;
@@ -48,6 +49,7 @@ struct Walk<'a> {
 }
 
 // Enters the declarations in text order.
+// Stays: tried to lend the rows in use alone: after `&rows[..used]`, of a field behind `&mut`, the checker knows nothing more of the rows in `load_rows`.
 fn enter_all(
     walk: Walk,
     rows: &[TermRow],

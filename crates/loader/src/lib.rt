@@ -35,12 +35,18 @@ pub struct Known<'a> {
     pub symbols: &'a [SymbolRow],
 }
 
-// A part of a declaration: its text and rows, the row at which the part begins, and how many items it has.
+// A declaration in rows, or what stands in it: the text, the rows, and the row at which it begins.
 #[derive(Clone, Copy)]
-pub struct Part<'a> {
+pub struct Source<'a> {
     pub text: &'a [u8],
     pub rows: &'a [TermRow],
     pub at: usize,
+}
+
+// A part of a declaration: where it begins, and how many items it has.
+#[derive(Clone, Copy)]
+pub struct Part<'a> {
+    pub source: Source<'a>,
     pub k: usize,
 }
 
@@ -84,7 +90,7 @@ pub fn enter_sort(
 
 // May a symbol with k inputs be entered by a name?
 // Stays: k is how many inputs the symbol has, not how many bytes of the word are meant.
-pub fn check_symbol(known: Known, word: &[u8], k: usize) -> Result<(), Refusal>
+fn check_symbol(known: Known, word: &[u8], k: usize) -> Result<(), Refusal>
     ensures { RefusedFor (symbol_refusal (sorts_known known.entry) (symbols_known known.entry) word.now k) result }
 {
     if is_taken(known, word) {
@@ -101,17 +107,18 @@ pub fn check_symbol(known: Known, word: &[u8], k: usize) -> Result<(), Refusal>
 }
 
 // A symbol but for its inputs: where its name stands, its output, its function mark, and its clauses.
+// Stays: these are the numbers of the row that C callers lend, where 0 stands for no output and for no first clause.
 #[derive(Clone, Copy)]
-pub struct SymbolHead {
-    pub word: Word,
-    pub output: u32,
-    pub function: u32,
-    pub first: u32,
-    pub clauses: u32,
+struct SymbolHead {
+    word: Word,
+    output: u32,
+    function: u32,
+    first: u32,
+    clauses: u32,
 }
 
 // Writes a symbol into its row.
-pub fn put_symbol(row: &mut SymbolRow, symbol: SymbolHead, inputs: &[u32])
+fn put_symbol(row: &mut SymbolRow, symbol: SymbolHead, inputs: &[u32])
     requires { length inputs.now ≤ 16 }
     ensures { row.new ≡ symbol_row symbol.word.start symbol.word.size symbol.output symbol.function symbol.first symbol.clauses (length inputs.now) inputs.now }
 {
@@ -131,12 +138,14 @@ pub fn put_symbol(row: &mut SymbolRow, symbol: SymbolHead, inputs: &[u32])
 }
 
 // Looks up the sorts whose names stand in the rows of a part; the numbers of the first 16 go to `inputs`, and that of the last is answered, if all are
-// known.
-pub fn find_arrow(part: Part, sorts: &[SortRow], inputs: &mut [u32]) -> Option<u32>
-    requires { (length sorts.now ≤ 256) × (part.at + part.k ≤ length part.rows.now) × (length part.rows.now ≤ 65536) × (length inputs.old ≡ 16) }
-    ensures { Arrowing (numbers_of (sorts_of part.entry.text.now sorts.now (length sorts.now)) (names_at part.entry.text.now part.entry.rows.now part.entry.at part.entry.k)) result inputs.new part.entry.k }
+// known: 0 of a part with no sorts.
+// Stays: only predicates have no sorts, and their row holds 0 as the output; an option of an option would be turned into that at once.
+fn find_arrow(part: Part, sorts: &[SortRow], inputs: &mut [u32]) -> Option<u32>
+    requires { (length sorts.now ≤ 256) × (part.source.at + part.k ≤ length part.source.rows.now) × (length part.source.rows.now ≤ 65536) × (length inputs.old ≡ 16) }
+    ensures { Arrowing (numbers_of (sorts_of part.entry.source.text.now sorts.now (length sorts.now)) (names_at part.entry.source.text.now part.entry.source.rows.now part.entry.source.at part.entry.k)) result inputs.new part.entry.k }
 {
-    let Part { text, rows, at, k } = part;
+    let Part { source, k } = part;
+    let Source { text, rows, at } = source;
     let mut last = 0;
     for i in 0..k {
         let [_, start, size, _] = rows[at + i];
@@ -205,15 +214,17 @@ pub fn enter_symbol(
     symbols: &mut [SymbolRow],
     count: usize,
 ) -> Result<(), Refusal>
-    requires { (part.at + 1 + part.k ≤ length part.rows.now) × (length part.rows.now ≤ 65536) × (length sorts.now ≤ 256) × (count ≤ 1024) × (1024 ≤ length symbols.old) }
-    ensures { SymbolAnswered part.entry.text.now part.entry.rows.now (part.entry.at + 1) part.entry.k (column (row_at part.entry.rows.now part.entry.at) 1) (column (row_at part.entry.rows.now part.entry.at) 2) (is_constructor kind) (mark_in kind) (first_in kind) (clauses_in kind) sorts.now (length sorts.now) symbols.old count result symbols.new }
+    requires { (part.source.at + 1 + part.k ≤ length part.source.rows.now) × (length part.source.rows.now ≤ 65536) × (length sorts.now ≤ 256) × (count ≤ 1024) × (1024 ≤ length symbols.old) }
+    ensures { SymbolAnswered part.entry.source.text.now part.entry.source.rows.now (part.entry.source.at + 1) part.entry.k (column (row_at part.entry.source.rows.now part.entry.source.at) 1) (column (row_at part.entry.source.rows.now part.entry.source.at) 2) (is_constructor kind) (mark_in kind) (first_in kind) (clauses_in kind) sorts.now (length sorts.now) symbols.old count result symbols.new }
 {
-    let Part { text, rows, at, k } = part;
+    let Part { source, k } = part;
+    let Source { text, rows, at } = source;
     let mut inputs = [0u32; 16];
     let behind = Part {
-        text,
-        rows,
-        at: at + 1,
+        source: Source {
+            at: at + 1,
+            ..source
+        },
         k,
     };
     let last = find_arrow(behind, sorts, &mut inputs).ok_or(Refusal::UnknownSort)?;
@@ -240,10 +251,11 @@ pub fn enter_rule(
     rules: &mut [RuleRow],
     place: RulePlace,
 ) -> Result<EnteredRule, Refusal>
-    requires { RuleAsked part.text.now part.rows.now part.at part.k symbols.now (length symbols.now) words.old place.space.used place.space.room rules.old }
-    ensures { RuleEntered part.entry.text.now part.entry.rows.now part.entry.at part.entry.k word.start word.size (symbols_of part.entry.text.now symbols.now (length symbols.now)) words.old place.space.used place.space.room rules.old place.number result words.new rules.new }
+    requires { RuleAsked part.source.text.now part.source.rows.now part.source.at part.k symbols.now (length symbols.now) words.old place.space.used place.space.room rules.old }
+    ensures { RuleEntered part.entry.source.text.now part.entry.source.rows.now part.entry.source.at part.entry.k word.start word.size (symbols_of part.entry.source.text.now symbols.now (length symbols.now)) words.old place.space.used place.space.room rules.old place.number result words.new rules.new }
 {
-    let Part { text, rows, at, k } = part;
+    let Part { source, k } = part;
+    let Source { text, rows, at } = source;
     let n = k - 1;
     let here = clauses::skip(rows, at, n);
     let next = clauses::skip(rows, here, 1);

@@ -5,16 +5,16 @@ use Rattle.loader.proofs.ArrowLaws.{name_at, some_sort, unknown_sort, sofar_none
 use Rattle.loader.proofs.find_arrow.Goals as goal
 
 pub loop-i-init : goal.loop-i-init
-loop-i-init c = let a = c.args.part in sofar_none a.text.now a.rows.now a.at a.k c.args.sorts.now c.args.inputs.now c.requires.3
+loop-i-init c = let a = c.args.part.source in sofar_none a.text.now a.rows.now a.at c.args.part.k c.args.sorts.now c.args.inputs.now c.requires.3
 
 pub returns-in_err-s : goal.returns-in_err-s
 returns-in_err-s c =
-    let a = c.args.part in
+    let a = c.args.part.source in
     let l = unknown_sort a.text.now c.args.sorts.now (name_at a.text.now a.rows.now (a.at + c.loop-i.i)) (rw c.part.ensures at c.in_err-s.ensures) in
-    rw c.from_residual.ensures (one_unknown a.text.now a.rows.now a.at a.k c.args.sorts.now _ refl l c.loop-i-test.true)
+    rw c.from_residual.ensures (one_unknown a.text.now a.rows.now a.at c.args.part.k c.args.sorts.now _ refl l c.loop-i-test.true)
 
 pub loop-i-preserved : goal.loop-i-preserved
 loop-i-preserved c =
-    let a = c.args.part in
+    let a = c.args.part.source in
     let (e, l) = some_sort a.text.now c.args.sorts.now (name_at a.text.now a.rows.now (a.at + c.loop-i.i)) c.in_ok-s.s (rw c.part.ensures at c.in_ok-s.ensures) in
-    sofar_more a.text.now a.rows.now a.at a.k c.args.sorts.now c.loop-i.invariant e l c.put.ensures
+    sofar_more a.text.now a.rows.now a.at c.args.part.k c.args.sorts.now c.loop-i.invariant e l c.put.ensures
