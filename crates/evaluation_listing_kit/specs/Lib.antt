@@ -1,3 +1,3 @@
 -- What the contracts of `evaluation_listing_kit` cite.
-pub mod Headers
+pub mod Nodes
 pub mod Printing

@@ -35,6 +35,7 @@ fn write_line(out: &mut Output)
 }
 
 // Writes the line of a value.
+// Stays: terms, stack and buffer are apart, since each line makes an output of the whole buffer, and each term a printer of terms and stack alone.
 pub fn list_value(terms: StoredTerms, value: u32, stack: &mut [OpenRow], out: &mut [u8]) {
     let mut line = Output { bytes: out, at: 0 };
     put(b"value ", &mut line);

@@ -1,6 +1,6 @@
 // Terms in prefix form, as the Rust's `pat_text` prints them. A term may be as deep as it has nodes, so it is written by a loop over a stack of open nodes.
-ghost use Rattle.std.specs.Prelude.{◌≡◌, ◌+◌, ◌≤◌, ◌<◌, length, get_or, IfSome};
-ghost use Rattle.evaluation_listing_kit.specs.Headers.{header_at, arity_of};
+ghost use Rattle.std.specs.Prelude.{◌≡◌, ◌+◌, ◌≤◌, ◌<◌, length, get_or, slice_get};
+ghost use Rattle.evaluation_listing_kit.specs.Nodes.{node_at};
 ghost use Rattle.evaluation_listing_kit.specs.Printing.{Fits, Moved, Within, Stepped};
 
 use super::output::{put, put_byte};
@@ -31,7 +31,7 @@ struct Printer<'a> {
 }
 
 // The word at an address, 0 where there is none.
-// Stays: 0 is below every header, so one comparison in `header_at` answers for a word past the end and for one that is no header.
+// Stays: 0 is below every header, so one comparison in `node_at` answers for a word past the end and for one that is no header.
 fn word_at(words: &[u32], address: usize) -> u32
     ensures { result ≡ get_or words.now address 0 }
 {
@@ -41,33 +41,32 @@ fn word_at(words: &[u32], address: usize) -> u32
     words[address]
 }
 
-// The header at an address, if one stands there.
-fn header_at(words: &[u32], address: u32) -> Option<u32>
-    ensures is { result ≡ header_at words.now address }
-    ensures high { IfSome result (λ header. 1048576 ≤ header) }
-{
-    let word = word_at(words, address as usize);
-    if word < HEADERS { None } else { Some(word) }
+// A node: its symbol, and how many arguments it has.
+#[derive(Clone, Copy)]
+struct Node {
+    symbol: usize,
+    arity: u32,
 }
 
-// How many arguments the node at an address has.
-// Stays: where no node stands there are no arguments, so that 0 is their number, and an `Option` would be turned into it at once.
-fn arity_at(words: &[u32], address: u32) -> u32
-    ensures is { result ≡ arity_of (header_at words.now address) }
-    ensures small { result < 32 }
+// The node at an address, if one stands there.
+fn node_at(words: &[u32], address: u32) -> Option<Node>
+    ensures { result ≡ node_at words.now address }
 {
-    match header_at(words, address) {
-        Some(header) => header % SYMBOL_STEP,
-        None => 0,
+    let header = word_at(words, address as usize);
+    if header < HEADERS {
+        return None;
     }
+    Some(Node {
+        symbol: ((header - HEADERS) / SYMBOL_STEP) as usize,
+        arity: header % SYMBOL_STEP,
+    })
 }
 
-// The address of an argument of the node at an address.
-// Stays: it is 0 only where the words end inside a node, which no evaluation leaves; for an `Option` the caller would have a case that never comes.
-fn argument_at(words: &[u32], address: u32, number: u32) -> u32
-    ensures { result ≡ get_or words.now (address + 1 + number) 0 }
+// The address of an argument of the node at an address, if the words go so far.
+fn argument_at(words: &[u32], address: u32, number: u32) -> Option<u32>
+    ensures { result ≡ slice_get words.now (address + 1 + number) }
 {
-    word_at(words, address as usize + 1 + number as usize)
+    words.get(address as usize + 1 + number as usize).copied()
 }
 
 // Writes a name of the text.
@@ -78,32 +77,28 @@ pub fn put_name(text: &[u8], word: Word, out: &mut Output)
     put(names::part(text, word), out);
 }
 
-// Is the node with a header written without parentheses, as a constructor that has no arguments?
-fn is_bare(symbols: &[SymbolRow], header: u32) -> bool
-    requires { 1048576 ≤ header }
-{
-    if header % SYMBOL_STEP != 0 {
+// Is a node written without parentheses, as a constructor that has no arguments?
+fn is_bare(symbols: &[SymbolRow], node: Node) -> bool {
+    if node.arity != 0 {
         return false;
     }
-    let i = ((header - HEADERS) / SYMBOL_STEP) as usize;
-    if symbols.len() <= i {
+    if symbols.len() <= node.symbol {
         return true;
     }
-    symbols[i][OUTPUT] != 0
+    symbols[node.symbol][OUTPUT] != 0
 }
 
 impl Printer<'_> {
-    // Writes the name of the symbol of a header.
-    fn put_symbol(&self, header: u32, out: &mut Output)
-        requires { (1048576 ≤ header) × Fits out.old }
+    // Writes the name of a symbol.
+    fn put_symbol(&self, symbol: usize, out: &mut Output)
+        requires { Fits out.old }
         ensures { Moved out.old out.new }
     {
-        let i = ((header - HEADERS) / SYMBOL_STEP) as usize;
-        if self.terms.symbols.len() <= i {
+        if self.terms.symbols.len() <= symbol {
             put(b"wrong: no such symbol", out);
             return;
         }
-        let row = self.terms.symbols[i];
+        let row = self.terms.symbols[symbol];
         let word = Word {
             start: row[0],
             size: row[1],
@@ -112,8 +107,8 @@ impl Printer<'_> {
     }
 
     // Writes the start of a node that has parentheses, and opens it.
-    fn open_node(&mut self, header: u32, address: u32, out: &mut Output)
-        requires { (1048576 ≤ header) × Within self.old × Fits out.old }
+    fn open_node(&mut self, symbol: usize, address: u32, out: &mut Output)
+        requires { Within self.old × Fits out.old }
         ensures { Stepped self.old self.new × Moved out.old out.new }
     {
         let depth = self.depth;
@@ -124,7 +119,7 @@ impl Printer<'_> {
         self.stack[depth] = [address, 0];
         self.depth = depth + 1;
         put_byte(out, b'(');
-        self.put_symbol(header, out);
+        self.put_symbol(symbol, out);
     }
 
     // Writes the start of the node at an address, which is all of one without parentheses.
@@ -132,15 +127,15 @@ impl Printer<'_> {
         requires { Within self.old × Fits out.old }
         ensures { Stepped self.old self.new × Moved out.old out.new }
     {
-        let Some(header) = header_at(self.terms.words, address) else {
+        let Some(node) = node_at(self.terms.words, address) else {
             put(b"wrong: no node", out);
             return;
         };
-        if is_bare(self.terms.symbols, header) {
-            self.put_symbol(header, out);
+        if is_bare(self.terms.symbols, node) {
+            self.put_symbol(node.symbol, out);
             return;
         }
-        self.open_node(header, address, out);
+        self.open_node(node.symbol, address, out);
     }
 
     // Writes on at the innermost open node: the start of its next argument, or its end.
@@ -149,16 +144,24 @@ impl Printer<'_> {
         ensures { (out.old.at < out.new.at) × Stepped self.old self.new × Moved out.old out.new }
     {
         let top = self.depth - 1;
-        let address = self.stack[top][0];
-        let next = self.stack[top][1];
-        if arity_at(self.terms.words, address) <= next {
+        let [address, next] = self.stack[top];
+        let Some(node) = node_at(self.terms.words, address) else {
+            self.depth = top;
+            put(b"wrong: no node", out);
+            return;
+        };
+        if node.arity <= next {
             put_byte(out, b')');
             self.depth = top;
             return;
         }
         self.stack[top] = [address, next + 1];
         put_byte(out, b' ');
-        self.enter(argument_at(self.terms.words, address, next), out);
+        let Some(argument) = argument_at(self.terms.words, address, next) else {
+            put(b"wrong: no argument", out);
+            return;
+        };
+        self.enter(argument, out);
     }
 }
 

@@ -18,7 +18,7 @@ use signature::StoredSignature;
 use words::Limits;
 
 // The scratch behind the words, and the rows of the stack: as many as a rule's terms may take words, and one more.
-const SCRATCH: usize = 2049;
+pub const SCRATCH: usize = 2049;
 
 // An evaluation: the reference of the value, the number of calls and that of words.
 #[derive(Clone, Copy)]
@@ -37,7 +37,7 @@ pub struct Buffers<'a> {
 }
 
 // How many rows of trees so many words ask: at most 128 calls are open, and each other one has taken two words at least.
-fn tree_rows(most: u32) -> usize
+pub fn tree_rows(most: u32) -> usize
     ensures { result ≡ tree_rows most }
 {
     u32::min(MAX_CALLS, most / 2 + MAX_DEPTH) as usize
@@ -89,7 +89,7 @@ pub fn evaluate_listed(
         pattern: &signature.words[..signature.counts.words as usize],
         limit: most,
     };
-    let mut stack = [[0u32; 3]; 2049];
+    let mut stack = [[0u32; 3]; SCRATCH];
     buffers.links.fill(0);
     let mut store = Store {
         words: buffers.words,
