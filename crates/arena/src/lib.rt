@@ -120,7 +120,7 @@ pub fn check_words(terms: Terms, from: u32, arities: &[u32]) -> bool
     left == 0
 }
 
-// Whether two references denote the same term, in one pass from the greater one's address down to the least that is linked; the links are zero before and after.
+// Whether two references denote the same term: one pass from the greater address down to the least that is linked. The links are zero before and after.
 pub fn equal(terms: Terms, links: &mut [u32], a: u32, b: u32) -> bool
     // The words and both references are in form, and there is a link for each address in use.
     requires { Ready terms.room terms.words.now links.old terms.variables terms.used a b }
