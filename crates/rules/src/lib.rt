@@ -94,10 +94,9 @@ fn judgments(
             rows,
             symbols,
         },
-        n,
         variables,
         words,
-        heads,
+        &mut heads[..n],
         from,
     )?;
     let rows = conclusions;
