@@ -28,7 +28,7 @@ pub struct EnteredVariable {
 // The number of the variable that a row names, entered if it is new. Its sort (0: not known) is checked, and set where it was not known.
 // Stays: the sort is a column of the symbols' rows, which C callers lend with 0 for none, and goes into a column of the variable's row.
 // Stays: a new variable's row is written just behind the `count` rows in use, which a slice of those alone would not reach.
-pub fn enter(
+fn enter(
     text: &[u8],
     variables: &mut [VariableRow; 64],
     count: usize,
