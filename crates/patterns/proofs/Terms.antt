@@ -167,7 +167,7 @@ pub record Looped (text : List ℕ) (rs : Rows) (p₀ args : ℕ) (ss : List Sym
   pub kept_words : length w ≡ length w₀
   pub spent : u + 2 * m + k ≤ u₀ + 2 * m₀
   pub further : u₀ ≤ u
-  pub sixteen : length refs ≡ 16
+  pub long : args ≤ length refs
   pub placed : Placed (LiesIn rs p₀ p) vs₀ nv₀ vs nv
   pub same : (ts : Written many) (q : ℕ) → Stands text rs p₀ ts q → size ts ≡ args
       → (us : Written many) × Stands text rs p us q × (size us ≡ args - k) × (stored [] (pattern_of ss ts is (variables_of text vs₀ nv₀) m₀) w₀ u₀ ≡ stored (take k refs) (pattern_of ss us (drop k is) (variables_of text vs nv) m) w u)
@@ -175,7 +175,7 @@ pub record Looped (text : List ℕ) (rs : Rows) (p₀ args : ℕ) (ss : List Sym
 abbrev pub inputs_at : List ℕ → Rows → ℕ → ℕ → List ℕ
 inputs_at text sr n i = (symbol_at (symbols_of text sr n) i).inputs
 
-pub loop_start : (text : List ℕ) (rs : Rows) (p args : ℕ) (ss : List Symbol) (is : List ℕ) (vs : Rows) (nv : ℕ) (w : List ℕ) (u m : ℕ) (refs : List ℕ) → nv ≤ 64 → length refs ≡ 16
+pub loop_start : (text : List ℕ) (rs : Rows) (p args : ℕ) (ss : List Symbol) (is : List ℕ) (vs : Rows) (nv : ℕ) (w : List ℕ) (u m : ℕ) (refs : List ℕ) → nv ≤ 64 → args ≤ length refs
     → Looped text rs p args ss is vs nv w u m 0 p vs nv w u m refs
 loop_start text rs p args ss is vs nv w u m refs a b = record {
   few = omega arith;
@@ -186,7 +186,7 @@ loop_start text rs p args ss is vs nv w u m refs a b = record {
   kept_words = refl;
   spent = omega arith;
   further = omega arith;
-  sixteen = b;
+  long = b;
   placed = placed_kept _ vs nv;
   same = λ ts q st c. (ts, st, (let e : args - 0 ≡ args = omega arith in rw e c), refl);
 }
@@ -212,7 +212,7 @@ module _ (text : List ℕ) (rs : Rows) (p₀ args : ℕ) (ss : List Symbol) (is 
             turn_refused ss t us (drop k is) (variables_of text vs nv) m (take k refs) w u z ∙ sym g
 
     -- an argument is done
-    module _ {made : CompiledTerm} (f : r ≡ Ok made) (kv : length vx ≡ length vs) (kw : length wx ≡ length w) (six : args ≤ 16) where
+    module _ {made : CompiledTerm} (f : r ≡ Ok made) (kv : length vx ≡ length vs) (kw : length wx ≡ length w) where
       small : (p + 1 ≤ made.place.next) × (nv ≤ made.place.variables) × (made.place.variables ≤ 64) × (u ≤ made.place.used) × (made.place.used + 2 * made.place.room + 1 ≤ u + 2 * m)
       small = let y = C.small in rw f at y
 
@@ -223,7 +223,7 @@ module _ (text : List ℕ) (rs : Rows) (p₀ args : ℕ) (ss : List Symbol) (is 
       unfolding Stands size
       loop_turn =
           let x0 = small in
-          let y0 = L.few in let y1 = L.from in let y2 = L.grown in let y3 = L.spent in let y4 = L.sixteen in let y5 = L.further in
+          let y0 = L.few in let y1 = L.from in let y2 = L.grown in let y3 = L.spent in let y4 = L.long in let y5 = L.further in
           let inside : k < length refs = omega arith in
           record {
             few = omega arith;
@@ -234,7 +234,7 @@ module _ (text : List ℕ) (rs : Rows) (p₀ args : ℕ) (ss : List Symbol) (is 
             kept_words = kw ∙ L.kept_words;
             spent = omega arith;
             further = omega arith;
-            sixteen = length-set refs k made.node ∙ y4;
+            long = rw (length-set refs k made.node) y4;
             placed = placed_more rs y1 (omega arith) y2 L.placed placed_argument;
             same = λ ts q st c. let x = L.same ts q st c in go inside ts q x.0 x.1 x.2 x.3;
           }

@@ -29,7 +29,7 @@ pub struct EnteredVariable {
 // Stays: the sort is a column of the symbols' rows, which C callers lend with 0 for none, and goes into a column of the variable's row.
 // Stays: callers may lend a longer table, and an array in its place would ask for exactly 64 rows.
 // Stays: a new variable's row is written just behind the `count` rows in use, which a slice of those alone would not reach.
-pub fn enter(
+fn enter(
     text: &[u8],
     variables: &mut [VariableRow],
     count: usize,
@@ -71,7 +71,7 @@ pub fn enter(
 }
 
 // How far the compiler is: the next row, how many variables there are, how many words are used, and the room for nodes left.
-// Stays: apart from the source, which is read, and from variables and words, which are written: a struct of all would be lent to be written, source and all.
+// Stays: apart from the source, which is read, and from variables and words, which are written: a struct of all would be lent to be written, with the source.
 #[derive(Clone, Copy)]
 pub struct Place {
     pub next: usize,
@@ -330,21 +330,19 @@ fn node(
     })
 }
 
-// The patterns of several judgments from a row on; their references go to `heads`.
+// The patterns of judgments from a row on, as many as `heads` has places for their references.
 pub fn judgments(
     source: SourceTerms,
-    n: usize,
     variables: &mut [VariableRow],
     words: &mut [u32],
     heads: &mut [u32],
     from: Place,
 ) -> Result<Place, Refusal>
-    requires fact_1 { Ready source.symbols.now (length source.symbols.now) variables.old from.variables words.old from.used from.room }
-    requires fact_2 { (n ≤ 16) × (length heads.old ≡ 16) }
-    ensures { Judged source.entry.text.now source.entry.rows.now from.next n (symbols_of source.entry.text.now source.entry.symbols.now (length source.entry.symbols.now)) variables.old from.variables words.old from.used from.room result variables.new words.new heads.new }
+    requires { Ready source.symbols.now (length source.symbols.now) variables.old from.variables words.old from.used from.room }
+    ensures { Judged source.entry.text.now source.entry.rows.now from.next (length heads.old) (symbols_of source.entry.text.now source.entry.symbols.now (length source.entry.symbols.now)) variables.old from.variables words.old from.used from.room result variables.new words.new heads.new }
 {
     let mut place = from;
-    for k in 0..n {
+    for k in 0..heads.len() {
         let made = pattern(source, 0, variables, words, place)?;
         heads[k] = made.node;
         place = made.place;

@@ -94,10 +94,9 @@ fn judgments(
             rows,
             symbols,
         },
-        n,
         variables,
         words,
-        heads,
+        &mut heads[..n],
         from,
     )?;
     let rows = conclusions;
@@ -191,6 +190,7 @@ fn order_sized(rule: RuleTerms) -> MeetingOrder
 }
 
 // Writes the sorts of variables into a row, from column 26 on.
+// Stays: `signature::put_column` promises only the numbers that it writes; here the row's other columns must stand too, so its promise would be a second one.
 fn put_sorts(row: &mut RuleRow, variables: &[VariableRow])
     requires { length variables.now ≤ 64 }
     ensures { (text : List ℕ) → row.new ≡ sets row.old 26 (mathlib.Core.List.map (λ v. v.sort) (variables_of text variables.now (length variables.now))) }

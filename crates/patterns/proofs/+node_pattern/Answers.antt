@@ -1,6 +1,6 @@
 -- `pattern` and `node` meet their contracts. What falls: twice the rows left, and 1 more for `node`. The invariant of `node`'s loop: k arguments are done,
 -- and the rest comes to what the whole comes to.
-use Prim.Native.Nat.{◌+◌, ◌-◌}
+use Prim.Native.Nat.{◌+◌, ◌-◌, ◌≤◌}
 use mathlib.Core.List.{[]}
 use mathlib.Core.Path.{◌≡◌, refl, sym, ap, ◌∙◌}
 use lib.ListN.{length, take}
@@ -44,7 +44,9 @@ pub node-loop-k-init : goal.node-loop-k-init
 node-loop-k-init t c =
     let args = c.args in
     let pre = c.requires in
-    loop_start (args.source.text.now) (args.source.rows.now) (args.from.next) (args.arguments) (symbols_of (args.source.text.now) (args.source.symbols.now) (length args.source.symbols.now)) (inputs_at (args.source.text.now) (args.source.symbols.now) (length args.source.symbols.now) (args.i)) (args.variables.now) (args.from.variables) (args.words.now) (args.from.used) (args.from.room - 1) _ (pre.0.entered) refl
+    let b : args.arguments ≡ column (row_at (args.source.symbols.now) (args.i)) 6 = misfit_args (args.source.text.now) (row_at (args.source.symbols.now) (args.i)) (args.want) (args.arguments) (c.in_ok-misfit.ensures args.source.text.now) in
+    let x = pre.0.inputs (args.i) (pre.1.0) in
+    loop_start (args.source.text.now) (args.source.rows.now) (args.from.next) (args.arguments) (symbols_of (args.source.text.now) (args.source.symbols.now) (length args.source.symbols.now)) (inputs_at (args.source.text.now) (args.source.symbols.now) (length args.source.symbols.now) (args.i)) (args.variables.now) (args.from.variables) (args.words.now) (args.from.used) (args.from.room - 1) _ (pre.0.entered) (let long : args.arguments ≤ 16 = omega arith in long)
 
 pub node-bounds-symbols-k : goal.node-bounds-symbols-k
 node-bounds-symbols-k t c =
@@ -82,7 +84,7 @@ node-bounds-refs-k t c =
     let loop = c.loop-k in
     let b : args.arguments ≡ column (row_at (args.source.symbols.now) (args.i)) 6 = misfit_args (args.source.text.now) (row_at (args.source.symbols.now) (args.i)) (args.want) (args.arguments) (c.in_ok-misfit.ensures args.source.text.now) in
     let x = pre.0.inputs (args.i) (pre.1.0) in
-    omega (arith, loop.invariant.sixteen)
+    omega (arith, loop.invariant.long)
 
 pub node-loop-k-preserved : goal.node-loop-k-preserved
 node-loop-k-preserved t c =
@@ -93,7 +95,7 @@ node-loop-k-preserved t c =
     let pattern = c.pattern in
     let b : args.arguments ≡ column (row_at (args.source.symbols.now) (args.i)) 6 = misfit_args (args.source.text.now) (row_at (args.source.symbols.now) (args.i)) (args.want) (args.arguments) (c.in_ok-misfit.ensures args.source.text.now) in
     let x = pre.0.inputs (args.i) (pre.1.0) in
-    loop_turn (args.source.text.now) (args.source.rows.now) (args.from.next) (args.arguments) (symbols_of (args.source.text.now) (args.source.symbols.now) (length args.source.symbols.now)) (inputs_at (args.source.text.now) (args.source.symbols.now) (length args.source.symbols.now) (args.i)) (args.variables.now) (args.from.variables) (args.words.now) (args.from.used) (args.from.room - 1) (loop.k) (loop.place.next) (loop.variables) (loop.place.variables) (loop.words) (loop.place.used) (loop.place.room) (loop.refs) (loop.invariant) (loop-test.true) (column (row_at (args.source.symbols.now) (args.i)) (8 + loop.k)) (input_at (args.source.text.now) (args.source.symbols.now) (length args.source.symbols.now) (pre.0.lent) (args.i) (pre.1.0) 0 [] 0 (loop.k) (rw b at (loop-test.true))) (pattern.result) _ _ (pattern.ensures) c.in_ok-made.was (pattern.auto.variables) (pattern.auto.words) (omega arith)
+    loop_turn (args.source.text.now) (args.source.rows.now) (args.from.next) (args.arguments) (symbols_of (args.source.text.now) (args.source.symbols.now) (length args.source.symbols.now)) (inputs_at (args.source.text.now) (args.source.symbols.now) (length args.source.symbols.now) (args.i)) (args.variables.now) (args.from.variables) (args.words.now) (args.from.used) (args.from.room - 1) (loop.k) (loop.place.next) (loop.variables) (loop.place.variables) (loop.words) (loop.place.used) (loop.place.room) (loop.refs) (loop.invariant) (loop-test.true) (column (row_at (args.source.symbols.now) (args.i)) (8 + loop.k)) (input_at (args.source.text.now) (args.source.symbols.now) (length args.source.symbols.now) (pre.0.lent) (args.i) (pre.1.0) 0 [] 0 (loop.k) (rw b at (loop-test.true))) (pattern.result) _ _ (pattern.ensures) c.in_ok-made.was (pattern.auto.variables) (pattern.auto.words)
 
 pub node-slice_bounds-refs-end : goal.node-slice_bounds-refs-end
 node-slice_bounds-refs-end t c =
@@ -102,7 +104,7 @@ node-slice_bounds-refs-end t c =
     let loop = c.loop-k in
     let b : args.arguments ≡ column (row_at (args.source.symbols.now) (args.i)) 6 = misfit_args (args.source.text.now) (row_at (args.source.symbols.now) (args.i)) (args.want) (args.arguments) (c.in_ok-misfit.ensures args.source.text.now) in
     let x = pre.0.inputs (args.i) (pre.1.0) in
-    omega (arith, loop.invariant.sixteen)
+    omega (arith, loop.invariant.long)
 
 pub node-slice_bounds-push_node-end : goal.node-slice_bounds-push_node-end
 node-slice_bounds-push_node-end t c =
@@ -111,7 +113,7 @@ node-slice_bounds-push_node-end t c =
     let loop = c.loop-k in
     let b : args.arguments ≡ column (row_at (args.source.symbols.now) (args.i)) 6 = misfit_args (args.source.text.now) (row_at (args.source.symbols.now) (args.i)) (args.want) (args.arguments) (c.in_ok-misfit.ensures args.source.text.now) in
     let x = pre.0.inputs (args.i) (pre.1.0) in
-    let six = loop.invariant.sixteen in
+    let six = loop.invariant.long in
     let n : length (take (args.arguments) (loop.refs)) ≡ args.arguments = length-take-le (args.arguments) (loop.refs) (omega arith) in
     sym n
 
@@ -131,7 +133,7 @@ node-returns t c =
       placed = L.placed;
       same = λ ts q st cn. let d = loop_done (args.source.text.now) (args.source.rows.now) (args.from.next) (args.arguments) (symbols_of (args.source.text.now) (args.source.symbols.now) (length args.source.symbols.now)) (inputs_at (args.source.text.now) (args.source.symbols.now) (length args.source.symbols.now) (args.i)) (args.variables.now) (args.from.variables) (args.words.now) (args.from.used) (args.from.room - 1) (loop.k) (loop.place.next) (loop.variables) (loop.place.variables) (loop.words) (loop.place.used) (loop.place.room) (loop.refs) (loop.invariant) (loop-test.false) ts q st cn in (
         d.0,
-        node_done (pattern_of (symbols_of (args.source.text.now) (args.source.symbols.now) (length args.source.symbols.now)) ts (inputs_at (args.source.text.now) (args.source.symbols.now) (length args.source.symbols.now) (args.i)) (variables_of (args.source.text.now) (args.variables.now) (args.from.variables)) (args.from.room - 1)) (args.i) (args.words.now) (args.from.used) (loop.refs) (args.arguments) (loop.words) (loop.place.used) _ (loop.place.room) _ (omega (arith, L.sixteen)) (push-node.ensures) d.1
+        node_done (pattern_of (symbols_of (args.source.text.now) (args.source.symbols.now) (length args.source.symbols.now)) ts (inputs_at (args.source.text.now) (args.source.symbols.now) (length args.source.symbols.now) (args.i)) (variables_of (args.source.text.now) (args.variables.now) (args.from.variables)) (args.from.room - 1)) (args.i) (args.words.now) (args.from.used) (loop.refs) (args.arguments) (loop.words) (loop.place.used) _ (loop.place.room) _ (omega (arith, L.long)) (push-node.ensures) d.1
             ∙ ap (λ (x : Out one). stored [] x (args.words.now) (args.from.used)) (sym (node_open (args.source.text.now) (args.source.symbols.now) (length args.source.symbols.now) (pre.0.lent) (args.i) (pre.1.0) (args.want) (variables_of (args.source.text.now) (args.variables.now) (args.from.variables)) (args.from.room) (c.in_ok-misfit.ensures args.source.text.now) refl ts cn (omega (arith, if2.false)))),
       );
     }

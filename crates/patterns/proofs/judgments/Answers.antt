@@ -11,7 +11,7 @@ pub loop-k-init : goal.loop-k-init
 loop-k-init c =
     let args = c.args in
     let pre = c.requires in
-    loop_start (args.source.text.now) (args.source.rows.now) (args.from.next) (args.n) (symbols_of (args.source.text.now) (args.source.symbols.now) (length args.source.symbols.now)) [] (args.variables.now) (args.from.variables) (args.words.now) (args.from.used) (args.from.room) (args.heads.now) (pre.fact_1.entered) (pre.fact_2.1)
+    loop_start (args.source.text.now) (args.source.rows.now) (args.from.next) (length args.heads.now) (symbols_of (args.source.text.now) (args.source.symbols.now) (length args.source.symbols.now)) [] (args.variables.now) (args.from.variables) (args.words.now) (args.from.used) (args.from.room) (args.heads.now) (pre.entered) (omega arith)
 
 pub returns-in_err-made : goal.returns-in_err-made
 returns-in_err-made c =
@@ -22,7 +22,7 @@ returns-in_err-made c =
     rw (handed_on c.from_residual.result c.from_residual.ensures.1)
     (record {
       small = tt;
-      same = λ ts q st cn. (tt, loop_refused (args.source.text.now) (args.source.rows.now) (args.from.next) (args.n) (symbols_of (args.source.text.now) (args.source.symbols.now) (length args.source.symbols.now)) [] (args.variables.now) (args.from.variables) (args.words.now) (args.from.used) (args.from.room) (loop.k) (loop.place.next) (loop.variables) (loop.place.variables) (loop.words) (loop.place.used) (loop.place.room) (loop.heads) (loop.invariant) (loop-test.true) 0 (nothing_asked (loop.k)) (pattern.result) _ _ (pattern.ensures) c.in_err-made.was ts q st cn);
+      same = λ ts q st cn. (tt, loop_refused (args.source.text.now) (args.source.rows.now) (args.from.next) (length args.heads.now) (symbols_of (args.source.text.now) (args.source.symbols.now) (length args.source.symbols.now)) [] (args.variables.now) (args.from.variables) (args.words.now) (args.from.used) (args.from.room) (loop.k) (loop.place.next) (loop.variables) (loop.place.variables) (loop.words) (loop.place.used) (loop.place.room) (loop.heads) (loop.invariant) (loop-test.true) 0 (nothing_asked (loop.k)) (pattern.result) _ _ (pattern.ensures) c.in_err-made.was ts q st cn);
     })
 
 pub loop-k-preserved : goal.loop-k-preserved
@@ -31,8 +31,7 @@ loop-k-preserved c =
     let loop = c.loop-k in
     let loop-test = c.loop-k-test in
     let pattern = c.pattern in
-    let pre = c.requires in
-    loop_turn (args.source.text.now) (args.source.rows.now) (args.from.next) (args.n) (symbols_of (args.source.text.now) (args.source.symbols.now) (length args.source.symbols.now)) [] (args.variables.now) (args.from.variables) (args.words.now) (args.from.used) (args.from.room) (loop.k) (loop.place.next) (loop.variables) (loop.place.variables) (loop.words) (loop.place.used) (loop.place.room) (loop.heads) (loop.invariant) (loop-test.true) 0 (nothing_asked (loop.k)) (pattern.result) _ _ (pattern.ensures) c.in_ok-made.was (pattern.auto.variables) (pattern.auto.words) (pre.fact_2.0)
+    loop_turn (args.source.text.now) (args.source.rows.now) (args.from.next) (length args.heads.now) (symbols_of (args.source.text.now) (args.source.symbols.now) (length args.source.symbols.now)) [] (args.variables.now) (args.from.variables) (args.words.now) (args.from.used) (args.from.room) (loop.k) (loop.place.next) (loop.variables) (loop.place.variables) (loop.words) (loop.place.used) (loop.place.room) (loop.heads) (loop.invariant) (loop-test.true) 0 (nothing_asked (loop.k)) (pattern.result) _ _ (pattern.ensures) c.in_ok-made.was (pattern.auto.variables) (pattern.auto.words)
 
 pub returns : goal.returns
 returns c =
@@ -42,5 +41,5 @@ returns c =
     let L = loop.invariant in
     record {
       small = (L.from, L.grown, L.bound, L.further, omega arith);
-      same = λ ts q st cn. loop_done (args.source.text.now) (args.source.rows.now) (args.from.next) (args.n) (symbols_of (args.source.text.now) (args.source.symbols.now) (length args.source.symbols.now)) [] (args.variables.now) (args.from.variables) (args.words.now) (args.from.used) (args.from.room) (loop.k) (loop.place.next) (loop.variables) (loop.place.variables) (loop.words) (loop.place.used) (loop.place.room) (loop.heads) (loop.invariant) (loop-test.false) ts q st cn;
+      same = λ ts q st cn. loop_done (args.source.text.now) (args.source.rows.now) (args.from.next) (length args.heads.now) (symbols_of (args.source.text.now) (args.source.symbols.now) (length args.source.symbols.now)) [] (args.variables.now) (args.from.variables) (args.words.now) (args.from.used) (args.from.room) (loop.k) (loop.place.next) (loop.variables) (loop.place.variables) (loop.words) (loop.place.used) (loop.place.room) (loop.heads) (loop.invariant) (loop-test.false) ts q st cn;
     }
