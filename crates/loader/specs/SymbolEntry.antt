@@ -1,4 +1,5 @@
--- A symbol entered by its arrow (document 01, "Terms and declarations"): a constructor's last sort is its output; a predicate and a function have all sorts as inputs.
+-- A symbol entered by its arrow (document 01, "Terms and declarations"): a constructor's last sort is its output; a predicate and a function have all
+-- sorts as inputs.
 use Rattle.std.specs.Prelude.{ℕ, ◌≡◌, Bool, true, false, Result, List, length, set}
 use Rattle.names.specs.Names.{Name}
 use Rattle.source_text.specs.Parts.{part_of}
