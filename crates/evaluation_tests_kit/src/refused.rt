@@ -13,10 +13,7 @@ use signature_tests::buffers;
 fn is_refused<T: Copy>(answer: Result<T, Refusal>) -> bool
     ensures { result ≡ is_refused answer }
 {
-    match answer {
-        Ok(_) => false,
-        Err(refusal) => refusal == Refusal::Storage,
-    }
+    matches!(answer, Err(Refusal::Storage))
 }
 
 // Tests that an evaluation is refused by 1, and that the buffers are as they were.
@@ -35,7 +32,7 @@ fn test_forward(signature: StoredSignature, term: WrittenTerm, claim: &[u8]) {
 }
 
 // Lends each buffer one too short: a word, a link and a row of trees less than is asked.
-// Stays: tried with `&mut Buffers`: a part of one of its slices would be lent beside the two others, and no generated proof covers that.
+// Stays: tried with one `Buffers`: the checker makes no proof for lending part of one field while another field is used.
 pub fn test_short(query: Query, words: &mut [u32], links: &mut [u32], trees: &mut [TreeRow]) {
     if let Some(last) = words.len().checked_sub(1) {
         let mut short = Buffers {
@@ -68,7 +65,7 @@ fn damaged(signature: StoredSignature) -> StoredSignature {
     let counts = signature.counts;
     StoredSignature {
         counts: Counts {
-            words: std::num::wrapping_sub_u32(counts.words, 1),
+            words: counts.words.wrapping_sub(1),
             ..counts
         },
         ..signature

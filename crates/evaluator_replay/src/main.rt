@@ -9,31 +9,16 @@ use evaluation_listing_kit::StoredTerms;
 use evaluation_tests_kit::lent::{self, Query};
 use evaluation_tests_kit::refused;
 use evaluator::{Buffers, Evaluation, WrittenTerm};
-use listing::recorded;
+use listing::recorded::{self, Recorded};
+use listing::{write, write_number};
 use load::{EvalRow, LentBuffers};
 use names::TermRow;
 use refusals::Refusal;
 use signature::StoredSignature;
-use signature_tests::buffers;
 use words::Limits;
-
-// Standard output.
-const STDOUT_FILENO: i32 = 1;
 
 // What is lent is exactly enough for this limit on words.
 const WORDS: u32 = 65536;
-
-// The words that are lent behind those of the limit.
-const SCRATCH: usize = 2049;
-
-// Stays: `write!` writes to a writer of std, which needs the handle that std's `main` is given.
-fn write(bytes: &[u8]) {
-    io::write_all(STDOUT_FILENO, bytes);
-}
-
-fn write_number(number: u32) {
-    io::print_decimal(STDOUT_FILENO, number as u64);
-}
 
 // A loaded text: its signature, the rows of its terms, its `#eval`, and the limits to evaluate them under.
 #[derive(Clone, Copy)]
@@ -73,12 +58,7 @@ fn list_evaluation(loaded: LoadedText, answer: Result<Evaluation, Refusal>, stor
             write(b"refused ");
             write_number(u32::from(refusal));
             write(b"\n");
-            let value = if refusal == Refusal::Storage {
-                buffers::JUNK
-            } else {
-                0
-            };
-            lent::test(storage, 0, 0, value);
+            lent::test(storage, 0, 0, recorded::value_after(refusal));
         }
         Ok(evaluation) => {
             list_value(loaded, evaluation, storage);
@@ -110,7 +90,7 @@ fn term_at(loaded: LoadedText, at: usize) -> WrittenTerm {
 }
 
 // Is a term evaluated? A goal is listed as such.
-fn is_call(signature: StoredSignature, term: WrittenTerm) -> bool {
+fn is_evaluated(signature: StoredSignature, term: WrittenTerm) -> bool {
     match evaluator::is_forward_call(signature, term) {
         Ok(true) => true,
         Ok(false) => {
@@ -132,7 +112,7 @@ fn list_eval(loaded: LoadedText, eval: EvalRow, storage: &mut Buffers) {
         term: term_at(loaded, term_row(eval)),
         limits: loaded.limits,
     };
-    if !is_call(query.signature, query.term) {
+    if !is_evaluated(query.signature, query.term) {
         return;
     }
     let answer = lent::evaluate(query, storage);
@@ -156,7 +136,7 @@ fn test_refused(loaded: LoadedText, storage: &mut Buffers) {
     refused::test_unlisted(query, storage);
 }
 
-// Lists each `#eval` of a loaded text, with so much lent for the results as the limits ask.
+// Lists each `#eval` of a loaded text, and tests calls that must be refused.
 fn list_lent(loaded: LoadedText, storage: &mut Buffers) {
     for eval in loaded.evals {
         list_eval(loaded, *eval, storage);
@@ -165,30 +145,24 @@ fn list_lent(loaded: LoadedText, storage: &mut Buffers) {
 }
 
 // For how many words there is room under a limit.
-fn most_words(limits: Limits) -> usize
+fn most_words(limits: Limits) -> u32
     ensures { result ≤ 65536 }
 {
-    u32::min(limits.words, WORDS) as usize
+    u32::min(limits.words, WORDS)
 }
 
-// For how many rows of trees there is room under so many words: one for two words, and 128 more, but no more than there are calls.
-fn most_rows(words: usize) -> usize
-    ensures { result ≤ 10000 }
-{
-    usize::min(words / 2 + 128, 10000)
-}
-
-// Lends the buffers for the results.
+// Lists a loaded text, with so much lent for the results as the limits ask.
 fn list_loaded(loaded: LoadedText) {
     let mut words = [0u32; 67585];
     let mut links = [0u32; 65536];
     let mut trees = [[0u32; 8]; 10000];
     let most = most_words(loaded.limits);
-    let end = most + SCRATCH;
-    let calls = most_rows(most);
+    let links_end = most as usize;
+    let words_end = links_end + evaluator::SCRATCH;
+    let calls = evaluator::tree_rows(most);
     let mut storage = Buffers {
-        words: &mut words[..end],
-        links: &mut links[..most],
+        words: &mut words[..words_end],
+        links: &mut links[..links_end],
         trees: &mut trees[..calls],
     };
     list_lent(loaded, &mut storage);
@@ -236,33 +210,23 @@ fn list_text(text: &[u8], limits: Limits) {
     }
 }
 
-// A text of the list: where it stands, the limits to load and evaluate it under, and the place of the next one's line.
-#[derive(Clone, Copy)]
-struct Text {
-    start: usize,
-    size: usize,
-    limits: Limits,
-    next: usize,
-}
-
 // The text whose line is at a place. The line's third number limits the nodes, its fourth the words.
-fn read(list: &[u8], at: usize) -> Text
+fn read(list: &[u8], at: usize) -> Recorded
     requires { at < 2 ^ 61 }
     ensures { (at < result.next) × (result.next ≤ at + 3000000) }
 {
     let text = recorded::read(list, at);
     let words = recorded::read_decimal(list, text.start);
     let start = words.next;
-    let size = text.length;
-    Text {
+    let limits = Limits {
+        words: words.value,
+        ..text.node_limits()
+    };
+    Recorded {
         start,
-        size,
-        limits: Limits {
-            nodes: text.rows.min(65536) as u32,
-            words: words.value,
-            ..text.limits
-        },
-        next: start + size + 1,
+        limits,
+        next: start + text.length + 1,
+        ..text
     }
 }
 
@@ -272,7 +236,7 @@ fn replay_one(list: &[u8], at: usize) -> usize
     ensures { (at < result) × (result ≤ at + 3000000) }
 {
     let text = read(list, at);
-    list_text(words::word(list, text.start, text.size), text.limits);
+    list_text(words::word(list, text.start, text.length), text.limits);
     text.next
 }
 

@@ -1,2 +1,0 @@
--- What the proofs of `evaluation_tests_kit` cite.
-pub mod Laws
