@@ -47,7 +47,7 @@ pub fn find_clause(
     ensures { Chosen clauses.entry.rules.now clauses.entry.pattern.now clauses.entry.from clauses.entry.end arguments.now
         values.entry.words.now values.entry.used environment.old links.old result environment.new links.new }
 {
-    // Stays: docs/DECISIONS.md, "Forms", asks for an outer loop over clauses with a label, by which the inner one goes on where a pattern does not fit.
+    // Stays: fitting writes the environment that the caller needs, so that a closure for `find` would be one that writes, with a contract of what it wrote.
     'clauses: for i in clauses.from..clauses.end {
         let Pattern::Node { header: _, first } = pattern_at(clauses.pattern, clauses.rules[i][5])
         else {

@@ -80,7 +80,7 @@ pub fn compile(
 }
 
 // Writes the rows of a goal's new names, with variables from `counter` on.
-// Stays: tried with a `zip` as at `copy_names`, which did not close either.
+// Stays: as at `copy_names`, nothing would be known of what is written behind a `zip`.
 fn enter_names(variables: &[VariableRow], names: &mut [NameRow], counter: u32)
     requires { (length variables.now ≤ 64) × (length variables.now ≤ length names.old) × (counter + length variables.now ≤ term_room) }
     ensures { (i : ℕ) → i < length variables.now → row_at names.new i ≡ name_row (row_at variables.now i) (counter + i) }

@@ -6,11 +6,9 @@ ghost use Rattle.names.specs.Symbols.{symbols_of};
 ghost use Rattle.rules.specs.PatternLaws.{arities_of};
 
 use arena::Terms;
+use loader::SYMBOLS;
 use names::SymbolRow;
 use signature::ARITY;
-
-// How many symbols there may be.
-const SYMBOLS: usize = 1024;
 
 // Are the words in use nodes of these symbols, with arguments that there are? A text gives the symbols names, which do not matter here.
 pub fn are_words_formed(symbols: &[SymbolRow], terms: Terms) -> bool
