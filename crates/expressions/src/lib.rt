@@ -8,4 +8,7 @@ mod numerals; // numerals as values
 mod applying; // a symbol on values
 mod written; // written terms
 
+pub use applying::apply;
+pub use nodes::{build, sort_of};
+pub use numerals::numeral;
 pub use written::{Expressed, expression};

@@ -17,7 +17,7 @@ pub struct WrittenTerm<'a> {
 }
 
 // Whether a term has no metavariable: its rows stand in preorder, so one pass over them sees every part.
-fn is_ground(term: WrittenTerm) -> bool
+pub fn is_ground(term: WrittenTerm) -> bool
     requires { GroundAsked term.text.now term.rows.now term.at }
     ensures { GroundAnswered term.entry.text.now term.entry.rows.now term.entry.at result }
 {

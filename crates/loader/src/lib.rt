@@ -90,7 +90,7 @@ pub fn enter_sort(
 
 // May a symbol with k inputs be entered by a name?
 // Stays: k is how many inputs the symbol has, not how many bytes of the word are meant.
-fn check_symbol(known: Known, word: &[u8], k: usize) -> Result<(), Refusal>
+pub fn check_symbol(known: Known, word: &[u8], k: usize) -> Result<(), Refusal>
     ensures { RefusedFor (symbol_refusal (sorts_known known.entry) (symbols_known known.entry) word.now k) result }
 {
     if is_taken(known, word) {
@@ -109,16 +109,16 @@ fn check_symbol(known: Known, word: &[u8], k: usize) -> Result<(), Refusal>
 // A symbol but for its inputs: where its name stands, its output, its function mark, and its clauses.
 // Stays: these are the numbers of the row that C callers lend, where 0 stands for no output and for no first clause.
 #[derive(Clone, Copy)]
-struct SymbolHead {
-    word: Word,
-    output: u32,
-    function: u32,
-    first: u32,
-    clauses: u32,
+pub struct SymbolHead {
+    pub word: Word,
+    pub output: u32,
+    pub function: u32,
+    pub first: u32,
+    pub clauses: u32,
 }
 
 // Writes a symbol into its row.
-fn put_symbol(row: &mut SymbolRow, symbol: SymbolHead, inputs: &[u32])
+pub fn put_symbol(row: &mut SymbolRow, symbol: SymbolHead, inputs: &[u32])
     requires { length inputs.now ≤ 16 }
     ensures { row.new ≡ symbol_row symbol.word.start symbol.word.size symbol.output symbol.function symbol.first symbol.clauses (length inputs.now) inputs.now }
 {
@@ -140,7 +140,7 @@ fn put_symbol(row: &mut SymbolRow, symbol: SymbolHead, inputs: &[u32])
 // Looks up the sorts whose names stand in the rows of a part; the numbers of the first 16 go to `inputs`, and that of the last is answered, if all are
 // known: 0 of a part with no sorts.
 // Stays: only predicates have no sorts, and their row holds 0 as the output; an option of an option would be turned into that at once.
-fn find_arrow(part: Part, sorts: &[SortRow], inputs: &mut [u32]) -> Option<u32>
+pub fn find_arrow(part: Part, sorts: &[SortRow], inputs: &mut [u32]) -> Option<u32>
     requires { (length sorts.now ≤ 256) × (part.source.at + part.k ≤ length part.source.rows.now) × (length part.source.rows.now ≤ 65536) × (length inputs.old ≡ 16) }
     ensures { Arrowing (numbers_of (sorts_of part.entry.source.text.now sorts.now (length sorts.now)) (names_at part.entry.source.text.now part.entry.source.rows.now part.entry.source.at part.entry.k)) result inputs.new part.entry.k }
 {

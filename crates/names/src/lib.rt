@@ -109,7 +109,7 @@ fn is_result(word: Word, w: &[u8]) -> bool
 }
 
 // Is the name at a place w?
-fn is_named(text: &[u8], kind: u32, word: Word, w: &[u8]) -> bool
+pub fn is_named(text: &[u8], kind: u32, word: Word, w: &[u8]) -> bool
     ensures { result ≡ same_bytes (name_of text.now kind word.start word.size) w.now }
 {
     if kind == RESULT {

@@ -29,7 +29,7 @@ pub struct EnteredVariable {
 // Stays: the sort is a column of the symbols' rows, which C callers lend with 0 for none, and goes into a column of the variable's row.
 // Stays: callers may lend a longer table, and an array in its place would ask for exactly 64 rows.
 // Stays: a new variable's row is written just behind the `count` rows in use, which a slice of those alone would not reach.
-fn enter(
+pub fn enter(
     text: &[u8],
     variables: &mut [VariableRow],
     count: usize,

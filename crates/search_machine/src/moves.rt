@@ -37,7 +37,7 @@ impl Machine {
     }
 
     // On at a place.
-    pub(crate) fn at_place(self, parent: u32, place: u32, steps: u32) -> Machine
+    pub fn at_place(self, parent: u32, place: u32, steps: u32) -> Machine
         ensures { result ≡ to_place self parent place steps }
     {
         Machine {
@@ -50,7 +50,7 @@ impl Machine {
     }
 
     // The place failed.
-    pub(crate) fn at_fail(self, steps: u32, cut: bool) -> Machine
+    pub fn at_fail(self, steps: u32, cut: bool) -> Machine
         ensures { result ≡ to_fail self steps cut }
     {
         Machine {
@@ -62,7 +62,7 @@ impl Machine {
     }
 
     // Stopped.
-    pub(crate) fn at_stop(self, mode: Mode, steps: u32) -> Machine
+    pub fn at_stop(self, mode: Mode, steps: u32) -> Machine
         ensures { result ≡ to_stop self mode steps }
     {
         Machine {
@@ -73,7 +73,7 @@ impl Machine {
     }
 
     // On with a goal, from the first rule on.
-    pub(crate) fn at_goal(self, goal: u32, depth: u32, steps: u32) -> Machine
+    pub fn at_goal(self, goal: u32, depth: u32, steps: u32) -> Machine
         ensures { result ≡ to_goal self goal depth steps }
     {
         Machine {
@@ -88,7 +88,7 @@ impl Machine {
 
     // The same goal with a rule, from a counter on; words were written below a number.
     // Stays: it sets other fields than `at_place`, so one function of both would take them all and say at no call which move it is.
-    pub(crate) fn at_rule(self, rule: u32, counter: u32, top: u32) -> Machine
+    pub fn at_rule(self, rule: u32, counter: u32, top: u32) -> Machine
         ensures { result ≡ to_rule self rule counter top }
     {
         Machine {
@@ -101,7 +101,7 @@ impl Machine {
     }
 
     // Into an application: its premises are next; rows were written below a number.
-    pub(crate) fn at_body(self, counter: u32, bound: u32, used: u32, high: u32) -> Machine
+    pub fn at_body(self, counter: u32, bound: u32, used: u32, high: u32) -> Machine
         requires { self.frames < 4294967295 }
         ensures { result ≡ to_body self counter bound used high }
     {
@@ -119,7 +119,7 @@ impl Machine {
     }
 
     // Back to the goal of an application, with the rule behind its own.
-    pub(crate) fn at_retry(self, x: Frame) -> Machine
+    pub fn at_retry(self, x: Frame) -> Machine
         requires { (x.rule < 1024) × (0 < self.frames) }
         ensures { result ≡ to_retry self x }
     {
@@ -138,7 +138,7 @@ impl Machine {
     }
 
     // Where an attempt with the next rule starts.
-    pub(crate) fn state(self, limits: SearchLimits) -> SearchState
+    pub fn state(self, limits: SearchLimits) -> SearchState
         ensures { result ≡ state_for self limits }
     {
         SearchState {
@@ -151,7 +151,7 @@ impl Machine {
     }
 
     // The frame of an application that is entered.
-    pub(crate) fn frame(self) -> Frame
+    pub fn frame(self) -> Frame
         ensures { result ≡ frame_for self }
     {
         Frame {
