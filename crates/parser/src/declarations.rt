@@ -36,10 +36,7 @@ impl Repeated for Clause {
         if peek(input.tokens, from.at).kind != BAR {
             return Ok(None);
         }
-        let behind = Position {
-            at: from.at + 1,
-            used: from.used + 1,
-        };
+        let behind = from.past_row();
         let list = patterns(input, behind, out)?;
         let arrow = sign(input, DOUBLE_ARROW, list.position)?;
         let body = app(input, arrow.position, PARENTHESES, out)?;
@@ -62,10 +59,7 @@ impl Repeated for Binders {
         if peek(input.tokens, from.at).kind != OPEN {
             return Ok(None);
         }
-        let behind = Position {
-            at: from.at + 1,
-            used: from.used + 1,
-        };
+        let behind = from.past_row();
         let bound = names(input, behind, out)?;
         let colon = sign(input, COLON, bound.position)?;
         let t = peek(input.tokens, colon.position.at);
@@ -122,10 +116,7 @@ pub fn sort(
     requires fact_2 { from.at < length input.tokens.now }
     ensures { Declares (declaration_rows line) (λ _. sort_of) input.entry from out.old (step result) out.new }
 {
-    let behind = Position {
-        at: from.at + 1,
-        used: from.used + 1,
-    };
+    let behind = from.past_row();
     let n = name(input, behind, out)?;
     out[from.used] = [SORT, line, 0, 0];
     Ok(Read { count: 1, ..n })
@@ -145,10 +136,7 @@ pub fn titled<I: Item>(
     ensures { Declares (titled_rows I.rows kind line) (λ text last. titled_of last (separated I.SIGN (I.grammar text last)))
         input.entry from out.old (step result) out.new }
 {
-    let behind = Position {
-        at: from.at + 1,
-        used: from.used + 1,
-    };
+    let behind = from.past_row();
     let n = title(input, behind, out)?;
     let items = list::<I>(input, n.position, out)?;
     out[from.used] = [kind, line, items.count, 0];
@@ -188,10 +176,7 @@ pub fn pred(
     requires fact_2 { from.at < length input.tokens.now }
     ensures { Declares (declaration_rows line) pred_of input.entry from out.old (step result) out.new }
 {
-    let behind = Position {
-        at: from.at + 1,
-        used: from.used + 1,
-    };
+    let behind = from.past_row();
     let n = title(input, behind, out)?;
     let sorts = arrows(input, n.position, out)?;
     let last = sorts.position.used - 1;
@@ -229,10 +214,7 @@ pub fn def(input: Input, from: Position, out: &mut [[u32; 4]], line: u32) -> Res
     requires fact_2 { from.at < length input.tokens.now }
     ensures { Declares (declaration_rows line) def_of input.entry from out.old (step result) out.new }
 {
-    let behind = Position {
-        at: from.at + 1,
-        used: from.used + 1,
-    };
+    let behind = from.past_row();
     let n = title(input, behind, out)?;
     let sorts = arrows(input, n.position, out)?;
     let clauses = all::<Clause>(input, sorts.position, out)?;
@@ -262,10 +244,7 @@ pub fn theorem(
     requires fact_2 { from.at < length input.tokens.now }
     ensures { Declares (declaration_rows line) theorem_of input.entry from out.old (step result) out.new }
 {
-    let behind = Position {
-        at: from.at + 1,
-        used: from.used + 1,
-    };
+    let behind = from.past_row();
     let n = name(input, behind, out)?;
     let bound = all::<Binders>(input, n.position, out)?;
     let colon = sign(input, COLON, bound.position)?;
@@ -292,10 +271,7 @@ pub fn asked(
     requires kinds { (token.kind ≡ EVAL) ⊎ (token.kind ≡ CHECK) }
     ensures { Declares (declaration_rows token.line) (λ text last. asked_of text last token.kind) input.entry from out.old (step result) out.new }
 {
-    let behind = Position {
-        at: from.at + 1,
-        used: from.used + 1,
-    };
+    let behind = from.past_row();
     let t = term(input, behind, PARENTHESES, out)?;
     out[from.used] = [token.kind, token.line, 0, 0];
     Ok(Read { count: 1, ..t })

@@ -4,7 +4,7 @@
 // What comes in lists is an item of a kind, which says how it is read.
 #![tactic(auto)]
 
-ghost use Rattle.std.specs.Prelude.{◌≡◌, [], ◌∷◌};
+ghost use Rattle.std.specs.Prelude.{◌≡◌, [], ◌∷◌, ◌+◌, ◌<◌};
 ghost use Rattle.term_parser.specs.Parsing.{token_of};
 
 pub mod tokens; // reading tokens and writing rows
@@ -55,6 +55,19 @@ pub struct Input<'a> {
 pub struct Position {
     pub at: usize,
     pub used: usize,
+}
+
+impl Position {
+    // The place behind a token that is taken and a row that is written.
+    pub fn past_row(self) -> Position
+        requires { (self.used < 65536) × (self.at < 65536) }
+        ensures { result ≡ record { at = self.at + 1; used = self.used + 1 } }
+    {
+        Position {
+            at: self.at + 1,
+            used: self.used + 1,
+        }
+    }
 }
 
 // Where a reader came to, and how many items it read.

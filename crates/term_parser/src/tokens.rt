@@ -60,10 +60,7 @@ pub fn push(out: &mut [[u32; 4]], from: Position, row: [u32; 4]) -> Read
 {
     out[from.used] = row;
     Read {
-        position: Position {
-            at: from.at + 1,
-            used: from.used + 1,
-        },
+        position: from.past_row(),
         count: 1,
     }
 }

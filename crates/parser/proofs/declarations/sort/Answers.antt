@@ -17,11 +17,11 @@ returns-in_err-n c =
     let args = c.args in
     let pre = c.requires in
     let name = c.name in
-    rw (exits _ _ c.in_err-n.was c.from_residual.ensures.1) (part_stopped (start (declaration_rows args.line) pre.fact_1 pre.fact_2 (plus 1 (sort_of (last_line args.input.tokens.now) (drop (args.from.at + 1) args.input.tokens.now))) (sort_of (last_line args.input.tokens.now) (drop (args.from.at + 1) args.input.tokens.now)) refl) (λ n us. parsed (sort n) 0) refl name.ensures (stopped_err _ c.in_err-n.was) (firm_name (last_line args.input.tokens.now) (drop (args.from.at + 1) args.input.tokens.now)))
+    rw (exits _ _ c.in_err-n.was c.from_residual.ensures.1) (part_stopped (start (declaration_rows args.line) pre.fact_1 pre.fact_2 (plus 1 (sort_of (last_line args.input.tokens.now) (drop (args.from.at + 1) args.input.tokens.now))) (sort_of (last_line args.input.tokens.now) (drop (args.from.at + 1) args.input.tokens.now)) refl) (λ n us. parsed (sort n) 0) refl (rw c.past_row-behind.ensures at name.ensures) (stopped_err _ c.in_err-n.was) (firm_name (last_line args.input.tokens.now) (drop (args.from.at + 1) args.input.tokens.now)))
 
 pub returns : goal.returns
 returns c =
     let args = c.args in
     let pre = c.requires in
     let name = c.name in
-    finish (part (start (declaration_rows args.line) pre.fact_1 pre.fact_2 (plus 1 (sort_of (last_line args.input.tokens.now) (drop (args.from.at + 1) args.input.tokens.now))) (sort_of (last_line args.input.tokens.now) (drop (args.from.at + 1) args.input.tokens.now)) refl) (λ n us. parsed (sort n) 0) refl name.ensures (ap step c.in_ok-n.was) name.auto.out) pre.fact_1 refl refl refl
+    finish (part (start (declaration_rows args.line) pre.fact_1 pre.fact_2 (plus 1 (sort_of (last_line args.input.tokens.now) (drop (args.from.at + 1) args.input.tokens.now))) (sort_of (last_line args.input.tokens.now) (drop (args.from.at + 1) args.input.tokens.now)) refl) (λ n us. parsed (sort n) 0) refl (rw c.past_row-behind.ensures at name.ensures) (ap step c.in_ok-n.was) name.auto.out) pre.fact_1 refl refl refl

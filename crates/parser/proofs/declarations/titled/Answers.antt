@@ -22,20 +22,20 @@ abbrev of : {A : Type 0} → (A → Rows) → ℕ → (item : Tokens → Parsed 
 of rows sign item firm = record { rows = rows; sign = sign; item = item; firm = firm }
 
 pub returns-in_err-n : goal.returns-in_err-n
-returns-in_err-n g c = rw (exits _ _ c.in_err-n.was c.from_residual.ensures.1) (title_stops (titled_rows g.I.Item.rows c.args.kind c.args.line) (of g.I.Item.rows g.I.Item.SIGN (g.I.Item.grammar c.args.input.text.now (last_line c.args.input.tokens.now)) (g.met.I.Item.firm c.args.input.text.now (last_line c.args.input.tokens.now))) c.args.input.tokens.now c.requires.fact_1 c.requires.fact_2 titled c.title.ensures (stopped_err _ c.in_err-n.was))
+returns-in_err-n g c = rw (exits _ _ c.in_err-n.was c.from_residual.ensures.1) (title_stops (titled_rows g.I.Item.rows c.args.kind c.args.line) (of g.I.Item.rows g.I.Item.SIGN (g.I.Item.grammar c.args.input.text.now (last_line c.args.input.tokens.now)) (g.met.I.Item.firm c.args.input.text.now (last_line c.args.input.tokens.now))) c.args.input.tokens.now c.requires.fact_1 c.requires.fact_2 titled (rw c.past_row-behind.ensures at c.title.ensures) (stopped_err _ c.in_err-n.was))
 
 pub list-requires : goal.list-requires
-list-requires g c = room_along (after_title (titled_rows g.I.Item.rows c.args.kind c.args.line) (of g.I.Item.rows g.I.Item.SIGN (g.I.Item.grammar c.args.input.text.now (last_line c.args.input.tokens.now)) (g.met.I.Item.firm c.args.input.text.now (last_line c.args.input.tokens.now))) c.args.input.tokens.now c.requires.fact_1 c.requires.fact_2 titled c.title.ensures (ap step c.in_ok-n.was) c.title.auto.out) c.requires.fact_1
+list-requires g c = room_along (after_title (titled_rows g.I.Item.rows c.args.kind c.args.line) (of g.I.Item.rows g.I.Item.SIGN (g.I.Item.grammar c.args.input.text.now (last_line c.args.input.tokens.now)) (g.met.I.Item.firm c.args.input.text.now (last_line c.args.input.tokens.now))) c.args.input.tokens.now c.requires.fact_1 c.requires.fact_2 titled (rw c.past_row-behind.ensures at c.title.ensures) (ap step c.in_ok-n.was) c.title.auto.out) c.requires.fact_1
 
 pub returns-in_err-items : goal.returns-in_err-items
-returns-in_err-items g c = rw (exits _ _ c.in_err-items.was c.from_residual-in_err-items.ensures.1) (items_stop (titled_rows g.I.Item.rows c.args.kind c.args.line) (of g.I.Item.rows g.I.Item.SIGN (g.I.Item.grammar c.args.input.text.now (last_line c.args.input.tokens.now)) (g.met.I.Item.firm c.args.input.text.now (last_line c.args.input.tokens.now))) c.args.input.tokens.now c.requires.fact_1 c.requires.fact_2 titled c.title.ensures (ap step c.in_ok-n.was) c.title.auto.out c.list.ensures (stopped_err _ c.in_err-items.was))
+returns-in_err-items g c = rw (exits _ _ c.in_err-items.was c.from_residual-in_err-items.ensures.1) (items_stop (titled_rows g.I.Item.rows c.args.kind c.args.line) (of g.I.Item.rows g.I.Item.SIGN (g.I.Item.grammar c.args.input.text.now (last_line c.args.input.tokens.now)) (g.met.I.Item.firm c.args.input.text.now (last_line c.args.input.tokens.now))) c.args.input.tokens.now c.requires.fact_1 c.requires.fact_2 titled (rw c.past_row-behind.ensures at c.title.ensures) (ap step c.in_ok-n.was) c.title.auto.out c.list.ensures (stopped_err _ c.in_err-items.was))
 
 pub bounds-out-from : goal.bounds-out-from
-bounds-out-from g c = let a = after_items (titled_rows g.I.Item.rows c.args.kind c.args.line) (of g.I.Item.rows g.I.Item.SIGN (g.I.Item.grammar c.args.input.text.now (last_line c.args.input.tokens.now)) (g.met.I.Item.firm c.args.input.text.now (last_line c.args.input.tokens.now))) c.args.input.tokens.now c.requires.fact_1 c.requires.fact_2 titled c.title.ensures (ap step c.in_ok-n.was) c.title.auto.out c.list.ensures (ap step c.in_ok-items.was) c.list.auto.out in omega (arith, c.requires.fact_1.lent, c.requires.fact_1.below, c.requires.fact_2, a.long)
+bounds-out-from g c = let a = after_items (titled_rows g.I.Item.rows c.args.kind c.args.line) (of g.I.Item.rows g.I.Item.SIGN (g.I.Item.grammar c.args.input.text.now (last_line c.args.input.tokens.now)) (g.met.I.Item.firm c.args.input.text.now (last_line c.args.input.tokens.now))) c.args.input.tokens.now c.requires.fact_1 c.requires.fact_2 titled (rw c.past_row-behind.ensures at c.title.ensures) (ap step c.in_ok-n.was) c.title.auto.out c.list.ensures (ap step c.in_ok-items.was) c.list.auto.out in omega (arith, c.requires.fact_1.lent, c.requires.fact_1.below, c.requires.fact_2, a.long)
 
 pub returns : goal.returns
 returns g c =
-    let n = (got c.title.ensures (ap step c.in_ok-n.was)).item in
+    let n = (got (rw c.past_row-behind.ensures at c.title.ensures) (ap step c.in_ok-n.was)).item in
     let l = (got c.list.ensures.answers (ap step c.in_ok-items.was)).item in
-    finish (after_items (titled_rows g.I.Item.rows c.args.kind c.args.line) (of g.I.Item.rows g.I.Item.SIGN (g.I.Item.grammar c.args.input.text.now (last_line c.args.input.tokens.now)) (g.met.I.Item.firm c.args.input.text.now (last_line c.args.input.tokens.now))) c.args.input.tokens.now c.requires.fact_1 c.requires.fact_2 titled c.title.ensures (ap step c.in_ok-n.was) c.title.auto.out c.list.ensures (ap step c.in_ok-items.was) c.list.auto.out) c.requires.fact_1 refl
-    (ap (λ i. (c.args.kind ∷ c.args.line ∷ i ∷ 0 ∷ []) ∷ (name_rows n ++ rows_of_all g.I.Item.rows l)) (sym (item_count (titled_rows g.I.Item.rows c.args.kind c.args.line) (of g.I.Item.rows g.I.Item.SIGN (g.I.Item.grammar c.args.input.text.now (last_line c.args.input.tokens.now)) (g.met.I.Item.firm c.args.input.text.now (last_line c.args.input.tokens.now))) c.args.input.tokens.now c.requires.fact_1 c.requires.fact_2 titled c.title.ensures (ap step c.in_ok-n.was) c.title.auto.out c.list.ensures (ap step c.in_ok-items.was) c.list.auto.out))) refl
+    finish (after_items (titled_rows g.I.Item.rows c.args.kind c.args.line) (of g.I.Item.rows g.I.Item.SIGN (g.I.Item.grammar c.args.input.text.now (last_line c.args.input.tokens.now)) (g.met.I.Item.firm c.args.input.text.now (last_line c.args.input.tokens.now))) c.args.input.tokens.now c.requires.fact_1 c.requires.fact_2 titled (rw c.past_row-behind.ensures at c.title.ensures) (ap step c.in_ok-n.was) c.title.auto.out c.list.ensures (ap step c.in_ok-items.was) c.list.auto.out) c.requires.fact_1 refl
+    (ap (λ i. (c.args.kind ∷ c.args.line ∷ i ∷ 0 ∷ []) ∷ (name_rows n ++ rows_of_all g.I.Item.rows l)) (sym (item_count (titled_rows g.I.Item.rows c.args.kind c.args.line) (of g.I.Item.rows g.I.Item.SIGN (g.I.Item.grammar c.args.input.text.now (last_line c.args.input.tokens.now)) (g.met.I.Item.firm c.args.input.text.now (last_line c.args.input.tokens.now))) c.args.input.tokens.now c.requires.fact_1 c.requires.fact_2 titled (rw c.past_row-behind.ensures at c.title.ensures) (ap step c.in_ok-n.was) c.title.auto.out c.list.ensures (ap step c.in_ok-items.was) c.list.auto.out))) refl

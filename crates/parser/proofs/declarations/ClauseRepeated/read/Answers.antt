@@ -18,22 +18,22 @@ returns-then-peek-ne-BAR c =
     (behind_not 22 (behind_bar args.input.text.now (last_line args.input.tokens.now)) args.input.tokens.now args.from.at (λ e. c.if-peek-ne-BAR.true (ap (λ x. x.kind) c.peek.ensures ∙ e)))
 
 pub patterns-requires : goal.patterns-requires
-patterns-requires c = room_along (after_bar c.args.input.text.now c.args.input.tokens.now c.requires (sym (ap (λ t. t.kind) c.peek.ensures) ∙ c.if-peek-ne-BAR.false)) c.requires
+patterns-requires c = rw c.past_row-behind.ensures (room_along (after_bar c.args.input.text.now c.args.input.tokens.now c.requires (sym (ap (λ t. t.kind) c.peek.ensures) ∙ c.if-peek-ne-BAR.false)) c.requires)
 
 pub returns-in_err-list : goal.returns-in_err-list
-returns-in_err-list c = rw (exits_maybe _ _ c.in_err-list.was c.from_residual.ensures.1) (patterns_stop c.args.input.text.now c.args.input.tokens.now c.requires (sym (ap (λ t. t.kind) c.peek.ensures) ∙ c.if-peek-ne-BAR.false) c.patterns.ensures (stopped_err _ c.in_err-list.was))
+returns-in_err-list c = rw (exits_maybe _ _ c.in_err-list.was c.from_residual.ensures.1) (patterns_stop c.args.input.text.now c.args.input.tokens.now c.requires (sym (ap (λ t. t.kind) c.peek.ensures) ∙ c.if-peek-ne-BAR.false) (rw c.past_row-behind.ensures at c.patterns.ensures) (stopped_err _ c.in_err-list.was))
 
 pub returns-in_err-arrow : goal.returns-in_err-arrow
-returns-in_err-arrow c = rw (exits_maybe _ _ c.in_err-arrow.was c.from_residual-in_err-arrow.ensures.1) (arrow_stops c.args.input.text.now c.args.input.tokens.now c.requires (sym (ap (λ t. t.kind) c.peek.ensures) ∙ c.if-peek-ne-BAR.false) c.patterns.ensures (ap step c.in_ok-list.was) c.patterns.auto.out c.sign.ensures (stopped_err _ c.in_err-arrow.was))
+returns-in_err-arrow c = rw (exits_maybe _ _ c.in_err-arrow.was c.from_residual-in_err-arrow.ensures.1) (arrow_stops c.args.input.text.now c.args.input.tokens.now c.requires (sym (ap (λ t. t.kind) c.peek.ensures) ∙ c.if-peek-ne-BAR.false) (rw c.past_row-behind.ensures at c.patterns.ensures) (ap step c.in_ok-list.was) c.patterns.auto.out c.sign.ensures (stopped_err _ c.in_err-arrow.was))
 
 pub app-requires : goal.app-requires
-app-requires c = room_along (after_arrow c.args.input.text.now c.args.input.tokens.now c.requires (sym (ap (λ t. t.kind) c.peek.ensures) ∙ c.if-peek-ne-BAR.false) c.patterns.ensures (ap step c.in_ok-list.was) c.patterns.auto.out c.sign.ensures (ap step c.in_ok-arrow.was)) c.requires
+app-requires c = room_along (after_arrow c.args.input.text.now c.args.input.tokens.now c.requires (sym (ap (λ t. t.kind) c.peek.ensures) ∙ c.if-peek-ne-BAR.false) (rw c.past_row-behind.ensures at c.patterns.ensures) (ap step c.in_ok-list.was) c.patterns.auto.out c.sign.ensures (ap step c.in_ok-arrow.was)) c.requires
 
 pub returns-in_err-body : goal.returns-in_err-body
-returns-in_err-body c = rw (exits_maybe _ _ c.in_err-body.was c.from_residual-in_err-body.ensures.1) (body_stops c.args.input.text.now c.args.input.tokens.now c.requires (sym (ap (λ t. t.kind) c.peek.ensures) ∙ c.if-peek-ne-BAR.false) c.patterns.ensures (ap step c.in_ok-list.was) c.patterns.auto.out c.sign.ensures (ap step c.in_ok-arrow.was) c.app.ensures (stopped_err _ c.in_err-body.was))
+returns-in_err-body c = rw (exits_maybe _ _ c.in_err-body.was c.from_residual-in_err-body.ensures.1) (body_stops c.args.input.text.now c.args.input.tokens.now c.requires (sym (ap (λ t. t.kind) c.peek.ensures) ∙ c.if-peek-ne-BAR.false) (rw c.past_row-behind.ensures at c.patterns.ensures) (ap step c.in_ok-list.was) c.patterns.auto.out c.sign.ensures (ap step c.in_ok-arrow.was) c.app.ensures (stopped_err _ c.in_err-body.was))
 
 pub bounds-out-from : goal.bounds-out-from
-bounds-out-from c = let a = after_body c.args.input.text.now c.args.input.tokens.now c.requires (sym (ap (λ t. t.kind) c.peek.ensures) ∙ c.if-peek-ne-BAR.false) c.patterns.ensures (ap step c.in_ok-list.was) c.patterns.auto.out c.sign.ensures (ap step c.in_ok-arrow.was) c.app.ensures (ap step c.in_ok-body.was) c.app.auto.out in omega (arith, c.requires.lent, c.requires.below, bar_there c.args.input.text.now c.args.input.tokens.now c.requires (sym (ap (λ t. t.kind) c.peek.ensures) ∙ c.if-peek-ne-BAR.false), a.long)
+bounds-out-from c = let a = after_body c.args.input.text.now c.args.input.tokens.now c.requires (sym (ap (λ t. t.kind) c.peek.ensures) ∙ c.if-peek-ne-BAR.false) (rw c.past_row-behind.ensures at c.patterns.ensures) (ap step c.in_ok-list.was) c.patterns.auto.out c.sign.ensures (ap step c.in_ok-arrow.was) c.app.ensures (ap step c.in_ok-body.was) c.app.auto.out in omega (arith, c.requires.lent, c.requires.below, bar_there c.args.input.text.now c.args.input.tokens.now c.requires (sym (ap (λ t. t.kind) c.peek.ensures) ∙ c.if-peek-ne-BAR.false), a.long)
 
 pub returns : goal.returns
-returns c = clause_ends c.args.input.text.now c.args.input.tokens.now c.requires (sym (ap (λ t. t.kind) c.peek.ensures) ∙ c.if-peek-ne-BAR.false) c.patterns.ensures (ap step c.in_ok-list.was) c.patterns.auto.out c.sign.ensures (ap step c.in_ok-arrow.was) c.app.ensures (ap step c.in_ok-body.was) c.app.auto.out refl
+returns c = clause_ends c.args.input.text.now c.args.input.tokens.now c.requires (sym (ap (λ t. t.kind) c.peek.ensures) ∙ c.if-peek-ne-BAR.false) (rw c.past_row-behind.ensures at c.patterns.ensures) (ap step c.in_ok-list.was) c.patterns.auto.out c.sign.ensures (ap step c.in_ok-arrow.was) c.app.ensures (ap step c.in_ok-body.was) c.app.auto.out refl
