@@ -1,12 +1,13 @@
 -- Laws of the listing: line behind line, and what `lex` answers is what is listed.
 use Prim.Native.Nat.{ℕ, zero, suc, ◌+◌, ◌-◌, ◌≤◌, ◌<◌}
 use native.Mathlib.Omega.{arith}
-use Rattle.std.proofs.Common.{add-one, ◌∙◌, take-suc, take_at, lt-ltb, le-ltb}
+use Rattle.std.proofs.Common.{add-one, ◌∙◌, take-suc, take_at, lt-ltb, le-ltb, ne_eqb}
 use Rattle.std.specs.Prelude.{◌≡◌, ltb, get_or, length, take, replicate}
 use Rattle.std.proofs.Math.Path.{refl, sym, ap}
 use mathlib.Core.List.{List, [], ◌∷◌, ◌++◌, append_assoc, append-nil}
 use Rattle.std.proofs.Math.ListN.{length-append}
 use Rattle.terms.specs.Numbers.{by_bool}
+use Rattle.words.specs.Names.{name_kind, metavariable_kind, numeral_kind}
 use Rattle.words.specs.Tokens.{Reading}
 use Rattle.words.specs.Tokens.Reading.{tokens, refused}
 use Rattle.refusals.specs.Refusals.{number_of}
@@ -16,7 +17,7 @@ use Rattle.words.specs.declared.Limits.{Limits}
 use Rattle.std.specs.Prelude.{Some, None, Result, Ok, Err}
 use Rattle.refusals.specs.declared.Rejection.{Rejection}
 use Rattle.byte_output.specs.Output.{numeral, Written}
-use Rattle.listing.specs.Listing.{kind_word, line_word, line_end, token_line, token_lines, refused_line, reading_lines, listing_of, listing_size, ListingWritten}
+use Rattle.listing.specs.Listing.{keyword_word, sign_word, kind_word, line_word, line_end, token_line, token_lines, refused_line, reading_lines, listing_of, listing_size, ListingWritten}
 
 -- How long a token's line is.
 pub line_length : (text row : List ℕ)
