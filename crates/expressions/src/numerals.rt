@@ -66,6 +66,7 @@ fn tower(
 }
 
 // The value of the numeral of a number, at a depth.
+// Stays: the symbols are the program's, lent with its rules; a `SourceTerms` would be made for this call alone, with rows that no numeral reads.
 pub fn numeral(
     text: &[u8],
     symbols: &[SymbolRow],

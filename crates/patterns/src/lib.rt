@@ -126,6 +126,7 @@ pub struct NumeralSymbols {
 
 impl NumeralSymbols {
     // Those among a text's symbols.
+    // Stays: a numeral's symbols are looked up for a program's functions too, whose symbols are lent with its rules and not with the rows of a term.
     pub fn find(text: &[u8], symbols: &[SymbolRow]) -> Result<Self, Refusal>
         ensures { NumeralsFound (symbols_of text.now symbols.now (length symbols.now)) result }
     {
@@ -205,6 +206,7 @@ fn numeral_words(words: &mut [u32], used: usize, numerals: NumeralSymbols, n: us
 }
 
 // The number of the constructor that is called w.
+// Stays: no row is read here, and `NumeralSymbols::find`, which calls it, is given none.
 pub fn constructor(text: &[u8], symbols: &[SymbolRow], w: &[u8]) -> Option<usize>
     ensures { result ≡ constructor_of (symbols_of text.now symbols.now (length symbols.now)) w.now }
 {
@@ -221,18 +223,17 @@ pub fn constructor(text: &[u8], symbols: &[SymbolRow], w: &[u8]) -> Option<usize
 
 // The numeral n as a pattern.
 fn numeral(
-    text: &[u8],
-    symbols: &[SymbolRow],
+    source: SourceTerms,
     want: u32,
     n: usize,
     words: &mut [u32],
     from: Place,
 ) -> Result<CompiledTerm, Refusal>
-    requires { (length symbols.now ≤ 1024) × (from.variables ≤ 64) × (from.used + 2 * from.room ≤ length words.old) × (from.used + 2 * from.room ≤ 65536) }
-    ensures { Numbered text.now (symbols_of text.now symbols.now (length symbols.now)) n want from.variables from.next words.old from.used from.room result words.new }
+    requires { (length source.symbols.now ≤ 1024) × (from.variables ≤ 64) × (from.used + 2 * from.room ≤ length words.old) × (from.used + 2 * from.room ≤ 65536) }
+    ensures { Numbered source.entry.text.now (symbols_of source.entry.text.now source.entry.symbols.now (length source.entry.symbols.now)) n want from.variables from.next words.old from.used from.room result words.new }
 {
-    let numerals = NumeralSymbols::find(text, symbols)?;
-    numeral_misfit(symbols, numerals, n, want, from.room)?;
+    let numerals = NumeralSymbols::find(source.text, source.symbols)?;
+    numeral_misfit(source.symbols, numerals, n, want, from.room)?;
     let r = numeral_words(words, from.used, numerals, n);
     Ok(CompiledTerm {
         node: r,
@@ -273,7 +274,7 @@ pub fn pattern(
         ..from
     };
     match kind {
-        words::NUMERAL => numeral(text, symbols, want, more as usize, words, behind),
+        words::NUMERAL => numeral(source, want, more as usize, words, behind),
         words::METAVARIABLE => variable(text, variables, row, want, behind),
         _ => match names::find_at(text, symbols, kind, Word { start, size }) {
             Some(i) => node(source, more as usize, i, want, variables, words, behind),

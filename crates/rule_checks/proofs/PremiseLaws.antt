@@ -2,7 +2,8 @@
 use mathlib.Core.Path.{◌≡◌, refl, sym, ap, ◌∙◌}
 use mathlib.Core.Bool.{Bool, true, false}
 use Rattle.terms.specs.Numbers.{by_bool, true_false}
-use mathlib.Core.List.{List, [], ◌∷◌}
+use mathlib.Core.List.{List, [], ◌∷◌, reverse}
+use lib.ListN.{length, get_or, take, drop}
 use Prim.Native.Nat.{ℕ, suc, ◌+◌, ◌-◌, ◌≤◌, ◌<◌}
 use native.Mathlib.Omega.{arith}
 use Rattle.terms.specs.Term.{Kind, Syn, Term}
@@ -11,7 +12,9 @@ use Rattle.meeting.specs.Places.{Records}
 use Rattle.resolution.specs.Fresh.{met, met_back}
 use Rattle.resolution.specs.Search.{words}
 use Rattle.names.specs.Symbols.{column, columns}
+use Rattle.rules.specs.BackLaws.{turn_back}
 use Rattle.rule_checks.specs.Steps.{Walked}
+use Rattle.rule_checks.proofs.PartLaws.{part_index, part_length}
 use Rattle.std.specs.Prelude.{Option, eqb}
 use Rattle.std.proofs.lemmas.Bool.{eqb-true, eq-eqb}
 
@@ -35,6 +38,27 @@ walked_tells t {size} {spent} e w h = by_bool (eqb spent size)
     (λ q. rw (e, q) (walked_differs t (λ d. true_false (eq-eqb spent size (sym w ∙ d)) q)))
 
 -- References
+
+-- The references of n premises, as the row lends them.
+unfoldable pub heads : List ℕ → ℕ → List ℕ
+heads row n = take (10 + n - 10) (drop 10 row)
+
+module _ (row : List ℕ) (n : ℕ) (few : n ≤ 16) (long : length row ≡ 154) where
+  pub heads_length : length (heads row n) ≡ n
+  unfolding heads
+  heads_length = let l = part_length row 10 (10 + n) (omega arith) in omega arith
+
+  pub heads_index : (k : ℕ) → k < length (heads row n) → get_or (heads row n) k 0 ≡ column row (10 + k)
+  unfolding heads
+  heads_index k l = let m = heads_length in part_index row 10 (10 + n) k (omega arith)
+
+  -- the k-th read from the last back
+  pub heads_back : (k x : ℕ) → (k < length (reverse (heads row n))) × (x ≡ get_or (reverse (heads row n)) k x) → (k < n) × (x ≡ column row (10 + (n - k - 1)))
+  heads_back k x h =
+      let l = heads_length in
+      let b = turn_back (heads row n) k x h in
+      let e : length (heads row n) - k - 1 ≡ n - k - 1 = omega arith in
+      (omega (arith, b.0), b.1 ∙ ap (λ m. get_or (heads row n) m 0) e ∙ heads_index (n - k - 1) (omega (arith, b.0)))
 
 -- Those of n premises from number k on.
 abbrev pub rest : List ℕ → ℕ → ℕ → List ℕ

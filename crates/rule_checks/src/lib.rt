@@ -217,8 +217,8 @@ fn walk_back(words: &[u32], rule: &RuleRow, places: &mut Places, stack: &mut [[u
     requires { (column rule.now 4 ≤ 16) × ((j : ℕ) → j < column rule.now 4 → TermAsked words.now (column rule.now (10 + j))) × (2048 ≤ length stack.old) }
     ensures { (e : List ℕ) → Records e places.old.places places.old.count → Records (met_back (premises_of words.now rule.now) e) places.new.places places.new.count }
 {
-    for k in (0..rule[4] as usize).rev() {
-        places.meet(words, rule[10 + k], MOST, stack);
+    for reference in rule[10..10 + rule[4] as usize].iter().rev() {
+        places.meet(words, *reference, MOST, stack);
     }
 }
 

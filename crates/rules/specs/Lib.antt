@@ -10,4 +10,5 @@ pub mod Layout
 pub mod LayoutLaws
 pub mod Promises
 pub mod UsedLaws
+pub mod BackLaws
 mod Examples

@@ -162,8 +162,8 @@ fn order(rule: RuleTerms, stack: &mut [[u32; 2]]) -> MeetingOrder
     let mut places = Places::new();
     places.meet(words, conclusion, most, stack);
     let met = places.count;
-    for k in (0..heads.len()).rev() {
-        places.meet(words, heads[k], most, stack);
+    for reference in heads.iter().rev() {
+        places.meet(words, *reference, most, stack);
     }
     MeetingOrder { met, places }
 }

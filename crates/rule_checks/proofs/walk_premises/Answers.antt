@@ -1,25 +1,11 @@
 -- `walk_premises` meets its contract: the variables of premises of so many words are met.
-use Rattle.std.proofs.Common.{◌≡◌, ℕ, ◌+◌, ◌-◌, ◌<◌, ◌≤◌, List, length, get_or, take, drop, arith, refl}
+use Rattle.std.proofs.Common.{◌≤◌, arith, refl}
 use Rattle.meeting.specs.Contract.{term_of}
 use Rattle.meeting.specs.WalkLaws.{walked_over, walked_words}
 use Rattle.names.specs.Symbols.{column}
 use Rattle.rule_checks.specs.Steps.{premises_of}
-use Rattle.rule_checks.proofs.PartLaws.{part_index, part_length}
-use Rattle.rule_checks.proofs.PremiseLaws.{walked_differs, walked_tells, going_on, going_over, going_words, going_records}
+use Rattle.rule_checks.proofs.PremiseLaws.{heads, heads_length, heads_index, walked_differs, walked_tells, going_on, going_over, going_words, going_records}
 use Rattle.rule_checks.proofs.walk_premises.Goals as goal
-
--- The references of n premises, as the row lends them.
-heads : List ℕ → ℕ → List ℕ
-heads row n = take (10 + n - 10) (drop 10 row)
-
-module _ (row : List ℕ) (n : ℕ) (few : n ≤ 16) (long : length row ≡ 154) where
-  heads_length : length (heads row n) ≡ n
-  unfolding heads
-  heads_length = let l = part_length row 10 (10 + n) (omega arith) in omega arith
-
-  heads_index : (k : ℕ) → k < length (heads row n) → get_or (heads row n) k 0 ≡ column row (10 + k)
-  unfolding heads
-  heads_index k l = let m = heads_length in part_index row 10 (10 + n) k (omega arith)
 
 pub meet-requires : goal.meet-requires
 unfolding heads
