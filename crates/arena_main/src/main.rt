@@ -67,7 +67,7 @@ fn towers(m: u32, n: u32, leaf: u32, arity: u32) -> Option<bool>
 }
 
 // The letter for two terms.
-fn same(found: Option<bool>) -> u8 {
+fn letter_of_terms(found: Option<bool>) -> u8 {
     match found {
         Some(true) => b'y',
         Some(false) => b'n',
@@ -90,33 +90,33 @@ fn changed(place: usize, word: u32) -> bool {
 }
 
 // The letter for words.
-fn form(formed: bool) -> u8 {
+fn letter_of_words(formed: bool) -> u8 {
     if formed { b'f' } else { b'x' }
 }
 
 fn main() {
     let letters = [
-        same(towers(65000, 65000, 0, 1)),
-        same(towers(65000, 64999, 0, 1)),
-        same(towers(65000, 65000, 1, 1)),
-        same(towers(1000, 1000, 0, 2)),
-        same(towers(1000, 999, 0, 2)),
-        same(towers(1000, 1000, 1, 2)),
+        letter_of_terms(towers(65000, 65000, 0, 1)),
+        letter_of_terms(towers(65000, 64999, 0, 1)),
+        letter_of_terms(towers(65000, 65000, 1, 1)),
+        letter_of_terms(towers(1000, 1000, 0, 2)),
+        letter_of_terms(towers(1000, 999, 0, 2)),
+        letter_of_terms(towers(1000, 1000, 1, 2)),
         b'\n',
-        form(changed(6, 0)),
-        form(changed(0, PATTERN_ROOM)),
-        form(changed(0, CONSTANT + 1)),
-        form(changed(1, UNARY + 1)),
-        form(changed(1, OTHER + 1)),
-        form(changed(2, PATTERN_ROOM + 1)),
-        form(changed(3, BINARY - 1)),
-        form(changed(3, OTHER + 17)),
-        form(changed(4, PATTERN_ROOM + 2)),
-        form(changed(4, PATTERN_ROOM + 3)),
-        form(changed(4, PATTERN_ROOM + 4)),
-        form(changed(4, CONSTANT)),
-        form(changed(5, 2)),
-        form(changed(5, 0)),
+        letter_of_words(changed(6, 0)),
+        letter_of_words(changed(0, PATTERN_ROOM)),
+        letter_of_words(changed(0, CONSTANT + 1)),
+        letter_of_words(changed(1, UNARY + 1)),
+        letter_of_words(changed(1, OTHER + 1)),
+        letter_of_words(changed(2, PATTERN_ROOM + 1)),
+        letter_of_words(changed(3, BINARY - 1)),
+        letter_of_words(changed(3, OTHER + 17)),
+        letter_of_words(changed(4, PATTERN_ROOM + 2)),
+        letter_of_words(changed(4, PATTERN_ROOM + 3)),
+        letter_of_words(changed(4, PATTERN_ROOM + 4)),
+        letter_of_words(changed(4, CONSTANT)),
+        letter_of_words(changed(5, 2)),
+        letter_of_words(changed(5, 0)),
         b'\n',
     ];
     io::write_all(1, &letters);

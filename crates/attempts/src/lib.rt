@@ -46,6 +46,7 @@ pub struct SearchLimits {
 }
 
 // Where a search stands: what it may use, how many variables, words and bindings are in use, and the goal.
+// Stays: words and bindings go beside it, as they have other owners and are written between two attempts.
 #[derive(Clone, Copy)]
 pub struct SearchState {
     pub limits: SearchLimits,

@@ -1,5 +1,4 @@
 // Values from patterns: the Rust's `instantiate`.
-// Stays: in one struct, words, room and stack would be put together and taken apart at each call, as the caller's store lends words and stack apart to `bind`.
 ghost use Rattle.std.specs.Prelude.{suc, ◌+◌, ◌≤◌, ◌<◌, length};
 ghost use Rattle.arena.specs.Copies.{pattern_room};
 ghost use Rattle.clause_matching.specs.Building.{Pushed, InstantiateAsked, Instantiated, ArgumentsAsked, ArgumentsBuilt};
@@ -16,6 +15,7 @@ pub struct Built {
 }
 
 // Where values are built: behind the words in use, up to a limit.
+// Stays: words and stack go beside it; as the caller's store lends them apart, a struct of the three would be put together at each call.
 #[derive(Clone, Copy)]
 pub struct Room {
     pub used: u32,

@@ -34,6 +34,7 @@ pub struct Clauses<'a> {
 }
 
 // The first of the clauses whose conclusion fits the arguments, which are values, by its number; the environment then holds those of its variables.
+// Stays: as at `bind`, of the environment, links and stack.
 pub fn find_clause(
     clauses: Clauses,
     arguments: &[u32],

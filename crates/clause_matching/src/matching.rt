@@ -11,6 +11,7 @@ use super::references::{Pattern, pattern_at};
 use arena::{PATTERN_ROOM, SYMBOL_STEP, Terms};
 
 // Values: words of stored terms, of which so many are in use.
+// Stays: the value in question and the environment go beside them; values are only read, and these change at each step.
 #[derive(Clone, Copy)]
 pub struct Values<'a> {
     pub words: &'a [u32],
@@ -44,6 +45,7 @@ fn take(
 }
 
 // As `bind`, of a pattern that is a node.
+// Stays: as at `bind`, of the environment, links and stack.
 fn bind_node(
     pattern: &[u32],
     reference: u32,

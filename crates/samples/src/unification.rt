@@ -41,6 +41,7 @@ pub fn is_clean(workspace: &Workspace) -> bool
 }
 
 // Whether the two references unify: how many bindings there are then.
+// Stays: the count of bindings and the references are handed on to `unify` as they are; a struct of them would be taken apart for that.
 pub fn solve(
     terms: Terms,
     bindings: &mut [[u32; 2]],
@@ -116,6 +117,7 @@ pub fn check(terms: Terms, held: StoredBindings, marks: &mut [[u32; 2]]) -> Resu
 }
 
 // Takes back the bindings from the mark on, where all of them are in form.
+// Stays: `bound` counts bindings, and no marks.
 pub fn take_back(
     terms: Terms,
     bindings: &mut [[u32; 2]],

@@ -17,6 +17,7 @@ const REFERENCES: usize = 275544;
 
 // Two towers, of nodes with so many arguments, how high they are and on which references they stand, and the two references in question. A pair may
 // be built on each reference in question: of variable 0 and the left one, and of a constant and the right one.
+// Stays: `paired` says what is built besides; no other field has its meaning from it, so that an option would hold nothing.
 #[derive(Clone, Copy)]
 pub struct Towers {
     pub arity: u32,
