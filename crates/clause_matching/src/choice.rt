@@ -14,12 +14,12 @@ fn is_apart(pattern: &[u32], base: usize, words: &[u32], values: &[u32]) -> bool
     ensures { result ≡ true → bind_of (patterns_from pattern.now base (length values.now))
         (values_of words.now values.now) start ≡ misfit }
 {
-    if values.len() == 0 {
+    let Some(value) = values.first() else {
         return false;
-    }
+    };
     match pattern_at(pattern, pattern[base]) {
         Pattern::Variable { index: _ } => false,
-        Pattern::Node { header, first: _ } => header != words[values[0] as usize],
+        Pattern::Node { header, first: _ } => header != words[*value as usize],
     }
 }
 

@@ -1,4 +1,4 @@
-// Patterns against values: the Rust's `bind`. Values are stored terms with room for no variable, so that a reference is an address. An environment has a row
+// Patterns against values: the Rust's `bind`. Values are stored terms with room for no variable, so that a reference is an address. An environment has a number
 // for each variable of a clause: 0 for none, else 1 + the reference of its value.
 // Stays: tried with `Option<u32>`: 512 bytes are then cleared for each clause in place of 256, and evaluating `mul 60 60` takes an eighth longer.
 ghost use Rattle.std.specs.Prelude.{◌≤◌, ◌<◌};
@@ -30,18 +30,17 @@ fn take(
     ensures { Matched (var variable) values.entry.words.now values.entry.used value environment.old links.old result environment.new links.new }
 {
     let i = variable as usize;
-    let old = environment[i];
-    if old == 0 {
+    let Some(old) = environment[i].checked_sub(1) else {
         environment[i] = value + 1;
         return true;
-    }
+    };
     let terms = Terms {
         words: values.words,
         room: 0,
         variables: 0,
         used: values.used,
     };
-    arena::equal(terms, links, old - 1, value)
+    arena::equal(terms, links, old, value)
 }
 
 // As `bind`, of a pattern that is a node.
