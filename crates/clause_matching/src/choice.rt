@@ -52,6 +52,7 @@ pub fn find_clause(
     'clauses: for i in clauses.from..clauses.end {
         let Pattern::Node { header: _, first } = pattern_at(clauses.pattern, clauses.rules[i][5])
         else {
+            // Never reached: the conclusion of a clause in form is a node.
             return None;
         };
         let base = first as usize;
