@@ -10,6 +10,7 @@ ghost use Rattle.loader.specs.Legal.{Calls, ClauseFormed};
 ghost use Rattle.unifier.specs.Promises.{Tells};
 ghost use Rattle.signature.specs.Parts.{ClausesAsked, ClausesOf, ClausesListed};
 
+use super::columns::{CLAUSES, CONCLUSION, FIRST_CLAUSE, FIRST_PREMISE, MARK, PREMISES};
 use arena::{HEADERS, PATTERN_ROOM, SYMBOL_STEP};
 use names::{FUNCTION, SymbolRow};
 use rules::RuleRow;
@@ -42,7 +43,7 @@ fn is_call(words: &[u32], reference: u32, symbols: &[SymbolRow]) -> bool
         return false;
     }
     match symbols.get(symbol_at(words, (reference - PATTERN_ROOM) as usize)) {
-        Some(symbol) => symbol[3] == FUNCTION,
+        Some(symbol) => symbol[MARK] == FUNCTION,
         None => false,
     }
 }
@@ -53,7 +54,7 @@ fn are_calls(words: &[u32], rule: &RuleRow, symbols: &[SymbolRow]) -> bool
     ensures { (text : List ℕ) → Tells result (Calls (symbols_of text symbols.now (length symbols.now))
         (terms_of (term_of words.now) (heads_in rule.now))) }
 {
-    rule[10..10 + rule[4] as usize]
+    rule[FIRST_PREMISE..FIRST_PREMISE + rule[PREMISES] as usize]
         .iter()
         .all(|reference| is_call(words, *reference, symbols))
 }
@@ -64,7 +65,7 @@ fn is_clause(words: &[u32], rule: &RuleRow, symbols: &[SymbolRow], i: usize) -> 
     ensures { (text : List ℕ) → Tells result (ClauseFormed (symbols_of text symbols.now (length symbols.now)) i
         (rule_in text words.now rule.now)) }
 {
-    is_node_of(words, rule[5], i) && are_calls(words, rule, symbols)
+    is_node_of(words, rule[CONCLUSION], i) && are_calls(words, rule, symbols)
 }
 
 // Are all clauses of the symbol i in form?
@@ -72,8 +73,8 @@ fn are_clauses_of(words: &[u32], rules: &[RuleRow], symbols: &[SymbolRow], i: us
     requires { ClausesAsked symbols.now rules.now × (i < length symbols.now) }
     ensures { (text : List ℕ) → Tells result (ClausesOf text symbols.now (length symbols.now) rules.now words.now i) }
 {
-    let first = symbols[i][4] as usize;
-    let n = symbols[i][5] as usize;
+    let first = symbols[i][FIRST_CLAUSE] as usize;
+    let n = symbols[i][CLAUSES] as usize;
     rules[first..first + n].iter().all(
         |rule|
             requires { column rule.now 4 ≤ 16 }
