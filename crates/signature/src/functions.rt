@@ -8,7 +8,7 @@ ghost use Rattle.rules.specs.StoredRows.{heads_in};
 ghost use Rattle.rule_checks.specs.RuleForm.{rule_in};
 ghost use Rattle.loader.specs.Legal.{Calls, ClauseFormed};
 ghost use Rattle.unifier.specs.Promises.{Tells};
-ghost use Rattle.signature.specs.Parts.{ClausesAsked, ClausesOf, ClausesListed};
+ghost use Rattle.signature.specs.Parts.{NodeSymbol, ClausesAsked, ClausesOf, ClausesListed};
 
 use super::columns::{CLAUSES, CONCLUSION, FIRST_CLAUSE, FIRST_PREMISE, MARK, PREMISES};
 use arena::{HEADERS, PATTERN_ROOM, SYMBOL_STEP};
@@ -24,14 +24,24 @@ fn symbol_at(words: &[u32], at: usize) -> usize
     (header.saturating_sub(HEADERS) / SYMBOL_STEP) as usize
 }
 
+// The symbol of the node that a reference denotes; a variable has none.
+fn node_symbol(words: &[u32], reference: u32) -> Option<usize>
+    ensures { NodeSymbol words.now reference result }
+{
+    if reference < PATTERN_ROOM {
+        return None;
+    }
+    Some(symbol_at(words, (reference - PATTERN_ROOM) as usize))
+}
+
 // Is the term of a reference a node of the symbol i?
 fn is_node_of(words: &[u32], reference: u32, i: usize) -> bool
     ensures { Tells result ((ts : Terms) × (term_of words.now reference ≡ app i ts)) }
 {
-    if reference < PATTERN_ROOM {
-        return false;
+    match node_symbol(words, reference) {
+        Some(symbol) => symbol == i,
+        None => false,
     }
-    symbol_at(words, (reference - PATTERN_ROOM) as usize) == i
 }
 
 // Is the term of a reference a call of one of the symbols?
@@ -39,10 +49,10 @@ fn is_call(words: &[u32], reference: u32, symbols: &[SymbolRow]) -> bool
     ensures { (text : List ℕ) → Tells result (Calls (symbols_of text symbols.now (length symbols.now))
         (term_of words.now reference)) }
 {
-    if reference < PATTERN_ROOM {
+    let Some(i) = node_symbol(words, reference) else {
         return false;
-    }
-    match symbols.get(symbol_at(words, (reference - PATTERN_ROOM) as usize)) {
+    };
+    match symbols.get(i) {
         Some(symbol) => symbol[MARK] == FUNCTION,
         None => false,
     }
