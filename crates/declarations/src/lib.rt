@@ -84,7 +84,7 @@ fn declare_sort(
     })
 }
 
-// `ctor` and `pred`: the sorts stand behind the row of the name.
+// `ctor` and `pred`, and the symbol of a `def`: the sorts stand behind the row of the name.
 fn declare_symbol(
     source: Source,
     kind: Kind,
@@ -92,9 +92,8 @@ fn declare_symbol(
     symbols: &mut [SymbolRow],
     state: State,
 ) -> Result<Progress, Refusal>
-    requires asked { SymbolAsked source.rows.now source.at sorts.now symbols.old state }
-    requires no_function { (mark_in kind ≡ 0) × (first_in kind ≡ 0) × (clauses_in kind ≡ 0) }
-    ensures { SymbolDeclared source.entry.text.now source.entry.rows.now source.entry.at (is_constructor kind) sorts.now symbols.old state result symbols.new }
+    requires { SymbolAsked source.rows.now source.at sorts.now symbols.old state }
+    ensures { SymbolDeclared source.entry.text.now source.entry.rows.now source.entry.at (is_constructor kind) (mark_in kind) (first_in kind) (clauses_in kind) sorts.now symbols.old state result symbols.new }
 {
     let Source { rows, at, .. } = source;
     let k = rows[at][2] as usize;
@@ -262,33 +261,21 @@ fn declare_def(
     ensures lent { IsLent store.old store.new }
 {
     let Source { rows, at, .. } = source;
-    let k = rows[at][2] as usize;
-    if k == 0 {
+    if rows[at][2] == 0 {
         return Err(Refusal::NoDeclaration);
     }
     let n = rows[at][3] as usize;
-    let [_, start, size, _] = rows[at + 1];
-    let part = Part {
-        source: Source {
-            at: at + 1,
-            ..source
-        },
-        k,
-    };
     let kind = Kind::Function {
         first: first_clause(n, state.rules),
         clauses: n as u32,
     };
-    loader::enter_symbol(part, kind, &sorts[..state.sorts], symbols, state.symbols)?;
-    let with = State {
-        symbols: state.symbols + 1,
-        ..state
-    };
+    let entered = declare_symbol(source, kind, sorts, symbols, state)?;
     let clauses = Source {
-        at: at + 2 + k,
+        at: entered.next,
         ..source
     };
-    declare_clauses(clauses, n, Word { start, size }, symbols, store, with)
+    let word = Word::behind_kind(&rows[at + 1]);
+    declare_clauses(clauses, n, word, symbols, store, entered.state)
 }
 
 // One declaration, by the keyword in its row. An `#eval` waits.
