@@ -5,7 +5,7 @@ pub const START: usize = 0;
 
 pub const SIZE: usize = 1;
 
-// Of symbols: the output, the function mark, the first clause, how many clauses and inputs there are, and where the inputs start.
+// Of symbols: the output, the function mark, the first clause, how many clauses and inputs there are, a free column, and where the inputs start.
 pub const OUTPUT: usize = 2;
 
 pub const MARK: usize = 3;
@@ -15,6 +15,8 @@ pub const FIRST_CLAUSE: usize = 4;
 pub const CLAUSES: usize = 5;
 
 pub const ARITY: usize = 6;
+
+pub const FREE: usize = 7;
 
 pub const FIRST_INPUT: usize = 8;
 
