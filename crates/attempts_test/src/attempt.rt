@@ -30,6 +30,7 @@ const RULE: Stored = Stored {
 };
 
 // Whether storage has room for what the limits allow, and the scratch is zero.
+// Stays: the same buffers are lent here to be read and there to be written, so one struct would not serve all three.
 fn has_room(words: &[u32], bindings: &[[u32; 2]], workspace: &Workspace, state: SearchState) -> bool
     ensures { result ≡ true → Room state.limits.variables state.limits.words words.now bindings.now
         workspace.now.links.now workspace.now.marks.now workspace.now.stack.now }
@@ -56,6 +57,7 @@ fn has_room(words: &[u32], bindings: &[[u32; 2]], workspace: &Workspace, state: 
 }
 
 // Whether storage is what an attempt asks; the marks are left as they are.
+// Stays: the same buffers are lent here to be read and there to be written, so one struct would not serve all three.
 fn is_state(
     words: &[u32],
     bindings: &[[u32; 2]],
@@ -87,6 +89,7 @@ fn is_state(
 }
 
 // Tries the rule: as `try_rule` answers.
+// Stays: the same buffers are lent here to be read and there to be written, so one struct would not serve all three.
 pub fn attempt(
     words: &mut [u32],
     bindings: &mut [[u32; 2]],
