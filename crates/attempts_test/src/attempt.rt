@@ -7,16 +7,29 @@ use arena::{HEADERS, PATTERN_ROOM, TERM_ROOM, Terms};
 use attempts::{LentRule, SearchState, Stored, Tried};
 use bindings::StoredBindings;
 use refusals::Refusal;
+use samples::build::{BINARY, UNARY};
 use samples::unification;
 use samples::unification::Fault;
 use unifier::Workspace;
 
 // The rule's words, the references of its premises, the places of its variables, and where its parts stand.
 const PATTERN: [u32; 13] = [
-    1048642, 1, 0, 1048609, 0, 1048609, 1, 1048609, 69, 1048609, 71, 1048609, 73,
+    BINARY,
+    1,
+    0,
+    UNARY,
+    0,
+    UNARY,
+    1,
+    UNARY,
+    PATTERN_ROOM + 5,
+    UNARY,
+    PATTERN_ROOM + 7,
+    UNARY,
+    PATTERN_ROOM + 9,
 ];
 
-pub const PREMISES: [u32; 2] = [64, 67];
+pub const PREMISES: [u32; 2] = [PATTERN_ROOM, PATTERN_ROOM + 3];
 
 const PLACES: [u32; 2] = [1, 0];
 
@@ -24,7 +37,7 @@ const RULE: Stored = Stored {
     from: 0,
     head: 8,
     body: 5,
-    conclusion: 75,
+    conclusion: PATTERN_ROOM + 11,
     met: 1,
     variables: 2,
 };
