@@ -49,7 +49,7 @@ fn edge_at(terms: Terms, bindings: &[[u32; 2]], reference: u32, i: u32) -> Optio
 }
 
 // Whether the stored bindings are acyclic; leaves its marks in scratch.
-// Stays: terms, bindings and scratch have different owners, and in one struct the two that are only read would be lent for writing.
+// Stays: terms, bindings and scratch have different owners; a struct of the three would be made for each call and taken apart in it again.
 fn search(terms: Terms, bindings: &[[u32; 2]], scratch: &mut [[u32; 2]]) -> bool
     requires { Searchable terms.words.now bindings.now terms.room terms.variables terms.used scratch.old }
     ensures { Searched terms.entry.words.now bindings.now terms.entry.room terms.entry.variables terms.entry.used scratch.old result scratch.new }
@@ -96,7 +96,7 @@ fn search(terms: Terms, bindings: &[[u32; 2]], scratch: &mut [[u32; 2]]) -> bool
 
 // Whether the stored bindings are acyclic: one search in depth through all that the variables lead to. Scratch has a row for
 // each reference; it is zero before and after.
-// Stays: terms, bindings and scratch have different owners, and in one struct the two that are only read would be lent for writing.
+// Stays: terms, bindings and scratch have different owners; a struct of the three would be made for each call and taken apart in it again.
 pub fn is_acyclic(terms: Terms, bindings: &[[u32; 2]], scratch: &mut [[u32; 2]]) -> bool
     requires { Ready terms.words.now bindings.now terms.room terms.variables terms.used scratch.old }
     ensures { Decided terms.entry.words.now bindings.now terms.entry.room terms.entry.variables scratch.old result scratch.new }

@@ -15,7 +15,7 @@ const MOST: u32 = 50000;
 const REFERENCES: usize = 125536;
 
 // The check's answer, where the storage is in form; scratch must come back unmarked.
-// Stays: terms, bindings and scratch have different owners, and in one struct the two that are only read would be lent for writing.
+// Stays: terms, bindings and scratch have different owners; a struct of the three would be made for each call and taken apart in it again.
 fn answer(terms: Terms, bindings: &[[u32; 2]], scratch: &mut [[u32; 2]]) -> Result<bool, Fault> {
     if !checks::are_terms(terms) {
         return Err(Fault::NotReady);

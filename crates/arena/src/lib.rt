@@ -81,12 +81,12 @@ pub fn inst(part: RulePart, words: &mut [u32], room: u32, used: u32, counter: u3
         (copied part.entry.words.now part.entry.from part.entry.count part.entry.places.now room used counter) }
 {
     let start = part.from as usize;
-    let end = part.count as usize;
+    let end = start + part.count as usize;
     let at = used as usize;
     let first = PATTERN_ROOM + part.from;
     let base = room + used;
-    for i in 0..end {
-        words[at + i] = moved_word(part.words[start + i], part.places, counter, first, base);
+    for (i, word) in part.words[start..end].iter().enumerate() {
+        words[at + i] = moved_word(*word, part.places, counter, first, base);
     }
 }
 

@@ -13,24 +13,19 @@ use samples::build::{BINARY, CONSTANT, OTHER, Tower, UNARY, put_tower};
 const MOST: usize = 262144;
 
 // Whether two references denote the same term; none where the words or one of both are not in form.
-// Stays: `used` is what the builders say, and is tested against both slices here.
-fn compare(words: &[u32], links: &mut [u32], used: u32, a: u32, b: u32) -> Option<bool> {
+fn compare(words: &[u32], links: &mut [u32], a: u32, b: u32) -> Option<bool> {
     let arities = [0u32, 1, 2];
-    let count = used as usize;
-    if count > MOST {
+    if words.len() > MOST {
         return None;
     }
-    if count > words.len() {
-        return None;
-    }
-    if count > links.len() {
+    if words.len() > links.len() {
         return None;
     }
     let terms = Terms {
         words,
         room: PATTERN_ROOM,
         variables: 2,
-        used,
+        used: words.len() as u32,
     };
     if !arena::check_words(terms, 0, &arities) {
         return None;
@@ -63,7 +58,12 @@ fn towers(m: u32, n: u32, leaf: u32, arity: u32) -> Option<bool>
         arity,
     };
     let second = put_tower(&mut words, PATTERN_ROOM, first.next, upper)?;
-    compare(&words, &mut links, second.next, first.root, second.root)
+    compare(
+        words.get(..second.next as usize)?,
+        &mut links,
+        first.root,
+        second.root,
+    )
 }
 
 // The letter for two terms.

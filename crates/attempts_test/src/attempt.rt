@@ -7,16 +7,29 @@ use arena::{HEADERS, PATTERN_ROOM, TERM_ROOM, Terms};
 use attempts::{LentRule, SearchState, Stored, Tried};
 use bindings::StoredBindings;
 use refusals::Refusal;
+use samples::build::{BINARY, UNARY};
 use samples::unification;
 use samples::unification::Fault;
 use unifier::Workspace;
 
 // The rule's words, the references of its premises, the places of its variables, and where its parts stand.
 const PATTERN: [u32; 13] = [
-    1048642, 1, 0, 1048609, 0, 1048609, 1, 1048609, 69, 1048609, 71, 1048609, 73,
+    BINARY,
+    1,
+    0,
+    UNARY,
+    0,
+    UNARY,
+    1,
+    UNARY,
+    PATTERN_ROOM + 5,
+    UNARY,
+    PATTERN_ROOM + 7,
+    UNARY,
+    PATTERN_ROOM + 9,
 ];
 
-pub const PREMISES: [u32; 2] = [64, 67];
+pub const PREMISES: [u32; 2] = [PATTERN_ROOM, PATTERN_ROOM + 3];
 
 const PLACES: [u32; 2] = [1, 0];
 
@@ -24,12 +37,13 @@ const RULE: Stored = Stored {
     from: 0,
     head: 8,
     body: 5,
-    conclusion: 75,
+    conclusion: PATTERN_ROOM + 11,
     met: 1,
     variables: 2,
 };
 
 // Whether storage has room for what the limits allow, and the scratch is zero.
+// Stays: the same buffers are lent here to be read and there to be written, so one struct would not serve all three.
 fn has_room(words: &[u32], bindings: &[[u32; 2]], workspace: &Workspace, state: SearchState) -> bool
     ensures { result ≡ true → Room state.limits.variables state.limits.words words.now bindings.now
         workspace.now.links.now workspace.now.marks.now workspace.now.stack.now }
@@ -56,6 +70,7 @@ fn has_room(words: &[u32], bindings: &[[u32; 2]], workspace: &Workspace, state: 
 }
 
 // Whether storage is what an attempt asks; the marks are left as they are.
+// Stays: the same buffers are lent here to be read and there to be written, so one struct would not serve all three.
 fn is_state(
     words: &[u32],
     bindings: &[[u32; 2]],
@@ -87,6 +102,7 @@ fn is_state(
 }
 
 // Tries the rule: as `try_rule` answers.
+// Stays: the same buffers are lent here to be read and there to be written, so one struct would not serve all three.
 pub fn attempt(
     words: &mut [u32],
     bindings: &mut [[u32; 2]],

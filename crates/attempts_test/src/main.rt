@@ -160,7 +160,7 @@ fn main() {
     case(
         b"room for one word less than the conclusion",
         MOST,
-        100000,
+        LEVELS,
         7,
     );
     case(b"room for 4 variables", 4, LEVELS, 13);

@@ -42,7 +42,7 @@ pub fn is_reference(terms: Terms, r: u32) -> bool
 }
 
 // Whether the value of v is 0 or in form.
-// Stays: `v` is the variable in question, and counts no marks.
+// Stays: `v` is the number of the variable that is asked about; it says nothing of how many marks are in use.
 fn good_value(terms: Terms, rows: &[[u32; 2]], marks: &[[u32; 2]], v: usize) -> bool
     requires { (terms.used ≤ length terms.words.now) × (v < length rows.now) × (terms.variables ≤ length marks.now) }
     ensures { Tells result (GoodValue terms.entry.room terms.entry.words.now rows.now marks.now terms.entry.variables terms.entry.used v) }

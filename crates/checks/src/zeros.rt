@@ -4,7 +4,7 @@ ghost use Rattle.unifier.specs.Promises.{Scratch};
 ghost use Rattle.checks.specs.Ready.{Joined, Zeros};
 
 // Or-s a row to what was seen.
-// Stays: as a chain it is a `fold` of rows around a `fold` of numbers, which says no more than the two loops; `all` would have a branch at each number.
+// Stays: as a chain this is a `fold` in the `fold` of `are_zero` and no plainer; `all` would have a branch at each number.
 fn join<const N: usize>(seen: u32, row: &[u32; N]) -> u32
     ensures { Joined seen row.now result }
 {

@@ -66,6 +66,7 @@ pub fn packed(ended: Option<u32>, before: u32) -> u64
 
 // Unifies what r and t denote under the first `bound` bindings; the answer is how many bindings there are then. Without success the bindings are undone to
 // these. The scratch is left as it was.
+// Stays: `StoredBindings` is only read; one that is written would be made anew at each call, and `bound` afterwards is the answer.
 pub fn unify(
     terms: Terms,
     bindings: &mut [[u32; 2]],

@@ -120,8 +120,7 @@ pub fn unify(name: &[u8], towers: Towers) {
     };
     let mut bindings = [[0u32; 2]; 64];
     bind_first(&mut bindings);
-    let mut before = [[0u32; 2]; 64];
-    bind_first(&mut before);
+    let before = bindings;
     let mut links = [[0u32; 2]; REFERENCES];
     let mut marks = [[0u32; 2]; REFERENCES];
     let mut stack = [[0u32; 3]; WORDS];
