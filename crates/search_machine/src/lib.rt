@@ -7,7 +7,6 @@
 #![tactic(auto)]
 
 mod candidates; // the rules that a goal passes over
-mod columns; // the columns of a rule's row
 mod frames; // one row for each rule that is entered
 mod moves; // the machine's next states
 mod stored; // what an attempt reads in a rule's row
