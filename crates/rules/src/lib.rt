@@ -13,7 +13,10 @@ ghost use Rattle.patterns.specs.Promises.{Ready};
 ghost use Rattle.rules.specs.StoredRows.{rule_row};
 ghost use Rattle.rules.specs.Promises.{Judging, OrderAsked, Ordered, Keeping, KeepAsked, RuleAsked, RuleEntered};
 
+pub mod columns; // the columns of a rule's row
+
 use arena::PATTERN_ROOM;
+use columns::{FIRST_PLACE, FIRST_PREMISE, FIRST_SORT};
 use meeting::Places;
 use names::{SourceTerms, SymbolRow, TermRow, VariableRow, Word};
 use patterns::Place;
@@ -196,7 +199,7 @@ fn put_sorts(row: &mut RuleRow, variables: &[VariableRow])
     ensures { (text : List ℕ) → row.new ≡ sets row.old 26 (mathlib.Core.List.map (λ v. v.sort) (variables_of text variables.now (length variables.now))) }
 {
     for (j, variable) in variables.iter().enumerate() {
-        row[26 + j] = variable[3];
+        row[FIRST_SORT + j] = variable[3];
     }
 }
 
@@ -207,7 +210,7 @@ fn put_places(row: &mut RuleRow, places: &[Option<u32>])
     ensures { row.new ≡ sets row.old 90 (place_numbers places.now) }
 {
     for (j, place) in places.iter().enumerate() {
-        row[90 + j] = place.unwrap_or(PATTERN_ROOM);
+        row[FIRST_PLACE + j] = place.unwrap_or(PATTERN_ROOM);
     }
 }
 
@@ -223,8 +226,8 @@ fn store(
     ensures { (text : List ℕ) → row.new ≡ rule_row numbers.now heads.now (mathlib.Core.List.map (λ v. v.sort) (variables_of text variables.now (length variables.now))) (place_numbers places.now) }
 {
     *row = [0u32; 154];
-    row[..10].copy_from_slice(numbers);
-    row[10..10 + heads.len()].copy_from_slice(heads);
+    row[..FIRST_PREMISE].copy_from_slice(numbers);
+    row[FIRST_PREMISE..FIRST_PREMISE + heads.len()].copy_from_slice(heads);
     put_sorts(row, variables);
     put_places(row, places);
 }

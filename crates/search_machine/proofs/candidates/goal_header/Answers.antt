@@ -1,5 +1,4 @@
 -- `goal_header` meets its contract: the header of the node that the goal leads to, or none.
-use Rattle.attempts.specs.Clashes.{led}
 use Rattle.search_machine.specs.ChoosingLaws.{heads_node}
 use Rattle.search_machine.proofs.candidates.goal_header.Goals as goal
 
@@ -11,5 +10,5 @@ goal_node-requires-clause-refers c = rw c.state-at.ensures c.requires.refers
 
 pub returns : goal.returns
 returns c =
-    let l = led c.goal_node.ensures c.in-Some.is in
+    let l = c.in_ok-node.ensures in
     heads_node (rw c.state-at.ensures at l.1) l.0
