@@ -34,7 +34,7 @@ fn top_of(text: &[u8], row: [u32; 4]) -> Option<u32>
     if !is_word_place(text, word) {
         return None;
     }
-    // Stays: the number is that of a term's row, which C callers lend, and may be none of these; a type of kinds would be made for this one `match`.
+    // Stays: C callers lend the number, which may be none of these; an enum would be made by the same `match`, only to be matched again here.
     match kind {
         words::NUMERAL => is_held(text, word, count).then_some(0),
         term_parser::APPLICATION => if count == 0 { None } else { Some(count) },

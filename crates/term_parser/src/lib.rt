@@ -50,7 +50,7 @@ pub struct Input<'a> {
 }
 
 // Where a reader stands: the place of the next token, and how many rows are in use.
-// Stays: apart from the input, which is read, and the rows, which are written: a struct of all three would be lent to be written, input and all.
+// Stays: with the rows in one struct, which is lent to be written, each contract would say besides that input and rows are the same ones afterwards.
 #[derive(Clone, Copy)]
 pub struct Position {
     pub at: usize,

@@ -77,6 +77,7 @@ pub fn atom(
     ensures { Reads 1 rows_of (λ text last. atom_of text last (parenthesis text last left)) input.entry from out.old (maybe_step result) out.new }
 {
     let t = peek(input.tokens, from.at);
+    // Stays: the kind is a number in a token's row, which C callers lend; an enum would be made by the same `match`, only to be matched again.
     match t.kind {
         NAME | METAVARIABLE => Ok(Some(push(out, from, [t.kind, t.start, t.length, 0]))),
         NUMERAL => {

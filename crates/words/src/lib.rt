@@ -1,6 +1,6 @@
 // Words: from a text to its tokens. The Rust's `lex`, with the refusals 1 to 6.
 //
-// The entry points are `lex`, `word`, `numeral` and the methods of `Limits`. They ask nothing
+// The entry points are `lex`, `word`, `numeral` and `Limits::capped`. They ask nothing
 // of their caller, and each contract fixes the answer and every byte of the lent rows on all inputs.
 // `same` serves the crates above. What stands below tokens is in `source_text`.
 #![tactic(auto)]
