@@ -58,6 +58,17 @@ pub struct Position {
 }
 
 impl Position {
+    // The place behind a token that is taken.
+    pub fn past_token(self) -> Position
+        requires { self.at < 65536 }
+        ensures { result ≡ record { at = self.at + 1; used = self.used } }
+    {
+        Position {
+            at: self.at + 1,
+            ..self
+        }
+    }
+
     // The place behind a token that is taken and a row that is written.
     pub fn past_row(self) -> Position
         requires { (self.used < 65536) × (self.at < 65536) }

@@ -85,10 +85,7 @@ pub fn atom(
             Ok(Some(push(out, from, [NUMERAL, t.start, t.length, value])))
         }
         OPEN => {
-            let inside = Position {
-                at: from.at + 1,
-                ..from
-            };
+            let inside = from.past_token();
             if left == 0 {
                 return Err(rejection(Refusal::ParenthesisLimit, input.tokens, from.at));
             }
@@ -134,10 +131,7 @@ pub fn term(
     if peek(input.tokens, next.at).kind != EQUALS {
         return Ok(first);
     }
-    let behind = Position {
-        at: next.at + 1,
-        ..next
-    };
+    let behind = next.past_token();
     let second = app(input, behind, left, out)?;
     equate(input, second.position, out, from.used)
 }
