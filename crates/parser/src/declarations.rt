@@ -66,10 +66,7 @@ impl Repeated for Binders {
         if t.kind != NAME {
             return Err(rejection(Refusal::NameExpected, input.tokens, colon.position.at));
         }
-        let sort = Position {
-            at: colon.position.at + 1,
-            ..colon.position
-        };
+        let sort = colon.position.past_token();
         let close = sign(input, CLOSE, sort)?;
         out[from.used] = [BINDERS, t.start, t.length, bound.count];
         Ok(Some(Read { count: 1, ..close }))
