@@ -19,10 +19,9 @@ const LEVELS: usize = 132;
 fn is_held(text: &[u8], word: Word, held: u32) -> bool
     ensures { result ≡ is_held (numeral_of (part_of text.now word.start word.size)) held }
 {
-    match words::numeral(text, word.start as usize, word.size as usize) {
-        Some(v) => u64::from(held) == v.min(u64::from(u32::MAX)),
-        None => false,
-    }
+    words::numeral(text, word.start as usize, word.size as usize).is_some_and(|value| u64::from(
+        held,
+    ) == value.min(u64::from(u32::MAX)))
 }
 
 // How many arguments the term takes whose first row this is; none where it is not the first of a term.
