@@ -144,3 +144,12 @@ pub struct Rejection {
     pub refusal: Refusal,
     pub line: u32,
 }
+
+// A refusal that is about no line.
+impl From<Refusal> for Rejection {
+    ghost from_gives = { λ refusal rejection. rejection ≡ record { refusal = refusal; line = 0 } };
+
+    fn from(refusal: Refusal) -> Rejection {
+        Rejection { refusal, line: 0 }
+    }
+}
