@@ -71,7 +71,7 @@ pub fn enter(
 }
 
 // How far the compiler is: the next row, how many variables there are, how many words are used, and the room for nodes left.
-// Stays: apart from the source, which is read, and from variables and words, which are written: a struct of all would be lent to be written, with the source.
+// Stays: variables and words have different owners; a struct of the two would be made anew at each call, and each contract would say they come back.
 #[derive(Clone, Copy)]
 pub struct Place {
     pub next: usize,
@@ -248,6 +248,7 @@ fn numeral(
 
 // The pattern of the source term at a row, at a place of the sort want (0: a judgment).
 // Stays: the rows of symbols, which C callers lend, have 0 where there is no sort, and the sorts of places are compared with theirs.
+// Stays: C callers lend the kind, which may be none of these; an enum would be made by the same `match`, only to be matched again here.
 #[cycle(node_pattern)]
 pub fn pattern(
     source: SourceTerms,

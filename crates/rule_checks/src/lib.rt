@@ -79,8 +79,7 @@ pub fn are_sorts(columns: &[u32], sorts: u32) -> bool
 }
 
 // Whether the columns of a row are in form.
-// Stays: the row's counts were tested by `are_numbers`; a type of rows with tested counts would be made in `check_rule` alone, and each of the three
-// functions that ask for them would be given it and take the row out again.
+// Stays: a ghost field of `PlacedRule` for these counts would be proved in `check_rule` alone, where the contracts of the tests say it now.
 fn are_columns(rule: &RuleRow, sorts: u32) -> bool
     requires { (column rule.now 3 ≤ 64) × (column rule.now 4 ≤ 16) }
     ensures { Tells result (Columns sorts rule.now) }
