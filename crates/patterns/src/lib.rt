@@ -210,15 +210,8 @@ fn numeral_words(words: &mut [u32], used: usize, numerals: NumeralSymbols, n: us
 pub fn constructor(text: &[u8], symbols: &[SymbolRow], w: &[u8]) -> Option<usize>
     ensures { result ≡ constructor_of (symbols_of text.now symbols.now (length symbols.now)) w.now }
 {
-    match names::find(text, symbols, w) {
-        Some(i) => {
-            if symbols[i][2] == 0 {
-                return None;
-            }
-            Some(i)
-        }
-        None => None,
-    }
+    let i = names::find(text, symbols, w)?;
+    (symbols[i][2] != 0).then_some(i)
 }
 
 // The numeral n as a pattern.
@@ -344,9 +337,9 @@ pub fn judgments(
     ensures { Judged source.entry.text.now source.entry.rows.now from.next (length heads.old) (symbols_of source.entry.text.now source.entry.symbols.now (length source.entry.symbols.now)) variables.old from.variables words.old from.used from.room result variables.new words.new heads.new }
 {
     let mut place = from;
-    for k in 0..heads.len() {
+    for head in heads {
         let made = pattern(source, 0, variables, words, place)?;
-        heads[k] = made.node;
+        *head = made.node;
         place = made.place;
     }
     Ok(place)
