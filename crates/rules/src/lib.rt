@@ -162,9 +162,7 @@ fn order(rule: RuleTerms, stack: &mut [[u32; 2]]) -> MeetingOrder
     let mut places = Places::new();
     places.meet(words, conclusion, most, stack);
     let met = places.count;
-    for reference in heads.iter().rev() {
-        places.meet(words, *reference, most, stack);
-    }
+    places.meet_back(words, heads, most, stack);
     MeetingOrder { met, places }
 }
 
