@@ -3,16 +3,15 @@
 // All functions here serve the crates above: they ask for words of the listed sizes.
 #![tactic(auto)]
 
-ghost use Rattle.std.specs.Prelude.{◌≡◌, true, Some, None, List, [], ℕ, ◌+◌, ◌<◌, ◌≤◌, length, get_or, IsTrue, ◌↔◌, EachIndex, slice_index};
+ghost use Rattle.std.specs.Prelude.{◌≡◌, true, Some, None, [], ℕ, ◌+◌, ◌<◌, ◌≤◌, length, get_or, IsTrue, ◌↔◌, EachIndex, slice_index};
 ghost use Rattle.arena.specs.Cells.{headers};
 ghost use Rattle.arena.specs.Copies.{pattern_room};
 ghost use Rattle.arena.specs.Form.{is_argument};
-ghost use Rattle.resolution.specs.Fresh.{met_back};
 ghost use Rattle.meeting.specs.Places.{Records, is_place};
 ghost use Rattle.names.specs.Symbols.{column};
 ghost use Rattle.unifier.specs.Promises.{Tells};
 ghost use Rattle.rule_checks.specs.RuleForm.{RuleCheckable, RuleChecked};
-ghost use Rattle.rule_checks.specs.Steps.{Numbers, Columns, place_from, Parts, Walkable, TermAsked, premises_of, Walked, PlacedWord, OrderAsked, InOrder, InPlaces};
+ghost use Rattle.rule_checks.specs.Steps.{Numbers, Columns, place_from, Parts, Walkable, premises_of, Walked, PlacedWord, OrderAsked, InOrder, InPlaces};
 
 use arena::{PATTERN_ROOM, Terms};
 use meeting::Places;
@@ -211,16 +210,6 @@ fn is_in_order(rule: PlacedRule, stack: &mut [[u32; 2]]) -> bool
     places.is_in_order()
 }
 
-// Meets the variables of a row's premises from the last to the first, behind those met before.
-fn walk_back(words: &[u32], rule: &RuleRow, places: &mut Places, stack: &mut [[u32; 2]])
-    requires { (column rule.now 4 ≤ 16) × ((j : ℕ) → j < column rule.now 4 → TermAsked words.now (column rule.now (10 + j))) × (2048 ≤ length stack.old) }
-    ensures { (e : List ℕ) → Records e places.old.places places.old.count → Records (met_back (premises_of words.now rule.now) e) places.new.places places.new.count }
-{
-    for reference in rule[10..10 + rule[4] as usize].iter().rev() {
-        places.meet(words, *reference, MOST, stack);
-    }
-}
-
 // Whether a row has the places of its variables.
 fn are_places(rule: &RuleRow, places: &Places) -> bool
     requires { column rule.now 3 ≤ 64 }
@@ -254,7 +243,7 @@ fn is_in_places(rule: PlacedRule, stack: &mut [[u32; 2]]) -> bool
     if !are_placed(&words[middle as usize..end as usize], &places) {
         return false;
     }
-    walk_back(words, row, &mut places, stack);
+    places.meet_back(words, &row[10..10 + row[4] as usize], MOST, stack);
     are_places(row, &places)
 }
 
