@@ -3,16 +3,15 @@
 // All functions here serve the crates above: they ask for words of the listed sizes.
 #![tactic(auto)]
 
-ghost use Rattle.std.specs.Prelude.{◌≡◌, true, Some, None, List, [], ℕ, ◌+◌, ◌<◌, ◌≤◌, length, get_or, IsTrue, ◌↔◌, EachIndex, slice_index};
+ghost use Rattle.std.specs.Prelude.{◌≡◌, true, Some, None, [], ℕ, ◌+◌, ◌<◌, ◌≤◌, length, get_or, IsTrue, ◌↔◌, EachIndex, slice_index};
 ghost use Rattle.arena.specs.Cells.{headers};
 ghost use Rattle.arena.specs.Copies.{pattern_room};
 ghost use Rattle.arena.specs.Form.{is_argument};
-ghost use Rattle.resolution.specs.Fresh.{met_back};
 ghost use Rattle.meeting.specs.Places.{Records, is_place};
 ghost use Rattle.names.specs.Symbols.{column};
 ghost use Rattle.unifier.specs.Promises.{Tells};
 ghost use Rattle.rule_checks.specs.RuleForm.{RuleCheckable, RuleChecked};
-ghost use Rattle.rule_checks.specs.Steps.{Numbers, Columns, place_from, Parts, Walkable, TermAsked, premises_of, Walked, PlacedWord, OrderAsked, InOrder, InPlaces};
+ghost use Rattle.rule_checks.specs.Steps.{Numbers, Columns, place_from, Parts, Walkable, premises_of, Walked, PlacedWord, OrderAsked, InOrder, InPlaces};
 
 use arena::{PATTERN_ROOM, Terms};
 use meeting::Places;
@@ -83,8 +82,7 @@ pub fn are_sorts(columns: &[u32], sorts: u32) -> bool
 }
 
 // Whether the columns of a row are in form.
-// Stays: the row's counts were tested by `are_numbers`; a type of rows with tested counts would be made in `check_rule` alone, and each of the three
-// functions that ask for them would be given it and take the row out again.
+// Stays: a ghost field of `PlacedRule` for these counts would be proved in `check_rule` alone, where the contracts of the tests say it now.
 fn are_columns(rule: &RuleRow, sorts: u32) -> bool
     requires { (column rule.now 3 ≤ 64) × (column rule.now 4 ≤ 16) }
     ensures { Tells result (Columns sorts rule.now) }
@@ -221,19 +219,6 @@ fn is_in_order(rule: PlacedRule, stack: &mut [[u32; 2]]) -> bool
     places.is_in_order()
 }
 
-// Meets the variables of a row's premises from the last to the first, behind those met before.
-fn walk_back(words: &[u32], rule: &RuleRow, places: &mut Places, stack: &mut [[u32; 2]])
-    requires { (column rule.now 4 ≤ 16) × ((j : ℕ) → j < column rule.now 4 → TermAsked words.now (column rule.now (10 + j))) × (2048 ≤ length stack.old) }
-    ensures { (e : List ℕ) → Records e places.old.places places.old.count → Records (met_back (premises_of words.now rule.now) e) places.new.places places.new.count }
-{
-    for reference in rule[FIRST_PREMISE..FIRST_PREMISE + rule[PREMISES] as usize]
-        .iter()
-        .rev()
-    {
-        places.meet(words, *reference, MOST, stack);
-    }
-}
-
 // Whether a row has the places of its variables.
 fn are_places(rule: &RuleRow, places: &Places) -> bool
     requires { column rule.now 3 ≤ 64 }
@@ -271,7 +256,7 @@ fn is_in_places(rule: PlacedRule, stack: &mut [[u32; 2]]) -> bool
     if !are_placed(&words[middle as usize..end as usize], &places) {
         return false;
     }
-    walk_back(words, row, &mut places, stack);
+    places.meet_back(words, &row[10..10 + row[4] as usize], MOST, stack);
     are_places(row, &places)
 }
 

@@ -165,9 +165,7 @@ fn order(rule: RuleTerms, stack: &mut [[u32; 2]]) -> MeetingOrder
     let mut places = Places::new();
     places.meet(words, conclusion, most, stack);
     let met = places.count;
-    for reference in heads.iter().rev() {
-        places.meet(words, *reference, most, stack);
-    }
+    places.meet_back(words, heads, most, stack);
     MeetingOrder { met, places }
 }
 
@@ -193,7 +191,7 @@ fn order_sized(rule: RuleTerms) -> MeetingOrder
 }
 
 // Writes the sorts of variables into a row, from column 26 on.
-// Stays: `signature::put_column` promises only the numbers that it writes; here the row's other columns must stand too, so its promise would be a second one.
+// Stays: `signature::put_column` is in a crate above, and promises number by number, where this contract is one equation of lists.
 fn put_sorts(row: &mut RuleRow, variables: &[VariableRow])
     requires { length variables.now ≤ 64 }
     ensures { (text : List ℕ) → row.new ≡ sets row.old 26 (mathlib.Core.List.map (λ v. v.sort) (variables_of text variables.now (length variables.now))) }
@@ -283,7 +281,7 @@ fn keep(
 }
 
 // Where a rule is entered: its number, and the space for its words.
-// Stays: words and rows go beside it; a struct of the two would be made anew from four buffers at each call, and each contract would say they come back.
+// Stays: words and rules go beside the place; a struct of the two buffers would be made anew at each call, and each contract would say they come back.
 #[derive(Clone, Copy)]
 pub struct RulePlace {
     pub number: usize,
