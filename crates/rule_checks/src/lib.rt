@@ -256,7 +256,8 @@ fn is_in_places(rule: PlacedRule, stack: &mut [[u32; 2]]) -> bool
     if !are_placed(&words[middle as usize..end as usize], &places) {
         return false;
     }
-    places.meet_back(words, &row[10..10 + row[4] as usize], MOST, stack);
+    let premises = &row[FIRST_PREMISE..FIRST_PREMISE + row[PREMISES] as usize];
+    places.meet_back(words, premises, MOST, stack);
     are_places(row, &places)
 }
 
