@@ -24,7 +24,7 @@ fn is_apart(pattern: &[u32], base: usize, words: &[u32], values: &[u32]) -> bool
 }
 
 // The clauses of a function: the rules from one on up to another, and the words of their patterns.
-// Stays: lent as a part of the rules, they would need their first one's number beside them still, as the answer is a rule's number among all.
+// Stays: of `&rules[from..end]` the answer would be a place in that part; `call` would add `from` to it, as trees name a rule by its number among all.
 #[derive(Clone, Copy)]
 pub struct Clauses<'a> {
     pub rules: &'a [RuleRow],

@@ -105,6 +105,7 @@ fn bind_node(
 
 // Whether the value fits the pattern; its variables take their values.
 // Stays: the environment is the caller's local, links and stack its store's; each function on a struct of the three would promise that the same come back.
+// Stays: the pattern's words are the program's, the reference a number read in them; a struct of both would be put together again for each part.
 pub fn bind(
     pattern: &[u32],
     reference: u32,

@@ -40,6 +40,7 @@ pub struct Level {
 
 // A program: its symbols, its rules, the words of their patterns, and how many words its values may take.
 // Stays: a ghost field that says that it is in form would spare nothing, as each contract names the symbols and rules that stand in it anyway.
+// Stays: a method for `Room { used, limit: program.limit }` would be given `used` and hold that one line, with a contract that four proofs unfold again.
 #[derive(Clone, Copy)]
 pub struct Program<'a> {
     pub symbols: &'a [SymbolRow],
