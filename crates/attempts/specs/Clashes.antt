@@ -12,7 +12,7 @@ use Rattle.terms.specs.Unification.{Outcome, unfinished, fails, unified, unify}
 use Rattle.terms.specs.Robinson.{Unified}
 use Rattle.terms.proofs.Robinson.{unify_ok}
 use Rattle.arena.specs.Cells.{headers, Cells, symbol_of, arity_of, args, denote, Reference, WellFormed, denote_node, reference_argument, cells}
-use Rattle.arena.specs.Copies.{pattern_room, term_room}
+use Rattle.arena.specs.Copies.{pattern_room}
 use Rattle.arena.specs.Rows.{Rows}
 use Rattle.bindings.specs.Stored.{held, Form}
 use Rattle.bindings.specs.Promises.{Walked}
@@ -32,15 +32,15 @@ clash_fails c β g h ac bb bg bh k = go (unify c β g h) (unify_ok c β g h ac b
     go (unified β') u = let s = u.sound (full β') (full_solves β' u.acyclic) in absurd (k (full β') s.0 s.1.0)
 
 -- The bindings lead from the reference r to the node that is told, and else to a variable.
-abbrev pub LeadsTo : List ℕ → Rows → ℕ → ℕ → ℕ → ℕ → Option ℕ → Type 0
-LeadsTo words rows variables used bound r node =
-    MatchOption node ((q : ℕ) × (q < term_room) × Walked term_room words rows variables used bound r q)
-    (λ q. (term_room ≤ q) × Walked term_room words rows variables used bound r q)
+abbrev pub LeadsTo : ℕ → List ℕ → Rows → ℕ → ℕ → ℕ → ℕ → Option ℕ → Type 0
+LeadsTo room words rows variables used bound r node =
+    MatchOption node ((q : ℕ) × (q < room) × Walked room words rows variables used bound r q)
+    (λ q. (room ≤ q) × Walked room words rows variables used bound r q)
 
 -- What comparing a goal's reference with a pattern's asks: a state and a pattern in form.
-pub record Comparable (pattern words : List ℕ) (rows : Rows) (variables used bound r s : ℕ) : Type 0 where
-  pub form : Form term_room words rows variables used bound
-  pub refers : Reference term_room (cells words) variables used r
+pub record Comparable (room : ℕ) (pattern words : List ℕ) (rows : Rows) (variables used bound r s : ℕ) : Type 0 where
+  pub form : Form room words rows variables used bound
+  pub refers : Reference room (cells words) variables used r
   pub end : ℕ
   pub there : end ≤ length pattern
   pub low : pattern_room + end ≤ headers
@@ -48,8 +48,8 @@ pub record Comparable (pattern words : List ℕ) (rows : Rows) (variables used b
   pub pattern_refers : Reference pattern_room (cells pattern) pattern_room end s
 
 -- The goal and every instance of the pattern's term clash.
-abbrev pub Clashes : List ℕ → List ℕ → Rows → ℕ → ℕ → ℕ → Type 0
-Clashes pattern words rows bound r s = (ν : Subst) → Clash (held term_room words rows bound) (denote term_room (cells words) r) (sub ν (pattern_of pattern s))
+abbrev pub Clashes : ℕ → List ℕ → List ℕ → Rows → ℕ → ℕ → ℕ → Type 0
+Clashes room pattern words rows bound r s = (ν : Subst) → Clash (held room words rows bound) (denote room (cells words) r) (sub ν (pattern_of pattern s))
 
 count_args : (g : ℕ → Term) (w : Cells) (p n : ℕ) → count (args g w p n) ≡ n
 count_args g w p zero = refl
@@ -79,40 +79,40 @@ nth_twice σ ν g w p zero i l = absurd (omega arith)
 nth_twice σ ν g w p (suc n) zero l = ap (λ (j : ℕ). sub σ (sub ν (g (w j)))) (let e : p ≡ p + 0 = omega arith in e)
 nth_twice σ ν g w p (suc n) (suc i) l = nth_twice σ ν g w (suc p) n i (omega arith) ∙ ap (λ (j : ℕ). sub σ (sub ν (g (w j)))) (let e : suc p + i ≡ p + suc i = omega arith in e)
 
-module _ {pattern words : List ℕ} {rows : Rows} {variables used bound r s : ℕ} (h : Comparable pattern words rows variables used bound r s)
-    {q : ℕ} (walked : Walked term_room words rows variables used bound r q) (goal-node : term_room ≤ q) (pattern-node : pattern_room ≤ s) where
+module _ {room : ℕ} {pattern words : List ℕ} {rows : Rows} {variables used bound r s : ℕ} (h : Comparable room pattern words rows variables used bound r s)
+    {q : ℕ} (walked : Walked room words rows variables used bound r q) (goal-node : room ≤ q) (pattern-node : pattern_room ≤ s) where
   abbrev goal_header : ℕ
-  goal_header = cells words (q - term_room)
+  goal_header = cells words (q - room)
 
   abbrev pattern_header : ℕ
   pattern_header = cells pattern (s - pattern_room)
 
   goal_args : Terms
-  goal_args = args (denote term_room (cells words)) (cells words) (suc (q - term_room)) (arity_of (cells words (q - term_room)))
+  goal_args = args (denote room (cells words)) (cells words) (suc (q - room)) (arity_of (cells words (q - room)))
 
   pattern_args : Terms
   pattern_args = args (denote pattern_room (cells pattern)) (cells pattern) (suc (s - pattern_room)) (arity_of (cells pattern (s - pattern_room)))
 
-  goal_is : (σ : Subst) → Solves σ (held term_room words rows bound) → sub σ (denote term_room (cells words) r) ≡ app (symbol_of goal_header) (sub σ goal_args)
+  goal_is : (σ : Subst) → Solves σ (held room words rows bound) → sub σ (denote room (cells words) r) ≡ app (symbol_of goal_header) (sub σ goal_args)
   unfolding goal_args
   goal_is σ k =
-      sym (solves_walk σ (held term_room words rows bound) h.form.acyclic k (denote term_room (cells words) r))
-      ∙ ap (sub σ) (walked.is ∙ denote_node term_room (cells words) variables used h.form.words q walked.in_form goal-node)
+      sym (solves_walk σ (held room words rows bound) h.form.acyclic k (denote room (cells words) r))
+      ∙ ap (sub σ) (walked.is ∙ denote_node room (cells words) variables used h.form.words q walked.in_form goal-node)
 
   pattern_is : (σ ν : Subst) → sub σ (sub ν (pattern_of pattern s)) ≡ app (symbol_of pattern_header) (sub σ (sub ν pattern_args))
   unfolding pattern_args
   pattern_is σ ν = ap (λ (t : Term). sub σ (sub ν t)) (denote_node pattern_room (cells pattern) pattern_room h.end h.formed s h.pattern_refers pattern-node)
 
-  both : (σ ν : Subst) → Solves σ (held term_room words rows bound) → sub σ (denote term_room (cells words) r) ≡ sub σ (sub ν (pattern_of pattern s))
+  both : (σ ν : Subst) → Solves σ (held room words rows bound) → sub σ (denote room (cells words) r) ≡ sub σ (sub ν (pattern_of pattern s))
       → app (symbol_of goal_header) (sub σ goal_args) ≡ app (symbol_of pattern_header) (sub σ (sub ν pattern_args))
   both σ ν k e = sym (goal_is σ k) ∙ e ∙ pattern_is σ ν
 
   -- The heads differ.
-  pub heads_clash : goal_header ≢ pattern_header → Clashes pattern words rows bound r s
+  pub heads_clash : goal_header ≢ pattern_header → Clashes room pattern words rows bound r s
   unfolding goal_args pattern_args
   heads_clash n ν σ k e =
       n (headers_same goal_header pattern_header (walked.in_form.header goal-node) (h.pattern_refers.header pattern-node) (sub σ goal_args) (sub σ (sub ν pattern_args))
-      (count_sub σ goal_args ∙ count_args (denote term_room (cells words)) (cells words) (suc (q - term_room)) (arity_of goal_header))
+      (count_sub σ goal_args ∙ count_args (denote room (cells words)) (cells words) (suc (q - room)) (arity_of goal_header))
       (count_sub σ (sub ν pattern_args) ∙ count_sub ν pattern_args ∙ count_args (denote pattern_room (cells pattern)) (cells pattern) (suc (s - pattern_room)) (arity_of pattern_header))
       (both σ ν k e))
 
@@ -120,18 +120,18 @@ module _ {pattern words : List ℕ} {rows : Rows} {variables used bound r s : �
     below : i < arity_of pattern_header
     below = subst (λ (x : ℕ). i < arity_of x) same l
 
-    goal_place : suc (q - term_room) + i ≡ q - term_room + 1 + i
+    goal_place : suc (q - room) + i ≡ q - room + 1 + i
     goal_place = omega arith
 
     pattern_place : suc (s - pattern_room) + i ≡ s - pattern_room + 1 + i
     pattern_place = omega arith
 
     -- Two arguments can be compared,
-    pub arguments_comparable : Comparable pattern words rows variables used bound (cells words (q - term_room + 1 + i)) (cells pattern (s - pattern_room + 1 + i))
+    pub arguments_comparable : Comparable room pattern words rows variables used bound (cells words (q - room + 1 + i)) (cells pattern (s - pattern_room + 1 + i))
     arguments_comparable = record {
       form = h.form;
-      refers = subst (λ (j : ℕ). Reference term_room (cells words) variables used (cells words j)) goal_place
-          (reference_argument term_room (cells words) variables used h.form.words q i walked.in_form goal-node l);
+      refers = subst (λ (j : ℕ). Reference room (cells words) variables used (cells words j)) goal_place
+          (reference_argument room (cells words) variables used h.form.words q i walked.in_form goal-node l);
       end = h.end;
       there = h.there;
       low = h.low;
@@ -141,21 +141,21 @@ module _ {pattern words : List ℕ} {rows : Rows} {variables used bound r s : �
     }
 
     -- and if they clash, so do the terms.
-    pub arguments_clash : Clashes pattern words rows bound (cells words (q - term_room + 1 + i)) (cells pattern (s - pattern_room + 1 + i)) → Clashes pattern words rows bound r s
+    pub arguments_clash : Clashes room pattern words rows bound (cells words (q - room + 1 + i)) (cells pattern (s - pattern_room + 1 + i)) → Clashes room pattern words rows bound r s
     unfolding goal_args pattern_args
     arguments_clash c ν σ k e =
         let j = app_inj (symbol_of goal_header) (symbol_of pattern_header) (sub σ goal_args) (sub σ (sub ν pattern_args)) (both σ ν k e) in
-        c ν σ k (ap (λ (j : ℕ). sub σ (denote term_room (cells words) (cells words j))) (sym goal_place)
-        ∙ sym (nth_args σ (denote term_room (cells words)) (cells words) (suc (q - term_room)) (arity_of goal_header) i l)
+        c ν σ k (ap (λ (j : ℕ). sub σ (denote room (cells words) (cells words j))) (sym goal_place)
+        ∙ sym (nth_args σ (denote room (cells words)) (cells words) (suc (q - room)) (arity_of goal_header) i l)
         ∙ ap (nth i) j.1
         ∙ nth_twice σ ν (denote pattern_room (cells pattern)) (cells pattern) (suc (s - pattern_room)) (arity_of pattern_header) i below
         ∙ ap (λ (j : ℕ). sub σ (sub ν (denote pattern_room (cells pattern) (cells pattern j)))) pattern_place)
 
   -- The words that are read are there.
-  pub goal_in_lem : q - term_room + arity_of goal_header < length words
+  pub goal_in_lem : q - room + arity_of goal_header < length words
   goal_in_lem =
       let n = walked.in_form.node goal-node in
-      let f = h.form.words.fits (q - term_room) (omega arith) (walked.in_form.header goal-node) in
+      let f = h.form.words.fits (q - room) (omega arith) (walked.in_form.header goal-node) in
       let b = h.form.lent_words in omega arith
 
   pub pattern_in : s - pattern_room + arity_of pattern_header < length pattern

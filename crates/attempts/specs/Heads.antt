@@ -45,7 +45,7 @@ module _ {most limit : ℕ} {pattern places : List ℕ} {stored : Stored} {words
   head_refused e = record { limits = refl; came = (e, refl); kept = λ i l. refl; past = λ i l. refl; long = refl; links_kept = refl; marks_kept = refl; stack_kept = refl }
 
   -- The goal can be compared with the conclusion as it stands in the pattern.
-  pub head_comparable : Comparable pattern words rows counter used bound goal stored.conclusion
+  pub head_comparable : Comparable term_room pattern words rows counter used bound goal stored.conclusion
   head_comparable =
       let l = asked.part.low in
       record {
@@ -169,7 +169,7 @@ module _ {most limit : ℕ} {pattern places : List ℕ} {stored : Stored} {words
       head_ended found (Some n) h = head_unifies found h refl
 
     -- Their heads clash: nothing was copied.
-    pub head_clashes : Clashes pattern words rows bound goal stored.conclusion
+    pub head_clashes : Clashes term_room pattern words rows bound goal stored.conclusion
         → HeadTried most limit pattern places stored words words rows rows links links marks marks stack stack counter used bound goal (Ok None)
     head_clashes k = record {
       limits = tt;

@@ -4,7 +4,6 @@
 ghost use Rattle.std.specs.Prelude.{◌≡◌, ◌+◌, ◌<◌, true};
 ghost use Rattle.resolution.specs.Search.{within, over};
 ghost use Rattle.arena.specs.Cells.{cells, Reference};
-ghost use Rattle.arena.specs.Copies.{term_room};
 ghost use Rattle.bindings.specs.Stored.{Form};
 ghost use Rattle.attempts.specs.Clashes.{LeadsTo, Comparable, Clashes};
 ghost use Rattle.unifier.specs.Lending.{SameBuffers};
@@ -76,82 +75,63 @@ pub enum Tried {
 }
 
 // The reference of the node that the bindings lead to from the goal; none where they lead to a variable.
-pub fn goal_node(words: &[u32], bindings: &[[u32; 2]], at: SearchState) -> Option<u32>
+pub fn goal_node(terms: Terms, held: StoredBindings, goal: u32) -> Option<u32>
     // The callers hold a goal and bindings in form.
-    requires form { Form term_room words.now bindings.now at.counter at.used at.bound }
-    requires refers { Reference term_room (cells words.now) at.counter at.used at.goal }
-    ensures { LeadsTo words.now bindings.now at.counter at.used at.bound at.goal result }
+    requires form { Form terms.room terms.words.now held.rows.now terms.variables terms.used held.bound }
+    requires refers { Reference terms.room (cells terms.words.now) terms.variables terms.used goal }
+    ensures { LeadsTo terms.entry.room terms.entry.words.now held.entry.rows.now terms.entry.variables terms.entry.used held.entry.bound goal result }
 {
-    let terms = Terms {
-        words,
-        room: TERM_ROOM,
-        variables: at.counter,
-        used: at.used,
-    };
-    let held = StoredBindings {
-        rows: bindings,
-        bound: at.bound,
-    };
-    let end = walk(terms, held, at.goal);
-    if end < TERM_ROOM {
+    let end = walk(terms, held, goal);
+    if end < terms.room {
         return None;
     }
     Some(end)
 }
 
 // Whether two heads differ: where the bindings lead from the goal, and a pattern's, both nodes.
-fn heads_differ(
-    pattern: &[u32],
-    words: &[u32],
-    bindings: &[[u32; 2]],
-    at: SearchState,
-    other: u32,
-) -> bool
-    requires { Comparable pattern.now words.now bindings.now at.counter at.used at.bound at.goal other }
-    ensures { result ≡ true → Clashes pattern.now words.now bindings.now at.bound at.goal other }
+fn heads_differ(pattern: &[u32], terms: Terms, held: StoredBindings, goal: u32, other: u32) -> bool
+    requires { Comparable terms.room pattern.now terms.words.now held.rows.now terms.variables terms.used held.bound goal other }
+    ensures { result ≡ true → Clashes terms.entry.room pattern.now terms.entry.words.now held.entry.rows.now held.entry.bound goal other }
 {
     if other < PATTERN_ROOM {
         return false;
     }
-    let Some(end) = goal_node(words, bindings, at) else {
+    let Some(end) = goal_node(terms, held, goal) else {
         return false;
     };
-    let node = (end - TERM_ROOM) as usize;
+    let node = (end - terms.room) as usize;
     let from = (other - PATTERN_ROOM) as usize;
-    words[node] != pattern[from]
+    terms.words[node] != pattern[from]
 }
 
 // Whether the goal and a conclusion clash by their heads or by those of their arguments. A rule that cannot serve is mostly found out here, before
 // anything is copied.
 pub fn clashes(
     pattern: &[u32],
-    words: &[u32],
-    bindings: &[[u32; 2]],
-    at: SearchState,
+    terms: Terms,
+    held: StoredBindings,
+    goal: u32,
     conclusion: u32,
 ) -> bool
-    requires { Comparable pattern.now words.now bindings.now at.counter at.used at.bound at.goal conclusion }
-    ensures { result ≡ true → Clashes pattern.now words.now bindings.now at.bound at.goal conclusion }
+    requires { Comparable terms.room pattern.now terms.words.now held.rows.now terms.variables terms.used held.bound goal conclusion }
+    ensures { result ≡ true → Clashes terms.entry.room pattern.now terms.entry.words.now held.entry.rows.now held.entry.bound goal conclusion }
 {
     if conclusion < PATTERN_ROOM {
         return false;
     }
-    let Some(end) = goal_node(words, bindings, at) else {
+    let Some(end) = goal_node(terms, held, goal) else {
         return false;
     };
-    let node = (end - TERM_ROOM) as usize;
+    let node = (end - terms.room) as usize;
     let from = (conclusion - PATTERN_ROOM) as usize;
-    let header = words[node];
+    let header = terms.words[node];
     if header != pattern[from] {
         return true;
     }
     let count = (header % SYMBOL_STEP) as usize;
     (0..count).any(|i| {
-        let argument = SearchState {
-            goal: words[node + 1 + i],
-            ..at
-        };
-        heads_differ(pattern, words, bindings, argument, pattern[from + 1 + i])
+        let argument = terms.words[node + 1 + i];
+        heads_differ(pattern, terms, held, argument, pattern[from + 1 + i])
     })
 }
 
@@ -178,7 +158,17 @@ fn try_head(
     if at.limits.exceeds(variables, top) {
         return Err(Refusal::OverLimit);
     }
-    if clashes(rule.pattern, words, bindings, at, stored.conclusion) {
+    let before = Terms {
+        words,
+        room: TERM_ROOM,
+        variables: at.counter,
+        used: at.used,
+    };
+    let held = StoredBindings {
+        rows: bindings,
+        bound: at.bound,
+    };
+    if clashes(rule.pattern, before, held, at.goal, stored.conclusion) {
         return Ok(None);
     }
     // Of two variables the first is bound: the goal's.

@@ -24,8 +24,8 @@ pub record Goal (W : List ℕ) (T : Rows) (v u t g : ℕ) : Type 0 where
 
 -- The goal leads to a node with the header h, so that a pattern's node with another header clashes with it.
 pub record Heads (W : List ℕ) (T : Rows) (v u t g h : ℕ) : Type 0 where
-  pub clash : (P : List ℕ) (s : ℕ) → Comparable P W T v u t g s → pattern_room ≤ s → cells P (s - pattern_room) ≢ h
-      → Clashes P W T t g s
+  pub clash : (P : List ℕ) (s : ℕ) → Comparable term_room P W T v u t g s → pattern_room ≤ s → cells P (s - pattern_room) ≢ h
+      → Clashes term_room P W T t g s
 
 -- A rule's row is there, and so is the header of its conclusion.
 pub record Readable (R : Rows) (P : List ℕ) (r : ℕ) : Type 0 where
@@ -44,7 +44,7 @@ pub record Differs (R : Rows) (P : List ℕ) (h : Option ℕ) (r : ℕ) : Type 0
 pub record Judged (R : Rows) (P : List ℕ) (W : List ℕ) (T : Rows) (m : Machine) (h : Option ℕ) (r : ℕ) : Type 0 where
   pub readable : Readable R P r
   pub heads : IfSome h (Heads W T m.counter m.used m.bound m.goal)
-  pub comparable : Comparable P W T m.counter m.used m.bound m.goal (column (row_at R r) 5)
+  pub comparable : Comparable term_room P W T m.counter m.used m.bound m.goal (column (row_at R r) 5)
 
 -- The machine is about to try a rule; frames and scratch are not looked at.
 pub record Choosing (a : Allowed) (P : List ℕ) (R : Rows) (W : List ℕ) (T : Rows) (m : Machine) : Type 0 where

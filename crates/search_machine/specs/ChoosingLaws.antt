@@ -47,7 +47,7 @@ module _ {W : List ℕ} {T : Rows} {v u t g q : ℕ} (walked : Walked term_room 
 
 -- A conclusion with another header than the goal's clashes with it.
 pub judged_differs : {R : Rows} {P W : List ℕ} {T : Rows} {m : Machine} {h : Option ℕ} {r : ℕ} → Judged R P W T m h r → Differs R P h r
-    → Clashes P W T m.bound m.goal (column (row_at R r) 5)
+    → Clashes term_room P W T m.bound m.goal (column (row_at R r) 5)
 judged_differs {W = W} {T = T} {m = m} judged differs =
     let heads : IfSome (Some differs.header) (Heads W T m.counter m.used m.bound m.goal) =
     subst (λ (h : Option ℕ). IfSome h (Heads W T m.counter m.used m.bound m.goal)) differs.known judged.heads in
@@ -55,7 +55,7 @@ judged_differs {W = W} {T = T} {m = m} judged differs =
 
 module _ {most limit : ℕ} {P : List ℕ} {R : Rows} {W : List ℕ} {T L M S : Rows} {c u t g r : ℕ}
     (asked : RowAsked most limit P R W T L M S c u t g r) where
-  row_comparable : Comparable P W T c u t g (column (row_at R r) 5)
+  row_comparable : Comparable term_room P W T c u t g (column (row_at R r) 5)
   row_comparable = head_comparable (head_asked asked.asked)
 
   row_readable : Readable R P r
@@ -85,7 +85,7 @@ module _ {most limit : ℕ} {P : List ℕ} {R : Rows} {W : List ℕ} {T L M S : 
 
   -- Its conclusion clashes with the goal.
   row_passed : over (within most limit) (c + column (row_at R r) 9) (u + column (row_at R r) 8) ≡ false
-      → Clashes P W T t g (column (row_at R r) 5)
+      → Clashes term_room P W T t g (column (row_at R r) 5)
       → RowTried most limit P R W W T T L L M M S S c u t g r (Ok (Missed (c + column (row_at R r) 9)))
   row_passed e k = missed_way asked.asked (head_clashes (head_asked asked.asked) e k) refl
 
@@ -160,7 +160,7 @@ module _ {a : Allowed} {P : List ℕ} {R : Rows} {W : List ℕ} {T : Rows} {m : 
     at_try = ap (λ (k : Mode). current a.rules k m.rule) choosing.mode
 
     -- A rule that clashes is passed over.
-    pub passing_next : r < a.rules → Clashes P W T m.bound m.goal (column (row_at R r) 5)
+    pub passing_next : r < a.rules → Clashes term_room P W T m.bound m.goal (column (row_at R r) 5)
         → over (within a.limits.variables a.limits.words) (c + column (row_at R r) 9) (m.used + column (row_at R r) 8) ≡ false
         → Passing a P R W T m (r + 1) (c + column (row_at R r) 9)
     passing_next l k e =

@@ -2,21 +2,32 @@
 // their words as if they were tried, and nothing is copied.
 ghost use Rattle.std.specs.Prelude.{◌≡◌, false, IfSome};
 ghost use Rattle.names.specs.Symbols.{column, row_at};
+ghost use Rattle.arena.specs.Copies.{term_room};
 ghost use Rattle.attempts.specs.Clashes.{Clashes};
 ghost use Rattle.search_machine.specs.Choosing.{Goal, Heads, Readable, Differs, Judged, Choosing, Chosen};
 
 use super::{Machine, Mode, Program, Store};
-use arena::{PATTERN_ROOM, TERM_ROOM};
+use arena::{PATTERN_ROOM, TERM_ROOM, Terms};
 use attempts::{clashes, goal_node};
+use bindings::StoredBindings;
 use rules::columns::{CONCLUSION, CONCLUSION_WORDS, MET, PREMISE_WORDS};
 
 // The header that the bindings lead to from the goal; none where they lead to a variable.
-fn goal_header(program: Program, store: &Store, m: Machine) -> Option<u32>
+fn goal_header(store: &Store, m: Machine) -> Option<u32>
     requires { Goal store.now.words.now store.now.bindings.now m.counter m.used m.bound m.goal }
     ensures { IfSome result (Heads store.now.words.now store.now.bindings.now m.counter m.used m.bound m.goal) }
 {
-    let at = m.state(program.allowed.limits);
-    let node = goal_node(store.words, store.bindings, at)?;
+    let terms = Terms {
+        words: store.words,
+        room: TERM_ROOM,
+        variables: m.counter,
+        used: m.used,
+    };
+    let held = StoredBindings {
+        rows: store.bindings,
+        bound: m.bound,
+    };
+    let node = goal_node(terms, held, m.goal)?;
     Some(store.words[(node - TERM_ROOM) as usize])
 }
 
@@ -38,15 +49,24 @@ fn may_unify(program: Program, header: Option<u32>, rule: u32) -> bool
 // Whether a rule has to be tried: its conclusion does not clash with the goal, by its head or by those of its arguments.
 fn is_candidate(program: Program, store: &Store, m: Machine, header: Option<u32>, rule: u32) -> bool
     requires { Judged program.rules.now program.pattern.now store.now.words.now store.now.bindings.now m header rule }
-    ensures { result ≡ false → Clashes program.entry.pattern.now store.now.words.now store.now.bindings.now m.bound m.goal
+    ensures { result ≡ false → Clashes term_room program.entry.pattern.now store.now.words.now store.now.bindings.now m.bound m.goal
         (column (row_at program.entry.rules.now rule) 5) }
 {
     if !may_unify(program, header, rule) {
         return false;
     }
     let conclusion = program.rules[rule as usize][CONCLUSION];
-    let at = m.state(program.allowed.limits);
-    !clashes(program.pattern, store.words, store.bindings, at, conclusion)
+    let terms = Terms {
+        words: store.words,
+        room: TERM_ROOM,
+        variables: m.counter,
+        used: m.used,
+    };
+    let held = StoredBindings {
+        rows: store.bindings,
+        bound: m.bound,
+    };
+    !clashes(program.pattern, terms, held, m.goal, conclusion)
 }
 
 // The state at the next rule that has to be tried; at the end of the rules it fails, and at the limits it is refused.
@@ -54,7 +74,7 @@ pub fn next_candidate(program: Program, store: &Store, m: Machine) -> Machine
     requires { Choosing program.allowed program.pattern.now program.rules.now store.now.words.now store.now.bindings.now m }
     ensures { Chosen program.entry.allowed program.entry.pattern.now program.entry.rules.now store.now.words.now store.now.bindings.now m result }
 {
-    let header = goal_header(program, store, m);
+    let header = goal_header(store, m);
     let mut counter = m.counter;
     for rule in m.rule..program.allowed.rules {
         let row = &program.rules[rule as usize];

@@ -5,8 +5,8 @@ use Rattle.std.specs.List.{range_with_len, HoldsAt, AllWithin}
 use Rattle.std.proofs.lemmas.Iterator.{serves_from_Range, YieldsList-from_range, cases_from_any}
 use Rattle.std.proofs.lemmas.List.FromFn.{length-range_with_len, get_or-range_with_len}
 use Rattle.arena.specs.Cells.{cells, arity_of}
-use Rattle.arena.specs.Copies.{pattern_room, term_room}
-use Rattle.attempts.specs.Clashes.{Clashes, heads_clash, arguments_comparable, arguments_clash}
+use Rattle.arena.specs.Copies.{pattern_room}
+use Rattle.attempts.specs.Clashes.{Clashes, heads_clash, arguments_comparable, arguments_clash, goal_in_lem, pattern_in}
 use Rattle.attempts.proofs.clashes.Goals as goal
 
 pub returns-then-header-pattern : goal.returns-then-header-pattern
@@ -21,6 +21,11 @@ any-requires-clause-callable c =
     (λ x low high.
     let l = c.in-Some.ensures in
     let k = arguments_comparable c.requires l.1 l.0 (omega arith) c.if-header-pattern.false x high in
+    let goal_end = goal_in_lem c.requires l.1 l.0 (omega arith) in
+    let pattern_end = pattern_in c.requires l.1 l.0 (omega arith) in
+    let same = c.if-header-pattern.false in
+    let in_words : c.in-Some.end - c.args.terms.room + 1 + x < length c.args.terms.words.now = omega (arith, goal_end, high) in
+    let in_pattern : c.args.conclusion - 64 + 1 + x < length c.args.pattern.now = omega (arith, pattern_end, same, high) in
     search rules)
 
 -- A place of a range at which the answer was yes.
@@ -35,12 +40,12 @@ found Yes n B false h e = absurd (let w : false ≡ true = e in cc)
 pub returns : goal.returns
 returns c = λ e.
     let l = c.in-Some.ensures in
-    let w = c.args.words.now in
+    let w = c.args.terms.words.now in
     let p = c.args.pattern.now in
-    let a = c.in-Some.end - term_room in
+    let a = c.in-Some.end - c.args.terms.room in
     let b = c.args.conclusion - pattern_room in
     let n = arity_of (cells w a) in
-    let Differ : ℕ → Type 0 = λ i. Clashes p w c.args.bindings.now c.args.at.bound (cells w (a + 1 + i)) (cells p (b + 1 + i)) in
+    let Differ : ℕ → Type 0 = λ i. Clashes c.args.terms.room p w c.args.held.rows.now c.args.held.bound (cells w (a + 1 + i)) (cells p (b + 1 + i)) in
     let hit = found Differ n (AllWithin (λ _. Unit {0}) (range_with_len 0 n) 0 (length (range_with_len 0 n))) c.any.result
     (cases_from_any _ _ c.any.result Differ (λ _. Unit {0}) c.any.ensures.ran (YieldsList-from_range 0 n n refl (omega arith)) (λ x q k. search rules) (λ x q k. (search rules, tt)))
     e in

@@ -2,13 +2,7 @@
 use Rattle.search_machine.specs.ChoosingLaws.{heads_node}
 use Rattle.search_machine.proofs.candidates.goal_header.Goals as goal
 
-pub goal_node-requires-clause-form : goal.goal_node-requires-clause-form
-goal_node-requires-clause-form c = rw c.state-at.ensures c.requires.form
-
-pub goal_node-requires-clause-refers : goal.goal_node-requires-clause-refers
-goal_node-requires-clause-refers c = rw c.state-at.ensures c.requires.refers
-
 pub returns : goal.returns
 returns c =
     let l = c.in_ok-node.ensures in
-    heads_node (rw c.state-at.ensures at l.1) l.0
+    heads_node l.1 l.0
