@@ -18,13 +18,10 @@ use arena::{PATTERN_ROOM, RulePart, TERM_ROOM};
 use names::{SourceTerms, VariableRow};
 use patterns::Place;
 use refusals::Refusal;
-use sessions::{NameRow, SessionCounts};
+use sessions::{NAME_VARIABLE, NameRow, SessionCounts};
 
 // How many nodes a goal may have.
 const NODES: usize = 1024;
-
-// The column of a name's row that has its variable.
-const VARIABLE: usize = 4;
 
 // A compiled goal: its reference, how many variables there are with it, the session's names first, and how many words it has.
 #[derive(Clone, Copy)]
@@ -127,6 +124,6 @@ pub fn store(
     let n = counts.names as usize;
     let v = goal.variables as usize;
     enter_names(&variables[n..v], &mut names[n..v], counts.variables);
-    signature::put_column(&names[..v], VARIABLE, &mut places);
+    signature::put_column(&names[..v], NAME_VARIABLE, &mut places);
     copy_goal(pattern, goal, &places, words, counts.words)
 }

@@ -8,10 +8,8 @@ ghost use Rattle.session_check.specs.Parts.{SessionCounted};
 use arena::TERM_ROOM;
 use sessions::StoredSession;
 
-// Document 01's limits: names in a session, and its words. The limit on its variables is `arena::TERM_ROOM`.
+// Document 01's limit on the names in a session. The limit on its variables is `arena::TERM_ROOM`, that on its words `words::WORDS`.
 pub const NAMES: usize = 64;
-
-const WORDS: u32 = 262144;
 
 // The lengths of the buffers that are lent with a session.
 #[derive(Clone, Copy)]
@@ -50,6 +48,6 @@ pub fn is_counted(session: StoredSession) -> bool
     counts.names as usize <= NAMES
         && counts.variables <= TERM_ROOM
         && counts.bound <= counts.variables
-        && counts.words <= WORDS
+        && counts.words <= words::WORDS
         && counts.words as usize <= session.words.len()
 }

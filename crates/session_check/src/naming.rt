@@ -6,7 +6,7 @@ ghost use Rattle.session_check.specs.Parts.{NameKind, NameNumbersFormed, NamesFo
 
 use super::lengths::NAMES;
 use names::Word;
-use sessions::NameRow;
+use sessions::{NAME_START, NAME_VARIABLE, NameRow};
 
 // Is it the kind of a name or of a metavariable?
 fn is_name_kind(kind: u32) -> bool
@@ -50,7 +50,7 @@ fn are_names_formed(text: &[u8], names: &[NameRow], bounds: NameBounds) -> bool
 fn are_rising(names: &[NameRow]) -> bool
     ensures { Tells result (Rising names.now (length names.now)) }
 {
-    names.is_sorted_by(|a, b| a[4] < b[4])
+    names.is_sorted_by(|a, b| a[NAME_VARIABLE] < b[NAME_VARIABLE])
 }
 
 // Do the words of names all differ? Their places are sorted by their words.
@@ -59,7 +59,7 @@ fn are_places_distinct(text: &[u8], names: &[NameRow]) -> bool
     ensures { Tells result (PlacesDistinct text.now names.now (length names.now)) }
 {
     let mut places = [[0u32; 2]; NAMES];
-    signature::put_places(names, 1, &mut places);
+    signature::put_places(names, NAME_START, &mut places);
     distinct::are_distinct(text, &mut places[..names.len()])
 }
 

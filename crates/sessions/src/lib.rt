@@ -5,6 +5,11 @@
 // A name of a session: kind, start, length, sort, variable.
 pub type NameRow = [u32; 5];
 
+// The columns of a name's row that have its start and its variable.
+pub const NAME_START: usize = 1;
+
+pub const NAME_VARIABLE: usize = 4;
+
 // How much of a session's storage is in use: names, variables made, bindings and words.
 #[derive(Clone, Copy)]
 pub struct SessionCounts {

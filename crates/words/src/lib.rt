@@ -46,7 +46,7 @@ const STEPS: u32 = 65535;
 
 const VARIABLES: u32 = 65536;
 
-const WORDS: u32 = 262144;
+pub const WORDS: u32 = 262144;
 
 impl Limits {
     // The limits that count.
