@@ -7,17 +7,15 @@ ghost use Rattle.listing.specs.Listing.{kind_word, token_line, refused_line};
 
 use byte_output::Output;
 use refusals::Rejection;
-use words::{METAVARIABLE, NAME, NUMERAL, Row};
+use words::{CHECK, METAVARIABLE, NAME, NUMERAL, Row};
 
 // The word for a token's kind, between spaces.
 // Stays: the kind is that of a token's row, which C callers lend as a number; a type of kinds would be made for this one `match`.
 fn kind_word(kind: u32) -> &'static [u8]
     ensures { result.now ≡ kind_word kind }
 {
-    if kind < NAME {
-        return b" keyword ";
-    }
     match kind {
+        0..=CHECK => b" keyword ",
         NAME => b" name ",
         METAVARIABLE => b" metavariable ",
         NUMERAL => b" numeral ",

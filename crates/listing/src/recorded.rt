@@ -94,10 +94,7 @@ fn digit(list: &[u8], at: usize) -> Option<u32>
     ensures is { result ≡ read_digit (digit_at list.now at) }
     ensures small { IfSome result (λ d. d < 10) }
 {
-    if list.len() <= at {
-        return None;
-    }
-    let c = list[at];
+    let c = *list.get(at)?;
     if !c.is_ascii_digit() {
         return None;
     }

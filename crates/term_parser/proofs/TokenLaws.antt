@@ -20,10 +20,6 @@ token_at (t ∷ ts) zero = refl
 token_at (t ∷ ts) (suc p) = token_at ts p
 
 module _ (ts : Tokens) (p : ℕ) where
-  pub token_in : p < length ts
-      → token_of (drop p ts) ≡ record { kind = get_or (get_or ts p []) 0 0; start = get_or (get_or ts p []) 1 0; length = get_or (get_or ts p []) 2 0; line = get_or (get_or ts p []) 3 0 }
-  token_in h = ap token_of (drop-cons ts p [] h)
-
   pub token_out : length ts ≤ p → token_of (drop p ts) ≡ record { kind = 0; start = 0; length = 0; line = 0 }
   token_out h = ap token_of (drop_of_length-le ts h)
 
