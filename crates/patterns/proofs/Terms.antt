@@ -6,6 +6,7 @@ use Prim.Native.Nat.{ℕ, zero, suc, ◌+◌, ◌*◌, ◌-◌, ◌≤◌, ◌<�
 use native.Mathlib.Numerals.{add-one}
 use native.Mathlib.Omega.{arith}
 use lib.ListN.{length, get_or, drop, take, set, length-set}
+use Rattle.std.proofs.Common.{length-take, length-drop, get_or-take}
 use lib.Seq.{sets, get_or-drop, length-take-le, take-suc-set}
 use lib.Dec.{eqb}
 use borrow.Author.Tests.{eq-eqb, ne_eqb, lt-ltb, le-ltb}
@@ -107,6 +108,14 @@ module _ (text : List ℕ) (sr : Rows) (n : ℕ) (hs : n ≤ length sr) (i : ℕ
   pub input_at : (k : ℕ) → k < column (row_at sr i) 6 → first (drop k (symbol_at (symbols_of text sr n) i).inputs) ≡ column (row_at sr i) (8 + k)
   unfolding symbol_of
   input_at k l = first_drop (symbol_at (symbols_of text sr n) i).inputs k ∙ rw (symbol_at_lem text sr n hs i hi) (columns_at (row_at sr i) 8 (column (row_at sr i) 6) k l)
+
+-- A part of a row from column 8 on, as the row lends it.
+module _ (row : List ℕ) (a : ℕ) where
+  pub part_long : 8 + a ≤ length row → length (take (8 + a - 8) (drop 8 row)) ≡ a
+  part_long l = omega (arith, length-take (8 + a - 8) (drop 8 row), length-drop 8 row)
+
+  pub part_at : (k : ℕ) → k < a → get_or (take (8 + a - 8) (drop 8 row)) k 0 ≡ column row (8 + k)
+  part_at k l = get_or-take (8 + a - 8) (drop 8 row) k 0 (omega arith) ∙ get_or-drop 8 row k 0
 
 lay_more : (t : Term) (us : Terms) (w : List ℕ) (u : ℕ) (l w₁ : List ℕ) (u₁ : ℕ) → lay t w u ≡ laid l w₁ u₁ → lay (cons t us) w u ≡ after l (lay us w₁ u₁)
 unfolding lay

@@ -309,8 +309,8 @@ fn node(
         room: from.room - 1,
         ..from
     };
-    for k in 0..arguments {
-        let made = pattern(source, symbols[i][8 + k], variables, words, place)?;
+    for (k, sort) in symbols[i][8..8 + arguments].iter().enumerate() {
+        let made = pattern(source, *sort, variables, words, place)?;
         refs[k] = made.node;
         place = made.place;
     }

@@ -1,9 +1,9 @@
 -- `pattern` and `node` meet their contracts. What falls: twice the rows left, and 1 more for `node`. The invariant of `node`'s loop: k arguments are done,
 -- and the rest comes to what the whole comes to.
-use Prim.Native.Nat.{◌+◌, ◌-◌, ◌≤◌}
+use Prim.Native.Nat.{◌+◌, ◌-◌, ◌≤◌, ◌<◌}
 use mathlib.Core.List.{[]}
 use mathlib.Core.Path.{◌≡◌, refl, sym, ap, ◌∙◌}
-use lib.ListN.{length, take}
+use lib.ListN.{length, take, drop, get_or}
 use lib.Seq.{length-take-le}
 use Rattle.term_parser.specs.Source.{one}
 use Rattle.names.specs.Names.{name_of}
@@ -14,7 +14,7 @@ use Rattle.patterns.specs.Promises.{stored}
 use Rattle.refusals.specs.Refused.{handed_on}
 use Rattle.patterns.proofs.Symbols.{misfit_args}
 use Rattle.patterns.proofs.Places.{placed_variable, placed_none, placed_node}
-use Rattle.patterns.proofs.Terms.{input_at, symbols_length, inputs_at, loop_start, loop_refused, loop_turn, loop_done, node_misfit, node_full, node_open, app_refused, node_done, out_of_rows, is_numeral_lem, is_meta, is_node, is_unknown, is_judgment, is_variable}
+use Rattle.patterns.proofs.Terms.{input_at, part_long, part_at, symbols_length, inputs_at, loop_start, loop_refused, loop_turn, loop_done, node_misfit, node_full, node_open, app_refused, node_done, out_of_rows, is_numeral_lem, is_meta, is_node, is_unknown, is_judgment, is_variable}
 use native.Mathlib.Omega.{arith}
 use Rattle.patterns.proofs.+node_pattern.Goals as goal
 
@@ -48,8 +48,16 @@ node-loop-k-init t c =
     let x = pre.0.inputs (args.i) (pre.1.0) in
     loop_start (args.source.text.now) (args.source.rows.now) (args.from.next) (args.arguments) (symbols_of (args.source.text.now) (args.source.symbols.now) (length args.source.symbols.now)) (inputs_at (args.source.text.now) (args.source.symbols.now) (length args.source.symbols.now) (args.i)) (args.variables.now) (args.from.variables) (args.words.now) (args.from.used) (args.from.room - 1) _ (pre.0.entered) (let long : args.arguments ≤ 16 = omega arith in long)
 
-pub node-bounds-symbols-k : goal.node-bounds-symbols-k
-node-bounds-symbols-k t c =
+pub node-slice_bounds-sort-items-end : goal.node-slice_bounds-sort-items-end
+node-slice_bounds-sort-items-end t c =
+    let args = c.args in
+    let pre = c.requires in
+    let b : args.arguments ≡ column (row_at (args.source.symbols.now) (args.i)) 6 = misfit_args (args.source.text.now) (row_at (args.source.symbols.now) (args.i)) (args.want) (args.arguments) (c.in_ok-misfit.ensures args.source.text.now) in
+    let x = pre.0.inputs (args.i) (pre.1.0) in
+    omega arith
+
+pub node-overflow_add-sort-items : goal.node-overflow_add-sort-items
+node-overflow_add-sort-items t c =
     let args = c.args in
     let pre = c.requires in
     let b : args.arguments ≡ column (row_at (args.source.symbols.now) (args.i)) 6 = misfit_args (args.source.text.now) (row_at (args.source.symbols.now) (args.i)) (args.want) (args.arguments) (c.in_ok-misfit.ensures args.source.text.now) in
@@ -66,13 +74,16 @@ node-returns-in_err-made t c =
     let if2 = c.if-from-eq0 in
     let b : args.arguments ≡ column (row_at (args.source.symbols.now) (args.i)) 6 = misfit_args (args.source.text.now) (row_at (args.source.symbols.now) (args.i)) (args.want) (args.arguments) (c.in_ok-misfit.ensures args.source.text.now) in
     let x = pre.0.inputs (args.i) (pre.1.0) in
+    let row = row_at args.source.symbols.now args.i in
+    let w = part_long row args.arguments (omega arith) in
+    let more : loop.k < args.arguments = omega (arith, loop-test.true) in
     rw (handed_on c.from_residual-in_err-made.result c.from_residual-in_err-made.ensures.1)
     (record {
       small = tt;
       placed = tt;
       same = λ ts q st cn. (
         tt,
-        app_refused (pattern_of (symbols_of (args.source.text.now) (args.source.symbols.now) (length args.source.symbols.now)) ts (inputs_at (args.source.text.now) (args.source.symbols.now) (length args.source.symbols.now) (args.i)) (variables_of (args.source.text.now) (args.variables.now) (args.from.variables)) (args.from.room - 1)) (args.i) (args.words.now) (args.from.used) (loop_refused (args.source.text.now) (args.source.rows.now) (args.from.next) (args.arguments) (symbols_of (args.source.text.now) (args.source.symbols.now) (length args.source.symbols.now)) (inputs_at (args.source.text.now) (args.source.symbols.now) (length args.source.symbols.now) (args.i)) (args.variables.now) (args.from.variables) (args.words.now) (args.from.used) (args.from.room - 1) (loop.k) (loop.place.next) (loop.variables) (loop.place.variables) (loop.words) (loop.place.used) (loop.place.room) (loop.refs) (loop.invariant) (loop-test.true) (column (row_at (args.source.symbols.now) (args.i)) (8 + loop.k)) (input_at (args.source.text.now) (args.source.symbols.now) (length args.source.symbols.now) (pre.0.lent) (args.i) (pre.1.0) 0 [] 0 (loop.k) (rw b at (loop-test.true))) (pattern.result) _ _ (pattern.ensures) c.in_err-made.was ts q st cn)
+        app_refused (pattern_of (symbols_of (args.source.text.now) (args.source.symbols.now) (length args.source.symbols.now)) ts (inputs_at (args.source.text.now) (args.source.symbols.now) (length args.source.symbols.now) (args.i)) (variables_of (args.source.text.now) (args.variables.now) (args.from.variables)) (args.from.room - 1)) (args.i) (args.words.now) (args.from.used) (loop_refused (args.source.text.now) (args.source.rows.now) (args.from.next) (args.arguments) (symbols_of (args.source.text.now) (args.source.symbols.now) (length args.source.symbols.now)) (inputs_at (args.source.text.now) (args.source.symbols.now) (length args.source.symbols.now) (args.i)) (args.variables.now) (args.from.variables) (args.words.now) (args.from.used) (args.from.room - 1) (loop.k) (loop.place.next) (loop.variables) (loop.place.variables) (loop.words) (loop.place.used) (loop.place.room) (loop.refs) (loop.invariant) more (get_or (take (8 + args.arguments - 8) (drop 8 row)) loop.k 0) (input_at (args.source.text.now) (args.source.symbols.now) (length args.source.symbols.now) (pre.0.lent) (args.i) (pre.1.0) 0 [] 0 (loop.k) (rw b at more) ∙ sym (part_at row args.arguments loop.k more)) (pattern.result) _ _ (pattern.ensures) c.in_err-made.was ts q st cn)
             ∙ ap (λ (x : Out one). stored [] x (args.words.now) (args.from.used)) (sym (node_open (args.source.text.now) (args.source.symbols.now) (length args.source.symbols.now) (pre.0.lent) (args.i) (pre.1.0) (args.want) (variables_of (args.source.text.now) (args.variables.now) (args.from.variables)) (args.from.room) (c.in_ok-misfit.ensures args.source.text.now) refl ts cn (omega (arith, if2.false)))),
       );
     })
@@ -95,7 +106,10 @@ node-loop-k-preserved t c =
     let pattern = c.pattern in
     let b : args.arguments ≡ column (row_at (args.source.symbols.now) (args.i)) 6 = misfit_args (args.source.text.now) (row_at (args.source.symbols.now) (args.i)) (args.want) (args.arguments) (c.in_ok-misfit.ensures args.source.text.now) in
     let x = pre.0.inputs (args.i) (pre.1.0) in
-    loop_turn (args.source.text.now) (args.source.rows.now) (args.from.next) (args.arguments) (symbols_of (args.source.text.now) (args.source.symbols.now) (length args.source.symbols.now)) (inputs_at (args.source.text.now) (args.source.symbols.now) (length args.source.symbols.now) (args.i)) (args.variables.now) (args.from.variables) (args.words.now) (args.from.used) (args.from.room - 1) (loop.k) (loop.place.next) (loop.variables) (loop.place.variables) (loop.words) (loop.place.used) (loop.place.room) (loop.refs) (loop.invariant) (loop-test.true) (column (row_at (args.source.symbols.now) (args.i)) (8 + loop.k)) (input_at (args.source.text.now) (args.source.symbols.now) (length args.source.symbols.now) (pre.0.lent) (args.i) (pre.1.0) 0 [] 0 (loop.k) (rw b at (loop-test.true))) (pattern.result) _ _ (pattern.ensures) c.in_ok-made.was (pattern.auto.variables) (pattern.auto.words)
+    let row = row_at args.source.symbols.now args.i in
+    let w = part_long row args.arguments (omega arith) in
+    let more : loop.k < args.arguments = omega (arith, loop-test.true) in
+    loop_turn (args.source.text.now) (args.source.rows.now) (args.from.next) (args.arguments) (symbols_of (args.source.text.now) (args.source.symbols.now) (length args.source.symbols.now)) (inputs_at (args.source.text.now) (args.source.symbols.now) (length args.source.symbols.now) (args.i)) (args.variables.now) (args.from.variables) (args.words.now) (args.from.used) (args.from.room - 1) (loop.k) (loop.place.next) (loop.variables) (loop.place.variables) (loop.words) (loop.place.used) (loop.place.room) (loop.refs) (loop.invariant) more (get_or (take (8 + args.arguments - 8) (drop 8 row)) loop.k 0) (input_at (args.source.text.now) (args.source.symbols.now) (length args.source.symbols.now) (pre.0.lent) (args.i) (pre.1.0) 0 [] 0 (loop.k) (rw b at more) ∙ sym (part_at row args.arguments loop.k more)) (pattern.result) _ _ (pattern.ensures) c.in_ok-made.was (pattern.auto.variables) (pattern.auto.words)
 
 pub node-slice_bounds-refs-end : goal.node-slice_bounds-refs-end
 node-slice_bounds-refs-end t c =
@@ -127,11 +141,14 @@ node-returns t c =
     let if2 = c.if-from-eq0 in
     let b : args.arguments ≡ column (row_at (args.source.symbols.now) (args.i)) 6 = misfit_args (args.source.text.now) (row_at (args.source.symbols.now) (args.i)) (args.want) (args.arguments) (c.in_ok-misfit.ensures args.source.text.now) in
     let x = pre.0.inputs (args.i) (pre.1.0) in
+    let row = row_at args.source.symbols.now args.i in
+    let w = part_long row args.arguments (omega arith) in
+    let none : args.arguments ≤ loop.k = omega (arith, loop-test.false) in
     let L = loop.invariant in
     record {
       small = (L.from, L.grown, L.bound, omega arith, omega arith);
       placed = L.placed;
-      same = λ ts q st cn. let d = loop_done (args.source.text.now) (args.source.rows.now) (args.from.next) (args.arguments) (symbols_of (args.source.text.now) (args.source.symbols.now) (length args.source.symbols.now)) (inputs_at (args.source.text.now) (args.source.symbols.now) (length args.source.symbols.now) (args.i)) (args.variables.now) (args.from.variables) (args.words.now) (args.from.used) (args.from.room - 1) (loop.k) (loop.place.next) (loop.variables) (loop.place.variables) (loop.words) (loop.place.used) (loop.place.room) (loop.refs) (loop.invariant) (loop-test.false) ts q st cn in (
+      same = λ ts q st cn. let d = loop_done (args.source.text.now) (args.source.rows.now) (args.from.next) (args.arguments) (symbols_of (args.source.text.now) (args.source.symbols.now) (length args.source.symbols.now)) (inputs_at (args.source.text.now) (args.source.symbols.now) (length args.source.symbols.now) (args.i)) (args.variables.now) (args.from.variables) (args.words.now) (args.from.used) (args.from.room - 1) (loop.k) (loop.place.next) (loop.variables) (loop.place.variables) (loop.words) (loop.place.used) (loop.place.room) (loop.refs) (loop.invariant) none ts q st cn in (
         d.0,
         node_done (pattern_of (symbols_of (args.source.text.now) (args.source.symbols.now) (length args.source.symbols.now)) ts (inputs_at (args.source.text.now) (args.source.symbols.now) (length args.source.symbols.now) (args.i)) (variables_of (args.source.text.now) (args.variables.now) (args.from.variables)) (args.from.room - 1)) (args.i) (args.words.now) (args.from.used) (loop.refs) (args.arguments) (loop.words) (loop.place.used) _ (loop.place.room) _ (omega (arith, L.long)) (push-node.ensures) d.1
             ∙ ap (λ (x : Out one). stored [] x (args.words.now) (args.from.used)) (sym (node_open (args.source.text.now) (args.source.symbols.now) (length args.source.symbols.now) (pre.0.lent) (args.i) (pre.1.0) (args.want) (variables_of (args.source.text.now) (args.variables.now) (args.from.variables)) (args.from.room) (c.in_ok-misfit.ensures args.source.text.now) refl ts cn (omega (arith, if2.false)))),
