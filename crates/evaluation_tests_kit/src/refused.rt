@@ -26,8 +26,8 @@ fn test_evaluation(query: EvaluationQuery, storage: &mut Buffers, claim: &[u8])
 }
 
 // Tests that a term is refused by 1 where it is asked whether it is evaluated.
-fn test_forward(query: EvaluationQuery, claim: &[u8]) {
-    let answer = evaluator::is_forward_call(query.signature, query.term);
+fn test_forward(signature: StoredSignature, term: WrittenTerm, claim: &[u8]) {
+    let answer = evaluator::is_forward_call(signature, term);
     buffers::expect(is_refused(answer), claim);
 }
 
@@ -65,36 +65,46 @@ pub fn test_short(
     }
 }
 
-// The same over a signature of one word less, whose rules do not end where its words do.
-fn damaged(query: EvaluationQuery) -> EvaluationQuery {
-    let counts = query.signature.counts;
-    let signature = StoredSignature {
+// A signature of one word less, whose rules do not end where its words do.
+fn damaged(signature: StoredSignature) -> StoredSignature {
+    let counts = signature.counts;
+    StoredSignature {
         counts: Counts {
             words: counts.words.wrapping_sub(1),
             ..counts
         },
-        ..query.signature
-    };
-    EvaluationQuery { signature, ..query }
+        ..signature
+    }
 }
 
-// The same at the place past the rows, where no term stands.
-fn past(query: EvaluationQuery) -> EvaluationQuery {
-    let term = WrittenTerm {
-        at: query.term.rows.len(),
-        ..query.term
-    };
-    EvaluationQuery { term, ..query }
+// The place past the rows, where no term stands.
+fn past(term: WrittenTerm) -> WrittenTerm {
+    WrittenTerm {
+        at: term.rows.len(),
+        ..term
+    }
 }
 
 // Lends a damaged signature, and asks for a term past the rows.
 pub fn test_unlisted(query: EvaluationQuery, storage: &mut Buffers) {
-    test_evaluation(damaged(query), storage, b"refused with a damaged signature");
-    test_evaluation(past(query), storage, b"refused past the rows");
+    let less = EvaluationQuery {
+        signature: damaged(query.signature),
+        ..query
+    };
+    test_evaluation(less, storage, b"refused with a damaged signature");
+    let behind = EvaluationQuery {
+        term: past(query.term),
+        ..query
+    };
+    test_evaluation(behind, storage, b"refused past the rows");
 }
 
 // The same where it is asked whether a term is evaluated.
-pub fn test_unlisted_forward(query: EvaluationQuery) {
-    test_forward(damaged(query), b"no forward call in a damaged signature");
-    test_forward(past(query), b"no forward call past the rows");
+pub fn test_unlisted_forward(signature: StoredSignature, term: WrittenTerm) {
+    test_forward(
+        damaged(signature),
+        term,
+        b"no forward call in a damaged signature",
+    );
+    test_forward(signature, past(term), b"no forward call past the rows");
 }

@@ -129,7 +129,7 @@ fn test_refused(loaded: LoadedText, storage: &mut Buffers) {
         term: term_at(loaded, at),
         limits: loaded.limits,
     };
-    refused::test_unlisted_forward(query);
+    refused::test_unlisted_forward(query.signature, query.term);
     refused::test_short(query, storage.words, storage.links, storage.trees);
     refused::test_unlisted(query, storage);
 }
