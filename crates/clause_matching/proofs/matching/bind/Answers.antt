@@ -1,5 +1,4 @@
 -- `bind` meets its contract: a variable takes the value or is compared with it, and a node is matched.
-use mathlib.Core.Path.{sym}
 use Rattle.clause_matching.proofs.PatternOf.{in_storage, variable_is, node_is}
 use Rattle.clause_matching.proofs.BindTurns.{read_waits}
 use Rattle.clause_matching.proofs.Variables.{variable_matched}
