@@ -7,6 +7,7 @@ ghost use Rattle.std.specs.Prelude.{◌+◌, ◌≤◌, ◌<◌, [], ◌∷◌, 
 ghost use Rattle.byte_output.specs.Output.{numeral, IsWritten};
 
 // A lent buffer, which is written up to a place.
+// Stays: contracts speak of the whole buffer; with the unwritten rest alone, each caller would join it to what is written and count that again.
 #[derive(Drop)]
 pub struct Output<'a> {
     pub bytes: &'a mut [u8],
@@ -34,7 +35,7 @@ impl Output<'_> {
     }
 
     // Writes a number in decimal: the digits of its tenth, and then its last digit. A number of 32 bits has at most ten digits.
-    // Stays: a formatter would write the same digits by way of a trait whose contract does not fix each byte.
+    // Stays: `write!` promises its digits only where it answers `Ok`, and nothing says that it does so where there is room.
     pub fn write_decimal(&mut self, number: u32)
         requires { self.old.at + length (numeral number) ≤ length self.old.bytes.now }
         ensures { IsWritten self.old self.new (numeral number) }

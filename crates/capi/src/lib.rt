@@ -37,7 +37,7 @@ const NO_LIMITS: words::Limits = words::Limits {
 };
 
 // A refusal as one number; its line is added.
-// Stays: neither a refusal nor the number is of a type of this crate, so that no `From` can stand here.
+// Stays: how C is told a refusal is this crate's matter, and neither type is of this crate, so that no `From` can stand here.
 fn packed_refusal(refusal: Refusal) -> u64
     ensures { result ≡ number_of refusal * 2 ^ 32 }
 {
@@ -45,7 +45,7 @@ fn packed_refusal(refusal: Refusal) -> u64
 }
 
 // The refusal of a text as one number, with its line.
-// Stays: neither a rejection nor the number is of a type of this crate, so that no `From` can stand here.
+// Stays: how C is told a refusal is this crate's matter, and neither type is of this crate, so that no `From` can stand here.
 fn packed_rejection(rejection: Rejection) -> u64
     ensures { result ≡ packed_rejection rejection }
 {

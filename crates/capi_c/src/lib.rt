@@ -1,4 +1,5 @@
 // The functions of `capi` for programs in other languages, as a static library: each is exported under its name, with the contract that it has there.
+// Stays: the functions of `capi` have no names that C can call, so that each stands here again with that name.
 #![tactic(auto)]
 
 ghost use Rattle.std.specs.Prelude.{◌≡◌};

@@ -3,8 +3,9 @@ use Prim.Native.Nat.{ℕ, suc, ◌-◌, ◌≤◌, ◌<◌}
 use native.Mathlib.Omega.{arith}
 use mathlib.Core.Path.{◌≡◌, ap, ap₂, ◌∙◌}
 use mathlib.Core.Logic.{◌≢◌}
-use mathlib.Core.List.{List}
-use lib.ListN.{length}
+use mathlib.Core.List.{List, [], ◌∷◌}
+use lib.ListN.{get_or, length}
+use Rattle.std.specs.Prelude.{Some, slice_get}
 use Rattle.terms.specs.Numbers.{by_same}
 use Rattle.terms.specs.Term.{app, Term, Terms}
 use Rattle.terms.specs.Bindings.{start}
@@ -14,6 +15,11 @@ use Rattle.evaluation.specs.Matching.{Fitted, misfit, if_fitted, bind_of}
 use Rattle.clause_matching.specs.Stored.{pattern_at, value_at}
 use Rattle.clause_matching.specs.Choice.{patterns_from, values_of, ApartAsked}
 use Rattle.clause_matching.proofs.Open.{args_count, bind_uneven}
+
+-- The first of a list, where there is one.
+pub first_is : (xs : List ℕ) (x : ℕ) → Some x ≡ slice_get xs 0 → x ≡ get_or xs 0 0
+first_is [] x e = absurd (cc)
+first_is (y ∷ ys) x e = cc
 
 module _ {pattern : List ℕ} {base : ℕ} {words values : List ℕ} (h : ApartAsked pattern base words values) (some : 0 < length values) where
   abbrev reference : ℕ

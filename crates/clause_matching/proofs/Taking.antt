@@ -1,5 +1,5 @@
 -- A variable against a value: it takes the value where it has none, and is compared where it has one.
-use Prim.Native.Nat.{ℕ, ◌+◌, ◌-◌, ◌≤◌, ◌<◌}
+use Prim.Native.Nat.{ℕ, suc, ◌+◌, ◌-◌, ◌≤◌, ◌<◌}
 use native.Mathlib.Omega.{arith}
 use mathlib.Core.Path.{◌≡◌, refl, ap, ◌∙◌}
 use mathlib.Core.Logic.{◌≢◌}
@@ -51,8 +51,8 @@ module _ {values : List ℕ} {used value : ℕ} {environment links : List ℕ} (
   old_value none n v = absurd (n v)
   old_value (some t) n v = v.1
 
-  pub compare_ready : get_or environment x 0 ≢ 0 → Ready 0 values links 0 used (get_or environment x 0 - 1) value
-  compare_ready n = let (β, k) = h.known in record {
+  old_ready : get_or environment x 0 ≢ 0 → Ready 0 values links 0 used (get_or environment x 0 - 1) value
+  old_ready n = let (β, k) = h.known in record {
     formed = h.stored.formed;
     small = (let l = h.stored.low in let z : 0 + used ≤ headers = omega arith in z);
     words_in_lem = h.stored.within;
@@ -62,6 +62,11 @@ module _ {values : List ℕ} {used value : ℕ} {environment links : List ℕ} (
     right = h.root;
   }
 
+  pub compare_ready : (old : ℕ) → get_or environment x 0 ≡ suc old → Ready 0 values links 0 used old value
+  compare_ready old e =
+      let q : get_or environment x 0 - 1 ≡ old = omega arith in
+      rw q at (old_ready (λ z. let b : ⊥ = omega arith in b))
+
   old_says : (β : Bindings) (o : Option Term) (r : Bool) → get_or environment x 0 ≢ 0 → Holds environment values used β → Valued values used (get_or environment x 0) o
       → r ≡ alike (value_at values (get_or environment x 0 - 1)) (value_at values value) → Says (takes o x (value_at values value) β) r environment values used
   old_says β none r n k v e = absurd (n v)
@@ -69,11 +74,13 @@ module _ {values : List ℕ} {used value : ℕ} {environment links : List ℕ} (
       let q : r ≡ alike t (value_at values value) = e ∙ ap (λ u. alike u (value_at values value)) v.2 in
       by_bool (alike t (value_at values value)) (λ p. rw p (q ∙ p, k)) (λ p. rw p (q ∙ p))
 
-  pub take_old : get_or environment x 0 ≢ 0 → (r : Bool) (links' : List ℕ) → Compared 0 (cells values) links links' (get_or environment x 0 - 1) value r
+  pub take_old : (old : ℕ) → get_or environment x 0 ≡ suc old → (r : Bool) (links' : List ℕ) → Compared 0 (cells values) links links' old value r
       → Matched (var x) values used value environment links r environment links'
   unfolding bind_of
-  take_old n r links' c = record {
-    says = λ β k. old_says β (lookup β x) r n k (k.valued x s) c.exact;
+  take_old old e r links' c = record {
+    says = λ β k.
+        let q : old ≡ get_or environment x 0 - 1 = omega arith in
+        old_says β (lookup β x) r (λ z. let b : ⊥ = omega arith in b) k (k.valued x s) (rw q at c.exact);
     kept = refl;
     restored = c.restored;
   }

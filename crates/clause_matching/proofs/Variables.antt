@@ -1,5 +1,5 @@
 -- A pattern that is a variable: what is built is its value, which stands already; and it takes a value, or is compared with it.
-use Prim.Native.Nat.{ℕ, ◌-◌, ◌<◌}
+use Prim.Native.Nat.{ℕ, ◌-◌, ◌≤◌, ◌<◌}
 use native.Mathlib.Omega.{arith}
 use mathlib.Core.Path.{◌≡◌, refl, sym, ap, subst}
 use mathlib.Core.Logic.{◌≢◌}
@@ -15,11 +15,19 @@ use Rattle.arena.specs.Copies.{pattern_room}
 use Rattle.arena.specs.Rows.{Rows}
 use Rattle.evaluation.specs.Matching.{Built, value_of, instantiate_of}
 use Rattle.clause_matching.specs.Stored.{Valued, pattern_at}
-use Rattle.std.specs.Prelude.{Err}
+use Rattle.std.specs.Option.{SomeIff}
+use Rattle.std.specs.Prelude.{Option as Optional, None, Some, Err}
 use Rattle.refusals.specs.declared.Refusal.TheVariants.{Unbound}
 use Rattle.clause_matching.specs.Building.{built_at, InstantiateAsked, Tells, Instantiated}
 use Rattle.clause_matching.specs.Matching.{Matched}
 use Rattle.clause_matching.proofs.Forming.{unbuilt_forms, built_forms}
+
+-- A number that stands for a reference is one more than it; 0 stands for none.
+pub held_is : {n z : ℕ} {o : Optional ℕ} → SomeIff o (1 ≤ n) (n - 1) → o ≡ Some z → (n ≢ 0) × (z ≡ n - 1)
+held_is {n} {z} s e = let (l, q) = rw e at s in (λ w. let b : ⊥ = omega arith in b, q)
+
+pub held_none : {n : ℕ} {o : Optional ℕ} → SomeIff o (1 ≤ n) (n - 1) → o ≡ None → n ≡ 0
+held_none {n} s e = let w = rw e at s in omega arith
 
 -- The pattern of such a reference.
 variable_is : (pattern : List ℕ) (reference : ℕ) → reference < pattern_room → pattern_at pattern reference ≡ var reference

@@ -63,11 +63,10 @@ fn instantiate_node(
             stack[row] = [address, taken + 1, base];
             let next = pattern[(address + 1 + taken) as usize];
             if next < PATTERN_ROOM {
-                let entry = environment[next as usize];
-                if entry == 0 {
-                    return Err(Refusal::Unbound);
-                }
-                words[top as usize] = entry - 1;
+                let value = environment[next as usize]
+                    .checked_sub(1)
+                    .ok_or(Refusal::Unbound)?;
+                words[top as usize] = value;
                 top += 1;
             } else {
                 // Stays: a row has the node's address, which `pattern_at` gives only as one less than that of the first argument.
@@ -104,12 +103,11 @@ pub fn instantiate(
 {
     match pattern_at(pattern, reference) {
         Pattern::Variable { index } => {
-            let entry = environment[index as usize];
-            if entry == 0 {
-                return Err(Refusal::Unbound);
-            }
+            let value = environment[index as usize]
+                .checked_sub(1)
+                .ok_or(Refusal::Unbound)?;
             Ok(Built {
-                value: entry - 1,
+                value,
                 used: room.used,
             })
         }

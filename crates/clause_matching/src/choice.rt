@@ -14,17 +14,17 @@ fn is_apart(pattern: &[u32], base: usize, words: &[u32], values: &[u32]) -> bool
     ensures { result ≡ true → bind_of (patterns_from pattern.now base (length values.now))
         (values_of words.now values.now) start ≡ misfit }
 {
-    if values.len() == 0 {
+    let Some(value) = values.first() else {
         return false;
-    }
+    };
     match pattern_at(pattern, pattern[base]) {
         Pattern::Variable { index: _ } => false,
-        Pattern::Node { header, first: _ } => header != words[values[0] as usize],
+        Pattern::Node { header, first: _ } => header != words[*value as usize],
     }
 }
 
 // The clauses of a function: the rules from one on up to another, and the words of their patterns.
-// Stays: lent as a part of the rules, they would need their first one's number beside them still, as the answer is a rule's number among all.
+// Stays: of `&rules[from..end]` the answer would be a place in that part; `call` would add `from` to it, as trees name a rule by its number among all.
 #[derive(Clone, Copy)]
 pub struct Clauses<'a> {
     pub rules: &'a [RuleRow],
@@ -52,6 +52,7 @@ pub fn find_clause(
     'clauses: for i in clauses.from..clauses.end {
         let Pattern::Node { header: _, first } = pattern_at(clauses.pattern, clauses.rules[i][5])
         else {
+            // Never reached: the conclusion of a clause in form is a node.
             return None;
         };
         let base = first as usize;

@@ -29,6 +29,7 @@ pub struct EnteredRule {
 }
 
 // The row behind n terms.
+// Stays: no caller asks where fewer terms stand, so any answer serves; of an `Option` each would first have to show that there is one.
 pub fn skip(rows: &[TermRow], at: usize, n: usize) -> usize
     requires { (length rows.now ≤ 65536) × (n ≤ 65536) }
     ensures { Skipped rows.now at n result }

@@ -167,7 +167,7 @@ module _ {text : List ℕ} {limit : ℕ} {ts : Titles} {s : Signature} {sorts sy
       go line (eval t) h k = absurd (omega arith)
       go line (check t) h k = absurd (omega arith)
 
-  pub ctor_done : (symbols' : Rows) (r : Result Progress Refusal) → column (row_at rows p) 0 ≡ 2 → 0 < column (row_at rows p) 2 → SymbolDeclared text rows p true sorts symbols st r symbols'
+  pub ctor_done : (symbols' : Rows) (r : Result Progress Refusal) → column (row_at rows p) 0 ≡ 2 → 0 < column (row_at rows p) 2 → SymbolDeclared text rows p true 0 0 0 sorts symbols st r symbols'
       → Stepped text limit (entitled ts d.declaration) (declare limit text s d.declaration) q sorts symbols' rules words r
   ctor_done symbols' r e some a = go d.line d.declaration h (is_kind h 2 e) (declare_legal limit text s d.declaration held.legal)
     where
@@ -214,7 +214,7 @@ module _ {text : List ℕ} {limit : ℕ} {ts : Titles} {s : Signature} {sorts sy
       go line (eval t) h k = absurd (omega arith)
       go line (check t) h k = absurd (omega arith)
 
-  pub pred_done : (symbols' : Rows) (r : Result Progress Refusal) → column (row_at rows p) 0 ≡ 3 → SymbolDeclared text rows p false sorts symbols st r symbols'
+  pub pred_done : (symbols' : Rows) (r : Result Progress Refusal) → column (row_at rows p) 0 ≡ 3 → SymbolDeclared text rows p false 0 0 0 sorts symbols st r symbols'
       → Stepped text limit (entitled ts d.declaration) (declare limit text s d.declaration) q sorts symbols' rules words r
   pred_done symbols' r e a = go d.line d.declaration h (is_kind h 3 e) (declare_legal limit text s d.declaration held.legal)
     where

@@ -46,7 +46,7 @@ module _ {text : List ℕ} {limit : ℕ} {ts : Titles} {s : Signature} {sorts sy
   abbrev N : Numbers
   N = numbers_of s.sorts (names_at text rows (p + 2) k)
 
-  pub symbol_stepped : (c : Bool) (r : Result Progress Refusal) (symbols' : Rows) → SymbolDeclared text rows p c sorts symbols st r symbols'
+  pub symbol_stepped : (c : Bool) (r : Result Progress Refusal) (symbols' : Rows) → SymbolDeclared text rows p c 0 0 0 sorts symbols st r symbols'
       → (next : List ℕ → Step) → ((ns : List ℕ) → length ns ≡ k → next ns ≡ enter_symbol s (symbol_named c W 0 0 0 ns)) → Stepping Legal (with_sorts N next)
       → Stepped text limit (symbol_titled ts P) (with_sorts N next) (p + 2 + k) sorts symbols' rules words r
   symbol_stepped c r symbols' d next same legal =

@@ -6,15 +6,6 @@ use Rattle.names.specs.Symbols.{Rows, column}
 use Rattle.names.specs.UsedLaws.{used_length, used_each, sorts_used, symbols_used}
 use Rattle.loader.specs.Entering.{Storage}
 use Rattle.loader.specs.SymbolEntry.{SymbolAnswered}
-use Rattle.loader.specs.Signature.{Signature}
-use Rattle.loader.specs.Stored.{Titles}
-use Rattle.declarations.specs.Held.{Held}
-use Rattle.declarations.specs.declared.State.{State}
-
--- The sorts in use are lent.
-pub few_sorts : {text : List ℕ} {limit : ℕ} {ts : Titles} {s : Signature} {sorts symbols rules : Rows} {words : List ℕ} {st : State}
-    → Held text limit ts s sorts symbols rules words st → st.sorts ≤ length sorts
-few_sorts h = omega (arith, h.names.sorts_lent, h.names.few_sorts)
 
 pub storage_used : {text : List ℕ} {symbols : Rows} {n : ℕ} {words : List ℕ} {u room : ℕ} {rules : Rows} → Storage text symbols n words u room rules
     → Storage text (take n symbols) (length (take n symbols)) words u room rules

@@ -65,10 +65,10 @@ pub record SymbolAsked (rows : Rows) (p : ℕ) (sorts symbols : Rows) (st : Stat
   pub few_symbols : st.symbols ≤ 1024
 
 -- What it owes.
-pub record SymbolDeclared (text : List ℕ) (rows : Rows) (p : ℕ) (constructor : Bool) (sorts symbols : Rows) (st : State) (r : Result Progress Refusal) (symbols' : Rows) : Type 0 where
+pub record SymbolDeclared (text : List ℕ) (rows : Rows) (p : ℕ) (constructor : Bool) (function first clauses : ℕ) (sorts symbols : Rows) (st : State) (r : Result Progress Refusal) (symbols' : Rows) : Type 0 where
   pub refusal : ℕ
   pub is : GoesTo refusal (symbol_progress p (column (row_at rows p) 2) st) r
-  pub entered : SymbolEntered text rows (p + 2) (column (row_at rows p) 2) (column (row_at rows (p + 1)) 1) (column (row_at rows (p + 1)) 2) constructor 0 0 0 sorts st.sorts symbols st.symbols refusal symbols'
+  pub entered : SymbolEntered text rows (p + 2) (column (row_at rows p) 2) (column (row_at rows (p + 1)) 1) (column (row_at rows (p + 1)) 2) constructor function first clauses sorts st.sorts symbols st.symbols refusal symbols'
 
 -- Rules
 

@@ -1,5 +1,5 @@
-// Declarations: each enters what it declares into the signature's storage, or is refused by 17 to 28. The definition is `declare` in
-// crates/loader/specs/Signature; what storage holds between two declarations is `Held` in specs/Held.
+// Declarations: each enters what it declares into the signature's storage, or is refused by 17 to 28, or by 0 where rows are no
+// declaration's. The definition is `declare` in crates/loader/specs/Signature; what storage holds between two declarations is `Held` in specs/Held.
 //
 // All functions here serve the crates above: they ask for storage of the listed sizes.
 #![tactic(auto)]
@@ -29,6 +29,21 @@ pub struct State {
     pub left: usize,
 }
 
+impl State {
+    // Where the next rule goes, and the room for its nodes.
+    fn next_rule(self) -> RulePlace
+        ensures { result ≡ record { number = self.rules; space = record { used = self.used; room = min 1024 self.left } } }
+    {
+        RulePlace {
+            number: self.rules,
+            space: Space {
+                used: self.used,
+                room: self.left.min(1024),
+            },
+        }
+    }
+}
+
 // How far declaring is: the next row, and what there is.
 #[derive(Clone, Copy)]
 pub struct Progress {
@@ -37,20 +52,13 @@ pub struct Progress {
 }
 
 // What rules are written to: their rows and words, and scratch in which clauses are flattened.
-// Stays: sorts and symbols go beside it, as the functions that only read them would have to promise besides that they stand; and counts, which are answered.
+// Stays: sorts and symbols go apart, since functions that only read them would have to promise that they stand; the counts, since they are answered.
 #[derive(Drop)]
 pub struct Store<'a> {
     pub rules: &'a mut [RuleRow],
     pub words: &'a mut [u32],
     pub out: &'a mut [TermRow],
     pub calls: &'a mut [TermRow],
-}
-
-// The room for the nodes of a rule, where so many are left in all.
-fn room(left: usize) -> usize
-    ensures { result ≡ min 1024 left }
-{
-    left.min(1024)
 }
 
 // `sort`: the name stands in the row behind the declaration's.
@@ -65,8 +73,7 @@ fn declare_sort(
     ensures sorts_after { sorts.new ≡ entered (sort_refusal (sorts_of source.entry.text.now sorts.old state.sorts) (symbols_of source.entry.text.now symbols.now state.symbols) (name_at source.entry.text.now source.entry.rows.now (source.entry.at + 1))) sorts.old state.sorts (column (row_at source.entry.rows.now (source.entry.at + 1)) 1 ∷ column (row_at source.entry.rows.now (source.entry.at + 1)) 2 ∷ []) }
 {
     let Source { text, rows, at } = source;
-    let [_, start, size, _] = rows[at + 1];
-    let word = Word { start, size };
+    let word = Word::behind_kind(&rows[at + 1]);
     loader::enter_sort(text, sorts, state.sorts, &symbols[..state.symbols], word)?;
     Ok(Progress {
         next: at + 2,
@@ -77,7 +84,7 @@ fn declare_sort(
     })
 }
 
-// `ctor` and `pred`: the sorts stand behind the row of the name.
+// `ctor` and `pred`, and the symbol of a `def`: the sorts stand behind the row of the name.
 fn declare_symbol(
     source: Source,
     kind: Kind,
@@ -85,9 +92,8 @@ fn declare_symbol(
     symbols: &mut [SymbolRow],
     state: State,
 ) -> Result<Progress, Refusal>
-    requires asked { SymbolAsked source.rows.now source.at sorts.now symbols.old state }
-    requires no_function { (mark_in kind ≡ 0) × (first_in kind ≡ 0) × (clauses_in kind ≡ 0) }
-    ensures { SymbolDeclared source.entry.text.now source.entry.rows.now source.entry.at (is_constructor kind) sorts.now symbols.old state result symbols.new }
+    requires { SymbolAsked source.rows.now source.at sorts.now symbols.old state }
+    ensures { SymbolDeclared source.entry.text.now source.entry.rows.now source.entry.at (is_constructor kind) (mark_in kind) (first_in kind) (clauses_in kind) sorts.now symbols.old state result symbols.new }
 {
     let Source { rows, at, .. } = source;
     let k = rows[at][2] as usize;
@@ -141,15 +147,8 @@ fn declare_rule(
     if k == 0 {
         return Err(Refusal::NoDeclaration);
     }
-    let [_, start, size, _] = rows[at + 1];
-    let m = room(state.left);
-    let place = RulePlace {
-        number: state.rules,
-        space: Space {
-            used: state.used,
-            room: m,
-        },
-    };
+    let word = Word::behind_kind(&rows[at + 1]);
+    let place = state.next_rule();
     let part = Part {
         source: Source {
             at: at + 2,
@@ -159,13 +158,13 @@ fn declare_rule(
     };
     let outcome = loader::enter_rule(
         part,
-        Word { start, size },
+        word,
         &symbols[..state.symbols],
         store.words,
         store.rules,
         place,
     );
-    told(state, m, outcome)
+    told(state, place.space.room, outcome)
 }
 
 // The clause with a number of the function whose name stands at a place.
@@ -183,14 +182,7 @@ fn declare_clause(
 {
     let Source { text, rows, at } = source;
     let n = rows[at][3] as usize;
-    let m = room(state.left);
-    let place = RulePlace {
-        number: state.rules,
-        space: Space {
-            used: state.used,
-            room: m,
-        },
-    };
+    let place = state.next_rule();
     let title = Title {
         word,
         clause: number as u32 + 1,
@@ -214,7 +206,7 @@ fn declare_clause(
         store.out,
         store.calls,
     );
-    told(state, m, outcome)
+    told(state, place.space.room, outcome)
 }
 
 // The n clauses, from a row on, of the function whose name stands at a place.
@@ -269,33 +261,21 @@ fn declare_def(
     ensures lent { IsLent store.old store.new }
 {
     let Source { rows, at, .. } = source;
-    let k = rows[at][2] as usize;
-    if k == 0 {
+    if rows[at][2] == 0 {
         return Err(Refusal::NoDeclaration);
     }
     let n = rows[at][3] as usize;
-    let [_, start, size, _] = rows[at + 1];
-    let part = Part {
-        source: Source {
-            at: at + 1,
-            ..source
-        },
-        k,
-    };
     let kind = Kind::Function {
         first: first_clause(n, state.rules),
         clauses: n as u32,
     };
-    loader::enter_symbol(part, kind, &sorts[..state.sorts], symbols, state.symbols)?;
-    let with = State {
-        symbols: state.symbols + 1,
-        ..state
-    };
+    let entered = declare_symbol(source, kind, sorts, symbols, state)?;
     let clauses = Source {
-        at: at + 2 + k,
+        at: entered.next,
         ..source
     };
-    declare_clauses(clauses, n, Word { start, size }, symbols, store, with)
+    let word = Word::behind_kind(&rows[at + 1]);
+    declare_clauses(clauses, n, word, symbols, store, entered.state)
 }
 
 // One declaration, by the keyword in its row. An `#eval` waits.

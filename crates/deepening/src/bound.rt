@@ -30,7 +30,8 @@ pub enum Came {
     },
 }
 
-// The end of a bound: a proof's frames become its rows, and what else was written is cleared; without a proof that is all.
+// The end of a bound: a proof's frames become its rows, and what else was written is cleared; without a proof all that was written is cleared, and
+// refused, the bindings are undone too.
 fn leave(store: &mut Store, m: Machine, question: Question, depth: u32) -> Result<Came, Refusal>
     requires { Leaving store.old.bindings.now m question.bound }
     ensures left { LeftIn store.old store.new m question depth result }

@@ -17,8 +17,7 @@ use std::cmp::Ordering;
 fn name<'a>(text: &'a [u8], place: &SortRow) -> &'a [u8]
     ensures { result.now ≡ sort_of text.now place.now }
 {
-    let [start, size] = *place;
-    names::part(text, Word { start, size })
+    names::part(text, Word::at_start(place))
 }
 
 // How the names at two places stand to each other: as in a dictionary, byte by byte.

@@ -2,7 +2,7 @@
 //
 // A line is made in a lent buffer, and written to standard output from there. A line for which the buffer, or the stack of open nodes, is too short is
 // listed as `wrong`.
-// Stays: names are bytes, which `write!` does not write, and it writes to a writer of std, which needs the handle that std's `main` is given.
+// Stays: names are bytes, which `write!` cannot write, and std's writer to standard output needs the handle that std's `main` is given.
 #![tactic(auto)]
 
 mod output; // bytes and numbers, as long as there is room
@@ -17,6 +17,7 @@ use output::{put, put_byte, put_decimal};
 pub use prefix::{OpenRow, StoredTerms};
 use prefix::{put_name, put_term};
 use rules::RuleRow;
+use signature::columns::CLAUSE;
 
 // Standard output.
 const STDOUT_FILENO: i32 = 1;
@@ -48,17 +49,12 @@ fn put_rule(text: &[u8], rules: &[RuleRow], number: u32, out: &mut Output)
     requires { Fits out.old }
     ensures { Moved out.old out.new }
 {
-    let i = number as usize;
-    if rules.len() <= i {
+    let Some(row) = rules.get(number as usize) else {
         put(b"wrong: no such rule", out);
         return;
-    }
-    let clause = rules[i][2];
-    let word = Word {
-        start: rules[i][0],
-        size: rules[i][1],
     };
-    put_name(text, word, out);
+    put_name(text, Word::at_start(row), out);
+    let clause = row[CLAUSE];
     if clause == 0 {
         return;
     }

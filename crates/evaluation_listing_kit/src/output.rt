@@ -15,11 +15,7 @@ pub fn put_byte(out: &mut Output, byte: u8)
     ensures moved { Moved out.old out.new }
     ensures place { out.new.at ≡ min (out.old.at + 1) (length out.old.bytes.now) }
 {
-    if out.bytes.len() - out.at <= 1 {
-        out.at = out.bytes.len();
-        return;
-    }
-    out.write_byte(byte);
+    put(&[byte], out);
 }
 
 // Writes bytes.

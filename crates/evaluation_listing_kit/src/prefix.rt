@@ -1,5 +1,5 @@
 // Terms in prefix form, as the Rust's `pat_text` prints them. A term may be as deep as it has nodes, so it is written by a loop over a stack of open nodes.
-ghost use Rattle.std.specs.Prelude.{◌≡◌, ◌+◌, ◌≤◌, ◌<◌, length, get_or, slice_get};
+ghost use Rattle.std.specs.Prelude.{◌≡◌, ◌+◌, ◌≤◌, ◌<◌, length, slice_get};
 ghost use Rattle.evaluation_listing_kit.specs.Nodes.{node_at};
 ghost use Rattle.evaluation_listing_kit.specs.Printing.{Fits, Moved, Within, Stepped};
 
@@ -7,9 +7,7 @@ use super::output::{put, put_byte};
 use arena::{HEADERS, SYMBOL_STEP};
 use byte_output::Output;
 use names::{SymbolRow, Word};
-
-// The column of a symbol's row that has its output, 0 for a predicate.
-const OUTPUT: usize = 2;
+use signature::columns::OUTPUT;
 
 // An open node: its address, and how many of its arguments are written or begun.
 pub type OpenRow = [u32; 2];
@@ -23,22 +21,12 @@ pub struct StoredTerms<'a> {
 }
 
 // A printer of terms: the open nodes, which are `depth`.
+// Stays: the number of open nodes changes as a term is written, and with no heap a lent buffer with that number beside it is what a stack can be.
 #[derive(Drop)]
 struct Printer<'a> {
     terms: StoredTerms<'a>,
     stack: &'a mut [OpenRow],
     depth: usize,
-}
-
-// The word at an address, 0 where there is none.
-// Stays: 0 is below every header, so one comparison in `node_at` answers for a word past the end and for one that is no header.
-fn word_at(words: &[u32], address: usize) -> u32
-    ensures { result ≡ get_or words.now address 0 }
-{
-    if words.len() <= address {
-        return 0;
-    }
-    words[address]
 }
 
 // A node: its symbol, and how many arguments it has.
@@ -52,14 +40,13 @@ struct Node {
 fn node_at(words: &[u32], address: u32) -> Option<Node>
     ensures { result ≡ node_at words.now address }
 {
-    let header = word_at(words, address as usize);
-    if header < HEADERS {
-        return None;
+    match words.get(address as usize) {
+        Some(&header) if HEADERS <= header => Some(Node {
+            symbol: ((header - HEADERS) / SYMBOL_STEP) as usize,
+            arity: header % SYMBOL_STEP,
+        }),
+        _ => None,
     }
-    Some(Node {
-        symbol: ((header - HEADERS) / SYMBOL_STEP) as usize,
-        arity: header % SYMBOL_STEP,
-    })
 }
 
 // The address of an argument of the node at an address, if the words go so far.
@@ -79,13 +66,10 @@ pub fn put_name(text: &[u8], word: Word, out: &mut Output)
 
 // Is a node written without parentheses, as a constructor that has no arguments?
 fn is_bare(symbols: &[SymbolRow], node: Node) -> bool {
-    if node.arity != 0 {
-        return false;
-    }
-    if symbols.len() <= node.symbol {
-        return true;
-    }
-    symbols[node.symbol][OUTPUT] != 0
+    node.arity == 0
+        && symbols
+            .get(node.symbol)
+            .map_or(true, |row| row[OUTPUT] != 0)
 }
 
 impl Printer<'_> {
@@ -94,16 +78,10 @@ impl Printer<'_> {
         requires { Fits out.old }
         ensures { Moved out.old out.new }
     {
-        if self.terms.symbols.len() <= symbol {
-            put(b"wrong: no such symbol", out);
-            return;
+        match self.terms.symbols.get(symbol) {
+            Some(row) => put_name(self.terms.text, Word::at_start(row), out),
+            None => put(b"wrong: no such symbol", out),
         }
-        let row = self.terms.symbols[symbol];
-        let word = Word {
-            start: row[0],
-            size: row[1],
-        };
-        put_name(self.terms.text, word, out);
     }
 
     // Writes the start of a node that has parentheses, and opens it.

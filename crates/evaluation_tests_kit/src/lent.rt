@@ -11,7 +11,7 @@ use words::Limits;
 
 // What is evaluated: a term, over a signature, under limits.
 #[derive(Clone, Copy)]
-pub struct Query<'a> {
+pub struct EvaluationQuery<'a> {
     pub signature: StoredSignature<'a>,
     pub term: WrittenTerm<'a>,
     pub limits: Limits,
@@ -29,7 +29,7 @@ fn fill(storage: &mut Buffers)
 }
 
 // Evaluates a term into buffers that hold junk.
-pub fn evaluate(query: Query, storage: &mut Buffers) -> Result<Evaluation, Refusal>
+pub fn evaluate(query: EvaluationQuery, storage: &mut Buffers) -> Result<Evaluation, Refusal>
     ensures { AreLent storage.old storage.new }
 {
     fill(storage);
@@ -37,6 +37,7 @@ pub fn evaluate(query: Query, storage: &mut Buffers) -> Result<Evaluation, Refus
 }
 
 // Tests that the words past those used and the rows past those of the calls hold the value, and the links throughout.
+// Stays: a count past the end is one of the faults that the test tells, so that the used part cannot be lent.
 pub fn test(storage: &Buffers, used: usize, calls: usize, value: u32) {
     buffers::expect(
         slices::are_all(storage.words, used, value),

@@ -3,7 +3,7 @@ ghost use Rattle.std.specs.Prelude.{◌≡◌};
 ghost use Rattle.evaluation_tests_kit.specs.Refusals.{is_refused};
 ghost use Rattle.evaluator.specs.Storage.{AreLent};
 
-use crate::lent::{self, Query};
+use crate::lent::{self, EvaluationQuery};
 use evaluator::{Buffers, WrittenTerm};
 use function_calls::TreeRow;
 use refusals::Refusal;
@@ -17,7 +17,7 @@ fn is_refused<T: Copy>(answer: Result<T, Refusal>) -> bool
 }
 
 // Tests that an evaluation is refused by 1, and that the buffers are as they were.
-fn test_evaluation(query: Query, storage: &mut Buffers, claim: &[u8])
+fn test_evaluation(query: EvaluationQuery, storage: &mut Buffers, claim: &[u8])
     ensures { AreLent storage.old storage.new }
 {
     let answer = lent::evaluate(query, storage);
@@ -26,14 +26,19 @@ fn test_evaluation(query: Query, storage: &mut Buffers, claim: &[u8])
 }
 
 // Tests that a term is refused by 1 where it is asked whether it is evaluated.
-fn test_forward(signature: StoredSignature, term: WrittenTerm, claim: &[u8]) {
-    let answer = evaluator::is_forward_call(signature, term);
+fn test_forward(query: EvaluationQuery, claim: &[u8]) {
+    let answer = evaluator::is_forward_call(query.signature, query.term);
     buffers::expect(is_refused(answer), claim);
 }
 
 // Lends each buffer one too short: a word, a link and a row of trees less than is asked.
 // Stays: tried with one `Buffers`: the checker makes no proof for lending part of one field while another field is used.
-pub fn test_short(query: Query, words: &mut [u32], links: &mut [u32], trees: &mut [TreeRow]) {
+pub fn test_short(
+    query: EvaluationQuery,
+    words: &mut [u32],
+    links: &mut [u32],
+    trees: &mut [TreeRow],
+) {
     if let Some(last) = words.len().checked_sub(1) {
         let mut short = Buffers {
             words: &mut words[..last],
@@ -60,46 +65,36 @@ pub fn test_short(query: Query, words: &mut [u32], links: &mut [u32], trees: &mu
     }
 }
 
-// A signature of one word less, whose rules do not end where its words do.
-fn damaged(signature: StoredSignature) -> StoredSignature {
-    let counts = signature.counts;
-    StoredSignature {
+// The same over a signature of one word less, whose rules do not end where its words do.
+fn damaged(query: EvaluationQuery) -> EvaluationQuery {
+    let counts = query.signature.counts;
+    let signature = StoredSignature {
         counts: Counts {
             words: counts.words.wrapping_sub(1),
             ..counts
         },
-        ..signature
-    }
+        ..query.signature
+    };
+    EvaluationQuery { signature, ..query }
 }
 
-// The place past the rows, where no term stands.
-fn past(term: WrittenTerm) -> WrittenTerm {
-    WrittenTerm {
-        at: term.rows.len(),
-        ..term
-    }
+// The same at the place past the rows, where no term stands.
+fn past(query: EvaluationQuery) -> EvaluationQuery {
+    let term = WrittenTerm {
+        at: query.term.rows.len(),
+        ..query.term
+    };
+    EvaluationQuery { term, ..query }
 }
 
 // Lends a damaged signature, and asks for a term past the rows.
-pub fn test_unlisted(query: Query, storage: &mut Buffers) {
-    let less = Query {
-        signature: damaged(query.signature),
-        ..query
-    };
-    test_evaluation(less, storage, b"refused with a damaged signature");
-    let behind = Query {
-        term: past(query.term),
-        ..query
-    };
-    test_evaluation(behind, storage, b"refused past the rows");
+pub fn test_unlisted(query: EvaluationQuery, storage: &mut Buffers) {
+    test_evaluation(damaged(query), storage, b"refused with a damaged signature");
+    test_evaluation(past(query), storage, b"refused past the rows");
 }
 
 // The same where it is asked whether a term is evaluated.
-pub fn test_unlisted_forward(signature: StoredSignature, term: WrittenTerm) {
-    test_forward(
-        damaged(signature),
-        term,
-        b"no forward call in a damaged signature",
-    );
-    test_forward(signature, past(term), b"no forward call past the rows");
+pub fn test_unlisted_forward(query: EvaluationQuery) {
+    test_forward(damaged(query), b"no forward call in a damaged signature");
+    test_forward(past(query), b"no forward call past the rows");
 }

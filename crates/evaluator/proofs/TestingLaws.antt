@@ -19,7 +19,7 @@ use Rattle.evaluation.specs.Expressions.{is_forward_call}
 use Rattle.forward_calls.specs.Forward.{ForwardAsked, ForwardAnswered}
 use Rattle.function_calls.specs.Calls.{tree_rows}
 use Rattle.evaluator.specs.Storage.{Results, is_short, too_short}
-use Rattle.evaluator.specs.Evaluating.{Readable, written_in, Ready, EvaluationLeft, Evaluating, Forwarding}
+use Rattle.evaluator.specs.Evaluating.{Readable, Tested, written_in, Ready, EvaluationLeft, Evaluating, Forwarding}
 use Rattle.evaluator.specs.declared.Evaluation.{Evaluation}
 use Rattle.std.specs.Prelude.{Option, Some, None, Result, Ok, Err, cond, [], ◌∷◌}
 use Rattle.source_text.specs.Answers.{answers}
@@ -61,6 +61,12 @@ module _ {text : List ℕ} {sg : SignatureStore} {rows : Rows} {at : ℕ} where
   pub is_readable : {r : Bool} {t : Option ℕ} {q : ℕ}
       → SignatureChecked text sg r → r ≡ true → Checking text rows at t → t ≡ Some q → Readable text sg rows at
   is_readable {q = q} k e l f = record { signature = k.sound e; next = q; term = l.sound q f }
+
+pub tested_sound : {T : Type 0} {P : Type 0} {r : Result T Refusal} {x : T} → Tested P r → r ≡ Ok x → P
+tested_sound t e = rw e at t
+
+pub tested_refuses : {T : Type 0} {P : Type 0} {r : Result T Refusal} {x : Refusal} → Tested P r → r ≡ Err x → (x ≡ Storage) × (P → ⊥)
+tested_refuses t e = rw e at t
 
 -- `evaluate`
 

@@ -38,6 +38,11 @@ pub record Readable (text : List ℕ) (sg : SignatureStore) (rows : Rows) (at : 
 abbrev pub written_in : {text : List ℕ} {sg : SignatureStore} {rows : Rows} {at : ℕ} → Readable text sg rows at → Written one
 written_in {text} h = spelled text h.term.term
 
+-- What a test for that answers: what is not so is refused by 1.
+abbrev pub Tested : {T : Type 0} → Type 0 → Result T Refusal → Type 0
+Tested P (Ok x) = P
+Tested P (Err refusal) = (refusal ≡ Storage) × (P → ⊥)
+
 -- Besides, the buffers are as long as the limits ask.
 pub record Ready (text : List ℕ) (limits : Limits) (sg : SignatureStore) (rows : Rows) (at : ℕ) (b : Results) : Type 0 where
   pub lent : too_short limits b ≡ false

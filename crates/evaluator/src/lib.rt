@@ -9,7 +9,7 @@ ghost use Rattle.std.specs.Prelude.{◌≡◌, ◌≤◌, length};
 ghost use Rattle.function_calls.specs.Calls.{tree_rows};
 ghost use Rattle.signature.specs.Storage.{store_of};
 ghost use Rattle.evaluator.specs.Storage.{is_short, wiped, results_in, AreLent};
-ghost use Rattle.evaluator.specs.Evaluating.{Ready, EvaluationLeft, Evaluating, Forwarding};
+ghost use Rattle.evaluator.specs.Evaluating.{Readable, Tested, Ready, EvaluationLeft, Evaluating, Forwarding};
 
 pub use forward_calls::WrittenTerm;
 use function_calls::{MAX_CALLS, MAX_DEPTH, Program, Spent, Store, TreeRow};
@@ -116,6 +116,17 @@ pub fn evaluate_listed(
     }
 }
 
+// Whether all that is read is in form: the signature, and the term's rows.
+fn check(signature: StoredSignature, term: WrittenTerm) -> Result<(), Refusal>
+    ensures { Tested (Readable term.entry.text.now (store_of signature.entry) term.entry.rows.now term.entry.at) result }
+{
+    if !signature::check_signature(term.text, signature) {
+        return Err(Refusal::Storage);
+    }
+    term_check::check_term(term.text, term.rows, term.at).ok_or(Refusal::Storage)?;
+    Ok(())
+}
+
 // The value of a term, and the trees of its calls.
 pub fn evaluate(
     signature: StoredSignature,
@@ -130,12 +141,7 @@ pub fn evaluate(
     if buffers.are_short(limits.capped().words) {
         return Err(Refusal::Storage);
     }
-    if !signature::check_signature(term.text, signature) {
-        return Err(Refusal::Storage);
-    }
-    let Some(_) = term_check::check_term(term.text, term.rows, term.at) else {
-        return Err(Refusal::Storage);
-    };
+    check(signature, term)?;
     evaluate_listed(signature, term, limits, buffers)
 }
 
@@ -143,12 +149,7 @@ pub fn evaluate(
 pub fn is_forward_call(signature: StoredSignature, term: WrittenTerm) -> Result<bool, Refusal>
     ensures { Forwarding term.entry.text.now (store_of signature.entry) term.entry.rows.now term.entry.at result }
 {
-    if !signature::check_signature(term.text, signature) {
-        return Err(Refusal::Storage);
-    }
-    let Some(_) = term_check::check_term(term.text, term.rows, term.at) else {
-        return Err(Refusal::Storage);
-    };
+    check(signature, term)?;
     let symbols = &signature.symbols[..signature.counts.symbols as usize];
     Ok(forward_calls::is_forward_call(term, symbols))
 }

@@ -6,15 +6,17 @@
 ghost use Rattle.std.specs.Prelude.{◌+◌, ◌^◌, ◌≤◌, ◌<◌};
 
 use evaluation_listing_kit::StoredTerms;
-use evaluation_tests_kit::lent::{self, Query};
+use evaluation_tests_kit::lent::{self, EvaluationQuery};
 use evaluation_tests_kit::refused;
 use evaluator::{Buffers, Evaluation, WrittenTerm};
 use listing::recorded::{self, Recorded};
 use listing::{write, write_number};
-use load::{EvalRow, LentBuffers};
+use load::{EvalRow, LentBuffers, Loaded};
 use names::TermRow;
 use refusals::Refusal;
 use signature::StoredSignature;
+use signature_listing::used;
+use signature_tests::buffers;
 use words::Limits;
 
 // What is lent is exactly enough for this limit on words.
@@ -38,14 +40,13 @@ fn list_value(loaded: LoadedText, evaluation: Evaluation, storage: &Buffers) {
         symbols: signature.symbols,
         words: storage.words,
     };
-    let calls = usize::min(evaluation.calls as usize, storage.trees.len());
     let mut stack = [[0u32; 2]; 1024];
     let mut out = [0u8; 16384];
     evaluation_listing_kit::list_value(terms, evaluation.value, &mut stack, &mut out);
     evaluation_listing_kit::list_calls(
         terms,
         signature.rules,
-        &storage.trees[..calls],
+        used(storage.trees, evaluation.calls),
         &mut stack,
         &mut out,
     );
@@ -62,8 +63,8 @@ fn list_evaluation(loaded: LoadedText, answer: Result<Evaluation, Refusal>, stor
         }
         Ok(evaluation) => {
             list_value(loaded, evaluation, storage);
-            let used = evaluation.words as usize;
-            lent::test(storage, used, evaluation.calls as usize, 0);
+            let words = evaluation.words as usize;
+            lent::test(storage, words, evaluation.calls as usize, 0);
         }
     }
 }
@@ -90,8 +91,8 @@ fn term_at(loaded: LoadedText, at: usize) -> WrittenTerm {
 }
 
 // Is a term evaluated? A goal is listed as such.
-fn is_evaluated(signature: StoredSignature, term: WrittenTerm) -> bool {
-    match evaluator::is_forward_call(signature, term) {
+fn is_evaluated(query: EvaluationQuery) -> bool {
+    match evaluator::is_forward_call(query.signature, query.term) {
         Ok(true) => true,
         Ok(false) => {
             write(b"goal\n");
@@ -107,12 +108,12 @@ fn is_evaluated(signature: StoredSignature, term: WrittenTerm) -> bool {
 // Lists one `#eval`.
 fn list_eval(loaded: LoadedText, eval: EvalRow, storage: &mut Buffers) {
     write_eval(eval);
-    let query = Query {
+    let query = EvaluationQuery {
         signature: loaded.signature,
         term: term_at(loaded, term_row(eval)),
         limits: loaded.limits,
     };
-    if !is_evaluated(query.signature, query.term) {
+    if !is_evaluated(query) {
         return;
     }
     let answer = lent::evaluate(query, storage);
@@ -122,16 +123,13 @@ fn list_eval(loaded: LoadedText, eval: EvalRow, storage: &mut Buffers) {
 // Tests calls that must be refused, with the first `#eval`.
 fn test_refused(loaded: LoadedText, storage: &mut Buffers) {
     // Where there is no `#eval`, any place serves: each of these calls is refused before the term there is read.
-    let at = match loaded.evals.first() {
-        Some(eval) => term_row(*eval),
-        None => 0,
-    };
-    let query = Query {
+    let at = loaded.evals.first().map_or(0, |eval| term_row(*eval));
+    let query = EvaluationQuery {
         signature: loaded.signature,
         term: term_at(loaded, at),
         limits: loaded.limits,
     };
-    refused::test_unlisted_forward(query.signature, query.term);
+    refused::test_unlisted_forward(query);
     refused::test_short(query, storage.words, storage.links, storage.trees);
     refused::test_unlisted(query, storage);
 }
@@ -168,6 +166,17 @@ fn list_loaded(loaded: LoadedText) {
     list_lent(loaded, &mut storage);
 }
 
+// Lists a text that is loaded into what is lent.
+fn list_stored(text: &[u8], limits: Limits, loaded: Loaded, lent: &LentBuffers) {
+    list_loaded(LoadedText {
+        text,
+        signature: buffers::stored_in(lent, loaded.counts),
+        rows: lent.rows,
+        evals: used(lent.evals, loaded.evals),
+        limits,
+    });
+}
+
 // Loads a text and lists what it comes to. What is lent is exactly enough for texts of 16,384 bytes and for 4,096 nodes.
 fn list_text(text: &[u8], limits: Limits) {
     let mut tokens = [[0u32; 4]; 16384];
@@ -190,23 +199,7 @@ fn list_text(text: &[u8], limits: Limits) {
     };
     match load::load(text, limits, &mut lent) {
         Err(rejection) => listing::write_refusal(rejection),
-        Ok(loaded) => {
-            let signature = StoredSignature {
-                sorts: &sorts,
-                symbols: &symbols,
-                rules: &rules,
-                words: &pattern,
-                counts: loaded.counts,
-            };
-            let count = usize::min(loaded.evals as usize, evals.len());
-            list_loaded(LoadedText {
-                text,
-                signature,
-                rows: &rows,
-                evals: &evals[..count],
-                limits,
-            });
-        }
+        Ok(loaded) => list_stored(text, limits, loaded, &lent),
     }
 }
 
@@ -241,7 +234,7 @@ fn replay_one(list: &[u8], at: usize) -> usize
 }
 
 // Goes through a list from text to text.
-// Stays: here a line has a fourth number before its text; for both kinds of lines `recorded::replay` would be over a trait with a law, and an impl for each.
+// Stays: a line has a fourth number before its text; a parameter for that in `recorded::read` would go into its contract and all three programs.
 fn replay(list: &[u8]) {
     let end = recorded::end(list);
     let mut at = 0;

@@ -28,7 +28,7 @@ pub fn check_use(symbols: &[SymbolRow], i: usize, arguments: usize) -> Result<()
 }
 
 // A constructor is built, a function called at the next depth.
-// Stays: program, depth, what is spent and store go apart, as at `function_calls::call`.
+// Stays: the program is read, the store written, depth and spent are values; in one struct, `apply` would promise that the program stands.
 pub fn apply(
     program: Program,
     depth: u32,
@@ -59,8 +59,8 @@ pub fn apply(
     Ok(Outcome {
         value: built.value,
         spent: Spent {
-            calls: spent.calls,
             used: built.used,
+            ..spent
         },
     })
 }

@@ -11,6 +11,7 @@ use refusals::Refusal;
 
 // The sort of a value by its header: the output of its symbol.
 // Stays: where there is no such symbol the definition's output is 0, as a predicate's is, and the contract would have to say so of an option too.
+// Stays: tried with `symbols.get(f).map_or(0, |row| row[2])`: that the answer is the definition's output in both cases was not proved.
 pub fn sort_of(symbols: &[SymbolRow], header: u32) -> u32
     requires { headers ≤ header }
     ensures { (text : List ℕ) → result ≡ (symbol_at (symbols_of text symbols.now (length symbols.now)) (symbolIn header)).output }

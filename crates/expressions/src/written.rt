@@ -101,13 +101,10 @@ pub fn expression(
         }
         words::METAVARIABLE => Err(Refusal::NotGround),
         kind => {
-            let word = Word {
-                start: row[1],
-                size: row[2],
-            };
-            let Some(i) = names::find_at(term.text, program.symbols, kind, word) else {
-                return Err(Refusal::UnknownSymbol);
-            };
+            let word = Word::behind_kind(row);
+            let i = names::find_at(term.text, program.symbols, kind, word).ok_or(
+                Refusal::UnknownSymbol,
+            )?;
             let arguments = row[3] as usize;
             check_use(program.symbols, i, arguments)?;
             let first = WrittenTerm {

@@ -1,5 +1,8 @@
 -- What a symbol's row and a term's row say of calls.
-use mathlib.Core.Path.{◌≡◌, refl, ◌∙◌}
+use mathlib.Core.Path.{◌≡◌, refl, sym, ◌∙◌}
+use Rattle.std.specs.Prelude.{Option, Some, None, MatchOption}
+use Rattle.std.specs.List.{position}
+use Rattle.source_text.specs.Bytes.{same_bytes}
 use mathlib.Core.Bool.{Bool, true, false, cond}
 use mathlib.Core.List.{List, [], map}
 use Prim.Native.Nat.{ℕ, ◌≤◌, ◌<◌}
@@ -9,8 +12,9 @@ use lib.ListN.{length, take}
 use borrow.Author.Tests.{lt-ltb, le-ltb, ne_eqb, eqb-false}
 use Rattle.words.specs.Names.{metavariable_kind, numeral_kind}
 use Rattle.names.specs.Names.{Name}
-use Rattle.names.specs.Symbols.{Rows, column, row_at, Symbol, symbol_of, symbols_of, symbol_number, symbol_at, no_symbol}
+use Rattle.names.specs.Symbols.{Rows, column, row_at, Symbol, sort_of, symbol_of, symbols_of, symbol_number, symbol_at, no_symbol}
 use Rattle.names.specs.SearchLaws.{table_length, table_at, get_d_any}
+use Rattle.names.specs.UsedLaws.{some_symbol, no_symbol as no_symbol_of}
 use Rattle.flattening.specs.Flattening.{is_function}
 use Rattle.flattening.specs.Promises.{is_call}
 
@@ -46,3 +50,13 @@ module _ (symbols : List Symbol) (kind : ℕ) (w : Name) where
       go true b p q e = absurd (let z : ◌≡◌ {A = ℕ} 0 1 = cc in omega arith)
       go false true p q e = absurd (let z : ◌≡◌ {A = ℕ} 0 1 = cc in omega arith)
       go false false p q e = (eqb-false kind metavariable_kind p, eqb-false kind numeral_kind q)
+
+-- What is found is below the rows' number,
+pub function_there : (text : List ℕ) (rows : Rows) (w : Name) (found : Option ℕ) → found ≡ position (λ row. same_bytes (sort_of text row) w) rows → (i : ℕ) → found ≡ Some i → i < length rows
+function_there text rows w found e i q = (some_symbol text rows w i (sym q ∙ e)).1
+
+-- and the answer that is made of its row, or of none, tells functions.
+pub function_told : (text : List ℕ) (rows : Rows) (w : Name) (found : Option ℕ) (r : Bool) → found ≡ position (λ row. same_bytes (sort_of text row) w) rows
+    → MatchOption found (r ≡ false) (λ i. r ≡ eqb (column (row_at rows i) 3) 1) → r ≡ is_function (symbols_of text rows (length rows)) w
+function_told text rows w None r e h = h ∙ function_absent text rows (length rows) (omega arith) w _ refl (no_symbol_of text rows w e)
+function_told text rows w (Some i) r e h = let (q, l) = some_symbol text rows w i e in h ∙ function_found text rows (length rows) (omega arith) w i q l

@@ -3,10 +3,10 @@
 // All functions here serve the crates above: `Room` and the contracts say what they ask.
 #![tactic(auto)]
 
-ghost use Rattle.std.specs.Prelude.{◌≡◌, ◌+◌, ◌-◌, ◌*◌, ◌≤◌, ◌<◌, length};
+ghost use Rattle.std.specs.Prelude.{◌≡◌, ◌+◌, ◌-◌, ◌*◌, ◌≤◌, ◌<◌, eqb, length};
 ghost use Rattle.source_text.specs.Parts.{part_of};
 ghost use Rattle.names.specs.Names.{result_length};
-ghost use Rattle.names.specs.Symbols.{column, symbols_of};
+ghost use Rattle.names.specs.Symbols.{column, row_at, symbols_of};
 ghost use Rattle.flattening.specs.Flattening.{is_function};
 ghost use Rattle.flattening.specs.Promises.{call_limit, arity_of, is_call, Copied, Finishes, Room, Flattens};
 
@@ -36,13 +36,16 @@ pub fn move_rows(source: &[TermRow], from: usize, n: usize, to: &mut [TermRow], 
 fn is_function(source: SourceTerms, word: Word) -> bool
     ensures { result ≡ is_function (symbols_of source.entry.text.now source.entry.symbols.now (length source.entry.symbols.now)) (part_of source.entry.text.now word.start word.size) }
 {
-    match names::find(source.text, source.symbols, names::part(source.text, word)) {
-        Some(i) => source.symbols[i][3] == FUNCTION,
-        None => false,
-    }
+    names::find(source.text, source.symbols, names::part(source.text, word)).is_some_and(
+        |i|
+            requires { i < length source.symbols.now }
+            ensures { result ≡ eqb (column (row_at source.entry.symbols.now i) 3) 1 }
+        { source.symbols[i][3] == FUNCTION },
+    )
 }
 
 // Does a row stand for a call?
+// Stays: C callers lend the kind, which may be none of these; an enum would be made by the same `match`, only to be matched again here.
 fn is_call(source: SourceTerms, row: &TermRow) -> bool
     ensures { result ≡ is_call (symbols_of source.entry.text.now source.entry.symbols.now (length source.entry.symbols.now)) (column row.now 0) (part_of source.entry.text.now (column row.now 1) (column row.now 2)) }
 {

@@ -17,6 +17,7 @@ pub struct WrittenTerm<'a> {
 }
 
 // Whether a term has no metavariable: its rows stand in preorder, so one pass over them sees every part.
+// Stays: `clauses::skip` finds the row behind the term by the same walk; with `any` on the rows up to there it would be two passes in place of one.
 pub fn is_ground(term: WrittenTerm) -> bool
     requires { GroundAsked term.text.now term.rows.now term.at }
     ensures { GroundAnswered term.entry.text.now term.entry.rows.now term.entry.at result }

@@ -39,7 +39,8 @@ pub struct Level {
 }
 
 // A program: its symbols, its rules, the words of their patterns, and how many words its values may take.
-// Stays: that it is in form is no ghost field: each contract speaks of the symbols and rules that stand in it, and would have to name them still.
+// Stays: a ghost field that says that it is in form would spare nothing, as each contract names the symbols and rules that stand in it anyway.
+// Stays: a method for `Room { used, limit: program.limit }` would be given `used` and hold that one line, with a contract that four proofs unfold again.
 #[derive(Clone, Copy)]
 pub struct Program<'a> {
     pub symbols: &'a [SymbolRow],
@@ -57,8 +58,8 @@ pub struct Store<'a> {
     pub stack: &'a mut [[u32; 3]],
 }
 
-// Stays: a program is read, a store written, level and spent come by value; as one struct, each function would promise besides that the program stands.
 // One premise of a clause, a node by its header and the address of its first argument: its call, whose value has to fit its last argument.
+// Stays: a program is read, a store written, level and spent come by value; as one struct, each function would promise besides that the program stands.
 #[cycle(call_follow_premise)]
 fn premise(
     program: Program,
@@ -98,8 +99,8 @@ fn premise(
         height: level.height + 1,
     };
     let from = Spent {
-        calls: spent.calls,
         used: before,
+        ..spent
     };
     let outcome = call(program, symbol, &values[..count], below, from, store)?;
     let last = program.pattern[first as usize + count];
@@ -147,6 +148,7 @@ fn follow(
     let row = &program.rules[rule];
     for reference in &row[10..10 + row[4] as usize] {
         let Pattern::Node { header, first } = pattern_at(program.pattern, *reference) else {
+            // Never reached: a premise in form is a node.
             return Err(Refusal::Storage);
         };
         let outcome = premise(program, header, first, level, spent, environment, store)?;
@@ -169,8 +171,8 @@ fn follow(
     Ok(Outcome {
         value: store.words[(built.value + header % SYMBOL_STEP) as usize],
         spent: Spent {
-            calls: spent.calls,
             used: built.used,
+            ..spent
         },
     })
 }
@@ -211,15 +213,14 @@ pub fn call(
         words,
         used: spent.used,
     };
-    let Some(rule) = find_clause(
+    let rule = find_clause(
         clauses,
         values,
         among,
         &mut environment,
         store.links,
         store.stack,
-    ) else {
-        return Err(Refusal::NoClause);
-    };
+    )
+    .ok_or(Refusal::NoClause)?;
     follow(program, rule, level, spent, &mut environment, store)
 }

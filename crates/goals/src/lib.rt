@@ -93,7 +93,7 @@ fn enter_names(variables: &[VariableRow], names: &mut [NameRow], counter: u32)
 }
 
 // Copies a goal's words behind the used words of a session, and answers the goal's reference there.
-// Stays: lent the words from the used ones on alone, the caller would have to join what comes back to the words before, of which its contract speaks too.
+// Stays: with the words from `used` on alone lent, the caller would have to join what comes back to those before, of which its contract speaks too.
 fn copy_goal(pattern: &[u32], goal: Goal, places: &[u32], words: &mut [u32], used: u32) -> u32
     requires { (Copyable pattern.now 0 goal.words places.now words.old term_room used 0) × (Movable places.now 0 pattern_room (term_room + used) goal.node) }
     ensures value { result ≡ moved places.now 0 pattern_room (term_room + used) goal.node }

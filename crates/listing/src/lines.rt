@@ -1,5 +1,5 @@
 // The line of a token, and of a refused text.
-// Stays: a formatter would write the same bytes by way of a trait whose contract does not fix each of them.
+// Stays: words of a text are bytes, which `write!` does not write, and it promises its bytes only where it answers `Ok`.
 ghost use Rattle.std.specs.Prelude.{◌≡◌, ◌+◌, ◌≤◌, length};
 ghost use Rattle.byte_output.specs.Output.{IsWritten};
 ghost use Rattle.refusals.specs.Refusals.{number_of};

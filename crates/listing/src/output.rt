@@ -1,5 +1,5 @@
 // Standard output.
-// Stays: `Display` writes `str`, and what is written are bytes, as names of a text; `println!` takes the handle that std's `main` is given.
+// Stays: bytes are no `str`, and `print!` asks for the handle that `main` is given: each function up to `main` would take it and hand on a `Result`.
 const STDOUT_FILENO: i32 = 1;
 
 // Writes bytes to standard output.

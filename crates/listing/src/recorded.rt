@@ -67,6 +67,7 @@ pub fn end(list: &[u8]) -> usize
 }
 
 // The decimal number at a place: at most 20 digits are read.
+// Stays: `parse` reads a `str`, and these are bytes.
 pub fn read_decimal(list: &[u8], at: usize) -> Decimal
     requires { at < 2 ^ 62 }
     ensures is { result ≡ decimal_at list.now at }

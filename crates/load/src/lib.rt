@@ -49,7 +49,7 @@ struct Walk<'a> {
 }
 
 // Enters the declarations in text order.
-// Stays: tried to lend the rows in use alone: after `&rows[..used]`, of a field behind `&mut`, the checker knows nothing more of the rows in `load_rows`.
+// Stays: tried to lend `&rows[..used]`: as `rows` comes from a field of `buffers`, nothing is known of that field in `load_rows` afterwards.
 fn enter_all(
     walk: Walk,
     rows: &[TermRow],

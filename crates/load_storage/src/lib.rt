@@ -27,7 +27,7 @@ pub struct LentBuffers<'a> {
 }
 
 // How much of a signature's storage is in use.
-// Stays: `leave` takes counts of any size, and those of `signature::Counts` have 32 bits.
+// Stays: `leave` serves counts of any size; those of `signature::Counts` have 32 bits, so that it would promise less.
 #[derive(Clone, Copy)]
 pub struct Used {
     pub sorts: usize,

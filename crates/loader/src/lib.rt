@@ -15,17 +15,16 @@ ghost use Rattle.loader.specs.Entering.{RuleAsked, RuleEntered};
 ghost use Rattle.loader.specs.Arrows.{names_at, Arrowing};
 ghost use Rattle.loader.specs.SymbolEntry.{SymbolAnswered};
 
+use arena::INPUTS;
 use clauses::EnteredRule;
 use names::{FUNCTION, NO_FUNCTION, SortRow, SymbolRow, TermRow, Word};
 use refusals::Refusal;
 use rules::{RulePlace, RuleRow, SourceRule, Title};
 
-// How many sorts, symbols and inputs there may be.
+// How many sorts and symbols there may be.
 pub const SORTS: usize = 256;
 
 pub const SYMBOLS: usize = 1024;
-
-const INPUTS: usize = 16;
 
 // The names that there are: the rows of the sorts and symbols in use, and the text in which their names stand.
 #[derive(Clone, Copy)]
@@ -96,7 +95,7 @@ pub fn check_symbol(known: Known, word: &[u8], k: usize) -> Result<(), Refusal>
     if is_taken(known, word) {
         return Err(Refusal::AlreadyDeclared);
     }
-    if INPUTS < k {
+    if (INPUTS as usize) < k {
         return Err(Refusal::Full);
     }
     let count = known.symbols.len();
@@ -139,7 +138,7 @@ pub fn put_symbol(row: &mut SymbolRow, symbol: SymbolHead, inputs: &[u32])
 
 // Looks up the sorts whose names stand in the rows of a part; the numbers of the first 16 go to `inputs`, and that of the last is answered, if all are
 // known: 0 of a part with no sorts.
-// Stays: only predicates have no sorts, and their row holds 0 as the output; an option of an option would be turned into that at once.
+// Stays: the last number is read of a constructor alone, and `declare` refuses one without sorts; an inner option would become 0 in `enter_symbol`.
 pub fn find_arrow(part: Part, sorts: &[SortRow], inputs: &mut [u32]) -> Option<u32>
     requires { (length sorts.now ≤ 256) × (part.source.at + part.k ≤ length part.source.rows.now) × (length part.source.rows.now ≤ 65536) × (length inputs.old ≡ 16) }
     ensures { Arrowing (numbers_of (sorts_of part.entry.source.text.now sorts.now (length sorts.now)) (names_at part.entry.source.text.now part.entry.source.rows.now part.entry.source.at part.entry.k)) result inputs.new part.entry.k }
@@ -148,8 +147,8 @@ pub fn find_arrow(part: Part, sorts: &[SortRow], inputs: &mut [u32]) -> Option<u
     let Source { text, rows, at } = source;
     let mut last = 0;
     for i in 0..k {
-        let [_, start, size, _] = rows[at + i];
-        let s = names::find(text, sorts, names::part(text, Word { start, size }))?;
+        let word = Word::behind_kind(&rows[at + i]);
+        let s = names::find(text, sorts, names::part(text, word))?;
         last = s as u32 + 1;
         slices::put(inputs, i, last);
     }
@@ -228,14 +227,13 @@ pub fn enter_symbol(
         k,
     };
     let last = find_arrow(behind, sorts, &mut inputs).ok_or(Refusal::UnknownSort)?;
-    let [_, start, size, _] = rows[at];
     let n = kind.input_count(k);
     let known = Known {
         text,
         sorts,
         symbols: &symbols[..count],
     };
-    let word = Word { start, size };
+    let word = Word::behind_kind(&rows[at]);
     check_symbol(known, names::part(text, word), n)?;
     let symbol = kind.head(word, last);
     put_symbol(&mut symbols[count], symbol, &inputs[..n]);

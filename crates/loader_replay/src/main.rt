@@ -6,26 +6,15 @@ use listing::recorded;
 use load::{LentBuffers as Lent, Loaded};
 use parser::Parsed;
 use refusals::Rejection;
-use signature::{Counts, StoredSignature};
+use signature::Counts;
 use signature_tests::{buffers, damage};
 use words::Limits;
-
-// The signature in what is lent.
-fn stored_in<'a>(lent: &'a Lent, counts: Counts) -> StoredSignature<'a> {
-    StoredSignature {
-        sorts: lent.sorts,
-        symbols: lent.symbols,
-        rules: lent.rules,
-        words: lent.words,
-        counts,
-    }
-}
 
 // Lists what was loaded, and tests the buffers: zero past the counts.
 fn list_loaded(text: &[u8], loaded: Loaded, parsed: Result<Parsed, Rejection>, lent: &Lent) {
     let n = loaded.evals as usize;
-    let stored = stored_in(lent, loaded.counts);
-    let waiting = &lent.evals[..n.min(lent.evals.len())];
+    let stored = buffers::stored_in(lent, loaded.counts);
+    let waiting = signature_listing::used(lent.evals, loaded.evals);
     signature_listing::list(text, stored, waiting);
     let Ok(parsed) = parsed else {
         buffers::expect(false, b"as many declarations as parsed");

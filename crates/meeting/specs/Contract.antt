@@ -33,3 +33,7 @@ pub record Walked (pattern : List ℕ) (reference : ℕ) (table : List (Option �
   pub answered : words (term_of pattern reference) ≤ most → answer ≡ Some (words (term_of pattern reference))
   pub recorded : words (term_of pattern reference) ≤ most → (e : List ℕ) → Records e table count
       → Records (met (term_of pattern reference) e) table' count'
+
+-- What is asked of a term that is to be walked whole: it takes no more words than are allowed.
+abbrev pub WholeAsked : List ℕ → ℕ → ℕ → Rows → Type 0
+WholeAsked pattern reference most stack = Ready pattern reference most stack × (words (term_of pattern reference) ≤ most)

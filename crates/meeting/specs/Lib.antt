@@ -3,3 +3,4 @@ pub mod Places
 pub mod Contract
 pub mod PlaceLaws
 pub mod WalkLaws
+pub mod BackLaws

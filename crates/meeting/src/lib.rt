@@ -2,10 +2,12 @@
 // the term takes (document 01, refusal 37). The stack is lent, so that nothing is recursive.
 #![tactic(auto)]
 
-ghost use Rattle.std.specs.Prelude.{◌≡◌, ◌<◌, [], length};
+ghost use Rattle.std.specs.Prelude.{◌≡◌, ◌<◌, ℕ, List, [], length, get_or};
 ghost use Rattle.arena.specs.Copies.{pattern_room};
 ghost use Rattle.meeting.specs.Places.{Records, Given, placed_count, is_place, in_order};
-ghost use Rattle.meeting.specs.Contract.{Ready, Walked};
+ghost use Rattle.arena.specs.Cells.{terms_of};
+ghost use Rattle.resolution.specs.Fresh.{met_back};
+ghost use Rattle.meeting.specs.Contract.{term_of, Ready, Walked, WholeAsked};
 
 use arena::{PATTERN_ROOM, SYMBOL_STEP};
 
@@ -88,6 +90,22 @@ impl Places {
                     }
                 }
             }
+        }
+    }
+
+    // Meets the variables of several patterns' terms from the last to the first, each from left to right. None of the terms takes more than `most` words.
+    pub fn meet_back(
+        &mut self,
+        words: &[u32],
+        references: &[u32],
+        most: u32,
+        stack: &mut [[u32; 2]],
+    )
+        requires { (i : ℕ) → i < length references.now → WholeAsked words.now (get_or references.now i 0) most stack.old }
+        ensures { (e : List ℕ) → Records e self.old.places self.old.count → Records (met_back (terms_of (term_of words.now) references.now) e) self.new.places self.new.count }
+    {
+        for reference in references.iter().rev() {
+            self.meet(words, *reference, most, stack);
         }
     }
 

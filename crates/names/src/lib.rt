@@ -1,4 +1,4 @@
-// Names: sorts, symbols and variables, found by their whole names. Every comparison reads every byte.
+// Names: sorts, symbols and variables, found by their whole names. Two names are the same only if all their bytes are.
 #![tactic(auto)]
 
 ghost use Rattle.std.specs.Prelude.{ℕ, ◌≡◌, ◌≤◌, List, position, IsTrue, ◌↔◌};
@@ -127,6 +127,7 @@ pub trait Named {
         ensures { result ≡ same_bytes (name text.now self.now) w.now };
 }
 
+// Stays: the row of a variable is a `[u32; N]` too, so that one impl for sorts and symbols would overlap with that of variables.
 impl Named for SortRow {
     ghost name = { sort_of };
 

@@ -66,10 +66,7 @@ impl Repeated for Binders {
         if t.kind != NAME {
             return Err(rejection(Refusal::NameExpected, input.tokens, colon.position.at));
         }
-        let sort = Position {
-            at: colon.position.at + 1,
-            ..colon.position
-        };
+        let sort = colon.position.past_token();
         let close = sign(input, CLOSE, sort)?;
         out[from.used] = [BINDERS, t.start, t.length, bound.count];
         Ok(Some(Read { count: 1, ..close }))
@@ -105,7 +102,8 @@ pub fn tactic(input: Input, from: Position, out: &mut [[u32; 4]]) -> Result<Read
 }
 
 // `sort n`, from its keyword on, which is in this line, as each declaration below.
-// Stays: what these ask for speaks of the rows too, which they write: a struct of input, place and rows would be lent to be written, input and all.
+// Stays: what these ask for speaks of the rows too, which they write: a struct of input, place and rows would be lent to be written, input and all;
+// that a token is left is asked beside it, as the position alone does not know the tokens.
 pub fn sort(
     input: Input,
     from: Position,
@@ -278,7 +276,7 @@ pub fn asked(
 }
 
 // What a token starts, from it on: its kind says which declaration.
-// Stays: the kind is that of a token's row, which `lex` wrote, and may be that of a name or a sign; a type of the keywords would be made for this one `match`.
+// Stays: the kind is a number in a token's row and may be that of a name or a sign; an enum would be made by the same `match`, only to be matched again.
 pub fn body(
     input: Input,
     from: Position,

@@ -32,16 +32,10 @@ pub fn parse(text: &[u8], tokens: &[[u32; 4]], rows: &mut [[u32; 4]]) -> Result<
     ensures { Parsing text.now tokens.now rows.old result rows.new }
 {
     if 65536 < tokens.len() {
-        return Err(Rejection {
-            refusal: Refusal::Storage,
-            line: 0,
-        });
+        return Err(Rejection::from(Refusal::Storage));
     }
     if rows.len() < tokens.len() {
-        return Err(Rejection {
-            refusal: Refusal::Storage,
-            line: 0,
-        });
+        return Err(Rejection::from(Refusal::Storage));
     }
     match declarations(Input { text, tokens }, rows) {
         Ok(read) => {
@@ -69,16 +63,10 @@ pub fn parse_text(
 {
     let limit = limits.capped().text as usize;
     if tokens.len() < limit {
-        return Err(Rejection {
-            refusal: Refusal::Storage,
-            line: 0,
-        });
+        return Err(Rejection::from(Refusal::Storage));
     }
     if rows.len() < limit {
-        return Err(Rejection {
-            refusal: Refusal::Storage,
-            line: 0,
-        });
+        return Err(Rejection::from(Refusal::Storage));
     }
     match words::lex(text, limits, tokens) {
         Ok(count) => {

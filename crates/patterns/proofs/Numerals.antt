@@ -1,7 +1,7 @@
 -- Laws of numerals.
 use mathlib.Core.Path.{◌≡◌, refl, sym, ◌∙◌}
 use mathlib.Core.List.{List, [], ◌∷◌}
-use mathlib.Core.Bool.{Bool, true, false, cond, ◌&&◌}
+use mathlib.Core.Bool.{Bool, true, false, cond, not, ◌&&◌}
 use Rattle.std.specs.Prelude.{Some, None}
 use Rattle.std.proofs.Common.{ltb-true}
 use Rattle.source_text.specs.ByteLaws.{and_left}
@@ -9,7 +9,11 @@ use Prim.Native.Nat.{ℕ, zero, suc, ◌+◌, ◌*◌, ◌-◌, ◌≤◌, ◌<�
 use native.Mathlib.Numerals.{add-one}
 use native.Mathlib.Omega.{arith}
 use lib.ListN.{length, set}
-use borrow.Author.Tests.{lt-ltb, le-ltb}
+use lib.Dec.{eqb}
+use borrow.Author.Tests.{lt-ltb, le-ltb, eqb-false}
+use Rattle.std.specs.Bool.{then_some}
+use Rattle.std.proofs.lemmas.Bool.{eqb-true}
+use Rattle.terms.specs.Numbers.{by_bool}
 use Rattle.terms.specs.Term.{app, nil, cons}
 use Rattle.term_parser.specs.Standing.{number}
 use Rattle.names.specs.Names.{Name}
@@ -122,13 +126,19 @@ one_input text r s e = let x : 1 ≡ column r 6 = misfit_args text r s 1 e in co
 -- `constructor`
 module _ (text : List ℕ) (sr : Rows) (n : ℕ) (hs : n ≤ length sr) (w : Name) where
   module _ (i : ℕ) (e : i ≡ symbol_number (symbols_of text sr n) w) (l : i < n) where
-    pub is_predicate : column (row_at sr i) 2 ≡ 0 → None ≡ constructor_of (symbols_of text sr n) w
+    is_predicate : column (row_at sr i) 2 ≡ 0 → None ≡ constructor_of (symbols_of text sr n) w
     unfolding symbol_of
     is_predicate o = let b : column (row_at sr i) 2 ≤ 0 = omega arith in simp (← e, symbols_length text sr n hs, lt-ltb i n l, symbol_at_lem text sr n hs i l, le-ltb 0 (column (row_at sr i) 2) b)
 
-    pub is_constructor : (column (row_at sr i) 2 ≡ 0 → ⊥) → Some i ≡ constructor_of (symbols_of text sr n) w
+    is_constructor : (column (row_at sr i) 2 ≡ 0 → ⊥) → Some i ≡ constructor_of (symbols_of text sr n) w
     unfolding symbol_of
     is_constructor o = let b : 0 < column (row_at sr i) 2 = omega arith in simp (← e, symbols_length text sr n hs, lt-ltb i n l, symbol_at_lem text sr n hs i l, lt-ltb 0 (column (row_at sr i) 2) b)
+
+    -- The answer that is made of the row's output.
+    pub is_told : then_some (not (eqb (column (row_at sr i) 2) 0)) i ≡ constructor_of (symbols_of text sr n) w
+    is_told = by_bool (eqb (column (row_at sr i) 2) 0)
+        (λ p. rw p (is_predicate (eqb-true (column (row_at sr i) 2) 0 p)))
+        (λ p. rw p (is_constructor (eqb-false (column (row_at sr i) 2) 0 p)))
 
   pub is_nothing : n ≤ symbol_number (symbols_of text sr n) w → None ≡ constructor_of (symbols_of text sr n) w
   is_nothing l = simp (symbols_length text sr n hs, le-ltb (symbol_number (symbols_of text sr n) w) n l)

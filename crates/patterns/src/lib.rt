@@ -71,7 +71,7 @@ pub fn enter(
 }
 
 // How far the compiler is: the next row, how many variables there are, how many words are used, and the room for nodes left.
-// Stays: apart from the source, which is read, and from variables and words, which are written: a struct of all would be lent to be written, with the source.
+// Stays: variables and words have different owners; a struct of the two would be made anew at each call, and each contract would say they come back.
 #[derive(Clone, Copy)]
 pub struct Place {
     pub next: usize,
@@ -210,15 +210,8 @@ fn numeral_words(words: &mut [u32], used: usize, numerals: NumeralSymbols, n: us
 pub fn constructor(text: &[u8], symbols: &[SymbolRow], w: &[u8]) -> Option<usize>
     ensures { result ≡ constructor_of (symbols_of text.now symbols.now (length symbols.now)) w.now }
 {
-    match names::find(text, symbols, w) {
-        Some(i) => {
-            if symbols[i][2] == 0 {
-                return None;
-            }
-            Some(i)
-        }
-        None => None,
-    }
+    let i = names::find(text, symbols, w)?;
+    (symbols[i][2] != 0).then_some(i)
 }
 
 // The numeral n as a pattern.
@@ -248,6 +241,7 @@ fn numeral(
 
 // The pattern of the source term at a row, at a place of the sort want (0: a judgment).
 // Stays: the rows of symbols, which C callers lend, have 0 where there is no sort, and the sorts of places are compared with theirs.
+// Stays: C callers lend the kind, which may be none of these; an enum would be made by the same `match`, only to be matched again here.
 #[cycle(node_pattern)]
 pub fn pattern(
     source: SourceTerms,
@@ -343,9 +337,9 @@ pub fn judgments(
     ensures { Judged source.entry.text.now source.entry.rows.now from.next (length heads.old) (symbols_of source.entry.text.now source.entry.symbols.now (length source.entry.symbols.now)) variables.old from.variables words.old from.used from.room result variables.new words.new heads.new }
 {
     let mut place = from;
-    for k in 0..heads.len() {
+    for head in heads {
         let made = pattern(source, 0, variables, words, place)?;
-        heads[k] = made.node;
+        *head = made.node;
         place = made.place;
     }
     Ok(place)

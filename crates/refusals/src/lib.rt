@@ -138,9 +138,18 @@ impl From<Refusal> for u32 {
 }
 
 // The refusal of a text, and the line that it is about; 0: no line.
-// Stays: programs in C and document 01 have 0 for no line, and each use would only make that of it.
+// Stays: programs in C and document 01 have 0 for no line, and both places that tell a line write that number.
 #[derive(Clone, Copy, Debug, PartialEq, Eq)]
 pub struct Rejection {
     pub refusal: Refusal,
     pub line: u32,
+}
+
+// A refusal that is about no line.
+impl From<Refusal> for Rejection {
+    ghost from_gives = { λ refusal rejection. rejection ≡ record { refusal = refusal; line = 0 } };
+
+    fn from(refusal: Refusal) -> Rejection {
+        Rejection { refusal, line: 0 }
+    }
 }

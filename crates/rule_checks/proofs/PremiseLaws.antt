@@ -1,18 +1,19 @@
--- Laws of walks through a row's premises: from the first on, where their words are counted, and from the last back.
+-- Laws of walks through a row's premises: from the first on, where their words are counted; and what their references are.
 use mathlib.Core.Path.{◌≡◌, refl, sym, ap, ◌∙◌}
 use mathlib.Core.Bool.{Bool, true, false}
 use Rattle.terms.specs.Numbers.{by_bool, true_false}
-use mathlib.Core.List.{List, [], ◌∷◌, reverse}
+use mathlib.Core.List.{List, [], ◌∷◌}
+use lib.Seq.{ext_get_or}
 use lib.ListN.{length, get_or, take, drop}
 use Prim.Native.Nat.{ℕ, suc, ◌+◌, ◌-◌, ◌≤◌, ◌<◌}
 use native.Mathlib.Omega.{arith}
 use Rattle.terms.specs.Term.{Kind, Syn, Term}
 use Rattle.arena.specs.Cells.{terms_of}
 use Rattle.meeting.specs.Places.{Records}
-use Rattle.resolution.specs.Fresh.{met, met_back}
+use Rattle.resolution.specs.Fresh.{met}
 use Rattle.resolution.specs.Search.{words}
 use Rattle.names.specs.Symbols.{column, columns}
-use Rattle.rules.specs.BackLaws.{turn_back}
+use Rattle.names.specs.SearchLaws.{columns_length, columns_at}
 use Rattle.rule_checks.specs.Steps.{Walked}
 use Rattle.rule_checks.proofs.PartLaws.{part_index, part_length}
 use Rattle.std.specs.Prelude.{Option, eqb}
@@ -52,13 +53,12 @@ module _ (row : List ℕ) (n : ℕ) (few : n ≤ 16) (long : length row ≡ 154)
   unfolding heads
   heads_index k l = let m = heads_length in part_index row 10 (10 + n) k (omega arith)
 
-  -- the k-th read from the last back
-  pub heads_back : (k x : ℕ) → (k < length (reverse (heads row n))) × (x ≡ get_or (reverse (heads row n)) k x) → (k < n) × (x ≡ column row (10 + (n - k - 1)))
-  heads_back k x h =
-      let l = heads_length in
-      let b = turn_back (heads row n) k x h in
-      let e : length (heads row n) - k - 1 ≡ n - k - 1 = omega arith in
-      (omega (arith, b.0), b.1 ∙ ap (λ m. get_or (heads row n) m 0) e ∙ heads_index (n - k - 1) (omega (arith, b.0)))
+  -- They are the row's columns.
+  pub heads_columns : heads row n ≡ columns row 10 n
+  heads_columns =
+      let m = heads_length in
+      let w = columns_length row 10 n in
+      ext_get_or 0 (heads row n) (columns row 10 n) (m ∙ sym w) (λ i l. heads_index i l ∙ sym (columns_at row 10 n i (omega arith)))
 
 -- Those of n premises from number k on.
 abbrev pub rest : List ℕ → ℕ → ℕ → List ℕ
@@ -120,23 +120,3 @@ module _ (g : ℕ → Term) (row : List ℕ) (n : ℕ) where
         let (e', b', m) = h.recorded e b in
         let m' : e' ≡ met (terms_of g (columns row 10 n)) e = rw (rest_none row n k l) at m in
         rw m' at b'
-
-  -- From the last back
-
-  -- The premises from number k on are met.
-  abbrev pub Back : ℕ → List (Option ℕ) → ℕ → List (Option ℕ) → ℕ → Type 0
-  Back k table₀ count table all = (e : List ℕ) → Records e table₀ count → Records (met_back (terms_of g (rest row n k)) e) table all
-
-  pub back_start : (table : List (Option ℕ)) (count : ℕ) → Back n table count table count
-  back_start table count e h = rw (rest_none row n n (omega arith)) h
-
-  pub back_on : {k : ℕ} {table₀ : List (Option ℕ)} {count : ℕ} {table : List (Option ℕ)} {all : ℕ} → 0 < k → k ≤ n → Back k table₀ count table all → {table' : List (Option ℕ)} {all' : ℕ}
-      → ((e : List ℕ) → Records e table all → Records (met (g (column row (10 + (k - 1)))) e) table' all') → Back (k - 1) table₀ count table' all'
-  back_on {k} l m h f e b =
-      let d : k - 1 + 1 ≡ k = omega arith in
-      let r : rest row n (k - 1) ≡ column row (10 + (k - 1)) ∷ rest row n (k - 1 + 1) = rest_cons row n (k - 1) (omega arith) in
-      rw (r, d) (f (met_back (terms_of g (rest row n k)) e) (h e b))
-
-  pub back_end : {table₀ : List (Option ℕ)} {count : ℕ} {table : List (Option ℕ)} {all : ℕ} → Back 0 table₀ count table all
-      → (e : List ℕ) → Records e table₀ count → Records (met_back (terms_of g (columns row 10 n)) e) table all
-  back_end h e b = rw (rest_all row n) at (h e b)

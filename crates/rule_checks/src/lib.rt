@@ -3,21 +3,24 @@
 // All functions here serve the crates above: they ask for words of the listed sizes.
 #![tactic(auto)]
 
-ghost use Rattle.std.specs.Prelude.{◌≡◌, true, Some, None, List, [], ℕ, ◌+◌, ◌<◌, ◌≤◌, length, get_or, IsTrue, ◌↔◌, EachIndex, slice_index};
+ghost use Rattle.std.specs.Prelude.{◌≡◌, true, Some, None, [], ℕ, ◌+◌, ◌<◌, ◌≤◌, length, get_or, IsTrue, ◌↔◌, EachIndex, slice_index};
 ghost use Rattle.arena.specs.Cells.{headers};
 ghost use Rattle.arena.specs.Copies.{pattern_room};
 ghost use Rattle.arena.specs.Form.{is_argument};
-ghost use Rattle.resolution.specs.Fresh.{met_back};
 ghost use Rattle.meeting.specs.Places.{Records, is_place};
 ghost use Rattle.names.specs.Symbols.{column};
 ghost use Rattle.unifier.specs.Promises.{Tells};
 ghost use Rattle.rule_checks.specs.RuleForm.{RuleCheckable, RuleChecked};
-ghost use Rattle.rule_checks.specs.Steps.{Numbers, Columns, place_from, Parts, Walkable, TermAsked, premises_of, Walked, PlacedWord, OrderAsked, InOrder, InPlaces};
+ghost use Rattle.rule_checks.specs.Steps.{Numbers, Columns, place_from, Parts, Walkable, premises_of, Walked, PlacedWord, OrderAsked, InOrder, InPlaces};
 
 use arena::{PATTERN_ROOM, Terms};
 use meeting::Places;
 use names::{Word, is_word_place};
 use rules::RuleRow;
+use rules::columns::{
+    CLAUSE, CONCLUSION, CONCLUSION_WORDS, FIRST_PLACE, FIRST_PREMISE, FIRST_SORT, FIRST_WORD, MET,
+    PREMISE_WORDS, PREMISES, VARIABLES,
+};
 
 // The most words that the terms of a rule take: 2 for each of 1,024 nodes.
 const MOST: u32 = 2048;
@@ -48,19 +51,19 @@ fn are_numbers(text: &[u8], rule: &RuleRow, from: u32, used: u32) -> bool
     if !is_word_place(text, Word::at_start(rule)) {
         return false;
     }
-    if RULES < rule[2] {
+    if RULES < rule[CLAUSE] {
         return false;
     }
-    if 64 < rule[3] {
+    if 64 < rule[VARIABLES] {
         return false;
     }
-    if 16 < rule[4] {
+    if 16 < rule[PREMISES] {
         return false;
     }
-    if rule[6] != from {
+    if rule[FIRST_WORD] != from {
         return false;
     }
-    are_sizes(used - from, rule[7], rule[8])
+    are_sizes(used - from, rule[PREMISE_WORDS], rule[CONCLUSION_WORDS])
 }
 
 // Whether columns are zero.
@@ -79,24 +82,23 @@ pub fn are_sorts(columns: &[u32], sorts: u32) -> bool
 }
 
 // Whether the columns of a row are in form.
-// Stays: the row's counts were tested by `are_numbers`; a type of rows with tested counts would be made in `check_rule` alone, and each of the three
-// functions that ask for them would be given it and take the row out again.
+// Stays: a ghost field of `PlacedRule` for these counts would be proved in `check_rule` alone, where the contracts of the tests say it now.
 fn are_columns(rule: &RuleRow, sorts: u32) -> bool
     requires { (column rule.now 3 ≤ 64) × (column rule.now 4 ≤ 16) }
     ensures { Tells result (Columns sorts rule.now) }
 {
-    let premises = rule[4] as usize;
-    let variables = rule[3] as usize;
-    if !are_zeros(&rule[10 + premises..26]) {
+    let premises = rule[PREMISES] as usize;
+    let variables = rule[VARIABLES] as usize;
+    if !are_zeros(&rule[FIRST_PREMISE + premises..FIRST_SORT]) {
         return false;
     }
-    if !are_zeros(&rule[26 + variables..90]) {
+    if !are_zeros(&rule[FIRST_SORT + variables..FIRST_PLACE]) {
         return false;
     }
-    if !are_zeros(&rule[90 + variables..154]) {
+    if !are_zeros(&rule[FIRST_PLACE + variables..154]) {
         return false;
     }
-    are_sorts(&rule[26..26 + variables], sorts)
+    are_sorts(&rule[FIRST_SORT..FIRST_SORT + variables], sorts)
 }
 
 // Whether references are of the part of the words from `from` up to `middle`.
@@ -146,7 +148,12 @@ fn are_parts(arities: &[u32], rule: PlacedRule) -> bool
     if !arena::check_words(premises, from, arities) {
         return false;
     }
-    if !are_roots(words, from, middle, &row[10..10 + row[4] as usize]) {
+    if !are_roots(
+        words,
+        from,
+        middle,
+        &row[FIRST_PREMISE..FIRST_PREMISE + row[PREMISES] as usize],
+    ) {
         return false;
     }
     let all = Terms {
@@ -156,7 +163,7 @@ fn are_parts(arities: &[u32], rule: PlacedRule) -> bool
     if !arena::check_words(all, middle, arities) {
         return false;
     }
-    arena::is_argument(all, middle, row[5])
+    arena::is_argument(all, middle, row[CONCLUSION])
 }
 
 // Meets the variables of a row's premises in writing order, none of which has a place before; answers whether the premises take the words that the row
@@ -165,9 +172,9 @@ fn walk_premises(words: &[u32], rule: &RuleRow, places: &mut Places, stack: &mut
     requires { (column rule.now 7 ≤ 2048) × ((end : ℕ) × Walkable words.now end rule.now) × (2048 ≤ length stack.old) × Records [] places.old.places places.old.count }
     ensures { Walked (premises_of words.now rule.now) (column rule.now 7) places.old.places places.old.count result places.new.places places.new.count }
 {
-    let size = rule[7];
+    let size = rule[PREMISE_WORDS];
     let mut spent = 0;
-    for reference in &rule[10..10 + rule[4] as usize] {
+    for reference in &rule[FIRST_PREMISE..FIRST_PREMISE + rule[PREMISES] as usize] {
         let Some(taken) = places.meet(words, *reference, size - spent, stack) else {
             return false;
         };
@@ -202,24 +209,14 @@ fn is_in_order(rule: PlacedRule, stack: &mut [[u32; 2]]) -> bool
     if !are_placed(&words[from as usize..middle as usize], &places) {
         return false;
     }
-    let size = row[8];
-    if places.meet(words, row[5], size, stack) != Some(size) {
+    let size = row[CONCLUSION_WORDS];
+    if places.meet(words, row[CONCLUSION], size, stack) != Some(size) {
         return false;
     }
-    if places.count != row[3] {
+    if places.count != row[VARIABLES] {
         return false;
     }
     places.is_in_order()
-}
-
-// Meets the variables of a row's premises from the last to the first, behind those met before.
-fn walk_back(words: &[u32], rule: &RuleRow, places: &mut Places, stack: &mut [[u32; 2]])
-    requires { (column rule.now 4 ≤ 16) × ((j : ℕ) → j < column rule.now 4 → TermAsked words.now (column rule.now (10 + j))) × (2048 ≤ length stack.old) }
-    ensures { (e : List ℕ) → Records e places.old.places places.old.count → Records (met_back (premises_of words.now rule.now) e) places.new.places places.new.count }
-{
-    for reference in rule[10..10 + rule[4] as usize].iter().rev() {
-        places.meet(words, *reference, MOST, stack);
-    }
 }
 
 // Whether a row has the places of its variables.
@@ -227,12 +224,16 @@ fn are_places(rule: &RuleRow, places: &Places) -> bool
     requires { column rule.now 3 ≤ 64 }
     ensures { Tells result ((x : ℕ) → x < column rule.now 3 → get_or places.now.places x None ≡ Some (column rule.now (90 + x))) }
 {
-    let count = rule[3] as usize;
-    places.places.iter().zip(&rule[90..90 + count]).all(
-        |(place, column)|
-            ensures { result ≡ is_place place.entry.now column.entry.now }
-        { *place == Some(*column) },
-    )
+    let count = rule[VARIABLES] as usize;
+    places
+        .places
+        .iter()
+        .zip(&rule[FIRST_PLACE..FIRST_PLACE + count])
+        .all(
+            |(place, column)|
+                ensures { result ≡ is_place place.entry.now column.entry.now }
+            { *place == Some(*column) },
+        )
 }
 
 // Whether a row has the variables of its conclusion counted and the places of all in meeting order. The stack is scratch.
@@ -248,14 +249,15 @@ fn is_in_places(rule: PlacedRule, stack: &mut [[u32; 2]]) -> bool
         end,
     } = rule;
     let mut places = Places::new();
-    places.meet(words, row[5], MOST, stack);
-    if places.count != row[9] {
+    places.meet(words, row[CONCLUSION], MOST, stack);
+    if places.count != row[MET] {
         return false;
     }
     if !are_placed(&words[middle as usize..end as usize], &places) {
         return false;
     }
-    walk_back(words, row, &mut places, stack);
+    let premises = &row[FIRST_PREMISE..FIRST_PREMISE + row[PREMISES] as usize];
+    places.meet_back(words, premises, MOST, stack);
     are_places(row, &places)
 }
 
@@ -283,8 +285,8 @@ pub fn check_rule(
     if !are_columns(rule, sorts) {
         return None;
     }
-    let middle = from + rule[7];
-    let end = middle + rule[8];
+    let middle = from + rule[PREMISE_WORDS];
+    let end = middle + rule[CONCLUSION_WORDS];
     let placed = PlacedRule {
         row: rule,
         words,

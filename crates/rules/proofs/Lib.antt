@@ -1,7 +1,6 @@
 -- The laws that several proofs cite.
 pub mod RowLaws
 pub mod JudgmentLaws
-pub mod OrderLaws
 pub mod ColumnLaws
 pub mod KeepLaws
 pub mod ExactLaws

@@ -10,5 +10,4 @@ pub mod Layout
 pub mod LayoutLaws
 pub mod Promises
 pub mod UsedLaws
-pub mod BackLaws
 mod Examples

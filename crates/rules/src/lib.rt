@@ -13,7 +13,10 @@ ghost use Rattle.patterns.specs.Promises.{Ready};
 ghost use Rattle.rules.specs.StoredRows.{rule_row};
 ghost use Rattle.rules.specs.Promises.{Judging, OrderAsked, Ordered, Keeping, KeepAsked, RuleAsked, RuleEntered};
 
+pub mod columns; // the columns of a rule's row
+
 use arena::PATTERN_ROOM;
+use columns::{FIRST_PLACE, FIRST_PREMISE, FIRST_SORT};
 use meeting::Places;
 use names::{SourceTerms, SymbolRow, TermRow, VariableRow, Word};
 use patterns::Place;
@@ -162,9 +165,7 @@ fn order(rule: RuleTerms, stack: &mut [[u32; 2]]) -> MeetingOrder
     let mut places = Places::new();
     places.meet(words, conclusion, most, stack);
     let met = places.count;
-    for reference in heads.iter().rev() {
-        places.meet(words, *reference, most, stack);
-    }
+    places.meet_back(words, heads, most, stack);
     MeetingOrder { met, places }
 }
 
@@ -190,13 +191,13 @@ fn order_sized(rule: RuleTerms) -> MeetingOrder
 }
 
 // Writes the sorts of variables into a row, from column 26 on.
-// Stays: `signature::put_column` promises only the numbers that it writes; here the row's other columns must stand too, so its promise would be a second one.
+// Stays: `signature::put_column` is in a crate above, and promises number by number, where this contract is one equation of lists.
 fn put_sorts(row: &mut RuleRow, variables: &[VariableRow])
     requires { length variables.now ≤ 64 }
     ensures { (text : List ℕ) → row.new ≡ sets row.old 26 (mathlib.Core.List.map (λ v. v.sort) (variables_of text variables.now (length variables.now))) }
 {
     for (j, variable) in variables.iter().enumerate() {
-        row[26 + j] = variable[3];
+        row[FIRST_SORT + j] = variable[3];
     }
 }
 
@@ -207,7 +208,7 @@ fn put_places(row: &mut RuleRow, places: &[Option<u32>])
     ensures { row.new ≡ sets row.old 90 (place_numbers places.now) }
 {
     for (j, place) in places.iter().enumerate() {
-        row[90 + j] = place.unwrap_or(PATTERN_ROOM);
+        row[FIRST_PLACE + j] = place.unwrap_or(PATTERN_ROOM);
     }
 }
 
@@ -223,8 +224,8 @@ fn store(
     ensures { (text : List ℕ) → row.new ≡ rule_row numbers.now heads.now (mathlib.Core.List.map (λ v. v.sort) (variables_of text variables.now (length variables.now))) (place_numbers places.now) }
 {
     *row = [0u32; 154];
-    row[..10].copy_from_slice(numbers);
-    row[10..10 + heads.len()].copy_from_slice(heads);
+    row[..FIRST_PREMISE].copy_from_slice(numbers);
+    row[FIRST_PREMISE..FIRST_PREMISE + heads.len()].copy_from_slice(heads);
     put_sorts(row, variables);
     put_places(row, places);
 }
@@ -280,7 +281,7 @@ fn keep(
 }
 
 // Where a rule is entered: its number, and the space for its words.
-// Stays: words and rows go beside it; a struct of the two would be made anew from four buffers at each call, and each contract would say they come back.
+// Stays: words and rules go beside the place; a struct of the two buffers would be made anew at each call, and each contract would say they come back.
 #[derive(Clone, Copy)]
 pub struct RulePlace {
     pub number: usize,

@@ -6,11 +6,11 @@ ghost use Rattle.arena.specs.Copies.{term_room};
 ghost use Rattle.attempts.specs.Clashes.{Clashes};
 ghost use Rattle.search_machine.specs.Choosing.{Goal, Heads, Readable, Differs, Judged, Choosing, Chosen};
 
-use super::columns::{BODY, CONCLUSION, HEAD, MET};
 use super::{Machine, Mode, Program, Store};
 use arena::{PATTERN_ROOM, TERM_ROOM, Terms};
 use attempts::{clashes, goal_node};
 use bindings::StoredBindings;
+use rules::columns::{CONCLUSION, CONCLUSION_WORDS, MET, PREMISE_WORDS};
 
 // The header that the bindings lead to from the goal; none where they lead to a variable.
 fn goal_header(store: &Store, m: Machine) -> Option<u32>
@@ -27,9 +27,7 @@ fn goal_header(store: &Store, m: Machine) -> Option<u32>
         rows: store.bindings,
         bound: m.bound,
     };
-    let Some(node) = goal_node(terms, held, m.goal) else {
-        return None;
-    };
+    let node = goal_node(terms, held, m.goal)?;
     Some(store.words[(node - TERM_ROOM) as usize])
 }
 
@@ -80,9 +78,9 @@ pub fn next_candidate(program: Program, store: &Store, m: Machine) -> Machine
     let mut counter = m.counter;
     for rule in m.rule..program.allowed.rules {
         let row = &program.rules[rule as usize];
-        let head = m.used + row[HEAD];
+        let head = m.used + row[CONCLUSION_WORDS];
         if is_candidate(program, store, m, header, rule) {
-            let top = m.top.max(head + row[BODY]);
+            let top = m.top.max(head + row[PREMISE_WORDS]);
             return m.at_rule(rule, counter, top);
         }
         let met = counter + row[MET];

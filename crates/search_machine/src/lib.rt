@@ -7,7 +7,6 @@
 #![tactic(auto)]
 
 mod candidates; // the rules that a goal passes over
-mod columns; // the columns of a rule's row
 mod frames; // one row for each rule that is entered
 mod moves; // the machine's next states
 mod stored; // what an attempt reads in a rule's row
@@ -27,7 +26,7 @@ use stored::{arity_of, premise, try_stored};
 
 // What the search may use: variables of the session and words, and frames; and how many rules there are. The number of frames is named only in contracts:
 // so many rows are lent, and the steps left do not outnumber those that are free.
-// Stays: `rules` counts the used part of a table; with that part lent, each promise of a rule's row would be carried over from the part to the table.
+// Stays: `rules` counts the part in use; the contracts speak of the whole table, and of the part each would have to be proved for the table again.
 #[derive(Clone, Copy)]
 pub struct Allowed {
     pub limits: SearchLimits,
@@ -93,6 +92,8 @@ impl Mode {
 
 // The machine's state beside its storage.
 // Stays: `cut` tells of the whole search; no field has its meaning from it alone, so that an option would hold nothing.
+// Stays: of `counter`, `bound` and `used`, `at_rule` sets one and `at_retry` two, so that a struct of the three would be taken apart there.
+// Stays: with a `Frame` in it the five moves that set a field of one would each have two struct updates, one inside the other.
 #[derive(Clone, Copy)]
 pub struct Machine {
     pub mode: Mode,
@@ -199,6 +200,7 @@ fn back(allowed: Allowed, store: &mut Store, m: Machine) -> Machine
 
 // One step of the machine.
 // Stays: the program is read, the store written, and the state goes by value; as one struct, each step would promise besides that the program stands.
+// Stays: `ReadyIn` tells of program, store and state together, so that only an invariant of that one struct could have it.
 fn step(program: Program, store: &mut Store, m: Machine) -> Machine
     requires ready { ReadyIn program store.old m }
     requires live { Live m.mode }

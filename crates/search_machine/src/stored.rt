@@ -6,15 +6,16 @@ ghost use Rattle.search_machine.specs.Storage.{PremiseAsked};
 ghost use Rattle.search_machine.specs.Groups.{AskedIn, TriedIn, IsLent};
 ghost use Rattle.search_machine.specs.State.{arity, premise_ref};
 
-use super::columns::{
-    BODY, CONCLUSION, FIRST_PLACE, FIRST_PREMISE, FIRST_WORD, HEAD, MET, PREMISES, VARIABLES,
-};
 use super::frames::Frame;
 use super::{Machine, Program, Store};
 use arena::{PATTERN_ROOM, TERM_ROOM, moved_word};
 use attempts::{LentRule, Stored, Tried, try_rule};
 use refusals::Refusal;
 use rules::RuleRow;
+use rules::columns::{
+    CONCLUSION, CONCLUSION_WORDS, FIRST_PLACE, FIRST_PREMISE, FIRST_WORD, MET, PREMISE_WORDS,
+    PREMISES, VARIABLES,
+};
 use unifier::Workspace;
 
 // What a row says of its rule.
@@ -24,8 +25,8 @@ fn stored_in(row: &RuleRow) -> Stored
 {
     Stored {
         from: row[FIRST_WORD],
-        head: row[HEAD],
-        body: row[BODY],
+        head: row[CONCLUSION_WORDS],
+        body: row[PREMISE_WORDS],
         conclusion: row[CONCLUSION],
         met: row[MET],
         variables: row[VARIABLES],
@@ -58,7 +59,7 @@ pub fn premise(rules: &[RuleRow], x: Frame, place: u32) -> u32
     let row = &rules[x.rule as usize];
     let at = FIRST_PREMISE + place as usize;
     let first = PATTERN_ROOM + row[FIRST_WORD];
-    let base = TERM_ROOM + (x.used + row[HEAD]);
+    let base = TERM_ROOM + (x.used + row[CONCLUSION_WORDS]);
     moved_word(row[at], places(row), x.counter, first, base)
 }
 

@@ -8,7 +8,7 @@ ghost use Rattle.session_check.specs.Parts.{SessionCounted};
 use arena::TERM_ROOM;
 use sessions::StoredSession;
 
-// Document 01's limits: names in a session, and its words. For its variables words have `TERM_ROOM`.
+// Document 01's limits: names in a session, and its words. The limit on its variables is `arena::TERM_ROOM`.
 pub const NAMES: usize = 64;
 
 const WORDS: u32 = 262144;

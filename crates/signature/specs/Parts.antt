@@ -1,5 +1,6 @@
 -- The parts of the listed form, each decided by a function of its own.
-use Rattle.std.specs.Prelude.{ℕ, ◌+◌, ◌≤◌, ◌<◌, ◌≡◌, List, [], ◌∷◌, length}
+use Rattle.std.specs.Prelude.{ℕ, ◌+◌, ◌-◌, ◌≤◌, ◌<◌, ◌≡◌, Option, Some, None, List, [], ◌∷◌, length, get_or}
+use Rattle.arena.specs.Cells.{symbol_of}
 use Rattle.names.specs.NamePlaces.{NamePlace}
 use Rattle.names.specs.Symbols.{Rows, column, row_at, symbols_of}
 use Rattle.rule_checks.specs.RuleForm.{rule_in, RuleFormed}
@@ -77,3 +78,8 @@ ClausesOf text symbols m rules words i =
 -- and those of all m symbols.
 abbrev pub ClausesListed : List ℕ → Rows → ℕ → Rows → List ℕ → Type 0
 ClausesListed text symbols m rules words = (i : ℕ) → i < m → ClausesOf text symbols m rules words i
+
+-- What a reference's node has as its symbol: that of its header. References below 64 are variables, and have none.
+abbrev pub NodeSymbol : List ℕ → ℕ → Option ℕ → Type 0
+NodeSymbol words r None = r < 64
+NodeSymbol words r (Some f) = (64 ≤ r) × (f ≡ symbol_of (get_or words (r - 64) 0))

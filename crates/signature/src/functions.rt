@@ -8,8 +8,9 @@ ghost use Rattle.rules.specs.StoredRows.{heads_in};
 ghost use Rattle.rule_checks.specs.RuleForm.{rule_in};
 ghost use Rattle.loader.specs.Legal.{Calls, ClauseFormed};
 ghost use Rattle.unifier.specs.Promises.{Tells};
-ghost use Rattle.signature.specs.Parts.{ClausesAsked, ClausesOf, ClausesListed};
+ghost use Rattle.signature.specs.Parts.{NodeSymbol, ClausesAsked, ClausesOf, ClausesListed};
 
+use super::columns::{CLAUSES, CONCLUSION, FIRST_CLAUSE, FIRST_PREMISE, MARK, PREMISES};
 use arena::{HEADERS, PATTERN_ROOM, SYMBOL_STEP};
 use names::{FUNCTION, SymbolRow};
 use rules::RuleRow;
@@ -23,14 +24,24 @@ fn symbol_at(words: &[u32], at: usize) -> usize
     (header.saturating_sub(HEADERS) / SYMBOL_STEP) as usize
 }
 
+// The symbol of the node that a reference denotes; a variable has none.
+fn node_symbol(words: &[u32], reference: u32) -> Option<usize>
+    ensures { NodeSymbol words.now reference result }
+{
+    if reference < PATTERN_ROOM {
+        return None;
+    }
+    Some(symbol_at(words, (reference - PATTERN_ROOM) as usize))
+}
+
 // Is the term of a reference a node of the symbol i?
 fn is_node_of(words: &[u32], reference: u32, i: usize) -> bool
     ensures { Tells result ((ts : Terms) × (term_of words.now reference ≡ app i ts)) }
 {
-    if reference < PATTERN_ROOM {
-        return false;
+    match node_symbol(words, reference) {
+        Some(symbol) => symbol == i,
+        None => false,
     }
-    symbol_at(words, (reference - PATTERN_ROOM) as usize) == i
 }
 
 // Is the term of a reference a call of one of the symbols?
@@ -38,11 +49,11 @@ fn is_call(words: &[u32], reference: u32, symbols: &[SymbolRow]) -> bool
     ensures { (text : List ℕ) → Tells result (Calls (symbols_of text symbols.now (length symbols.now))
         (term_of words.now reference)) }
 {
-    if reference < PATTERN_ROOM {
+    let Some(i) = node_symbol(words, reference) else {
         return false;
-    }
-    match symbols.get(symbol_at(words, (reference - PATTERN_ROOM) as usize)) {
-        Some(symbol) => symbol[3] == FUNCTION,
+    };
+    match symbols.get(i) {
+        Some(symbol) => symbol[MARK] == FUNCTION,
         None => false,
     }
 }
@@ -53,7 +64,7 @@ fn are_calls(words: &[u32], rule: &RuleRow, symbols: &[SymbolRow]) -> bool
     ensures { (text : List ℕ) → Tells result (Calls (symbols_of text symbols.now (length symbols.now))
         (terms_of (term_of words.now) (heads_in rule.now))) }
 {
-    rule[10..10 + rule[4] as usize]
+    rule[FIRST_PREMISE..FIRST_PREMISE + rule[PREMISES] as usize]
         .iter()
         .all(|reference| is_call(words, *reference, symbols))
 }
@@ -64,7 +75,7 @@ fn is_clause(words: &[u32], rule: &RuleRow, symbols: &[SymbolRow], i: usize) -> 
     ensures { (text : List ℕ) → Tells result (ClauseFormed (symbols_of text symbols.now (length symbols.now)) i
         (rule_in text words.now rule.now)) }
 {
-    is_node_of(words, rule[5], i) && are_calls(words, rule, symbols)
+    is_node_of(words, rule[CONCLUSION], i) && are_calls(words, rule, symbols)
 }
 
 // Are all clauses of the symbol i in form?
@@ -72,8 +83,8 @@ fn are_clauses_of(words: &[u32], rules: &[RuleRow], symbols: &[SymbolRow], i: us
     requires { ClausesAsked symbols.now rules.now × (i < length symbols.now) }
     ensures { (text : List ℕ) → Tells result (ClausesOf text symbols.now (length symbols.now) rules.now words.now i) }
 {
-    let first = symbols[i][4] as usize;
-    let n = symbols[i][5] as usize;
+    let first = symbols[i][FIRST_CLAUSE] as usize;
+    let n = symbols[i][CLAUSES] as usize;
     rules[first..first + n].iter().all(
         |rule|
             requires { column rule.now 4 ≤ 16 }

@@ -18,6 +18,7 @@ mod functions;
 
 use arena::INPUTS;
 pub use columns::ARITY;
+use columns::{CLAUSES, FIRST_CLAUSE, FIRST_INPUT, FREE, MARK, OUTPUT, START};
 use loader::{SORTS, SYMBOLS};
 use names::{FUNCTION, NO_FUNCTION, SortRow, SymbolRow, Word};
 use rules::RuleRow;
@@ -76,7 +77,9 @@ fn is_counted(words: &[u32], counts: Counts) -> bool
 fn are_sorts_named(text: &[u8], sorts: &[SortRow]) -> bool
     ensures { Tells result (SortsNamed text.now sorts.now (length sorts.now)) }
 {
-    sorts.iter().all(|&[start, size]| names::is_word_place(text, Word { start, size }))
+    sorts
+        .iter()
+        .all(|row| names::is_word_place(text, Word::at_start(row)))
 }
 
 // Writes the numbers in one column of rows.
@@ -111,7 +114,7 @@ fn are_names_distinct(text: &[u8], sorts: &[SortRow], symbols: &[SymbolRow]) -> 
     let n = sorts.len();
     let m = symbols.len();
     places[..n].copy_from_slice(sorts);
-    put_places(symbols, 0, &mut places[n..n + m]);
+    put_places(symbols, START, &mut places[n..n + m]);
     distinct::are_distinct(text, &mut places[..n + m])
 }
 
@@ -146,28 +149,25 @@ fn are_inputs_formed(sorts: u32, row: &SymbolRow) -> bool
     requires { column row.now 6 ≤ 16 }
     ensures { Tells result (InputsFormed sorts row.now) }
 {
-    let n = row[6] as usize;
-    rule_checks::are_sorts(&row[8..8 + n], sorts) && rule_checks::are_zeros(&row[8 + n..24])
+    let n = row[ARITY] as usize;
+    rule_checks::are_sorts(&row[FIRST_INPUT..FIRST_INPUT + n], sorts)
+        && rule_checks::are_zeros(&row[FIRST_INPUT + n..24])
 }
 
 // Is a symbol's row in form, where there are so many sorts and rules?
 fn is_symbol_formed(text: &[u8], row: &SymbolRow, counts: Counts) -> bool
     ensures { Tells result (SymbolFormed text.now counts.sorts counts.rules row.now) }
 {
-    let word = Word {
-        start: row[0],
-        size: row[1],
-    };
-    if !names::is_word_place(text, word) {
+    if !names::is_word_place(text, Word::at_start(row)) {
         return false;
     }
-    if !are_numbers_formed(counts.sorts, row[2], row[6], row[7]) {
+    if !are_numbers_formed(counts.sorts, row[OUTPUT], row[ARITY], row[FREE]) {
         return false;
     }
-    if !is_mark_formed(row[2], row[3], row[5], row[6]) {
+    if !is_mark_formed(row[OUTPUT], row[MARK], row[CLAUSES], row[ARITY]) {
         return false;
     }
-    if !are_clauses_formed(row[4], row[5], counts.rules) {
+    if !are_clauses_formed(row[FIRST_CLAUSE], row[CLAUSES], counts.rules) {
         return false;
     }
     are_inputs_formed(counts.sorts, row)

@@ -1,8 +1,9 @@
 // Stored signatures, listed as the recorded answers are: a line for each sort and symbol, for each rule its heading, its nodes in order and its
 // references, and a line for each `#eval`.
+// Stays: `Display` writes `str`, and the names are bytes of a text, so that the lines are written piece by piece by `listing`.
 #![tactic(auto)]
 
-ghost use Rattle.std.specs.Prelude.{◌≡◌, ◌≤◌};
+ghost use Rattle.std.specs.Prelude.{◌≡◌, ◌≤◌, take};
 ghost use Rattle.source_text.specs.Parts.{part_of};
 ghost use Rattle.signature_listing.specs.Nodes.{arity_at};
 
@@ -108,7 +109,9 @@ fn arity_at(words: &[u32], address: usize) -> u32
 
 // The first rows, so many as are in use, or all where there are not as many.
 // Stays: this is where the part of a table in use is made from the table and its count.
-fn used<T>(rows: &[T], count: u32) -> &[T] {
+pub fn used<T>(rows: &[T], count: u32) -> &[T]
+    ensures { result.now ≡ take count rows.now }
+{
     &rows[..rows.len().min(count as usize)]
 }
 
@@ -194,7 +197,7 @@ impl NamedSignature<'_> {
         write_number(past);
         write(b" ");
         self.write_symbol((header - HEADERS) / SYMBOL_STEP);
-        let arity = arity_at(words, address) as usize;
+        let arity = (header % SYMBOL_STEP) as usize;
         write_references(numbers_from(words, address + 1, arity), first);
         write(b"\n");
     }

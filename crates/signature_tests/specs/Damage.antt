@@ -1,6 +1,8 @@
 -- Storage with a single number changed.
 use Rattle.std.specs.Prelude.{ℕ, ◌<◌, List, [], length, slice_index_or, slice_set}
+use Rattle.load_storage.specs.Storage.{Buffers}
 use Rattle.signature.specs.Storage.{SignatureStore}
+use Rattle.signature.specs.declared.Counts.{Counts}
 use Rattle.signature_tests.specs.declared.damage.LoadedSignature.{LoadedSignature}
 use Rattle.signature_tests.specs.declared.damage.Spot.{Spot}
 use Rattle.signature_tests.specs.declared.damage.Spot.TheVariants.{Sort, Symbol, Rule, Word}
@@ -29,6 +31,10 @@ changed (Sort i column) l value = record l { sorts = record l.sorts { now = in_r
 changed (Symbol i column) l value = record l { symbols = record l.symbols { now = in_rows l.symbols.now i column value } }
 changed (Rule i column) l value = record l { rules = record l.rules { now = in_rows l.rules.now i column value } }
 changed (Word i) l value = record l { words = record l.words { now = slice_set l.words.now i value } }
+
+-- The signature that stands in what a load is lent.
+abbrev pub stored_in : Buffers → Counts → SignatureStore
+stored_in b counts = record { sorts = b.sorts; symbols = b.symbols; rules = b.rules; words = b.words; counts = counts }
 
 -- The signature that stands in the storage.
 abbrev pub loaded_in : LoadedSignature → SignatureStore

@@ -1,12 +1,14 @@
 // The lent buffers: what they hold before a call, and the tests of what they hold afterwards.
 ghost use Rattle.std.specs.Prelude.{◌≡◌, ◌&&◌, length, drop, nat_le};
 ghost use Rattle.load_storage.specs.Lent.{buffers_of, IsLent};
+ghost use Rattle.signature.specs.Storage.{store_of};
+ghost use Rattle.signature_tests.specs.Damage.{stored_in};
 ghost use Rattle.signature_tests.specs.Rows.{are_all, is_all, AllFilled};
 
 pub use listing::recorded::JUNK;
 use listing::write;
 use load_storage::LentBuffers;
-use signature::Counts;
+use signature::{Counts, StoredSignature};
 
 // Fills all that a load is lent.
 pub fn fill(lent: &mut LentBuffers)
@@ -23,14 +25,21 @@ pub fn fill(lent: &mut LentBuffers)
     lent.evals.fill([JUNK; 2]);
 }
 
-// Is each of the numbers the value?
-fn is_value(numbers: &[u32], value: u32) -> bool
-    ensures { result ≡ is_all value numbers.now }
+// The signature in what is lent.
+pub fn stored_in<'a>(lent: &'a LentBuffers, counts: Counts) -> StoredSignature<'a>
+    ensures { store_of result ≡ stored_in (buffers_of lent.now) counts }
 {
-    numbers.iter().all(|number| *number == value)
+    StoredSignature {
+        sorts: lent.sorts,
+        symbols: lent.symbols,
+        rules: lent.rules,
+        words: lent.words,
+        counts,
+    }
 }
 
 // Is a place within rows or their end, and each number from there on the value?
+// Stays: tried as `slices::are_all(rows, from, [value; N])`: no proof was found that rows equal as arrays are those whose numbers are all the value.
 pub fn are_rows<const N: usize>(rows: &[[u32; N]], from: usize, value: u32) -> bool
     ensures { result ≡ nat_le from (length rows.now) && are_all value (drop from rows.now) }
 {
@@ -38,7 +47,7 @@ pub fn are_rows<const N: usize>(rows: &[[u32; N]], from: usize, value: u32) -> b
         && rows[from..].iter().all(
             |row|
                 ensures { result ≡ is_all value row.now }
-            { is_value(row, value) },
+            { slices::are_all(row, 0, value) },
         )
 }
 

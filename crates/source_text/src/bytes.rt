@@ -3,7 +3,7 @@ ghost use Rattle.std.specs.Prelude.{◌≡◌};
 ghost use Rattle.source_text.specs.Bytes.{same_bytes, starts_with};
 
 // Are two words the same, byte by byte?
-// Stays: the library's `==` with its promise in the words of the definitions, which the callers' contracts use.
+// Stays: `==` promises the library's equality; that this is `same_bytes`, of which the callers' contracts speak, is proved here once.
 pub fn same(v: &[u8], w: &[u8]) -> bool
     ensures { result ≡ same_bytes v.now w.now }
 {

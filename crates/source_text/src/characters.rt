@@ -182,7 +182,7 @@ impl Classes {
         self.codes[c as usize]
     }
 
-    // The character at a place of a text; past the end, no class and no length.
+    // The character at a place of a text; past the end, a stray one of no length.
     // Stays: each caller goes through the places of a text: it would cut the text at each, and unwrap an `Option` where there is always a character.
     pub fn character_at(&self, text: &[u8], at: usize) -> Character
         ensures { classed_of result ≡ character_of (drop at text.now) }

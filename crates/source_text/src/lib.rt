@@ -19,12 +19,9 @@ use numerals::value;
 pub fn word<'a>(text: &'a [u8], start: usize, length: usize) -> &'a [u8]
     ensures { result.now ≡ part_of text.now start length }
 {
-    if start <= text.len() {
-        if length <= text.len() - start {
-            return &text[start..start + length];
-        }
-    }
-    &text[0..0]
+    text.get(start..)
+        .and_then(|rest| rest.get(..length))
+        .unwrap_or(&[])
 }
 
 // The value of the numeral at a place of a text; none where it is too large, the refusal 5.

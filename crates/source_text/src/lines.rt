@@ -4,8 +4,8 @@ ghost use Rattle.source_text.specs.Lines.{line_of, code_of, ends_code};
 
 use super::bytes::starts_with;
 
-// The end of the line that starts at a place: the next line feed, or the text's end.
-// Stays: the ends of lines are places of the text, as their starts are; of a rest alone each caller would add its start again.
+// The end of the line that a place is in: the next line feed, or the text's end.
+// Stays: callers keep places of the text; of a rest alone each would add the place that it has cut at.
 pub fn line_end(text: &[u8], at: usize) -> usize
     requires { at ≤ length text.now }
     ensures { result ≡ at + length (line_of (drop at text.now)) }

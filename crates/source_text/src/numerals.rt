@@ -10,6 +10,7 @@ pub fn all_digits(w: &[u8]) -> bool
 }
 
 // The value of a word of digits, if it has 64 bits.
+// Stays: `parse` reads a `str`, and these are bytes.
 pub fn value(w: &[u8]) -> Option<u64>
     ensures { result ≡ numeral_of w.now }
 {

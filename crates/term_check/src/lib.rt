@@ -19,10 +19,9 @@ const LEVELS: usize = 132;
 fn is_held(text: &[u8], word: Word, held: u32) -> bool
     ensures { result ≡ is_held (numeral_of (part_of text.now word.start word.size)) held }
 {
-    match words::numeral(text, word.start as usize, word.size as usize) {
-        Some(v) => u64::from(held) == v.min(u64::from(u32::MAX)),
-        None => false,
-    }
+    words::numeral(text, word.start as usize, word.size as usize).is_some_and(|value| u64::from(
+        held,
+    ) == value.min(u64::from(u32::MAX)))
 }
 
 // How many arguments the term takes whose first row this is; none where it is not the first of a term.
@@ -34,7 +33,7 @@ fn top_of(text: &[u8], row: [u32; 4]) -> Option<u32>
     if !is_word_place(text, word) {
         return None;
     }
-    // Stays: the number is that of a term's row, which C callers lend, and may be none of these; a type of kinds would be made for this one `match`.
+    // Stays: C callers lend the number, which may be none of these; an enum would be made by the same `match`, only to be matched again here.
     match kind {
         words::NUMERAL => is_held(text, word, count).then_some(0),
         term_parser::APPLICATION => if count == 0 { None } else { Some(count) },

@@ -1,7 +1,7 @@
 -- Laws of the tokens at a place.
 use mathlib.Core.Path.{◌≡◌, refl, sym, ap, ◌∙◌}
-use mathlib.Core.List.{[]}
-use Prim.Native.Nat.{ℕ, ◌-◌, ◌≤◌, ◌<◌}
+use mathlib.Core.List.{[], ◌∷◌}
+use Prim.Native.Nat.{ℕ, zero, suc, ◌-◌, ◌≤◌, ◌<◌}
 use native.Mathlib.Omega.{arith, by_contra}
 use native.Mathlib.Decide.{dec_lt}
 use lib.ListN.{length, get_or, drop, drop_of_length-le}
@@ -11,6 +11,13 @@ use Rattle.refusals.specs.declared.Refusal.TheVariants.{SignExpected}
 use Rattle.std.specs.Prelude.{Option, Some, None, unwrap_or, min}
 use Rattle.term_parser.specs.Grammar.{value}
 use Rattle.term_parser.specs.Parsing.{Tokens, token_of, kind_of, line_of, last_line, parsed, refused, sign_of}
+
+-- the token of the row at a place, or of four zeros
+pub token_at : (ts : Tokens) (p : ℕ) → token_of (get_or ts p (0 ∷ 0 ∷ 0 ∷ 0 ∷ []) ∷ []) ≡ token_of (drop p ts)
+token_at [] zero = refl
+token_at [] (suc p) = refl
+token_at (t ∷ ts) zero = refl
+token_at (t ∷ ts) (suc p) = token_at ts p
 
 module _ (ts : Tokens) (p : ℕ) where
   pub token_in : p < length ts
@@ -26,8 +33,12 @@ module _ (ts : Tokens) (p : ℕ) where
   pub line_out : length ts ≤ p → last_line ts ≡ line_of (last_line ts) (drop p ts)
   line_out h = sym (ap (line_of (last_line ts)) (drop_of_length-le ts h))
 
-  pub line_none : length ts ≡ 0 → 0 ≡ line_of (last_line ts) (drop p ts)
-  line_none h = let e : last_line ts ≡ 0 = ap (λ t. t.line) (ap token_of (drop_of_length-le ts {i = length ts - 1} (omega arith))) in sym e ∙ line_out (omega arith)
+  pub line_at : (token_of (drop (min p (length ts - 1)) ts)).line ≡ line_of (last_line ts) (drop p ts)
+  line_at = go (dec_lt p (length ts))
+    where
+      go : Dec (p < length ts) → (token_of (drop (min p (length ts - 1)) ts)).line ≡ line_of (last_line ts) (drop p ts)
+      go (yes l) = let e : min p (length ts - 1) ≡ p = omega arith in ap (λ q. (token_of (drop q ts)).line) e ∙ line_in l
+      go (no l) = let h = by_contra (length ts) p l in let e : min p (length ts - 1) ≡ length ts - 1 = omega arith in ap (λ q. (token_of (drop q ts)).line) e ∙ line_out h
 
   -- a token whose kind is not 0 is there
   pub token_there : 0 < kind_of (drop p ts) → p < length ts

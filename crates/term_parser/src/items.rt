@@ -135,10 +135,7 @@ impl<I: Item> Repeated for Next<I> {
         if peek(input.tokens, from.at).kind != I::SIGN {
             return Ok(None);
         }
-        let behind = Position {
-            at: from.at + 1,
-            ..from
-        };
+        let behind = from.past_token();
         Ok(Some(I::read(input, behind, out)?))
     }
 }

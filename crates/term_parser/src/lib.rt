@@ -50,7 +50,7 @@ pub struct Input<'a> {
 }
 
 // Where a reader stands: the place of the next token, and how many rows are in use.
-// Stays: apart from the input, which is read, and the rows, which are written: a struct of all three would be lent to be written, input and all.
+// Stays: with the rows in one struct, which is lent to be written, each contract would say besides that input and rows are the same ones afterwards.
 #[derive(Clone, Copy)]
 pub struct Position {
     pub at: usize,
@@ -58,6 +58,17 @@ pub struct Position {
 }
 
 impl Position {
+    // The place behind a token that is taken.
+    pub fn past_token(self) -> Position
+        requires { self.at < 65536 }
+        ensures { result ≡ record { at = self.at + 1; used = self.used } }
+    {
+        Position {
+            at: self.at + 1,
+            ..self
+        }
+    }
+
     // The place behind a token that is taken and a row that is written.
     pub fn past_row(self) -> Position
         requires { (self.used < 65536) × (self.at < 65536) }

@@ -77,6 +77,7 @@ pub fn atom(
     ensures { Reads 1 rows_of (λ text last. atom_of text last (parenthesis text last left)) input.entry from out.old (maybe_step result) out.new }
 {
     let t = peek(input.tokens, from.at);
+    // Stays: the kind is a number in a token's row, which C callers lend; an enum would be made by the same `match`, only to be matched again.
     match t.kind {
         NAME | METAVARIABLE => Ok(Some(push(out, from, [t.kind, t.start, t.length, 0]))),
         NUMERAL => {
@@ -84,10 +85,7 @@ pub fn atom(
             Ok(Some(push(out, from, [NUMERAL, t.start, t.length, value])))
         }
         OPEN => {
-            let inside = Position {
-                at: from.at + 1,
-                ..from
-            };
+            let inside = from.past_token();
             if left == 0 {
                 return Err(rejection(Refusal::ParenthesisLimit, input.tokens, from.at));
             }
@@ -133,10 +131,7 @@ pub fn term(
     if peek(input.tokens, next.at).kind != EQUALS {
         return Ok(first);
     }
-    let behind = Position {
-        at: next.at + 1,
-        ..next
-    };
+    let behind = next.past_token();
     let second = app(input, behind, left, out)?;
     equate(input, second.position, out, from.used)
 }

@@ -15,10 +15,7 @@ use refusals::{Refusal, Rejection};
 pub fn peek(tokens: &[[u32; 4]], at: usize) -> Token
     ensures { result ≡ token_of (drop at tokens.now) }
 {
-    if at < tokens.len() {
-        return Token::from(tokens[at]);
-    }
-    Token::from([0; 4])
+    Token::from(tokens.get(at).copied().unwrap_or([0; 4]))
 }
 
 // The line of the token at a place, or that of the last one.
@@ -26,13 +23,8 @@ pub fn peek(tokens: &[[u32; 4]], at: usize) -> Token
 pub fn line(tokens: &[[u32; 4]], at: usize) -> u32
     ensures { result ≡ line_of (last_line tokens.now) (drop at tokens.now) }
 {
-    if at < tokens.len() {
-        return peek(tokens, at).line;
-    }
-    if tokens.len() == 0 {
-        return 0;
-    }
-    peek(tokens, tokens.len() - 1).line
+    let last = tokens.len().saturating_sub(1);
+    peek(tokens, at.min(last)).line
 }
 
 // The value of the numeral at a place of the text, 2^32 - 1 for a larger one.
@@ -74,10 +66,7 @@ pub fn sign(input: Input, kind: u32, from: Position) -> Result<Read, Rejection>
 {
     if peek(input.tokens, from.at).kind == kind {
         return Ok(Read {
-            position: Position {
-                at: from.at + 1,
-                ..from
-            },
+            position: from.past_token(),
             count: 1,
         });
     }

@@ -1,6 +1,6 @@
 // Words: from a text to its tokens. The Rust's `lex`, with the refusals 1 to 6.
 //
-// The entry points are `lex`, `word`, `numeral` and the methods of `Limits`. They ask nothing
+// The entry points are `lex`, `word`, `numeral` and `Limits::capped`. They ask nothing
 // of their caller, and each contract fixes the answer and every byte of the lent rows on all inputs.
 // `same` serves the crates above. What stands below tokens is in `source_text`.
 #![tactic(auto)]
@@ -70,16 +70,10 @@ fn read(text: &[u8], limit: usize, rows: &mut [Row]) -> Result<usize, Rejection>
     ensures { Read (lex_of limit text.now) limit 0 rows.old result rows.new }
 {
     if limit < text.len() {
-        return Err(Rejection {
-            refusal: Refusal::TextLength,
-            line: 0,
-        });
+        return Err(Rejection::from(Refusal::TextLength));
     }
     if !is_utf8(text) {
-        return Err(Rejection {
-            refusal: Refusal::NotUtf8,
-            line: 0,
-        });
+        return Err(Rejection::from(Refusal::NotUtf8));
     }
     let read = read_lines(text, rows);
     // A text that is read to its end has no character outside the domain, so only a refused one is searched for it.
@@ -100,10 +94,7 @@ pub fn lex(text: &[u8], limits: Limits, tokens: &mut [Row]) -> Result<usize, Rej
 {
     let limit = limits.capped().text as usize;
     if tokens.len() < limit {
-        return Err(Rejection {
-            refusal: Refusal::Storage,
-            line: 0,
-        });
+        return Err(Rejection::from(Refusal::Storage));
     }
     let read = read(text, limit, tokens);
     clear_from(tokens, read.unwrap_or(0), [0; 4]);

@@ -1,6 +1,5 @@
 -- `declare` meets its contract: the keyword in the declaration's row says which function declares it.
 use Rattle.declarations.proofs.DeclareLaws.{sort_done, ctor_asked, ctor_none, ctor_done, pred_asked, pred_done, rule_asked, rule_done, def_asked, def_done, eval_done, others_done}
-use mathlib.Core.Path.{refl}
 use native.Mathlib.Omega.{arith}
 use Rattle.declarations.proofs.declare.Goals as goal
 
@@ -10,12 +9,12 @@ returns-then-rows-at-eq0-clause-declared c = record { same = λ limit ts s held 
 pub declare_symbol-requires : goal.declare_symbol-requires
 declare_symbol-requires c =
     let pre = c.requires in
-    record { asked = ctor_asked pre.ready.3 pre.stand.2 pre.short c.in-2.is; no_function = (refl, refl, refl) }
+    ctor_asked pre.ready.3 pre.stand.2 pre.short c.in-2.is
 
 pub declare_symbol-requires-in-3 : goal.declare_symbol-requires-in-3
 declare_symbol-requires-in-3 c =
     let pre = c.requires in
-    record { asked = pred_asked pre.ready.3 pre.stand.2 pre.short c.in-3.is; no_function = (refl, refl, refl) }
+    pred_asked pre.ready.3 pre.stand.2 pre.short c.in-3.is
 
 pub declare_rule-requires : goal.declare_rule-requires
 declare_rule-requires c =

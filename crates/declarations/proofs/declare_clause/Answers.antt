@@ -2,6 +2,7 @@
 use mathlib.Core.Path.{◌≡◌, refl}
 use Prim.Native.Nat.{ℕ, suc, ◌+◌}
 use mathlib.Core.List.{List}
+use Rattle.std.specs.Prelude.{min}
 use Rattle.source_text.specs.Parts.{part_of}
 use Rattle.term_parser.specs.Source.{all_of}
 use Rattle.term_parser.specs.Standing.{spelled}
@@ -17,32 +18,32 @@ use Rattle.declarations.proofs.declare_clause.Goals as goal
 pub clause-outcome-requires : goal.clause-outcome-requires
 clause-outcome-requires c =
     let pre = c.requires in
-    let room = c.room-m in
-    clause_asked (pre.stand.2) refl pre.short pre.out_lent pre.calls_lent (rw (room.ensures) (storage_used (storage (pre.ready.3))))
+    let place = c.next_rule-place in
+    clause_asked (pre.stand.2) refl pre.short pre.out_lent pre.calls_lent (rw (place.ensures) (storage_used (storage (pre.ready.3))))
 
 pub told-requires : goal.told-requires
 told-requires c =
     let known = symbols_used c.args.symbols.now c.args.state.symbols (omega (arith, c.requires.ready.3.lent, c.requires.ready.3.few)) c.args.source.text.now in
     let pre = c.requires in
     let args = c.args in
-    let room = c.room-m in
+    let place = c.next_rule-place in
     let clause = c.clause-outcome in
     let st = pre.stand.2 in
     let e : args.number + 1 ≡ suc args.number = omega arith in
-    told_by pre.ready.3 (record { word = args.word; clause = args.number + 1 }) (λ (F : List Symbol) (m : ℕ). clause_of F (part_of args.source.text.now args.word.start args.word.size) args.number (spelled args.source.text.now (all_of pre.stand.0.patterns)) (spelled args.source.text.now pre.stand.0.body) m) room.result room.ensures (clause.new.rules) (clause.new.words) clause.result ((rw known at clause.ensures).same _ _ st.patterns (patterns_number st) _ _ st.right args.number e).1
+    rw place.ensures (told_by pre.ready.3 (record { word = args.word; clause = args.number + 1 }) (λ (F : List Symbol) (m : ℕ). clause_of F (part_of args.source.text.now args.word.start args.word.size) args.number (spelled args.source.text.now (all_of pre.stand.0.patterns)) (spelled args.source.text.now pre.stand.0.body) m) (min 1024 args.state.left) refl (clause.new.rules) (clause.new.words) clause.result ((rw (known, place.ensures) at clause.ensures).same _ _ st.patterns (patterns_number st) _ _ st.right args.number e).1)
 
 pub returns-clause-declared : goal.returns-clause-declared
 returns-clause-declared c =
     let known = symbols_used c.args.symbols.now c.args.state.symbols (omega (arith, c.requires.ready.3.lent, c.requires.ready.3.few)) c.args.source.text.now in
     let args = c.args in
     let clause = c.clause-outcome in
-    let room = c.room-m in
+    let place = c.next_rule-place in
     let told = c.told in
     record {
       same = λ limit ts s ready inside counted cl q st. let e : args.number + 1 ≡ suc args.number = omega arith in
-          let h = (rw known at clause.ensures).same _ _ st.patterns (patterns_number st) _ _ st.right args.number e in
+          let h = (rw (known, place.ensures) at clause.ensures).same _ _ st.patterns (patterns_number st) _ _ st.right args.number e in
           advanced_by ready (record {
             word = args.word;
             clause = args.number + 1;
-          }) inside (omega (arith, counted)) (clause.new.rules) (clause.new.words) (clause.auto.rules) (clause.auto.words) (λ (F : List Symbol) (m : ℕ). clause_of F (part_of args.source.text.now args.word.start args.word.size) args.number (spelled args.source.text.now (all_of cl.patterns)) (spelled args.source.text.now cl.body) m) room.result room.ensures q clause.result told.result h.0 h.1 told.ensures;
+          }) inside (omega (arith, counted)) (clause.new.rules) (clause.new.words) (clause.auto.rules) (clause.auto.words) (λ (F : List Symbol) (m : ℕ). clause_of F (part_of args.source.text.now args.word.start args.word.size) args.number (spelled args.source.text.now (all_of cl.patterns)) (spelled args.source.text.now cl.body) m) (min 1024 args.state.left) refl q clause.result told.result h.0 h.1 (rw place.ensures at told.ensures);
     }

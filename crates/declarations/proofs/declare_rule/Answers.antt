@@ -1,6 +1,8 @@
 -- `declare_rule` meets its contract: the rule is entered with the room that is left.
 use Prim.Native.Nat.{ℕ, ◌+◌}
+use mathlib.Core.Path.{refl}
 use mathlib.Core.List.{List, ◌∷◌}
+use Rattle.std.specs.Prelude.{min}
 use Rattle.term_parser.specs.Source.{all_of}
 use Rattle.term_parser.specs.Standing.{spelled}
 use Rattle.names.specs.Symbols.{Symbol, column, row_at}
@@ -17,7 +19,7 @@ pub enter_rule-outcome-requires : goal.enter_rule-outcome-requires
 enter_rule-outcome-requires c =
     let pre = c.requires in
     let if1 = c.if-k-eq0 in
-    let room = c.room-m in
+    let place = c.next_rule-place in
     let st = pre.stand (omega (arith, if1.false)) in
     let here = pre.here in
     record {
@@ -29,7 +31,7 @@ enter_rule-outcome-requires c =
       here = here;
       later = omega arith;
       short = pre.short;
-      storage = rw (room.ensures) (storage_used (storage (pre.ready.3)));
+      storage = rw (place.ensures) (storage_used (storage (pre.ready.3)));
     }
 
 pub told-requires : goal.told-requires
@@ -38,10 +40,10 @@ told-requires c =
     let pre = c.requires in
     let if1 = c.if-k-eq0 in
     let args = c.args in
-    let room = c.room-m in
+    let place = c.next_rule-place in
     let enter-rule = c.enter_rule-outcome in
     let st = pre.stand (omega (arith, if1.false)) in
-    told_by pre.ready.3 (record { word = record { start = column (row_at args.source.rows.now (args.source.at + 1)) 1; size = column (row_at args.source.rows.now (args.source.at + 1)) 2 }; clause = 0 }) (λ (F : List Symbol) (m : ℕ). rule_of F (name_at args.source.text.now args.source.rows.now (args.source.at + 1)) (spelled args.source.text.now (all_of (front_of (st.0 ∷ st.1)))) (spelled args.source.text.now (last_judgment st.0 st.1)) m) room.result room.ensures (enter-rule.new.rules) (enter-rule.new.words) enter-rule.result ((rw known at enter-rule.ensures).same st.0 st.1 st.2 st.3 st.4).1
+    rw place.ensures (told_by pre.ready.3 (record { word = record { start = column (row_at args.source.rows.now (args.source.at + 1)) 1; size = column (row_at args.source.rows.now (args.source.at + 1)) 2 }; clause = 0 }) (λ (F : List Symbol) (m : ℕ). rule_of F (name_at args.source.text.now args.source.rows.now (args.source.at + 1)) (spelled args.source.text.now (all_of (front_of (st.0 ∷ st.1)))) (spelled args.source.text.now (last_judgment st.0 st.1)) m) (min 1024 args.state.left) refl (enter-rule.new.rules) (enter-rule.new.words) enter-rule.result ((rw (known, place.ensures, c.behind_kind-word.ensures) at enter-rule.ensures).same st.0 st.1 st.2 st.3 st.4).1)
 
 pub returns-clause-declared : goal.returns-clause-declared
 returns-clause-declared c =
@@ -49,10 +51,10 @@ returns-clause-declared c =
     let if1 = c.if-k-eq0 in
     let enter-rule = c.enter_rule-outcome in
     let args = c.args in
-    let room = c.room-m in
+    let place = c.next_rule-place in
     let told = c.told in
     record {
       none = λ z. absurd (if1.false z);
-      same = λ limit ts s ready inside j js q st kn. let h = (rw known at enter-rule.ensures).same j js q st kn in
-          advanced_by ready (record { word = record { start = column (row_at args.source.rows.now (args.source.at + 1)) 1; size = column (row_at args.source.rows.now (args.source.at + 1)) 2 }; clause = 0 }) inside (omega arith) (enter-rule.new.rules) (enter-rule.new.words) (enter-rule.auto.rules) (enter-rule.auto.words) (λ (F : List Symbol) (m : ℕ). rule_of F (name_at args.source.text.now args.source.rows.now (args.source.at + 1)) (spelled args.source.text.now (all_of (front_of (j ∷ js)))) (spelled args.source.text.now (last_judgment j js)) m) room.result room.ensures q enter-rule.result told.result h.0 h.1 told.ensures;
+      same = λ limit ts s ready inside j js q st kn. let h = (rw (known, place.ensures, c.behind_kind-word.ensures) at enter-rule.ensures).same j js q st kn in
+          advanced_by ready (record { word = record { start = column (row_at args.source.rows.now (args.source.at + 1)) 1; size = column (row_at args.source.rows.now (args.source.at + 1)) 2 }; clause = 0 }) inside (omega arith) (enter-rule.new.rules) (enter-rule.new.words) (enter-rule.auto.rules) (enter-rule.auto.words) (λ (F : List Symbol) (m : ℕ). rule_of F (name_at args.source.text.now args.source.rows.now (args.source.at + 1)) (spelled args.source.text.now (all_of (front_of (j ∷ js)))) (spelled args.source.text.now (last_judgment j js)) m) (min 1024 args.state.left) refl q enter-rule.result told.result h.0 h.1 (rw place.ensures at told.ensures);
     }

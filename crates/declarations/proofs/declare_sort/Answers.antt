@@ -9,10 +9,10 @@ returns-in_err-enter_sort c =
     let a = c.args in
     let known = symbols_used a.symbols.now a.state.symbols c.requires.4 a.source.text.now in
     rw (handed_on c.from_residual.result c.from_residual.ensures.1)
-    (record { value = rw known at c.in_err-enter_sort.ensures.value; sorts_after = rw known at c.enter_sort.ensures.sorts_after })
+    (record { value = rw (known, c.behind_kind-word.ensures) at c.in_err-enter_sort.ensures.value; sorts_after = rw (known, c.behind_kind-word.ensures) at c.enter_sort.ensures.sorts_after })
 
 pub returns : goal.returns
 returns c =
     let a = c.args in
     let known = symbols_used a.symbols.now a.state.symbols c.requires.4 a.source.text.now in
-    record { value = (rw known at c.in_ok-enter_sort.ensures.value, refl); sorts_after = rw known at c.enter_sort.ensures.sorts_after }
+    record { value = (rw (known, c.behind_kind-word.ensures) at c.in_ok-enter_sort.ensures.value, refl); sorts_after = rw (known, c.behind_kind-word.ensures) at c.enter_sort.ensures.sorts_after }

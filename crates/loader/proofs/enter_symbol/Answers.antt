@@ -30,7 +30,7 @@ returns-in_err-check_symbol c =
       number = _;
       answer = (refl, c.in_err-check_symbol.ensures.1);
       comes_to = record {
-        refusal = ((rw (known, c.part.ensures) at c.in_err-check_symbol.ensures.0)
+        refusal = ((rw (known, c.part.ensures, c.behind_kind-word.ensures) at c.in_err-check_symbol.ensures.0)
             ∙ ap (symbol_refusal (sorts_of (args.part.source.text.now) (args.sorts.now) (length args.sorts.now)) (symbols_of (args.part.source.text.now) (args.symbols.now) (args.count)) _) (input-count.ensures ∙ sym n)
             ∙ ap (arrow_refusal (sorts_of (args.part.source.text.now) (args.sorts.now) (length args.sorts.now)) (symbols_of (args.part.source.text.now) (args.symbols.now) (args.count)) _ (is_constructor args.kind)) (sym look.is));
         refused = λ z. refl;
@@ -48,7 +48,7 @@ bounds-symbols-count c =
     let look = arrow_known (numbers_of (sorts_of (args.part.source.text.now) (args.sorts.now) (length args.sorts.now)) (names_at (args.part.source.text.now) (args.part.source.rows.now) (args.part.source.at + 1) (args.part.k))) (find-arrow.result) _ (args.part.k) _ (find-arrow.ensures) c.in_ok-last.ensures.ok_part in
     let c₁ = arrow_count (sorts_of (args.part.source.text.now) (args.sorts.now) (length args.sorts.now)) (args.part.source.text.now) (args.part.source.rows.now) (args.part.source.at + 1) (args.part.k) look.found look.is in
     let n = inputs_count (is_constructor args.kind) look.found (args.part.k) c₁ in
-    let f = not_refused (sorts_of (args.part.source.text.now) (args.sorts.now) (length args.sorts.now)) (symbols_of (args.part.source.text.now) (args.symbols.now) (args.count)) (part_of (args.part.source.text.now) (column (row_at (args.part.source.rows.now) (args.part.source.at)) 1) (column (row_at (args.part.source.rows.now) (args.part.source.at)) 2)) (input-count.result) (sym (rw (known, c.part.ensures) at c.in_ok-check_symbol.ensures)) in
+    let f = not_refused (sorts_of (args.part.source.text.now) (args.sorts.now) (length args.sorts.now)) (symbols_of (args.part.source.text.now) (args.symbols.now) (args.count)) (part_of (args.part.source.text.now) (column (row_at (args.part.source.rows.now) (args.part.source.at)) 1) (column (row_at (args.part.source.rows.now) (args.part.source.at)) 2)) (input-count.result) (sym (rw (known, c.part.ensures, c.behind_kind-word.ensures) at c.in_ok-check_symbol.ensures)) in
     let l = symbols_length (args.part.source.text.now) (args.symbols.now) (args.count) (omega (arith, pre.3, pre.4)) in
     omega arith
 
@@ -63,17 +63,17 @@ returns c =
     let look = arrow_known (numbers_of (sorts_of (args.part.source.text.now) (args.sorts.now) (length args.sorts.now)) (names_at (args.part.source.text.now) (args.part.source.rows.now) (args.part.source.at + 1) (args.part.k))) (find-arrow.result) _ (args.part.k) _ (find-arrow.ensures) c.in_ok-last.ensures.ok_part in
     let c₁ = arrow_count (sorts_of (args.part.source.text.now) (args.sorts.now) (length args.sorts.now)) (args.part.source.text.now) (args.part.source.rows.now) (args.part.source.at + 1) (args.part.k) look.found look.is in
     let n = inputs_count (is_constructor args.kind) look.found (args.part.k) c₁ in
-    let f = not_refused (sorts_of (args.part.source.text.now) (args.sorts.now) (length args.sorts.now)) (symbols_of (args.part.source.text.now) (args.symbols.now) (args.count)) (part_of (args.part.source.text.now) (column (row_at (args.part.source.rows.now) (args.part.source.at)) 1) (column (row_at (args.part.source.rows.now) (args.part.source.at)) 2)) (input-count.result) (sym (rw (known, c.part.ensures) at c.in_ok-check_symbol.ensures)) in
+    let f = not_refused (sorts_of (args.part.source.text.now) (args.sorts.now) (length args.sorts.now)) (symbols_of (args.part.source.text.now) (args.symbols.now) (args.count)) (part_of (args.part.source.text.now) (column (row_at (args.part.source.rows.now) (args.part.source.at)) 1) (column (row_at (args.part.source.rows.now) (args.part.source.at)) 2)) (input-count.result) (sym (rw (known, c.part.ensures, c.behind_kind-word.ensures) at c.in_ok-check_symbol.ensures)) in
     let l = symbols_length (args.part.source.text.now) (args.symbols.now) (args.count) (omega (arith, pre.3, pre.4)) in
     let h = find-arrow.auto.inputs in
     let t : length (take c.input_count-n.result find-arrow.new.inputs) ≡ c.input_count-n.result = length-take-le c.input_count-n.result find-arrow.new.inputs (let g = f.0 in omega arith) in
     let few = rw (input-count.ensures) at f.0 in
-    let put = rw (t, c.head-symbol.ensures, input-count.ensures) at (put-symbol.ensures) in
+    let put = rw (t, c.head-symbol.ensures, c.behind_kind-word.ensures, input-count.ensures) at (put-symbol.ensures) in
     record {
       number = 0;
       answer = refl;
       comes_to = record {
-        refusal = ((rw (known, c.part.ensures) at c.in_ok-check_symbol.ensures) ∙ ap (symbol_refusal (sorts_of (args.part.source.text.now) (args.sorts.now) (length args.sorts.now)) (symbols_of (args.part.source.text.now) (args.symbols.now) (args.count)) _) (input-count.ensures ∙ sym n) ∙ ap (arrow_refusal (sorts_of (args.part.source.text.now) (args.sorts.now) (length args.sorts.now)) (symbols_of (args.part.source.text.now) (args.symbols.now) (args.count)) _ (is_constructor args.kind)) (sym look.is));
+        refusal = ((rw (known, c.part.ensures, c.behind_kind-word.ensures) at c.in_ok-check_symbol.ensures) ∙ ap (symbol_refusal (sorts_of (args.part.source.text.now) (args.sorts.now) (length args.sorts.now)) (symbols_of (args.part.source.text.now) (args.symbols.now) (args.count)) _) (input-count.ensures ∙ sym n) ∙ ap (arrow_refusal (sorts_of (args.part.source.text.now) (args.sorts.now) (length args.sorts.now)) (symbols_of (args.part.source.text.now) (args.symbols.now) (args.count)) _ (is_constructor args.kind)) (sym look.is));
         refused = λ z. absurd (z refl);
         entered = λ z ns e. let q : look.found ≡ ns = same_numbers (sym look.is ∙ e) in
             rw (← q) (ap (set (args.symbols.now) (args.count)) (put ∙ row_is (column (row_at (args.part.source.rows.now) (args.part.source.at)) 1) (column (row_at (args.part.source.rows.now) (args.part.source.at)) 2) (mark_in args.kind) (first_in args.kind) (clauses_in args.kind) (args.part.k) (is_constructor args.kind) look.found _ _ c₁ look.last_is few look.written));

@@ -10,11 +10,11 @@ loop-i-init c = let a = c.args.part.source in sofar_none a.text.now a.rows.now a
 pub returns-in_err-s : goal.returns-in_err-s
 returns-in_err-s c =
     let a = c.args.part.source in
-    let l = unknown_sort a.text.now c.args.sorts.now (name_at a.text.now a.rows.now (a.at + c.loop-i.i)) (rw c.part.ensures at c.in_err-s.ensures) in
+    let l = unknown_sort a.text.now c.args.sorts.now (name_at a.text.now a.rows.now (a.at + c.loop-i.i)) (rw (c.part.ensures, c.behind_kind-word.ensures) at c.in_err-s.ensures) in
     rw c.from_residual.ensures (one_unknown a.text.now a.rows.now a.at c.args.part.k c.args.sorts.now _ refl l c.loop-i-test.true)
 
 pub loop-i-preserved : goal.loop-i-preserved
 loop-i-preserved c =
     let a = c.args.part.source in
-    let (e, l) = some_sort a.text.now c.args.sorts.now (name_at a.text.now a.rows.now (a.at + c.loop-i.i)) c.in_ok-s.s (rw c.part.ensures at c.in_ok-s.ensures) in
+    let (e, l) = some_sort a.text.now c.args.sorts.now (name_at a.text.now a.rows.now (a.at + c.loop-i.i)) c.in_ok-s.s (rw (c.part.ensures, c.behind_kind-word.ensures) at c.in_ok-s.ensures) in
     sofar_more a.text.now a.rows.now a.at c.args.part.k c.args.sorts.now c.loop-i.invariant e l c.put.ensures

@@ -13,7 +13,7 @@ returns-then-tokens-limit c =
     let args = c.args in
     let if1 = c.if-tokens-limit in
     let e : capped.result.text ≡ (capped_of args.limits).text = ap (λ l. l.text) capped.ensures in
-    text_short args.text.now args.limits args.tokens.now args.rows.now (short_tokens args.text.now args.limits args.tokens.now args.rows.now (omega (arith, e, if1.true)))
+    rw c.from.ensures (text_short args.text.now args.limits args.tokens.now args.rows.now (short_tokens args.text.now args.limits args.tokens.now args.rows.now (omega (arith, e, if1.true))))
 
 pub returns-then-rows-limit : goal.returns-then-rows-limit
 returns-then-rows-limit c =
@@ -21,7 +21,7 @@ returns-then-rows-limit c =
     let args = c.args in
     let if2 = c.if-rows-limit in
     let e : capped.result.text ≡ (capped_of args.limits).text = ap (λ l. l.text) capped.ensures in
-    text_short args.text.now args.limits args.tokens.now args.rows.now (short_rows args.text.now args.limits args.tokens.now args.rows.now (omega (arith, e, if2.true)))
+    rw c.from-then-rows-limit.ensures (text_short args.text.now args.limits args.tokens.now args.rows.now (short_rows args.text.now args.limits args.tokens.now args.rows.now (omega (arith, e, if2.true))))
 
 pub slice_bounds-parse-end : goal.slice_bounds-parse-end
 slice_bounds-parse-end c =

@@ -5,5 +5,5 @@ use Rattle.names.specs.Symbols.{symbols_of}
 use Rattle.patterns.proofs.Terms.{Looped}
 use Rattle.patterns.proofs.judgments.Given as goal
 
-abbrev pub invariant-loop-k : goal.invariant-loop-k
-invariant-loop-k l = Looped l.source.text.now l.source.rows.now l.fn.from.next (length l.initial.heads) (symbols_of l.source.text.now l.source.symbols.now (length l.source.symbols.now)) [] l.initial.variables l.fn.from.variables l.initial.words l.fn.from.used l.fn.from.room l.k l.place.next l.variables l.place.variables l.words l.place.used l.place.room l.heads
+abbrev pub invariant-loop-head : goal.invariant-loop-head
+invariant-loop-head l = Looped l.source.text.now l.source.rows.now l.fn.from.next (length l.initial.head-items) (symbols_of l.source.text.now l.source.symbols.now (length l.source.symbols.now)) [] l.initial.variables l.fn.from.variables l.initial.words l.fn.from.used l.fn.from.room l.head-index l.place.next l.variables l.place.variables l.words l.place.used l.place.room l.head-items

@@ -15,7 +15,7 @@ pub returns-then-tokens-limit : goal.returns-then-tokens-limit
 returns-then-tokens-limit c =
     let e : c.capped-limit.result.text ≡ min (c.args.limits.text) 65536 = ap (λ l. l.text) c.capped-limit.ensures in
     lexing c.args.text.now c.args.limits c.args.tokens.now _
-    (sym (simp (← e, lt-ltb _ _ c.if-tokens-limit.true)))
+    (sym (simp (← e, lt-ltb _ _ c.if-tokens-limit.true, c.from.ensures)))
     (sym (simp (← e, lt-ltb _ _ c.if-tokens-limit.true)))
     (omega arith)
 

@@ -14,13 +14,13 @@ use Rattle.words.proofs.read.Goals as goal
 
 pub returns-then-limit-text : goal.returns-then-limit-text
 unfolding lex_of
-returns-then-limit-text c = record { reads = sym (then_nil _ ∙ simp (lt-ltb _ _ c.if-limit-text.true)); fits = omega arith; long = refl }
+returns-then-limit-text c = record { reads = sym (then_nil _ ∙ simp (lt-ltb _ _ c.if-limit-text.true, c.from.ensures)); fits = omega arith; long = refl }
 
 pub returns-then-not-is_utf8 : goal.returns-then-not-is_utf8
 unfolding lex_of
 returns-then-not-is_utf8 c =
     record {
-      reads = sym (then_nil _ ∙ simp (le-ltb _ _ c.if-limit-text.false, ← c.is_utf8.ensures, c.if-not-is_utf8.true));
+      reads = sym (then_nil _ ∙ simp (le-ltb _ _ c.if-limit-text.false, ← c.is_utf8.ensures, c.if-not-is_utf8.true, c.from-then-not-is_utf8.ensures));
       fits = omega arith;
       long = refl;
     }

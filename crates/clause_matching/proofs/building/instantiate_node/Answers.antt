@@ -6,6 +6,8 @@ use Rattle.arena.specs.Copies.{pattern_room}
 use native.Mathlib.Omega.{arith}
 use mathlib.Core.Path.{refl}
 use lib.ListN.{length-set}
+use Rattle.refusals.specs.Refused.{handed_on, none_is}
+use Rattle.clause_matching.proofs.Variables.{held_is, held_none}
 use Rattle.clause_matching.proofs.BuildTurns.{turn_start, turn_lent, variable_unbound, less_value, turn_value, free_row, less_enter, turn_enter, turn_done, facts, less_next, turn_next, node_refused, push_room, turn_build}
 use Rattle.clause_matching.proofs.building.instantiate_node.Goals as goal
 
@@ -34,19 +36,23 @@ bounds-stack-row-then-taken-arity c =
     let o = c.if-taken-arity.true in
     omega arith
 
-pub returns-then-entry-eq0 : goal.returns-then-entry-eq0
-returns-then-entry-eq0 c =
-    variable_unbound (turn_next c.loop-depth.invariant.1 refl c.loop-depth-test.true c.if-taken-arity.true) refl c.if-next-lt-PATTERN_ROOM.true c.if-entry-eq0.true
+pub returns-in_err-value : goal.returns-in_err-value
+returns-in_err-value c =
+    rw (handed_on c.from_residual.result c.from_residual.ensures.1, none_is c.checked_sub.result c.in_err-value.ensures.ok_part c.in_err-value.ensures.value)
+    (variable_unbound (turn_next c.loop-depth.invariant.1 refl c.loop-depth-test.true c.if-taken-arity.true) refl c.if-next-lt-PATTERN_ROOM.true
+    (held_none c.checked_sub.ensures c.in_err-value.ensures.ok_part))
 
 pub loop-depth-smaller-then-next-lt-PATTERN_ROOM : goal.loop-depth-smaller-then-next-lt-PATTERN_ROOM
 loop-depth-smaller-then-next-lt-PATTERN_ROOM c =
     let x = less_next c.loop-depth.invariant.1 refl c.loop-depth-test.true c.if-taken-arity.true in
-    let y = less_value (turn_next c.loop-depth.invariant.1 refl c.loop-depth-test.true c.if-taken-arity.true) refl c.if-next-lt-PATTERN_ROOM.true c.if-entry-eq0.false in
+    let y = less_value (turn_next c.loop-depth.invariant.1 refl c.loop-depth-test.true c.if-taken-arity.true) refl c.if-next-lt-PATTERN_ROOM.true
+    (held_is c.checked_sub.ensures c.in_ok-value.ensures.ok_part).0 in
     omega arith
 
 pub loop-depth-preserved-then-next-lt-PATTERN_ROOM : goal.loop-depth-preserved-then-next-lt-PATTERN_ROOM
 loop-depth-preserved-then-next-lt-PATTERN_ROOM c =
-    (_, turn_value (turn_next c.loop-depth.invariant.1 refl c.loop-depth-test.true c.if-taken-arity.true) refl c.if-next-lt-PATTERN_ROOM.true c.if-entry-eq0.false)
+    let (n, z) = held_is c.checked_sub.ensures c.in_ok-value.ensures.ok_part in
+    rw z (_, turn_value (turn_next c.loop-depth.invariant.1 refl c.loop-depth-test.true c.if-taken-arity.true) refl c.if-next-lt-PATTERN_ROOM.true n)
 
 pub bounds-stack-depth : goal.bounds-stack-depth
 bounds-stack-depth c =

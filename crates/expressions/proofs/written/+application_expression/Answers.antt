@@ -5,7 +5,7 @@ use mathlib.Core.Path.{refl, sym}
 use Rattle.forward_calls.proofs.Forwarding.{some_symbol, no_symbol}
 use Rattle.function_calls.proofs.Lending.{lent_start, lent_on}
 use mathlib.Core.List.{[]}
-use Rattle.refusals.specs.Refused.{handed_on}
+use Rattle.refusals.specs.Refused.{handed_on, none_is}
 use Rattle.expressions.proofs.Misuses.{found_wrong, found_nothing}
 use Rattle.expressions.proofs.Reading.{inside, too_deep, numeral_asked, number_refused, number_built, of_meta, of_unknown, misuse_asked, of_misuse, application_asked, applied_to}
 use Rattle.expressions.proofs.Walking.{turn_start, expression_asked, argument_refused, value_inside, wrong_sort, turn_next, apply_asked, apply_refused, apply_done}
@@ -74,31 +74,32 @@ expression-returns-in_ok-built-in-14-clause-answered t c =
 pub expression-returns-in-13-clause-answered : goal.expression-returns-in-13-clause-answered
 expression-returns-in-13-clause-answered t c = of_meta c.requires c.if-depth-gt-MAX_DEPTH.false c.in-13.is
 
-pub expression-returns-in_default-find_at-clause-answered : goal.expression-returns-in_default-find_at-clause-answered
-expression-returns-in_default-find_at-clause-answered t c =
-    of_unknown c.requires c.if-depth-gt-MAX_DEPTH.false (λ e. omega (arith, c.in_default)) (λ e. omega (arith, c.in_default)) refl (no_symbol c.args.term.text.now c.args.program.symbols.now _ c.in_default-find_at.is c.find_at.ensures)
+pub expression-returns-in_err-i-in_default-clause-answered : goal.expression-returns-in_err-i-in_default-clause-answered
+expression-returns-in_err-i-in_default-clause-answered t c =
+    rw (handed_on c.from_residual-in_err-i-in_default.result c.from_residual-in_err-i-in_default.ensures.1, none_is c.find_at.result c.in_err-i-in_default.ensures.ok_part c.in_err-i-in_default.ensures.value)
+    (of_unknown c.requires c.if-depth-gt-MAX_DEPTH.false (λ e. omega (arith, c.in_default)) (λ e. omega (arith, c.in_default)) refl (no_symbol c.args.term.text.now c.args.program.symbols.now _ c.in_err-i-in_default.ensures.ok_part (rw c.behind_kind-word.ensures at c.find_at.ensures)))
 
 pub expression-check_use-requires : goal.expression-check_use-requires
 expression-check_use-requires t c =
-    misuse_asked c.requires c.if-depth-gt-MAX_DEPTH.false (λ e. omega (arith, c.in_default)) (λ e. omega (arith, c.in_default)) (some_symbol c.args.term.text.now c.args.program.symbols.now _ _ c.in-Some.is c.find_at.ensures).0 (some_symbol c.args.term.text.now c.args.program.symbols.now _ _ c.in-Some.is c.find_at.ensures).1 refl
+    misuse_asked c.requires c.if-depth-gt-MAX_DEPTH.false (λ e. omega (arith, c.in_default)) (λ e. omega (arith, c.in_default)) (some_symbol c.args.term.text.now c.args.program.symbols.now _ _ c.in_ok-i-in_default.ensures.ok_part (rw c.behind_kind-word.ensures at c.find_at.ensures)).0 (some_symbol c.args.term.text.now c.args.program.symbols.now _ _ c.in_ok-i-in_default.ensures.ok_part (rw c.behind_kind-word.ensures at c.find_at.ensures)).1 refl
 
 pub expression-returns-in_err-check_use-in_default-clause-answered : goal.expression-returns-in_err-check_use-in_default-clause-answered
 expression-returns-in_err-check_use-in_default-clause-answered t c =
     rw (handed_on c.from_residual-in_err-check_use-in_default.result c.from_residual-in_err-check_use-in_default.ensures.1)
-    (of_misuse c.requires c.if-depth-gt-MAX_DEPTH.false (λ e. omega (arith, c.in_default)) (λ e. omega (arith, c.in_default)) (some_symbol c.args.term.text.now c.args.program.symbols.now _ _ c.in-Some.is c.find_at.ensures).0 (some_symbol c.args.term.text.now c.args.program.symbols.now _ _ c.in-Some.is c.find_at.ensures).1 refl
+    (of_misuse c.requires c.if-depth-gt-MAX_DEPTH.false (λ e. omega (arith, c.in_default)) (λ e. omega (arith, c.in_default)) (some_symbol c.args.term.text.now c.args.program.symbols.now _ _ c.in_ok-i-in_default.ensures.ok_part (rw c.behind_kind-word.ensures at c.find_at.ensures)).0 (some_symbol c.args.term.text.now c.args.program.symbols.now _ _ c.in_ok-i-in_default.ensures.ok_part (rw c.behind_kind-word.ensures at c.find_at.ensures)).1 refl
     (λ x. (found_wrong (c.check_use.ensures x) c.in_err-check_use-in_default.was).0) refl
     (λ z. let w = found_wrong (c.check_use.ensures []) c.in_err-check_use-in_default.was in omega arith))
 
 pub expression-application-requires : goal.expression-application-requires
 expression-application-requires t c = (
   let d = c.if-depth-gt-MAX_DEPTH.false in omega arith,
-  application_asked c.requires c.if-depth-gt-MAX_DEPTH.false (λ e. omega (arith, c.in_default)) (λ e. omega (arith, c.in_default)) (some_symbol c.args.term.text.now c.args.program.symbols.now _ _ c.in-Some.is c.find_at.ensures).0 (some_symbol c.args.term.text.now c.args.program.symbols.now _ _ c.in-Some.is c.find_at.ensures).1 refl
+  application_asked c.requires c.if-depth-gt-MAX_DEPTH.false (λ e. omega (arith, c.in_default)) (λ e. omega (arith, c.in_default)) (some_symbol c.args.term.text.now c.args.program.symbols.now _ _ c.in_ok-i-in_default.ensures.ok_part (rw c.behind_kind-word.ensures at c.find_at.ensures)).0 (some_symbol c.args.term.text.now c.args.program.symbols.now _ _ c.in_ok-i-in_default.ensures.ok_part (rw c.behind_kind-word.ensures at c.find_at.ensures)).1 refl
       (λ x. sym (found_nothing (c.check_use.ensures x) c.in_ok-check_use-in_default.was)) refl,
 )
 
 pub expression-returns-in_ok-check_use-in_default-clause-answered : goal.expression-returns-in_ok-check_use-in_default-clause-answered
 expression-returns-in_ok-check_use-in_default-clause-answered t c =
-    applied_to c.requires c.if-depth-gt-MAX_DEPTH.false (λ e. omega (arith, c.in_default)) (λ e. omega (arith, c.in_default)) (some_symbol c.args.term.text.now c.args.program.symbols.now _ _ c.in-Some.is c.find_at.ensures).0 (some_symbol c.args.term.text.now c.args.program.symbols.now _ _ c.in-Some.is c.find_at.ensures).1 refl
+    applied_to c.requires c.if-depth-gt-MAX_DEPTH.false (λ e. omega (arith, c.in_default)) (λ e. omega (arith, c.in_default)) (some_symbol c.args.term.text.now c.args.program.symbols.now _ _ c.in_ok-i-in_default.ensures.ok_part (rw c.behind_kind-word.ensures at c.find_at.ensures)).0 (some_symbol c.args.term.text.now c.args.program.symbols.now _ _ c.in_ok-i-in_default.ensures.ok_part (rw c.behind_kind-word.ensures at c.find_at.ensures)).1 refl
     (λ x. sym (found_nothing (c.check_use.ensures x) c.in_ok-check_use-in_default.was)) refl c.application.ensures.answered
 
 pub expression-overflow_add-first : goal.expression-overflow_add-first

@@ -2,7 +2,7 @@
 -- the environment holds, come to all of them.
 use native.Mathlib.Omega.{arith}
 use mathlib.Core.Path.{refl, ◌∙◌}
-use Rattle.refusals.specs.Refused.{handed_on}
+use Rattle.refusals.specs.Refused.{handed_on, none_is}
 use Rattle.function_calls.proofs.Premising.{part_asked, part_whole, part_length, arguments_refused, call_asked, call_failed, bind_asked, result_failed, result_fitted}
 use Rattle.function_calls.proofs.Following.{part_long, part_cell, turn_start, referable, no_variable_lem, premise_asked, premise_refused, turn_next, conclusion_asked, conclusion_refused, result_inside, conclusion_built}
 use Rattle.function_calls.proofs.Calling.{too_deep, too_many, clause_asked, no_clause, follow_asked, followed}
@@ -19,18 +19,20 @@ call-returns-then-spent-ge-MAX_CALLS-clause-answered t c = too_many c.requires c
 pub call-find_clause-requires : goal.call-find_clause-requires
 call-find_clause-requires t c = clause_asked c.requires c.if-level-gt-MAX_DEPTH.false c.if-spent-ge-MAX_CALLS.false _ (let z : 64 ≤ 64 = omega arith in z)
 
-pub call-returns-in_default-clause-answered : goal.call-returns-in_default-clause-answered
-call-returns-in_default-clause-answered t c = no_clause c.requires c.if-level-gt-MAX_DEPTH.false c.if-spent-ge-MAX_CALLS.false c.find_clause.ensures c.in_default.is
+pub call-returns-in_err-rule-clause-answered : goal.call-returns-in_err-rule-clause-answered
+call-returns-in_err-rule-clause-answered t c =
+    rw (handed_on c.from_residual.result c.from_residual.ensures.1, none_is c.find_clause.result c.in_err-rule.ensures.ok_part c.in_err-rule.ensures.value)
+    (no_clause c.requires c.if-level-gt-MAX_DEPTH.false c.if-spent-ge-MAX_CALLS.false c.find_clause.ensures c.in_err-rule.ensures.ok_part)
 
 pub call-follow-requires : goal.call-follow-requires
 call-follow-requires t c = (
   let d = c.if-level-gt-MAX_DEPTH.false in omega arith,
-  follow_asked c.requires c.if-level-gt-MAX_DEPTH.false c.if-spent-ge-MAX_CALLS.false c.find_clause.ensures _ c.in-Some.is (let z : 64 ≤ 64 = omega arith in z) _
+  follow_asked c.requires c.if-level-gt-MAX_DEPTH.false c.if-spent-ge-MAX_CALLS.false c.find_clause.ensures _ c.in_ok-rule.ensures.ok_part (let z : 64 ≤ 64 = omega arith in z) _
       c.find_clause.auto.stack,
 )
 
 pub call-returns-clause-answered : goal.call-returns-clause-answered
-call-returns-clause-answered t c = followed c.requires c.if-level-gt-MAX_DEPTH.false c.if-spent-ge-MAX_CALLS.false c.find_clause.ensures _ c.in-Some.is c.follow.ensures.answered
+call-returns-clause-answered t c = followed c.requires c.if-level-gt-MAX_DEPTH.false c.if-spent-ge-MAX_CALLS.false c.find_clause.ensures _ c.in_ok-rule.ensures.ok_part c.follow.ensures.answered
 
 pub follow-loop-reference-init : goal.follow-loop-reference-init
 follow-loop-reference-init t c = record { turn = turn_start c.requires; lent = lent_start }

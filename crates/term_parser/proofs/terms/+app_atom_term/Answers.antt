@@ -57,12 +57,14 @@ term-returns-then-peek-ne-EQUALS t c =
     let peek = c.peek in
     term_plain args.input.text.now args.input.tokens.now args.left pre app.ensures (ap step c.in_ok-first.was) (λ e. if1.true (ap (λ x. x.kind) peek.ensures ∙ e))
 
-pub term-overflow_add-behind : goal.term-overflow_add-behind
-term-overflow_add-behind t c =
+pub term-past_token-behind-requires : goal.term-past_token-behind-requires
+term-past_token-behind-requires t c =
     let app = c.app in
+    let args = c.args in
     let pre = c.requires in
-    let m = moved app.ensures (ap step c.in_ok-first.was) in
-    omega (arith, m, pre.small)
+    let h = token_there args.input.tokens.now c.in_ok-first.first.position.at (let e = ap (λ x. x.kind) (sym c.peek.ensures) ∙ c.if-peek-ne-EQUALS.false in
+    omega arith) in
+    omega (arith, h, pre.small)
 
 pub term-app-requires-2 : goal.term-app-requires-2
 term-app-requires-2 t c =
@@ -74,7 +76,7 @@ term-app-requires-2 t c =
     let m = moved app.ensures (ap step c.in_ok-first.was) in
     let h = token_there args.input.tokens.now c.in_ok-first.first.position.at (let e = ap (λ x. x.kind) (sym peek.ensures) ∙ if1.false in
     omega arith) in
-    (omega (arith, m), room_on pre _ _ _ (omega arith) (omega (arith, m)) app.auto.out)
+    rw c.past_token-behind.ensures (omega (arith, m), room_on pre _ _ _ (omega arith) (omega (arith, m)) app.auto.out)
 
 pub term-returns-in_err-second : goal.term-returns-in_err-second
 term-returns-in_err-second t c =
@@ -84,7 +86,8 @@ term-returns-in_err-second t c =
     let peek = c.peek in
     let if1 = c.if-peek-ne-EQUALS in
     let app2 = c.app-2 in
-    rw (exits _ _ c.in_err-second.was c.from_residual-in_err-second.ensures.1) (second_stopped args.input.text.now args.input.tokens.now args.left pre app.ensures (ap step c.in_ok-first.was) (ap (λ x. x.kind) (sym peek.ensures) ∙ if1.false) app2.ensures (stopped_err _ c.in_err-second.was))
+    let second = rw c.past_token-behind.ensures at app2.ensures in
+    rw (exits _ _ c.in_err-second.was c.from_residual-in_err-second.ensures.1) (second_stopped args.input.text.now args.input.tokens.now args.left pre app.ensures (ap step c.in_ok-first.was) (ap (λ x. x.kind) (sym peek.ensures) ∙ if1.false) second (stopped_err _ c.in_err-second.was))
 
 pub term-equate-requires : goal.term-equate-requires
 term-equate-requires t c =
@@ -95,8 +98,9 @@ term-equate-requires t c =
     let peek = c.peek in
     let if1 = c.if-peek-ne-EQUALS in
     let m = moved app.ensures (ap step c.in_ok-first.was) in
-    let n = moved app2.ensures (ap step c.in_ok-second.was) in
-    record { fact_1 = omega (arith, m, n, pre.lent, pre.below, app.auto.out, app2.auto.out); fact_2 = root_room args.input.text.now args.input.tokens.now args.left pre app.ensures (ap step c.in_ok-first.was) (ap (λ x. x.kind) (sym peek.ensures) ∙ if1.false) app2.ensures (ap step c.in_ok-second.was) (omega (arith, m, n, pre.lent, pre.below, app.auto.out, app2.auto.out)) }
+    let second = rw c.past_token-behind.ensures at app2.ensures in
+    let n = moved second (ap step c.in_ok-second.was) in
+    record { fact_1 = omega (arith, m, n, pre.lent, pre.below, app.auto.out, app2.auto.out); fact_2 = root_room args.input.text.now args.input.tokens.now args.left pre app.ensures (ap step c.in_ok-first.was) (ap (λ x. x.kind) (sym peek.ensures) ∙ if1.false) second (ap step c.in_ok-second.was) (omega (arith, m, n, pre.lent, pre.below, app.auto.out, app2.auto.out)) }
 
 pub term-returns : goal.term-returns
 term-returns t c =
@@ -107,7 +111,8 @@ term-returns t c =
     let if1 = c.if-peek-ne-EQUALS in
     let app2 = c.app-2 in
     let equate = c.equate in
-    term_equated args.input.text.now args.input.tokens.now args.left pre app.ensures (ap step c.in_ok-first.was) (ap (λ x. x.kind) (sym peek.ensures) ∙ if1.false) app2.ensures (ap step c.in_ok-second.was) equate.ensures
+    let second = rw c.past_token-behind.ensures at app2.ensures in
+    term_equated args.input.text.now args.input.tokens.now args.left pre app.ensures (ap step c.in_ok-first.was) (ap (λ x. x.kind) (sym peek.ensures) ∙ if1.false) second (ap step c.in_ok-second.was) equate.ensures
 
 pub atom-returns-in-12 : goal.atom-returns-in-12
 atom-returns-in-12 t c =
@@ -137,14 +142,14 @@ atom-returns-then-left-eq0 t c =
 pub atom-returns-in_err-inner-in-18 : goal.atom-returns-in_err-inner-in-18
 atom-returns-in_err-inner-in-18 t c =
     let args = c.args in
-    rw (exits_maybe _ _ c.in_err-inner-in-18.was c.from_residual.ensures.1) (inner_stopped args.input.text.now args.input.tokens.now args.from.at args.left args.from.used _ (is_open args.input.text.now args.input.tokens.now args.left c.requires c.peek-t.ensures (λ e. omega (arith, c.in-18.is)) (λ e. omega (arith, c.in-18.is)) (λ e. omega (arith, c.in-18.is)) c.in-18.is) c.if-left-eq0.false c.term.ensures (stopped_err _ c.in_err-inner-in-18.was))
+    rw (exits_maybe _ _ c.in_err-inner-in-18.was c.from_residual.ensures.1) (inner_stopped args.input.text.now args.input.tokens.now args.from.at args.left args.from.used _ (is_open args.input.text.now args.input.tokens.now args.left c.requires c.peek-t.ensures (λ e. omega (arith, c.in-18.is)) (λ e. omega (arith, c.in-18.is)) (λ e. omega (arith, c.in-18.is)) c.in-18.is) c.if-left-eq0.false (rw c.past_token-inside.ensures at c.term.ensures) (stopped_err _ c.in_err-inner-in-18.was))
 
 pub atom-returns-in_ok-sign-in-18 : goal.atom-returns-in_ok-sign-in-18
 atom-returns-in_ok-sign-in-18 t c =
     let args = c.args in
-    rw (ap step c.in_ok-sign-in-18.was) at (inner_closed args.input.text.now args.input.tokens.now args.from.at args.left args.from.used _ (is_open args.input.text.now args.input.tokens.now args.left c.requires c.peek-t.ensures (λ e. omega (arith, c.in-18.is)) (λ e. omega (arith, c.in-18.is)) (λ e. omega (arith, c.in-18.is)) c.in-18.is) c.if-left-eq0.false c.term.ensures (ap step c.in_ok-inner-in-18.was) c.sign.ensures)
+    rw (ap step c.in_ok-sign-in-18.was) at (inner_closed args.input.text.now args.input.tokens.now args.from.at args.left args.from.used _ (is_open args.input.text.now args.input.tokens.now args.left c.requires c.peek-t.ensures (λ e. omega (arith, c.in-18.is)) (λ e. omega (arith, c.in-18.is)) (λ e. omega (arith, c.in-18.is)) c.in-18.is) c.if-left-eq0.false (rw c.past_token-inside.ensures at c.term.ensures) (ap step c.in_ok-inner-in-18.was) c.sign.ensures)
 
 pub atom-returns-in_err-sign-in-18 : goal.atom-returns-in_err-sign-in-18
 atom-returns-in_err-sign-in-18 t c =
     let args = c.args in
-    rw (exits_maybe _ _ c.in_err-sign-in-18.was c.from_residual-in_err-sign-in-18.ensures.1) (inner_closed args.input.text.now args.input.tokens.now args.from.at args.left args.from.used _ (is_open args.input.text.now args.input.tokens.now args.left c.requires c.peek-t.ensures (λ e. omega (arith, c.in-18.is)) (λ e. omega (arith, c.in-18.is)) (λ e. omega (arith, c.in-18.is)) c.in-18.is) c.if-left-eq0.false c.term.ensures (ap step c.in_ok-inner-in-18.was) c.sign.ensures)
+    rw (exits_maybe _ _ c.in_err-sign-in-18.was c.from_residual-in_err-sign-in-18.ensures.1) (inner_closed args.input.text.now args.input.tokens.now args.from.at args.left args.from.used _ (is_open args.input.text.now args.input.tokens.now args.left c.requires c.peek-t.ensures (λ e. omega (arith, c.in-18.is)) (λ e. omega (arith, c.in-18.is)) (λ e. omega (arith, c.in-18.is)) c.in-18.is) c.if-left-eq0.false (rw c.past_token-inside.ensures at c.term.ensures) (ap step c.in_ok-inner-in-18.was) c.sign.ensures)

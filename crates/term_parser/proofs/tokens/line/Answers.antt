@@ -1,13 +1,13 @@
 -- `line` meets its contract.
 use mathlib.Core.Path.{ap, ◌∙◌}
-use Rattle.term_parser.proofs.TokenLaws.{line_in, line_out, line_none}
+use Prim.Native.Nat.{◌-◌, min}
+use lib.ListN.{length, drop}
+use Rattle.std.proofs.Common.{rules, ◌≡◌}
+use Rattle.term_parser.specs.Parsing.{token_of}
+use Rattle.term_parser.proofs.TokenLaws.{line_at}
 use Rattle.term_parser.proofs.tokens.line.Goals as goal
 
-pub returns-then-at-tokens : goal.returns-then-at-tokens
-returns-then-at-tokens c = ap (λ t. t.line) c.peek.ensures ∙ line_in _ _ c.if-at-tokens.true
-
-pub returns-then-tokens-eq0 : goal.returns-then-tokens-eq0
-returns-then-tokens-eq0 c = line_none c.args.tokens.now c.args.at c.if-tokens-eq0.true
-
 pub returns : goal.returns
-returns c = ap (λ t. t.line) c.peek-2.ensures ∙ line_out _ _ c.if-at-tokens.false
+returns c =
+    let e : c.min.result ≡ min c.args.at (length c.args.tokens.now - 1) = search rules in
+    ap (λ t. t.line) c.peek.ensures ∙ ap (λ q. (token_of (drop q c.args.tokens.now)).line) e ∙ line_at c.args.tokens.now c.args.at

@@ -8,8 +8,8 @@ use Rattle.term_parser.specs.Steps.Step.{Refused}
 use Rattle.term_parser.proofs.TokenLaws.{token_there, sign_there, sign_not}
 use Rattle.term_parser.proofs.tokens.sign.Goals as goal
 
-pub overflow_add-result : goal.overflow_add-result
-overflow_add-result c =
+pub past_token-requires : goal.past_token-requires
+past_token-requires c =
     let args = c.args in
     let peek = c.peek in
     let if1 = c.if-peek-kind in
@@ -26,10 +26,10 @@ returns-then-peek-kind c =
     let pre = c.requires in
     let e : kind_of (drop (args.from.at) (args.input.tokens.now)) ≡ args.kind = sym (ap (λ t. t.kind) peek.ensures) ∙ if1.true in
     let h = token_there (args.input.tokens.now) (args.from.at) (omega (arith, pre)) in
-    record {
+    rw c.past_token.ensures (record {
       is = sym (ap (signed (args.from.at) (args.from.used)) (sign_there (last_line (args.input.tokens.now)) (args.kind) (drop (args.from.at) (args.input.tokens.now)) e));
       within = (omega arith, omega arith, omega arith, omega arith);
-    }
+    })
 
 pub returns : goal.returns
 returns c =
