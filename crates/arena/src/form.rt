@@ -1,9 +1,26 @@
 // The tests on one word.
-ghost use Rattle.std.specs.Prelude.{◌≡◌, ◌≤◌, length};
+ghost use Rattle.std.specs.Prelude.{◌≡◌, ◌+◌, ◌*◌, ◌≤◌, ◌<◌, length};
+ghost use Rattle.arena.specs.Cells.{headers, symbol_of as symbolIn};
 ghost use Rattle.arena.specs.Form.{is_header, is_argument};
 
 use super::Terms;
 use super::format::{HEADERS, INPUTS, SYMBOL_STEP};
+
+// The symbol of a header. A word that is no header is read as one of symbol 0.
+pub fn symbol_of(header: u32) -> usize
+    ensures { result ≡ symbolIn header }
+{
+    (header.saturating_sub(HEADERS) / SYMBOL_STEP) as usize
+}
+
+// The header of a symbol with so many arguments.
+pub fn header_of(symbol: usize, arity: usize) -> u32
+    // The header is a word: the callers' limits on symbols and arguments are far below what a word holds.
+    requires { headers + 32 * symbol + arity < 4294967296 }
+    ensures { result ≡ headers + 32 * symbol + arity }
+{
+    HEADERS + SYMBOL_STEP * (symbol as u32) + (arity as u32)
+}
 
 // Whether a word is the header of a known symbol, with that symbol's arity.
 pub fn is_header(arities: &[u32], word: u32) -> bool
@@ -12,7 +29,7 @@ pub fn is_header(arities: &[u32], word: u32) -> bool
     if word < HEADERS {
         return false;
     }
-    let symbol = ((word - HEADERS) / SYMBOL_STEP) as usize;
+    let symbol = symbol_of(word);
     if symbol < arities.len() {
         if word % SYMBOL_STEP == arities[symbol] {
             return word % SYMBOL_STEP <= INPUTS;

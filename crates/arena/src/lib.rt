@@ -17,7 +17,7 @@ ghost use Rattle.arena.specs.Form.{in_form};
 ghost use Rattle.arena.specs.Equality.{Ready, Compared};
 
 pub use copies::moved_word;
-pub use form::{is_argument, is_header};
+pub use form::{header_of, is_argument, is_header, symbol_of};
 pub use format::{HEADERS, INPUTS, PATTERN_ROOM, SYMBOL_STEP, TERM_ROOM};
 use links::{link, past, settle};
 

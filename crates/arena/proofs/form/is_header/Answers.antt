@@ -8,11 +8,14 @@ returns-then-word-lt-HEADERS c = sym (header_low c.args.arities.now c.args.word 
 
 pub returns-then-word-arities : goal.returns-then-word-arities
 returns-then-word-arities c =
-    header_own c.args.arities.now c.args.word c.if-word-lt-HEADERS.false c.if-symbol-arities.true c.if-word-arities.true
+    header_own c.args.arities.now c.args.word c.if-word-lt-HEADERS.false (rw (← c.symbol_of-symbol.ensures) c.if-symbol-arities.true)
+    (rw (← c.symbol_of-symbol.ensures) c.if-word-arities.true)
 
 pub returns-else-word-arities : goal.returns-else-word-arities
 returns-else-word-arities c =
-    sym (header_other c.args.arities.now c.args.word c.if-word-lt-HEADERS.false c.if-symbol-arities.true c.if-word-arities.false)
+    sym (header_other c.args.arities.now c.args.word c.if-word-lt-HEADERS.false (rw (← c.symbol_of-symbol.ensures) c.if-symbol-arities.true)
+    (rw (← c.symbol_of-symbol.ensures) c.if-word-arities.false))
 
 pub returns-else-symbol-arities : goal.returns-else-symbol-arities
-returns-else-symbol-arities c = sym (header_unknown c.args.arities.now c.args.word c.if-word-lt-HEADERS.false c.if-symbol-arities.false)
+returns-else-symbol-arities c =
+    sym (header_unknown c.args.arities.now c.args.word c.if-word-lt-HEADERS.false (rw (← c.symbol_of-symbol.ensures) c.if-symbol-arities.false))
