@@ -8,6 +8,8 @@ ghost use Rattle.names.specs.Names.{Name, result_names, name_of, name_in};
 ghost use Rattle.names.specs.NamePlaces.{NamePlace, is_word_place};
 ghost use Rattle.names.specs.Symbols.{column, sort_of};
 
+pub mod columns; // the columns of the rows of sorts and symbols
+
 // A sort: start, length.
 pub type SortRow = [u32; 2];
 
@@ -19,6 +21,14 @@ pub type TermRow = [u32; 4];
 
 // A variable: kind, start, length, sort.
 pub type VariableRow = [u32; 4];
+
+// A declaration or a term as it is written: the text, the rows, and the row at which it begins.
+#[derive(Clone, Copy)]
+pub struct Source<'a> {
+    pub text: &'a [u8],
+    pub rows: &'a [TermRow],
+    pub at: usize,
+}
 
 // Source terms: the text, the rows in which they stand, and the symbols that they may name.
 #[derive(Clone, Copy)]
