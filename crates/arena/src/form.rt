@@ -1,6 +1,6 @@
 // The tests on one word.
 ghost use Rattle.std.specs.Prelude.{◌≡◌, ◌+◌, ◌*◌, ◌≤◌, ◌<◌, length};
-ghost use Rattle.arena.specs.Cells.{headers, symbol_of as symbolIn};
+ghost use Rattle.arena.specs.Cells.{headers, symbol_of as symbolIn, arity_of as arityIn};
 ghost use Rattle.arena.specs.Form.{is_header, is_argument};
 
 use super::Terms;
@@ -11,6 +11,13 @@ pub fn symbol_of(header: u32) -> usize
     ensures { result ≡ symbolIn header }
 {
     (header.saturating_sub(HEADERS) / SYMBOL_STEP) as usize
+}
+
+// How many arguments the node of a header has.
+pub fn arity_of(header: u32) -> u32
+    ensures { result ≡ arityIn header }
+{
+    header % SYMBOL_STEP
 }
 
 // The header of a symbol with so many arguments.
@@ -31,8 +38,9 @@ pub fn is_header(arities: &[u32], word: u32) -> bool
     }
     let symbol = symbol_of(word);
     if symbol < arities.len() {
-        if word % SYMBOL_STEP == arities[symbol] {
-            return word % SYMBOL_STEP <= INPUTS;
+        let arity = arity_of(word);
+        if arity == arities[symbol] {
+            return arity <= INPUTS;
         }
     }
     false

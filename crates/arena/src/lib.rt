@@ -17,7 +17,7 @@ ghost use Rattle.arena.specs.Form.{in_form};
 ghost use Rattle.arena.specs.Equality.{Ready, Compared};
 
 pub use copies::moved_word;
-pub use form::{header_of, is_argument, is_header, symbol_of};
+pub use form::{arity_of, header_of, is_argument, is_header, symbol_of};
 pub use format::{HEADERS, INPUTS, PATTERN_ROOM, SYMBOL_STEP, TERM_ROOM};
 use links::{link, past, settle};
 
@@ -33,12 +33,20 @@ pub struct Terms<'a> {
 }
 
 impl Terms<'_> {
+    // The header of the node r.
+    pub fn header(self, r: u32) -> u32
+        requires { (self.room ≤ r) × (r - self.room < length self.words.now) }
+        ensures { result ≡ cells self.entry.words.now (r - self.entry.room) }
+    {
+        self.words[(r - self.room) as usize]
+    }
+
     // The number of arguments of the node r.
     pub fn arity(self, r: u32) -> u32
         requires { (self.room ≤ r) × (r - self.room < length self.words.now) }
         ensures { result ≡ arity_of (cells self.entry.words.now (r - self.entry.room)) }
     {
-        self.words[(r - self.room) as usize] % SYMBOL_STEP
+        form::arity_of(self.header(r))
     }
 
     // Argument i of the node r.
@@ -105,7 +113,7 @@ pub fn check_words(terms: Terms, from: u32, arities: &[u32]) -> bool
                 return false;
             }
             node = at;
-            left = word % SYMBOL_STEP;
+            left = form::arity_of(word);
             continue;
         }
         let before = Terms {

@@ -4,7 +4,7 @@ ghost use Rattle.arena.specs.Cells.{headers, cells};
 ghost use Rattle.arena.specs.Links.{Linkable, Arguments, Comparable, Joined, Settled};
 
 use super::Terms;
-use super::format::SYMBOL_STEP;
+use super::form::arity_of;
 
 // Whether what was linked so far can be the same, and an address below which there are no links.
 // Stays: `low` is read where `same` is false too, since the links that are left have to be cleared.
@@ -97,7 +97,7 @@ pub fn settle(terms: Terms, links: &mut [u32], at: u32, linked: Linked) -> Linke
         let other = next - terms.room;
         let header = terms.words[i];
         if header == terms.words[other as usize] {
-            return link_arguments(terms, links, at, other, header % SYMBOL_STEP, low);
+            return link_arguments(terms, links, at, other, arity_of(header), low);
         }
     }
     Linked { same: false, low }

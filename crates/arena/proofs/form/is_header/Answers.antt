@@ -6,16 +6,15 @@ use Rattle.arena.proofs.form.is_header.Goals as goal
 pub returns-then-word-lt-HEADERS : goal.returns-then-word-lt-HEADERS
 returns-then-word-lt-HEADERS c = sym (header_low c.args.arities.now c.args.word c.if-word-lt-HEADERS.true)
 
-pub returns-then-word-arities : goal.returns-then-word-arities
-returns-then-word-arities c =
-    header_own c.args.arities.now c.args.word c.if-word-lt-HEADERS.false (rw (← c.symbol_of-symbol.ensures) c.if-symbol-arities.true)
-    (rw (← c.symbol_of-symbol.ensures) c.if-word-arities.true)
+pub returns-then-arity-arities : goal.returns-then-arity-arities
+returns-then-arity-arities c =
+    rw (c.arity_of-arity.ensures) (header_own c.args.arities.now c.args.word c.if-word-lt-HEADERS.false (rw (← c.symbol_of-symbol.ensures) c.if-symbol-arities.true)
+    (rw (← c.symbol_of-symbol.ensures, ← c.arity_of-arity.ensures) c.if-arity-arities.true))
 
-pub returns-else-word-arities : goal.returns-else-word-arities
-returns-else-word-arities c =
+pub returns-else-arity-arities : goal.returns-else-arity-arities
+returns-else-arity-arities c =
     sym (header_other c.args.arities.now c.args.word c.if-word-lt-HEADERS.false (rw (← c.symbol_of-symbol.ensures) c.if-symbol-arities.true)
-    (rw (← c.symbol_of-symbol.ensures) c.if-word-arities.false))
+    (rw (← c.symbol_of-symbol.ensures, ← c.arity_of-arity.ensures) c.if-arity-arities.false))
 
 pub returns-else-symbol-arities : goal.returns-else-symbol-arities
-returns-else-symbol-arities c =
-    sym (header_unknown c.args.arities.now c.args.word c.if-word-lt-HEADERS.false (rw (← c.symbol_of-symbol.ensures) c.if-symbol-arities.false))
+returns-else-symbol-arities c = sym (header_unknown c.args.arities.now c.args.word c.if-word-lt-HEADERS.false (rw (← c.symbol_of-symbol.ensures) c.if-symbol-arities.false))

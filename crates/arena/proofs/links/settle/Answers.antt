@@ -22,7 +22,7 @@ link_arguments-requires c =
     let args = c.args in
     let pre = c.requires in
     let if3 = c.if-header-terms in
-    arguments_linkable args.terms.room args.terms.words.now args.links.now args.terms.variables args.terms.used args.at pre.fact_1 pre.fact_2 _ _ (one_more c.in-Some.ensures) refl if3.true
+    rw (c.arity_of.ensures) (arguments_linkable args.terms.room args.terms.words.now args.links.now args.terms.variables args.terms.used args.at pre.fact_1 pre.fact_2 _ _ (one_more c.in-Some.ensures) refl if3.true)
 
 pub returns-then-header-terms : goal.returns-then-header-terms
 returns-then-header-terms c =
@@ -31,7 +31,7 @@ returns-then-header-terms c =
     let if3 = c.if-header-terms in
     let link-arguments = c.link_arguments in
     let if2 = c.if-linked in
-    settle_linked args.terms.room args.terms.words.now args.links.now args.terms.variables args.terms.used args.at pre.fact_1 pre.fact_2 _ _ (one_more c.in-Some.ensures) refl if3.true _ args.linked.low _ _ link-arguments.ensures args.linked.same if2.true
+    settle_linked args.terms.room args.terms.words.now args.links.now args.terms.variables args.terms.used args.at pre.fact_1 pre.fact_2 _ _ (one_more c.in-Some.ensures) refl if3.true _ args.linked.low _ _ (rw (← c.arity_of.ensures) link-arguments.ensures) args.linked.same if2.true
 
 pub returns-else-header-terms : goal.returns-else-header-terms
 returns-else-header-terms c =
