@@ -1,6 +1,6 @@
 -- `settle` meets its contract: each way out is one law.
 use mathlib.Core.Path.{refl}
-use Rattle.arena.proofs.Settling.{settle_no, settle_clash, settle_linked, lower, room_for, arguments_linkable}
+use Rattle.arena.proofs.Settling.{settle_no, settle_clash, settle_linked, lower, room_for, first_in, second_in, arguments_linkable}
 use Rattle.arena.specs.Rows.{one_more}
 use native.Mathlib.Omega.{arith}
 use Rattle.arena.proofs.links.settle.Goals as goal
@@ -16,6 +16,18 @@ bounds-terms-other c =
     let args = c.args in
     let pre = c.requires in
     omega (arith, lower args.terms.room args.terms.words.now args.links.now args.terms.variables args.terms.used args.at pre.fact_1 pre.fact_2 _ _ (one_more c.in-Some.ensures) refl, pre.fact_1.words_in_lem, pre.fact_2)
+
+pub slice_bounds-left-end : goal.slice_bounds-left-end
+slice_bounds-left-end c =
+    let args = c.args in
+    let pre = c.requires in
+    omega (arith, first_in args.terms.room args.terms.words.now args.links.now args.terms.variables args.terms.used args.at pre.fact_1 pre.fact_2 _ _ (one_more c.in-Some.ensures) refl c.if-header-terms.true)
+
+pub slice_bounds-right-end : goal.slice_bounds-right-end
+slice_bounds-right-end c =
+    let args = c.args in
+    let pre = c.requires in
+    omega (arith, second_in args.terms.room args.terms.words.now args.links.now args.terms.variables args.terms.used args.at pre.fact_1 pre.fact_2 _ _ (one_more c.in-Some.ensures) refl c.if-header-terms.true)
 
 pub link_arguments-requires : goal.link_arguments-requires
 link_arguments-requires c =
