@@ -7,7 +7,7 @@ use mathlib.Core.Path.{◌≡◌, refl, sym, ap, ◌∙◌, subst}
 use mathlib.Core.Bool.{Bool, true, false}
 use mathlib.Core.Logic.{◌≢◌}
 use mathlib.Core.List.{List}
-use lib.ListN.{length, get_or, set, length-set}
+use lib.ListN.{length, set, length-set}
 use lib.Seq.{get_or-set_same, get_or-set_other}
 use borrow.Author.Count.{below_more}
 use Rattle.terms.specs.Numbers.{by_less, by_same, true_false}
@@ -206,33 +206,41 @@ module _ (room : ℕ) (L₀ : List ℕ) (x y : ℕ → ℕ) where
     no = λ a g s u b. h.no a g s u (λ i k. b i (omega arith));
   }
 
--- The arguments of two nodes, one pair after another.
-module _ (room : ℕ) (w L₀ : List ℕ) (a b count low : ℕ) where
-  abbrev pub Pairs : List ℕ → ℕ → ℕ → Bool → Type 0
-  Pairs L n low' r = Joined room L₀ L n (λ i. cells w (a + suc i)) (λ i. cells w (b + suc i)) low low' r
+  -- Pairs of the same references are linked alike.
+  pub joined_same : (x' y' : ℕ → ℕ) (L : List ℕ) (n low low' : ℕ) (r : Bool) → ((i : ℕ) → i < n → x i ≡ x' i) → ((i : ℕ) → i < n → y i ≡ y' i)
+      → Joined room L₀ L n x y low low' r → Joined room L₀ L n x' y' low low' r
+  joined_same x' y' L n low low' r p q h = record {
+    long = h.long;
+    form = h.form;
+    above = λ t b. h.above t (λ i k. rw (p i k, q i k) (b i k));
+    floor = h.floor;
+    good = λ test e b. h.good test e (λ i k. rw (p i k, q i k) (b i k));
+    back = λ a g u. let v = h.back a g u in (v.0, λ i k. rw (p i k, q i k) at (v.1 i k));
+    forth = λ a g u b. h.forth a g u (λ i k. rw (p i k, q i k) (b i k));
+    no = λ a g s u b. h.no a g s u (λ i k. rw (p i k, q i k) (b i k));
+  }
 
-  pub pair_linkable : (L : List ℕ) (i low' : ℕ) (r : Bool) → Arguments room w L₀ a b count → Pairs L i low' r → i < count
-      → Linkable room L (get_or w (a + 1 + i) 0) (get_or w (b + 1 + i) 0)
+-- The arguments of two nodes, one pair after another.
+module _ (room : ℕ) (left right L₀ : List ℕ) (low : ℕ) where
+  abbrev pub Pairs : List ℕ → ℕ → ℕ → Bool → Type 0
+  Pairs L n low' r = Joined room L₀ L n (cells left) (cells right) low low' r
+
+  pub pair_linkable : (L : List ℕ) (i low' : ℕ) (r : Bool) → Arguments room left right L₀ → Pairs L i low' r → i < length left
+      → Linkable room L (cells left i) (cells right i)
   pair_linkable L i low' r k h l =
-      let e : a + 1 + i ≡ a + suc i = omega arith in
-      let d : b + 1 + i ≡ b + suc i = omega arith in
       let n = h.long in
       let p = k.lefts i l in
       let q = k.rights i l in
-      record { form = h.form; left = rw e (omega arith); right = rw d (omega arith) }
+      record { form = h.form; left = omega arith; right = omega arith }
 
-  module _ (L L' : List ℕ) (i low₁ low₂ : ℕ) (r : Bool) (h : Pairs L i low₁ true)
-      (k : Joined room L L' 1 (λ _. get_or w (a + 1 + i) 0) (λ _. get_or w (b + 1 + i) 0) low₁ low₂ r) where
+  module _ (L L' : List ℕ) (i low₁ low₂ : ℕ) (r : Bool) (h : Pairs L i low₁ true) (k : Joined room L L' 1 (λ _. cells left i) (λ _. cells right i) low₁ low₂ r) where
     pair_next : Pairs L' (i + 1) low₂ r
-    pair_next =
-        let e : a + 1 + i ≡ a + suc i = omega arith in
-        let d : b + 1 + i ≡ b + suc i = omega arith in
-        joined_more room L₀ (λ i. cells w (a + suc i)) (λ i. cells w (b + suc i)) L L' i low low₁ low₂ r h (rw (e, d) at k)
+    pair_next = joined_more room L₀ (cells left) (cells right) L L' i low low₁ low₂ r h k
 
     pub pair_linked : r ≡ true → Pairs L' (i + 1) low₂ true
     pair_linked e = subst (λ r. Pairs L' (i + 1) low₂ r) e pair_next
 
-    pub pair_stop : i < count → r ≡ false → Pairs L' count low₂ r
+    pub pair_stop : i < length left → r ≡ false → Pairs L' (length left) low₂ r
     pair_stop l e =
-        subst (λ r. Pairs L' count low₂ r) (sym e)
-        (joined_stop room L₀ (λ i. cells w (a + suc i)) (λ i. cells w (b + suc i)) L' (i + 1) count low low₂ (omega arith) (subst (λ r. Pairs L' (i + 1) low₂ r) e pair_next))
+        subst (λ r. Pairs L' (length left) low₂ r) (sym e)
+        (joined_stop room L₀ (cells left) (cells right) L' (i + 1) (length left) low low₂ (omega arith) (subst (λ r. Pairs L' (i + 1) low₂ r) e pair_next))

@@ -1,13 +1,13 @@
 -- Taking up a link, and the pass over all: ways out and the loop's invariant.
 use Prim.Native.Nat.{ℕ, suc, ◌+◌, ◌-◌, ◌≤◌, ◌<◌}
 use native.Mathlib.Omega.{arith}
-use mathlib.Core.Path.{◌≡◌, refl, sym, ◌∙◌}
+use mathlib.Core.Path.{◌≡◌, refl, sym, ap, ◌∙◌}
 use mathlib.Core.Bool.{Bool, true, false}
 use mathlib.Core.Logic.{◌⊎◌, inl, inr, ⊎_elim}
 use mathlib.Core.List.{List}
 use Rattle.std.proofs.Common.{max}
-use lib.ListN.{length, set, length-set}
-use lib.Seq.{ext_get_or}
+use lib.ListN.{length, set, take, drop, length-set, length-drop}
+use lib.Seq.{ext_get_or, get_or-take, get_or-drop, length-take-le}
 use Rattle.terms.specs.Numbers.{by_same, by_bool, true_false}
 use Rattle.arena.specs.Cells.{headers, cells, arity_of, denote, Reference, low_or_high, reference_up}
 use Rattle.arena.specs.Form.{is_argument}
@@ -15,7 +15,7 @@ use Rattle.arena.specs.FormLaws.{argument_reference, reference_accepted}
 use Rattle.arena.specs.Links.{Descending, Agrees, Each, Joined, Linkable, Arguments, Comparable, Settled}
 use Rattle.arena.specs.Equality.{Ready, Compared}
 use Rattle.arena.specs.EqualityLaws.{alike_same, alike_not, variable_apart, nodes_equal, equal_headers, equal_arguments}
-use Rattle.arena.proofs.Linking.{set_other, set_here, ordered}
+use Rattle.arena.proofs.Linking.{set_other, set_here, ordered, joined_same}
 
 -- A reference in form, as a test.
 abbrev test : ℕ → List ℕ → ℕ → ℕ → ℕ → Bool
@@ -26,6 +26,22 @@ reference_test room w nv used r h = reference_accepted (record { words = w; room
 
 test_reference : (room : ℕ) (w : List ℕ) (nv used r : ℕ) → test room w nv used r ≡ true → Reference room (cells w) nv used r
 test_reference room w nv used r e = argument_reference (record { words = w; room = room; variables = nv; from = 0 }) used r e
+
+-- The n words behind the address a, where a node has its arguments.
+abbrev pub part : List ℕ → ℕ → ℕ → List ℕ
+part w a n = take (a + 1 + n - (a + 1)) (drop (a + 1) w)
+
+part_long : (w : List ℕ) (a n : ℕ) → a + n < length w → length (part w a n) ≡ n
+part_long w a n l =
+    let e : a + 1 + n - (a + 1) ≡ n = omega arith in
+    let d = length-drop (a + 1) w in
+    rw e (length-take-le n (drop (a + 1) w) (omega arith))
+
+part_cell : (w : List ℕ) (a n i : ℕ) → i < n → cells (part w a n) i ≡ cells w (a + suc i)
+part_cell w a n i l =
+    let e : a + 1 + n - (a + 1) ≡ n = omega arith in
+    let d : a + 1 + i ≡ a + suc i = omega arith in
+    rw e (get_or-take n (drop (a + 1) w) i 0 l) ∙ get_or-drop (a + 1) w i 0 ∙ ap (cells w) d
 
 module _ (room : ℕ) (w L : List ℕ) (nv used at : ℕ) (h : Comparable room w L nv used) (in_use : at < used) where
   -- There is no link.
@@ -121,25 +137,46 @@ module _ (room : ℕ) (w L : List ℕ) (nv used at : ℕ) (h : Comparable room w
       under : (x c : ℕ) → Reference room (cells w) nv c x → x < room + c ⊎ x < room
       under x c r = ⊎_elim inr (λ l. inl (r.node l)) (low_or_high room x room)
 
-      pub arguments_linkable : Arguments room w (set L at 0) at b (arity_of (cells w at))
-      arguments_linkable =
-          let p = h.formed.fits at in_use header_first in
+      -- The words of both nodes' arguments.
+      abbrev firsts : List ℕ
+      firsts = part w at (arity_of (cells w at))
+
+      abbrev seconds : List ℕ
+      seconds = part w b (arity_of (cells w at))
+
+      pub first_in : at + arity_of (cells w at) < length w
+      first_in = let p = h.formed.fits at in_use header_first in let k = h.words_in_lem in omega arith
+
+      pub second_in : b + arity_of (cells w at) < length w
+      second_in =
           let s = lower in
           let q : b + arity_of (cells w b) < used = h.formed.fits b (omega arith) header_second in
           let q' : b + arity_of (cells w at) < used = rw e q in
           let k = h.words_in_lem in
+          omega arith
+
+      pub arguments_linkable : Arguments room firsts seconds (set L at 0)
+      arguments_linkable =
+          let s = lower in
           let c = h.scratch in
           let m = length-set L at 0 in
+          let n = part_long w at (arity_of (cells w at)) first_in in
           record {
             form = gone_form;
-            left = omega arith;
-            right = omega arith;
-            lefts = λ i l. ⊎_elim (λ v. omega arith) (λ v. omega arith) (under (cells w (at + suc i)) at (argument_first i l));
-            rights = λ i l. ⊎_elim (λ v. omega arith) (λ v. omega arith) (under (cells w (b + suc i)) b (argument_second i l));
+            like = n ∙ sym (part_long w b (arity_of (cells w at)) second_in);
+            lefts = λ i l. let k : i < arity_of (cells w at) = omega arith in
+                rw (part_cell w at (arity_of (cells w at)) i k) (⊎_elim (λ v. omega arith) (λ v. omega arith) (under (cells w (at + suc i)) at (argument_first i k)));
+            rights = λ i l. let k : i < arity_of (cells w at) = omega arith in
+                rw (part_cell w b (arity_of (cells w at)) i k) (⊎_elim (λ v. omega arith) (λ v. omega arith) (under (cells w (b + suc i)) b (argument_second i k)));
           }
 
-      module _ (L' : List ℕ) (low low' : ℕ) (r : Bool)
-          (j : Joined room (set L at 0) L' (arity_of (cells w at)) (λ i. cells w (at + suc i)) (λ i. cells w (b + suc i)) low low' r) where
+      module _ (L' : List ℕ) (low low' : ℕ) (r : Bool) (parts : Joined room (set L at 0) L' (length firsts) (cells firsts) (cells seconds) low low' r) where
+        j : Joined room (set L at 0) L' (arity_of (cells w at)) (λ i. cells w (at + suc i)) (λ i. cells w (b + suc i)) low low' r
+        j = joined_same room (set L at 0) (cells firsts) (cells seconds) (λ i. cells w (at + suc i)) (λ i. cells w (b + suc i)) L' (arity_of (cells w at)) low low' r
+            (λ i k. part_cell w at (arity_of (cells w at)) i k)
+            (λ i k. part_cell w b (arity_of (cells w at)) i k)
+            (rw (part_long w at (arity_of (cells w at)) first_in) at parts)
+
         joined_above : (i : ℕ) → at ≤ i → cells L' i ≡ cells (set L at 0) i
         joined_above i l = j.above (room + at)
             (λ i m. let s = lower in (

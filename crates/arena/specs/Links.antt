@@ -46,15 +46,14 @@ pub record Linkable (room : ℕ) (L : List ℕ) (a b : ℕ) : Type 0 where
   pub left : a < room + length L
   pub right : b < room + length L
 
--- What linking the arguments of the nodes at the addresses a and b asks.
-pub record Arguments (room : ℕ) (w L : List ℕ) (a b count : ℕ) : Type 0 where
+-- What linking the arguments of two nodes, each with its like, asks.
+pub record Arguments (room : ℕ) (left right L : List ℕ) : Type 0 where
   pub form : Descending room (cells L)
-  -- both nodes lie in the words
-  pub left : a + count < length w
-  pub right : b + count < length w
+  -- they are as many
+  pub like : length left ≡ length right
   -- and there is a link for each argument that is a node
-  pub lefts : (i : ℕ) → i < count → cells w (a + suc i) < room + length L
-  pub rights : (i : ℕ) → i < count → cells w (b + suc i) < room + length L
+  pub lefts : (i : ℕ) → i < length left → cells left i < room + length L
+  pub rights : (i : ℕ) → i < length left → cells right i < room + length L
 
 -- Words that are compared: well formed, all references below the headers, and a link for each.
 pub record Comparable (room : ℕ) (w L : List ℕ) (nv used : ℕ) : Type 0 where

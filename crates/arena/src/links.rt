@@ -1,5 +1,5 @@
 // Links between nodes that have to denote the same term.
-ghost use Rattle.std.specs.Prelude.{◌≡◌, suc, ◌+◌, ◌-◌, ◌<◌};
+ghost use Rattle.std.specs.Prelude.{◌≡◌, suc, ◌-◌, ◌<◌, length};
 ghost use Rattle.arena.specs.Cells.{headers, cells};
 ghost use Rattle.arena.specs.Links.{Linkable, Arguments, Comparable, Joined, Settled};
 
@@ -44,31 +44,15 @@ pub fn link(links: &mut [u32], room: u32, a: u32, b: u32, low: u32) -> Linked
     Linked { same: true, low }
 }
 
-// Links the first `count` arguments of the nodes at the addresses a and b, each with its like.
-pub fn link_arguments(
-    terms: Terms,
-    links: &mut [u32],
-    a: u32,
-    b: u32,
-    count: u32,
-    low: u32,
-) -> Linked
-    // Both nodes are in form.
-    requires { Arguments terms.room terms.words.now links.old a b count }
-    ensures { Joined terms.entry.room links.old links.new count (λ i. cells terms.entry.words.now (a + suc i)) (λ i. cells terms.entry.words.now (b + suc i)) low result.low result.same }
+// Links the arguments of two nodes, each with its like.
+pub fn link_arguments(links: &mut [u32], room: u32, left: &[u32], right: &[u32], low: u32) -> Linked
+    // The nodes have as many arguments, and there is a link for each.
+    requires { Arguments room left.now right.now links.old }
+    ensures { Joined room links.old links.new (length left.now) (cells left.now) (cells right.now) low result.low result.same }
 {
-    let left = a as usize + 1;
-    let right = b as usize + 1;
-    let end = count as usize;
     let mut floor = low;
-    for i in 0..end {
-        let step = link(
-            links,
-            terms.room,
-            terms.words[left + i],
-            terms.words[right + i],
-            floor,
-        );
+    for (a, b) in left.iter().zip(right) {
+        let step = link(links, room, *a, *b, floor);
         if !step.same {
             return step;
         }
@@ -94,10 +78,13 @@ pub fn settle(terms: Terms, links: &mut [u32], at: u32, linked: Linked) -> Linke
     links[i] = 0;
     let low = linked.low;
     if linked.same {
-        let other = next - terms.room;
+        let other = (next - terms.room) as usize;
         let header = terms.words[i];
-        if header == terms.words[other as usize] {
-            return link_arguments(terms, links, at, other, arity_of(header), low);
+        if header == terms.words[other] {
+            let count = arity_of(header) as usize;
+            let left = &terms.words[i + 1..i + 1 + count];
+            let right = &terms.words[other + 1..other + 1 + count];
+            return link_arguments(links, terms.room, left, right, low);
         }
     }
     Linked { same: false, low }

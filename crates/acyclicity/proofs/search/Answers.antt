@@ -95,9 +95,6 @@ loop-ahead-preserved c =
     turn_follow c.loop-ahead.invariant (ap number c.in_default.is) _ (ap number c.in-Some-top.is) _
     (sym (ap number c.in-Some-edge_at.is) ∙ c.edge_at.ensures) (λ z. omega arith)
 
-pub loop-variable-preserved : goal.loop-variable-preserved
-loop-variable-preserved c = rw (ap number c.in_default.is, ap number c.in_default-top.is) at c.loop-ahead.invariant
-
 pub returns : goal.returns
 returns c =
     let loop = c.loop-variable in

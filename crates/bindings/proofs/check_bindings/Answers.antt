@@ -1,26 +1,12 @@
 -- `check_bindings` meets its contract: its parts hold together exactly where the rows are in form.
-use mathlib.Core.Path.{refl, sym, subst}
-use Rattle.bindings.specs.Promises.{Free}
-use Rattle.bindings.specs.Checking.{checked_no, checked_last, trailed_stored, tells_false, form_trailed, form_few}
+use mathlib.Core.Path.{refl}
+use Rattle.bindings.specs.Checking.{checked_no, checked_last, tells_false, form_trailed, form_few}
 use native.Mathlib.Omega.{arith}
 use borrow.Author.Rules.{rules}
 use Rattle.bindings.proofs.check_bindings.Goals as goal
 
 pub returns-then-terms-bindings : goal.returns-then-terms-bindings
 returns-then-terms-bindings c = checked_no (λ f. let l = form_few f in omega arith) _ refl
-
-pub is_acyclic-requires : goal.is_acyclic-requires
-is_acyclic-requires c =
-    let pre = c.requires in
-    let check-trail = c.check_trail in
-    let if3 = c.if-check_trail in
-    let args = c.args in
-    let free = subst (Free args.terms.room args.terms.used) (sym check-trail.ensures.marks) pre.fact_3 in
-    record {
-      stored = trailed_stored pre.fact_1 pre.fact_2 (search rules) (check-trail.ensures.tells.yes if3.true);
-      long = free.lent;
-      zeros = free.empty;
-    }
 
 pub returns-then-check_rest : goal.returns-then-check_rest
 returns-then-check_rest c =

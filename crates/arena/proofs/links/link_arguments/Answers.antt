@@ -1,39 +1,37 @@
--- `link_arguments` meets its contract. The loop's invariant: the first i pairs are linked, and there are no links below `floor`.
-use mathlib.Core.Path.{◌≡◌}
-use mathlib.Core.Bool.{true}
-use mathlib.Core.Path.{subst}
-use borrow.Author.Tests.{not-true, not-false}
-use Rattle.arena.proofs.Linking.{Pairs, pair_linkable, pair_linked, pair_stop}
-use borrow.Author.Rules.{rules}
+-- `link_arguments` meets its contract. The loop's invariant: the pairs passed are linked, and there are no links below `floor`.
 use native.Mathlib.Omega.{arith}
+use mathlib.Core.Path.{◌≡◌, subst}
+use mathlib.Core.Bool.{true}
+use lib.ListN.{length, length-append}
+use borrow.Author.Tests.{not-true, not-false}
+use Rattle.std.proofs.lemmas.Slice.Zip.{zip_turn, zip_end}
+use Rattle.arena.proofs.Linking.{Pairs, pair_linkable, pair_linked, pair_stop}
 use Rattle.arena.proofs.links.link_arguments.Goals as goal
 
 pub link-step-requires : goal.link-step-requires
 link-step-requires c =
-    let args = c.args in
-    let loop = c.loop-i in
-    let pre = c.requires in
-    pair_linkable args.terms.room args.terms.words.now args.links.now args.a args.b args.count args.low loop.links loop.i loop.floor true pre loop.invariant (search rules)
+    let loop = c.loop-a in
+    let z = zip_turn c.args.left.now c.args.right.now loop.yielded c.into_iter-a-iterator.result loop.a-iterator c.next.new.self c.next.result (cc) (cc) loop.yielded_by _ c.in-Some.is c.next.ensures.steps in
+    rw (z.2 0, z.3 0) (pair_linkable c.args.room c.args.left.now c.args.right.now c.args.links.now c.args.low _ _ _ true c.requires loop.invariant z.0)
 
 pub returns-then-not-step : goal.returns-then-not-step
 returns-then-not-step c =
-    let args = c.args in
-    let loop = c.loop-i in
-    let link = c.link-step in
-    let if1 = c.if-not-step in
-    pair_stop args.terms.room args.terms.words.now args.links.now args.a args.b args.count args.low loop.links _ loop.i loop.floor _ _ loop.invariant link.ensures (search rules) (not-true _ if1.true)
+    let loop = c.loop-a in
+    let z = zip_turn c.args.left.now c.args.right.now loop.yielded c.into_iter-a-iterator.result loop.a-iterator c.next.new.self c.next.result (cc) (cc) loop.yielded_by _ c.in-Some.is c.next.ensures.steps in
+    let j = rw (z.2 0, z.3 0) at c.link-step.ensures in
+    pair_stop c.args.room c.args.left.now c.args.right.now c.args.links.now c.args.low loop.links _ (length loop.yielded) loop.floor _ _ loop.invariant j z.0 (not-true _ c.if-not-step.true)
 
-pub loop-i-preserved : goal.loop-i-preserved
-loop-i-preserved c =
-    let args = c.args in
-    let loop = c.loop-i in
-    let link = c.link-step in
-    let if1 = c.if-not-step in
-    (pair_linked args.terms.room args.terms.words.now args.links.now args.a args.b args.count args.low loop.links _ loop.i loop.floor _ _ loop.invariant link.ensures (not-false _ if1.false))
+pub loop-a-preserved : goal.loop-a-preserved
+loop-a-preserved c =
+    let loop = c.loop-a in
+    let z = zip_turn c.args.left.now c.args.right.now loop.yielded c.into_iter-a-iterator.result loop.a-iterator c.next.new.self c.next.result (cc) (cc) loop.yielded_by _ c.in-Some.is c.next.ensures.steps in
+    let j = rw (z.2 0, z.3 0) at c.link-step.ensures in
+    rw (length-append loop.yielded _)
+    (pair_linked c.args.room c.args.left.now c.args.right.now c.args.links.now c.args.low loop.links _ (length loop.yielded) loop.floor _ _ loop.invariant j (not-false _ c.if-not-step.false))
 
 pub returns : goal.returns
 returns c =
-    let args = c.args in
-    let loop = c.loop-i in
-    subst (λ n. Pairs args.terms.room args.terms.words.now args.links.now args.a args.b args.count args.low loop.links n loop.floor true) (let e : loop.i ≡ args.count = omega arith in
-    e) loop.invariant
+    let loop = c.loop-a in
+    let z = zip_end c.args.left.now c.args.right.now loop.yielded c.into_iter-a-iterator.result loop.a-iterator c.next.new.self c.next.result (cc) (cc) loop.yielded_by c.in-None.is c.next.ensures.steps in
+    let all : length loop.yielded ≡ length c.args.left.now = omega (arith, z, c.requires.like) in
+    subst (λ n. Pairs c.args.room c.args.left.now c.args.right.now c.args.links.now c.args.low loop.links n loop.floor true) all loop.invariant

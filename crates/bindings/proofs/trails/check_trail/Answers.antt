@@ -4,12 +4,6 @@ use Rattle.bindings.specs.Checking.{tells_no, entered_undoable, entered_undone, 
 use native.Mathlib.Omega.{arith}
 use Rattle.bindings.proofs.trails.check_trail.Goals as goal
 
-pub undo-requires : goal.undo-requires
-undo-requires c =
-    let few = c.requires.fact_1 in
-    let lent = c.requires.fact_2.lent in
-    entered_undoable (rw c.in-Err.is at c.enter_trail.ensures.told) (omega arith)
-
 pub undo-requires-in-Ok : goal.undo-requires-in-Ok
 undo-requires-in-Ok c =
     let few = c.requires.fact_1 in

@@ -13,14 +13,6 @@ enter-requires c =
     let a = pre.fact_2.1 in
     (omega arith, omega arith)
 
-pub overflow_add-result : goal.overflow_add-result
-overflow_add-result c =
-    let pre = c.requires in
-    let args = c.args in
-    let if1 = c.if-marks-i-eq0 in
-    let room = entries_room pre.fact_1 args.y pre.fact_2.0 if1.true in
-    omega arith
-
 pub returns-then-marks-i-eq0 : goal.returns-then-marks-i-eq0
 returns-then-marks-i-eq0 c =
     let args = c.args in

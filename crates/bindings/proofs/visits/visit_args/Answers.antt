@@ -6,15 +6,6 @@ use Rattle.arena.specs.Cells.{cells, arity_of}
 use Rattle.bindings.specs.Search.{args_more}
 use Rattle.bindings.proofs.visits.visit_args.Goals as goal
 
-pub visit-s-requires : goal.visit-s-requires
-visit-s-requires c =
-    let pre = c.requires in
-    record {
-      fact_1 = c.loop-i.invariant.entries;
-      fact_2 = (rw c.argument.ensures (pre.fact_3 c.loop-i.i (omega (arith, c.arity-i-end.ensures))), (let e = c.loop-i.invariant.long in omega (arith, e, pre.fact_2.2)));
-      fact_3 = pre.fact_4;
-    }
-
 pub loop-i-preserved : goal.loop-i-preserved
 loop-i-preserved c = args_more c.args.terms.words.now _ c.loop-i.i c.loop-i.invariant (rw c.argument.ensures at c.visit-s.ensures)
 
