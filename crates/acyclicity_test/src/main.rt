@@ -35,7 +35,7 @@ fn answer(terms: Terms, bindings: &[[u32; 2]], scratch: &mut [[u32; 2]]) -> Resu
 
 // Checks bindings, one for each variable, over words that are all in use, and writes the case's line.
 fn check(name: &[u8], words: &[u32], bindings: &[[u32; 2]])
-    // The counts are words.
+    // Each count is a word.
     requires { (length words.now < 4294967296) × (length bindings.now < 4294967296) }
 {
     let mut scratch = [[0u32; 2]; REFERENCES];

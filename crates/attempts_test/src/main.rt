@@ -119,6 +119,7 @@ fn report_attempt(
 }
 
 // Tries the rule.
+// Stays: tried scratch as a struct of the three buffers that a function makes and a method lends: made so it is moved, and the program ran out of stack.
 fn case(name: &[u8], most: u32, height: u32, spare: u32) {
     let mut words = [0u32; WORDS];
     let mut bindings = [[0u32; 2]; VARIABLES as usize];

@@ -4,8 +4,9 @@ ghost use Rattle.std.specs.Prelude.{◌<◌, length};
 use arena::{INPUTS, TERM_ROOM, Terms};
 use bindings::StoredBindings;
 use samples::build::{Built, Tower};
+use samples::rows::bind_chain;
 use samples::unification::{Counts, Fault, Remains};
-use samples::{build, report, rows, unification};
+use samples::{build, report, unification};
 use unifier::Workspace;
 
 // The variables in use in most cases.
@@ -100,6 +101,7 @@ fn report_unify(remains: Remains, counts: Counts, found: Result<Option<u32>, Fau
 }
 
 // Unifies the two references.
+// Stays: tried scratch as a struct of the three buffers that a function makes and a method lends: made so it is moved, and the program ran out of stack.
 pub fn unify(name: &[u8], towers: Towers) {
     let mut words = [0u32; WORDS];
     let mut bindings = [[0u32; 2]; VARIABLES as usize];
@@ -172,30 +174,31 @@ pub fn occurs(name: &[u8], towers: Towers) {
 pub const MANY: u32 = 50000;
 
 // Checks bindings, a row for each variable, over a node on variable 0, at the address 0.
-fn check(name: &[u8], rows: &[[u32; 2]], bound: u32)
-    requires { length rows.now < 4294967296 }
+fn check(name: &[u8], held: StoredBindings)
+    // The count of rows is a word.
+    requires { length held.rows.now < 4294967296 }
 {
     let words = [build::UNARY, 0];
     let mut marks = [[0u32; 2]; TERM_ROOM as usize + 2];
     let terms = Terms {
         words: &words,
         room: TERM_ROOM,
-        variables: rows.len() as u32,
+        variables: held.rows.len() as u32,
         used: 2,
     };
-    let found = unification::check(terms, StoredBindings { rows, bound }, &mut marks);
+    let found = unification::check(terms, held, &mut marks);
     report::text(name);
     report_answer(found, b": in form\n", b": not in form\n");
 }
 
 // Checks three rows.
 pub fn check_three(name: &[u8], rows: [[u32; 2]; 3], bound: u32) {
-    check(name, &rows, bound);
+    check(name, StoredBindings { rows: &rows, bound });
 }
 
 // Checks variables that are each bound to the next, and a last row.
 pub fn check_chain(name: &[u8], last: [u32; 2], bound: u32) {
-    let mut bindings = [[0u32; 2]; MANY as usize];
-    rows::bind_chain(&mut bindings, last);
-    check(name, &bindings, bound);
+    let mut rows = [[0u32; 2]; MANY as usize];
+    bind_chain(&mut rows, last);
+    check(name, StoredBindings { rows: &rows, bound });
 }

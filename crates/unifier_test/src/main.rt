@@ -40,9 +40,8 @@ fn tower(height: u32, leaf: u32) -> Tower {
 // A tower of nodes whose two arguments are the node below.
 fn shared_tower(height: u32, leaf: u32) -> Tower {
     Tower {
-        height,
-        leaf,
         arity: 2,
+        ..tower(height, leaf)
     }
 }
 
