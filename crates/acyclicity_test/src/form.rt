@@ -13,10 +13,7 @@ fn is_binding(terms: Terms, word: u32) -> bool
     let Some(reference) = word.checked_sub(1) else {
         return true;
     };
-    if terms.words.len() < terms.used as usize {
-        return false;
-    }
-    is_reference(terms, reference)
+    terms.used as usize <= terms.words.len() && is_reference(terms, reference)
 }
 
 // Whether the bindings of the variables in use are in form.

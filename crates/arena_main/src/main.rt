@@ -7,15 +7,13 @@ ghost use Rattle.std.specs.Prelude.{◌≤◌};
 ghost use Rattle.arena.specs.Form.{inputs};
 
 use arena::{PATTERN_ROOM, Terms};
-use samples::build::{BINARY, CONSTANT, OTHER, Tower, UNARY, put_tower};
-
-// The most words.
-const MOST: usize = 262144;
+use samples::build::{BINARY, CONSTANT, MOST, OTHER, Tower, UNARY, put_two};
+use samples::report;
 
 // Whether two references denote the same term; none where the words or one of both are not in form.
 fn compare(words: &[u32], links: &mut [u32], a: u32, b: u32) -> Option<bool> {
     let arities = [0u32, 1, 2];
-    if words.len() > MOST {
+    if words.len() > MOST as usize {
         return None;
     }
     if words.len() > links.len() {
@@ -44,20 +42,19 @@ fn compare(words: &[u32], links: &mut [u32], a: u32, b: u32) -> Option<bool> {
 fn towers(m: u32, n: u32, leaf: u32, arity: u32) -> Option<bool>
     requires { arity ≤ inputs }
 {
-    let mut words = [0u32; MOST];
-    let mut links = [0u32; MOST];
+    let mut words = [0u32; MOST as usize];
+    let mut links = [0u32; MOST as usize];
     let lower = Tower {
         height: m,
         leaf: 0,
         arity,
     };
-    let first = put_tower(&mut words, PATTERN_ROOM, 0, lower)?;
     let upper = Tower {
         height: n,
         leaf,
         arity,
     };
-    let second = put_tower(&mut words, PATTERN_ROOM, first.next, upper)?;
+    let [first, second] = put_two(&mut words, PATTERN_ROOM, 0, lower, upper)?;
     compare(
         words.get(..second.next as usize)?,
         &mut links,
@@ -119,5 +116,5 @@ fn main() {
         letter_of_words(changed(5, 0)),
         b'\n',
     ];
-    io::write_all(1, &letters);
+    report::text(&letters);
 }

@@ -7,7 +7,7 @@ use arena::{HEADERS, PATTERN_ROOM, TERM_ROOM, Terms};
 use attempts::{LentRule, SearchState, Stored, Tried};
 use bindings::StoredBindings;
 use refusals::Refusal;
-use samples::build::{BINARY, UNARY};
+use samples::build::{BINARY, MOST, UNARY};
 use samples::unification;
 use samples::unification::Fault;
 use unifier::Workspace;
@@ -120,16 +120,15 @@ pub fn attempt(
         stored: RULE,
     };
     let tried = attempts::try_rule(rule, words, bindings, &mut lent, state);
-    if !unification::is_clean(&lent) {
-        return Err(Fault::ScratchLeft);
-    }
-    Ok(tried)
+    unification::is_clean(&lent)
+        .then_some(tried)
+        .ok_or(Fault::ScratchLeft)
 }
 
 // What a premise's reference becomes by an attempt; none where no sum is sure to fit.
 pub fn premise(reference: u32, state: SearchState) -> Option<u32> {
     let [first, last] = PREMISES;
-    if reference < first || last < reference || 262144 < state.used {
+    if reference < first || last < reference || MOST < state.used {
         return None;
     }
     Some(arena::moved_word(

@@ -4,7 +4,7 @@
 use arena::TERM_ROOM;
 use attempts::{SearchLimits, SearchState, Tried};
 use refusals::Refusal;
-use samples::build::Tower;
+use samples::build::{MOST, Tower};
 use samples::unification::{Counts, Fault, Remains};
 use samples::{build, report, unification};
 use unifier::Workspace;
@@ -12,7 +12,7 @@ use unifier::Workspace;
 mod attempt; // one attempt
 
 // The limit on variables in most cases.
-const MOST: u32 = 64;
+const VARIABLES: u32 = 64;
 
 // The levels of the tower.
 const LEVELS: u32 = 100000;
@@ -20,7 +20,7 @@ const LEVELS: u32 = 100000;
 // More words than a case needs, and a row for each reference.
 const WORDS: usize = 200100;
 
-const REFERENCES: usize = 265636;
+const REFERENCES: usize = TERM_ROOM as usize + WORDS;
 
 // Two constants and a tower of 100,000 nodes, and variable 0 as the goal, bound to the tower's node of the height given; two variables are in use, and
 // the limit leaves room for `spare` words. None where the tower is lower than that, or the numbers are too large.
@@ -38,7 +38,7 @@ fn put_goal(
         arity: 1,
     };
     let used = build::put_tower(words, TERM_ROOM, 2, tower)?.next;
-    if LEVELS < height || 100 < spare || 262144 < used {
+    if LEVELS < height || 100 < spare || MOST < used {
         return None;
     }
     slices::put(bindings, 0, [TERM_ROOM + 2 * height + 1, 0]);
@@ -119,9 +119,10 @@ fn report_attempt(
 }
 
 // Tries the rule.
+// Stays: tried scratch as a struct of the three buffers that a function makes and a method lends: made so it is moved, and the program ran out of stack.
 fn case(name: &[u8], most: u32, height: u32, spare: u32) {
     let mut words = [0u32; WORDS];
-    let mut bindings = [[0u32; 2]; 64];
+    let mut bindings = [[0u32; 2]; VARIABLES as usize];
     let Some(state) = put_goal(&mut words, &mut bindings, most, height, spare) else {
         report::text(name);
         report::text(b": no goal\n");
@@ -154,19 +155,19 @@ fn case(name: &[u8], most: u32, height: u32, spare: u32) {
 
 // Attempts with a rule that takes 1 variable and 8 words for its conclusion, and 1 and 5 more for its premises; 2 variables are in use.
 fn main() {
-    case(b"a rule and a tower of 100,000", MOST, LEVELS, 13);
-    case(b"room for one word less", MOST, LEVELS, 12);
-    case(b"room for the conclusion", MOST, LEVELS, 8);
+    case(b"a rule and a tower of 100,000", VARIABLES, LEVELS, 13);
+    case(b"room for one word less", VARIABLES, LEVELS, 12);
+    case(b"room for the conclusion", VARIABLES, LEVELS, 8);
     case(
         b"room for one word less than the conclusion",
-        MOST,
+        VARIABLES,
         LEVELS,
         7,
     );
     case(b"room for 4 variables", 4, LEVELS, 13);
     case(b"room for 3 variables", 3, LEVELS, 13);
     case(b"room for 2 variables", 2, LEVELS, 13);
-    case(b"a rule and a tower of 4", MOST, 4, 13);
-    case(b"a rule and a tower of 3", MOST, 3, 13);
+    case(b"a rule and a tower of 4", VARIABLES, 4, 13);
+    case(b"a rule and a tower of 3", VARIABLES, 3, 13);
     case(b"room for the conclusion, and a tower of 3", 3, 3, 8);
 }

@@ -41,3 +41,8 @@ module _ {room arity height counter end : ℕ} {l whole : Level} (h : Rising roo
       go : (n : ℕ) → n + counter ≡ height → raised_by n room arity l ≡ whole → l ≡ whole
       go zero i r = r
       go (suc n) i r = absurd (omega arith)
+
+-- The address behind so many nodes more.
+pub next_behind : (n room arity : ℕ) (l : Level) → (raised_by n room arity l).next ≡ l.next + n * (1 + arity)
+next_behind zero room arity l = omega arith
+next_behind (suc n) room arity l = let h = next_behind n room arity (raised room arity l) in omega (arith, h)

@@ -1,5 +1,5 @@
 -- What the builders of words leave.
-use Rattle.std.specs.Prelude.{ℕ, zero, suc, ◌+◌, ◌*◌, ◌≤◌, ◌<◌, ◌≡◌, List, ◌∷◌, length, replicate, Option}
+use Rattle.std.specs.Prelude.{ℕ, zero, suc, ◌+◌, ◌*◌, ◌≤◌, ◌<◌, ◌≡◌, List, [], ◌∷◌, length, replicate, Option}
 use Rattle.std.specs.Option.{MatchOption}
 use Rattle.std.proofs.lemmas.List.Edits.{sets}
 use Rattle.arena.specs.Cells.{headers}
@@ -45,3 +45,24 @@ TowerPut words words' room at tower put =
     ((words' ≡ words) × (room ≤ most → at ≤ most → tower.height ≤ most → length words < at + tower.height * (1 + tower.arity)))
     (λ built. record { words = words'; next = built.next; root = built.root }
     ≡ raised_by tower.height room tower.arity (record { words = words; next = at; root = tower.leaf }))
+
+-- What a tower leaves, from an address on; and what another behind it does.
+abbrev pub built_on : List ℕ → ℕ → ℕ → Tower → Level
+built_on words room at tower = raised_by tower.height room tower.arity (record { words = words; next = at; root = tower.leaf })
+
+abbrev pub built_behind : ℕ → Level → Tower → Level
+built_behind room l tower = built_on l.words room l.next tower
+
+-- What is told of it.
+abbrev pub built : Level → Built
+built l = record { next = l.next; root = l.root }
+
+-- Two towers were put, or there was no room for both.
+abbrev pub TwoPut : List ℕ → List ℕ → ℕ → ℕ → Tower → Tower → Option (List Built) → Type 0
+TwoPut words words' room at lower upper put =
+    MatchOption put
+    (room ≤ most → lower.height ≤ most → upper.height ≤ most → at + lower.height * (1 + lower.arity) ≤ most
+    → length words < at + lower.height * (1 + lower.arity) + upper.height * (1 + upper.arity))
+    (λ both.
+    (words' ≡ (built_behind room (built_on words room at lower) upper).words)
+    × (both ≡ built (built_on words room at lower) ∷ built (built_behind room (built_on words room at lower) upper) ∷ []))

@@ -1,3 +1,4 @@
 -- What the contracts of `samples` cite.
 pub mod Building
 pub mod Scratch
+pub mod Chains

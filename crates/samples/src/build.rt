@@ -1,9 +1,9 @@
 // Words of terms: two constants, and towers of nodes on a leaf.
 ghost use Rattle.std.specs.Prelude.{◌≡◌, ◌≤◌, set, length};
 ghost use Rattle.arena.specs.Form.{inputs};
-ghost use Rattle.samples.specs.Building.{NodePut, TowerPut};
+ghost use Rattle.samples.specs.Building.{NodePut, TowerPut, TwoPut};
 
-use arena::{HEADERS, SYMBOL_STEP};
+use arena::{HEADERS, INPUTS, SYMBOL_STEP};
 
 // Headers: of two constants, and of symbols with one argument and with two.
 pub const CONSTANT: u32 = HEADERS;
@@ -15,7 +15,7 @@ pub const UNARY: u32 = HEADERS + SYMBOL_STEP + 1;
 pub const BINARY: u32 = HEADERS + 2 * SYMBOL_STEP + 2;
 
 // The most words, the greatest address and the most levels of a tower.
-const MOST: u32 = 262144;
+pub const MOST: u32 = 262144;
 
 // Writes the two constants, at the addresses 0 and 1.
 pub fn put_constants(words: &mut [u32])
@@ -33,12 +33,12 @@ pub fn put_node(words: &mut [u32], at: u32, arguments: &[u32]) -> Option<u32>
     if MOST < at {
         return None;
     }
-    let arity = arguments.len() as u32;
-    let next = at + 1 + arity;
+    let arity = arguments.len();
+    let next = at + 1 + arity as u32;
     if words.len() < next as usize {
         return None;
     }
-    let header = HEADERS + (SYMBOL_STEP + 1) * arity;
+    let header = arena::header_of(arity, arity);
     arena::push_node(words, at, header, arguments);
     Some(next)
 }
@@ -74,14 +74,30 @@ pub fn put_tower(words: &mut [u32], room: u32, at: u32, tower: Tower) -> Option<
     if words.len() < (at + height * (1 + arity)) as usize {
         return None;
     }
-    let header = HEADERS + (SYMBOL_STEP + 1) * arity;
+    let header = arena::header_of(arity as usize, arity as usize);
     let mut next = at;
     let mut root = leaf;
     for _ in 0..height {
-        let arguments = [root; 16];
+        let arguments = [root; INPUTS as usize];
         arena::push_node(words, next, header, &arguments[..arity as usize]);
         root = room + next;
         next += 1 + arity;
     }
     Some(Built { next, root })
+}
+
+// Writes two towers one behind the other, from an address on; none where there is no room for both, and the lower one may stand then.
+pub fn put_two(
+    words: &mut [u32],
+    room: u32,
+    at: u32,
+    lower: Tower,
+    upper: Tower,
+) -> Option<[Built; 2]>
+    requires { (lower.arity ≤ inputs) × (upper.arity ≤ inputs) }
+    ensures { TwoPut words.old words.new room at lower upper result }
+{
+    let first = put_tower(words, room, at, lower)?;
+    let second = put_tower(words, room, first.next, upper)?;
+    Some([first, second])
 }

@@ -1,10 +1,19 @@
 // Rows of bindings.
+ghost use Rattle.samples.specs.Chains.{Chained};
+
 use slices::put;
 
+// The most variables that are bound to the next one.
+const LONGEST: usize = 1000000;
+
 // Binds each variable that has a row to the next one, in order, the first 1,000,000 at most; and then the last row is the one given.
-pub fn bind_chain(rows: &mut [[u32; 2]], last: [u32; 2]) {
-    for (row, i) in rows.iter_mut().zip(0..1000000u32) {
-        *row = [i.saturating_add(2), i];
+// Stays: tried with `rows.iter_mut().zip(0..1000000)`: the loop's invariant can't name the rows then, and so nothing is known of what was written.
+pub fn bind_chain(rows: &mut [[u32; 2]], last: [u32; 2])
+    ensures { Chained rows.old rows.new last }
+{
+    for i in 0..rows.len().min(LONGEST) {
+        let variable = i as u32;
+        rows[i] = [variable + 2, variable];
     }
     let end = rows.len().saturating_sub(1);
     put(rows, end, last);

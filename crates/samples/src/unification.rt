@@ -1,5 +1,7 @@
 // One call of `unify`, `occurs` or `check_bindings` on storage that is tested first, and of `undo` after it.
-ghost use Rattle.samples.specs.Scratch.{Clean};
+ghost use Rattle.std.specs.Prelude.{◌≡◌};
+ghost use Rattle.arena.specs.Copies.{term_room};
+ghost use Rattle.samples.specs.Scratch.{Clean, Unmarked};
 ghost use Rattle.bindings.specs.Promises.{Tells};
 
 use super::report;
@@ -13,6 +15,20 @@ pub struct Counts {
     pub variables: u32,
     pub used: u32,
     pub bound: u32,
+}
+
+impl Counts {
+    // Terms in these words, of which so many are in use.
+    pub fn terms(self, words: &[u32]) -> Terms<'_>
+        ensures { (result.words.now ≡ words.now) × (result.room ≡ term_room) × (result.variables ≡ self.variables) × (result.used ≡ self.used) }
+    {
+        Terms {
+            words,
+            room: TERM_ROOM,
+            variables: self.variables,
+            used: self.used,
+        }
+    }
 }
 
 // What a call leaves: the words, the bindings and the marks, beside the bindings that stood before it.
@@ -38,6 +54,16 @@ pub fn is_clean(workspace: &Workspace) -> bool
     ensures { Tells result (Clean workspace.now.links.now workspace.now.marks.now workspace.now.stack.now) }
 {
     checks::is_scratch_zero(0, 0, workspace.links, workspace.marks, workspace.stack)
+}
+
+// Whether terms are in form, and there is a mark for each reference, all zero.
+pub fn is_unmarked(terms: Terms, marks: &[[u32; 2]]) -> bool
+    ensures { Tells result (Unmarked terms.entry.room terms.entry.words.now marks.now terms.entry.variables terms.entry.used) }
+{
+    if !checks::are_terms(terms) {
+        return false;
+    }
+    checks::are_zero(marks, (terms.room + terms.used) as usize)
 }
 
 // Whether the two references unify: how many bindings there are then.
@@ -68,10 +94,7 @@ pub fn solve(
         stack,
     };
     let ended = unifier::unify(terms, bindings, &mut lent, bound, left, right);
-    if !is_clean(&lent) {
-        return Err(Fault::ScratchLeft);
-    }
-    Ok(ended)
+    is_clean(&lent).then_some(ended).ok_or(Fault::ScratchLeft)
 }
 
 // Whether the variable occurs in what the reference denotes.
@@ -95,25 +118,20 @@ pub fn ask(
         return Err(Fault::NotReady);
     }
     let answer = bindings::occurs(terms, held, marks, variable, reference);
-    if !checks::are_zero(marks, 0) {
-        return Err(Fault::ScratchLeft);
-    }
-    Ok(answer)
+    checks::are_zero(marks, 0)
+        .then_some(answer)
+        .ok_or(Fault::ScratchLeft)
 }
 
 // Whether rows are bindings in form.
 pub fn check(terms: Terms, held: StoredBindings, marks: &mut [[u32; 2]]) -> Result<bool, Fault> {
-    if !checks::are_terms(terms) {
-        return Err(Fault::NotReady);
-    }
-    if !checks::are_zero(marks, (terms.room + terms.used) as usize) {
+    if !is_unmarked(terms, marks) {
         return Err(Fault::NotReady);
     }
     let answer = bindings::check_bindings(terms, held, marks);
-    if !checks::are_zero(marks, 0) {
-        return Err(Fault::ScratchLeft);
-    }
-    Ok(answer)
+    checks::are_zero(marks, 0)
+        .then_some(answer)
+        .ok_or(Fault::ScratchLeft)
 }
 
 // Takes back the bindings from the mark on, where all of them are in form.
@@ -153,12 +171,7 @@ pub fn finish(remains: Remains, counts: Counts, mark: u32) {
         bindings,
         marks,
     } = remains;
-    let terms = Terms {
-        words,
-        room: TERM_ROOM,
-        variables: counts.variables,
-        used: counts.used,
-    };
+    let terms = counts.terms(words);
     report::bindings(bindings, mark, counts.bound);
     if !take_back(terms, bindings, marks, counts.bound, mark) {
         report::text(b", which are not in form");

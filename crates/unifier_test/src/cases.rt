@@ -1,9 +1,12 @@
 // The cases: each builds its storage, runs one call, and writes a line.
+ghost use Rattle.std.specs.Prelude.{◌<◌, length};
+
 use arena::{INPUTS, TERM_ROOM, Terms};
 use bindings::StoredBindings;
-use samples::build::Tower;
+use samples::build::{Built, Tower};
+use samples::rows::bind_chain;
 use samples::unification::{Counts, Fault, Remains};
-use samples::{build, report, rows, unification};
+use samples::{build, report, unification};
 use unifier::Workspace;
 
 // The variables in use in most cases.
@@ -13,18 +16,15 @@ const VARIABLES: u32 = 64;
 const WORDS: usize = 210008;
 
 // A row for each reference.
-const REFERENCES: usize = 275544;
+const REFERENCES: usize = TERM_ROOM as usize + WORDS;
 
-// Two towers, of nodes with so many arguments, how high they are and on which references they stand, and the two references in question. A pair may
-// be built on each reference in question: of variable 0 and the left one, and of a constant and the right one.
+// Two towers, one behind the other, and the two references in question. A pair may be built on each of these: of variable 0 and the left one, and of a
+// constant and the right one.
 // Stays: `paired` says what is built besides; no other field has its meaning from it, so that an option would hold nothing.
 #[derive(Clone, Copy)]
 pub struct Towers {
-    pub arity: u32,
-    pub first: u32,
-    pub first_leaf: u32,
-    pub second: u32,
-    pub second_leaf: u32,
+    pub lower: Tower,
+    pub upper: Tower,
     pub left: u32,
     pub right: u32,
     pub paired: bool,
@@ -38,36 +38,31 @@ struct Case {
     right: u32,
 }
 
-// The first free address behind the towers; none where there is no room.
-fn put_towers(words: &mut [u32], towers: Towers) -> Option<u32> {
+// Builds the constants, the towers, and the pairs where they are wanted; one binding stands already, of variable 60 to a constant. None where there is no
+// room, or a node has too many arguments.
+fn put_case(words: &mut [u32], bindings: &mut [[u32; 2]], towers: Towers) -> Option<Case> {
+    let Towers {
+        lower,
+        upper,
+        left,
+        right,
+        paired,
+    } = towers;
+    if INPUTS < lower.arity || INPUTS < upper.arity {
+        return None;
+    }
     build::put_constants(words);
-    let arity = towers.arity.min(INPUTS);
-    let first = Tower {
-        height: towers.first,
-        leaf: towers.first_leaf,
-        arity,
-    };
-    let below = build::put_tower(words, TERM_ROOM, 2, first)?;
-    let second = Tower {
-        height: towers.second,
-        leaf: towers.second_leaf,
-        arity,
-    };
-    let above = build::put_tower(words, TERM_ROOM, below.next, second)?;
-    Some(above.next)
-}
-
-// Builds the towers, and the pairs where they are wanted; one binding stands already, of variable 60 to a constant. None where there is no room.
-fn put_case(words: &mut [u32], towers: Towers) -> Option<Case> {
-    let top = put_towers(words, towers)?;
+    let [_, Built { next: top, .. }] = build::put_two(words, TERM_ROOM, 2, lower, upper)?;
+    slices::put(bindings, 60, [TERM_ROOM + 1, 0]);
+    slices::put(bindings, 0, [0, 60]);
     let counts = Counts {
         variables: VARIABLES,
         used: top,
         bound: 1,
     };
-    if towers.paired {
-        let next = build::put_node(words, top, &[0, towers.left])?;
-        let used = build::put_node(words, next, &[TERM_ROOM, towers.right])?;
+    if paired {
+        let next = build::put_node(words, top, &[0, left])?;
+        let used = build::put_node(words, next, &[TERM_ROOM, right])?;
         return Some(Case {
             counts: Counts { used, ..counts },
             left: TERM_ROOM.saturating_add(top),
@@ -76,8 +71,8 @@ fn put_case(words: &mut [u32], towers: Towers) -> Option<Case> {
     }
     Some(Case {
         counts,
-        left: towers.left,
-        right: towers.right,
+        left,
+        right,
     })
 }
 
@@ -85,12 +80,6 @@ fn put_case(words: &mut [u32], towers: Towers) -> Option<Case> {
 fn report_room(name: &[u8]) {
     report::text(name);
     report::text(b": no room\n");
-}
-
-// Binds variable 60 to the first constant.
-fn bind_first(bindings: &mut [[u32; 2]]) {
-    slices::put(bindings, 60, [TERM_ROOM + 1, 0]);
-    slices::put(bindings, 0, [0, 60]);
 }
 
 // Writes the line of a unification.
@@ -112,26 +101,20 @@ fn report_unify(remains: Remains, counts: Counts, found: Result<Option<u32>, Fau
 }
 
 // Unifies the two references.
+// Stays: tried scratch as a struct of the three buffers that a function makes and a method lends: made so it is moved, and the program ran out of stack.
 pub fn unify(name: &[u8], towers: Towers) {
     let mut words = [0u32; WORDS];
-    let Some(case) = put_case(&mut words, towers) else {
+    let mut bindings = [[0u32; 2]; VARIABLES as usize];
+    let Some(case) = put_case(&mut words, &mut bindings, towers) else {
         report_room(name);
         return;
     };
-    let mut bindings = [[0u32; 2]; 64];
-    bind_first(&mut bindings);
     let before = bindings;
     let mut links = [[0u32; 2]; REFERENCES];
     let mut marks = [[0u32; 2]; REFERENCES];
     let mut stack = [[0u32; 3]; WORDS];
-    let terms = Terms {
-        words: &words,
-        room: TERM_ROOM,
-        variables: case.counts.variables,
-        used: case.counts.used,
-    };
     let found = unification::solve(
-        terms,
+        case.counts.terms(&words),
         &mut bindings,
         Workspace {
             links: &mut links,
@@ -171,19 +154,13 @@ fn report_answer(found: Result<bool, Fault>, yes: &[u8], no: &[u8]) {
 // Asks whether a variable occurs.
 pub fn occurs(name: &[u8], towers: Towers) {
     let mut words = [0u32; WORDS];
-    let Some(case) = put_case(&mut words, towers) else {
+    let mut bindings = [[0u32; 2]; VARIABLES as usize];
+    let Some(case) = put_case(&mut words, &mut bindings, towers) else {
         report_room(name);
         return;
     };
-    let mut bindings = [[0u32; 2]; 64];
-    bind_first(&mut bindings);
     let mut marks = [[0u32; 2]; REFERENCES];
-    let terms = Terms {
-        words: &words,
-        room: TERM_ROOM,
-        variables: case.counts.variables,
-        used: case.counts.used,
-    };
+    let terms = case.counts.terms(&words);
     let held = StoredBindings {
         rows: &bindings,
         bound: case.counts.bound,
@@ -196,19 +173,18 @@ pub fn occurs(name: &[u8], towers: Towers) {
 // The most variables in the checks of bindings.
 pub const MANY: u32 = 50000;
 
-// Checks bindings over a node on variable 0, at the address 0.
-fn check(name: &[u8], bindings: &[[u32; 2]], variables: u32, bound: u32) {
+// Checks bindings, a row for each variable, over a node on variable 0, at the address 0.
+fn check(name: &[u8], held: StoredBindings)
+    // The count of rows is a word.
+    requires { length held.rows.now < 4294967296 }
+{
     let words = [build::UNARY, 0];
-    let mut marks = [[0u32; 2]; 65538];
+    let mut marks = [[0u32; 2]; TERM_ROOM as usize + 2];
     let terms = Terms {
         words: &words,
         room: TERM_ROOM,
-        variables,
+        variables: held.rows.len() as u32,
         used: 2,
-    };
-    let held = StoredBindings {
-        rows: bindings,
-        bound,
     };
     let found = unification::check(terms, held, &mut marks);
     report::text(name);
@@ -216,14 +192,13 @@ fn check(name: &[u8], bindings: &[[u32; 2]], variables: u32, bound: u32) {
 }
 
 // Checks three rows.
-pub fn check_three(name: &[u8], first: [u32; 2], second: [u32; 2], third: [u32; 2], bound: u32) {
-    let bindings = [first, second, third];
-    check(name, &bindings, 3, bound);
+pub fn check_three(name: &[u8], rows: [[u32; 2]; 3], bound: u32) {
+    check(name, StoredBindings { rows: &rows, bound });
 }
 
 // Checks variables that are each bound to the next, and a last row.
-pub fn check_chain(name: &[u8], last: u32, listed: u32, bound: u32) {
-    let mut bindings = [[0u32; 2]; MANY as usize];
-    rows::bind_chain(&mut bindings, [last, listed]);
-    check(name, &bindings, MANY, bound);
+pub fn check_chain(name: &[u8], last: [u32; 2], bound: u32) {
+    let mut rows = [[0u32; 2]; MANY as usize];
+    bind_chain(&mut rows, last);
+    check(name, StoredBindings { rows: &rows, bound });
 }

@@ -11,7 +11,7 @@ equal-requires c =
     let words = c.args.words.now in
     let used = length words in
     let clear = c.clear_from in
-    let small = c.if-words-gt-MOST in
+    let small = c.if-words in
     let room = c.if-words-links in
     let n = as_long c.args.links.now _ clear.ensures in
     record {
