@@ -3,7 +3,7 @@ ghost use Rattle.std.specs.Prelude.{◌≡◌, ◌≤◌, set, length};
 ghost use Rattle.arena.specs.Form.{inputs};
 ghost use Rattle.samples.specs.Building.{NodePut, TowerPut};
 
-use arena::{HEADERS, SYMBOL_STEP};
+use arena::{HEADERS, SYMBOL_STEP, header_of};
 
 // Headers: of two constants, and of symbols with one argument and with two.
 pub const CONSTANT: u32 = HEADERS;
@@ -33,12 +33,12 @@ pub fn put_node(words: &mut [u32], at: u32, arguments: &[u32]) -> Option<u32>
     if MOST < at {
         return None;
     }
-    let arity = arguments.len() as u32;
-    let next = at + 1 + arity;
+    let arity = arguments.len();
+    let next = at + 1 + arity as u32;
     if words.len() < next as usize {
         return None;
     }
-    let header = HEADERS + (SYMBOL_STEP + 1) * arity;
+    let header = header_of(arity, arity);
     arena::push_node(words, at, header, arguments);
     Some(next)
 }
@@ -74,7 +74,7 @@ pub fn put_tower(words: &mut [u32], room: u32, at: u32, tower: Tower) -> Option<
     if words.len() < (at + height * (1 + arity)) as usize {
         return None;
     }
-    let header = HEADERS + (SYMBOL_STEP + 1) * arity;
+    let header = header_of(arity as usize, arity as usize);
     let mut next = at;
     let mut root = leaf;
     for _ in 0..height {

@@ -1,7 +1,8 @@
 -- `put_tower` meets its contract: each node stands on the one before, and there is room for all.
-use Rattle.std.proofs.Common.{ℕ, ◌≡◌, ◌≤◌, refl, ap, ◌∙◌, arith, length, take, replicate}
+use Rattle.std.proofs.Common.{ℕ, ◌+◌, ◌*◌, ◌≡◌, ◌≤◌, refl, ap, ◌∙◌, arith, length, take, replicate}
 use Rattle.std.proofs.lemmas.List.{take-replicate}
 use lib.ListN.{length-replicate}
+use Rattle.arena.specs.Cells.{headers}
 use Rattle.samples.proofs.Towers.{risen, here, whole_is, least_end}
 use Rattle.samples.proofs.build.put_tower.Goals as goal
 
@@ -29,7 +30,8 @@ overflow_add-next-in-loop c =
 
 pub loop-preserved : goal.loop-preserved
 loop-preserved c =
-    rw (c.push_node.ensures, taken c.args.tower.arity c.loop.root c.requires) (risen c.loop.invariant c.loop-test.true)
+    let header : c.header_of-header.result ≡ headers + 33 * c.args.tower.arity = omega (arith, c.header_of-header.ensures) in
+    rw (c.push_node.ensures, header, taken c.args.tower.arity c.loop.root c.requires) (risen c.loop.invariant c.loop-test.true)
 
 pub returns : goal.returns
 returns c = whole_is c.loop.invariant c.loop-test.false c.loop.auto.counter-end
