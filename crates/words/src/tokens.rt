@@ -71,11 +71,15 @@ fn read_code(
     let mut n = 0;
     // Stays: a step is as long as a token, and one byte only at a blank.
     while at < code.len() {
-        match item_at(classes, code, at) {
-            Ok(None) => {
+        let item = item_at(classes, code, at).map_err(|refusal| Rejection {
+            refusal,
+            line: number,
+        })?;
+        match item {
+            None => {
                 at += 1;
             }
-            Ok(Some(lexeme)) => {
+            Some(lexeme) => {
                 rows[n] = [
                     lexeme.kind,
                     (start + at) as u32,
@@ -84,12 +88,6 @@ fn read_code(
                 ];
                 n += 1;
                 at += lexeme.length;
-            }
-            Err(refusal) => {
-                return Err(Rejection {
-                    refusal,
-                    line: number,
-                });
             }
         }
     }
