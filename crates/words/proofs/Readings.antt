@@ -1,5 +1,5 @@
 -- Laws of readings: of one after another, of a line from a place on, and of a text from a line on.
-use mathlib.Core.Path.{◌≡◌, refl, sym, ap, ◌∙◌}
+use mathlib.Core.Path.{◌≡◌, refl, sym, ap, subst, ◌∙◌}
 use mathlib.Core.Bool.{Bool, true, cond, ◌&&◌}
 use mathlib.Core.List.{List, [], ◌∷◌, ◌++◌, append_assoc, append-nil}
 use Prim.Native.Nat.{ℕ, zero, suc, ◌+◌, ◌-◌, ◌≤◌, ◌<◌}
@@ -24,7 +24,7 @@ use Rattle.words.specs.Tokens.Reading.{tokens, refused}
 use Rattle.words.specs.Lexer.{answer_of, rows_of, zero_row, count_of}
 use Rattle.std.specs.Prelude.{Option, Some, None}
 use Rattle.std.specs.Prelude.{Result, Ok, Err}
-use Rattle.std.specs.Result.{result_unwrap_or}
+use Rattle.std.specs.Result.{result_unwrap_or, IsErrAnd, MatchResult}
 use Rattle.refusals.specs.declared.Rejection.{Rejection}
 use Rattle.refusals.specs.declared.Refusal.{Refusal}
 use Rattle.words.specs.Items.{Item}
@@ -207,3 +207,14 @@ module _ (m : ℕ) (rows after : List (List ℕ)) (long : length rows ≡ m) whe
       let k : length (take n rows) ≡ n = length-take-le n rows (omega arith) in
       (sym (simp k), e ∙ simp (k, long))
   leaves (Err r) f e = let k : length rows - 0 ≡ m = omega arith in (refl, e ∙ simp k)
+
+-- What `map_err` hands on: a value is that of the result, and an error is what is made of the result's.
+pub mapped_ok : {A E D : Type 0} (r : Result A E) (q : Result A D) (P : E → D → Type 0) (x : A) → MatchResult r (λ y. q ≡ Ok y) (λ e. IsErrAnd q (P e)) → q ≡ Ok x → r ≡ Ok x
+mapped_ok (Ok y) q P x h k = let f : Ok y ≡ Ok x = sym h ∙ k in let g : y ≡ x = cc in ap Ok g
+mapped_ok (Err e) (Ok y) P x h k = absurd h
+mapped_ok (Err e) (Err d) P x h k = absurd (cc)
+
+pub mapped_err : {A E D : Type 0} (r : Result A E) (q : Result A D) (P : E → D → Type 0) (d : D) → MatchResult r (λ y. q ≡ Ok y) (λ e. IsErrAnd q (P e)) → q ≡ Err d → (e : E) × (r ≡ Err e) × P e d
+mapped_err (Ok y) q P d h k = absurd (let f : Ok y ≡ Err d = sym h ∙ k in cc)
+mapped_err (Err e) (Ok y) P d h k = absurd h
+mapped_err (Err e) (Err c) P d h k = let g : c ≡ d = cc in (e, refl, subst (P e) g h)
