@@ -30,7 +30,7 @@ loop-at-preserved-in-None c =
       omega (arith, loop.invariant),
       loop.invariant.2,
       loop.invariant.3
-          ∙ read_blank args.code.now loop.at args.start args.number _ loop-test.true (sym (ap item (mapped_ok item-at.result _ _ _ c.map_err.ensures.cases c.in_ok-item.was ∙ ap Ok c.in-None.is)) ∙ item-at.ensures),
+          ∙ read_blank args.code.bytes.now loop.at args.code.start args.code.line _ loop-test.true (sym (ap item (mapped_ok item-at.result _ _ _ c.map_err.ensures.cases c.in_ok-item.was ∙ ap Ok c.in-None.is)) ∙ item-at.ensures),
     )
 
 pub overflow_cast-rows-in-Some : goal.overflow_cast-rows-in-Some
@@ -40,7 +40,7 @@ overflow_cast-rows-in-Some c =
     let loop-test = c.loop-at-test in
     let item-at = c.item_at in
     let pre = c.requires in
-    let w : (0 < c.in-Some.lexeme.length) × (loop.at + c.in-Some.lexeme.length ≤ length args.code.now) = item_within args.code.now loop.at args.start args.number (Token c.in-Some.lexeme.kind c.in-Some.lexeme.length) loop-test.true (sym (ap item (mapped_ok item-at.result _ _ _ c.map_err.ensures.cases c.in_ok-item.was ∙ ap Ok c.in-Some.is)) ∙ item-at.ensures) in
+    let w : (0 < c.in-Some.lexeme.length) × (loop.at + c.in-Some.lexeme.length ≤ length args.code.bytes.now) = item_within args.code.bytes.now loop.at args.code.start args.code.line (Token c.in-Some.lexeme.kind c.in-Some.lexeme.length) loop-test.true (sym (ap item (mapped_ok item-at.result _ _ _ c.map_err.ensures.cases c.in_ok-item.was ∙ ap Ok c.in-Some.is)) ∙ item-at.ensures) in
     omega (arith, pre.small)
 
 pub bounds-rows-n : goal.bounds-rows-n
@@ -56,7 +56,7 @@ overflow_add-at-in-Some c =
     let loop-test = c.loop-at-test in
     let item-at = c.item_at in
     let pre = c.requires in
-    let w : (0 < c.in-Some.lexeme.length) × (loop.at + c.in-Some.lexeme.length ≤ length args.code.now) = item_within args.code.now loop.at args.start args.number (Token c.in-Some.lexeme.kind c.in-Some.lexeme.length) loop-test.true (sym (ap item (mapped_ok item-at.result _ _ _ c.map_err.ensures.cases c.in_ok-item.was ∙ ap Ok c.in-Some.is)) ∙ item-at.ensures) in
+    let w : (0 < c.in-Some.lexeme.length) × (loop.at + c.in-Some.lexeme.length ≤ length args.code.bytes.now) = item_within args.code.bytes.now loop.at args.code.start args.code.line (Token c.in-Some.lexeme.kind c.in-Some.lexeme.length) loop-test.true (sym (ap item (mapped_ok item-at.result _ _ _ c.map_err.ensures.cases c.in_ok-item.was ∙ ap Ok c.in-Some.is)) ∙ item-at.ensures) in
     omega (arith, pre.small)
 
 pub loop-at-smaller : goal.loop-at-smaller
@@ -65,7 +65,7 @@ loop-at-smaller c =
     let args = c.args in
     let loop-test = c.loop-at-test in
     let item-at = c.item_at in
-    let w : (0 < c.in-Some.lexeme.length) × (loop.at + c.in-Some.lexeme.length ≤ length args.code.now) = item_within args.code.now loop.at args.start args.number (Token c.in-Some.lexeme.kind c.in-Some.lexeme.length) loop-test.true (sym (ap item (mapped_ok item-at.result _ _ _ c.map_err.ensures.cases c.in_ok-item.was ∙ ap Ok c.in-Some.is)) ∙ item-at.ensures) in
+    let w : (0 < c.in-Some.lexeme.length) × (loop.at + c.in-Some.lexeme.length ≤ length args.code.bytes.now) = item_within args.code.bytes.now loop.at args.code.start args.code.line (Token c.in-Some.lexeme.kind c.in-Some.lexeme.length) loop-test.true (sym (ap item (mapped_ok item-at.result _ _ _ c.map_err.ensures.cases c.in_ok-item.was ∙ ap Ok c.in-Some.is)) ∙ item-at.ensures) in
     omega arith
 
 pub loop-at-preserved : goal.loop-at-preserved
@@ -75,14 +75,14 @@ loop-at-preserved c =
     let loop-test = c.loop-at-test in
     let item-at = c.item_at in
     let pre = c.requires in
-    let w : (0 < c.in-Some.lexeme.length) × (loop.at + c.in-Some.lexeme.length ≤ length args.code.now) = item_within args.code.now loop.at args.start args.number (Token c.in-Some.lexeme.kind c.in-Some.lexeme.length) loop-test.true (sym (ap item (mapped_ok item-at.result _ _ _ c.map_err.ensures.cases c.in_ok-item.was ∙ ap Ok c.in-Some.is)) ∙ item-at.ensures) in
+    let w : (0 < c.in-Some.lexeme.length) × (loop.at + c.in-Some.lexeme.length ≤ length args.code.bytes.now) = item_within args.code.bytes.now loop.at args.code.start args.code.line (Token c.in-Some.lexeme.kind c.in-Some.lexeme.length) loop-test.true (sym (ap item (mapped_ok item-at.result _ _ _ c.map_err.ensures.cases c.in_ok-item.was ∙ ap Ok c.in-Some.is)) ∙ item-at.ensures) in
     let room : loop.n < length loop.rows = omega (arith, pre.lent, loop.invariant) in (
       omega arith,
       omega (arith, loop.invariant),
       simp length-set loop.invariant.2,
       loop.invariant.3
-          ∙ read_token args.code.now loop.at args.start args.number (take loop.n loop.rows) loop-test.true c.in-Some.lexeme.kind c.in-Some.lexeme.length (sym (ap item (mapped_ok item-at.result _ _ _ c.map_err.ensures.cases c.in_ok-item.was ∙ ap Ok c.in-Some.is)) ∙ item-at.ensures)
-          ∙ ap (λ ts. and_then (tokens ts) (read_after (drop (loop.at + c.in-Some.lexeme.length) args.code.now) 0 (args.start + (loop.at + c.in-Some.lexeme.length)) args.number)) (sym (push_row loop.rows loop.n (c.in-Some.lexeme.kind ∷ (args.start + loop.at) ∷ c.in-Some.lexeme.length ∷ args.number ∷ []) room)),
+          ∙ read_token args.code.bytes.now loop.at args.code.start args.code.line (take loop.n loop.rows) loop-test.true c.in-Some.lexeme.kind c.in-Some.lexeme.length (sym (ap item (mapped_ok item-at.result _ _ _ c.map_err.ensures.cases c.in_ok-item.was ∙ ap Ok c.in-Some.is)) ∙ item-at.ensures)
+          ∙ ap (λ ts. and_then (tokens ts) (read_after (drop (loop.at + c.in-Some.lexeme.length) args.code.bytes.now) 0 (args.code.start + (loop.at + c.in-Some.lexeme.length)) args.code.line)) (sym (push_row loop.rows loop.n (c.in-Some.lexeme.kind ∷ (args.code.start + loop.at) ∷ c.in-Some.lexeme.length ∷ args.code.line ∷ []) room)),
     )
 
 pub returns-in_err-item : goal.returns-in_err-item
@@ -92,12 +92,12 @@ returns-in_err-item c =
     let loop-test = c.loop-at-test in
     let refused = mapped_err c.item_at.result _ _ _ c.map_err.ensures.cases c.in_err-item.was in
     let learnt = refused.2 in
-    let made : c.in_err-item.field-0.0 ≡ record { refusal = refused.0; line = args.number } = search rules in
+    let made : c.in_err-item.field-0.0 ≡ record { refusal = refused.0; line = args.code.line } = search rules in
     rw (handed_on c.from_residual.result c.from_residual.ensures.1)
     (record {
       reads = ap (λ e. outcome (Err e) loop.rows) made
           ∙ sym (loop.invariant.3
-          ∙ read_refused args.code.now loop.at args.start args.number (take loop.n loop.rows) loop-test.true refused.0 (sym (ap item refused.1) ∙ c.item_at.ensures));
+          ∙ read_refused args.code.bytes.now loop.at args.code.start args.code.line (take loop.n loop.rows) loop-test.true refused.0 (sym (ap item refused.1) ∙ c.item_at.ensures));
       fits = omega arith;
       long = loop.invariant.2;
     })
@@ -108,7 +108,7 @@ returns c =
     let args = c.args in
     let loop-test = c.loop-at-test in
     record {
-      reads = sym (loop.invariant.3 ∙ read_end args.code.now loop.at args.start args.number (take loop.n loop.rows) loop-test.false);
+      reads = sym (loop.invariant.3 ∙ read_end args.code.bytes.now loop.at args.code.start args.code.line (take loop.n loop.rows) loop-test.false);
       fits = omega (arith, loop.invariant);
       long = loop.invariant.2;
     }
