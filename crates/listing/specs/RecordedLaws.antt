@@ -1,29 +1,14 @@
 -- Laws of recorded lists: a digit by its byte, a number digit by digit, and a text by the three numbers of its line.
 use Prim.Native.Nat.{ℕ, zero, suc, ◌+◌, ◌*◌, ◌-◌, ◌≤◌, ◌<◌, min}
-use Rattle.std.proofs.Common.{arith, sym, ap₂, ◌∙◌, lt-ltb, le-ltb, le-leb, ltb-true, ltb-false}
-use Rattle.std.proofs.lemmas.Bool.{lt-leb}
+use Rattle.std.proofs.Common.{arith, sym, ap₂, ◌∙◌, lt-ltb, le-ltb, leb-true, ltb-true, ltb-false}
 use Rattle.terms.specs.Numbers.{by_bool}
 use Rattle.source_text.specs.Bytes.{within}
-use Rattle.std.specs.Prelude.{Some, None, true, false, ltb, ◌≡◌, List, [], ◌∷◌, get_or, length}
+use Rattle.source_text.specs.ByteLaws.{and_right}
+use Rattle.source_text.specs.Numerals.{digit_of}
+use Rattle.std.specs.Prelude.{Some, None, IfSome, true, leb, ltb, ◌≡◌, List, [], ◌∷◌, get_or, length}
 use Rattle.std.proofs.Math.Path.{refl, ap}
 use Rattle.listing.specs.Recorded.{largest, digit_at, read_digit, decimal_from, decimal_at, recorded_by, recorded_at}
 use Rattle.listing.specs.declared.recorded.Decimal.{Decimal}
-
-module _ (list : List ℕ) (at : ℕ) where
-  pub digit_none : within 48 57 (get_or list at 0) ≡ false → digit_at list at ≡ 10
-  digit_none e = rw e refl
-
-  pub digit_within : within 48 57 (get_or list at 0) ≡ true → digit_at list at ≡ get_or list at 0 - 48
-  digit_within e = rw e refl
-
-  pub digit_low : get_or list at 0 < 48 → digit_at list at ≡ 10
-  digit_low h = rw (lt-leb 48 (get_or list at 0) h)
-
-  pub digit_high : 57 < get_or list at 0 → digit_at list at ≡ 10
-  digit_high h = let l : 48 ≤ get_or list at 0 = omega arith in rw (le-leb 48 (get_or list at 0) l, lt-leb (get_or list at 0) 57 h)
-
-  pub digit_is : 48 ≤ get_or list at 0 → get_or list at 0 ≤ 57 → digit_at list at ≡ get_or list at 0 - 48
-  digit_is l h = rw (le-leb 48 (get_or list at 0) l, le-leb (get_or list at 0) 57 h)
 
 past : (list : List ℕ) (at : ℕ) → length list ≤ at → get_or list at 0 ≡ 0
 past [] at h = refl
@@ -42,6 +27,19 @@ read_some d c e = by_bool (ltb 9 d) (λ f. let g : None ≡ Some c = rw f at e i
 
 pub read_small : (d : ℕ) → d < 10 → Some d ≡ read_digit d
 read_small d h = rw (le-ltb 9 d (omega arith)) refl
+
+-- A byte's digit, if it is one, is the digit at its place.
+below_ten : (c : ℕ) → within 48 57 c ≡ true → c - 48 < 10
+below_ten c e = let h : c ≤ 57 = leb-true c 57 (and_right (leb 48 c) (leb c 57) e) in omega arith
+
+pub digit_read : (list : List ℕ) (at : ℕ) → digit_of (get_or list at 0) ≡ read_digit (digit_at list at)
+digit_read list at =
+    by_bool (within 48 57 (get_or list at 0))
+    (λ e. rw e (read_small (get_or list at 0 - 48) (below_ten (get_or list at 0) e)))
+    (λ e. rw e refl)
+
+pub digit_small : (c : ℕ) → IfSome (digit_of c) (λ d. d < 10)
+digit_small c = by_bool (within 48 57 c) (λ e. rw e (below_ten c e)) (λ e. rw e tt)
 
 module _ (list : List ℕ) where
   -- No digit ends a number, and so does the most digits.

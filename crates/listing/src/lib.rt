@@ -17,11 +17,14 @@ use lines::{write_refused_line, write_token};
 use refusals::Rejection;
 use words::{Limits, Row};
 
+// The longest line of a refusal: both its numbers have ten digits.
+const REFUSAL: usize = 35;
+
 // A buffer of so many bytes is enough for the listing of any text under these limits.
 pub fn size(limits: Limits) -> usize
     ensures { result ≡ listing_size limits }
 {
-    35 + 26 * (limits.capped().text as usize)
+    REFUSAL + 26 * (limits.capped().text as usize)
 }
 
 // Writes the lines of token rows.
@@ -75,7 +78,7 @@ pub fn list(text: &[u8], limits: Limits, rows: &mut [Row], out: &mut [u8])
 
 // Writes the line `refused N line L` to standard output.
 pub fn write_refusal(rejection: Rejection) {
-    let mut out = [0u8; 35];
+    let mut out = [0u8; REFUSAL];
     let n = write_refused(rejection, &mut out);
     write(words::word(&out, 0, n));
 }

@@ -6,6 +6,7 @@ ghost use Rattle.listing.specs.Recorded.{end_of, digit_at, read_digit, decimal_a
 
 use crate::output::{write, write_number};
 use refusals::Refusal;
+use source_text::numerals;
 use words::Limits;
 
 // A text of a list: where it stands, the limits and the number of lent rows to read it with, and the place of the next one's line.
@@ -94,11 +95,7 @@ fn digit(list: &[u8], at: usize) -> Option<u32>
     ensures is { result ≡ read_digit (digit_at list.now at) }
     ensures small { IfSome result (λ d. d < 10) }
 {
-    let c = *list.get(at)?;
-    if !c.is_ascii_digit() {
-        return None;
-    }
-    Some(u32::from(c - b'0'))
+    numerals::digit(*list.get(at)?)
 }
 
 // The text whose line is at a place. The line limits the bytes alone; a program that reads by other limits too sets them itself.
@@ -114,10 +111,7 @@ pub fn read(list: &[u8], at: usize) -> Recorded
     let size = length.value as usize;
     let limits = Limits {
         text: limit.value,
-        nodes: 0,
-        steps: 0,
-        variables: 0,
-        words: 0,
+        ..words::NO_LIMITS
     };
     Recorded {
         start,

@@ -15,11 +15,11 @@ use refusals::{Refusal, Rejection};
 use term_parser::items::{Item, Judgment, Name, Repeated, all, list};
 use term_parser::lists::{arrows, judgments, name, names, patterns, title};
 use term_parser::terms::{app, term};
-use term_parser::tokens::{peek, rejection, sign};
+use term_parser::tokens::{name_token, peek, rejection, sign};
 use term_parser::{Input, PARENTHESES, Position, Read, Token};
 use words::{
-    AUTO, BAR, BY, CHECK, CLOSE, COLON, CTOR, DEF, DEFINES, DOUBLE_ARROW, EVAL, INDUCTION, NAME,
-    OPEN, PRED, RULE, SORT, THEOREM,
+    AUTO, BAR, BY, CHECK, CLOSE, COLON, CTOR, DEF, DEFINES, DOUBLE_ARROW, EVAL, INDUCTION, OPEN,
+    PRED, RULE, SORT, THEOREM,
 };
 
 // `| p, p => t`
@@ -62,10 +62,7 @@ impl Repeated for Binders {
         let behind = from.past_row();
         let bound = names(input, behind, out)?;
         let colon = sign(input, COLON, bound.position)?;
-        let t = peek(input.tokens, colon.position.at);
-        if t.kind != NAME {
-            return Err(rejection(Refusal::NameExpected, input.tokens, colon.position.at));
-        }
+        let t = name_token(input.tokens, colon.position.at)?;
         let sort = colon.position.past_token();
         let close = sign(input, CLOSE, sort)?;
         out[from.used] = [BINDERS, t.start, t.length, bound.count];

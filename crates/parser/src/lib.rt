@@ -31,25 +31,19 @@ pub struct Parsed {
 pub fn parse(text: &[u8], tokens: &[[u32; 4]], rows: &mut [[u32; 4]]) -> Result<Parsed, Rejection>
     ensures { Parsing text.now tokens.now rows.old result rows.new }
 {
-    if 65536 < tokens.len() {
+    if tokens.len() > words::TEXT as usize {
         return Err(Rejection::from(Refusal::Storage));
     }
     if rows.len() < tokens.len() {
         return Err(Rejection::from(Refusal::Storage));
     }
-    match declarations(Input { text, tokens }, rows) {
-        Ok(read) => {
-            clear_from(rows, read.position.used, [0; 4]);
-            Ok(Parsed {
-                declarations: read.count,
-                rows: read.position.used,
-            })
-        }
-        Err(rejection) => {
-            clear_from(rows, 0, [0; 4]);
-            Err(rejection)
-        }
-    }
+    let read = declarations(Input { text, tokens }, rows);
+    clear_from(rows, read.map_or(0, |read| read.position.used), [0; 4]);
+    let read = read?;
+    Ok(Parsed {
+        declarations: read.count,
+        rows: read.position.used,
+    })
 }
 
 // Reads a text and parses it. There are at least as many token rows, and as many rows, as the limit on the text's bytes.

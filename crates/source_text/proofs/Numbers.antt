@@ -10,7 +10,8 @@ use lib.Seq.{drop-cons}
 use lib.Dec.{ltb}
 use borrow.Author.Tests.{lt-ltb, le-ltb}
 use Rattle.source_text.specs.Bytes.{within}
-use Rattle.source_text.specs.Numerals.{all_digits, value_from, numeral_of}
+use Rattle.source_text.specs.Numerals.{digit_of, all_digits, value_from, numeral_of}
+use Rattle.source_text.proofs.Scans.{by_bool}
 use Rattle.std.specs.Prelude.{Option, Some, None}
 
 -- The numeral whose first digits make v and whose other bytes are s.
@@ -50,3 +51,13 @@ module _ (w : List ℕ) (i v : ℕ) (h : i < length w) where
 pub numeral_end : (w : List ℕ) (i v : ℕ) → length w ≤ i → v < 2 ^ 64 → numeral_from v (drop i w) ≡ Some v
 unfolding numeral_from all_digits value_from
 numeral_end w i v h k = simp (drop_of_length-le w h, lt-ltb _ _ k)
+
+-- What is known of a digit's value, and of a byte that has none.
+pub digit_some : (c d : ℕ) → digit_of c ≡ Some d → (within 48 57 c ≡ true) × (c - 48 ≡ d)
+digit_some c d e =
+    by_bool (within 48 57 c)
+    (λ f. (f, let g : Some (c - 48) ≡ Some d = rw f at e in cc))
+    (λ f. absurd (let g : None ≡ Some d = rw f at e in let z : ◌≡◌ {A = ℕ} 0 1 = cc in omega arith))
+
+pub digit_none : (c : ℕ) → digit_of c ≡ None → within 48 57 c ≡ false
+digit_none c e = by_bool (within 48 57 c) (λ f. absurd (let g : Some (c - 48) ≡ None = rw f at e in let z : ◌≡◌ {A = ℕ} 0 1 = cc in omega arith)) (λ f. f)

@@ -6,7 +6,7 @@ use Prim.Native.Nat.{ℕ, zero, suc, ◌+◌, ◌-◌, ◌≤◌, ◌<◌}
 use native.Mathlib.Numerals.{add-one}
 use native.Mathlib.Omega.{arith}
 use lib.ListN.{length, get_or, take, drop, length-drop, drop_of_length-le}
-use lib.Seq.{drop-cons, drop-drop, length-take-le}
+use lib.Seq.{drop-cons, drop-drop}
 use lib.Dec.{eqb}
 use borrow.Author.Tests.{eq-eqb, ne_eqb, eqb-true}
 use Rattle.std.specs.List.{starts_with as begins}
@@ -15,6 +15,9 @@ use Rattle.std.specs.Option.{unwrap_or}
 use Rattle.std.specs.Cmp.Lexicographic.{pointwise}
 use Rattle.source_text.specs.Bytes.{starts_with, same_bytes, up_to}
 use Rattle.source_text.specs.Lines.{lines, line_of, code_of, ends_code}
+use Rattle.source_text.specs.TakenLines.{LineTaken}
+use Rattle.source_text.specs.declared.lines.Code.{Code}
+use Rattle.source_text.specs.declared.lines.Lines.{Lines}
 
 pub by_bool {ℓ} : {P : Type ℓ} (b : Bool) → (b ≡ true → P) → (b ≡ false → P) → P
 by_bool true f g = f refl
@@ -192,17 +195,26 @@ module _ (text : List ℕ) (at c e : ℕ) (h : at < length text) (f : c ≡ at +
       let q : length (code_of (line_of (drop at text))) ≡ length (up_to ends_code (drop at text)) = ap length (code_scan (drop at text)) in
       ap (λ n. take n (drop at text)) (k ∙ q) ∙ sym (scan_take ends_code (drop at text)) ∙ sym (code_scan (drop at text))
 
-  pub lines_at : lines (drop at text) ≡ line_of (drop at text) ∷ lines (drop (e + 1) text)
-  lines_at =
-      let p : 0 < length (drop at text) = simp length-drop (omega arith) in
-      let k : at + suc (length (line_of (drop at text))) ≡ e + 1 = omega (arith, line_long) in
-      lines_step (drop at text) p ∙ ap (λ l. line_of (drop at text) ∷ lines l) (drop-drop (suc (length (line_of (drop at text)))) at text ∙ ap (λ j. drop j text) k)
-
 pub code_fits : (text : List ℕ) (at c : ℕ) → at < length text → c ≡ at + length (code_of (line_of (drop at text))) → (at ≤ c) × (c ≤ length text)
 code_fits text at c h f =
     let w : (at ≤ c) × (c ≤ c + length (line_of (drop c text))) = code_within text at c (c + length (line_of (drop c text))) h f refl in
     let k : c + length (line_of (drop c text)) ≤ length text = line_within text at c (c + length (line_of (drop c text))) h f refl in
     (omega arith, omega arith)
 
-pub part_long : (text : List ℕ) (at c : ℕ) → (at ≤ c) × (c ≤ length text) → length (take (c - at) (drop at text)) ≡ c - at
-part_long text at c w = length-take-le (c - at) (drop at text) (simp length-drop (omega arith))
+-- A line is taken: the lines are it and those after it, and it lies in the text.
+module _ (text : List ℕ) (at n : ℕ) (code : Code) (after : Lines) (t : LineTaken text at n code after) where
+  pub lines_taken : lines (drop at text) ≡ line_of (drop at text) ∷ lines (drop after.at text)
+  lines_taken =
+      let h : at < length text = t.inside in
+      let p : 0 < length (drop at text) = simp length-drop (omega arith) in
+      let k : at + suc (length (line_of (drop at text))) ≡ after.at = omega (arith, t.next) in
+      lines_step (drop at text) p ∙ ap (λ l. line_of (drop at text) ∷ lines l) (drop-drop (suc (length (line_of (drop at text)))) at text ∙ ap (λ j. drop j text) k)
+
+  pub taken_within : (at + length code.bytes.now < after.at) × (at + length code.bytes.now ≤ length text) × (after.at ≤ length text + 1)
+  unfolding line_of code_of
+  taken_within =
+      let h : at < length text = t.inside in
+      let e : length code.bytes.now ≡ length (code_of (line_of (drop at text))) = ap length t.bytes in
+      let c : length (code_of (line_of (drop at text))) ≤ length (line_of (drop at text)) = scan_fits (starts_with (45 ∷ 45 ∷ [])) (line_of (drop at text)) in
+      let l : length (line_of (drop at text)) ≤ length text - at = simp length-drop at (scan_fits (starts_with (10 ∷ [])) (drop at text)) in
+      (omega (arith, t.next), omega arith, omega (arith, t.next))

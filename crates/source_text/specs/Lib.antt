@@ -3,6 +3,7 @@ pub mod Bytes
 pub mod Utf8
 pub mod Characters
 pub mod Lines
+pub mod TakenLines
 pub mod Numerals
 pub mod Answers
 pub mod Parts

@@ -2,6 +2,10 @@
 use Rattle.std.specs.Prelude.{Bool, true, Option, Some, None, cond, ◌&&◌, List, [], ◌∷◌, ℕ, ◌+◌, ◌-◌, ◌*◌, ◌^◌, ltb, length}
 use Rattle.source_text.specs.Bytes.{within}
 
+-- The value of a digit.
+abbrev pub digit_of : ℕ → Option ℕ
+digit_of c = cond (within 48 57 c) (Some (c - 48)) None
+
 unfoldable pub all_digits : List ℕ → Bool
 all_digits [] = true
 all_digits (c ∷ s) = within 48 57 c && all_digits s

@@ -1,6 +1,7 @@
 // Line ends and comments.
-ghost use Rattle.std.specs.Prelude.{◌≡◌, ◌+◌, ◌≤◌, ◌<◌, length, drop};
+ghost use Rattle.std.specs.Prelude.{◌≡◌, ◌+◌, ◌≤◌, ◌<◌, length, drop, MatchOption};
 ghost use Rattle.source_text.specs.Lines.{line_of, code_of, ends_code};
+ghost use Rattle.source_text.specs.TakenLines.{LineTaken};
 
 use super::bytes::starts_with;
 
@@ -34,4 +35,54 @@ pub fn code_end(text: &[u8], at: usize) -> usize
     (at..text.len())
         .find(|i| ends_code(text, *i))
         .unwrap_or(text.len())
+}
+
+// The code of a line: its bytes without the comment, the place of the text where they start, and the line's number.
+#[derive(Clone, Copy)]
+pub struct Code<'a> {
+    pub bytes: &'a [u8],
+    pub start: usize,
+    pub line: u32,
+}
+
+// The lines of a text from a place on, where the line with this number starts.
+#[derive(Drop)]
+pub struct Lines<'a> {
+    pub text: &'a [u8],
+    pub at: usize,
+    pub line: u32,
+}
+
+impl<'a> Lines<'a> {
+    // All lines of a text.
+    pub fn new(text: &'a [u8]) -> Self
+        ensures { (result.text.now ≡ text.now) × (result.at ≡ 0) × (result.line ≡ 1) }
+    {
+        Lines {
+            text,
+            at: 0,
+            line: 1,
+        }
+    }
+
+    // The code of the next line, if there is one.
+    pub fn next(&mut self) -> Option<Code<'a>>
+        requires { (length self.old.text.now ≤ 65536) × (self.old.line ≤ self.old.at + 1) }
+        ensures text { self.new.text.now ≡ self.old.text.now }
+        ensures line { MatchOption result (length self.old.text.now ≤ self.old.at)
+            (λ code. LineTaken self.old.text.now self.old.at self.old.line code self.new) }
+    {
+        if self.text.len() <= self.at {
+            return None;
+        }
+        let end = code_end(self.text, self.at);
+        let code = Code {
+            bytes: &self.text[self.at..end],
+            start: self.at,
+            line: self.line,
+        };
+        self.at = line_end(self.text, end) + 1;
+        self.line += 1;
+        Some(code)
+    }
 }

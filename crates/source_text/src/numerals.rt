@@ -1,6 +1,13 @@
 // Numerals of 64 bits.
 ghost use Rattle.std.specs.Prelude.{◌≡◌};
-ghost use Rattle.source_text.specs.Numerals.{all_digits, numeral_of};
+ghost use Rattle.source_text.specs.Numerals.{digit_of, all_digits, numeral_of};
+
+// The value of a digit.
+pub fn digit(c: u8) -> Option<u32>
+    ensures { result ≡ digit_of c }
+{
+    char::from(c).to_digit(10)
+}
 
 // Are all bytes of a word digits?
 pub fn all_digits(w: &[u8]) -> bool
@@ -19,11 +26,8 @@ pub fn value(w: &[u8]) -> Option<u64>
     }
     let mut v: u64 = 0;
     for c in w {
-        if !c.is_ascii_digit() {
-            return None;
-        }
-        let d = u64::from(*c - b'0');
-        v = v.checked_mul(10)?.checked_add(d)?;
+        let d = digit(*c)?;
+        v = v.checked_mul(10)?.checked_add(u64::from(d))?;
     }
     Some(v)
 }

@@ -1,6 +1,5 @@
 // UTF-8 as RFC 3629 has it.
-ghost use Rattle.std.specs.Prelude.{◌≡◌, ◌+◌, ◌<◌, length, drop};
-ghost use Rattle.source_text.specs.Bytes.{within};
+ghost use Rattle.std.specs.Prelude.{◌≡◌, ◌+◌, ◌-◌, ◌<◌, length, drop};
 ghost use Rattle.source_text.specs.Utf8.{starting, positive, lead_of, tails_of, character_length, is_utf8};
 
 // What a first byte asks of its character: the length in bytes, and the range of the second byte.
@@ -30,25 +29,20 @@ fn lead_of(a: u8) -> Option<Lead>
     Some(Lead { length, low, high })
 }
 
-// Is a byte from low to high?
-fn is_within(c: u8, low: u8, high: u8) -> bool
-    ensures { result ≡ within low high c }
-{
-    low <= c && c <= high
-}
-
-// Are the next `count` bytes tails, the first from low to high?
-// Stays: `count` is how many tails the first byte asks for, and there may be fewer bytes.
-fn tails(rest: &[u8], count: usize, low: u8, high: u8) -> bool
-    ensures { result ≡ tails_of count low high rest.now }
-{
-    let Some(tails) = rest.get(..count) else {
-        return false;
-    };
-    let Some((first, others)) = tails.split_first() else {
-        return true;
-    };
-    is_within(*first, low, high) && others.iter().all(|c| is_within(*c, 0x80, 0xBF))
+impl Lead {
+    // Are the bytes behind a first byte tails, as many as it asks for, and the first of them in its range?
+    fn has_tails(self, rest: &[u8]) -> bool
+        requires { 0 < self.length }
+        ensures { result ≡ tails_of (self.length - 1) self.low self.high rest.now }
+    {
+        let Some(tails) = rest.get(..self.length - 1) else {
+            return false;
+        };
+        let Some((first, others)) = tails.split_first() else {
+            return true;
+        };
+        (self.low..=self.high).contains(first) && others.iter().all(|c| (0x80..=0xBF).contains(c))
+    }
 }
 
 // The length of the character at the start of a text, if there is one.
@@ -62,7 +56,7 @@ pub fn character_length(text: &[u8]) -> Option<usize>
         return Some(1);
     }
     let lead = lead_of(*first)?;
-    tails(rest, lead.length - 1, lead.low, lead.high).then_some(lead.length)
+    lead.has_tails(rest).then_some(lead.length)
 }
 
 // Is the text UTF-8?

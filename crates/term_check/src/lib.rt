@@ -5,38 +5,27 @@
 #![tactic(auto)]
 
 ghost use Rattle.std.specs.Prelude.{◌≡◌, length};
-ghost use Rattle.source_text.specs.Numerals.{numeral_of};
-ghost use Rattle.source_text.specs.Parts.{part_of};
 ghost use Rattle.term_check.specs.TermRows.{Checking};
-ghost use Rattle.term_check.specs.Walk.{is_held, Topped};
+ghost use Rattle.term_check.specs.Walk.{Topped};
 
 use names::{Word, is_word_place};
+use term_parser::tokens::held;
 
 // The levels of a term of depth 131, the deepest that is parsed, and one more for what would follow there.
 const LEVELS: usize = 132;
-
-// Is a number the value of the numeral at a place, 2^32 - 1 for a larger one?
-fn is_held(text: &[u8], word: Word, held: u32) -> bool
-    ensures { result ≡ is_held (numeral_of (part_of text.now word.start word.size)) held }
-{
-    words::numeral(text, word.start as usize, word.size as usize).is_some_and(|value| u64::from(
-        held,
-    ) == value.min(u64::from(u32::MAX)))
-}
 
 // How many arguments the term takes whose first row this is; none where it is not the first of a term.
 fn top_of(text: &[u8], row: [u32; 4]) -> Option<u32>
     ensures { Topped text.now row result }
 {
     let [kind, start, size, count] = row;
-    let word = Word { start, size };
-    if !is_word_place(text, word) {
+    if !is_word_place(text, Word { start, size }) {
         return None;
     }
     // Stays: C callers lend the number, which may be none of these; an enum would be made by the same `match`, only to be matched again here.
     match kind {
-        words::NUMERAL => is_held(text, word, count).then_some(0),
-        term_parser::APPLICATION => if count == 0 { None } else { Some(count) },
+        words::NUMERAL => (held(text, start, size) == Some(count)).then_some(0),
+        term_parser::APPLICATION => (count != 0).then_some(count),
         words::METAVARIABLE | words::NAME => (count == 0).then_some(0),
         _ => None,
     }

@@ -1,5 +1,5 @@
 -- The Rust's `Parser`: terms. Parentheses may be open 64 deep.
-use Rattle.std.specs.Prelude.{ℕ, zero, suc, ◌^◌, List, [], ◌∷◌, eqb, drop}
+use Rattle.std.specs.Prelude.{ℕ, zero, suc, ◌^◌, min, List, [], ◌∷◌, eqb, drop}
 use Rattle.words.specs.Names.{name_kind, metavariable_kind, numeral_kind}
 use Rattle.source_text.specs.Numerals.{numeral_of}
 use Rattle.source_text.specs.Parts.{part_of}
@@ -12,6 +12,11 @@ use Rattle.refusals.specs.declared.Refusal.TheVariants.{ParenthesisLimit, NameEx
 abbrev pub value : Option ℕ → ℕ
 value (Some v) = v
 value None = 2 ^ 64
+
+-- The value that a row holds of a numeral.
+abbrev pub held_of : Option ℕ → Option ℕ
+held_of (Some v) = Some (min v 4294967295)
+held_of None = None
 
 abbrev pub value_at : List ℕ → Tokens → ℕ
 value_at text ts = value (numeral_of (part_of text (token_of ts).start (token_of ts).length))

@@ -1,15 +1,17 @@
 -- What the functions that read tokens ask of and owe to each other: they write rows from a place on.
-use Rattle.std.specs.Prelude.{ℕ, ◌+◌, ◌≤◌, ◌<◌, ◌≡◌, List, [], ◌∷◌, ◌++◌, length, take, drop, get_or, set}
+use Rattle.std.specs.Prelude.{Result, Ok, Err, ℕ, ◌+◌, ◌≤◌, ◌<◌, ◌≡◌, List, [], ◌∷◌, ◌++◌, length, take, drop, get_or, set}
 use Rattle.term_parser.specs.Source.{Source, one}
-use Rattle.term_parser.specs.Parsing.{Tokens, line_of, last_line, Parsed, parsed, absent, refused}
+use Rattle.term_parser.specs.Parsing.{Tokens, token_of, kind_of, line_of, last_line, Parsed, parsed, absent, refused}
 use Rattle.term_parser.specs.Grammar.{parenthesis}
 use Rattle.term_parser.specs.Rows.{Rows, application_kind, rows_of_all}
 use Rattle.words.specs.Names.{name_kind}
 use Rattle.refusals.specs.declared.Refusal.{Refusal}
-use Rattle.refusals.specs.declared.Refusal.TheVariants.{OnlyNames, LeftOfEquals}
+use Rattle.refusals.specs.declared.Refusal.TheVariants.{NameExpected, OnlyNames, LeftOfEquals}
 use Rattle.term_parser.specs.declared.Input.{Input}
 use Rattle.term_parser.specs.declared.Position.{Position}
-use Rattle.term_parser.specs.Steps.{Step}
+use Rattle.refusals.specs.declared.Rejection.{Rejection}
+use Rattle.term_parser.specs.declared.Token.{Token}
+use Rattle.term_parser.specs.Steps.{Step, rejection_at}
 use Rattle.term_parser.specs.Steps.Step.{At, Absent, Refused}
 
 -- What a step and the rows then at hand come to: the place of the next token and the rows up to now, or nothing, or a refusal.
@@ -70,6 +72,11 @@ pub record Room (ts : Tokens) (p u : ℕ) (out : Rows) : Type 0 where
 -- The reader of what stands from a parenthesis on, of which `left` more may be open.
 abbrev pub inside : List ℕ → Tokens → ℕ → Tokens → Parsed (Source one)
 inside text ts left = parenthesis text (last_line ts) left
+
+-- A name is at a place, or the token there is refused.
+abbrev pub NameRead : Tokens → ℕ → Result Token Rejection → Type 0
+NameRead ts p (Ok t) = (t ≡ token_of (drop p ts)) × (t.kind ≡ name_kind)
+NameRead ts p (Err e) = (kind_of (drop p ts) ≡ name_kind → ⊥) × (e ≡ rejection_at NameExpected ts p)
 
 -- A sign was taken, and no row.
 abbrev pub signed : ℕ → ℕ → Parsed (Unit {0}) → Step

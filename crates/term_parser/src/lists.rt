@@ -6,9 +6,9 @@ ghost use Rattle.term_parser.specs.Steps.{step};
 ghost use Rattle.term_parser.specs.Promises.{Room, Reads, ReadsList};
 
 use super::items::{Bound, Judgment, Name, Pattern, all, list};
-use super::tokens::{peek, push, rejection, sign};
+use super::tokens::{name_token, peek, push, sign};
 use super::{Input, Position, Read};
-use refusals::{Refusal, Rejection};
+use refusals::Rejection;
 use words::{COLON, DOUBLE_ARROW, NAME};
 
 // A name that must be there.
@@ -16,11 +16,8 @@ pub fn name(input: Input, from: Position, out: &mut [[u32; 4]]) -> Result<Read, 
     requires { Room input.tokens.now from.at from.used out.old }
     ensures { Reads 1 name_rows (λ _. name_of) input.entry from out.old (step result) out.new }
 {
-    let t = peek(input.tokens, from.at);
-    if t.kind == NAME {
-        return Ok(push(out, from, [NAME, t.start, t.length, 0]));
-    }
-    Err(rejection(Refusal::NameExpected, input.tokens, from.at))
+    let t = name_token(input.tokens, from.at)?;
+    Ok(push(out, from, [NAME, t.start, t.length, 0]))
 }
 
 // `n :`

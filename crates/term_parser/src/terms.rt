@@ -29,11 +29,13 @@ pub fn apply(
         return Ok(read);
     }
     let row = out[root];
-    if row[0] == NAME {
-        out[root] = [APPLICATION, row[1], row[2], more];
-        return Ok(read);
+    match row {
+        [NAME, start, length, _] => {
+            out[root] = [APPLICATION, start, length, more];
+            Ok(read)
+        }
+        _ => Err(rejection(Refusal::OnlyNames, input.tokens, from.at)),
     }
-    Err(rejection(Refusal::OnlyNames, input.tokens, from.at))
 }
 
 // The term whose rows start at `root`, with the term behind it, up to the place `from`, as its last argument.

@@ -3,15 +3,17 @@ ghost use Rattle.std.specs.Prelude.{◌≡◌, ◌+◌, ◌≤◌, ◌<◌, min,
 ghost use Rattle.source_text.specs.Numerals.{numeral_of};
 ghost use Rattle.source_text.specs.Parts.{part_of};
 ghost use Rattle.term_parser.specs.Parsing.{token_of, line_of, last_line, sign_of};
-ghost use Rattle.term_parser.specs.Grammar.{value};
+ghost use Rattle.term_parser.specs.Grammar.{value, held_of};
 ghost use Rattle.term_parser.specs.Steps.{step, rejection_at};
-ghost use Rattle.term_parser.specs.Promises.{Signed};
+ghost use Rattle.term_parser.specs.Promises.{NameRead, Signed};
 
 use super::{Input, Position, Read, Token};
 use refusals::{Refusal, Rejection};
+use words::NAME;
 
 // The token at a place; past the end all its numbers are 0. No other function reads the list.
-// Stays: no kind is 0, so each caller compares the kind alone; of an `Option` each would ask `is_some_and(|token| token.kind == NAME)`.
+// Stays: no kind is 0, so past the end no reader finds a kind that it looks for, and it reads the other numbers only where it found one; `line` alone
+// goes past the end, where there are no tokens, and 0 is then no line. Of an `Option` ten readers would ask `is_some_and(|token| token.kind == KIND)`.
 pub fn peek(tokens: &[[u32; 4]], at: usize) -> Token
     ensures { result ≡ token_of (drop at tokens.now) }
 {
@@ -27,12 +29,20 @@ pub fn line(tokens: &[[u32; 4]], at: usize) -> u32
     peek(tokens, at.min(last)).line
 }
 
-// The value of the numeral at a place of the text, 2^32 - 1 for a larger one.
+// The value of the numeral at a place of the text, 2^32 - 1 for a larger one; none where no numeral of 64 bits stands there.
+pub fn held(text: &[u8], start: u32, length: u32) -> Option<u32>
+    ensures { result ≡ held_of (numeral_of (part_of text.now start length)) }
+{
+    words::numeral(text, start as usize, length as usize).map(|value| value.min(u64::from(
+        u32::MAX,
+    )) as u32)
+}
+
+// The same, 2^32 - 1 also where no numeral of 64 bits stands there.
 pub fn saturated(text: &[u8], start: u32, length: u32) -> u32
     ensures { result ≡ min (value (numeral_of (part_of text.now start length))) 4294967295 }
 {
-    let value = words::numeral(text, start as usize, length as usize);
-    value.unwrap_or(u64::MAX).min(u64::from(u32::MAX)) as u32
+    held(text, start, length).unwrap_or(u32::MAX)
 }
 
 // The refusal of the token at a place.
@@ -43,6 +53,17 @@ pub fn rejection(refusal: Refusal, tokens: &[[u32; 4]], at: usize) -> Rejection
         refusal,
         line: line(tokens, at),
     }
+}
+
+// The token at a place, which must be a name.
+pub fn name_token(tokens: &[[u32; 4]], at: usize) -> Result<Token, Rejection>
+    ensures { NameRead tokens.now at result }
+{
+    let token = peek(tokens, at);
+    if token.kind != NAME {
+        return Err(rejection(Refusal::NameExpected, tokens, at));
+    }
+    Ok(token)
 }
 
 // Writes a row for the token at a place, and takes it.

@@ -1,5 +1,5 @@
 -- Laws of readings: of one after another, of a line from a place on, and of a text from a line on.
-use mathlib.Core.Path.{◌≡◌, refl, sym, ap, ◌∙◌}
+use mathlib.Core.Path.{◌≡◌, refl, sym, ap, subst, ◌∙◌}
 use mathlib.Core.Bool.{Bool, true, cond, ◌&&◌}
 use mathlib.Core.List.{List, [], ◌∷◌, ◌++◌, append_assoc, append-nil}
 use Prim.Native.Nat.{ℕ, zero, suc, ◌+◌, ◌-◌, ◌≤◌, ◌<◌}
@@ -14,7 +14,10 @@ use Rattle.std.proofs.Math.Seq.{take-append-add}
 use borrow.Author.Tests.{ltb-true}
 use Rattle.source_text.specs.Bytes.{starts_with}
 use Rattle.source_text.specs.Characters.{character_of, has_outside}
-use Rattle.source_text.specs.Lines.{lines, line_of, code_of}
+use Rattle.source_text.specs.Lines.{lines}
+use Rattle.source_text.specs.TakenLines.{LineTaken}
+use Rattle.source_text.specs.declared.lines.Code.{Code}
+use Rattle.source_text.specs.declared.lines.Lines.{Lines}
 use Rattle.words.specs.Names.{word_item, if_fits}
 use Rattle.source_text.specs.Numerals.{all_digits, numeral_of}
 use Rattle.words.specs.Signs.{Sign, signs, sign_among, sign_item}
@@ -24,12 +27,12 @@ use Rattle.words.specs.Tokens.Reading.{tokens, refused}
 use Rattle.words.specs.Lexer.{answer_of, rows_of, zero_row, count_of}
 use Rattle.std.specs.Prelude.{Option, Some, None}
 use Rattle.std.specs.Prelude.{Result, Ok, Err}
-use Rattle.std.specs.Result.{result_unwrap_or}
+use Rattle.std.specs.Result.{result_unwrap_or, IsErrAnd, MatchResult}
 use Rattle.refusals.specs.declared.Rejection.{Rejection}
 use Rattle.refusals.specs.declared.Refusal.{Refusal}
 use Rattle.words.specs.Items.{Item}
 use Rattle.words.specs.Items.Item.{Blank, Token, Refused}
-use Rattle.source_text.proofs.Scans.{by_bool, and_left, and_right, prefix_fits, line_long, lines_at, code_part}
+use Rattle.source_text.proofs.Scans.{by_bool, and_left, and_right, prefix_fits, lines_taken}
 use Rattle.source_text.proofs.Encodings.{past}
 use Rattle.words.proofs.Items.{word_next, word_fits}
 
@@ -138,21 +141,19 @@ module _ (s : List ℕ) (i p n : ℕ) (ts : List (List ℕ)) where
     pub read_refused : (r : Refusal) → Refused r ≡ item_of (drop i s) → and_then (tokens ts) (read_after (drop i s) 0 (p + i) n) ≡ refused r n
     read_refused r e = ap (and_then (tokens ts)) (read_next s i p n (Refused r) h e) ∙ then_refused ts r n _
 
--- The reading of a text from the line at place `at` on: c is the end of that line's code, e its own.
-module _ (text : List ℕ) (at c e n : ℕ) (h : at < length text) (f : c ≡ at + length (code_of (line_of (drop at text)))) (g : e ≡ c + length (line_of (drop c text))) where
-  pub read_line : read_lines (lines (drop at text)) at n ≡ and_then (read_after (take (c - at) (drop at text)) 0 at n) (read_lines (lines (drop (e + 1) text)) (e + 1) (n + 1))
+-- The reading of a text from the line at place `at` on, which is taken.
+module _ (text : List ℕ) (at n : ℕ) (code : Code) (after : Lines) (t : LineTaken text at n code after) where
+  pub read_line : read_lines (lines (drop at text)) at n ≡ and_then (read_after code.bytes.now 0 code.start code.line) (read_lines (lines (drop after.at text)) after.at after.line)
   unfolding read_lines
-  read_line =
-      let k : at + length (line_of (drop at text)) ≡ e = sym (line_long text at c e h f g) in
-      simp (lines_at text at c e h f g, code_part text at c e h f g, k)
+  read_line = simp (lines_taken text at n code after t, t.bytes, t.start, t.number, t.next, t.counted)
 
-  pub outside_line_lem : outside_line (lines (drop at text)) n ≡ cond (has_outside (take (c - at) (drop at text))) n (outside_line (lines (drop (e + 1) text)) (n + 1))
+  pub outside_line_lem : outside_line (lines (drop at text)) n ≡ cond (has_outside code.bytes.now) n (outside_line (lines (drop after.at text)) after.line)
   unfolding outside_line
-  outside_line_lem = simp (lines_at text at c e h f g, code_part text at c e h f g)
+  outside_line_lem = simp (lines_taken text at n code after t, t.bytes, t.counted)
 
   -- With ts before it, and o what ts and the line's code come to.
-  pub line_read : (whole : Reading) (ts : List (List ℕ)) (o : Reading) → whole ≡ and_then (tokens ts) (read_lines (lines (drop at text)) at n) → o ≡ and_then (tokens ts) (read_after (take (c - at) (drop at text)) 0 at n) → whole ≡ and_then o (read_lines (lines (drop (e + 1) text)) (e + 1) (n + 1))
-  line_read whole ts o p q = p ∙ ap (and_then (tokens ts)) read_line ∙ sym (then_assoc (tokens ts) (read_after (take (c - at) (drop at text)) 0 at n) (read_lines (lines (drop (e + 1) text)) (e + 1) (n + 1))) ∙ ap (λ a. and_then a (read_lines (lines (drop (e + 1) text)) (e + 1) (n + 1))) (sym q)
+  pub line_read : (whole : Reading) (ts : List (List ℕ)) (o : Reading) → whole ≡ and_then (tokens ts) (read_lines (lines (drop at text)) at n) → o ≡ and_then (tokens ts) (read_after code.bytes.now 0 code.start code.line) → whole ≡ and_then o (read_lines (lines (drop after.at text)) after.at after.line)
+  line_read whole ts o p q = p ∙ ap (and_then (tokens ts)) read_line ∙ sym (then_assoc (tokens ts) (read_after code.bytes.now 0 code.start code.line) (read_lines (lines (drop after.at text)) after.at after.line)) ∙ ap (λ a. and_then a (read_lines (lines (drop after.at text)) after.at after.line)) (sym q)
 
 pub lines_past : (text : List ℕ) (at : ℕ) → length text ≤ at → lines (drop at text) ≡ []
 unfolding lines
@@ -207,3 +208,14 @@ module _ (m : ℕ) (rows after : List (List ℕ)) (long : length rows ≡ m) whe
       let k : length (take n rows) ≡ n = length-take-le n rows (omega arith) in
       (sym (simp k), e ∙ simp (k, long))
   leaves (Err r) f e = let k : length rows - 0 ≡ m = omega arith in (refl, e ∙ simp k)
+
+-- What `map_err` hands on: a value is that of the result, and an error is what is made of the result's.
+pub mapped_ok : {A E D : Type 0} (r : Result A E) (q : Result A D) (P : E → D → Type 0) (x : A) → MatchResult r (λ y. q ≡ Ok y) (λ e. IsErrAnd q (P e)) → q ≡ Ok x → r ≡ Ok x
+mapped_ok (Ok y) q P x h k = let f : Ok y ≡ Ok x = sym h ∙ k in let g : y ≡ x = cc in ap Ok g
+mapped_ok (Err e) (Ok y) P x h k = absurd h
+mapped_ok (Err e) (Err d) P x h k = absurd (cc)
+
+pub mapped_err : {A E D : Type 0} (r : Result A E) (q : Result A D) (P : E → D → Type 0) (d : D) → MatchResult r (λ y. q ≡ Ok y) (λ e. IsErrAnd q (P e)) → q ≡ Err d → (e : E) × (r ≡ Err e) × P e d
+mapped_err (Ok y) q P d h k = absurd (let f : Ok y ≡ Err d = sym h ∙ k in cc)
+mapped_err (Err e) (Ok y) P d h k = absurd h
+mapped_err (Err e) (Err c) P d h k = let g : c ≡ d = cc in (e, refl, subst (P e) g h)

@@ -6,8 +6,8 @@
 #![tactic(auto)]
 
 pub use names::{
-    AUTO, BY, CHECK, CTOR, DEF, EVAL, INDUCTION, METAVARIABLE, NAME, NUMERAL, PRED, RULE, SORT,
-    THEOREM,
+    AUTO, BY, CHECK, CTOR, DEF, EVAL, INDUCTION, LONGEST, METAVARIABLE, NAME, NUMERAL, PRED, RULE,
+    SORT, THEOREM,
 };
 pub use signs::{ARROW, BAR, CLOSE, COLON, COMMA, DEFINES, DOUBLE_ARROW, EQUALS, OPEN};
 pub use source_text::bytes::same;
@@ -38,7 +38,7 @@ pub struct Limits {
 }
 
 // Document 01's limits: 65,536 bytes of text, 32,768 nodes in all, 65,535 steps, 65,536 variables, 262,144 words.
-const TEXT: u32 = 65536;
+pub const TEXT: u32 = 65536;
 
 const NODES: u32 = 32768;
 
@@ -47,6 +47,15 @@ const STEPS: u32 = 65535;
 const VARIABLES: u32 = 65536;
 
 pub const WORDS: u32 = 262144;
+
+// Limits of 0, for those that a reader does not look at.
+pub const NO_LIMITS: Limits = Limits {
+    text: 0,
+    nodes: 0,
+    steps: 0,
+    variables: 0,
+    words: 0,
+};
 
 impl Limits {
     // The limits that count.

@@ -41,7 +41,7 @@ pub const METAVARIABLE: u32 = 13;
 pub const NUMERAL: u32 = 14;
 
 // The most bytes that a word may have: document 01's 64.
-const LONGEST: usize = 64;
+pub const LONGEST: usize = 64;
 
 // k where w is the keyword v, else the number of a name.
 // Stays: k is the number of a keyword, and no length of v.
@@ -95,23 +95,13 @@ pub fn word_item(w: &[u8]) -> Result<Lexeme, Refusal>
     if LONGEST < length {
         return Err(Refusal::WordTooLong);
     }
-    if w[0] == b'?' {
-        return Ok(Lexeme {
-            kind: METAVARIABLE,
-            length,
-        });
-    }
-    if all_digits(w) {
-        if value(w).is_none() {
-            return Err(Refusal::NumeralTooLarge);
-        }
-        return Ok(Lexeme {
-            kind: NUMERAL,
-            length,
-        });
-    }
-    Ok(Lexeme {
-        kind: keyword(w),
-        length,
-    })
+    let kind = if w[0] == b'?' {
+        METAVARIABLE
+    } else if all_digits(w) {
+        value(w).ok_or(Refusal::NumeralTooLarge)?;
+        NUMERAL
+    } else {
+        keyword(w)
+    };
+    Ok(Lexeme { kind, length })
 }

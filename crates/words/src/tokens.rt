@@ -11,7 +11,7 @@ use super::names::word_item;
 use super::signs::sign_item;
 use refusals::{Refusal, Rejection};
 use source_text::characters::{Class, Classes};
-use source_text::lines::{code_end, line_end};
+use source_text::lines::{Code, Lines};
 
 pub type Row = [u32; 4];
 
@@ -56,40 +56,25 @@ fn item_at(classes: &Classes, line: &[u8], at: usize) -> Result<Option<Lexeme>, 
     }
 }
 
-// Reads a line without its comment, which starts at place `start` of the text; its tokens go to the rows from 0 on.
-fn read_code(
-    classes: &Classes,
-    code: &[u8],
-    start: usize,
-    number: u32,
-    rows: &mut [Row],
-) -> Result<usize, Rejection>
-    requires { Room code.now start rows.old }
-    ensures { Read (read_after code.now 0 start number) (length code.now) 0 rows.old result rows.new }
+// Reads the code of a line; its tokens go to the rows from 0 on.
+fn read_code(classes: &Classes, code: Code, rows: &mut [Row]) -> Result<usize, Rejection>
+    requires { Room code.bytes.now code.start rows.old }
+    ensures { Read (read_after code.entry.bytes.now 0 code.entry.start code.entry.line) (length code.entry.bytes.now) 0 rows.old result rows.new }
 {
+    let Code { bytes, start, line } = code;
     let mut at = 0;
     let mut n = 0;
     // Stays: a step is as long as a token, and one byte only at a blank.
-    while at < code.len() {
-        match item_at(classes, code, at) {
-            Ok(None) => {
+    while at < bytes.len() {
+        let item = item_at(classes, bytes, at).map_err(|refusal| Rejection { refusal, line })?;
+        match item {
+            None => {
                 at += 1;
             }
-            Ok(Some(lexeme)) => {
-                rows[n] = [
-                    lexeme.kind,
-                    (start + at) as u32,
-                    lexeme.length as u32,
-                    number,
-                ];
+            Some(lexeme) => {
+                rows[n] = [lexeme.kind, (start + at) as u32, lexeme.length as u32, line];
                 n += 1;
                 at += lexeme.length;
-            }
-            Err(refusal) => {
-                return Err(Rejection {
-                    refusal,
-                    line: number,
-                });
             }
         }
     }
@@ -102,35 +87,26 @@ pub fn read_lines(text: &[u8], rows: &mut [Row]) -> Result<usize, Rejection>
     ensures { Read (read_lines (lines text.now) 0 1) (length text.now) 0 rows.old result rows.new }
 {
     let classes = Classes::new();
-    let mut at = 0;
-    let mut number = 1;
+    let mut lines = Lines::new(text);
     let mut count = 0;
-    while at < text.len() {
-        let end = code_end(text, at);
-        let read = read_code(&classes, &text[at..end], at, number, &mut rows[count..])?;
+    while let Some(code) = lines.next() {
+        let read = read_code(&classes, code, &mut rows[count..])?;
         count += read;
-        at = line_end(text, end) + 1;
-        number += 1;
     }
     Ok(count)
 }
 
 // The first line with a character outside the domain and not in a comment.
-// Stays: goes through the lines as `read_lines` does; one loop for both would take a closure that may end it, with a contract on the rows it writes.
 pub fn outside_line(text: &[u8]) -> Option<u32>
     requires { length text.now ≤ 65536 }
     ensures { result ≡ positive (outside_line (lines text.now) 1) }
 {
     let classes = Classes::new();
-    let mut at = 0;
-    let mut number = 1;
-    while at < text.len() {
-        let end = code_end(text, at);
-        if classes.has_outside(&text[at..end]) {
-            return Some(number);
+    let mut lines = Lines::new(text);
+    while let Some(code) = lines.next() {
+        if classes.has_outside(code.bytes) {
+            return Some(code.line);
         }
-        at = line_end(text, end) + 1;
-        number += 1;
     }
     None
 }

@@ -33,4 +33,4 @@ returns c =
     let p : 0 < length c.args.text.now = omega (arith, c.in_ok-first.ensures.cases.1) in
     let q : c.in_ok-first.first.now ≡ get_or c.args.text.now 0 0 = ap (λ l. get_or l 0 0) (sym c.in_ok-first.ensures.cases.0) in
     let d : c.in_ok-first.rest.now ≡ drop 1 c.args.text.now = ap (drop 1) (sym c.in_ok-first.ensures.cases.0) in
-    c.then_some.ensures ∙ positive_if _ _ s.1 ∙ ap positive (sym (length_at c.args.text.now 0 c.in_ok-lead.lead p (s.0 ∙ ap lead_of q) c.tails.result (c.tails.ensures ∙ ap (tails_of (c.in_ok-lead.lead.length - 1) c.in_ok-lead.lead.low c.in_ok-lead.lead.high) d)))
+    c.then_some.ensures ∙ positive_if _ _ s.1 ∙ ap positive (sym (length_at c.args.text.now 0 c.in_ok-lead.lead p (s.0 ∙ ap lead_of q) c.has_tails.result (c.has_tails.ensures ∙ ap (tails_of (c.in_ok-lead.lead.length - 1) c.in_ok-lead.lead.low c.in_ok-lead.lead.high) d)))

@@ -1,6 +1,7 @@
 -- `word_item` meets its contract.
 use mathlib.Core.Path.{sym, ap, ◌∙◌}
 use Rattle.std.specs.Option.{is_some}
+use Rattle.refusals.specs.Refused.{handed_on, none_is}
 use Rattle.words.proofs.Items.{fits_some, fits_none}
 use borrow.Author.Tests.{eq-eqb, ne_eqb, lt-ltb, le-ltb}
 use Rattle.words.specs.Names.{word_item}
@@ -14,17 +15,19 @@ pub returns-then-w-eq63 : goal.returns-then-w-eq63
 unfolding word_item
 returns-then-w-eq63 c = simp (le-ltb _ _ c.if-length-gt-LONGEST.false, eq-eqb _ _ c.if-w-eq63.true)
 
-pub returns-then-is_none : goal.returns-then-is_none
+pub returns-in_err-ok_or : goal.returns-in_err-ok_or
 unfolding word_item
-returns-then-is_none c =
-    simp (le-ltb _ _ c.if-length-gt-LONGEST.false, ne_eqb _ _ c.if-w-eq63.false, ← c.all_digits.ensures, c.if-all_digits.true) (sym (fits_none _ _ (ap is_some (sym c.value.ensures) ∙ c.if-is_none.ensures)))
+returns-in_err-ok_or c =
+    let none = c.in_err-ok_or.ensures.ok_part in
+    rw (handed_on c.from_residual.result c.from_residual.ensures.1, none_is c.value.result none c.in_err-ok_or.ensures.value)
+    (simp (le-ltb _ _ c.if-length-gt-LONGEST.false, ne_eqb _ _ c.if-w-eq63.false, ← c.all_digits.ensures, c.if-all_digits.true) (sym (fits_none _ _ (ap is_some (sym c.value.ensures) ∙ ap is_some none))))
 
-pub returns-then-all_digits : goal.returns-then-all_digits
+pub returns-in_ok-ok_or : goal.returns-in_ok-ok_or
 unfolding word_item
-returns-then-all_digits c =
-    simp (le-ltb _ _ c.if-length-gt-LONGEST.false, ne_eqb _ _ c.if-w-eq63.false, ← c.all_digits.ensures, c.if-all_digits.true) (sym (fits_some _ _ (ap is_some (sym c.value.ensures) ∙ c.if-is_none.ensures)))
+returns-in_ok-ok_or c =
+    simp (le-ltb _ _ c.if-length-gt-LONGEST.false, ne_eqb _ _ c.if-w-eq63.false, ← c.all_digits.ensures, c.if-all_digits.true) (sym (fits_some _ _ (ap is_some (sym c.value.ensures) ∙ ap is_some c.in_ok-ok_or.ensures.ok_part)))
 
-pub returns : goal.returns
+pub returns-else-all_digits : goal.returns-else-all_digits
 unfolding word_item
-returns c =
+returns-else-all_digits c =
     simp (le-ltb _ _ c.if-length-gt-LONGEST.false, ne_eqb _ _ c.if-w-eq63.false, ← c.all_digits.ensures, c.if-all_digits.false, c.keyword.ensures)

@@ -1,4 +1,4 @@
--- `read_lines` meets its contract. The loop's invariant: the rows before `count`, and then the reading of the lines from `at` on, come to the whole reading;
+-- The loop's invariant: the rows before `count`, and then the reading of the lines from the next one on, come to the whole reading;
 -- there is no more than one row for each byte passed.
 use mathlib.Core.Path.{◌≡◌}
 use Prim.Native.Nat.{◌≤◌, ◌-◌, ◌+◌}
@@ -8,8 +8,8 @@ use Rattle.words.specs.Tokens.{and_then, read_lines}
 use Rattle.words.specs.Tokens.Reading.{tokens}
 use Rattle.words.proofs.tokens.read_lines.Given as goal
 
-abbrev pub invariant-loop-at : goal.invariant-loop-at
-invariant-loop-at l = (l.number ≤ l.at + 1) × (l.count ≤ l.at) × (l.count ≤ length l.text) × (length l.rows ≡ length l.initial.rows) × (read_lines (lines l.text) 0 1 ≡ and_then (tokens (take l.count l.rows)) (read_lines (lines (drop l.at l.text)) l.at l.number))
+abbrev pub invariant-loop-code : goal.invariant-loop-code
+invariant-loop-code l = (l.lines.text.now ≡ l.text) × (l.lines.line ≤ l.lines.at + 1) × (l.count ≤ l.lines.at) × (l.count ≤ length l.text) × (length l.rows ≡ length l.initial.rows) × (read_lines (lines l.text) 0 1 ≡ and_then (tokens (take l.count l.rows)) (read_lines (lines (drop l.lines.at l.text)) l.lines.at l.lines.line))
 
-abbrev pub decreases-loop-at : goal.decreases-loop-at
-decreases-loop-at l = length l.text + 1 - l.at
+abbrev pub decreases-loop-code : goal.decreases-loop-code
+decreases-loop-code l = length l.text + 1 - l.lines.at

@@ -1,0 +1,14 @@
+-- Lines taken from a text one by one.
+use Rattle.std.specs.Prelude.{◌≡◌, List, ℕ, ◌+◌, ◌<◌, length, drop}
+use Rattle.source_text.specs.Lines.{line_of, code_of}
+use Rattle.source_text.specs.declared.lines.Code.{Code}
+use Rattle.source_text.specs.declared.lines.Lines.{Lines}
+
+-- The line with this number, which starts at a place of the text, is taken: its code, and the lines after it.
+pub record LineTaken (text : List ℕ) (at line : ℕ) (code : Code) (after : Lines) : Type 0 where
+  pub inside : at < length text
+  pub bytes : code.bytes.now ≡ code_of (line_of (drop at text))
+  pub start : code.start ≡ at
+  pub number : code.line ≡ line
+  pub next : after.at ≡ at + length (line_of (drop at text)) + 1
+  pub counted : after.line ≡ line + 1
