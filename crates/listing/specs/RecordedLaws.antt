@@ -1,14 +1,31 @@
 -- Laws of recorded lists: a digit by its byte, a number digit by digit, and a text by the three numbers of its line.
 use Prim.Native.Nat.{ℕ, zero, suc, ◌+◌, ◌*◌, ◌-◌, ◌≤◌, ◌<◌, min}
-use Rattle.std.proofs.Common.{arith, sym, ap₂, ◌∙◌, lt-ltb, le-ltb, leb-true, ltb-true, ltb-false}
+use Rattle.std.proofs.Common.{arith, sym, ap₂, ◌∙◌, lt-ltb, le-ltb, le-leb, leb-true, ltb-true, ltb-false}
+use Rattle.std.proofs.lemmas.Bool.{lt-leb}
 use Rattle.terms.specs.Numbers.{by_bool}
 use Rattle.source_text.specs.Bytes.{within}
 use Rattle.source_text.specs.ByteLaws.{and_right}
 use Rattle.source_text.specs.Numerals.{digit_of}
-use Rattle.std.specs.Prelude.{Some, None, IfSome, true, leb, ltb, ◌≡◌, List, [], ◌∷◌, get_or, length}
+use Rattle.std.specs.Prelude.{Some, None, IfSome, true, false, leb, ltb, ◌≡◌, List, [], ◌∷◌, get_or, length}
 use Rattle.std.proofs.Math.Path.{refl, ap}
 use Rattle.listing.specs.Recorded.{largest, digit_at, read_digit, decimal_from, decimal_at, recorded_by, recorded_at}
 use Rattle.listing.specs.declared.recorded.Decimal.{Decimal}
+
+module _ (list : List ℕ) (at : ℕ) where
+  pub digit_none : within 48 57 (get_or list at 0) ≡ false → digit_at list at ≡ 10
+  digit_none e = rw e refl
+
+  pub digit_within : within 48 57 (get_or list at 0) ≡ true → digit_at list at ≡ get_or list at 0 - 48
+  digit_within e = rw e refl
+
+  pub digit_low : get_or list at 0 < 48 → digit_at list at ≡ 10
+  digit_low h = rw (lt-leb 48 (get_or list at 0) h)
+
+  pub digit_high : 57 < get_or list at 0 → digit_at list at ≡ 10
+  digit_high h = let l : 48 ≤ get_or list at 0 = omega arith in rw (le-leb 48 (get_or list at 0) l, lt-leb (get_or list at 0) 57 h)
+
+  pub digit_is : 48 ≤ get_or list at 0 → get_or list at 0 ≤ 57 → digit_at list at ≡ get_or list at 0 - 48
+  digit_is l h = rw (le-leb 48 (get_or list at 0) l, le-leb (get_or list at 0) 57 h)
 
 past : (list : List ℕ) (at : ℕ) → length list ≤ at → get_or list at 0 ≡ 0
 past [] at h = refl
