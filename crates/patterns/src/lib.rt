@@ -309,7 +309,10 @@ fn node(
         room: from.room - 1,
         ..from
     };
-    for (k, sort) in symbols[i][FIRST_INPUT..FIRST_INPUT + arguments].iter().enumerate() {
+    for (k, sort) in symbols[i][FIRST_INPUT..FIRST_INPUT + arguments]
+        .iter()
+        .enumerate()
+    {
         let made = pattern(source, *sort, variables, words, place)?;
         refs[k] = made.node;
         place = made.place;
