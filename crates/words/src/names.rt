@@ -41,7 +41,7 @@ pub const METAVARIABLE: u32 = 13;
 pub const NUMERAL: u32 = 14;
 
 // The most bytes that a word may have: document 01's 64.
-const LONGEST: usize = 64;
+pub const LONGEST: usize = 64;
 
 // k where w is the keyword v, else the number of a name.
 // Stays: k is the number of a keyword, and no length of v.
