@@ -11,13 +11,13 @@ ghost use Rattle.patterns.specs.Laying.{lay, laid};
 ghost use Rattle.patterns.specs.Promises.{stored, entry_of, Grew, answer, Small, NextIs, Ready, Compiled, NodeMade, tower, refusal, RefusedFor, constructor_of, NumeralsFound, Numbered, Judged};
 ghost use Rattle.patterns.specs.Promises.{LiesAt, EntryPlaced, MadePlaced};
 
-use arena::PATTERN_ROOM;
-use names::columns::{ARITY, FIRST_INPUT, MARK, OUTPUT};
+use arena::{INPUTS, PATTERN_ROOM};
+use names::columns::{ARITY, FIRST_INPUT, MARK, OUTPUT, SORT};
 use names::{FUNCTION, SourceTerms, SymbolRow, TermRow, VariableRow, Word};
 use refusals::Refusal;
 
 // How many variables a rule may have.
-pub const VARIABLES: usize = 64;
+pub const VARIABLES: usize = PATTERN_ROOM as usize;
 
 // A variable that is entered: its number, and how many variables there are then.
 #[derive(Clone, Copy)]
@@ -45,9 +45,9 @@ pub fn enter(
     let [kind, start, size, _] = row;
     match names::find_at(text, &variables[..count], kind, Word { start, size }) {
         Some(index) => {
-            let old = variables[index][3];
+            let old = variables[index][SORT];
             if old == 0 {
-                variables[index][3] = sort;
+                variables[index][SORT] = sort;
                 return Ok(EnteredVariable { index, count });
             }
             if sort == 0 {
@@ -304,7 +304,7 @@ fn node(
     if from.room == 0 {
         return Err(Refusal::Full);
     }
-    let mut refs = [0u32; 16];
+    let mut refs = [0u32; INPUTS as usize];
     let mut place = Place {
         room: from.room - 1,
         ..from
