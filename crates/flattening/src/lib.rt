@@ -10,6 +10,7 @@ ghost use Rattle.names.specs.Symbols.{column, row_at, symbols_of};
 ghost use Rattle.flattening.specs.Flattening.{is_function};
 ghost use Rattle.flattening.specs.Promises.{call_limit, arity_of, is_call, Copied, Finishes, Room, Flattens};
 
+use names::columns::MARK;
 use names::{FUNCTION, SourceTerms, TermRow, Word};
 
 // How far flattening is: the next row of the source, where the next row of the term and of the premises goes, and how many calls were made.
@@ -40,7 +41,7 @@ fn is_function(source: SourceTerms, word: Word) -> bool
         |i|
             requires { i < length source.symbols.now }
             ensures { result ≡ eqb (column (row_at source.entry.symbols.now i) 3) 1 }
-        { source.symbols[i][3] == FUNCTION },
+        { source.symbols[i][MARK] == FUNCTION },
     )
 }
 

@@ -1,4 +1,4 @@
-// The columns of the rows of sorts and symbols (docs/STORAGE.md).
+// The columns of the rows of sorts, symbols and variables (docs/STORAGE.md).
 
 // Of sorts, symbols and rules: where the name starts, and how long it is.
 pub const START: usize = 0;
@@ -19,3 +19,6 @@ pub const ARITY: usize = 6;
 pub const FREE: usize = 7;
 
 pub const FIRST_INPUT: usize = 8;
+
+// Of variables: the sort, behind kind, start and length.
+pub const SORT: usize = 3;

@@ -1,14 +1,16 @@
 // Names: sorts, symbols and variables, found by their whole names. Two names are the same only if all their bytes are.
 #![tactic(auto)]
 
-ghost use Rattle.std.specs.Prelude.{ℕ, ◌≡◌, ◌≤◌, List, position, IsTrue, ◌↔◌};
+ghost use Rattle.std.specs.Prelude.{ℕ, ◌≡◌, ◌≤◌, ◌<◌, List, length, get_or, position, IsTrue, ◌↔◌};
 ghost use Rattle.source_text.specs.Bytes.{same_bytes};
 ghost use Rattle.source_text.specs.Parts.{part_of};
 ghost use Rattle.names.specs.Names.{Name, result_names, name_of, name_in};
 ghost use Rattle.names.specs.NamePlaces.{NamePlace, is_word_place};
-ghost use Rattle.names.specs.Symbols.{column, sort_of};
+ghost use Rattle.names.specs.Symbols.{column, row_at, sort_of};
 
-pub mod columns; // the columns of the rows of sorts and symbols
+pub mod columns; // the columns of the rows of sorts, symbols and variables
+
+use words::LONGEST;
 
 // A sort: start, length.
 pub type SortRow = [u32; 2];
@@ -76,9 +78,6 @@ pub const NO_FUNCTION: u32 = 0;
 
 pub const FUNCTION: u32 = 1;
 
-// The most bytes that a word may have.
-const LONGEST: u32 = 64;
-
 // The names `result.1` to `result.16`, 16 bytes each.
 const RESULT_NAMES: [u8; 256] =
     *b"result.1\0\0\0\0\0\0\0\0result.2\0\0\0\0\0\0\0\0result.3\0\0\0\0\0\0\0\0result.4\0\0\0\0\0\0\0\0result.5\0\0\0\0\0\0\0\0result.6\0\0\0\0\0\0\0\0result.7\0\0\0\0\0\0\0\0result.8\0\0\0\0\0\0\0\0result.9\0\0\0\0\0\0\0\0result.10\0\0\0\0\0\0\0result.11\0\0\0\0\0\0\0result.12\0\0\0\0\0\0\0result.13\0\0\0\0\0\0\0result.14\0\0\0\0\0\0\0result.15\0\0\0\0\0\0\0result.16\0\0\0\0\0\0\0";
@@ -90,13 +89,25 @@ pub fn part<'a>(text: &'a [u8], word: Word) -> &'a [u8]
     words::word(text, word.start as usize, word.size as usize)
 }
 
+// Writes the numbers in one column of rows.
+// Stays: tried `numbers.iter_mut().zip(rows)`: the loop's invariant can't name the numbers then, and so nothing is known of what was written.
+pub fn put_column<const N: usize>(rows: &[[u32; N]], at: usize, numbers: &mut [u32])
+    requires { (at < N) × (length rows.now ≤ length numbers.old) }
+    ensures { (i : ℕ) → i < length rows.now → get_or numbers.new i 0 ≡ column (row_at rows.now i) at }
+{
+    for (i, row) in rows.iter().enumerate() {
+        numbers[i] = row[at];
+    }
+}
+
 // May a word have this place: inside the text, with 1 to 64 bytes?
 pub fn is_word_place(text: &[u8], word: Word) -> bool
     ensures is { result ≡ is_word_place text.now word.start word.size }
     ensures told { IsTrue result ↔ NamePlace text.now word.start word.size }
 {
-    let Word { start, size } = word;
-    0 < size && size <= LONGEST && start as usize + size as usize <= text.len()
+    let start = word.start as usize;
+    let size = word.size as usize;
+    0 < size && size <= LONGEST && start + size <= text.len()
 }
 
 // Is the word at a place of a text w? Most words differ in length, so that is looked at before the place.

@@ -1,8 +1,11 @@
 -- Laws of numerals.
-use mathlib.Core.Path.{◌≡◌, refl, sym, ◌∙◌}
+use mathlib.Core.Path.{◌≡◌, refl, sym, ap, ◌∙◌}
 use mathlib.Core.List.{List, [], ◌∷◌}
 use mathlib.Core.Bool.{Bool, true, false, cond, not, ◌&&◌}
-use Rattle.std.specs.Prelude.{Some, None}
+use Rattle.std.specs.Prelude.{Option, Some, None, Ok}
+use Rattle.std.specs.Option.{ok_or}
+use borrow.Author.Rules.{rules}
+use Rattle.refusals.specs.declared.Refusal.TheVariants.{NoNumerals}
 use Rattle.std.proofs.Common.{ltb-true}
 use Rattle.source_text.specs.ByteLaws.{and_left}
 use Prim.Native.Nat.{ℕ, zero, suc, ◌+◌, ◌*◌, ◌-◌, ◌≤◌, ◌<◌}
@@ -21,7 +24,7 @@ use Rattle.names.specs.Symbols.{Rows, Symbol, Variable, column, row_at, symbol_o
 use Rattle.names.specs.SearchLaws.{columns_at}
 use Rattle.patterns.specs.Patterns.{bad, good, bind, misfit, spent, unless, is_ctor, zero_name, succ_name, first, chain, pattern_of}
 use Rattle.patterns.specs.Laying.{laid, lay}
-use Rattle.patterns.specs.Promises.{no, yes, stored, tower, or_full, refusal, constructor_of}
+use Rattle.patterns.specs.Promises.{no, yes, stored, tower, or_full, refusal, constructor_of, ConstructorAt}
 use Rattle.patterns.proofs.Symbols.{misfit_args}
 use Rattle.patterns.proofs.Terms.{symbol_at_lem, symbols_length}
 
@@ -197,3 +200,8 @@ module _ (text : List ℕ) (sr : Rows) (n : ℕ) (hs : n ≤ length sr) (v s : �
         pub number_done : (r : ℕ) (wx : List ℕ) → lay (tower y z v) w u ≡ laid (r ∷ []) wx (u + 1 + 2 * v)
             → yes (laid (r ∷ []) wx (u + 1 + 2 * v)) vs (m - 1 - v) ≡ stored [] (pattern_of (symbols_of text sr n) (number v) (s ∷ []) vs m) w u
         number_done r wx l = rw (it_is, fine.1, l)
+
+-- A number that is found where no constructor is refused is that of the constructor with the name.
+pub constructor_at : (ss : List Symbol) (w : Name) (i : ℕ) (o : Option ℕ) → o ≡ constructor_of ss w → Ok i ≡ ok_or o NoNumerals → ConstructorAt ss w i
+constructor_at ss w i None h f = absurd (search rules)
+constructor_at ss w i (Some j) h f = constructor_some ss w i (let e : i ≡ j = search rules in ap Some e ∙ h)

@@ -11,12 +11,13 @@ ghost use Rattle.patterns.specs.Laying.{lay, laid};
 ghost use Rattle.patterns.specs.Promises.{stored, entry_of, Grew, answer, Small, NextIs, Ready, Compiled, NodeMade, tower, refusal, RefusedFor, constructor_of, NumeralsFound, Numbered, Judged};
 ghost use Rattle.patterns.specs.Promises.{LiesAt, EntryPlaced, MadePlaced};
 
-use arena::{HEADERS, PATTERN_ROOM, SYMBOL_STEP};
+use arena::{INPUTS, PATTERN_ROOM};
+use names::columns::{ARITY, FIRST_INPUT, MARK, OUTPUT, SORT};
 use names::{FUNCTION, SourceTerms, SymbolRow, TermRow, VariableRow, Word};
 use refusals::Refusal;
 
 // How many variables a rule may have.
-const VARIABLES: usize = 64;
+pub const VARIABLES: usize = PATTERN_ROOM as usize;
 
 // A variable that is entered: its number, and how many variables there are then.
 #[derive(Clone, Copy)]
@@ -44,9 +45,9 @@ pub fn enter(
     let [kind, start, size, _] = row;
     match names::find_at(text, &variables[..count], kind, Word { start, size }) {
         Some(index) => {
-            let old = variables[index][3];
+            let old = variables[index][SORT];
             if old == 0 {
-                variables[index][3] = sort;
+                variables[index][SORT] = sort;
                 return Ok(EnteredVariable { index, count });
             }
             if sort == 0 {
@@ -136,21 +137,20 @@ impl NumeralSymbols {
     }
 }
 
-// What the symbol i is refused for at a place of the sort want (0: a judgment), with so many arguments.
+// What a symbol is refused for at a place of the sort want (0: a judgment), with so many arguments.
 // Stays: `want` is compared with the output in a symbol's row, where 0 is a predicate's; of an `Option` it would be made a number again first.
-fn misfit(symbols: &[SymbolRow], i: usize, want: u32, arguments: usize) -> Result<(), Refusal>
-    requires { i < length symbols.now }
-    ensures { (text : List ℕ) → RefusedFor (misfitOf (symbol_of text (row_at symbols.now i)) want arguments) result }
+fn misfit(symbol: &SymbolRow, want: u32, arguments: usize) -> Result<(), Refusal>
+    ensures { (text : List ℕ) → RefusedFor (misfitOf (symbol_of text symbol.now) want arguments) result }
 {
-    if symbols[i][3] == FUNCTION {
+    if symbol[MARK] == FUNCTION {
         if 0 < want {
             return Err(Refusal::FunctionInTerm);
         }
     }
-    if symbols[i][2] != want {
+    if symbol[OUTPUT] != want {
         return Err(Refusal::CannotStand);
     }
-    if symbols[i][6] as usize != arguments {
+    if symbol[ARITY] as usize != arguments {
         return Err(Refusal::ArgumentCount);
     }
     Ok(())
@@ -171,14 +171,14 @@ fn numeral_misfit(
     let mut s = want;
     let mut m = room;
     for _k in 0..n {
-        misfit(symbols, succ, s, 1)?;
+        misfit(&symbols[succ], s, 1)?;
         if m == 0 {
             return Err(Refusal::Full);
         }
-        s = symbols[succ][8];
+        s = symbols[succ][FIRST_INPUT];
         m -= 1;
     }
-    misfit(symbols, zero, s, 0)?;
+    misfit(&symbols[zero], s, 0)?;
     if m == 0 {
         return Err(Refusal::Full);
     }
@@ -192,8 +192,8 @@ fn numeral_words(words: &mut [u32], used: usize, numerals: NumeralSymbols, n: us
     ensures { lay (tower numerals.succ numerals.zero n) words.old used ≡ laid (result ∷ []) words.new (used + 1 + 2 * n) }
 {
     let NumeralSymbols { zero, succ } = numerals;
-    words[used] = HEADERS + SYMBOL_STEP * (zero as u32);
-    let h = HEADERS + 1 + SYMBOL_STEP * (succ as u32);
+    words[used] = arena::header_of(zero, 0);
+    let h = arena::header_of(succ, 1);
     let mut u = used + 1;
     let mut r = PATTERN_ROOM + (used as u32);
     for _k in 0..n {
@@ -211,7 +211,7 @@ pub fn constructor(text: &[u8], symbols: &[SymbolRow], w: &[u8]) -> Option<usize
     ensures { result ≡ constructor_of (symbols_of text.now symbols.now (length symbols.now)) w.now }
 {
     let i = names::find(text, symbols, w)?;
-    (symbols[i][2] != 0).then_some(i)
+    (symbols[i][OUTPUT] != 0).then_some(i)
 }
 
 // The numeral n as a pattern.
@@ -300,21 +300,24 @@ fn node(
     ensures { NodeMade source.entry.text.now source.entry.rows.now from.next arguments (symbols_of source.entry.text.now source.entry.symbols.now (length source.entry.symbols.now)) i want variables.old from.variables words.old from.used from.room result variables.new words.new }
 {
     let symbols = source.symbols;
-    misfit(symbols, i, want, arguments)?;
+    misfit(&symbols[i], want, arguments)?;
     if from.room == 0 {
         return Err(Refusal::Full);
     }
-    let mut refs = [0u32; 16];
+    let mut refs = [0u32; INPUTS as usize];
     let mut place = Place {
         room: from.room - 1,
         ..from
     };
-    for (k, sort) in symbols[i][8..8 + arguments].iter().enumerate() {
+    for (k, sort) in symbols[i][FIRST_INPUT..FIRST_INPUT + arguments]
+        .iter()
+        .enumerate()
+    {
         let made = pattern(source, *sort, variables, words, place)?;
         refs[k] = made.node;
         place = made.place;
     }
-    let h = HEADERS + SYMBOL_STEP * (i as u32) + (arguments as u32);
+    let h = arena::header_of(i, arguments);
     arena::push_node(words, place.used as u32, h, &refs[..arguments]);
     Ok(CompiledTerm {
         node: PATTERN_ROOM + (place.used as u32),

@@ -22,10 +22,8 @@ use rules::columns::{
     PREMISE_WORDS, PREMISES, VARIABLES,
 };
 
-// The most words that the terms of a rule take: 2 for each of 1,024 nodes.
-const MOST: u32 = 2048;
-// The most rules.
-const RULES: u32 = 1024;
+// The most words that the terms of a rule take, as rows count them.
+const MOST: u32 = rules::RULE_WORDS as u32;
 
 // Whether the words of premises and conclusion are few, and no more than are left.
 fn are_sizes(left: u32, body: u32, head: u32) -> bool
@@ -51,13 +49,13 @@ fn are_numbers(text: &[u8], rule: &RuleRow, from: u32, used: u32) -> bool
     if !is_word_place(text, Word::at_start(rule)) {
         return false;
     }
-    if RULES < rule[CLAUSE] {
+    if rules::RULES < rule[CLAUSE] as usize {
         return false;
     }
-    if 64 < rule[VARIABLES] {
+    if PATTERN_ROOM < rule[VARIABLES] {
         return false;
     }
-    if 16 < rule[PREMISES] {
+    if rules::PREMISES < rule[PREMISES] as usize {
         return false;
     }
     if rule[FIRST_WORD] != from {
@@ -95,7 +93,7 @@ fn are_columns(rule: &RuleRow, sorts: u32) -> bool
     if !are_zeros(&rule[FIRST_SORT + variables..FIRST_PLACE]) {
         return false;
     }
-    if !are_zeros(&rule[FIRST_PLACE + variables..154]) {
+    if !are_zeros(&rule[FIRST_PLACE + variables..]) {
         return false;
     }
     are_sorts(&rule[FIRST_SORT..FIRST_SORT + variables], sorts)

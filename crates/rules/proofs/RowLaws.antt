@@ -1,12 +1,12 @@
 -- Laws of a row that is written column by column.
-use mathlib.Core.Path.{◌≡◌, refl, sym, ap, ap₂, ◌∙◌}
+use mathlib.Core.Path.{◌≡◌, refl, sym, ap, ◌∙◌}
 use mathlib.Core.List.{List, [], ◌∷◌, ◌++◌, map}
 use Prim.Native.Nat.{ℕ, zero, suc, ◌+◌, ◌≤◌, ◌<◌}
 use native.Mathlib.Numerals.{add-one}
 use native.Mathlib.Omega.{arith}
 use lib.ListN.{length, get_or, take, drop, set, length-set, get_or-map}
 use borrow.Rule.Slice.PartMut.{put_mid}
-use Rattle.std.proofs.lemmas.List.{take-append-drop, drop-drop, drop-set-lt}
+use Rattle.std.proofs.lemmas.List.{take-append-drop, drop-drop, drop-set-lt, ext_get_or, take_all}
 use Rattle.std.proofs.Common.{append_assoc}
 use lib.Seq.{sets, take-suc, take-suc-set, length-take-le, get_or-set_same, set-set}
 use Rattle.names.specs.Symbols.{Rows, Variable, row_at, column, variable_of, variables_of}
@@ -63,16 +63,13 @@ map_take f zero l = refl
 map_take f (suc n) [] = refl
 map_take f (suc n) (x ∷ l) = ap (λ r. f x ∷ r) (map_take f n l)
 
--- One sort more.
-pub sorts_next : (text : List ℕ) (row : List ℕ) (rows : Rows) (at j : ℕ) → j < length rows
-    → set (sets row at (sorts_in text rows j)) (at + j) (column (row_at rows j) 3) ≡ sets row at (sorts_in text rows (j + 1))
-sorts_next text row rows at j l =
+-- The numbers in that column are those sorts.
+pub sorts_put : (text : List ℕ) (rows : Rows) (part : List ℕ) → length part ≡ length rows → ((i : ℕ) → i < length rows → get_or part i 0 ≡ column (row_at rows i) 3) → part ≡ sorts_in text rows (length rows)
+sorts_put text rows part e h =
     let f : List ℕ → ℕ = λ r. column r 3 in
-    let xs : List ℕ = map f rows in
-    let e : (n : ℕ) → sorts_in text rows n ≡ take n xs = λ n. sorts_column text rows n ∙ map_take f n rows in
-    let v : get_or xs j 0 ≡ column (row_at rows j) 3 = get_or-map f rows j [] in
-    let m : j < length xs = rw (map_length f rows) l in
-    ap₂ (λ (a : List ℕ) (b : ℕ). set (sets row at a) (at + j) b) (e j) (sym v) ∙ sets_next row xs at j m ∙ ap (sets row at) (sym (e (j + 1)))
+    let t : take (length rows) rows ≡ rows = take_all _ _ (omega arith) in
+    ext_get_or 0 part (map f rows) (e ∙ sym (map_length f rows)) (λ i l. h i (rw e at l) ∙ sym (get_or-map f rows i []))
+    ∙ ap (map f) (sym t) ∙ sym (sorts_column text rows (length rows))
 
 -- A row changed again.
 pub over : (rules rules' rules'' : Rows) (i : ℕ) → i < length rules → (row : List ℕ) (f : List ℕ → List ℕ) → rules' ≡ set rules i row → rules'' ≡ set rules' i (f (row_at rules' i)) → rules'' ≡ set rules i (f row)

@@ -16,23 +16,26 @@ ghost use Rattle.rules.specs.Promises.{Judging, OrderAsked, Ordered, Keeping, Ke
 pub mod columns; // the columns of a rule's row
 
 use arena::PATTERN_ROOM;
-use columns::{FIRST_PLACE, FIRST_PREMISE, FIRST_SORT};
+use columns::{END, FIRST_PLACE, FIRST_PREMISE, FIRST_SORT};
 use meeting::Places;
+use names::columns::SORT;
 use names::{SourceTerms, SymbolRow, TermRow, VariableRow, Word};
-use patterns::Place;
+use patterns::{Place, VARIABLES};
 use refusals::Refusal;
 
 // A rule: start and length of its name, clause number + 1 (0: a written rule), number of variables, number of premises, reference of the conclusion, first
 // word, words of the premises, words of the conclusion, variables met in the conclusion; 16 references of premises; 64 sorts; 64 places in meeting order.
-pub type RuleRow = [u32; 154];
+pub type RuleRow = [u32; END];
 
 // Most rules have few words, and a walk through few words needs a small stack only.
-const FEW: u32 = 64;
+const FEW: usize = 64;
 
-// How many premises a rule may have, and how many rules there may be.
-const PREMISES: usize = 16;
+// How many premises a rule may have, how many words its terms may take (2 for each of 1,024 nodes), and how many rules there may be.
+pub const PREMISES: usize = 16;
 
-const RULES: usize = 1024;
+pub const RULE_WORDS: usize = 2048;
+
+pub const RULES: usize = 1024;
 
 // How many words are used, and the room for nodes left.
 #[derive(Clone, Copy)]
@@ -132,7 +135,7 @@ fn judgments(
 pub fn all_known(variables: &[VariableRow]) -> bool
     ensures { result ≡ list_all (λ row. nat_lt 0 (column row 3)) variables.now }
 {
-    variables.iter().all(|row| 0 < row[3])
+    variables.iter().all(|row| 0 < row[SORT])
 }
 
 // A rule's terms: the references of its premises and of its conclusion, the words that hold them, and the most words of one of them.
@@ -178,27 +181,16 @@ fn order_within<const N: usize>(rule: RuleTerms) -> MeetingOrder
     order(rule, &mut stack)
 }
 
-// The same with a stack for as many words as the rule has, at most 2 for each of 1,024 nodes: laying out the large one takes longer than the walk through
+// The same with a stack for as many words as the rule has: laying out the large one takes longer than the walk through
 // a small rule.
 fn order_sized(rule: RuleTerms) -> MeetingOrder
     requires { OrderAsked rule.words.now rule.heads.now rule.conclusion rule.most × (rule.most ≤ 2048) }
     ensures { Ordered rule.entry.words.now rule.entry.heads.now rule.entry.conclusion result.met result.places.places result.places.count }
 {
-    if rule.most <= FEW {
-        return order_within::<64>(rule);
+    if rule.most as usize <= FEW {
+        return order_within::<FEW>(rule);
     }
-    order_within::<2048>(rule)
-}
-
-// Writes the sorts of variables into a row, from column 26 on.
-// Stays: `signature::put_column` is in a crate above, and promises number by number, where this contract is one equation of lists.
-fn put_sorts(row: &mut RuleRow, variables: &[VariableRow])
-    requires { length variables.now ≤ 64 }
-    ensures { (text : List ℕ) → row.new ≡ sets row.old 26 (mathlib.Core.List.map (λ v. v.sort) (variables_of text variables.now (length variables.now))) }
-{
-    for (j, variable) in variables.iter().enumerate() {
-        row[FIRST_SORT + j] = variable[3];
-    }
+    order_within::<RULE_WORDS>(rule)
 }
 
 // Writes the places of variables into a row, from column 90 on.
@@ -223,10 +215,14 @@ fn store(
     requires { (length heads.now ≤ 16) × (length variables.now ≤ 64) × (length places.now ≤ 64) }
     ensures { (text : List ℕ) → row.new ≡ rule_row numbers.now heads.now (mathlib.Core.List.map (λ v. v.sort) (variables_of text variables.now (length variables.now))) (place_numbers places.now) }
 {
-    *row = [0u32; 154];
+    *row = [0u32; END];
     row[..FIRST_PREMISE].copy_from_slice(numbers);
     row[FIRST_PREMISE..FIRST_PREMISE + heads.len()].copy_from_slice(heads);
-    put_sorts(row, variables);
+    names::put_column(
+        variables,
+        SORT,
+        &mut row[FIRST_SORT..FIRST_SORT + variables.len()],
+    );
     put_places(row, places);
 }
 
@@ -304,8 +300,8 @@ pub fn rule(
     if PREMISES < n {
         return Err(Refusal::Full);
     }
-    let mut variables = [[0u32; 4]; 64];
-    let mut heads = [0u32; 16];
+    let mut variables = [[0u32; 4]; VARIABLES];
+    let mut heads = [0u32; PREMISES];
     let body = judgments(source, &mut variables, words, space, &mut heads)?;
     let v = body.variables;
     if !all_known(&variables[..v]) {

@@ -1,5 +1,5 @@
 -- Laws of signs, keywords and items, at a place of a line.
-use mathlib.Core.Path.{◌≡◌, refl, sym}
+use mathlib.Core.Path.{◌≡◌, refl, sym, ap, ◌∙◌}
 use mathlib.Core.Bool.{Bool, true, false, cond, not, ◌&&◌}
 use mathlib.Core.List.{List, [], ◌∷◌}
 use Prim.Native.Nat.{ℕ, zero, suc, ◌+◌, ◌-◌, ◌≤◌, ◌<◌}
@@ -58,6 +58,26 @@ sign_else a b t n0 n1 n2 n3 n4 n5 n6 =
     by_bool (eqb a 45 && eqb b 62)
     (λ e. absurd (n0 (eqb-true a 45 (and_left (eqb a 45) (eqb b 62) e)) (eqb-true b 62 (and_right (eqb a 45) (eqb b 62) e))))
     (λ e. simp (e, ne_eqb _ _ n1, ne_eqb _ _ n2, ne_eqb _ _ n3, ne_eqb _ _ n4, ne_eqb _ _ n5, ne_eqb _ _ n6))
+
+-- The three bytes of →.
+arrow_at : (s : List ℕ) → starts_with arrow s ≡ (eqb (get_or s 0 0) 0xE2 && (eqb (get_or s 1 0) 0x86 && eqb (get_or s 2 0) 0x92))
+unfolding starts_with
+arrow_at [] = refl
+arrow_at (c ∷ s) = ap (λ t. eqb c 0xE2 && t) (two_at 0x86 0x92 refl refl s 0)
+
+pub sign_arrow : (s : List ℕ) → get_or s 0 0 ≡ 0xE2 → get_or s 1 0 ≡ 0x86 → get_or s 2 0 ≡ 0x92 → Token 15 3 ≡ sign_item s
+sign_arrow s a b c = sym (sign_at s 0 ∙ simp (arrow_at s, a, b, c))
+
+-- Where no sign starts.
+pub sign_none : (s : List ℕ) → (get_or s 0 0 ≡ 45 → get_or s 1 0 ≡ 62 → ⊥) → (get_or s 0 0 ≡ 61 → ⊥) → (get_or s 0 0 ≡ 58 → ⊥) → (get_or s 0 0 ≡ 40 → ⊥) → (get_or s 0 0 ≡ 41 → ⊥) → (get_or s 0 0 ≡ 44 → ⊥) → (get_or s 0 0 ≡ 124 → ⊥)
+    → (get_or s 0 0 ≡ 0xE2 → get_or s 1 0 ≡ 0x86 → get_or s 2 0 ≡ 0x92 → ⊥) → Refused UnexpectedCharacter ≡ sign_item s
+sign_none s n0 n1 n2 n3 n4 n5 n6 n7 =
+    let t : starts_with arrow s ≡ false = by_bool (starts_with arrow s)
+    (λ e. let x = arrow_at s in let y : (eqb (get_or s 0 0) 0xE2 && (eqb (get_or s 1 0) 0x86 && eqb (get_or s 2 0) 0x92)) ≡ true = sym x ∙ e in
+    let z = and_right (eqb (get_or s 0 0) 0xE2) _ y in
+    absurd (n7 (eqb-true _ _ (and_left _ _ y)) (eqb-true _ _ (and_left (eqb (get_or s 1 0) 0x86) _ z)) (eqb-true _ _ (and_right (eqb (get_or s 1 0) 0x86) _ z))))
+    (λ e. e) in
+    sym (sign_at s 0 ∙ sign_else (get_or s 0 0) (get_or s 1 0) (starts_with arrow s) n0 n1 n2 n3 n4 n5 n6 ∙ simp t)
 
 -- The item of a character's class.
 pub item_blank : (s : List ℕ) → (character_of s).class ≡ 1 → item_of s ≡ Blank

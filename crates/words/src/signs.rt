@@ -1,12 +1,10 @@
 // The signs: two bytes are tried before one.
-ghost use Rattle.std.specs.Prelude.{◌≡◌, ◌<◌, length, drop};
+ghost use Rattle.std.specs.Prelude.{◌≡◌};
 ghost use Rattle.words.specs.Items.{lexeme_item};
 ghost use Rattle.words.specs.Signs.{sign_item};
 
 use super::tokens::Lexeme;
 use refusals::Refusal;
-use source_text::bytes::starts_with;
-use source_text::characters::UNICODE_ARROW;
 
 // The kinds of signs.
 // Stays: C callers lend the rows, so a kind is a number there, and may be none of these; a type of kinds would be converted at each read and write.
@@ -28,27 +26,22 @@ pub const BAR: u32 = 22;
 
 pub const EQUALS: u32 = 23;
 
-// The sign at a place of a line.
-pub fn sign_item(line: &[u8], at: usize) -> Result<Lexeme, Refusal>
-    requires { at < length line.now }
-    ensures { lexeme_item result ≡ sign_item (drop at line.now) }
+// The sign with which a rest of a line starts.
+pub fn sign_item(rest: &[u8]) -> Result<Lexeme, Refusal>
+    ensures { lexeme_item result ≡ sign_item rest.now }
 {
-    let (kind, length) = match (line[at], line.get(at + 1).copied()) {
-        (b'-', Some(b'>')) => (ARROW, 2),
-        (b'=', Some(b'>')) => (DOUBLE_ARROW, 2),
-        (b':', Some(b'=')) => (DEFINES, 2),
-        (b'(', _) => (OPEN, 1),
-        (b')', _) => (CLOSE, 1),
-        (b':', _) => (COLON, 1),
-        (b',', _) => (COMMA, 1),
-        (b'|', _) => (BAR, 1),
-        (b'=', _) => (EQUALS, 1),
-        _ => {
-            if !starts_with(&line[at..], &UNICODE_ARROW) {
-                return Err(Refusal::UnexpectedCharacter);
-            }
-            (ARROW, 3)
-        }
+    let (kind, length) = match rest {
+        [b'-', b'>', ..] => (ARROW, 2),
+        [b'=', b'>', ..] => (DOUBLE_ARROW, 2),
+        [b':', b'=', ..] => (DEFINES, 2),
+        [b'(', ..] => (OPEN, 1),
+        [b')', ..] => (CLOSE, 1),
+        [b':', ..] => (COLON, 1),
+        [b',', ..] => (COMMA, 1),
+        [b'|', ..] => (BAR, 1),
+        [b'=', ..] => (EQUALS, 1),
+        [0xE2, 0x86, 0x92, ..] => (ARROW, 3), // →
+        _ => return Err(Refusal::UnexpectedCharacter),
     };
     Ok(Lexeme { kind, length })
 }

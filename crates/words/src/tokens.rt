@@ -51,7 +51,7 @@ fn item_at(classes: &Classes, line: &[u8], at: usize) -> Result<Option<Lexeme>, 
             let end = word_end(classes, line, at);
             Ok(Some(word_item(&line[at..end])?))
         }
-        Class::Sign => Ok(Some(sign_item(line, at)?)),
+        Class::Sign => Ok(Some(sign_item(&line[at..])?)),
         Class::Stray | Class::Outside => Err(Refusal::UnexpectedCharacter),
     }
 }

@@ -150,7 +150,7 @@ node-returns t c =
       placed = L.placed;
       same = λ ts q st cn. let d = loop_done (args.source.text.now) (args.source.rows.now) (args.from.next) (args.arguments) (symbols_of (args.source.text.now) (args.source.symbols.now) (length args.source.symbols.now)) (inputs_at (args.source.text.now) (args.source.symbols.now) (length args.source.symbols.now) (args.i)) (args.variables.now) (args.from.variables) (args.words.now) (args.from.used) (args.from.room - 1) (loop.k) (loop.place.next) (loop.variables) (loop.place.variables) (loop.words) (loop.place.used) (loop.place.room) (loop.refs) (loop.invariant) none ts q st cn in (
         d.0,
-        node_done (pattern_of (symbols_of (args.source.text.now) (args.source.symbols.now) (length args.source.symbols.now)) ts (inputs_at (args.source.text.now) (args.source.symbols.now) (length args.source.symbols.now) (args.i)) (variables_of (args.source.text.now) (args.variables.now) (args.from.variables)) (args.from.room - 1)) (args.i) (args.words.now) (args.from.used) (loop.refs) (args.arguments) (loop.words) (loop.place.used) _ (loop.place.room) _ (omega (arith, L.long)) (push-node.ensures) d.1
+        node_done (pattern_of (symbols_of (args.source.text.now) (args.source.symbols.now) (length args.source.symbols.now)) ts (inputs_at (args.source.text.now) (args.source.symbols.now) (length args.source.symbols.now) (args.i)) (variables_of (args.source.text.now) (args.variables.now) (args.from.variables)) (args.from.room - 1)) (args.i) (args.words.now) (args.from.used) (loop.refs) (args.arguments) (loop.words) (loop.place.used) _ (loop.place.room) _ (omega (arith, L.long)) (rw c.header_of-h.ensures at push-node.ensures) d.1
             ∙ ap (λ (x : Out one). stored [] x (args.words.now) (args.from.used)) (sym (node_open (args.source.text.now) (args.source.symbols.now) (length args.source.symbols.now) (pre.0.lent) (args.i) (pre.1.0) (args.want) (variables_of (args.source.text.now) (args.variables.now) (args.from.variables)) (args.from.room) (c.in_ok-misfit.ensures args.source.text.now) refl ts cn (omega (arith, if2.false)))),
       );
     }

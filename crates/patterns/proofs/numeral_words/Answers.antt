@@ -24,7 +24,7 @@ loop-k-preserved c =
           ∙ length-set (loop.words) (loop.u) _
           ∙ loop.invariant.0,
       omega (arith, loop.invariant.1),
-      λ v e. tower_step v (args.used) (args.numerals.succ) (args.numerals.zero) (loop._k) (loop.r) (loop.words) (loop.u) (loop.invariant.2 v e),
+      λ v e. let h : c.header_of-h.result ≡ 1048577 + 32 * args.numerals.succ = omega (arith, c.header_of-h.ensures) in rw h (tower_step v (args.used) (args.numerals.succ) (args.numerals.zero) (loop._k) (loop.r) (loop.words) (loop.u) (loop.invariant.2 v e)),
     )
 
 pub returns : goal.returns
@@ -34,4 +34,5 @@ returns c =
     let loop-test = c.loop-k-test in
     let kn : loop._k ≡ args.n = omega (arith, loop-test.false) in
     let un : loop.u ≡ args.used + 1 + 2 * args.n = omega (arith, loop.invariant.1) in
-    rw (kn, un) at (loop.invariant.2 (args.words.now) refl)
+    let h : c.header_of.result ≡ 1048576 + 32 * args.numerals.zero = omega (arith, c.header_of.ensures) in
+    rw (kn, un) at (loop.invariant.2 (args.words.now) (ap (set args.words.now args.used) h))

@@ -1,10 +1,13 @@
 -- `item_at` meets its contract: the class of the character at the place says what stands there.
 use mathlib.Core.Path.{sym, ap, ◌∙◌}
 use native.Mathlib.Omega.{arith}
+use lib.ListN.{length-drop}
+use Rattle.std.proofs.lemmas.List.{take_all}
 use Rattle.std.proofs.Common.{⊎_elim, inl, inr}
 use Rattle.std.proofs.lemmas.Result.{err_from_is_err_and}
 use Rattle.source_text.specs.Characters.{class_number}
 use Rattle.words.specs.Names.{word_item}
+use Rattle.words.specs.Signs.{sign_item}
 use Rattle.words.specs.Tokens.{is_word}
 use Rattle.words.proofs.Items.{item_blank, item_word, item_sign, item_none, lettered, word_fits, word_part, word_starts}
 use Rattle.words.proofs.tokens.item_at.Goals as goal
@@ -35,10 +38,10 @@ returns-in_ok-word_item-in-Letter c =
 pub returns-in_err-sign_item-in-Sign : goal.returns-in_err-sign_item-in-Sign
 returns-in_err-sign_item-in-Sign c =
     let p = err_from_is_err_and c.from_residual-in_err-sign_item-in-Sign.result c.from_residual-in_err-sign_item-in-Sign.ensures.1 in
-    rw (p.1, p.2) (c.in_err-sign_item-in-Sign.ensures ∙ sym (item_sign _ (ap (λ k. k.class) (sym c.character_at.ensures) ∙ ap class_number c.in-Sign.is)))
+    rw (p.1, p.2) (c.in_err-sign_item-in-Sign.ensures ∙ ap sign_item (take_all _ _ (simp length-drop (omega arith))) ∙ sym (item_sign _ (ap (λ k. k.class) (sym c.character_at.ensures) ∙ ap class_number c.in-Sign.is)))
 
 pub returns-in_ok-sign_item-in-Sign : goal.returns-in_ok-sign_item-in-Sign
-returns-in_ok-sign_item-in-Sign c = c.in_ok-sign_item-in-Sign.ensures ∙ sym (item_sign _ (ap (λ k. k.class) (sym c.character_at.ensures) ∙ ap class_number c.in-Sign.is))
+returns-in_ok-sign_item-in-Sign c = c.in_ok-sign_item-in-Sign.ensures ∙ ap sign_item (take_all _ _ (simp length-drop (omega arith))) ∙ sym (item_sign _ (ap (λ k. k.class) (sym c.character_at.ensures) ∙ ap class_number c.in-Sign.is))
 
 pub returns-in-Stray : goal.returns-in-Stray
 returns-in-Stray c =
