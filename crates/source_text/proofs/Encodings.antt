@@ -146,24 +146,9 @@ utf8_skip [] (suc k) = refl
 utf8_skip (c ∷ s) zero = refl
 utf8_skip (c ∷ s) (suc k) = utf8_skip s k
 
-utf8_cons : (l t : List ℕ) (c : ℕ) → l ≡ c ∷ t → utf8_after l 0 ≡ (ltb 0 (character_length l) && utf8_after t (character_length l - 1))
-unfolding utf8_after
-utf8_cons l t c e = rw e
-
 -- m bytes after place i, by way of the place after it.
 pub past : (s : List ℕ) (i m : ℕ) → 0 < m → drop (m - 1) (drop (suc i) s) ≡ drop (i + m) s
 past s i m p = let e : suc i + (m - 1) ≡ i + m = omega arith in drop-drop (m - 1) (suc i) s ∙ ap (λ k. drop k s) e
-
-module _ (s : List ℕ) (i m : ℕ) (h : i < length s) (e : m ≡ character_length (drop i s)) where
-  pub utf8_next : 0 < m → utf8_after (drop i s) 0 ≡ utf8_after (drop (i + m) s) 0
-  utf8_next p = utf8_cons (drop i s) (drop (suc i) s) (get_or s i 0) (drop-cons s i 0 h) ∙ simp (← e, lt-ltb 0 m p, utf8_skip (drop (suc i) s) (m - 1), past s i m p)
-
-  pub utf8_not : m ≡ 0 → utf8_after (drop i s) 0 ≡ false
-  utf8_not p = let f : character_length (drop i s) ≡ 0 = sym e ∙ p in utf8_cons (drop i s) (drop (suc i) s) (get_or s i 0) (drop-cons s i 0 h) ∙ simp f
-
-pub utf8_end : (s : List ℕ) (i : ℕ) → length s ≤ i → utf8_after (drop i s) 0 ≡ true
-unfolding utf8_after
-utf8_end s i h = simp (drop_of_length-le s h)
 
 -- The class table at a code.
 classes_at : (n c k : ℕ) → k < n → get_or (classes_from n c) k 0 ≡ class_of (c + k)

@@ -4,3 +4,4 @@ pub mod Scans
 pub mod Encodings
 pub mod Numbers
 pub mod AnswerLaws
+pub mod StdUtf8

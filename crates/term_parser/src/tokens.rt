@@ -33,9 +33,8 @@ pub fn line(tokens: &[[u32; 4]], at: usize) -> u32
 pub fn held(text: &[u8], start: u32, length: u32) -> Option<u32>
     ensures { result ≡ held_of (numeral_of (part_of text.now start length)) }
 {
-    words::numeral(text, start as usize, length as usize).map(|value| value.min(u64::from(
-        u32::MAX,
-    )) as u32)
+    let value = words::numeral(text, start as usize, length as usize)?;
+    Some(value.min(u64::from(u32::MAX)) as u32)
 }
 
 // The same, 2^32 - 1 also where no numeral of 64 bits stands there.
