@@ -30,9 +30,9 @@ pub type RuleRow = [u32; 154];
 const FEW: u32 = 64;
 
 // How many premises a rule may have, and how many rules there may be.
-const PREMISES: usize = 16;
+pub const PREMISES: usize = 16;
 
-const RULES: usize = 1024;
+pub const RULES: usize = 1024;
 
 // How many words are used, and the room for nodes left.
 #[derive(Clone, Copy)]
