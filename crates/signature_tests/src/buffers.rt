@@ -14,7 +14,7 @@ use signature::{Counts, StoredSignature};
 fn fill_rows<const N: usize>(rows: &mut [[u32; N]], value: u32)
     ensures { Filled (replicate N value) rows.old rows.new }
 {
-    rows.fill([value; N]);
+    slices::clear_from(rows, 0, [value; N]);
 }
 
 // Fills all that a load is lent.
