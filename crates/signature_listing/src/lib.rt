@@ -20,7 +20,7 @@ use signature::columns::{
 };
 
 // So many of the numbers from a place on, none where there are not as many.
-// Stays: `source_text::word` is this for bytes; in a function for both, its definition `part_of` would be of any type, as would the laws of names that cite it.
+// Stays: `source_text::word` is this for bytes; `source_text` stands on no crate, so one function for both would be there, where all else is about texts.
 fn numbers_from<'a>(numbers: &'a [u32], start: usize, count: usize) -> &'a [u32]
     ensures { result.now ≡ part_of numbers.now start count }
 {
