@@ -13,13 +13,17 @@ ghost use Rattle.declarations.specs.Lent.{IsLent};
 ghost use Rattle.loader.specs.Kinds.{is_constructor, mark_in, first_in, clauses_in};
 
 use clauses::{EnteredRule, SourceClause};
-use loader::{Kind, Part, Source};
-use names::{SortRow, SourceTerms, SymbolRow, TermRow, Word};
+use loader::{Kind, Part};
+use names::{SortRow, Source, SourceTerms, SymbolRow, TermRow, Word};
 use refusals::Refusal;
 use rules::{RulePlace, RuleRow, Space, Title};
 use words::{CTOR, DEF, EVAL, PRED, RULE, SORT};
 
+// The most nodes of one rule.
+const RULE_NODES: usize = 1024;
+
 // How many sorts, symbols and rules there are, how many words are in use, and how many nodes are left.
+// Stays: the counts of `signature::Counts` have 32 bits, so `declare` would ask for more; `load_storage::Used` is as wide, but its crate is not below this one.
 #[derive(Clone, Copy)]
 pub struct State {
     pub sorts: usize,
@@ -38,7 +42,7 @@ impl State {
             number: self.rules,
             space: Space {
                 used: self.used,
-                room: self.left.min(1024),
+                room: self.left.min(RULE_NODES),
             },
         }
     }

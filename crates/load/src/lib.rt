@@ -13,8 +13,7 @@ ghost use Rattle.declarations.specs.Lent.{IsLent as IsLentFor};
 use declarations::{Progress, State, Store};
 use load_storage::Used;
 pub use load_storage::{EvalRow, LentBuffers};
-use loader::Source;
-use names::{SortRow, SymbolRow, TermRow};
+use names::{SortRow, Source, SymbolRow, TermRow};
 use refusals::{Refusal, Rejection};
 use signature::Counts;
 use words::EVAL;
@@ -159,10 +158,7 @@ pub fn load(
     ensures lent { IsLent buffers.old buffers.new }
 {
     if load_storage::is_short(buffers, limits) {
-        return Err(Rejection {
-            refusal: Refusal::Storage,
-            line: 0,
-        });
+        return Err(Rejection::from(Refusal::Storage));
     }
     match parser::parse_text(text, limits, buffers.tokens, buffers.rows) {
         Err(rejection) => {

@@ -1,12 +1,12 @@
 -- Laws of buffers that are cleared: from the beginning on everything is zero.
 use Prim.Native.Nat.{ℕ, ◌-◌}
 use native.Mathlib.Omega.{arith}
-use mathlib.Core.Path.{◌≡◌, refl, ap, ◌∙◌}
+use mathlib.Core.Path.{◌≡◌, refl, ap}
 use mathlib.Core.List.{List}
 use lib.ListN.{length, replicate}
 use Rattle.words.specs.Lexer.{zero_row}
 use Rattle.names.specs.Symbols.{Rows}
-use Rattle.load_storage.specs.Storage.{Buffers, zero_pair, zero_symbol, zero_rule, cleared_from, wiped, SignatureCleared, ScratchCleared}
+use Rattle.load_storage.specs.Storage.{Buffers, zero_pair, zero_symbol, zero_rule, cleared_from, wiped}
 
 -- Cleared from the beginning, and from a place on.
 pub wipe : {A : Type 0} (z : A) (l l₀ : List A) → length l ≡ length l₀ → cleared_from z 0 l ≡ replicate (length l₀) z
@@ -33,17 +33,3 @@ wiped_same b c same rows =
     buffers (ap (λ (n : ℕ). replicate n zero_row) same.tokens) (ap (λ (n : ℕ). replicate n zero_row) rows) (ap (λ (n : ℕ). replicate n zero_row) same.calls)
     (ap (λ (n : ℕ). replicate n zero_pair) same.sorts) (ap (λ (n : ℕ). replicate n zero_symbol) same.symbols) (ap (λ (n : ℕ). replicate n zero_rule) same.rules)
     (ap (λ (n : ℕ). replicate n 0) same.words) (ap (λ (n : ℕ). replicate n zero_pair) same.evals)
-
-module _ (b c d : Buffers) (same : SameLengths b c) where
-  -- Everything is wiped.
-  pub all_wiped : d.rows ≡ replicate (length b.rows) zero_row → ScratchCleared c.tokens c.calls c.evals 0 d.tokens d.calls d.evals
-      → SignatureCleared c.sorts c.symbols c.rules c.words 0 0 0 0 d.sorts d.symbols d.rules d.words → d ≡ wiped b
-  all_wiped r x y =
-      let e1 : d.tokens ≡ replicate (length b.tokens) zero_row = x.tokens_are ∙ wipe zero_row c.tokens b.tokens same.tokens in
-      let e2 : d.calls ≡ replicate (length b.calls) zero_row = x.calls_are ∙ wipe zero_row c.calls b.calls same.calls in
-      let e3 : d.sorts ≡ replicate (length b.sorts) zero_pair = y.sorts_are_lem ∙ wipe zero_pair c.sorts b.sorts same.sorts in
-      let e4 : d.symbols ≡ replicate (length b.symbols) zero_symbol = y.symbols_are_lem ∙ wipe zero_symbol c.symbols b.symbols same.symbols in
-      let e5 : d.rules ≡ replicate (length b.rules) zero_rule = y.rules_are_lem ∙ wipe zero_rule c.rules b.rules same.rules in
-      let e6 : d.words ≡ replicate (length b.words) 0 = y.words_are ∙ wipe 0 c.words b.words same.words in
-      let e7 : d.evals ≡ replicate (length b.evals) zero_pair = x.evals_are ∙ wipe zero_pair c.evals b.evals same.evals in
-      buffers e1 r e2 e3 e4 e5 e6 e7

@@ -3,12 +3,18 @@
 // All functions here serve `load`, and ask nothing of their caller.
 #![tactic(auto)]
 
-ghost use Rattle.std.specs.Prelude.{◌≡◌};
-ghost use Rattle.load_storage.specs.Storage.{too_short, SignatureCleared, ScratchCleared, Wiped};
+ghost use Rattle.std.specs.Prelude.{◌≡◌, replicate};
+ghost use Rattle.load_storage.specs.Storage.{cleared_from, too_short, SignatureCleared, ScratchCleared, Wiped};
 ghost use Rattle.load_storage.specs.Lent.{buffers_of, IsLent};
 
 use names::{SortRow, SymbolRow, TermRow};
-use rules::RuleRow;
+use rules::{RULES, RuleRow};
+
+// How many sorts and symbols there may be.
+// Stays: `loader` names these numbers too, but it is not below this crate.
+const SORTS: usize = 256;
+
+const SYMBOLS: usize = 1024;
 
 // An `#eval` that waits: its line, and the row of its term.
 pub type EvalRow = [u32; 2];
@@ -36,6 +42,13 @@ pub struct Used {
     pub words: usize,
 }
 
+// Zeroes the rows from a place on, whatever their width.
+fn clear_rows<const N: usize>(rows: &mut [[u32; N]], from: usize)
+    ensures { rows.new ≡ cleared_from (replicate N 0) from rows.old }
+{
+    slices::clear_from(rows, from, [0; N]);
+}
+
 // Zeroes the scratch, and the rest of the storage from the counts on.
 pub fn leave(buffers: &mut LentBuffers, used: Used, waiting: usize)
     ensures scratch_cleared { ScratchCleared buffers.old.tokens.now buffers.old.calls.now buffers.old.evals.now waiting buffers.new.tokens.now buffers.new.calls.now buffers.new.evals.now }
@@ -43,12 +56,12 @@ pub fn leave(buffers: &mut LentBuffers, used: Used, waiting: usize)
     ensures rows { buffers.new.rows.now ≡ buffers.old.rows.now }
     ensures lent { IsLent buffers.old buffers.new }
 {
-    buffers.tokens.fill([0; 4]);
-    buffers.calls.fill([0; 4]);
-    slices::clear_from(buffers.evals, waiting, [0; 2]);
-    slices::clear_from(buffers.sorts, used.sorts, [0; 2]);
-    slices::clear_from(buffers.symbols, used.symbols, [0; 24]);
-    slices::clear_from(buffers.rules, used.rules, [0; 154]);
+    clear_rows(buffers.tokens, 0);
+    clear_rows(buffers.calls, 0);
+    clear_rows(buffers.evals, waiting);
+    clear_rows(buffers.sorts, used.sorts);
+    clear_rows(buffers.symbols, used.symbols);
+    clear_rows(buffers.rules, used.rules);
     slices::clear_from(buffers.words, used.words, 0);
 }
 
@@ -57,7 +70,7 @@ pub fn leave_nothing(buffers: &mut LentBuffers)
     ensures wiped { Wiped (buffers_of buffers.old) (buffers_of buffers.new) }
     ensures lent { IsLent buffers.old buffers.new }
 {
-    buffers.rows.fill([0; 4]);
+    clear_rows(buffers.rows, 0);
     let none = Used {
         sorts: 0,
         symbols: 0,
@@ -74,14 +87,14 @@ pub fn is_short(buffers: &LentBuffers, limits: words::Limits) -> bool
     let capped = limits.capped();
     let text = capped.text as usize;
     let nodes = capped.nodes as usize;
-    if buffers.sorts.len() < 256 {
+    if buffers.sorts.len() < SORTS {
         return true;
     }
     buffers.tokens.len() < text
         || buffers.rows.len() < text
         || buffers.calls.len() < text + 32
-        || buffers.symbols.len() < 1024
-        || buffers.rules.len() < 1024
+        || buffers.symbols.len() < SYMBOLS
+        || buffers.rules.len() < RULES
         || buffers.words.len() < 2 * nodes
         || buffers.evals.len() < text / 2
 }

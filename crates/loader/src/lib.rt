@@ -17,7 +17,8 @@ ghost use Rattle.loader.specs.SymbolEntry.{SymbolAnswered};
 
 use arena::INPUTS;
 use clauses::EnteredRule;
-use names::{FUNCTION, NO_FUNCTION, SortRow, SymbolRow, TermRow, Word};
+use names::columns::FIRST_INPUT;
+use names::{FUNCTION, NO_FUNCTION, SortRow, Source, SymbolRow, Word};
 use refusals::Refusal;
 use rules::{RulePlace, RuleRow, SourceRule, Title};
 
@@ -32,14 +33,6 @@ pub struct Known<'a> {
     pub text: &'a [u8],
     pub sorts: &'a [SortRow],
     pub symbols: &'a [SymbolRow],
-}
-
-// A declaration in rows, or what stands in it: the text, the rows, and the row at which it begins.
-#[derive(Clone, Copy)]
-pub struct Source<'a> {
-    pub text: &'a [u8],
-    pub rows: &'a [TermRow],
-    pub at: usize,
 }
 
 // A part of a declaration: where it begins, and how many items it has.
@@ -133,7 +126,7 @@ pub fn put_symbol(row: &mut SymbolRow, symbol: SymbolHead, inputs: &[u32])
         word.start, word.size, output, function, first, clauses, n, 0, 0, 0, 0, 0, 0, 0, 0, 0, 0,
         0, 0, 0, 0, 0, 0, 0,
     ];
-    row[8..8 + inputs.len()].copy_from_slice(inputs);
+    row[FIRST_INPUT..FIRST_INPUT + inputs.len()].copy_from_slice(inputs);
 }
 
 // Looks up the sorts whose names stand in the rows of a part; the numbers of the first 16 go to `inputs`, and that of the last is answered, if all are
@@ -218,7 +211,7 @@ pub fn enter_symbol(
 {
     let Part { source, k } = part;
     let Source { text, rows, at } = source;
-    let mut inputs = [0u32; 16];
+    let mut inputs = [0u32; INPUTS as usize];
     let behind = Part {
         source: Source {
             at: at + 1,

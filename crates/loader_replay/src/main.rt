@@ -4,8 +4,10 @@
 
 use listing::recorded;
 use load::{LentBuffers as Lent, Loaded};
+use loader::{SORTS, SYMBOLS};
 use parser::Parsed;
 use refusals::Rejection;
+use rules::RULES;
 use signature::Counts;
 use signature_tests::{buffers, damage};
 use words::Limits;
@@ -68,9 +70,9 @@ fn main() {
     let mut tokens = [[0u32; 4]; 16384];
     let mut rows = [[0u32; 4]; 16384];
     let mut calls = [[0u32; 4]; 16416];
-    let mut sorts = [[0u32; 2]; 256];
-    let mut symbols = [[0u32; 24]; 1024];
-    let mut rules = [[0u32; 154]; 1024];
+    let mut sorts = [[0u32; 2]; SORTS];
+    let mut symbols = [[0u32; 24]; SYMBOLS];
+    let mut rules = [[0u32; 154]; RULES];
     let mut words = [0u32; 8192];
     let mut evals = [[0u32; 2]; 8192];
     let mut lent = Lent {

@@ -11,7 +11,7 @@ ghost use Rattle.unifier.specs.Promises.{Tells};
 ghost use Rattle.signature.specs.Parts.{NodeSymbol, ClausesAsked, ClausesOf, ClausesListed};
 
 use super::columns::{CLAUSES, CONCLUSION, FIRST_CLAUSE, FIRST_PREMISE, MARK, PREMISES};
-use arena::{HEADERS, PATTERN_ROOM, SYMBOL_STEP};
+use arena::PATTERN_ROOM;
 use names::{FUNCTION, SymbolRow};
 use rules::RuleRow;
 
@@ -21,7 +21,7 @@ fn symbol_at(words: &[u32], at: usize) -> usize
     ensures { result ≡ symbol_of (get_or words.now at 0) }
 {
     let header = words.get(at).copied().unwrap_or(0);
-    (header.saturating_sub(HEADERS) / SYMBOL_STEP) as usize
+    arena::symbol_of(header)
 }
 
 // The symbol of the node that a reference denotes; a variable has none.

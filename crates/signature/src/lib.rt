@@ -21,12 +21,10 @@ pub use columns::ARITY;
 use columns::{CLAUSES, FIRST_CLAUSE, FIRST_INPUT, FREE, MARK, OUTPUT, START};
 use loader::{SORTS, SYMBOLS};
 use names::{FUNCTION, NO_FUNCTION, SortRow, SymbolRow, Word};
-use rules::RuleRow;
+use rules::{RULES, RuleRow};
 
 // How many names there may be: of sorts and symbols together.
 const NAMES: usize = SORTS + SYMBOLS;
-
-const RULES: usize = 1024;
 
 // How many words there may be: 2 for each of 32,768 nodes.
 const WORDS: usize = 65536;
@@ -151,7 +149,7 @@ fn are_inputs_formed(sorts: u32, row: &SymbolRow) -> bool
 {
     let n = row[ARITY] as usize;
     rule_checks::are_sorts(&row[FIRST_INPUT..FIRST_INPUT + n], sorts)
-        && rule_checks::are_zeros(&row[FIRST_INPUT + n..24])
+        && rule_checks::are_zeros(&row[FIRST_INPUT + n..])
 }
 
 // Is a symbol's row in form, where there are so many sorts and rules?

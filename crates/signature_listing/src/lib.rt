@@ -7,7 +7,7 @@ ghost use Rattle.std.specs.Prelude.{◌≡◌, ◌≤◌, take};
 ghost use Rattle.source_text.specs.Parts.{part_of};
 ghost use Rattle.signature_listing.specs.Nodes.{arity_at};
 
-use arena::{HEADERS, PATTERN_ROOM, SYMBOL_STEP};
+use arena::{HEADERS, PATTERN_ROOM, SYMBOL_STEP, symbol_of};
 use listing::{write, write_number};
 use load_storage::EvalRow;
 use names::{NO_FUNCTION, SymbolRow};
@@ -20,7 +20,7 @@ use signature::columns::{
 };
 
 // So many of the numbers from a place on, none where there are not as many.
-// Stays: `source_text::word` is this for bytes; in a function for both, its definition `part_of` would be of any type, as would the laws of names that cite it.
+// Stays: `source_text::word` is this for bytes; `source_text` stands on no crate, so one function for both would be there, where all else is about texts.
 fn numbers_from<'a>(numbers: &'a [u32], start: usize, count: usize) -> &'a [u32]
     ensures { result.now ≡ part_of numbers.now start count }
 {
@@ -148,8 +148,8 @@ impl NamedSignature<'_> {
         }
     }
 
-    fn write_symbol(self, number: u32) {
-        match self.signature.symbols.get(number as usize) {
+    fn write_symbol(self, number: usize) {
+        match self.signature.symbols.get(number) {
             Some(row) => self.write_name(row[START], row[SIZE]),
             None => write(b"wrong: no such symbol"),
         }
@@ -196,7 +196,7 @@ impl NamedSignature<'_> {
         write(b"  #");
         write_number(past);
         write(b" ");
-        self.write_symbol((header - HEADERS) / SYMBOL_STEP);
+        self.write_symbol(symbol_of(header));
         let arity = (header % SYMBOL_STEP) as usize;
         write_references(numbers_from(words, address + 1, arity), first);
         write(b"\n");

@@ -8,7 +8,7 @@ use crate::buffers;
 use arena::PATTERN_ROOM;
 use load_storage::LentBuffers;
 use names::{SortRow, SymbolRow};
-use rules::RuleRow;
+use rules::{RULES, RuleRow};
 use signature::columns::{
     CLAUSE, FIRST_CLAUSE, FIRST_PREMISE, FIRST_WORD, OUTPUT, PREMISE_WORDS, PREMISES, SIZE, START,
     VARIABLES,
@@ -19,7 +19,10 @@ use std::mem;
 // The most bytes of a name, and the largest clause number.
 const BYTES: u32 = 64;
 
-const LAST_CLAUSE: u32 = 1024;
+const LAST_CLAUSE: u32 = RULES as u32;
+
+// The most bytes of a text that is loaded.
+const TEXT: usize = 65536;
 
 // Neither a header nor a reference.
 const NO_WORD: u32 = 0xFFFF_FFFF;
@@ -87,9 +90,9 @@ fn is_accepted_with(loaded: &mut LoadedSignature, spot: Spot, value: u32) -> boo
     accepted
 }
 
-// The place past a text, of which no more than 65,536 bytes are loaded.
+// The place past a text, of which no more is loaded than the limit.
 fn end(text: &[u8]) -> u32 {
-    usize::min(text.len(), 65536) as u32
+    text.len().min(TEXT) as u32
 }
 
 // Tests that it is refused with another number at a place.

@@ -15,12 +15,6 @@ returns-then-rows-at-eq0-clause-declared c =
       same = λ limit ts s held cs q st e legal. def_no held args.source.rows.now args.source.at pre.inside cs 0 q _ _ _ _ refl (def_none held args.source.rows.now args.source.at pre.inside cs c.if-rows-at-eq0.true);
     }
 
-pub declare_symbol-requires : goal.declare_symbol-requires
-declare_symbol-requires c =
-    let pre = c.requires in
-    let names = pre.ready.3.names in
-    record { there = pre.there; short = pre.short; sorts_lent = names.sorts_lent; symbols_lent = names.symbols_lent; few_sorts = names.few_sorts; few_symbols = names.few_symbols }
-
 pub returns-in_err-entered-clause-declared : goal.returns-in_err-entered-clause-declared
 returns-in_err-entered-clause-declared c =
     let args = c.args in

@@ -15,7 +15,7 @@ use Rattle.load.proofs.ToldLaws.{as_loading}
 use Rattle.load.proofs.load.Goals as goal
 
 pub returns-then-is_short-clause-loaded : goal.returns-then-is_short-clause-loaded
-returns-then-is_short-clause-loaded c = as_loading _ _ _ _ _ (λ z. ((refl, refl), refl)) (λ z. true_false (sym c.is_short.ensures ∙ c.if-is_short.true) z)
+returns-then-is_short-clause-loaded c = as_loading _ _ _ _ _ (λ z. (rw c.from.ensures (refl, refl), refl)) (λ z. true_false (sym c.is_short.ensures ∙ c.if-is_short.true) z)
 
 pub load_rows-requires : goal.load_rows-requires
 load_rows-requires c =

@@ -1,17 +1,16 @@
--- `fill` meets its contract: a row that is a clone of another is the same.
+-- `fill` meets its contract: each buffer is filled by a call of its own.
 use borrow.Author.Rules.{rules}
-use Rattle.std.specs.List.{each_same}
 use Rattle.signature_tests.proofs.buffers.fill.Goals as goal
 
 pub returns-clause-filled : goal.returns-clause-filled
 returns-clause-filled c =
     record {
-      tokens = c.fill.ensures.after (λ y h. each_same _ y h.whole);
-      rows = c.fill-2.ensures.after (λ y h. each_same _ y h.whole);
-      calls = c.fill-3.ensures.after (λ y h. each_same _ y h.whole);
-      sorts = c.fill-4.ensures.after (λ y h. each_same _ y h.whole);
-      symbols = c.fill-5.ensures.after (λ y h. each_same _ y h.whole);
-      rules = c.fill-6.ensures.after (λ y h. each_same _ y h.whole);
+      tokens = c.fill_rows.ensures;
+      rows = c.fill_rows-2.ensures;
+      calls = c.fill_rows-3.ensures;
+      sorts = c.fill_rows-4.ensures;
+      symbols = c.fill_rows-5.ensures;
+      rules = c.fill_rows-6.ensures;
       words = search rules;
-      evals = c.fill-8.ensures.after (λ y h. each_same _ y h.whole);
+      evals = c.fill_rows-7.ensures;
     }
