@@ -7,6 +7,7 @@ ghost use Rattle.clause_matching.specs.Choice.{patterns_from, values_of, ApartAs
 use super::matching::{Values, bind};
 use super::references::{Pattern, pattern_at};
 use rules::RuleRow;
+use rules::columns::CONCLUSION;
 
 // Is the first pattern, whose reference stands at an address, a node of another symbol than the first value? Then the patterns do not fit.
 fn is_apart(pattern: &[u32], base: usize, words: &[u32], values: &[u32]) -> bool
@@ -50,8 +51,10 @@ pub fn find_clause(
 {
     // Stays: fitting writes the environment that the caller needs, so that a closure for `find` would be one that writes, with a contract of what it wrote.
     'clauses: for i in clauses.from..clauses.end {
-        let Pattern::Node { header: _, first } = pattern_at(clauses.pattern, clauses.rules[i][5])
-        else {
+        let Pattern::Node { header: _, first } = pattern_at(
+            clauses.pattern,
+            clauses.rules[i][CONCLUSION],
+        ) else {
             // Never reached: the conclusion of a clause in form is a node.
             return None;
         };

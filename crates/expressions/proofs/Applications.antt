@@ -10,7 +10,8 @@ use borrow.Author.Tests.{eq-eqb, ne_eqb}
 use Rattle.terms.specs.Term.{Terms}
 use Rattle.terms.specs.Term.Kind.{one as single, many as several}
 use Rattle.term_parser.specs.Source.{one}
-use Rattle.names.specs.Symbols.{Rows, Symbol, column, row_at, symbols_of, symbol_at}
+use Rattle.names.specs.Symbols.{Rows, Symbol, column, row_at, symbol_of, symbols_of, symbol_at}
+use Rattle.names.specs.SearchLaws.{columns_length}
 use Rattle.patterns.specs.Patterns.{when}
 use Rattle.resolution.specs.Rules.{Rule, Tree, leaf, ◌◂◌, joined}
 use Rattle.rules.specs.PatternLaws.{arities_of}
@@ -36,21 +37,22 @@ and_no : (a : Bool) → (a && false) ≡ false
 and_no true = refl
 and_no false = refl
 
--- What a symbol is refused for.
-module _ (text : List ℕ) (symbols : Rows) (count i k : ℕ) (h : count ≤ length symbols) (l : i < count) where
+-- What a symbol is refused for, by its row.
+module _ (text row : List ℕ) (k : ℕ) where
   abbrev mark : ℕ
-  mark = column (row_at symbols i) 3
+  mark = column row 3
 
   abbrev out : ℕ
-  out = column (row_at symbols i) 2
+  out = column row 2
 
   abbrev wanted : ℕ
-  wanted = column (row_at symbols i) 6 - mark
+  wanted = column row 6 - mark
 
-  in_numbers : misuse (symbol_at (symbols_of text symbols count) i) k ≡ cond (eqb mark 0 && eqb out 0) 32 (cond (eqb k wanted) 0 21)
-  in_numbers = rw (function_at text symbols count h i l, output_at text symbols count h i l, arity_at_lem text symbols count h i l)
+  in_numbers : misuse (symbol_of text row) k ≡ cond (eqb mark 0 && eqb out 0) 32 (cond (eqb k wanted) 0 21)
+  unfolding symbol_of
+  in_numbers = rw (columns_length row 8 (column row 6))
 
-  pub misuse_predicate : mark ≡ 0 → out ≡ 0 → misuse (symbol_at (symbols_of text symbols count) i) k ≡ 32
+  pub misuse_predicate : mark ≡ 0 → out ≡ 0 → misuse (symbol_of text row) k ≡ 32
   misuse_predicate a b = in_numbers ∙ rw (eq-eqb mark 0 a, eq-eqb out 0 b)
 
   pub no_function : (mark ≡ 0 → ⊥) → (eqb mark 0 && eqb out 0) ≡ false
@@ -60,10 +62,10 @@ module _ (text : List ℕ) (symbols : Rows) (count i k : ℕ) (h : count ≤ len
   no_predicate a = rw (ne_eqb out 0 a) (and_no (eqb mark 0))
 
   module _ (e : (eqb mark 0 && eqb out 0) ≡ false) where
-    pub misuse_count : (wanted ≡ k → ⊥) → misuse (symbol_at (symbols_of text symbols count) i) k ≡ 21
+    pub misuse_count : (wanted ≡ k → ⊥) → misuse (symbol_of text row) k ≡ 21
     misuse_count d = in_numbers ∙ rw (e, ne_eqb k wanted (λ q. d (sym q)))
 
-    pub misuse_none : wanted ≡ k → misuse (symbol_at (symbols_of text symbols count) i) k ≡ 0
+    pub misuse_none : wanted ≡ k → misuse (symbol_of text row) k ≡ 0
     misuse_none d = in_numbers ∙ rw (e, eq-eqb k wanted (sym d))
 
 -- Trees in front of those of a value.

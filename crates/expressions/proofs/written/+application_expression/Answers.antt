@@ -25,9 +25,6 @@ application-returns-in_err-argument-clause-answered t c =
 pub application-bounds-store-argument : goal.application-bounds-store-argument
 application-bounds-store-argument t c = let (a, b, d) = value_inside c.loop-k.invariant.turn c.loop-k-test.true c.expression.ensures.answered c.in_ok-argument.was in omega arith
 
-pub application-sort_of-requires : goal.application-sort_of-requires
-application-sort_of-requires t c = let (a, b, d) = value_inside c.loop-k.invariant.turn c.loop-k-test.true c.expression.ensures.answered c.in_ok-argument.was in b
-
 pub application-returns-then-sort_of-program-clause-answered : goal.application-returns-then-sort_of-program-clause-answered
 application-returns-then-sort_of-program-clause-answered t c =
     wrong_sort c.loop-k.invariant.turn c.loop-k-test.true c.expression.ensures.answered c.in_ok-argument.was c.sort_of.ensures c.if-sort_of-program.true

@@ -110,7 +110,7 @@ premise-call-requires t c =
     let a = part_whole c.requires _ refl c.instantiate_arguments.auto.values c.instantiate_arguments.ensures in
     let n = part_length c.requires _ _ refl c.instantiate_arguments.auto.values in (
       let d = c.requires.deep in omega arith,
-      call_asked c.requires a _ c.in_ok-before.was n _ c.instantiate_arguments.auto.stack,
+      rw c.symbol_of-symbol.ensures (call_asked c.requires a _ c.in_ok-before.was n _ c.instantiate_arguments.auto.stack),
     )
 
 pub premise-returns-in_err-outcome-clause-answered : goal.premise-returns-in_err-outcome-clause-answered
@@ -118,25 +118,25 @@ premise-returns-in_err-outcome-clause-answered t c =
     let a = part_whole c.requires _ refl c.instantiate_arguments.auto.values c.instantiate_arguments.ensures in
     let n = part_length c.requires _ _ refl c.instantiate_arguments.auto.values in
     rw (handed_on c.from_residual-in_err-outcome.result c.from_residual-in_err-outcome.ensures.1)
-    (call_failed c.requires a _ c.in_ok-before.was n c.call.ensures.answered _ c.in_err-outcome.was)
+    (call_failed c.requires a _ c.in_ok-before.was n (rw c.symbol_of-symbol.ensures at c.call.ensures.answered) _ c.in_err-outcome.was)
 
 pub premise-bind-requires : goal.premise-bind-requires
 premise-bind-requires t c =
     let a = part_whole c.requires _ refl c.instantiate_arguments.auto.values c.instantiate_arguments.ensures in
     let n = part_length c.requires _ _ refl c.instantiate_arguments.auto.values in
-    bind_asked c.requires a _ c.in_ok-before.was n c.call.ensures.answered _ _ _ c.in_ok-outcome.was _
+    bind_asked c.requires a _ c.in_ok-before.was n (rw c.symbol_of-symbol.ensures at c.call.ensures.answered) _ _ _ c.in_ok-outcome.was _
     (c.call.ensures.lent.stack_kept ∙ c.instantiate_arguments.auto.stack)
 
 pub premise-returns-then-not-bind-clause-answered : goal.premise-returns-then-not-bind-clause-answered
 premise-returns-then-not-bind-clause-answered t c =
     let a = part_whole c.requires _ refl c.instantiate_arguments.auto.values c.instantiate_arguments.ensures in
     let n = part_length c.requires _ _ refl c.instantiate_arguments.auto.values in
-    result_failed c.requires a _ c.in_ok-before.was n c.call.ensures.answered _ _ _ c.in_ok-outcome.was
+    result_failed c.requires a _ c.in_ok-before.was n (rw c.symbol_of-symbol.ensures at c.call.ensures.answered) _ _ _ c.in_ok-outcome.was
     c.bind.ensures c.if-not-bind.true
 
 pub premise-returns-clause-answered : goal.premise-returns-clause-answered
 premise-returns-clause-answered t c =
     let a = part_whole c.requires _ refl c.instantiate_arguments.auto.values c.instantiate_arguments.ensures in
     let n = part_length c.requires _ _ refl c.instantiate_arguments.auto.values in
-    result_fitted c.requires a _ c.in_ok-before.was n c.call.ensures.answered _ _ _ c.in_ok-outcome.was
+    result_fitted c.requires a _ c.in_ok-before.was n (rw c.symbol_of-symbol.ensures at c.call.ensures.answered) _ _ _ c.in_ok-outcome.was
     c.bind.ensures c.if-not-bind.false
