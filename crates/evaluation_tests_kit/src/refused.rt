@@ -14,7 +14,10 @@ use signature_tests::buffers;
 fn is_refused<T: Copy>(answer: Result<T, Refusal>) -> bool
     ensures { result ≡ is_refused answer }
 {
-    matches!(answer, Err(Refusal::Storage))
+    match answer {
+        Err(refusal) => refusal == Refusal::Storage,
+        Ok(_) => false,
+    }
 }
 
 // Tests that an evaluation is refused by 1, and that the buffers are as they were.
