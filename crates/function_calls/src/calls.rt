@@ -203,11 +203,10 @@ pub fn call(
         return Err(Refusal::TooManyCalls);
     }
     let from = program.symbols[symbol][FIRST_CLAUSE] as usize;
+    let end = from + program.symbols[symbol][CLAUSES] as usize;
     let clauses = Clauses {
-        rules: program.rules,
+        rules: &program.rules[from..end],
         pattern: program.pattern,
-        from,
-        end: from + program.symbols[symbol][CLAUSES] as usize,
     };
     let mut environment = [0u32; 64];
     let words = &mut *store.words;
@@ -215,7 +214,7 @@ pub fn call(
         words,
         used: spent.used,
     };
-    let rule = find_clause(
+    let place = find_clause(
         clauses,
         values,
         among,
@@ -224,5 +223,5 @@ pub fn call(
         store.stack,
     )
     .ok_or(Refusal::NoClause)?;
-    follow(program, rule, level, spent, &mut environment, store)
+    follow(program, from + place, level, spent, &mut environment, store)
 }
