@@ -1,5 +1,5 @@
 -- A symbol on values: one law for each way out.
-use Prim.Native.Nat.{ℕ, suc, ◌+◌, ◌-◌, ◌≤◌, ◌<◌}
+use Prim.Native.Nat.{ℕ, suc, ◌+◌, ◌-◌, ◌<◌}
 use native.Mathlib.Omega.{arith}
 use mathlib.Core.Path.{◌≡◌, refl, sym, ap, ◌∙◌, subst}
 use mathlib.Core.Bool.{Bool, true, false, cond, ◌&&◌}
@@ -27,9 +27,9 @@ use Rattle.refusals.specs.declared.Refusal.{Refusal}
 use Rattle.clause_matching.specs.Building.{built_at}
 use Rattle.clause_matching.specs.declared.building.Built.{Built as Made}
 use Rattle.function_calls.specs.declared.calls.Outcome.{Outcome}
-use Rattle.expressions.specs.Nodes.{BuildAsked, BuildAnswered}
+use Rattle.expressions.specs.Nodes.{BuildAnswered}
 use Rattle.expressions.specs.Applying.{Tables, ApplyAsked, Concludes, ApplyAnswered}
-use Rattle.forward_calls.proofs.Tables.{symbols_length, output_at, function_at, arity_at_lem}
+use Rattle.forward_calls.proofs.Tables.{symbols_length, function_at, arity_at_lem}
 use Rattle.expressions.proofs.Forming.{arity_within, arity_known, denied_worth, made_worth, used_worth}
 use Rattle.expressions.proofs.Building.{built_is, built_barred}
 
@@ -164,18 +164,6 @@ module _ {symbol_rows rule_rows : Rows} {pattern : List ℕ} {i : ℕ} {values :
 
   -- A constructor.
   module _ (f : column (row_at symbol_rows i) 3 ≡ 1 → ⊥) where
-    pub build_asked : BuildAsked words used limit i values
-    build_asked =
-        let k = h.known in let n = h.tables.few in let a = h.arguments in let b = h.tables.inputs i k in let s = h.working.scratch in
-        record {
-          stored = h.working.stored;
-          roots = h.roots;
-          few = omega arith;
-          known = omega arith;
-          fits = h.working.fits;
-          low = h.working.low;
-          room = omega arith;
-        }
 
     module _ {made : Result Made Refusal} {words' : List ℕ} (g : BuildAnswered words used limit i values made words') where
       abbrev Says : Result Outcome Refusal → Type 0

@@ -114,11 +114,6 @@ module _ {symbol_rows rule_rows : Rows} {pattern : List ℕ} {symbol : ℕ} {val
       restored = refl;
     }
 
-    pub symbol_inside : (symbol < length symbol_rows) × (end ≤ 1024)
-    symbol_inside =
-        let a = h.program.few in let b = h.known in let c = h.program.within symbol h.known in let d = h.program.small in
-        (omega arith, omega arith)
-
     -- The clauses are a part of the rules.
     abbrev part : Rows
     part = take (end - from) (drop from rule_rows)
