@@ -17,7 +17,7 @@ ghost use Rattle.words.specs.Lexer.{lex_answer, lex_rows};
 
 use arena::{TERM_ROOM, Terms};
 use bindings::StoredBindings;
-use evaluator::{Buffers, WrittenTerm};
+use evaluator::Buffers;
 use prover::Query;
 use refusals::{Refusal, Rejection};
 use sessions::Verdict;
@@ -297,7 +297,7 @@ pub fn horn_evaluate(
         ..NO_LIMITS
     };
     let signature = stored_signature(sorts, symbols, rules, pattern, counts);
-    let term = WrittenTerm { text, rows, at };
+    let term = Source { text, rows, at };
     let mut buffers = Buffers {
         words,
         links,
@@ -338,7 +338,7 @@ pub fn horn_is_forward_call(
         return packed_refusal(Refusal::Storage);
     }
     let signature = stored_signature(sorts, symbols, rules, pattern, counts);
-    let term = WrittenTerm { text, rows, at };
+    let term = Source { text, rows, at };
     match evaluator::is_forward_call(signature, term) {
         Ok(true) => 1,
         Ok(false) => 0,

@@ -7,6 +7,7 @@ ghost use Rattle.clause_matching.specs.Choice.{patterns_from, values_of, ApartAs
 use super::matching::{Values, bind};
 use super::references::{Pattern, pattern_at};
 use rules::RuleRow;
+use rules::columns::CONCLUSION;
 
 // Is the first pattern, whose reference stands at an address, a node of another symbol than the first value? Then the patterns do not fit.
 fn is_apart(pattern: &[u32], base: usize, words: &[u32], values: &[u32]) -> bool
@@ -23,17 +24,14 @@ fn is_apart(pattern: &[u32], base: usize, words: &[u32], values: &[u32]) -> bool
     }
 }
 
-// The clauses of a function: the rules from one on up to another, and the words of their patterns.
-// Stays: of `&rules[from..end]` the answer would be a place in that part; `call` would add `from` to it, as trees name a rule by its number among all.
+// The clauses of a function: their part of the rules, and the words of their patterns.
 #[derive(Clone, Copy)]
 pub struct Clauses<'a> {
     pub rules: &'a [RuleRow],
     pub pattern: &'a [u32],
-    pub from: usize,
-    pub end: usize,
 }
 
-// The first of the clauses whose conclusion fits the arguments, which are values, by its number; the environment then holds those of its variables.
+// The first of the clauses whose conclusion fits the arguments, which are values, by its place; the environment then holds those of its variables.
 // Stays: as at `bind`, of the environment, links and stack.
 pub fn find_clause(
     clauses: Clauses,
@@ -43,14 +41,14 @@ pub fn find_clause(
     links: &mut [u32],
     stack: &mut [[u32; 3]],
 ) -> Option<usize>
-    requires { ClauseAsked clauses.rules.now clauses.pattern.now clauses.from clauses.end arguments.now values.words.now values.used
+    requires { ClauseAsked clauses.rules.now clauses.pattern.now 0 (length clauses.rules.now) arguments.now values.words.now values.used
         environment.old links.old stack.old }
-    ensures { Chosen clauses.entry.rules.now clauses.entry.pattern.now clauses.entry.from clauses.entry.end arguments.now
+    ensures { Chosen clauses.entry.rules.now clauses.entry.pattern.now 0 (length clauses.entry.rules.now) arguments.now
         values.entry.words.now values.entry.used environment.old links.old result environment.new links.new }
 {
     // Stays: fitting writes the environment that the caller needs, so that a closure for `find` would be one that writes, with a contract of what it wrote.
-    'clauses: for i in clauses.from..clauses.end {
-        let Pattern::Node { header: _, first } = pattern_at(clauses.pattern, clauses.rules[i][5])
+    'clauses: for (i, rule) in clauses.rules.iter().enumerate() {
+        let Pattern::Node { header: _, first } = pattern_at(clauses.pattern, rule[CONCLUSION])
         else {
             // Never reached: the conclusion of a clause in form is a node.
             return None;

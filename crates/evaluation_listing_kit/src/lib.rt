@@ -5,7 +5,7 @@
 // Stays: names are bytes, which `write!` cannot write, and std's writer to standard output needs the handle that std's `main` is given.
 #![tactic(auto)]
 
-mod output; // bytes and numbers, as long as there is room
+mod output; // bytes and numbers, where there is room
 mod prefix; // terms in prefix form
 
 ghost use Rattle.evaluation_listing_kit.specs.Printing.{Fits, Moved};
@@ -22,61 +22,65 @@ use signature::columns::CLAUSE;
 // Standard output.
 const STDOUT_FILENO: i32 = 1;
 
-// Ends a line, and writes it.
-fn write_line(out: &mut Output)
-    requires { Fits out.old }
+// Writes a line to standard output, if there was room for it.
+fn write_line(made: Option<()>, line: &Output) {
+    let bytes: &[u8] = match made {
+        Some(()) => words::word(line.bytes, 0, line.at),
+        None => b"wrong: no room for the line\n",
+    };
+    io::write_all(STDOUT_FILENO, bytes);
+}
+
+// Makes the line of a value.
+fn put_value(terms: StoredTerms, value: u32, stack: &mut [OpenRow], line: &mut Output) -> Option<()>
+    requires { Fits line.old }
 {
-    put_byte(out, b'\n');
-    let end = out.at;
-    if out.bytes.len() <= end {
-        io::write_all(STDOUT_FILENO, b"wrong: no room for the line\n");
-        return;
-    }
-    io::write_all(STDOUT_FILENO, words::word(out.bytes, 0, end));
+    put(b"value ", line)?;
+    put_term(terms, value, stack, line)?;
+    put_byte(line, b'\n')
 }
 
 // Writes the line of a value.
 // Stays: terms, stack and buffer are apart, since each line makes an output of the whole buffer, and each term a printer of terms and stack alone.
 pub fn list_value(terms: StoredTerms, value: u32, stack: &mut [OpenRow], out: &mut [u8]) {
     let mut line = Output { bytes: out, at: 0 };
-    put(b"value ", &mut line);
-    put_term(terms, value, stack, &mut line);
-    write_line(&mut line);
+    let made = put_value(terms, value, stack, &mut line);
+    write_line(made, &line);
 }
 
 // Writes a rule's name into the line, that of a clause with its number.
-fn put_rule(text: &[u8], rules: &[RuleRow], number: u32, out: &mut Output)
+fn put_rule(text: &[u8], rules: &[RuleRow], number: u32, out: &mut Output) -> Option<()>
     requires { Fits out.old }
     ensures { Moved out.old out.new }
 {
     let Some(row) = rules.get(number as usize) else {
-        put(b"wrong: no such rule", out);
-        return;
+        return put(b"wrong: no such rule", out);
     };
-    put_name(text, Word::at_start(row), out);
-    let clause = row[CLAUSE];
-    if clause == 0 {
-        return;
-    }
-    put_byte(out, b'.');
-    put_decimal(clause - 1, out);
+    put_name(text, Word::at_start(row), out)?;
+    let Some(clause) = row[CLAUSE].checked_sub(1) else {
+        return Some(());
+    };
+    put_byte(out, b'.')?;
+    put_decimal(clause, out)
 }
 
-// Writes the line of a call.
-fn list_call(
+// Makes the line of a call.
+fn put_call(
     terms: StoredTerms,
     rules: &[RuleRow],
     row: TreeRow,
     stack: &mut [OpenRow],
-    out: &mut [u8],
-) {
-    let mut line = Output { bytes: out, at: 0 };
-    put_decimal(row[0], &mut line);
-    put_byte(&mut line, b' ');
-    put_rule(terms.text, rules, row[2], &mut line);
-    put_byte(&mut line, b' ');
-    put_term(terms, row[3], stack, &mut line);
-    write_line(&mut line);
+    line: &mut Output,
+) -> Option<()>
+    requires { Fits line.old }
+{
+    let [height, _, rule, goal, _, _, _, _] = row;
+    put_decimal(height, line)?;
+    put_byte(line, b' ')?;
+    put_rule(terms.text, rules, rule, line)?;
+    put_byte(line, b' ')?;
+    put_term(terms, goal, stack, line)?;
+    put_byte(line, b'\n')
 }
 
 // Writes the lines of calls.
@@ -88,6 +92,8 @@ pub fn list_calls(
     out: &mut [u8],
 ) {
     for row in trees {
-        list_call(terms, rules, *row, stack, out);
+        let mut line = Output { bytes: out, at: 0 };
+        let made = put_call(terms, rules, *row, stack, &mut line);
+        write_line(made, &line);
     }
 }

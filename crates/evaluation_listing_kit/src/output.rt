@@ -1,7 +1,5 @@
-// Bytes and numbers in decimal, written into a lent buffer as long as there is room.
-//
-// Where there is no room, the output's place is the buffer's end, and from there on nothing is written: the last byte of the buffer is never used.
-ghost use Rattle.std.specs.Prelude.{◌≡◌, ◌+◌, ◌≤◌, min, length};
+// Bytes and numbers in decimal, written into a lent buffer where there is room for them. Where there is none, nothing is written, and the answer is none.
+ghost use Rattle.std.specs.Prelude.{◌≡◌, ◌+◌, ◌≤◌, IfSome, length};
 ghost use Rattle.evaluation_listing_kit.specs.Printing.{Fits, Moved};
 
 use byte_output::Output;
@@ -10,35 +8,35 @@ use byte_output::Output;
 const DIGITS: usize = 10;
 
 // Writes a byte.
-pub fn put_byte(out: &mut Output, byte: u8)
+pub fn put_byte(out: &mut Output, byte: u8) -> Option<()>
     requires { Fits out.old }
     ensures moved { Moved out.old out.new }
-    ensures place { out.new.at ≡ min (out.old.at + 1) (length out.old.bytes.now) }
+    ensures place { IfSome result (λ _. out.new.at ≡ out.old.at + 1) }
 {
-    put(&[byte], out);
+    put(&[byte], out)
 }
 
 // Writes bytes.
-pub fn put(bytes: &[u8], out: &mut Output)
+pub fn put(bytes: &[u8], out: &mut Output) -> Option<()>
     requires { Fits out.old }
     ensures moved { Moved out.old out.new }
-    ensures place { out.new.at ≡ min (out.old.at + length bytes.now) (length out.old.bytes.now) }
+    ensures place { IfSome result (λ _. out.new.at ≡ out.old.at + length bytes.now) }
 {
-    if out.bytes.len() - out.at <= bytes.len() {
-        out.at = out.bytes.len();
-        return;
+    if out.bytes.len() - out.at < bytes.len() {
+        return None;
     }
     out.write(bytes);
+    Some(())
 }
 
-// Writes a number in decimal.
-pub fn put_decimal(number: u32, out: &mut Output)
+// Writes a number in decimal. For any number there has to be room for ten digits.
+pub fn put_decimal(number: u32, out: &mut Output) -> Option<()>
     requires { Fits out.old }
     ensures { Moved out.old out.new }
 {
-    if out.bytes.len() - out.at <= DIGITS {
-        out.at = out.bytes.len();
-        return;
+    if out.bytes.len() - out.at < DIGITS {
+        return None;
     }
     out.write_decimal(number);
+    Some(())
 }

@@ -1,5 +1,5 @@
 // Terms in prefix form, as the Rust's `pat_text` prints them. A term may be as deep as it has nodes, so it is written by a loop over a stack of open nodes.
-ghost use Rattle.std.specs.Prelude.{◌≡◌, ◌+◌, ◌≤◌, ◌<◌, length, slice_get};
+ghost use Rattle.std.specs.Prelude.{◌≡◌, ◌+◌, ◌≤◌, ◌<◌, IfSome, length, slice_get};
 ghost use Rattle.evaluation_listing_kit.specs.Nodes.{node_at};
 ghost use Rattle.evaluation_listing_kit.specs.Printing.{Fits, Moved, Within, Stepped};
 
@@ -42,7 +42,7 @@ fn node_at(words: &[u32], address: u32) -> Option<Node>
 {
     match words.get(address as usize) {
         Some(&header) if HEADERS <= header => Some(Node {
-            symbol: ((header - HEADERS) / SYMBOL_STEP) as usize,
+            symbol: arena::symbol_of(header),
             arity: header % SYMBOL_STEP,
         }),
         _ => None,
@@ -57,11 +57,11 @@ fn argument_at(words: &[u32], address: u32, number: u32) -> Option<u32>
 }
 
 // Writes a name of the text.
-pub fn put_name(text: &[u8], word: Word, out: &mut Output)
+pub fn put_name(text: &[u8], word: Word, out: &mut Output) -> Option<()>
     requires { Fits out.old }
     ensures { Moved out.old out.new }
 {
-    put(names::part(text, word), out);
+    put(names::part(text, word), out)
 }
 
 // Is a node written without parentheses, as a constructor that has no arguments?
@@ -74,7 +74,7 @@ fn is_bare(symbols: &[SymbolRow], node: Node) -> bool {
 
 impl Printer<'_> {
     // Writes the name of a symbol.
-    fn put_symbol(&self, symbol: usize, out: &mut Output)
+    fn put_symbol(&self, symbol: usize, out: &mut Output) -> Option<()>
         requires { Fits out.old }
         ensures { Moved out.old out.new }
     {
@@ -84,67 +84,66 @@ impl Printer<'_> {
         }
     }
 
-    // Writes the start of a node that has parentheses, and opens it.
-    fn open_node(&mut self, symbol: usize, address: u32, out: &mut Output)
+    // Writes the start of a node that has parentheses, and opens it, if there is room for it in the stack too.
+    fn open_node(&mut self, symbol: usize, address: u32, out: &mut Output) -> Option<()>
         requires { Within self.old × Fits out.old }
         ensures { Stepped self.old self.new × Moved out.old out.new }
     {
         let depth = self.depth;
         if self.stack.len() <= depth {
-            out.at = out.bytes.len();
-            return;
+            return None;
         }
         self.stack[depth] = [address, 0];
         self.depth = depth + 1;
-        put_byte(out, b'(');
-        self.put_symbol(symbol, out);
+        put_byte(out, b'(')?;
+        self.put_symbol(symbol, out)
     }
 
     // Writes the start of the node at an address, which is all of one without parentheses.
-    fn enter(&mut self, address: u32, out: &mut Output)
+    fn enter(&mut self, address: u32, out: &mut Output) -> Option<()>
         requires { Within self.old × Fits out.old }
         ensures { Stepped self.old self.new × Moved out.old out.new }
     {
         let Some(node) = node_at(self.terms.words, address) else {
-            put(b"wrong: no node", out);
-            return;
+            return put(b"wrong: no node", out);
         };
         if is_bare(self.terms.symbols, node) {
-            self.put_symbol(node.symbol, out);
-            return;
+            return self.put_symbol(node.symbol, out);
         }
-        self.open_node(node.symbol, address, out);
+        self.open_node(node.symbol, address, out)
     }
 
     // Writes on at the innermost open node: the start of its next argument, or its end.
-    fn step(&mut self, out: &mut Output)
-        requires { (out.old.at < length out.old.bytes.now) × (0 < self.old.depth) × Within self.old }
-        ensures { (out.old.at < out.new.at) × Stepped self.old self.new × Moved out.old out.new }
+    fn step(&mut self, out: &mut Output) -> Option<()>
+        requires { Fits out.old × (0 < self.old.depth) × Within self.old }
+        ensures { IfSome result (λ _. out.old.at < out.new.at) × Stepped self.old self.new × Moved out.old out.new }
     {
         let top = self.depth - 1;
         let [address, next] = self.stack[top];
         let Some(node) = node_at(self.terms.words, address) else {
             self.depth = top;
-            put(b"wrong: no node", out);
-            return;
+            return put(b"wrong: no node", out);
         };
         if node.arity <= next {
-            put_byte(out, b')');
             self.depth = top;
-            return;
+            return put_byte(out, b')');
         }
         self.stack[top] = [address, next + 1];
-        put_byte(out, b' ');
+        put_byte(out, b' ')?;
         let Some(argument) = argument_at(self.terms.words, address, next) else {
-            put(b"wrong: no argument", out);
-            return;
+            return put(b"wrong: no argument", out);
         };
-        self.enter(argument, out);
+        self.enter(argument, out)
     }
 }
 
 // Writes the term whose root is at an address.
-pub fn put_term(terms: StoredTerms, address: u32, stack: &mut [OpenRow], out: &mut Output)
+pub fn put_term(
+    terms: StoredTerms,
+    address: u32,
+    stack: &mut [OpenRow],
+    out: &mut Output,
+) -> Option<()>
     requires { Fits out.old }
     ensures { Moved out.old out.new }
 {
@@ -153,11 +152,9 @@ pub fn put_term(terms: StoredTerms, address: u32, stack: &mut [OpenRow], out: &m
         stack,
         depth: 0,
     };
-    printer.enter(address, out);
+    printer.enter(address, out)?;
     while 0 < printer.depth {
-        if out.bytes.len() <= out.at {
-            return;
-        }
-        printer.step(out);
+        printer.step(out)?;
     }
+    Some(())
 }

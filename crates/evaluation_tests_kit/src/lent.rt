@@ -3,7 +3,8 @@ ghost use Rattle.std.specs.Prelude.{replicate};
 ghost use Rattle.signature_tests.specs.Rows.{junk, Filled};
 ghost use Rattle.evaluator.specs.Storage.{AreLent};
 
-use evaluator::{Buffers, Evaluation, WrittenTerm};
+use evaluator::{Buffers, Evaluation};
+use names::Source;
 use refusals::Refusal;
 use signature::StoredSignature;
 use signature_tests::buffers;
@@ -13,7 +14,7 @@ use words::Limits;
 #[derive(Clone, Copy)]
 pub struct EvaluationQuery<'a> {
     pub signature: StoredSignature<'a>,
-    pub term: WrittenTerm<'a>,
+    pub term: Source<'a>,
     pub limits: Limits,
 }
 

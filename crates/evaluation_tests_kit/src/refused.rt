@@ -4,8 +4,9 @@ ghost use Rattle.evaluation_tests_kit.specs.Refusals.{is_refused};
 ghost use Rattle.evaluator.specs.Storage.{AreLent};
 
 use crate::lent::{self, EvaluationQuery};
-use evaluator::{Buffers, WrittenTerm};
+use evaluator::Buffers;
 use function_calls::TreeRow;
+use names::Source;
 use refusals::Refusal;
 use signature::{Counts, StoredSignature};
 use signature_tests::buffers;
@@ -13,7 +14,10 @@ use signature_tests::buffers;
 fn is_refused<T: Copy>(answer: Result<T, Refusal>) -> bool
     ensures { result ≡ is_refused answer }
 {
-    matches!(answer, Err(Refusal::Storage))
+    match answer {
+        Err(refusal) => refusal == Refusal::Storage,
+        Ok(_) => false,
+    }
 }
 
 // Tests that an evaluation is refused by 1, and that the buffers are as they were.
@@ -26,7 +30,7 @@ fn test_evaluation(query: EvaluationQuery, storage: &mut Buffers, claim: &[u8])
 }
 
 // Tests that a term is refused by 1 where it is asked whether it is evaluated.
-fn test_forward(signature: StoredSignature, term: WrittenTerm, claim: &[u8]) {
+fn test_forward(signature: StoredSignature, term: Source, claim: &[u8]) {
     let answer = evaluator::is_forward_call(signature, term);
     buffers::expect(is_refused(answer), claim);
 }
@@ -78,8 +82,8 @@ fn damaged(signature: StoredSignature) -> StoredSignature {
 }
 
 // The place past the rows, where no term stands.
-fn past(term: WrittenTerm) -> WrittenTerm {
-    WrittenTerm {
+fn past(term: Source) -> Source {
+    Source {
         at: term.rows.len(),
         ..term
     }
@@ -100,7 +104,7 @@ pub fn test_unlisted(query: EvaluationQuery, storage: &mut Buffers) {
 }
 
 // The same where it is asked whether a term is evaluated.
-pub fn test_unlisted_forward(signature: StoredSignature, term: WrittenTerm) {
+pub fn test_unlisted_forward(signature: StoredSignature, term: Source) {
     test_forward(
         damaged(signature),
         term,

@@ -11,8 +11,8 @@ ghost use Rattle.signature.specs.Storage.{store_of};
 ghost use Rattle.evaluator.specs.Storage.{is_short, wiped, results_in, AreLent};
 ghost use Rattle.evaluator.specs.Evaluating.{Readable, Tested, Ready, EvaluationLeft, Evaluating, Forwarding};
 
-pub use forward_calls::WrittenTerm;
 use function_calls::{MAX_CALLS, MAX_DEPTH, Program, Spent, Store, TreeRow};
+use names::Source;
 use refusals::Refusal;
 use signature::StoredSignature;
 use words::Limits;
@@ -73,7 +73,7 @@ impl Buffers<'_> {
 // The value of a term, and the trees of its calls, where all that is read is in form and the buffers are long enough.
 pub fn evaluate_listed(
     signature: StoredSignature,
-    term: WrittenTerm,
+    term: Source,
     limits: Limits,
     buffers: &mut Buffers,
 ) -> Result<Evaluation, Refusal>
@@ -117,7 +117,7 @@ pub fn evaluate_listed(
 }
 
 // Whether all that is read is in form: the signature, and the term's rows.
-fn check(signature: StoredSignature, term: WrittenTerm) -> Result<(), Refusal>
+fn check(signature: StoredSignature, term: Source) -> Result<(), Refusal>
     ensures { Tested (Readable term.entry.text.now (store_of signature.entry) term.entry.rows.now term.entry.at) result }
 {
     if !signature::check_signature(term.text, signature) {
@@ -130,7 +130,7 @@ fn check(signature: StoredSignature, term: WrittenTerm) -> Result<(), Refusal>
 // The value of a term, and the trees of its calls.
 pub fn evaluate(
     signature: StoredSignature,
-    term: WrittenTerm,
+    term: Source,
     limits: Limits,
     buffers: &mut Buffers,
 ) -> Result<Evaluation, Refusal>
@@ -146,7 +146,7 @@ pub fn evaluate(
 }
 
 // Whether a term is evaluated, as an `#eval`: a function's name with all arguments but its result, and no metavariable.
-pub fn is_forward_call(signature: StoredSignature, term: WrittenTerm) -> Result<bool, Refusal>
+pub fn is_forward_call(signature: StoredSignature, term: Source) -> Result<bool, Refusal>
     ensures { Forwarding term.entry.text.now (store_of signature.entry) term.entry.rows.now term.entry.at result }
 {
     check(signature, term)?;

@@ -8,11 +8,11 @@ ghost use Rattle.std.specs.Prelude.{◌+◌, ◌^◌, ◌≤◌, ◌<◌};
 use evaluation_listing_kit::StoredTerms;
 use evaluation_tests_kit::lent::{self, EvaluationQuery};
 use evaluation_tests_kit::refused;
-use evaluator::{Buffers, Evaluation, WrittenTerm};
+use evaluator::{Buffers, Evaluation};
 use listing::recorded::{self, Recorded};
 use listing::{write, write_number};
 use load::{EvalRow, LentBuffers, Loaded};
-use names::TermRow;
+use names::{Source, TermRow};
 use refusals::Refusal;
 use signature::StoredSignature;
 use signature_listing::used;
@@ -82,8 +82,8 @@ fn write_eval(eval: EvalRow) {
 }
 
 // The term whose rows start at a place.
-fn term_at(loaded: LoadedText, at: usize) -> WrittenTerm {
-    WrittenTerm {
+fn term_at(loaded: LoadedText, at: usize) -> Source {
+    Source {
         text: loaded.text,
         rows: loaded.rows,
         at,

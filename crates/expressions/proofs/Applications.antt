@@ -1,5 +1,5 @@
 -- A symbol on values: one law for each way out.
-use Prim.Native.Nat.{ℕ, suc, ◌+◌, ◌-◌, ◌≤◌, ◌<◌}
+use Prim.Native.Nat.{ℕ, suc, ◌+◌, ◌-◌, ◌<◌}
 use native.Mathlib.Omega.{arith}
 use mathlib.Core.Path.{◌≡◌, refl, sym, ap, ◌∙◌, subst}
 use mathlib.Core.Bool.{Bool, true, false, cond, ◌&&◌}
@@ -10,7 +10,8 @@ use borrow.Author.Tests.{eq-eqb, ne_eqb}
 use Rattle.terms.specs.Term.{Terms}
 use Rattle.terms.specs.Term.Kind.{one as single, many as several}
 use Rattle.term_parser.specs.Source.{one}
-use Rattle.names.specs.Symbols.{Rows, Symbol, column, row_at, symbols_of, symbol_at}
+use Rattle.names.specs.Symbols.{Rows, Symbol, column, row_at, symbol_of, symbols_of, symbol_at}
+use Rattle.names.specs.SearchLaws.{columns_length}
 use Rattle.patterns.specs.Patterns.{when}
 use Rattle.resolution.specs.Rules.{Rule, Tree, leaf, ◌◂◌, joined}
 use Rattle.rules.specs.PatternLaws.{arities_of}
@@ -26,9 +27,9 @@ use Rattle.refusals.specs.declared.Refusal.{Refusal}
 use Rattle.clause_matching.specs.Building.{built_at}
 use Rattle.clause_matching.specs.declared.building.Built.{Built as Made}
 use Rattle.function_calls.specs.declared.calls.Outcome.{Outcome}
-use Rattle.expressions.specs.Nodes.{BuildAsked, BuildAnswered}
+use Rattle.expressions.specs.Nodes.{BuildAnswered}
 use Rattle.expressions.specs.Applying.{Tables, ApplyAsked, Concludes, ApplyAnswered}
-use Rattle.forward_calls.proofs.Tables.{symbols_length, output_at, function_at, arity_at_lem}
+use Rattle.forward_calls.proofs.Tables.{symbols_length, function_at, arity_at_lem}
 use Rattle.expressions.proofs.Forming.{arity_within, arity_known, denied_worth, made_worth, used_worth}
 use Rattle.expressions.proofs.Building.{built_is, built_barred}
 
@@ -36,21 +37,22 @@ and_no : (a : Bool) → (a && false) ≡ false
 and_no true = refl
 and_no false = refl
 
--- What a symbol is refused for.
-module _ (text : List ℕ) (symbols : Rows) (count i k : ℕ) (h : count ≤ length symbols) (l : i < count) where
+-- What a symbol is refused for, by its row.
+module _ (text row : List ℕ) (k : ℕ) where
   abbrev mark : ℕ
-  mark = column (row_at symbols i) 3
+  mark = column row 3
 
   abbrev out : ℕ
-  out = column (row_at symbols i) 2
+  out = column row 2
 
   abbrev wanted : ℕ
-  wanted = column (row_at symbols i) 6 - mark
+  wanted = column row 6 - mark
 
-  in_numbers : misuse (symbol_at (symbols_of text symbols count) i) k ≡ cond (eqb mark 0 && eqb out 0) 32 (cond (eqb k wanted) 0 21)
-  in_numbers = rw (function_at text symbols count h i l, output_at text symbols count h i l, arity_at_lem text symbols count h i l)
+  in_numbers : misuse (symbol_of text row) k ≡ cond (eqb mark 0 && eqb out 0) 32 (cond (eqb k wanted) 0 21)
+  unfolding symbol_of
+  in_numbers = rw (columns_length row 8 (column row 6))
 
-  pub misuse_predicate : mark ≡ 0 → out ≡ 0 → misuse (symbol_at (symbols_of text symbols count) i) k ≡ 32
+  pub misuse_predicate : mark ≡ 0 → out ≡ 0 → misuse (symbol_of text row) k ≡ 32
   misuse_predicate a b = in_numbers ∙ rw (eq-eqb mark 0 a, eq-eqb out 0 b)
 
   pub no_function : (mark ≡ 0 → ⊥) → (eqb mark 0 && eqb out 0) ≡ false
@@ -60,10 +62,10 @@ module _ (text : List ℕ) (symbols : Rows) (count i k : ℕ) (h : count ≤ len
   no_predicate a = rw (ne_eqb out 0 a) (and_no (eqb mark 0))
 
   module _ (e : (eqb mark 0 && eqb out 0) ≡ false) where
-    pub misuse_count : (wanted ≡ k → ⊥) → misuse (symbol_at (symbols_of text symbols count) i) k ≡ 21
+    pub misuse_count : (wanted ≡ k → ⊥) → misuse (symbol_of text row) k ≡ 21
     misuse_count d = in_numbers ∙ rw (e, ne_eqb k wanted (λ q. d (sym q)))
 
-    pub misuse_none : wanted ≡ k → misuse (symbol_at (symbols_of text symbols count) i) k ≡ 0
+    pub misuse_none : wanted ≡ k → misuse (symbol_of text row) k ≡ 0
     misuse_none d = in_numbers ∙ rw (e, eq-eqb k wanted (sym d))
 
 -- Trees in front of those of a value.
@@ -162,18 +164,6 @@ module _ {symbol_rows rule_rows : Rows} {pattern : List ℕ} {i : ℕ} {values :
 
   -- A constructor.
   module _ (f : column (row_at symbol_rows i) 3 ≡ 1 → ⊥) where
-    pub build_asked : BuildAsked words used limit i values
-    build_asked =
-        let k = h.known in let n = h.tables.few in let a = h.arguments in let b = h.tables.inputs i k in let s = h.working.scratch in
-        record {
-          stored = h.working.stored;
-          roots = h.roots;
-          few = omega arith;
-          known = omega arith;
-          fits = h.working.fits;
-          low = h.working.low;
-          room = omega arith;
-        }
 
     module _ {made : Result Made Refusal} {words' : List ℕ} (g : BuildAnswered words used limit i values made words') where
       abbrev Says : Result Outcome Refusal → Type 0

@@ -2,12 +2,8 @@
 use Prim.Native.Nat.{ℕ, zero, suc, ◌+◌, ◌≤◌, ◌<◌, min}
 use native.Mathlib.Omega.{arith}
 use mathlib.Core.Path.{◌≡◌, refl, sym, ◌∙◌, subst}
-use mathlib.Core.Bool.{Bool, true, false, ◌&&◌}
+use mathlib.Core.Bool.{true, false, ◌&&◌}
 use mathlib.Core.List.{List}
-use lib.Dec.{ltb}
-use lib.ListN.{length}
-use borrow.Author.Tests.{le-ltb}
-use Rattle.names.specs.Names.{Name}
 use Rattle.names.specs.Symbols.{Rows, Symbol, column, row_at, symbols_of, symbol_number}
 use Rattle.patterns.specs.Patterns.{is_ctor, zero_name, succ_name}
 use Rattle.resolution.specs.Rules.{Rule, leaf}
@@ -16,14 +12,10 @@ use Rattle.evaluation.specs.Matching.{Built, barred, built}
 use Rattle.evaluation.specs.Expressions.{Evaluated, failed, unless, around, numeral_misuse, tower_of, numeral_of}
 use Rattle.clause_matching.specs.Building.{Tells}
 use Rattle.clause_matching.specs.declared.building.Built.{Built as Answer}
-use Rattle.std.specs.Prelude.{Option, Some, None, cond, Result, Ok, Err}
-use Rattle.std.specs.Option.{ok_or}
-use Rattle.std.proofs.Common.{ltb-true, ltb-false}
-use Rattle.terms.specs.Numbers.{by_bool, true_false}
+use Rattle.std.specs.Prelude.{Result, Ok, Err}
 use Rattle.patterns.specs.Promises.{NumeralsFound}
 use Rattle.patterns.specs.declared.NumeralSymbols.{NumeralSymbols}
 use Rattle.refusals.specs.declared.Refusal.{Refusal}
-use Rattle.refusals.specs.declared.Refusal.TheVariants.{NoNumerals}
 use Rattle.refusals.specs.Refusals.{number_of}
 use Rattle.expressions.specs.Numerals.{NumeralAsked, TowerAsked, TowerAnswered, Gives, NumeralAnswered}
 use Rattle.forward_calls.proofs.Tables.{symbols_length}

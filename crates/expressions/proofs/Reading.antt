@@ -12,7 +12,7 @@ use Rattle.term_parser.specs.Source.{one}
 use Rattle.term_parser.specs.Standing as standing
 use Rattle.term_parser.specs.Standing.{Written, number, meta, called, applied, size}
 use Rattle.names.specs.Names.{name_of}
-use Rattle.names.specs.Symbols.{Rows, Symbol, column, row_at, symbols_of, symbol_at, symbol_number}
+use Rattle.names.specs.Symbols.{Rows, Symbol, column, row_at, symbol_of, symbols_of, symbol_at, symbol_number}
 use Rattle.patterns.specs.Patterns.{when, is_ctor, zero_name, succ_name}
 use Rattle.resolution.specs.Rules.{Rule, Tree, leaf}
 use Rattle.tree_rows.specs.Trees.{Lists}
@@ -25,11 +25,11 @@ use Rattle.refusals.specs.Refusals.{number_of}
 use Rattle.refusals.specs.declared.Refusal.TheVariants.{TooDeep, NotGround, UnknownSymbol}
 use Rattle.clause_matching.specs.Building.{built_at}
 use Rattle.clause_matching.specs.declared.building.Built.{Built as Made}
-use Rattle.expressions.specs.Numerals.{NumeralAsked, Gives, NumeralAnswered}
+use Rattle.expressions.specs.Numerals.{Gives, NumeralAnswered}
 use Rattle.expressions.specs.Applying.{Tables}
 use Rattle.expressions.specs.Terms.{expressed, ExpressionAsked, Evaluates, ExpressionAnswered, ApplicationAsked, ApplicationAnswered}
 use Rattle.expressions.specs.declared.written.Expressed.{Expressed}
-use Rattle.forward_calls.proofs.Tables.{symbols_length, function_at, arity_at_lem}
+use Rattle.forward_calls.proofs.Tables.{symbols_length, symbol_at_lem, function_at, arity_at_lem}
 use Rattle.forward_calls.proofs.Heads.{Head, head_of, row_within, number_row, meta_row}
 use Rattle.expressions.proofs.Forming.{value_at_lem, used_at, refused_answer, made_answer, used_answer}
 
@@ -135,17 +135,6 @@ module _ {text : List ℕ} {rows : Rows} {at : ℕ} {symbol_rows : Rows} {count 
     shallow : ltb 128 depth ≡ false
     shallow = le-ltb 128 depth l
 
-    pub numeral_asked : NumeralAsked symbol_rows count depth words used limit
-    numeral_asked = let s = h.working.scratch in record {
-      lent = h.tables.lent;
-      few = h.tables.few;
-      deep = l;
-      stored = h.working.stored;
-      fits = h.working.fits;
-      low = h.working.low;
-      room = omega arith;
-    }
-
     module _ (k : kind ≡ 14) {r : Result Made Refusal} {words' : List ℕ} (g : NumeralAnswered text symbol_rows count (column (row_at rows at) 3) depth words used limit r words') where
       numeral_is : (limit : ℕ) (rules : List Rule) (v : ℕ) (sorts : List ℕ) → expression_of limit S rules (number v) sorts depth counts ≡ numeral_of limit S rules v depth counts
       unfolding expression_of
@@ -206,11 +195,11 @@ module _ {text : List ℕ} {rows : Rows} {at : ℕ} {symbol_rows : Rows} {count 
           ∙ rw (numbered (head_of text rows at q t s n m), symbols_length text symbol_rows count h.tables.lent, le-ltb i count b))
 
       module _ (b : i < count) {k : ℕ} (c : k ≡ column (row_at rows at) 3) where
-        pub misuse_asked : (i < count) × (column (row_at symbol_rows i) 3 ≤ 1)
-            × (column (row_at symbol_rows i) 3 ≤ column (row_at symbol_rows i) 6) × (column (row_at symbol_rows i) 6 ≤ 16)
-        misuse_asked = (b, h.tables.marks i b, h.tables.results i b, h.tables.inputs i b)
 
-        module _ {e : ℕ} (v : (text : List ℕ) → e ≡ misuse (symbol_at (symbols_of text symbol_rows count) i) k) where
+        module _ {e : ℕ} (found_in : (text : List ℕ) → e ≡ misuse (symbol_of text (row_at symbol_rows i)) k) where
+          v : (text : List ℕ) → e ≡ misuse (symbol_at (symbols_of text symbol_rows count) i) k
+          v text = rw (symbol_at_lem text symbol_rows count h.tables.lent i b) (found_in text)
+
           known : (rules : List Rule) (t : Written one) (q : ℕ) (s : standing.Stands text rows at t q) (sorts : List ℕ) → expression_of limit S rules t sorts depth counts
               ≡ unless e (λ _. apply_of limit S rules i depth (expression_of limit S rules (head_of text rows at q t s n m).parts (symbol_at S i).inputs (suc depth) counts))
           known rules t q s sorts =

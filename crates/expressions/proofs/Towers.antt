@@ -21,7 +21,7 @@ use Rattle.clause_matching.specs.declared.building.Built.{Built as Answer}
 use Rattle.std.specs.Prelude.{Result, Err}
 use Rattle.refusals.specs.declared.Refusal.{Refusal}
 use Rattle.refusals.specs.Refusals.{number_of}
-use Rattle.expressions.specs.Nodes.{BuildAsked, BuildAnswered}
+use Rattle.expressions.specs.Nodes.{BuildAnswered}
 use Rattle.expressions.specs.Numerals.{TowerAsked, TowerAnswered}
 use Rattle.forward_calls.proofs.Tables.{output_at, inputs_at_lem}
 use Rattle.expressions.proofs.Forming.{arity_within, arity_known, barred_at, used_at}
@@ -59,19 +59,6 @@ pub record Turn (symbols : Rows) (count y z n used limit want : ℕ) (words₀ :
   pub room : limit ≤ length words
 
 module _ {symbols : Rows} {count y z n : ℕ} {words : List ℕ} {used limit : ℕ} (h : TowerAsked symbols count y z n words used limit) where
-  pub first_asked : {none : List ℕ} → none ≡ [] → BuildAsked words used limit z none
-  first_asked {none} e =
-      let l : length none ≡ 0 = ap length e in
-      let a = h.inner in let b = h.working.few in
-      record {
-        stored = h.working.stored;
-        roots = λ k m. let x : ⊥ = omega arith in absurd x;
-        few = omega arith;
-        known = omega arith;
-        fits = h.working.fits;
-        low = h.working.low;
-        room = h.working.room;
-      }
 
   module _ {r : Result Answer Refusal} {none words' : List ℕ} (e : none ≡ []) (g : BuildAnswered words used limit z none r words') where
     tells : Tells (build_node limit z nil used) r words words' used limit
@@ -159,18 +146,6 @@ module _ {symbols : Rows} {count y z n used limit want : ℕ} {words₀ : List �
   wrong_sort d text rules = rw (h.comes text rules, h.sorted text, wanted text, ne_eqb sort want d)
 
   module _ (e : sort ≡ want) where
-    pub next_asked : BuildAsked words spent limit y (top ∷ [])
-    next_asked =
-        let f = h.fixed in let a = f.outer in let b = f.few in
-        record {
-          stored = h.stands.stored;
-          roots = λ i m. let z : i ≡ 0 = omega arith in rw z h.stands.root;
-          few = omega arith;
-          known = omega arith;
-          fits = h.stands.within;
-          low = f.low;
-          room = h.room;
-        }
 
     stepped : (text : List ℕ) (rules : List Rule) → tower_of limit (symbols_of text symbols count) rules y z (suc k) used ≡ build_node limit y (cons (value_at words top) nil) spent
     unfolding tower_of

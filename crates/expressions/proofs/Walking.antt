@@ -31,7 +31,7 @@ use Rattle.std.specs.Prelude.{Result, Err}
 use Rattle.refusals.specs.declared.Refusal.{Refusal}
 use Rattle.refusals.specs.Refusals.{number_of}
 use Rattle.refusals.specs.declared.Refusal.TheVariants.{WrongSort}
-use Rattle.expressions.specs.Applying.{Tables, ApplyAsked, Concludes, ApplyAnswered}
+use Rattle.expressions.specs.Applying.{Tables, Concludes, ApplyAnswered}
 use Rattle.expressions.specs.Terms.{expressed, ExpressionAsked, Evaluates, ExpressionAnswered, ApplicationAsked, ApplicationAnswered}
 use Rattle.expressions.specs.declared.written.Expressed.{Expressed}
 use Rattle.forward_calls.proofs.Tables.{inputs_at_lem}
@@ -468,23 +468,6 @@ module _ {text : List ℕ} {rows : Rows} {at arguments : ℕ} {symbol_rows : Row
 
   pub given_size : length given ≡ arguments
   given_size = let f = few h in let n = h.slots in length-take-le arguments values (omega arith)
-
-  pub apply_asked : ApplyAsked symbol_rows rule_rows pattern i given depth made spent limit words links trees stack
-  apply_asked =
-      let a = h.asked in let n = given_size in let m = a.counted in
-      record {
-        text = text;
-        count = count;
-        size = a.wide;
-        rules = a.rules;
-        tables = a.tables;
-        known = a.known;
-        arguments = omega arith;
-        working = working h;
-        roots = λ j y. let z : j < arguments = omega arith in rw (get_or-take arguments values j 0 z) (h.roots j (omega arith));
-        deep = a.deep;
-        spent = (let b = a.spent in let c = h.spends in omega arith);
-      }
 
   values_are : values_of words given ≡ args (denote 0 (cells words)) (cells values) 0 k
   values_are =

@@ -1,10 +1,8 @@
 -- Numerals as values in storage (`tower_of` and `numeral_of` of `evaluation`).
-use Rattle.std.specs.Prelude.{ℕ, ◌≤◌, ◌<◌, min, ◌≡◌, true, false, List, length, Result, Ok, Err}
+use Rattle.std.specs.Prelude.{ℕ, ◌≤◌, ◌<◌, min, ◌≡◌, List, length, Result}
 use Rattle.arena.specs.Cells.{headers}
 use Rattle.term_parser.specs.Source.{one}
-use Rattle.names.specs.Names.{Name}
-use Rattle.names.specs.Symbols.{Rows, column, row_at, symbols_of, symbol_number}
-use Rattle.patterns.specs.Patterns.{is_ctor}
+use Rattle.names.specs.Symbols.{Rows, column, row_at, symbols_of}
 use Rattle.resolution.specs.Rules.{Rule}
 use Rattle.rules.specs.PatternLaws.{arities_of}
 use Rattle.evaluation.specs.Expressions.{Evaluated, failed, evaluated, tower_of, numeral_of}
@@ -13,7 +11,6 @@ use Rattle.clause_matching.specs.Building.{built_at, Tells, Stands}
 use Rattle.refusals.specs.Refused.{Refuses}
 use Rattle.clause_matching.specs.declared.building.Built.{Built as Answer}
 use Rattle.refusals.specs.declared.Refusal.{Refusal}
-use Rattle.refusals.specs.Refusals.{number_of}
 
 -- The symbols and the words that values are built in.
 pub record NumeralAsked (symbols : Rows) (count depth : ℕ) (words : List ℕ) (used limit : ℕ) : Type 0 where

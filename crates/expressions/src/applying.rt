@@ -1,6 +1,6 @@
 // A symbol on the values of its arguments.
-ghost use Rattle.std.specs.Prelude.{List, ℕ, ◌≤◌, ◌<◌, length};
-ghost use Rattle.names.specs.Symbols.{symbol_at, symbols_of, column, row_at};
+ghost use Rattle.std.specs.Prelude.{List, ℕ, ◌≤◌};
+ghost use Rattle.names.specs.Symbols.{symbol_of, column};
 ghost use Rattle.evaluation.specs.Expressions.{misuse};
 ghost use Rattle.function_calls.specs.Calls.{IsLent};
 ghost use Rattle.expressions.specs.Nodes.{Finds};
@@ -8,19 +8,20 @@ ghost use Rattle.expressions.specs.Applying.{ApplyAsked, ApplyAnswered};
 
 use super::nodes::build;
 use function_calls::{Level, Outcome, Program, Room, Spent, Store, call};
+use names::columns::{ARITY, MARK, OUTPUT};
 use names::{FUNCTION, NO_FUNCTION, SymbolRow};
 use refusals::Refusal;
 
 // What a symbol on so many arguments is refused for, if it is.
-pub fn check_use(symbols: &[SymbolRow], i: usize, arguments: usize) -> Result<(), Refusal>
-    requires { (i < length symbols.now) × (column (row_at symbols.now i) 3 ≤ 1) × (column (row_at symbols.now i) 3 ≤ column (row_at symbols.now i) 6) × (column (row_at symbols.now i) 6 ≤ 16) }
-    ensures { (text : List ℕ) → Finds result (misuse (symbol_at (symbols_of text symbols.now (length symbols.now)) i) arguments) }
+pub fn check_use(symbol: &SymbolRow, arguments: usize) -> Result<(), Refusal>
+    requires { (column symbol.now 3 ≤ 1) × (column symbol.now 3 ≤ column symbol.now 6) × (column symbol.now 6 ≤ 16) }
+    ensures { (text : List ℕ) → Finds result (misuse (symbol_of text symbol.now) arguments) }
 {
-    if symbols[i][3] == NO_FUNCTION && symbols[i][2] == 0 {
+    if symbol[MARK] == NO_FUNCTION && symbol[OUTPUT] == 0 {
         return Err(Refusal::NoExpression);
     }
     // Stays: the mark is how many of the inputs are results, 1 of a FUNCTION and 0 of any other; a test of it would say the same in two branches.
-    let wanted = symbols[i][6] - symbols[i][3];
+    let wanted = symbol[ARITY] - symbol[MARK];
     if wanted as usize != arguments {
         return Err(Refusal::ArgumentCount);
     }
@@ -44,7 +45,7 @@ pub fn apply(
         store.old.words.now store.old.links.now store.old.trees.now result store.new.words.now store.new.links.now store.new.trees.now }
     ensures lent { IsLent store.old store.new }
 {
-    if program.symbols[i][3] == FUNCTION {
+    if program.symbols[i][MARK] == FUNCTION {
         let level = Level {
             depth: depth + 1,
             height: 1,

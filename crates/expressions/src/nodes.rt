@@ -1,24 +1,23 @@
 // Nodes on values.
-ghost use Rattle.std.specs.Prelude.{◌≡◌, List, ℕ, ◌≤◌, length};
-ghost use Rattle.arena.specs.Cells.{headers, symbol_of as symbolIn};
+ghost use Rattle.std.specs.Prelude.{◌≡◌, List, ℕ, length};
+ghost use Rattle.arena.specs.Cells.{symbol_of as symbolIn};
 ghost use Rattle.names.specs.Symbols.{symbol_at, symbols_of};
 ghost use Rattle.expressions.specs.Nodes.{BuildAsked, BuildAnswered};
 
-use arena::{HEADERS, SYMBOL_STEP};
 use function_calls::{Built, Room};
 use names::SymbolRow;
+use names::columns::OUTPUT;
 use refusals::Refusal;
 
 // The sort of a value by its header: the output of its symbol.
 // Stays: where there is no such symbol the definition's output is 0, as a predicate's is, and the contract would have to say so of an option too.
-// Stays: tried with `symbols.get(f).map_or(0, |row| row[2])`: that the answer is the definition's output in both cases was not proved.
+// Stays: tried with `symbols.get(f).map_or(0, |row| row[OUTPUT])`: that the answer is the definition's output in both cases was not proved.
 pub fn sort_of(symbols: &[SymbolRow], header: u32) -> u32
-    requires { headers ≤ header }
     ensures { (text : List ℕ) → result ≡ (symbol_at (symbols_of text symbols.now (length symbols.now)) (symbolIn header)).output }
 {
-    let f = ((header - HEADERS) / SYMBOL_STEP) as usize;
+    let f = arena::symbol_of(header);
     if f < symbols.len() {
-        return symbols[f][2];
+        return symbols[f][OUTPUT];
     }
     0
 }
@@ -32,7 +31,7 @@ pub fn build(words: &mut [u32], room: Room, symbol: usize, values: &[u32]) -> Re
     if room.limit - room.used <= count {
         return Err(Refusal::OverLimit);
     }
-    let header = HEADERS + SYMBOL_STEP * (symbol as u32) + count;
+    let header = arena::header_of(symbol, values.len());
     arena::push_node(words, room.used, header, values);
     Ok(Built {
         value: room.used,

@@ -9,6 +9,7 @@ ghost use Rattle.expressions.specs.Numerals.{TowerAsked, TowerAnswered, NumeralA
 use super::nodes::build;
 use function_calls::{Built, MAX_DEPTH, Room};
 use names::SymbolRow;
+use names::columns::{ARITY, FIRST_INPUT, OUTPUT};
 use patterns::NumeralSymbols;
 use refusals::Refusal;
 
@@ -24,13 +25,13 @@ fn check_numeral(
         → Finds result (numeral_misuse limit (symbols_of text symbols.now (length symbols.now)) rules numerals.succ numerals.zero n depth) }
 {
     let NumeralSymbols { zero, succ } = numerals;
-    if 0 < n && symbols[succ][6] != 1 {
+    if 0 < n && symbols[succ][ARITY] != 1 {
         return Err(Refusal::ArgumentCount);
     }
     if MAX_DEPTH - depth < n {
         return Err(Refusal::TooDeep);
     }
-    if symbols[zero][6] != 0 {
+    if symbols[zero][ARITY] != 0 {
         return Err(Refusal::ArgumentCount);
     }
     Ok(())
@@ -48,8 +49,8 @@ fn tower(
     ensures { TowerAnswered symbols.now (length symbols.now) numerals.succ numerals.zero n words.old room.used room.limit result words.new }
 {
     let NumeralSymbols { zero, succ } = numerals;
-    let mut sort = symbols[zero][2];
-    let want = symbols[succ][8];
+    let mut sort = symbols[zero][OUTPUT];
+    let want = symbols[succ][FIRST_INPUT];
     let mut built = build(words, room, zero, &[])?;
     for _k in 0..n {
         if sort != want {
@@ -60,7 +61,7 @@ fn tower(
             ..room
         };
         built = build(words, left, succ, &[built.value])?;
-        sort = symbols[succ][2];
+        sort = symbols[succ][OUTPUT];
     }
     Ok(built)
 }

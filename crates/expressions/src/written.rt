@@ -6,9 +6,9 @@ ghost use Rattle.expressions.specs.Terms.{ExpressionAsked, ExpressionAnswered, A
 use super::applying::{apply, check_use};
 use super::nodes::sort_of;
 use super::numerals::numeral;
-use forward_calls::WrittenTerm;
 use function_calls::{MAX_DEPTH, Program, Room, Spent, Store};
-use names::Word;
+use names::columns::FIRST_INPUT;
+use names::{Source, Word};
 use refusals::Refusal;
 
 // A term that has a value: the value, the row behind the term, and what is spent then.
@@ -22,7 +22,7 @@ pub struct Expressed {
 // A symbol on so many arguments, of which the first is given, each at the next depth; the sort of each is tested at once.
 #[cycle(application_expression)]
 fn application(
-    first: WrittenTerm,
+    first: Source,
     arguments: usize,
     program: Program,
     i: usize,
@@ -43,10 +43,10 @@ fn application(
     let mut p = first.at;
     let mut spent = before;
     for k in 0..arguments {
-        let term = WrittenTerm { at: p, ..first };
+        let term = Source { at: p, ..first };
         let argument = expression(term, program, depth + 1, spent, store)?;
         let header = store.words[argument.value as usize];
-        if sort_of(program.symbols, header) != program.symbols[i][8 + k] {
+        if sort_of(program.symbols, header) != program.symbols[i][FIRST_INPUT + k] {
             return Err(Refusal::WrongSort);
         }
         values[k] = argument.value;
@@ -64,7 +64,7 @@ fn application(
 // The value of a term at a depth, where so much is spent.
 #[cycle(application_expression)]
 pub fn expression(
-    term: WrittenTerm,
+    term: Source,
     program: Program,
     depth: u32,
     spent: Spent,
@@ -106,8 +106,8 @@ pub fn expression(
                 Refusal::UnknownSymbol,
             )?;
             let arguments = row[3] as usize;
-            check_use(program.symbols, i, arguments)?;
-            let first = WrittenTerm {
+            check_use(&program.symbols[i], arguments)?;
+            let first = Source {
                 at: term.at + 1,
                 ..term
             };

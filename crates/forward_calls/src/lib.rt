@@ -6,19 +6,12 @@
 ghost use Rattle.forward_calls.specs.Ground.{GroundAsked, GroundAnswered};
 ghost use Rattle.forward_calls.specs.Forward.{ForwardAsked, ForwardAnswered};
 
-use names::{FUNCTION, SymbolRow, TermRow, Word};
-
-// A written term: the text, rows in preorder, and where the term's rows start.
-#[derive(Clone, Copy)]
-pub struct WrittenTerm<'a> {
-    pub text: &'a [u8],
-    pub rows: &'a [TermRow],
-    pub at: usize,
-}
+use names::columns::{ARITY, MARK};
+use names::{FUNCTION, Source, SymbolRow, Word};
 
 // Whether a term has no metavariable: its rows stand in preorder, so one pass over them sees every part.
 // Stays: `clauses::skip` finds the row behind the term by the same walk; with `any` on the rows up to there it would be two passes in place of one.
-pub fn is_ground(term: WrittenTerm) -> bool
+pub fn is_ground(term: Source) -> bool
     requires { GroundAsked term.text.now term.rows.now term.at }
     ensures { GroundAnswered term.entry.text.now term.entry.rows.now term.entry.at result }
 {
@@ -38,7 +31,7 @@ pub fn is_ground(term: WrittenTerm) -> bool
 }
 
 // Whether a term is a function's name with all arguments but its result, and has no metavariable. Every other one is a goal.
-pub fn is_forward_call(term: WrittenTerm, symbols: &[SymbolRow]) -> bool
+pub fn is_forward_call(term: Source, symbols: &[SymbolRow]) -> bool
     requires { ForwardAsked term.text.now term.rows.now term.at symbols.now }
     ensures { ForwardAnswered term.entry.text.now term.entry.rows.now term.entry.at symbols.now result }
 {
@@ -50,10 +43,10 @@ pub fn is_forward_call(term: WrittenTerm, symbols: &[SymbolRow]) -> bool
     let Some(i) = names::find_at(term.text, symbols, kind, Word::behind_kind(row)) else {
         return false;
     };
-    if symbols[i][3] != FUNCTION {
+    if symbols[i][MARK] != FUNCTION {
         return false;
     }
-    let inputs = symbols[i][6];
+    let inputs = symbols[i][ARITY];
     if inputs == 0 {
         return false;
     }

@@ -4,7 +4,8 @@ use native.Mathlib.Omega.{arith}
 use mathlib.Core.Path.{◌≡◌, refl, sym, ap, ap₂, ◌∙◌, subst}
 use mathlib.Core.Option.{Option, some}
 use mathlib.Core.List.{List}
-use lib.ListN.{length}
+use lib.ListN.{length, take, drop, length-drop}
+use lib.Seq.{get_or-take, get_or-drop, length-take-le}
 use borrow.Author.Tests.{lt-ltb, le-ltb}
 use Rattle.terms.specs.Numbers.{by_same, by_less}
 use Rattle.terms.specs.Term.{Terms, app}
@@ -15,7 +16,7 @@ use Rattle.names.specs.Symbols.{Rows, Symbol, column, row_at, symbol_at}
 use Rattle.resolution.specs.Rules.{Rule, rule_at_lem}
 use Rattle.evaluation.specs.Matching.{Fitted, misfit, fitted, bind_of}
 use Rattle.evaluation.specs.Calls.{Spent, Called, refused, premises_of, concluded, patterns_of, taken_or, tried, clauses_of, call_of}
-use Rattle.clause_matching.specs.Choice.{values_of, fit_of, ClauseAsked, Chosen, Chooses}
+use Rattle.clause_matching.specs.Choice.{values_of, patterns_from, fit_of, ConclusionIn, ClauseAsked, Chosen, Chooses}
 use Rattle.function_calls.specs.Calls.{ClauseIn, Program, Answers, CallAsked, CallAnswered, FollowAsked, Followed}
 use Rattle.function_calls.specs.declared.calls.Outcome.{Outcome}
 use Rattle.std.specs.Prelude.{Result, Err, Option as Optional, None, Some}
@@ -113,10 +114,39 @@ module _ {symbol_rows rule_rows : Rows} {pattern : List ℕ} {symbol : ℕ} {val
       restored = refl;
     }
 
-    pub symbol_inside : (symbol < length symbol_rows) × (end ≤ 1024)
-    symbol_inside =
-        let a = h.program.few in let b = h.known in let c = h.program.within symbol h.known in let d = h.program.small in
-        (omega arith, omega arith)
+    -- The clauses are a part of the rules.
+    abbrev part : Rows
+    part = take (end - from) (drop from rule_rows)
+
+    part_inside : end ≤ length rule_rows
+    part_inside = let a = h.program.within symbol h.known in let b = h.program.lent in omega arith
+
+    part_long : length part ≡ end - from
+    part_long = let d = length-drop from rule_rows in let i = part_inside in length-take-le (end - from) (drop from rule_rows) (omega arith)
+
+    part_row : (i : ℕ) → i < length part → row_at part i ≡ row_at rule_rows (from + i)
+    part_row i a = let n = part_long in get_or-take (end - from) (drop from rule_rows) i _ (omega arith) ∙ get_or-drop from rule_rows i _
+
+    fit_at : (i : ℕ) → i < length part → fit_of part pattern values words i ≡ fit_of rule_rows pattern values words (from + i)
+    fit_at i a = ap (λ (r : List ℕ). bind_of (patterns_from pattern (suc (column r 5 - pattern_room)) (length values)) (values_of words values) start) (part_row i a)
+
+    missed_at : (n : ℕ) → n ≤ length part → ((i : ℕ) → 0 ≤ i → i < n → fit_of part pattern values words i ≡ misfit)
+        → (j : ℕ) → from ≤ j → j < from + n → fit_of rule_rows pattern values words j ≡ misfit
+    missed_at n e f j a b =
+        let k : from + (j - from) ≡ j = omega arith in
+        let g : fit_of rule_rows pattern values words (from + (j - from)) ≡ misfit = sym (fit_at (j - from) (omega arith)) ∙ f (j - from) (omega arith) (omega arith) in
+        rw k at g
+
+    -- What is chosen among them, said of all rules.
+    whole_none : (environment : List ℕ) → Chooses part pattern 0 (length part) values words used None environment
+        → Chooses rule_rows pattern from end values words used None environment
+    whole_none environment f j a b = let n = part_long in missed_at (length part) (omega arith) f j a (omega arith)
+
+    whole_some : {environment : List ℕ} (place : ℕ) → Chooses part pattern 0 (length part) values words used (Some place) environment
+        → Chooses rule_rows pattern from end values words used (Some (from + place)) environment
+    whole_some place (a, b, d, f) =
+        let n = part_long in
+        (omega arith, omega arith, missed_at place (omega arith) d, record { β = f.β; fits = sym (fit_at place b) ∙ f.fits; holds = f.holds })
 
     module _ (m : calls < 10000) where
       abbrev calling : List Symbol → List Rule → ℕ → Terms → Spent → Called
@@ -131,11 +161,13 @@ module _ {symbol_rows rule_rows : Rows} {pattern : List ℕ} {symbol : ℕ} {val
           ap (λ (n : ℕ). call_of limit symbols rules n symbol (values_of words values) (record { calls = calls; words = used })) is_suc
           ∙ rw (lt-ltb calls 10000 m) (ap₂ (λ (n i : ℕ). clauses_of limit symbols rules (calling symbols rules) n i (values_of words values) counted) (P.clauses symbol k) (P.first symbol k))
 
-      pub clause_asked : (environment : List ℕ) → 64 ≤ length environment → ClauseAsked rule_rows pattern from end values words used environment links stack
+      pub clause_asked : (environment : List ℕ) → 64 ≤ length environment → ClauseAsked part pattern 0 (length part) values words used environment links stack
       clause_asked environment e = record {
         size = h.size;
-        conclusions = λ i a b. (h.program.clause symbol i (length values) h.known h.inputs a b).2.conclusion;
-        lent = let a = h.program.within symbol h.known in let b = h.program.lent in omega arith;
+        conclusions = λ i a b. let n = part_long in
+            subst (λ (r : List ℕ). ConclusionIn pattern h.size (column r 5) (length values)) (sym (part_row i b))
+            (h.program.clause symbol (from + i) (length values) h.known h.inputs (omega arith) (omega arith)).2.conclusion;
+        lent = omega arith;
         stored = h.working.stored;
         roots = h.roots;
         long = e;
@@ -151,13 +183,13 @@ module _ {symbol_rows rule_rows : Rows} {pattern : List ℕ} {symbol : ℕ} {val
           (R, e, ap (λ (ps : Terms). bind_of ps (values_of words values) start) (patterns_are cl) ∙ f)
 
       module _ {environment : List ℕ} {clause : Optional ℕ} {environment' links' : List ℕ}
-          (c : Chosen rule_rows pattern from end values words used environment links clause environment' links') where
+          (c : Chosen part pattern 0 (length part) values words used environment links clause environment' links') where
         pub no_clause : clause ≡ None
             → CallAnswered symbol_rows rule_rows pattern symbol values depth height calls used limit words links trees
             (Err NoClause) words links' trees
         no_clause q =
             let ch : Chooses rule_rows pattern from end values words used None environment' =
-            subst (λ (x : Optional ℕ). Chooses rule_rows pattern from end values words used x environment') q c.chooses in
+            whole_none environment' (subst (λ (x : Optional ℕ). Chooses part pattern 0 (length part) values words used x environment') q c.chooses) in
             record {
               says = λ size symbols rules P k i.
                   subst (λ (y : Called). Answers y (Err NoClause) words trees words trees used limit calls height)
@@ -169,9 +201,12 @@ module _ {symbol_rows rule_rows : Rows} {pattern : List ℕ} {symbol : ℕ} {val
               restored = c.restored;
             }
 
-        module _ (rule : ℕ) (q : clause ≡ Some rule) where
+        module _ (place : ℕ) (q : clause ≡ Some place) where
+          abbrev rule : ℕ
+          rule = from + place
+
           abbrev chosen : Chooses rule_rows pattern from end values words used (Some rule) environment'
-          chosen = subst (λ (x : Optional ℕ). Chooses rule_rows pattern from end values words used x environment') q c.chooses
+          chosen = whole_some place (subst (λ (x : Optional ℕ). Chooses part pattern 0 (length part) values words used x environment') q c.chooses)
 
           pub follow_asked : 64 ≤ length environment → (stack' : Rows) → length stack' ≡ length stack
               → FollowAsked symbol_rows rule_rows pattern rule depth height calls used limit environment' words links' trees stack'

@@ -1,14 +1,16 @@
 // Calls of functions: the Rust's `Evaluator::call`.
 ghost use Rattle.function_calls.specs.Calls.{CallAsked, CallAnswered, FollowAsked, Followed, PremiseAsked, PremiseAnswered, IsLent};
 
-use arena::{HEADERS, SYMBOL_STEP};
+use arena::SYMBOL_STEP;
 use clause_matching::{
     Clauses, Pattern, Room, Values, bind, find_clause, instantiate, instantiate_arguments,
     pattern_at,
 };
 use names::SymbolRow;
+use names::columns::{CLAUSES, FIRST_CLAUSE};
 use refusals::Refusal;
 use rules::RuleRow;
+use rules::columns::{CONCLUSION, FIRST_PREMISE, PREMISES};
 pub use tree_rows::TreeRow;
 
 // The deepest expression or call.
@@ -93,7 +95,7 @@ fn premise(
         store.stack,
         &mut values[..count],
     )?;
-    let symbol = ((header - HEADERS) / SYMBOL_STEP) as usize;
+    let symbol = arena::symbol_of(header);
     let below = Level {
         depth: level.depth + 1,
         height: level.height + 1,
@@ -146,7 +148,7 @@ fn follow(
         ..before
     };
     let row = &program.rules[rule];
-    for reference in &row[10..10 + row[4] as usize] {
+    for reference in &row[FIRST_PREMISE..FIRST_PREMISE + row[PREMISES] as usize] {
         let Pattern::Node { header, first } = pattern_at(program.pattern, *reference) else {
             // Never reached: a premise in form is a node.
             return Err(Refusal::Storage);
@@ -160,7 +162,7 @@ fn follow(
     };
     let built = instantiate(
         program.pattern,
-        program.rules[rule][5],
+        program.rules[rule][CONCLUSION],
         environment,
         store.words,
         room,
@@ -200,12 +202,11 @@ pub fn call(
     if MAX_CALLS <= spent.calls {
         return Err(Refusal::TooManyCalls);
     }
-    let from = program.symbols[symbol][4] as usize;
+    let from = program.symbols[symbol][FIRST_CLAUSE] as usize;
+    let end = from + program.symbols[symbol][CLAUSES] as usize;
     let clauses = Clauses {
-        rules: program.rules,
+        rules: &program.rules[from..end],
         pattern: program.pattern,
-        from,
-        end: from + program.symbols[symbol][5] as usize,
     };
     let mut environment = [0u32; 64];
     let words = &mut *store.words;
@@ -213,7 +214,7 @@ pub fn call(
         words,
         used: spent.used,
     };
-    let rule = find_clause(
+    let place = find_clause(
         clauses,
         values,
         among,
@@ -222,5 +223,5 @@ pub fn call(
         store.stack,
     )
     .ok_or(Refusal::NoClause)?;
-    follow(program, rule, level, spent, &mut environment, store)
+    follow(program, from + place, level, spent, &mut environment, store)
 }

@@ -8,4 +8,4 @@ abbrev pub invariant-loop-reference : goal.invariant-loop-reference
 invariant-loop-reference l = Trying l.clauses.rules.now l.clauses.pattern.now l.arguments l.values.words.now l.values.used l.initial.environment l.initial.links l.initial.stack l.i l.base l.environment l.links l.stack (length l.yielded)
 
 abbrev pub invariant-clauses : goal.invariant-clauses
-invariant-clauses l = Choosing l.clauses.rules.now l.clauses.pattern.now l.clauses.from l.clauses.end l.arguments l.values.words.now l.values.used l.initial.environment l.initial.links l.initial.stack l.environment l.links l.stack l.i
+invariant-clauses l = Choosing l.clauses.rules.now l.clauses.pattern.now 0 (length l.clauses.rules.now) l.arguments l.values.words.now l.values.used l.initial.environment l.initial.links l.initial.stack l.environment l.links l.stack l.i

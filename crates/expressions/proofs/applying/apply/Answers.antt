@@ -1,6 +1,6 @@
 -- `apply` meets its contract: a function is called, a constructor built.
 use Rattle.refusals.specs.Refused.{handed_on}
-use Rattle.expressions.proofs.Applications.{call_asked, called, build_asked, not_built, is_built}
+use Rattle.expressions.proofs.Applications.{call_asked, called, not_built, is_built}
 use Rattle.expressions.proofs.applying.apply.Goals as goal
 
 pub call-requires : goal.call-requires
@@ -8,9 +8,6 @@ call-requires c = call_asked c.requires c.if-program-i-eq-FUNCTION.true
 
 pub returns-then-program-i-eq-FUNCTION-clause-answered : goal.returns-then-program-i-eq-FUNCTION-clause-answered
 returns-then-program-i-eq-FUNCTION-clause-answered c = called c.requires c.if-program-i-eq-FUNCTION.true c.call.ensures.answered
-
-pub build-requires : goal.build-requires
-build-requires c = build_asked c.requires c.if-program-i-eq-FUNCTION.false
 
 pub returns-in_err-built-clause-answered : goal.returns-in_err-built-clause-answered
 returns-in_err-built-clause-answered c =

@@ -6,4 +6,4 @@ pub returns-then-room-count : goal.returns-then-room-count
 returns-then-room-count c = build_refused c.requires c.if-room-count.true
 
 pub returns : goal.returns
-returns c = build_done c.requires c.if-room-count.false c.push_node.ensures
+returns c = build_done c.requires c.if-room-count.false (rw c.header_of-header.ensures at c.push_node.ensures)

@@ -1,11 +1,8 @@
 -- `tower` meets its contract.
 use mathlib.Core.Path.{refl, ◌∙◌}
 use Rattle.refusals.specs.Refused.{handed_on}
-use Rattle.expressions.proofs.Towers.{first_asked, first_refused, turn_start, tower_refused, tower_done, wrong_sort, next_asked, next_refused, turn_next}
+use Rattle.expressions.proofs.Towers.{first_refused, turn_start, tower_refused, tower_done, wrong_sort, next_refused, turn_next}
 use Rattle.expressions.proofs.numerals.tower.Goals as goal
-
-pub build-requires : goal.build-requires
-build-requires c = first_asked c.requires refl
 
 pub returns-in_err-built : goal.returns-in_err-built
 returns-in_err-built c =
@@ -18,9 +15,6 @@ pub returns-then-sort-want : goal.returns-then-sort-want
 returns-then-sort-want c =
     tower_refused c.requires refl c.build.ensures c.in_ok-built.was (wrong_sort c.loop-k.invariant c.loop-k-test.true c.if-sort-want.true) c.loop-k-test.true
     c.loop-k.invariant.kept
-
-pub build-requires-in-loop-k : goal.build-requires-in-loop-k
-build-requires-in-loop-k c = next_asked c.loop-k.invariant c.loop-k-test.true c.if-sort-want.false
 
 pub returns-in_err-built-2 : goal.returns-in_err-built-2
 returns-in_err-built-2 c =

@@ -7,8 +7,8 @@ use Rattle.function_calls.proofs.Lending.{lent_start, lent_on}
 use mathlib.Core.List.{[]}
 use Rattle.refusals.specs.Refused.{handed_on, none_is}
 use Rattle.expressions.proofs.Misuses.{found_wrong, found_nothing}
-use Rattle.expressions.proofs.Reading.{inside, too_deep, numeral_asked, number_refused, number_built, of_meta, of_unknown, misuse_asked, of_misuse, application_asked, applied_to}
-use Rattle.expressions.proofs.Walking.{turn_start, expression_asked, argument_refused, value_inside, wrong_sort, turn_next, apply_asked, apply_refused, apply_done}
+use Rattle.expressions.proofs.Reading.{inside, too_deep, number_refused, number_built, of_meta, of_unknown, of_misuse, application_asked, applied_to}
+use Rattle.expressions.proofs.Walking.{turn_start, expression_asked, argument_refused, value_inside, wrong_sort, turn_next, apply_refused, apply_done}
 use Rattle.expressions.proofs.written.+application_expression.Goals as goal
 
 pub application-loop-k-init : goal.application-loop-k-init
@@ -25,9 +25,6 @@ application-returns-in_err-argument-clause-answered t c =
 pub application-bounds-store-argument : goal.application-bounds-store-argument
 application-bounds-store-argument t c = let (a, b, d) = value_inside c.loop-k.invariant.turn c.loop-k-test.true c.expression.ensures.answered c.in_ok-argument.was in omega arith
 
-pub application-sort_of-requires : goal.application-sort_of-requires
-application-sort_of-requires t c = let (a, b, d) = value_inside c.loop-k.invariant.turn c.loop-k-test.true c.expression.ensures.answered c.in_ok-argument.was in b
-
 pub application-returns-then-sort_of-program-clause-answered : goal.application-returns-then-sort_of-program-clause-answered
 application-returns-then-sort_of-program-clause-answered t c =
     wrong_sort c.loop-k.invariant.turn c.loop-k-test.true c.expression.ensures.answered c.in_ok-argument.was c.sort_of.ensures c.if-sort_of-program.true
@@ -38,9 +35,6 @@ application-loop-k-preserved t c = record {
       c.expression.ensures.lent.trees_kept c.expression.ensures.lent.stack_kept;
   lent = lent_on c.loop-k.invariant.lent c.expression.ensures.lent;
 }
-
-pub application-apply-requires : goal.application-apply-requires
-application-apply-requires t c = apply_asked c.loop-k.invariant.turn c.loop-k-test.false
 
 pub application-returns-in_err-outcome-clause-answered : goal.application-returns-in_err-outcome-clause-answered
 application-returns-in_err-outcome-clause-answered t c =
@@ -59,9 +53,6 @@ expression-offset_bounds-term-term t c = let i = inside c.requires in omega arit
 pub expression-bounds-term-term : goal.expression-bounds-term-term
 expression-bounds-term-term t c = inside c.requires
 
-pub expression-numeral-requires : goal.expression-numeral-requires
-expression-numeral-requires t c = numeral_asked c.requires c.if-depth-gt-MAX_DEPTH.false
-
 pub expression-returns-in_err-built-in-14-clause-answered : goal.expression-returns-in_err-built-in-14-clause-answered
 expression-returns-in_err-built-in-14-clause-answered t c =
     rw (handed_on c.from_residual.result c.from_residual.ensures.1)
@@ -78,10 +69,6 @@ pub expression-returns-in_err-i-in_default-clause-answered : goal.expression-ret
 expression-returns-in_err-i-in_default-clause-answered t c =
     rw (handed_on c.from_residual-in_err-i-in_default.result c.from_residual-in_err-i-in_default.ensures.1, none_is c.find_at.result c.in_err-i-in_default.ensures.ok_part c.in_err-i-in_default.ensures.value)
     (of_unknown c.requires c.if-depth-gt-MAX_DEPTH.false (λ e. omega (arith, c.in_default)) (λ e. omega (arith, c.in_default)) refl (no_symbol c.args.term.text.now c.args.program.symbols.now _ c.in_err-i-in_default.ensures.ok_part (rw c.behind_kind-word.ensures at c.find_at.ensures)))
-
-pub expression-check_use-requires : goal.expression-check_use-requires
-expression-check_use-requires t c =
-    misuse_asked c.requires c.if-depth-gt-MAX_DEPTH.false (λ e. omega (arith, c.in_default)) (λ e. omega (arith, c.in_default)) (some_symbol c.args.term.text.now c.args.program.symbols.now _ _ c.in_ok-i-in_default.ensures.ok_part (rw c.behind_kind-word.ensures at c.find_at.ensures)).0 (some_symbol c.args.term.text.now c.args.program.symbols.now _ _ c.in_ok-i-in_default.ensures.ok_part (rw c.behind_kind-word.ensures at c.find_at.ensures)).1 refl
 
 pub expression-returns-in_err-check_use-in_default-clause-answered : goal.expression-returns-in_err-check_use-in_default-clause-answered
 expression-returns-in_err-check_use-in_default-clause-answered t c =
@@ -101,6 +88,3 @@ pub expression-returns-in_ok-check_use-in_default-clause-answered : goal.express
 expression-returns-in_ok-check_use-in_default-clause-answered t c =
     applied_to c.requires c.if-depth-gt-MAX_DEPTH.false (λ e. omega (arith, c.in_default)) (λ e. omega (arith, c.in_default)) (some_symbol c.args.term.text.now c.args.program.symbols.now _ _ c.in_ok-i-in_default.ensures.ok_part (rw c.behind_kind-word.ensures at c.find_at.ensures)).0 (some_symbol c.args.term.text.now c.args.program.symbols.now _ _ c.in_ok-i-in_default.ensures.ok_part (rw c.behind_kind-word.ensures at c.find_at.ensures)).1 refl
     (λ x. sym (found_nothing (c.check_use.ensures x) c.in_ok-check_use-in_default.was)) refl c.application.ensures.answered
-
-pub expression-overflow_add-first : goal.expression-overflow_add-first
-expression-overflow_add-first t c = let i = inside c.requires in omega arith

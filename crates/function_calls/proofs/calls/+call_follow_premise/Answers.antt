@@ -19,20 +19,20 @@ call-returns-then-spent-ge-MAX_CALLS-clause-answered t c = too_many c.requires c
 pub call-find_clause-requires : goal.call-find_clause-requires
 call-find_clause-requires t c = clause_asked c.requires c.if-level-gt-MAX_DEPTH.false c.if-spent-ge-MAX_CALLS.false _ (let z : 64 ≤ 64 = omega arith in z)
 
-pub call-returns-in_err-rule-clause-answered : goal.call-returns-in_err-rule-clause-answered
-call-returns-in_err-rule-clause-answered t c =
-    rw (handed_on c.from_residual.result c.from_residual.ensures.1, none_is c.find_clause.result c.in_err-rule.ensures.ok_part c.in_err-rule.ensures.value)
-    (no_clause c.requires c.if-level-gt-MAX_DEPTH.false c.if-spent-ge-MAX_CALLS.false c.find_clause.ensures c.in_err-rule.ensures.ok_part)
+pub call-returns-in_err-place-clause-answered : goal.call-returns-in_err-place-clause-answered
+call-returns-in_err-place-clause-answered t c =
+    rw (handed_on c.from_residual.result c.from_residual.ensures.1, none_is c.find_clause.result c.in_err-place.ensures.ok_part c.in_err-place.ensures.value)
+    (no_clause c.requires c.if-level-gt-MAX_DEPTH.false c.if-spent-ge-MAX_CALLS.false c.find_clause.ensures c.in_err-place.ensures.ok_part)
 
 pub call-follow-requires : goal.call-follow-requires
 call-follow-requires t c = (
   let d = c.if-level-gt-MAX_DEPTH.false in omega arith,
-  follow_asked c.requires c.if-level-gt-MAX_DEPTH.false c.if-spent-ge-MAX_CALLS.false c.find_clause.ensures _ c.in_ok-rule.ensures.ok_part (let z : 64 ≤ 64 = omega arith in z) _
+  follow_asked c.requires c.if-level-gt-MAX_DEPTH.false c.if-spent-ge-MAX_CALLS.false c.find_clause.ensures _ c.in_ok-place.ensures.ok_part (let z : 64 ≤ 64 = omega arith in z) _
       c.find_clause.auto.stack,
 )
 
 pub call-returns-clause-answered : goal.call-returns-clause-answered
-call-returns-clause-answered t c = followed c.requires c.if-level-gt-MAX_DEPTH.false c.if-spent-ge-MAX_CALLS.false c.find_clause.ensures _ c.in_ok-rule.ensures.ok_part c.follow.ensures.answered
+call-returns-clause-answered t c = followed c.requires c.if-level-gt-MAX_DEPTH.false c.if-spent-ge-MAX_CALLS.false c.find_clause.ensures _ c.in_ok-place.ensures.ok_part c.follow.ensures.answered
 
 pub follow-loop-reference-init : goal.follow-loop-reference-init
 follow-loop-reference-init t c = record { turn = turn_start c.requires; lent = lent_start }
@@ -110,7 +110,7 @@ premise-call-requires t c =
     let a = part_whole c.requires _ refl c.instantiate_arguments.auto.values c.instantiate_arguments.ensures in
     let n = part_length c.requires _ _ refl c.instantiate_arguments.auto.values in (
       let d = c.requires.deep in omega arith,
-      call_asked c.requires a _ c.in_ok-before.was n _ c.instantiate_arguments.auto.stack,
+      rw c.symbol_of-symbol.ensures (call_asked c.requires a _ c.in_ok-before.was n _ c.instantiate_arguments.auto.stack),
     )
 
 pub premise-returns-in_err-outcome-clause-answered : goal.premise-returns-in_err-outcome-clause-answered
@@ -118,25 +118,25 @@ premise-returns-in_err-outcome-clause-answered t c =
     let a = part_whole c.requires _ refl c.instantiate_arguments.auto.values c.instantiate_arguments.ensures in
     let n = part_length c.requires _ _ refl c.instantiate_arguments.auto.values in
     rw (handed_on c.from_residual-in_err-outcome.result c.from_residual-in_err-outcome.ensures.1)
-    (call_failed c.requires a _ c.in_ok-before.was n c.call.ensures.answered _ c.in_err-outcome.was)
+    (call_failed c.requires a _ c.in_ok-before.was n (rw c.symbol_of-symbol.ensures at c.call.ensures.answered) _ c.in_err-outcome.was)
 
 pub premise-bind-requires : goal.premise-bind-requires
 premise-bind-requires t c =
     let a = part_whole c.requires _ refl c.instantiate_arguments.auto.values c.instantiate_arguments.ensures in
     let n = part_length c.requires _ _ refl c.instantiate_arguments.auto.values in
-    bind_asked c.requires a _ c.in_ok-before.was n c.call.ensures.answered _ _ _ c.in_ok-outcome.was _
+    bind_asked c.requires a _ c.in_ok-before.was n (rw c.symbol_of-symbol.ensures at c.call.ensures.answered) _ _ _ c.in_ok-outcome.was _
     (c.call.ensures.lent.stack_kept ∙ c.instantiate_arguments.auto.stack)
 
 pub premise-returns-then-not-bind-clause-answered : goal.premise-returns-then-not-bind-clause-answered
 premise-returns-then-not-bind-clause-answered t c =
     let a = part_whole c.requires _ refl c.instantiate_arguments.auto.values c.instantiate_arguments.ensures in
     let n = part_length c.requires _ _ refl c.instantiate_arguments.auto.values in
-    result_failed c.requires a _ c.in_ok-before.was n c.call.ensures.answered _ _ _ c.in_ok-outcome.was
+    result_failed c.requires a _ c.in_ok-before.was n (rw c.symbol_of-symbol.ensures at c.call.ensures.answered) _ _ _ c.in_ok-outcome.was
     c.bind.ensures c.if-not-bind.true
 
 pub premise-returns-clause-answered : goal.premise-returns-clause-answered
 premise-returns-clause-answered t c =
     let a = part_whole c.requires _ refl c.instantiate_arguments.auto.values c.instantiate_arguments.ensures in
     let n = part_length c.requires _ _ refl c.instantiate_arguments.auto.values in
-    result_fitted c.requires a _ c.in_ok-before.was n c.call.ensures.answered _ _ _ c.in_ok-outcome.was
+    result_fitted c.requires a _ c.in_ok-before.was n (rw c.symbol_of-symbol.ensures at c.call.ensures.answered) _ _ _ c.in_ok-outcome.was
     c.bind.ensures c.if-not-bind.false
