@@ -18,6 +18,7 @@ ghost use Rattle.words.specs.Lexer.{lex_answer, lex_rows};
 use arena::{TERM_ROOM, Terms};
 use bindings::StoredBindings;
 use evaluator::{Buffers, WrittenTerm};
+use names::Source;
 use prover::Query;
 use refusals::{Refusal, Rejection};
 use sessions::Verdict;
@@ -459,10 +460,8 @@ pub fn horn_prove(
     }
     let query = Query {
         signature: stored_signature(sorts, symbols, rules, pattern, counts),
-        text,
+        goal: Source { text, rows, at },
         limits: limits_of(most, variables, limit),
-        rows,
-        at,
         steps,
         depth,
     };
