@@ -21,7 +21,7 @@ use clearing::clear_past;
 use names::Source;
 use preparing::{is_too_much, prepare, search_limits};
 use refusals::Refusal;
-use search_machine::{Allowed, Program, Store};
+use search_machine::{Program, Store};
 use searching::search_goal;
 use sessions::{NameRow, SessionCounts, StoredSession, Verdict};
 use signature::StoredSignature;
@@ -56,13 +56,10 @@ pub fn prove_cleared(
     }
     let signature = query.signature;
     let program = Program {
-        rules: signature.rules,
+        rules: &signature.rules[..signature.counts.rules as usize],
         pattern: signature.words,
-        allowed: Allowed {
-            limits: search_limits(query.limits),
-            frames: query.limits.capped().steps,
-            rules: signature.counts.rules,
-        },
+        limits: search_limits(query.limits),
+        frames: query.limits.capped().steps,
     };
     let goal = prepare(query, names, store.words, session)?;
     search_goal(program, names, store, goal, session, query)

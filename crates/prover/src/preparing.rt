@@ -61,7 +61,13 @@ pub fn prepare(
         rows: query.goal.rows,
         symbols: &query.signature.symbols[..query.signature.counts.symbols as usize],
     };
-    let goal = goals::compile(source, query.goal.at, &names[..n], &mut variables, &mut pattern)?;
+    let goal = goals::compile(
+        source,
+        query.goal.at,
+        &names[..n],
+        &mut variables,
+        &mut pattern,
+    )?;
     let total = session.variables + (goal.variables - session.names);
     let used = session.words + goal.words;
     if search_limits(query.limits).exceeds(total, used) {
