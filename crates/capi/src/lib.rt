@@ -18,6 +18,7 @@ ghost use Rattle.words.specs.Lexer.{lex_answer, lex_rows};
 use arena::{TERM_ROOM, Terms};
 use bindings::StoredBindings;
 use evaluator::Buffers;
+use names::Source;
 use prover::Query;
 use refusals::{Refusal, Rejection};
 use sessions::Verdict;
@@ -26,15 +27,6 @@ use unifier::Workspace;
 
 // A refusal is told as so many times its number: more than any count and any line.
 const REFUSAL: u64 = 0x1_0000_0000;
-
-// Limits of 0, for those that a function does not read.
-const NO_LIMITS: words::Limits = words::Limits {
-    text: 0,
-    nodes: 0,
-    steps: 0,
-    variables: 0,
-    words: 0,
-};
 
 // A refusal as one number; its line is added.
 // Stays: how C is told a refusal is this crate's matter, and neither type is of this crate, so that no `From` can stand here.
@@ -60,7 +52,7 @@ pub fn limits_of(steps: u32, variables: u32, words: u32) -> words::Limits
         steps,
         variables,
         words,
-        ..NO_LIMITS
+        ..words::NO_LIMITS
     }
 }
 
@@ -157,7 +149,7 @@ pub fn horn_lex(text: &[u8], limit: u32, tokens: &mut [[u32; 4]]) -> u64
 {
     let limits = words::Limits {
         text: limit,
-        ..NO_LIMITS
+        ..words::NO_LIMITS
     };
     match words::lex(text, limits, tokens) {
         Ok(n) => n as u64,
@@ -172,7 +164,7 @@ pub fn horn_parse(text: &[u8], limit: u32, tokens: &mut [[u32; 4]], rows: &mut [
 {
     let limits = words::Limits {
         text: limit,
-        ..NO_LIMITS
+        ..words::NO_LIMITS
     };
     match parser::parse_text(text, limits, tokens, rows) {
         Ok(parsed) => parsed.declarations as u64,
@@ -205,7 +197,7 @@ pub fn horn_load(
     let limits = words::Limits {
         text: bytes,
         nodes,
-        ..NO_LIMITS
+        ..words::NO_LIMITS
     };
     let mut buffers = load::LentBuffers {
         tokens,
@@ -294,7 +286,7 @@ pub fn horn_evaluate(
     }
     let limits = words::Limits {
         words: limit,
-        ..NO_LIMITS
+        ..words::NO_LIMITS
     };
     let signature = stored_signature(sorts, symbols, rules, pattern, counts);
     let term = Source { text, rows, at };
@@ -459,10 +451,8 @@ pub fn horn_prove(
     }
     let query = Query {
         signature: stored_signature(sorts, symbols, rules, pattern, counts),
-        text,
+        goal: Source { text, rows, at },
         limits: limits_of(most, variables, limit),
-        rows,
-        at,
         steps,
         depth,
     };

@@ -30,7 +30,7 @@ use Rattle.search_machine.specs.Moves.{to_start}
 use Rattle.search_machine.specs.Promises.{Ready, Stopped, Searched}
 use Rattle.search_machine.specs.Carry.{term_kept, refers_kept}
 use Rattle.search_machine.specs.Ways.{case_at}
-use Rattle.search_machine.specs.declared.Allowed.{Allowed}
+use Rattle.search_machine.specs.Allowed.{Allowed}
 use Rattle.search_machine.specs.declared.Machine.{Machine}
 use Rattle.search_machine.specs.declared.Mode.{Mode}
 use Rattle.search_machine.specs.declared.Mode.TheVariants.{Enter, Try, Fail, Proved, Over, Refused}

@@ -19,7 +19,7 @@ use Rattle.attempts.specs.Promises.{Added}
 use Rattle.tree_rows.specs.Trees.{Lists, entries_from}
 use Rattle.search_machine.specs.State.{term, Refers, rules_from, RulesStored, RulesInForm, Well}
 use Rattle.search_machine.specs.Promises.{Stopped}
-use Rattle.search_machine.specs.declared.Allowed.{Allowed}
+use Rattle.search_machine.specs.Allowed.{Allowed}
 use Rattle.search_machine.specs.declared.Machine.{Machine}
 use Rattle.search_machine.specs.declared.Mode.{Mode}
 use Rattle.search_machine.specs.declared.Mode.TheVariants.{Enter, Try, Fail, Proved as Done, Over, Refused as Exceeding}

@@ -17,7 +17,7 @@ use Rattle.resolution.specs.Preorder.{flat}
 use Rattle.resolution.specs.Verdicts as verdicts
 use Rattle.resolution.proofs.Verdicts.{deepen_says}
 use Rattle.search_machine.specs.State.{term, rules_from}
-use Rattle.search_machine.specs.declared.Allowed.{Allowed}
+use Rattle.search_machine.specs.Allowed.{Allowed}
 use Rattle.deepening.specs.Bounds.{Asking, bounded_of, Unchanged, Extended, Shown, Counted, Says, Bounded, settled, prove_of}
 use Rattle.deepening.specs.Bounds.{Deepened}
 use Rattle.deepening.specs.TreeLaws.{entries_count, lists_all}

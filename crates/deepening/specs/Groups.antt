@@ -2,6 +2,7 @@
 use Rattle.std.specs.Prelude.{ℕ, ◌≡◌, Result}
 use Rattle.refusals.specs.declared.Refusal.{Refusal}
 use Rattle.search_machine.specs.declared.Machine.{Machine}
+use Rattle.search_machine.specs.Groups.{allowed_in}
 use Rattle.search_machine.specs.declared.Program.{Program}
 use Rattle.search_machine.specs.declared.Store.{Store}
 use Rattle.deepening.specs.Bounds.{Asking, Bounded, Wiped, Left, Deepened}
@@ -11,12 +12,12 @@ use Rattle.deepening.specs.declared.bound.Came.{Came}
 
 abbrev pub AskingIn : Program → Store → Question → Type 0
 AskingIn p s q =
-    Asking p.allowed p.pattern.now p.rules.now s.frames.now s.words.now s.bindings.now s.links.now s.marks.now s.stack.now
+    Asking (allowed_in p) p.pattern.now p.rules.now s.frames.now s.words.now s.bindings.now s.links.now s.marks.now s.stack.now
     q.goal q.steps q.counter q.bound q.used
 
 abbrev pub BoundedIn : Program → Store → Store → Question → ℕ → Result Came Refusal → Type 0
 BoundedIn p s s' q depth r =
-    Bounded p.allowed p.pattern.now p.rules.now s.frames.now s'.frames.now s.words.now s'.words.now s.bindings.now s'.bindings.now
+    Bounded (allowed_in p) p.pattern.now p.rules.now s.frames.now s'.frames.now s.words.now s'.words.now s.bindings.now s'.bindings.now
     s.links.now s'.links.now s.marks.now s'.marks.now s.stack.now s'.stack.now q.goal depth q.steps q.counter q.bound q.used r
 
 -- Of the words those from `used` on that a machine wrote are zero, of the frames those from `frames` on; what else a store lends is as it was.
@@ -36,5 +37,5 @@ pub record LeftIn (s s' : Store) (m : Machine) (q : Question) (depth : ℕ) (r :
 
 abbrev pub DeepenedIn : Program → Store → Store → Question → ℕ → Result Answer Refusal → Type 0
 DeepenedIn p s s' q largest r =
-    Deepened p.allowed p.pattern.now p.rules.now s.frames.now s'.frames.now s.words.now s'.words.now s.bindings.now s'.bindings.now
+    Deepened (allowed_in p) p.pattern.now p.rules.now s.frames.now s'.frames.now s.words.now s'.words.now s.bindings.now s'.bindings.now
     s.links.now s'.links.now s.marks.now s'.marks.now s.stack.now s'.stack.now q.goal largest q.steps q.counter q.bound q.used r

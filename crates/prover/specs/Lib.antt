@@ -8,4 +8,5 @@ pub mod Proving
 pub mod PreparingLaws
 pub mod SearchingLaws
 pub mod ProvingLaws
+pub mod UsedLaws
 pub mod TestingLaws

@@ -35,7 +35,7 @@ use Rattle.load_storage.specs.Storage.{cleared_from}
 use Rattle.search_machine.specs.State.{rules_from, RulesStored, RulesInForm}
 use Rattle.search_machine.specs.Carry.{undone_length}
 use Rattle.search_machine.specs.Signatures.{rows_stored, rules_listed}
-use Rattle.search_machine.specs.declared.Allowed.{Allowed}
+use Rattle.search_machine.specs.Allowed.{Allowed}
 use Rattle.search_machine.specs.declared.Store.{Store}
 use Rattle.deepening.specs.Bounds.{prove_of, Counted}
 use Rattle.refusals.specs.declared.Refusal.{Refusal}
@@ -202,6 +202,9 @@ module _ {sg : SignatureStore} {k : Asked} {b : SessionStore} {n : SessionCounts
       (length b.bindings) (length k.space.links) (length k.space.marks) (length k.space.stack)
   sizes = enough (capped_of k.limits).variables (capped_of k.limits).words (length b.names) (length b.words)
       (length b.bindings) (length k.space.links) (length k.space.marks) (length k.space.stack) h.ready.lent
+
+  pub rules_there : sg.counts.rules ≤ length sg.rules
+  rules_there = rules_lent_lem k.text sg h.ready.signature
 
   -- Refused.
   refused_at : (r : ProveReady sg k b n) (e : ℕ) {N : Rows} {W : List ℕ} {T F L M R : Rows} → N ≡ b.names → W ≡ b.words

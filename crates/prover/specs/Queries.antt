@@ -10,10 +10,10 @@ use Rattle.prover.specs.declared.Query.{Query}
 abbrev pub asked_of : Query → Rows → Rows → Rows → Rows → Asked
 asked_of q proof links marks stack =
     record {
-      text = q.text.now;
+      text = q.goal.text.now;
       limits = q.limits;
-      rows = q.rows.now;
-      at = q.at;
+      rows = q.goal.rows.now;
+      at = q.goal.at;
       steps = q.steps;
       depth = q.depth;
       proof = proof;

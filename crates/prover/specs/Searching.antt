@@ -4,7 +4,8 @@ use Rattle.std.specs.Prelude.{ℕ, ◌≤◌, ◌≡◌, List, length}
 use Rattle.names.specs.Symbols.{Rows}
 use Rattle.resolution.specs.Search.{Verdict, refusal, nothing, undecided}
 use Rattle.load_storage.specs.Storage.{cleared_from}
-use Rattle.search_machine.specs.declared.Allowed.{Allowed}
+use Rattle.search_machine.specs.Allowed.{Allowed}
+use Rattle.search_machine.specs.Groups.{allowed_in}
 use Rattle.search_machine.specs.declared.Program.{Program}
 use Rattle.search_machine.specs.declared.Store.{Store}
 use Rattle.deepening.specs.Bounds.{Asking, Counted, prove_of, Proven}
@@ -63,10 +64,10 @@ pub record SearchLeft (a : Allowed) (P : List ℕ) (R F F' : Rows) (W W' : List 
 -- The same over a program and a store.
 abbrev pub SearchAskedIn : Program → Rows → Store → StoredGoal → SessionCounts → ℕ → ℕ → Type 0
 SearchAskedIn p names s g n steps depth =
-    SearchAsked p.allowed p.pattern.now p.rules.now s.frames.now s.words.now s.bindings.now s.links.now s.marks.now s.stack.now
+    SearchAsked (allowed_in p) p.pattern.now p.rules.now s.frames.now s.words.now s.bindings.now s.links.now s.marks.now s.stack.now
     names g n steps depth
 
 abbrev pub SearchLeftIn : Program → Rows → Rows → Store → Store → StoredGoal → SessionCounts → ℕ → ℕ → Answer → Type 0
 SearchLeftIn p names names' s s' g n steps depth r =
-    SearchLeft p.allowed p.pattern.now p.rules.now s.frames.now s'.frames.now s.words.now s'.words.now s.bindings.now s'.bindings.now
+    SearchLeft (allowed_in p) p.pattern.now p.rules.now s.frames.now s'.frames.now s.words.now s'.words.now s.bindings.now s'.bindings.now
     s.links.now s'.links.now s.marks.now s'.marks.now s.stack.now s'.stack.now names names' g n steps depth r

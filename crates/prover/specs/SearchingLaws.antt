@@ -5,7 +5,7 @@ use Rattle.names.specs.Symbols.{Rows}
 use Rattle.refusals.specs.Refusals.{number_of}
 use Rattle.refusals.specs.declared.Refusal.{Refusal}
 use Rattle.load_storage.specs.Storage.{cleared_from}
-use Rattle.search_machine.specs.declared.Allowed.{Allowed}
+use Rattle.search_machine.specs.Allowed.{Allowed}
 use Rattle.deepening.specs.Bounds.{Answers, Deepened, prove_of}
 use Rattle.deepening.specs.declared.Answer.{Answer}
 use Rattle.deepening.specs.declared.Answer.TheVariants.{Proved as Shown, Nothing as Absent, Undecided as Open}

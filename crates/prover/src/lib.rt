@@ -18,10 +18,10 @@ ghost use Rattle.prover.specs.Queries.{asked_of, asked_in, session_in, given_of,
 ghost use Rattle.prover.specs.Proving.{ClearedReady, ProveLeft};
 
 use clearing::clear_past;
-use names::TermRow;
+use names::Source;
 use preparing::{is_too_much, prepare, search_limits};
 use refusals::Refusal;
-use search_machine::{Allowed, Program, Store};
+use search_machine::{Program, Store};
 use searching::search_goal;
 use sessions::{NameRow, SessionCounts, StoredSession, Verdict};
 use signature::StoredSignature;
@@ -29,15 +29,12 @@ use testing::is_ready;
 use tree_rows::TreeRow;
 use words::Limits;
 
-// What is asked of a signature: a text, the limits, the rows of its terms with the row where the goal starts, and how many steps and what depth the search
-// may take.
+// What is asked of a signature: a goal as it is written, the limits, and how many steps and what depth the search may take.
 #[derive(Clone, Copy)]
 pub struct Query<'a> {
     pub signature: StoredSignature<'a>,
-    pub text: &'a [u8],
+    pub goal: Source<'a>,
     pub limits: Limits,
-    pub rows: &'a [TermRow],
-    pub at: usize,
     pub steps: u32,
     pub depth: u32,
 }
@@ -59,13 +56,10 @@ pub fn prove_cleared(
     }
     let signature = query.signature;
     let program = Program {
-        rules: signature.rules,
+        rules: &signature.rules[..signature.counts.rules as usize],
         pattern: signature.words,
-        allowed: Allowed {
-            limits: search_limits(query.limits),
-            frames: query.limits.capped().steps,
-            rules: signature.counts.rules,
-        },
+        limits: search_limits(query.limits),
+        frames: query.limits.capped().steps,
     };
     let goal = prepare(query, names, store.words, session)?;
     search_goal(program, names, store, goal, session, query)

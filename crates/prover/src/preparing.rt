@@ -48,20 +48,26 @@ pub fn prepare(
     words: &mut [u32],
     session: SessionCounts,
 ) -> Result<StoredGoal, Refusal>
-    requires { PrepareAsked query.text.now query.limits query.signature.symbols.now query.signature.counts.symbols query.rows.now query.at
-        names.old words.old session }
-    ensures { Preparing query.entry.text.now query.entry.limits query.entry.signature.symbols.now query.entry.signature.counts.symbols
-        query.entry.rows.now query.entry.at names.old words.old session result names.new words.new }
+    requires { PrepareAsked query.goal.text.now query.limits query.signature.symbols.now query.signature.counts.symbols query.goal.rows.now
+        query.goal.at names.old words.old session }
+    ensures { Preparing query.entry.goal.text.now query.entry.limits query.entry.signature.symbols.now query.entry.signature.counts.symbols
+        query.entry.goal.rows.now query.entry.goal.at names.old words.old session result names.new words.new }
 {
     let mut variables = [[0u32; 4]; 64];
     let mut pattern = [0u32; 2048];
     let n = session.names as usize;
     let source = SourceTerms {
-        text: query.text,
-        rows: query.rows,
+        text: query.goal.text,
+        rows: query.goal.rows,
         symbols: &query.signature.symbols[..query.signature.counts.symbols as usize],
     };
-    let goal = goals::compile(source, query.at, &names[..n], &mut variables, &mut pattern)?;
+    let goal = goals::compile(
+        source,
+        query.goal.at,
+        &names[..n],
+        &mut variables,
+        &mut pattern,
+    )?;
     let total = session.variables + (goal.variables - session.names);
     let used = session.words + goal.words;
     if search_limits(query.limits).exceeds(total, used) {

@@ -17,7 +17,7 @@ pub fn is_ready(
     stack: &[[u32; 3]],
     proof: &[TreeRow],
 ) -> bool
-    ensures { ReadyTold (store_of query.entry.signature) query.entry.text.now query.entry.limits query.entry.rows.now query.entry.at proof.now
+    ensures { ReadyTold (store_of query.entry.signature) query.entry.goal.text.now query.entry.limits query.entry.goal.rows.now query.entry.goal.at proof.now
         (record { links = links.now; marks = marks.old; stack = stack.now })
         (part_in session.entry) session.entry.counts marks.new result }
 {
@@ -25,14 +25,14 @@ pub fn is_ready(
     if proof.len() < capped.steps as usize {
         return false;
     }
-    if !signature::check_signature(query.text, query.signature) {
+    if !signature::check_signature(query.goal.text, query.signature) {
         return false;
     }
-    if term_check::check_term(query.text, query.rows, query.at).is_none() {
+    if term_check::check_term(query.goal.text, query.goal.rows, query.goal.at).is_none() {
         return false;
     }
     session_check::check_session(
-        query.text,
+        query.goal.text,
         query.limits,
         query.signature,
         session,

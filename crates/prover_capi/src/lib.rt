@@ -9,6 +9,7 @@ ghost use Rattle.prover.specs.Proving.{ClearedReady};
 ghost use Rattle.prover_capi.specs.Cleared.{ClearedTold};
 
 use capi::{limits_of, session_counts, stored_signature};
+use names::Source;
 use prover::Query;
 use search_machine::Store;
 
@@ -72,10 +73,8 @@ pub extern "C" fn horn_prove_cleared(
 {
     let query = Query {
         signature: stored_signature(sorts, symbols, rules, pattern, counts),
-        text,
+        goal: Source { text, rows, at },
         limits: limits_of(most, variables, limit),
-        rows,
-        at,
         steps,
         depth,
     };

@@ -18,7 +18,7 @@ use Rattle.attempts.specs.Promises.{State, premise_at}
 use Rattle.attempts.specs.RuleLaws.{attempt_looks, body_looks}
 use Rattle.search_machine.specs.Storage.{RowAsked}
 use Rattle.search_machine.specs.State.{term, Refers, span, rule_at, rules_from, arity, RulesStored, premise_ref, Well}
-use Rattle.search_machine.specs.declared.Allowed.{Allowed}
+use Rattle.search_machine.specs.Allowed.{Allowed}
 use Rattle.search_machine.specs.declared.frames.Frame.{Frame}
 
 -- A rule and those behind it.

@@ -18,7 +18,7 @@ use Rattle.attempts.specs.Extending.{held_older, form_back}
 use Rattle.attempts.specs.Keeping.{added_none, added_both}
 use Rattle.search_machine.specs.State.{term, Refers, span, arity, frame_at, premise_ref, pending, Place, top, inside, entries}
 use Rattle.search_machine.specs.State.{Start, Above, Stack}
-use Rattle.search_machine.specs.declared.Allowed.{Allowed}
+use Rattle.search_machine.specs.Allowed.{Allowed}
 use Rattle.search_machine.specs.declared.frames.Frame.{Frame}
 
 -- Taking entries back leaves as many rows.

@@ -12,7 +12,7 @@ use Rattle.attempts.specs.Clashes.{Comparable, Clashes}
 use Rattle.search_machine.specs.State.{Start, Holds}
 use Rattle.search_machine.specs.Moves.{to_rule, measure}
 use Rattle.search_machine.specs.Promises.{Choice}
-use Rattle.search_machine.specs.declared.Allowed.{Allowed}
+use Rattle.search_machine.specs.Allowed.{Allowed}
 use Rattle.search_machine.specs.declared.Machine.{Machine}
 use Rattle.search_machine.specs.declared.Mode.{Mode}
 use Rattle.search_machine.specs.declared.Mode.TheVariants.{Enter, Try, Fail, Proved, Over, Refused}

@@ -23,7 +23,7 @@ use Rattle.search_machine.specs.Falls.{falls_mode, falls_not}
 use Rattle.search_machine.specs.Attempts.{row_asked}
 use Rattle.search_machine.specs.Tries.{tried_none, tried_refused, tried_missed}
 use Rattle.search_machine.specs.Ways.{case_at, holds_on}
-use Rattle.search_machine.specs.declared.Allowed.{Allowed}
+use Rattle.search_machine.specs.Allowed.{Allowed}
 use Rattle.search_machine.specs.declared.Machine.{Machine}
 use Rattle.search_machine.specs.declared.Mode.{Mode}
 use Rattle.search_machine.specs.declared.Mode.TheVariants.{Enter, Try, Fail, Proved, Over, Refused}

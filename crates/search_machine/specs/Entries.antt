@@ -16,7 +16,7 @@ use Rattle.search_machine.specs.Moves.{to_place, to_fail, to_stop, to_goal}
 use Rattle.search_machine.specs.Carry.{stack_above, stack_refers}
 use Rattle.search_machine.specs.Places.{Within, place_within, place_small, place_top, place_next, pending_goal}
 use Rattle.search_machine.specs.Places.{pending_build, premise_asked}
-use Rattle.search_machine.specs.declared.Allowed.{Allowed}
+use Rattle.search_machine.specs.Allowed.{Allowed}
 use Rattle.search_machine.specs.declared.Machine.{Machine}
 use Rattle.search_machine.specs.declared.Mode.TheVariants.{Proved}
 use Rattle.search_machine.specs.declared.frames.Frame.{Frame}

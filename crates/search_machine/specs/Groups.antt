@@ -1,12 +1,16 @@
 -- The contracts over what travels together: a program, which is read, and a store, which is written.
-use Rattle.std.specs.Prelude.{◌≡◌}
+use Rattle.std.specs.Prelude.{◌≡◌, length}
 use Rattle.std.proofs.Common.{refl, ◌∙◌}
 use Rattle.search_machine.specs.Storage.{RowAsked, RowTried, Attempt}
 use Rattle.search_machine.specs.Promises.{Ready, Stepped, Returned, Searched}
-use Rattle.search_machine.specs.declared.Allowed.{Allowed}
+use Rattle.search_machine.specs.Allowed.{Allowed}
 use Rattle.search_machine.specs.declared.Machine.{Machine}
 use Rattle.search_machine.specs.declared.Program.{Program}
 use Rattle.search_machine.specs.declared.Store.{Store}
+
+-- What the search with a program may use: all the rules that are lent.
+abbrev pub allowed_in : Program → Allowed
+allowed_in p = record { limits = p.limits; frames = p.frames; rules = length p.rules.now }
 
 -- The same buffers are lent.
 pub record IsLent (s s' : Store) : Type 0 where
@@ -20,22 +24,22 @@ pub record IsLent (s s' : Store) : Type 0 where
 -- What an attempt with the rule of a state asks, and what it leaves.
 abbrev pub AskedIn : Program → Store → Machine → Type 0
 AskedIn p s m =
-    RowAsked p.allowed.limits.variables p.allowed.limits.words p.pattern.now p.rules.now s.words.now s.bindings.now s.links.now s.marks.now s.stack.now
+    RowAsked p.limits.variables p.limits.words p.pattern.now p.rules.now s.words.now s.bindings.now s.links.now s.marks.now s.stack.now
     m.counter m.used m.bound m.goal m.rule
 
 abbrev pub TriedIn : Program → Store → Store → Machine → Attempt → Type 0
 TriedIn p s s' m answer =
-    RowTried p.allowed.limits.variables p.allowed.limits.words p.pattern.now p.rules.now s.words.now s'.words.now s.bindings.now s'.bindings.now
+    RowTried p.limits.variables p.limits.words p.pattern.now p.rules.now s.words.now s'.words.now s.bindings.now s'.bindings.now
     s.links.now s'.links.now s.marks.now s'.marks.now s.stack.now s'.stack.now m.counter m.used m.bound m.goal m.rule answer
 
 -- What a step asks and leaves, and what the whole search leaves.
 abbrev pub ReadyIn : Program → Store → Machine → Type 0
 ReadyIn p s m =
-    Ready p.allowed p.pattern.now p.rules.now s.frames.now s.words.now s.bindings.now s.links.now s.marks.now s.stack.now m
+    Ready (allowed_in p) p.pattern.now p.rules.now s.frames.now s.words.now s.bindings.now s.links.now s.marks.now s.stack.now m
 
 abbrev pub SteppedIn : Program → Store → Store → Machine → Machine → Type 0
 SteppedIn p s s' m m' =
-    Stepped p.allowed p.pattern.now p.rules.now s.frames.now s'.frames.now s.words.now s'.words.now s.bindings.now s'.bindings.now
+    Stepped (allowed_in p) p.pattern.now p.rules.now s.frames.now s'.frames.now s.words.now s'.words.now s.bindings.now s'.bindings.now
     s.links.now s'.links.now s.marks.now s'.marks.now s.stack.now s'.stack.now m m'
 
 -- A step back writes bindings alone.
@@ -49,7 +53,7 @@ pub record ReturnedIn (a : Allowed) (s s' : Store) (m m' : Machine) : Type 0 whe
 
 abbrev pub SearchedIn : Program → Store → Store → Machine → Machine → Type 0
 SearchedIn p s s' m m' =
-    Searched p.allowed p.pattern.now p.rules.now s.frames.now s'.frames.now s.words.now s'.words.now s.bindings.now s'.bindings.now
+    Searched (allowed_in p) p.pattern.now p.rules.now s.frames.now s'.frames.now s.words.now s'.words.now s.bindings.now s'.bindings.now
     s.links.now s'.links.now s.marks.now s'.marks.now s.stack.now s'.stack.now m m'
 
 -- Laws

@@ -1,5 +1,6 @@
 -- The search at one depth bound, in reading order. Definitions: the storage, the machine and its contracts.
 pub mod Storage
+pub mod Allowed
 pub mod State
 pub mod Moves
 pub mod Promises

@@ -3,7 +3,7 @@ use Rattle.std.specs.Prelude.{ℕ, zero, suc, ◌+◌, ◌-◌, ◌≤◌, ◌�
 use Rattle.std.proofs.Common.{arith, ap, sym, ◌∙◌, drop-cons}
 use Rattle.std.proofs.Math.Path.{ap₂}
 use mathlib.Core.List.{List, ◌∷◌}
-use Rattle.arena.specs.Copies.{pattern_room, term_room, moved}
+use Rattle.arena.specs.Copies.{pattern_room, term_room, moved, Movable}
 use Rattle.arena.specs.Rows.{Rows}
 use Rattle.names.specs.Symbols.{column, columns, row_at}
 use Rattle.rules.specs.StoredRows.{heads_in, places_in, stored_in}
@@ -50,6 +50,13 @@ pub tried_lent : {most limit : ℕ} {pattern premises places : List ℕ} {stored
     → Attempted most limit pattern premises places stored words words' rows rows' links links' marks marks' stack stack' counter used bound goal answer
     → Attempted most limit pattern premises places stored words words' rows rows' links links'' marks marks'' stack stack'' counter used bound goal answer
 tried_lent p q o h = rw (p, q, o) h
+
+-- The word of a premise can be moved by the part of the row that has the places.
+module _ {rules : Rows} {x : Frame} {k : ℕ} (asked : PremiseAsked rules x k) (long : length (row_at rules x.rule) ≡ 154) where
+  pub premise_lent : Movable (take (90 + column (row_at rules x.rule) 3 - 90) (drop 90 (row_at rules x.rule))) x.counter
+      (pattern_room + column (row_at rules x.rule) 6)
+      (term_room + (x.used + column (row_at rules x.rule) 8)) (column (row_at rules x.rule) (10 + k))
+  premise_lent = rw (places_lent (row_at rules x.rule) asked.variables long) asked.movable
 
 -- The word of a premise, moved by the places.
 pub premise_is : {rules : Rows} {x : Frame} {k r : ℕ} {places : List ℕ} → PremiseAsked rules x k → places ≡ places_in (row_at rules x.rule)

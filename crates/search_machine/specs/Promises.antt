@@ -7,7 +7,7 @@ use Rattle.unifier.specs.Promises.{Scratch}
 use Rattle.resolution.specs.Search.{Result}
 use Rattle.search_machine.specs.State.{Start, Holds}
 use Rattle.search_machine.specs.Moves.{measure}
-use Rattle.search_machine.specs.declared.Allowed.{Allowed}
+use Rattle.search_machine.specs.Allowed.{Allowed}
 use Rattle.search_machine.specs.declared.Machine.{Machine}
 use Rattle.search_machine.specs.declared.Mode.{Mode}
 use Rattle.search_machine.specs.declared.Mode.TheVariants.{Enter, Try, Fail, Proved, Over, Refused}

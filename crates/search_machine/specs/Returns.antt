@@ -11,7 +11,7 @@ use Rattle.search_machine.specs.State.{frame_at, Start, limits, all_rules, rules
 use Rattle.search_machine.specs.State.{Trying, Failing, Ending}
 use Rattle.search_machine.specs.Moves.{to_stop, to_retry}
 use Rattle.search_machine.specs.Carry.{added_length}
-use Rattle.search_machine.specs.declared.Allowed.{Allowed}
+use Rattle.search_machine.specs.Allowed.{Allowed}
 use Rattle.search_machine.specs.declared.Machine.{Machine}
 use Rattle.search_machine.specs.declared.Mode.TheVariants.{Over}
 use Rattle.search_machine.specs.declared.frames.Frame.{Frame}

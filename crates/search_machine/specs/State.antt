@@ -16,7 +16,7 @@ use Rattle.rules.specs.StoredRows.{heads_in, places_in, stored_in}
 use Rattle.rule_checks.specs.RuleForm.{rule_in}
 use Rattle.attempts.specs.StoredRules.{StoredRule, RuleInForm}
 use Rattle.attempts.specs.Promises.{Added, premise_at}
-use Rattle.search_machine.specs.declared.Allowed.{Allowed}
+use Rattle.search_machine.specs.Allowed.{Allowed}
 use Rattle.search_machine.specs.declared.Machine.{Machine}
 use Rattle.search_machine.specs.declared.Mode.{Mode}
 use Rattle.search_machine.specs.declared.Mode.TheVariants.{Enter, Try, Fail, Proved, Over, Refused}

@@ -26,7 +26,7 @@ use Rattle.search_machine.specs.Moves.{to_fail, to_stop, to_rule, to_body, frame
 use Rattle.search_machine.specs.Carry.{added_length, SameFrames, term_kept, refers_kept, place_kept, entries_kept}
 use Rattle.search_machine.specs.Carry.{stack_kept_lem, stack_above}
 use Rattle.search_machine.specs.Attempts.{rules_cons, attempt_at, premises_count, body_count, body_span}
-use Rattle.search_machine.specs.declared.Allowed.{Allowed}
+use Rattle.search_machine.specs.Allowed.{Allowed}
 use Rattle.search_machine.specs.declared.Machine.{Machine}
 use Rattle.search_machine.specs.declared.Mode.TheVariants.{Refused}
 use Rattle.search_machine.specs.declared.frames.Frame.{Frame}

@@ -23,7 +23,7 @@ use Rattle.search_machine.specs.Entries.{entry_out, entry_proof, entry_small, en
 use Rattle.search_machine.specs.Attempts.{row_asked}
 use Rattle.search_machine.specs.Tries.{frame_set, frames_set, tried_refused, tried_missed, tried_entered}
 use Rattle.search_machine.specs.Returns.{back_over, back_known, back_undoable, back_trying}
-use Rattle.search_machine.specs.declared.Allowed.{Allowed}
+use Rattle.search_machine.specs.Allowed.{Allowed}
 use Rattle.search_machine.specs.declared.Machine.{Machine}
 use Rattle.search_machine.specs.declared.Mode.{Mode}
 use Rattle.search_machine.specs.declared.Mode.TheVariants.{Enter, Try, Fail, Proved, Over, Refused}

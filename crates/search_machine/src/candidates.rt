@@ -4,6 +4,7 @@ ghost use Rattle.std.specs.Prelude.{◌≡◌, false, IfSome};
 ghost use Rattle.names.specs.Symbols.{column, row_at};
 ghost use Rattle.arena.specs.Copies.{term_room};
 ghost use Rattle.attempts.specs.Clashes.{Clashes};
+ghost use Rattle.search_machine.specs.Groups.{allowed_in};
 ghost use Rattle.search_machine.specs.Choosing.{Goal, Heads, Readable, Differs, Judged, Choosing, Chosen};
 
 use super::{Machine, Mode, Program, Store};
@@ -71,12 +72,13 @@ fn is_candidate(program: Program, store: &Store, m: Machine, header: Option<u32>
 
 // The state at the next rule that has to be tried; at the end of the rules it fails, and at the limits it is refused.
 pub fn next_candidate(program: Program, store: &Store, m: Machine) -> Machine
-    requires { Choosing program.allowed program.pattern.now program.rules.now store.now.words.now store.now.bindings.now m }
-    ensures { Chosen program.entry.allowed program.entry.pattern.now program.entry.rules.now store.now.words.now store.now.bindings.now m result }
+    requires { Choosing (allowed_in program) program.pattern.now program.rules.now store.now.words.now store.now.bindings.now m }
+    ensures { Chosen (allowed_in program.entry) program.entry.pattern.now program.entry.rules.now store.now.words.now store.now.bindings.now m result }
 {
     let header = goal_header(store, m);
+    let rules = program.rules.len() as u32;
     let mut counter = m.counter;
-    for rule in m.rule..program.allowed.rules {
+    for rule in m.rule..rules {
         let row = &program.rules[rule as usize];
         let head = m.used + row[CONCLUSION_WORDS];
         if is_candidate(program, store, m, header, rule) {
@@ -84,13 +86,12 @@ pub fn next_candidate(program: Program, store: &Store, m: Machine) -> Machine
             return m.at_rule(rule, counter, top);
         }
         let met = counter + row[MET];
-        if program.allowed.limits.exceeds(met, head) {
+        if program.limits.exceeds(met, head) {
             return m
                 .at_rule(rule, counter, m.top)
                 .at_stop(Mode::Refused, m.steps);
         }
         counter = met;
     }
-    m.at_rule(program.allowed.rules, counter, m.top)
-        .at_fail(m.steps, m.cut)
+    m.at_rule(rules, counter, m.top).at_fail(m.steps, m.cut)
 }

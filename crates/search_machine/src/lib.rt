@@ -14,7 +14,7 @@ mod stored; // what an attempt reads in a rule's row
 ghost use Rattle.std.specs.Prelude.{◌≡◌, ◌<◌, true, false, length};
 ghost use Rattle.search_machine.specs.Promises.{Moved, Seen, Known, Choice, Live, Stopped};
 ghost use Rattle.search_machine.specs.State.{frame_at};
-ghost use Rattle.search_machine.specs.Groups.{ReadyIn, SteppedIn, ReturnedIn, SearchedIn, IsLent};
+ghost use Rattle.search_machine.specs.Groups.{allowed_in, ReadyIn, SteppedIn, ReturnedIn, SearchedIn, IsLent};
 ghost use Rattle.search_machine.specs.declared.Mode.TheVariants.{Try};
 
 use attempts::{SearchLimits, Tried};
@@ -24,22 +24,14 @@ pub use frames::Frame;
 use rules::RuleRow;
 use stored::{arity_of, premise, try_stored};
 
-// What the search may use: variables of the session and words, and frames; and how many rules there are. The number of frames is named only in contracts:
-// so many rows are lent, and the steps left do not outnumber those that are free.
-// Stays: `rules` counts the part in use; the contracts speak of the whole table, and of the part each would have to be proved for the table again.
-#[derive(Clone, Copy)]
-pub struct Allowed {
-    pub limits: SearchLimits,
-    pub frames: u32,
-    pub rules: u32,
-}
-
-// What a search reads: the rules of a signature, the words of their patterns, and what it may use.
+// What a search reads, the rules of a signature and the words of their patterns, and what it may use: variables of the session and words, and frames.
+// The number of frames is named only in contracts: so many rows are lent, and the steps left do not outnumber those that are free.
 #[derive(Clone, Copy)]
 pub struct Program<'a> {
     pub rules: &'a [RuleRow],
     pub pattern: &'a [u32],
-    pub allowed: Allowed,
+    pub limits: SearchLimits,
+    pub frames: u32,
 }
 
 // What a search writes: the session's words and bindings, the scratch of unification, and a row for each rule that is entered.
@@ -121,8 +113,8 @@ pub struct Machine {
 
 // With no step left the place fails; otherwise one is used.
 fn enter(program: Program, store: &Store, m: Machine) -> Machine
-    requires { Seen program.allowed program.rules.now store.now.frames.now m }
-    ensures { Moved program.entry.allowed program.entry.rules.now store.now.frames.now m result }
+    requires { Seen (allowed_in program) program.rules.now store.now.frames.now m }
+    ensures { Moved (allowed_in program.entry) program.entry.rules.now store.now.frames.now m result }
 {
     let steps = m.steps;
     let parent = m.parent;
@@ -147,7 +139,7 @@ fn enter(program: Program, store: &Store, m: Machine) -> Machine
 // One attempt with the rule that was chosen for the goal.
 fn attempt(program: Program, store: &mut Store, m: Machine) -> Machine
     requires ready { ReadyIn program store.old m }
-    requires choice { Choice program.allowed program.rules.now m }
+    requires choice { Choice (allowed_in program) program.rules.now m }
     ensures stepped { SteppedIn program.entry store.old store.new m result }
     ensures lent { IsLent store.old store.new }
 {
@@ -184,9 +176,9 @@ fn next_rule(program: Program, store: &mut Store, m: Machine) -> Machine
 }
 
 // Back to the newest application's goal, for its next rule.
-fn back(allowed: Allowed, store: &mut Store, m: Machine) -> Machine
-    requires { Known allowed store.old.frames.now store.old.bindings.now m }
-    ensures returned { ReturnedIn allowed store.old store.new m result }
+fn back(program: Program, store: &mut Store, m: Machine) -> Machine
+    requires { Known (allowed_in program) store.old.frames.now store.old.bindings.now m }
+    ensures returned { ReturnedIn (allowed_in program.entry) store.old store.new m result }
     ensures lent { IsLent store.old store.new }
 {
     let count = m.frames;
@@ -210,7 +202,7 @@ fn step(program: Program, store: &mut Store, m: Machine) -> Machine
     match m.mode {
         Mode::Enter => enter(program, store, m),
         Mode::Try => next_rule(program, store, m),
-        Mode::Fail => back(program.allowed, store, m),
+        Mode::Fail => back(program, store, m),
         Mode::Proved | Mode::Over | Mode::Refused => m,
     }
 }

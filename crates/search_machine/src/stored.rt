@@ -84,6 +84,6 @@ pub fn try_stored(program: Program, store: &mut Store, m: Machine) -> Result<Tri
         marks: store.marks,
         stack: store.stack,
     };
-    let at = m.state(program.allowed.limits);
+    let at = m.state(program.limits);
     try_rule(rule, store.words, store.bindings, &mut workspace, at)
 }

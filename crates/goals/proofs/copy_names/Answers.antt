@@ -1,5 +1,5 @@
 -- `copy_names` meets its contract.
-use Rattle.std.proofs.Common.{◌≡◌, length, arith}
+use Rattle.std.proofs.Common.{arith}
 use Rattle.goals.specs.CompilingLaws.{copied_none, copied_more}
 use Rattle.goals.proofs.copy_names.Goals as goal
 
@@ -10,8 +10,3 @@ pub loop-i-preserved : goal.loop-i-preserved
 loop-i-preserved c =
     let m = c.loop-i.auto.variables in
     λ text. copied_more text _ _ (omega (arith, c.loop-i-test.true)) _ (omega (arith, c.loop-i-test.true, c.requires)) (c.loop-i.invariant text)
-
-pub returns : goal.returns
-returns c =
-    let e : c.loop-i.i ≡ length c.args.names.now = omega (arith, c.loop-i-test.false, c.loop-i.auto.i-end) in
-    λ text. rw e at (c.loop-i.invariant text)

@@ -1,5 +1,5 @@
 -- `check_session` meets its contract: each test is one part of the form.
-use Rattle.std.proofs.Common.{sym, ◌∙◌, refl, arith}
+use Rattle.std.proofs.Common.{sym, ◌∙◌, refl}
 use Rattle.terms.specs.Numbers.{true_false}
 use Rattle.names.specs.Symbols.{symbols_of}
 use Rattle.rules.specs.PatternLaws.{arities_of}
@@ -20,18 +20,15 @@ returns-then-not-are_words_formed c =
     let text = c.args.text.now in
     told_no refl (λ h. true_false ((rw (symbols_used sg.symbols.now sg.counts.symbols c.requires.1 text) at (c.are_words_formed.ensures text)) ∙ h.session.words) c.if-not-are_words_formed.true)
 
-pub check_bindings-requires : goal.check_bindings-requires
-check_bindings-requires c =
+pub check_bindings-requires-clause-fact_1 : goal.check_bindings-requires-clause-fact_1
+check_bindings-requires-clause-fact_1 c =
     let sg = c.args.signature in
     let s = c.args.session in
     let text = c.args.text.now in
-    let counted = c.is_counted.ensures.yes c.if-not-is_counted.false in
-    let few = counted.few_words in
     let tested = c.are_words_formed in
-    let formed = words_formed (arities_of (symbols_of text sg.symbols.now sg.counts.symbols)) s.words.now s.counts
-    tested.result counted (rw (symbols_used sg.symbols.now sg.counts.symbols c.requires.1 text) at (tested.ensures text)) c.if-not-are_words_formed.false-raw in
-    let scratch = c.is_scratch_zero.ensures.yes c.if-not-is_scratch_zero.false in
-    record { fact_1 = formed; fact_2 = (counted.few_variables, omega arith, counted.words_lent); fact_3 = scratch.marks_free }
+    words_formed (arities_of (symbols_of text sg.symbols.now sg.counts.symbols)) s.words.now s.counts
+    tested.result (c.is_counted.ensures.yes c.if-not-is_counted.false)
+    (rw (symbols_used sg.symbols.now sg.counts.symbols c.requires.1 text) at (tested.ensures text)) c.if-not-are_words_formed.false-raw
 
 pub returns : goal.returns
 returns c =
