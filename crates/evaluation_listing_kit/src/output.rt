@@ -1,5 +1,5 @@
 // Bytes and numbers in decimal, written into a lent buffer where there is room for them. Where there is none, nothing is written, and the answer is none.
-ghost use Rattle.std.specs.Prelude.{◌≡◌, ◌+◌, ◌≤◌, IfSome, length};
+ghost use Rattle.std.specs.Prelude.{◌≡◌, ◌+◌, ◌≤◌, ◌<◌, IfSome, IfNone, length};
 ghost use Rattle.evaluation_listing_kit.specs.Printing.{Fits, Moved};
 
 use byte_output::Output;
@@ -12,6 +12,7 @@ pub fn put_byte(out: &mut Output, byte: u8) -> Option<()>
     requires { Fits out.old }
     ensures moved { Moved out.old out.new }
     ensures place { IfSome result (λ _. out.new.at ≡ out.old.at + 1) }
+    ensures room { IfNone result (length out.old.bytes.now < out.old.at + 1) }
 {
     put(&[byte], out)
 }
@@ -21,6 +22,7 @@ pub fn put(bytes: &[u8], out: &mut Output) -> Option<()>
     requires { Fits out.old }
     ensures moved { Moved out.old out.new }
     ensures place { IfSome result (λ _. out.new.at ≡ out.old.at + length bytes.now) }
+    ensures room { IfNone result (length out.old.bytes.now < out.old.at + length bytes.now) }
 {
     if out.bytes.len() - out.at < bytes.len() {
         return None;
