@@ -1,15 +1,11 @@
 -- `are_listed` meets its contract: each symbol's clauses are tested.
 use Rattle.std.proofs.Common.{rules, ◌≡◌, ◌<◌, length, get_or, arith}
-use borrow.Author.Tests.{tests}
 use Rattle.std.specs.List.{range_with_len}
 use Rattle.std.proofs.lemmas.List.FromFn.{length-range_with_len, get_or-range_with_len}
-use Rattle.std.proofs.lemmas.Iterator.{YieldsList-from_range, serves_from_Range}
+use Rattle.std.proofs.lemmas.Iterator.{YieldsList-from_range}
 use Rattle.signature.specs.Parts.{ClausesOf}
 use Rattle.signature.proofs.Laws.{same, all_tell}
 use Rattle.signature.proofs.functions.are_listed.Goals as goal
-
-pub all-requires-clause-callable : goal.all-requires-clause-callable
-all-requires-clause-callable c = serves_from_Range (λ x q r. search (rules, tests)) (λ x h k. search (rules, tests))
 
 pub returns : goal.returns
 returns c =
