@@ -18,6 +18,7 @@ ghost use Rattle.words.specs.Lexer.{lex_answer, lex_rows};
 use arena::{TERM_ROOM, Terms};
 use bindings::StoredBindings;
 use evaluator::Buffers;
+use names::Source;
 use prover::Query;
 use refusals::{Refusal, Rejection};
 use sessions::Verdict;
