@@ -20,6 +20,7 @@ pub enum Class {
 }
 
 // The class of each of the 128 ASCII codes.
+// Stays: a `match` on ranges of codes was tried: it is proved, but lexing 60,000 bytes of declarations takes 565 us in place of 273.
 const CLASS: [Class; 128] = [
     Class::Stray, // 0
     Class::Stray, // 1
