@@ -123,7 +123,7 @@ fn check(signature: StoredSignature, term: Source) -> Result<(), Refusal>
     if !signature::check_signature(term.text, signature) {
         return Err(Refusal::Storage);
     }
-    term_check::check_term(term.text, term.rows, term.at).ok_or(Refusal::Storage)?;
+    term_check::check_term(term).ok_or(Refusal::Storage)?;
     Ok(())
 }
 

@@ -10,6 +10,7 @@ ghost use Rattle.names.specs.Symbols.{column, row_at, sort_of};
 
 pub mod columns; // the columns of the rows of sorts, symbols and variables
 
+use columns::{SIZE, START};
 use words::LONGEST;
 
 // A sort: start, length.
@@ -54,8 +55,8 @@ impl Word {
         ensures { result ≡ record { start = column row.now 0; size = column row.now 1 } }
     {
         Word {
-            start: row[0],
-            size: row[1],
+            start: row[START],
+            size: row[SIZE],
         }
     }
 

@@ -28,7 +28,7 @@ pub fn is_ready(
     if !signature::check_signature(query.goal.text, query.signature) {
         return false;
     }
-    if term_check::check_term(query.goal.text, query.goal.rows, query.goal.at).is_none() {
+    if term_check::check_term(query.goal).is_none() {
         return false;
     }
     session_check::check_session(

@@ -8,7 +8,7 @@ ghost use Rattle.std.specs.Prelude.{◌≡◌, length};
 ghost use Rattle.term_check.specs.TermRows.{Checking};
 ghost use Rattle.term_check.specs.Walk.{Topped};
 
-use names::{Word, is_word_place};
+use names::{Source, Word, is_word_place};
 use term_parser::tokens::held;
 
 // The levels of a term of depth 131, the deepest that is parsed, and one more for what would follow there.
@@ -31,10 +31,11 @@ fn top_of(text: &[u8], row: [u32; 4]) -> Option<u32>
     }
 }
 
-// The row past the term whose rows start at `at`, if there is one. A table holds how many terms are still to come at each level.
-pub fn check_term(text: &[u8], rows: &[[u32; 4]], at: usize) -> Option<usize>
-    ensures { Checking text.now rows.now at result }
+// The row past the term, if there is one. A table holds how many terms are still to come at each level.
+pub fn check_term(source: Source) -> Option<usize>
+    ensures { Checking source.entry.text.now source.entry.rows.now source.entry.at result }
 {
+    let Source { text, rows, at } = source;
     let mut left = [0u32; LEVELS];
     left[0] = 1;
     let mut d: usize = 1;
