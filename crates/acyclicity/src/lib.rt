@@ -59,16 +59,13 @@ fn search(terms: Terms, bindings: &[[u32; 2]], scratch: &mut [[u32; 2]]) -> bool
         let mut top = None;
         let mut ahead = Some(variable);
         loop {
-            if let Some(reference) = ahead {
+            if let Some(reference) = ahead.take() {
                 let row = reference as usize;
                 let mark = scratch[row][0];
-                if mark == CLOSED {
-                    ahead = None;
-                } else if mark == 0 {
+                if mark == 0 {
                     scratch[row] = [1, held_of(top)];
-                    top = ahead;
-                    ahead = None;
-                } else {
+                    top = Some(reference);
+                } else if mark != CLOSED {
                     // An edge back to a reference on the way that the search has come.
                     return false;
                 }

@@ -5,9 +5,9 @@ ghost use Rattle.std.specs.Prelude.{◌<◌, length};
 
 use arena::{TERM_ROOM, Terms};
 use samples::build::{BINARY, CONSTANT, Tower, UNARY, put_tower};
+use samples::report;
 use samples::rows::bind_chain;
 use samples::unification::Fault;
-use samples::{report, unification};
 
 mod form; // bindings in form
 
@@ -21,7 +21,7 @@ const REFERENCES: usize = TERM_ROOM as usize + WORDS;
 // The check's answer, where the storage is in form; scratch must come back unmarked.
 // Stays: terms, bindings and scratch have different owners; a struct of the three would be made for each call and taken apart in it again.
 fn answer(terms: Terms, bindings: &[[u32; 2]], scratch: &mut [[u32; 2]]) -> Result<bool, Fault> {
-    if !unification::is_unmarked(terms, scratch) {
+    if !checks::is_unmarked(terms, scratch) {
         return Err(Fault::NotReady);
     }
     if !form::are_bindings(terms, bindings) {

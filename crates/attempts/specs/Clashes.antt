@@ -37,6 +37,11 @@ LeadsTo room words rows variables used bound r node =
     MatchOption node ((q : ℕ) × (q < room) × Walked room words rows variables used bound r q)
     (λ q. (room ≤ q) × Walked room words rows variables used bound r q)
 
+-- The bindings lead from the reference r to the first, a node; the second is the address of the node to which the pattern's reference s refers.
+abbrev pub BothNodes : ℕ → List ℕ → Rows → ℕ → ℕ → ℕ → ℕ → ℕ → ℕ × ℕ → Type 0
+BothNodes room words rows variables used bound r s nodes =
+    (room ≤ nodes.0) × Walked room words rows variables used bound r nodes.0 × (pattern_room ≤ s) × (nodes.1 ≡ s - pattern_room)
+
 -- What comparing a goal's reference with a pattern's asks: a state and a pattern in form.
 pub record Comparable (room : ℕ) (pattern words : List ℕ) (rows : Rows) (variables used bound r s : ℕ) : Type 0 where
   pub form : Form room words rows variables used bound

@@ -1,15 +1,16 @@
 // One attempt with a rule (document 01, "Search"): its conclusion is copied with new variables and unified with a goal, and then its premises are copied.
 #![tactic(auto)]
 
-ghost use Rattle.std.specs.Prelude.{◌≡◌, ◌+◌, ◌<◌, true};
+ghost use Rattle.std.specs.Prelude.{◌≡◌, ◌+◌, ◌<◌, true, IfSome};
 ghost use Rattle.resolution.specs.Search.{within, over};
 ghost use Rattle.arena.specs.Cells.{cells, Reference};
 ghost use Rattle.bindings.specs.Stored.{Form};
-ghost use Rattle.attempts.specs.Clashes.{LeadsTo, Comparable, Clashes};
+ghost use Rattle.arena.specs.Copies.{term_room};
+ghost use Rattle.attempts.specs.Clashes.{LeadsTo, BothNodes, Comparable, Clashes};
 ghost use Rattle.unifier.specs.Lending.{SameBuffers};
 ghost use Rattle.attempts.specs.Promises.{Asked, Attempted, HeadAsked, HeadTried, BodyAsked, BodyTried};
 
-use arena::{PATTERN_ROOM, RulePart, SYMBOL_STEP, TERM_ROOM, Terms, inst, moved_word};
+use arena::{PATTERN_ROOM, RulePart, TERM_ROOM, Terms, arity_of, inst, moved_word};
 use bindings::{StoredBindings, undo, walk};
 use refusals::Refusal;
 use unifier::{Workspace, unify};
@@ -64,6 +65,30 @@ impl SearchLimits {
     }
 }
 
+impl SearchState {
+    // The terms in these words, of which those of the state are in use.
+    pub fn terms(self, words: &[u32]) -> Terms<'_>
+        ensures { (result.words.now ≡ words.now) × (result.room ≡ term_room) × (result.variables ≡ self.counter) × (result.used ≡ self.used) }
+    {
+        Terms {
+            words,
+            room: TERM_ROOM,
+            variables: self.counter,
+            used: self.used,
+        }
+    }
+
+    // The bindings in these rows, of which those of the state are in use.
+    pub fn bindings(self, rows: &[[u32; 2]]) -> StoredBindings<'_>
+        ensures { (result.rows.now ≡ rows.now) × (result.bound ≡ self.bound) }
+    {
+        StoredBindings {
+            rows,
+            bound: self.bound,
+        }
+    }
+}
+
 // What came of an attempt that the limits allow.
 // Stays: a miss is no absence and no error, since the counter has moved on; an `Option` would leave the counter of a miss out.
 #[derive(Clone, Copy)]
@@ -88,20 +113,26 @@ pub fn goal_node(terms: Terms, held: StoredBindings, goal: u32) -> Option<u32>
     Some(end)
 }
 
+// The node that the bindings lead to from the goal, and the address of the pattern's; none where one of the two is a variable.
+fn both_nodes(terms: Terms, held: StoredBindings, goal: u32, other: u32) -> Option<(u32, usize)>
+    requires form { Form terms.room terms.words.now held.rows.now terms.variables terms.used held.bound }
+    requires refers { Reference terms.room (cells terms.words.now) terms.variables terms.used goal }
+    ensures { IfSome result (BothNodes terms.entry.room terms.entry.words.now held.entry.rows.now terms.entry.variables terms.entry.used held.entry.bound goal other) }
+{
+    let from = other.checked_sub(PATTERN_ROOM)?;
+    let end = goal_node(terms, held, goal)?;
+    Some((end, from as usize))
+}
+
 // Whether two heads differ: where the bindings lead from the goal, and a pattern's, both nodes.
 fn heads_differ(pattern: &[u32], terms: Terms, held: StoredBindings, goal: u32, other: u32) -> bool
     requires { Comparable terms.room pattern.now terms.words.now held.rows.now terms.variables terms.used held.bound goal other }
     ensures { result ≡ true → Clashes terms.entry.room pattern.now terms.entry.words.now held.entry.rows.now held.entry.bound goal other }
 {
-    if other < PATTERN_ROOM {
-        return false;
-    }
-    let Some(end) = goal_node(terms, held, goal) else {
+    let Some((end, from)) = both_nodes(terms, held, goal, other) else {
         return false;
     };
-    let node = (end - terms.room) as usize;
-    let from = (other - PATTERN_ROOM) as usize;
-    terms.words[node] != pattern[from]
+    terms.header(end) != pattern[from]
 }
 
 // Whether the goal and a conclusion clash by their heads or by those of their arguments. A rule that cannot serve is mostly found out here, before
@@ -116,22 +147,22 @@ pub fn clashes(
     requires { Comparable terms.room pattern.now terms.words.now held.rows.now terms.variables terms.used held.bound goal conclusion }
     ensures { result ≡ true → Clashes terms.entry.room pattern.now terms.entry.words.now held.entry.rows.now held.entry.bound goal conclusion }
 {
-    if conclusion < PATTERN_ROOM {
-        return false;
-    }
-    let Some(end) = goal_node(terms, held, goal) else {
+    let Some((end, from)) = both_nodes(terms, held, goal, conclusion) else {
         return false;
     };
-    let node = (end - terms.room) as usize;
-    let from = (conclusion - PATTERN_ROOM) as usize;
-    let header = terms.words[node];
+    let header = terms.header(end);
     if header != pattern[from] {
         return true;
     }
-    let count = (header % SYMBOL_STEP) as usize;
-    (0..count).any(|i| {
-        let argument = terms.words[node + 1 + i];
-        heads_differ(pattern, terms, held, argument, pattern[from + 1 + i])
+    (0..arity_of(header)).any(|i| {
+        let argument = terms.argument(end, i);
+        heads_differ(
+            pattern,
+            terms,
+            held,
+            argument,
+            pattern[from + 1 + i as usize],
+        )
     })
 }
 
@@ -158,16 +189,8 @@ fn try_head(
     if at.limits.exceeds(variables, top) {
         return Err(Refusal::OverLimit);
     }
-    let before = Terms {
-        words,
-        room: TERM_ROOM,
-        variables: at.counter,
-        used: at.used,
-    };
-    let held = StoredBindings {
-        rows: bindings,
-        bound: at.bound,
-    };
+    let before = at.terms(words);
+    let held = at.bindings(bindings);
     if clashes(rule.pattern, before, held, at.goal, stored.conclusion) {
         return Ok(None);
     }

@@ -3,9 +3,8 @@
 ghost use Rattle.attempts_test.specs.Told.{Room, StateTold};
 ghost use Rattle.std.specs.Prelude.{◌≡◌, true};
 
-use arena::{HEADERS, PATTERN_ROOM, TERM_ROOM, Terms};
+use arena::{HEADERS, PATTERN_ROOM, TERM_ROOM};
 use attempts::{LentRule, SearchState, Stored, Tried};
-use bindings::StoredBindings;
 use refusals::Refusal;
 use samples::build::{BINARY, MOST, UNARY};
 use samples::unification;
@@ -82,16 +81,8 @@ fn is_state(
     ensures links { workspace.new.links.now ≡ workspace.old.links.now }
     ensures stack { workspace.new.stack.now ≡ workspace.old.stack.now }
 {
-    let terms = Terms {
-        words,
-        room: TERM_ROOM,
-        variables: state.counter,
-        used: state.used,
-    };
-    let held = StoredBindings {
-        rows: bindings,
-        bound: state.bound,
-    };
+    let terms = state.terms(words);
+    let held = state.bindings(bindings);
     if !checks::is_form(terms, held, workspace.marks) {
         return false;
     }

@@ -25,7 +25,7 @@ use visits::{visit, visit_edges};
 // Bindings in lent rows: by variable the value, 0 or 1 + a reference, and beside it the trail, whose first `bound` entries are the bound variables in
 // their order.
 // Stays: terms, bindings and marks have different owners; the rows hold all values beside the trail, so that no part up to `bound` can be lent.
-// Stays: `Form`, `Free` and `Entries` tell of values with different owners together, so that none is an invariant of one struct.
+// Stays: `Form` tells of these bindings and of the terms beside them, which have another owner, so that it is no invariant of this struct.
 #[derive(Clone, Copy)]
 pub struct StoredBindings<'a> {
     pub rows: &'a [[u32; 2]],

@@ -37,6 +37,11 @@ pub record Stored (N : ℕ) (words : List ℕ) (variables used : ℕ) : Type 0 w
   -- there are so many words
   pub lent : used ≤ length words
 
+-- Terms in form, and marks for every reference, all 0.
+pub record Unmarked (room : ℕ) (words : List ℕ) (marks : Rows) (variables used : ℕ) : Type 0 where
+  pub stored : Stored room words variables used
+  pub zeros : Zeros marks (room + used)
+
 -- Words and bindings in form, and marks for every reference, all 0: what `occurs` asks of storage.
 pub record Formed (N : ℕ) (words : List ℕ) (bindings marks : Rows) (variables used bound : ℕ) : Type 0 where
   pub form : Form N words bindings variables used bound

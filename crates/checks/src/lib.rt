@@ -4,22 +4,30 @@
 mod nodes; // words that are terms
 mod zeros; // rows that are zero
 
-ghost use Rattle.checks.specs.Ready.{FormTold, ReadyTold};
+ghost use Rattle.bindings.specs.Promises.{Tells};
+ghost use Rattle.checks.specs.Ready.{Unmarked, FormTold, ReadyTold};
 
 use arena::Terms;
 use bindings::{StoredBindings, is_reference};
 pub use nodes::are_terms;
 pub use zeros::{are_zero, is_scratch_zero};
 
+// Whether terms are in form, and there is a mark for each reference, all zero.
+pub fn is_unmarked(terms: Terms, marks: &[[u32; 2]]) -> bool
+    ensures { Tells result (Unmarked terms.entry.room terms.entry.words.now marks.now terms.entry.variables terms.entry.used) }
+{
+    if !are_terms(terms) {
+        return false;
+    }
+    are_zero(marks, (terms.room + terms.used) as usize)
+}
+
 // Whether words and bindings are in form and the marks are zero; these are left as they are.
 pub fn is_form(terms: Terms, bindings: StoredBindings, marks: &mut [[u32; 2]]) -> bool
     ensures { FormTold terms.entry.room terms.entry.words.now bindings.entry.rows.now marks.old marks.new
         terms.entry.variables terms.entry.used bindings.entry.bound result }
 {
-    if !are_terms(terms) {
-        return false;
-    }
-    if !are_zero(marks, (terms.room + terms.used) as usize) {
+    if !is_unmarked(terms, marks) {
         return false;
     }
     bindings::check_bindings(terms, bindings, marks)

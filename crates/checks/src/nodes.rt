@@ -4,7 +4,7 @@ ghost use Rattle.arena.specs.Cells.{cells, headers, WellFormed};
 ghost use Rattle.bindings.specs.Promises.{Tells};
 ghost use Rattle.checks.specs.Ready.{NodeFormed, Stored};
 
-use arena::{HEADERS, SYMBOL_STEP, Terms};
+use arena::{HEADERS, Terms, arity_of};
 use bindings::is_reference;
 
 // Whether the word at an address is no header, or that of a node in form.
@@ -17,7 +17,7 @@ fn is_node(terms: Terms, address: u32) -> bool
     if header < HEADERS {
         return true;
     }
-    let arity = header % SYMBOL_STEP;
+    let arity = arity_of(header);
     if terms.used <= address + arity {
         return false;
     }

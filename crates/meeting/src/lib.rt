@@ -9,12 +9,12 @@ ghost use Rattle.arena.specs.Cells.{terms_of};
 ghost use Rattle.resolution.specs.Fresh.{met_back};
 ghost use Rattle.meeting.specs.Contract.{term_of, Ready, Walked, WholeAsked};
 
-use arena::{PATTERN_ROOM, SYMBOL_STEP};
+use arena::{PATTERN_ROOM, arity_of};
 
 // The variables that were met: the place of each of them in meeting order, and how many they are.
 #[derive(Drop)]
 pub struct Places {
-    pub places: [Option<u32>; 64],
+    pub places: [Option<u32>; PATTERN_ROOM as usize],
     pub count: u32,
     ghost counted: { count ≡ placed_count places },
     ghost long: { length places ≡ pattern_room },
@@ -26,7 +26,7 @@ impl Places {
         ensures { Records [] result.places result.count }
     {
         Places {
-            places: [None; 64],
+            places: [None; PATTERN_ROOM as usize],
             count: 0,
         }
     }
@@ -60,14 +60,13 @@ impl Places {
         let mut depth: usize = 0;
         let mut waiting = Some(reference);
         loop {
-            match waiting {
+            match waiting.take() {
                 Some(next) => {
-                    waiting = None;
                     if next < PATTERN_ROOM {
                         self.give(next);
                     } else {
                         let address = next - PATTERN_ROOM;
-                        let arity = words[address as usize] % SYMBOL_STEP;
+                        let arity = arity_of(words[address as usize]);
                         if most - spent <= arity {
                             return None;
                         }

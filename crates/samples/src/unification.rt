@@ -1,7 +1,7 @@
 // One call of `unify`, `occurs` or `check_bindings` on storage that is tested first, and of `undo` after it.
 ghost use Rattle.std.specs.Prelude.{◌≡◌};
 ghost use Rattle.arena.specs.Copies.{term_room};
-ghost use Rattle.samples.specs.Scratch.{Clean, Unmarked};
+ghost use Rattle.samples.specs.Scratch.{Clean};
 ghost use Rattle.bindings.specs.Promises.{Tells};
 
 use super::report;
@@ -54,16 +54,6 @@ pub fn is_clean(workspace: &Workspace) -> bool
     ensures { Tells result (Clean workspace.now.links.now workspace.now.marks.now workspace.now.stack.now) }
 {
     checks::is_scratch_zero(0, 0, workspace.links, workspace.marks, workspace.stack)
-}
-
-// Whether terms are in form, and there is a mark for each reference, all zero.
-pub fn is_unmarked(terms: Terms, marks: &[[u32; 2]]) -> bool
-    ensures { Tells result (Unmarked terms.entry.room terms.entry.words.now marks.now terms.entry.variables terms.entry.used) }
-{
-    if !checks::are_terms(terms) {
-        return false;
-    }
-    checks::are_zero(marks, (terms.room + terms.used) as usize)
 }
 
 // Whether the two references unify: how many bindings there are then.
@@ -125,7 +115,7 @@ pub fn ask(
 
 // Whether rows are bindings in form.
 pub fn check(terms: Terms, held: StoredBindings, marks: &mut [[u32; 2]]) -> Result<bool, Fault> {
-    if !is_unmarked(terms, marks) {
+    if !checks::is_unmarked(terms, marks) {
         return Err(Fault::NotReady);
     }
     let answer = bindings::check_bindings(terms, held, marks);

@@ -10,7 +10,7 @@ ghost use Rattle.unifier.specs.Lending.{SameBuffers};
 use super::links::{find, link};
 use super::stack::put_pair;
 use super::{Decision, Ending, Workspace};
-use arena::{SYMBOL_STEP, Terms};
+use arena::{Terms, arity_of};
 use bindings::{StoredBindings, enter, occurs, walk};
 
 // What is to be done with x and y.
@@ -46,12 +46,12 @@ fn decide(
         }
         return Decision::Bind(q, p);
     }
-    let header = terms.words[(p - terms.room) as usize];
-    if header != terms.words[(q - terms.room) as usize] {
+    let header = terms.header(p);
+    if header != terms.header(q) {
         return Decision::Clash;
     }
     // Constants have no arguments to be made equal, so two with one header need no links.
-    if header % SYMBOL_STEP == 0 {
+    if arity_of(header) == 0 {
         return Decision::Same;
     }
     if find(links, p) == find(links, q) {
@@ -84,10 +84,9 @@ pub fn equate(
     let mut n = bound;
     let mut c = 0;
     let mut pending = Some((r, t));
-    loop {
-        match pending {
+    let equal = loop {
+        match pending.take() {
             Some((x, y)) => {
-                pending = None;
                 let held = StoredBindings {
                     rows: bindings,
                     bound: n,
@@ -102,24 +101,12 @@ pub fn equate(
                         put_pair(stack, d, p, q);
                         d += 1;
                     }
-                    Decision::Clash => {
-                        return Ending {
-                            equal: false,
-                            bound: n,
-                            linked: c,
-                            pairs: d,
-                        };
-                    }
+                    Decision::Clash => break false,
                 }
             }
             None => {
                 if d == 0 {
-                    return Ending {
-                        equal: true,
-                        bound: n,
-                        linked: c,
-                        pairs: d,
-                    };
+                    break true;
                 }
                 let last = (d - 1) as usize;
                 let [left, right, taken] = stack[last];
@@ -134,5 +121,11 @@ pub fn equate(
                 }
             }
         }
+    };
+    Ending {
+        equal,
+        bound: n,
+        linked: c,
+        pairs: d,
     }
 }

@@ -8,9 +8,9 @@ use Rattle.acyclicity.proofs.search.Given as goal
 abbrev pub invariant-loop-variable : goal.invariant-loop-variable
 invariant-loop-variable l = Turn l.terms.words.now l.bindings l.terms.room l.terms.variables l.terms.used l.fn.scratch l.scratch l.variable 0 0
 
-abbrev pub invariant-loop-ahead : goal.invariant-loop-ahead
-invariant-loop-ahead l =
+abbrev pub invariant-loop-reference : goal.invariant-loop-reference
+invariant-loop-reference l =
     Turn l.terms.words.now l.bindings l.terms.room l.terms.variables l.terms.used l.fn.scratch l.scratch (l.variable + 1) (number l.top) (number l.ahead)
 
-abbrev pub decreases-loop-ahead : goal.decreases-loop-ahead
-decreases-loop-ahead l = left l.scratch (number l.ahead)
+abbrev pub decreases-loop-reference : goal.decreases-loop-reference
+decreases-loop-reference l = left l.scratch (number l.ahead)

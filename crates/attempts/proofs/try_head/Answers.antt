@@ -8,8 +8,10 @@ returns-then-clashes-clause-tried c =
     let pre = c.requires in
     let exceeds = c.exceeds in
     let if1 = c.if-exceeds in
-    let clashes = c.clashes in
-    head_clashes pre (sym exceeds.ensures ∙ if1.false) (clashes.ensures c.if-clashes.true)
+    let t = c.terms-before.ensures in
+    let b = c.bindings-held.ensures in
+    let clash = c.clashes.ensures c.if-clashes.true in
+    head_clashes pre (sym exceeds.ensures ∙ if1.false) (rw (t.0, t.1, b.0, b.1) at clash)
 
 pub moved_word-second-requires : goal.moved_word-second-requires
 moved_word-second-requires c =

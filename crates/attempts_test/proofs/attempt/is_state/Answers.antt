@@ -18,9 +18,13 @@ returns-then-not-is_reference-clause-told c =
 
 pub returns-clause-told : goal.returns-clause-told
 returns-clause-told c =
-    let f = c.is_form.ensures.tells.yes (c.if-not-is_form.false) in
+    let t = c.terms-terms.ensures in
+    let b = c.bindings-held.ensures in
+    let formed = c.is_form.ensures.tells.yes (c.if-not-is_form.false) in
+    let refers = c.is_reference.ensures.yes (c.if-not-is_reference.false) in
+    let form = formed.form in
     record {
-      state = λ e. form_room c.is_form.ensures.kept f.form (c.has_room.ensures e);
-      refers = λ e. c.is_reference.ensures.yes (c.if-not-is_reference.false);
+      state = λ e. form_room c.is_form.ensures.kept (rw (t.0, t.1, t.2, t.3, b.0, b.1) at form) (c.has_room.ensures e);
+      refers = λ e. rw (t.0, t.1, t.2, t.3) at refers;
       kept = c.is_form.ensures.kept;
     }

@@ -58,24 +58,24 @@ returns-then-q-terms c =
       marks = occurs2.ensures.marks;
     }
 
-pub returns-then-header-terms : goal.returns-then-header-terms
-returns-then-header-terms c =
+pub returns-then-header : goal.returns-then-header
+returns-then-header c =
     let walk = c.walk-p in
     let walk2 = c.walk-q in
-    let if6 = c.if-header-terms in
+    let if6 = c.if-header in
     record {
-      says = heads _ _ (ways walk.ensures walk2.ensures) (search rules) (search rules) if6.true;
+      says = heads _ _ (ways walk.ensures walk2.ensures) (search rules) (search rules) (rw (c.header-header.ensures, c.header.ensures) at if6.true);
       marks = refl;
     }
 
-pub returns-then-header-eq0 : goal.returns-then-header-eq0
-returns-then-header-eq0 c =
+pub returns-then-arity_of-eq0 : goal.returns-then-arity_of-eq0
+returns-then-arity_of-eq0 c =
     let walk = c.walk-p in
     let walk2 = c.walk-q in
-    let if6 = c.if-header-terms in
-    let if7 = c.if-header-eq0 in
+    let if6 = c.if-header in
+    let if7 = c.if-arity_of-eq0 in
     record {
-      says = alike_constants walk.ensures walk2.ensures (search rules) (search rules) if6.false if7.true;
+      says = alike_constants walk.ensures walk2.ensures (search rules) (search rules) (rw (c.header-header.ensures, c.header.ensures) at if6.false) (rw (c.arity_of.ensures, c.header-header.ensures) at if7.true);
       marks = refl;
     }
 
@@ -95,11 +95,11 @@ pub returns : goal.returns
 returns c =
     let walk = c.walk-p in
     let walk2 = c.walk-q in
-    let if6 = c.if-header-terms in
+    let if6 = c.if-header in
     let find = c.find in
     let find2 = c.find-2 in
     let if8 = c.if-find in
     record {
-      says = opened walk.ensures walk2.ensures (search rules) (search rules) if6.false find.ensures.0 find2.ensures.0 if8.false;
+      says = opened walk.ensures walk2.ensures (search rules) (search rules) (rw (c.header-header.ensures, c.header.ensures) at if6.false) find.ensures.0 find2.ensures.0 if8.false;
       marks = refl;
     }
