@@ -3,7 +3,6 @@ ghost use Rattle.std.specs.Prelude.{suc, ◌+◌, ◌≤◌, ◌<◌, length};
 ghost use Rattle.arena.specs.Copies.{pattern_room};
 ghost use Rattle.clause_matching.specs.Building.{Pushed, InstantiateAsked, Instantiated, ArgumentsAsked, ArgumentsBuilt};
 
-use super::references::{Pattern, pattern_at};
 use arena::{PATTERN_ROOM, SYMBOL_STEP};
 use refusals::Refusal;
 
@@ -101,21 +100,16 @@ pub fn instantiate(
     requires { InstantiateAsked pattern.now reference environment.now words.old room.used room.limit stack.old }
     ensures { Instantiated pattern.now reference environment.now words.old room.used room.limit result words.new }
 {
-    match pattern_at(pattern, reference) {
-        Pattern::Variable { index } => {
-            let value = environment[index as usize]
-                .checked_sub(1)
-                .ok_or(Refusal::Unbound)?;
-            Ok(Built {
-                value,
-                used: room.used,
-            })
-        }
-        Pattern::Node {
-            header: _,
-            first: _,
-        } => { instantiate_node(pattern, reference, environment, words, room, stack) }
+    if reference < PATTERN_ROOM {
+        let value = environment[reference as usize]
+            .checked_sub(1)
+            .ok_or(Refusal::Unbound)?;
+        return Ok(Built {
+            value,
+            used: room.used,
+        });
     }
+    instantiate_node(pattern, reference, environment, words, room, stack)
 }
 
 // The arguments of a pattern's node from the address `first` on, one for each place of `values`, built from left to right: how many words are then used. Their
