@@ -141,7 +141,7 @@ module _ {pattern : List ℕ} {reference : ℕ} {values : List ℕ} {used value 
             sym a.comes ∙ ap (λ (p : Term). bind_of (cons p (patterns_left pattern stack depth)) (cons (value_at values other) (values_left values stack depth)) a.γ) is
             ∙ ap (λ (o : Fitted). if_fitted o (λ δ. bind_of (patterns_left pattern stack depth) (values_left values stack depth) δ)) o)
 
-        pub turn_variable : r ≡ true → Turn pattern reference values used value environment₀ links₀ stack₀ environment' links' stack depth next other false
+        pub turn_variable : {next' other' : ℕ} → r ≡ true → Turn pattern reference values used value environment₀ links₀ stack₀ environment' links' stack depth next' other' false
         unfolding bind_of
         turn_variable e = record {
           asked = h.asked;
@@ -262,7 +262,7 @@ module _ {pattern : List ℕ} {reference : ℕ} {values : List ℕ} {used value 
             let s = size_append inner (patterns_left pattern stack depth) in
             rw (q, opened, is_node) (omega arith)
 
-        pub turn_enter : Turn pattern reference values used value environment₀ links₀ stack₀ environment links entered (depth + 1) next other false
+        pub turn_enter : {next' other' : ℕ} → Turn pattern reference values used value environment₀ links₀ stack₀ environment links entered (depth + 1) next' other' false
         unfolding bind_of
         turn_enter = record {
           asked = h.asked;
@@ -456,7 +456,7 @@ module _ {pattern : List ℕ} {reference : ℕ} {values : List ℕ} {used value 
   abbrev other_after : ℕ
   other_after = cells values (column 1 stack (depth - 1))
 
-  pub less_taken : left pattern stack_after depth next_after waiting < left pattern stack depth next waiting
+  pub less_taken : left pattern stack_after depth next waiting < left pattern stack depth next waiting
   less_taken =
       let x : left pattern stack_after depth next_after true < left pattern stack depth next false = rw q at (less_next h q n o) in
       let y = less_variable (turn_next h q n o) refl v in
@@ -464,7 +464,7 @@ module _ {pattern : List ℕ} {reference : ℕ} {values : List ℕ} {used value 
 
   module _ (r : Bool) (environment' links' : List ℕ) (m : Matched (var next_after) values used other_after environment links r environment' links') where
     pub turn_taken : r ≡ true
-        → Turn pattern reference values used value environment₀ links₀ stack₀ environment' links' stack_after depth next_after other_after waiting
+        → Turn pattern reference values used value environment₀ links₀ stack₀ environment' links' stack_after depth next other waiting
     turn_taken e =
-        subst (λ (b : Bool). Turn pattern reference values used value environment₀ links₀ stack₀ environment' links' stack_after depth next_after other_after b) (sym q)
+        subst (λ (b : Bool). Turn pattern reference values used value environment₀ links₀ stack₀ environment' links' stack_after depth next other b) (sym q)
         (turn_variable (turn_next h q n o) refl v r environment' links' m e)

@@ -58,40 +58,41 @@ fn bind_node(
     requires { (pattern_room ≤ reference) × BindAsked pattern.now reference values.words.now values.used value environment.old links.old stack.old }
     ensures { Matched (pattern_at pattern.now reference) values.entry.words.now values.entry.used value environment.old links.old result environment.new links.new }
 {
-    // A row of the stack is an open node: the addresses of its next argument in the pattern and in the value, and how many are left. The node `next` is to
-    // fit `other` if `waiting`.
+    // A row of the stack is an open node: the addresses of its next argument in the pattern and in the value, and how many are left. `waiting` is a node, by
+    // its reference, and the value that it is to fit.
     let mut depth: usize = 0;
-    let mut next = reference;
-    let mut other = value;
-    let mut waiting = true;
+    let mut waiting = Some((reference, value));
     loop {
-        if waiting {
-            waiting = false;
-            let address = next - PATTERN_ROOM;
-            let header = pattern[address as usize];
-            if header != values.words[other as usize] {
-                return false;
+        match waiting {
+            Some((next, other)) => {
+                waiting = None;
+                let address = next - PATTERN_ROOM;
+                let header = pattern[address as usize];
+                if header != values.words[other as usize] {
+                    return false;
+                }
+                stack[depth] = [address + 1, other + 1, header % SYMBOL_STEP];
+                depth += 1;
             }
-            stack[depth] = [address + 1, other + 1, header % SYMBOL_STEP];
-            depth += 1;
-        } else {
-            if depth == 0 {
-                return true;
-            }
-            let row = depth - 1;
-            let [at, across, left] = stack[row];
-            if left == 0 {
-                depth -= 1;
-            } else {
-                stack[row] = [at + 1, across + 1, left - 1];
-                next = pattern[at as usize];
-                other = values.words[across as usize];
-                if next < PATTERN_ROOM {
-                    if !take(values, other, environment, next, links) {
-                        return false;
-                    }
+            None => {
+                if depth == 0 {
+                    return true;
+                }
+                let row = depth - 1;
+                let [at, across, left] = stack[row];
+                if left == 0 {
+                    depth -= 1;
                 } else {
-                    waiting = true;
+                    stack[row] = [at + 1, across + 1, left - 1];
+                    let next = pattern[at as usize];
+                    let other = values.words[across as usize];
+                    if next < PATTERN_ROOM {
+                        if !take(values, other, environment, next, links) {
+                            return false;
+                        }
+                    } else {
+                        waiting = Some((next, other));
+                    }
                 }
             }
         }
