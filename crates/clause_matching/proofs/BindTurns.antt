@@ -18,6 +18,7 @@ use Rattle.arena.specs.Rows.{Rows, column}
 use Rattle.resolution.specs.Search.{words}
 use Rattle.evaluation.specs.Matching.{Fitted, misfit, fitted, if_fitted, bind_of}
 use Rattle.clause_matching.specs.Stored.{Value, Holds, pattern_at, value_at}
+use Rattle.clause_matching.specs.Choice.{Referable}
 use Rattle.clause_matching.specs.Matching.{Says, Lent, Matched, BindAsked}
 use Rattle.clause_matching.proofs.Open.{unmet, pending, Row, words_append, size_append, args_count, unmet_put, bind_append, bind_uneven, bind_alone}
 
@@ -110,6 +111,15 @@ module _ {pattern : List ℕ} {reference : ℕ} {values : List ℕ} {used value 
   module _ (q : waiting ≡ true) where
     abbrev here : Turn pattern reference values used value environment₀ links₀ stack₀ environment links stack depth next other true
     here = subst (λ (b : Bool). Turn pattern reference values used value environment₀ links₀ stack₀ environment links stack depth next other b) q h
+
+    -- It may be asked for.
+    pub referable : Referable pattern next
+    referable =
+        let r = h.ahead q in let w = h.asked.patterned.within in let l = h.asked.patterned.low in (
+          λ v. let n = r.node v in omega arith,
+          by_less next pattern_room (λ v t. let z : next < headers = omega arith in z)
+              (λ v t. let n = r.node v in let z : next < headers = omega arith in z),
+        )
 
     -- It is a variable.
     module _ (v : next < pattern_room) where
@@ -438,6 +448,56 @@ module _ {pattern : List ℕ} {reference : ℕ} {values : List ℕ} {used value 
                   let c : bind_of (patterns_left pattern stack depth) (values_left values stack depth) a.γ ≡ whole β = a.comes in
                   record { γ = a.γ; holds = a.holds; comes = ap₂ (λ (ps ts : Terms). bind_of ps ts a.γ) (sym first) (sym first_value) ∙ c };
             }
+
+-- A node waits, by its header and the address of its first argument.
+abbrev pub Waits : List ℕ → ℕ → ℕ → Type 0
+Waits pattern header first = (0 < first) × (header ≡ cells pattern (first - 1))
+
+abbrev pub place_of : ℕ → ℕ
+place_of first = first - 1 + pattern_room
+
+-- What was read at a reference waits there.
+pub read_waits : (pattern : List ℕ) {next header first : ℕ} → pattern_room ≤ next → header ≡ cells pattern (next - pattern_room) → first ≡ next - pattern_room + 1
+    → Waits pattern header first × (place_of first ≡ next)
+read_waits pattern {next} {header} {first} v h f =
+    let e : next - pattern_room ≡ first - 1 = omega arith in
+    ((omega arith, h ∙ ap (cells pattern) e), omega arith)
+
+module _ {pattern : List ℕ} {reference : ℕ} {values : List ℕ} {used value : ℕ} {environment₀ links₀ : List ℕ} {stack₀ : Rows}
+    {environment links : List ℕ} {stack : Rows} {depth header first other : ℕ} {waiting : Bool} (w : Waits pattern header first)
+    (h : Turn pattern reference values used value environment₀ links₀ stack₀ environment links stack depth (place_of first) other waiting) (q : waiting ≡ true) where
+  above : pattern_room ≤ place_of first
+  above = omega arith
+
+  header_is : cells pattern (place_of first - pattern_room) ≡ header
+  header_is = let e : place_of first - pattern_room ≡ first - 1 = omega arith in ap (cells pattern) e ∙ sym w.1
+
+  pub waits_misfits : header ≢ cells values other
+      → Matched (pattern_at pattern reference) values used value environment₀ links₀ false environment links
+  waits_misfits n = node_misfits h q above (λ e. n (sym header_is ∙ e))
+
+  module _ (o : header ≡ cells values other) where
+    abbrev opened_stack : Rows
+    opened_stack = set stack depth (first ∷ (other + 1) ∷ arity_of header ∷ [])
+
+    pub waits_free : depth < length stack
+    waits_free = free_row h q above (header_is ∙ o)
+
+    opened_is : set stack depth ((place_of first - pattern_room + 1) ∷ (other + 1) ∷ arity_of (cells pattern (place_of first - pattern_room)) ∷ []) ≡ opened_stack
+    opened_is =
+        let l = w.0 in
+        let e : place_of first - pattern_room + 1 ≡ first = omega arith in
+        ap₂ (λ (a c : ℕ). set stack depth (a ∷ (other + 1) ∷ arity_of c ∷ [])) e header_is
+
+    pub less_waits : left pattern opened_stack (depth + 1) (place_of first) false < left pattern stack depth (place_of first) waiting
+    less_waits = subst (λ (s : Rows). left pattern s (depth + 1) (place_of first) false < left pattern stack depth (place_of first) waiting) opened_is
+        (less_enter h q above (header_is ∙ o))
+
+    pub turn_waits : {next' other' : ℕ}
+        → Turn pattern reference values used value environment₀ links₀ stack₀ environment links opened_stack (depth + 1) next' other' false
+    turn_waits {next'} {other'} =
+        subst (λ (s : Rows). Turn pattern reference values used value environment₀ links₀ stack₀ environment links s (depth + 1) next' other' false) opened_is
+        (turn_enter h q above (header_is ∙ o))
 
 -- The next argument is taken, and it is a variable: both steps at once.
 module _ {pattern : List ℕ} {reference : ℕ} {values : List ℕ} {used value : ℕ} {environment₀ links₀ : List ℕ} {stack₀ : Rows}

@@ -1,14 +1,15 @@
 // Patterns against values: the Rust's `bind`. Values are stored terms with room for no variable, so that a reference is an address. An environment has a number
 // for each variable of a clause: 0 for none, else 1 + the reference of its value.
 // Stays: tried with `Option<u32>`: 512 bytes are then cleared for each clause in place of 256, and evaluating `mul 60 60` takes an eighth longer.
-ghost use Rattle.std.specs.Prelude.{◌≤◌, ◌<◌};
+ghost use Rattle.std.specs.Prelude.{◌≡◌, ◌+◌, ◌-◌, ◌<◌};
 ghost use Rattle.terms.specs.Term.{var};
+ghost use Rattle.arena.specs.Cells.{cells};
 ghost use Rattle.arena.specs.Copies.{pattern_room};
 ghost use Rattle.clause_matching.specs.Stored.{pattern_at};
 ghost use Rattle.clause_matching.specs.Matching.{Lent, Matched, BindAsked};
 
 use super::references::{Pattern, pattern_at};
-use arena::{PATTERN_ROOM, SYMBOL_STEP, Terms};
+use arena::{SYMBOL_STEP, Terms};
 
 // Values: words of stored terms, of which so many are in use.
 // Stays: the value in question and the environment go beside them; values are only read, and these change at each step.
@@ -44,34 +45,35 @@ fn take(
     arena::equal(terms, links, old, value)
 }
 
-// As `bind`, of a pattern that is a node.
+// As `bind`, of a pattern that is a node, by its header and the address of its first argument.
 // Stays: as at `bind`, of the environment, links and stack.
 fn bind_node(
     pattern: &[u32],
-    reference: u32,
+    header: u32,
+    first: u32,
     values: Values,
     value: u32,
     environment: &mut [u32],
     links: &mut [u32],
     stack: &mut [[u32; 3]],
 ) -> bool
-    requires { (pattern_room ≤ reference) × BindAsked pattern.now reference values.words.now values.used value environment.old links.old stack.old }
-    ensures { Matched (pattern_at pattern.now reference) values.entry.words.now values.entry.used value environment.old links.old result environment.new links.new }
+    requires { (0 < first) × (header ≡ cells pattern.now (first - 1))
+        × BindAsked pattern.now (first - 1 + pattern_room) values.words.now values.used value environment.old links.old stack.old }
+    ensures { Matched (pattern_at pattern.now (first - 1 + pattern_room)) values.entry.words.now values.entry.used value
+        environment.old links.old result environment.new links.new }
 {
-    // A row of the stack is an open node: the addresses of its next argument in the pattern and in the value, and how many are left. `waiting` is a node, by
-    // its reference, and the value that it is to fit.
+    // A row of the stack is an open node: the addresses of its next argument in the pattern and in the value, and how many are left. `waiting` is a node,
+    // by its header and the address of its first argument, and the value that it is to fit.
     let mut depth: usize = 0;
-    let mut waiting = Some((reference, value));
+    let mut waiting = Some((header, first, value));
     loop {
         match waiting {
-            Some((next, other)) => {
+            Some((wanted, inner, other)) => {
                 waiting = None;
-                let address = next - PATTERN_ROOM;
-                let header = pattern[address as usize];
-                if header != values.words[other as usize] {
+                if wanted != values.words[other as usize] {
                     return false;
                 }
-                stack[depth] = [address + 1, other + 1, header % SYMBOL_STEP];
+                stack[depth] = [inner, other + 1, wanted % SYMBOL_STEP];
                 depth += 1;
             }
             None => {
@@ -84,14 +86,16 @@ fn bind_node(
                     depth -= 1;
                 } else {
                     stack[row] = [at + 1, across + 1, left - 1];
-                    let next = pattern[at as usize];
                     let other = values.words[across as usize];
-                    if next < PATTERN_ROOM {
-                        if !take(values, other, environment, next, links) {
-                            return false;
+                    match pattern_at(pattern, pattern[at as usize]) {
+                        Pattern::Variable { index } => {
+                            if !take(values, other, environment, index, links) {
+                                return false;
+                            }
                         }
-                    } else {
-                        waiting = Some((next, other));
+                        Pattern::Node { header, first } => {
+                            waiting = Some((header, first, other));
+                        }
                     }
                 }
             }
@@ -116,9 +120,17 @@ pub fn bind(
 {
     match pattern_at(pattern, reference) {
         Pattern::Variable { index } => take(values, value, environment, index, links),
-        Pattern::Node {
-            header: _,
-            first: _,
-        } => { bind_node(pattern, reference, values, value, environment, links, stack) }
+        Pattern::Node { header, first } => {
+            bind_node(
+                pattern,
+                header,
+                first,
+                values,
+                value,
+                environment,
+                links,
+                stack,
+            )
+        }
     }
 }
