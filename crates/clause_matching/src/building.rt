@@ -3,7 +3,6 @@ ghost use Rattle.std.specs.Prelude.{suc, ◌+◌, ◌≤◌, ◌<◌, length};
 ghost use Rattle.arena.specs.Copies.{pattern_room};
 ghost use Rattle.clause_matching.specs.Building.{Pushed, InstantiateAsked, Instantiated, ArgumentsAsked, ArgumentsBuilt};
 
-use super::references::{Pattern, pattern_at};
 use arena::{PATTERN_ROOM, SYMBOL_STEP};
 use refusals::Refusal;
 
@@ -101,21 +100,17 @@ pub fn instantiate(
     requires { InstantiateAsked pattern.now reference environment.now words.old room.used room.limit stack.old }
     ensures { Instantiated pattern.now reference environment.now words.old room.used room.limit result words.new }
 {
-    match pattern_at(pattern, reference) {
-        Pattern::Variable { index } => {
-            let value = environment[index as usize]
-                .checked_sub(1)
-                .ok_or(Refusal::Unbound)?;
-            Ok(Built {
-                value,
-                used: room.used,
-            })
-        }
-        Pattern::Node {
-            header: _,
-            first: _,
-        } => { instantiate_node(pattern, reference, environment, words, room, stack) }
+    // Stays: tried by `pattern_at`: registers are saved for variables too, and reverse 25 took 47.2 us in place of 45.8, 4.9 times the Rust where 5 is asked.
+    if reference < PATTERN_ROOM {
+        let value = environment[reference as usize]
+            .checked_sub(1)
+            .ok_or(Refusal::Unbound)?;
+        return Ok(Built {
+            value,
+            used: room.used,
+        });
     }
+    instantiate_node(pattern, reference, environment, words, room, stack)
 }
 
 // The arguments of a pattern's node from the address `first` on, one for each place of `values`, built from left to right: how many words are then used. Their
