@@ -11,6 +11,7 @@ use super::tables::enter;
 use arena::Terms;
 
 // Marks y and puts it at the queue's end, unless it is marked; the queue has t entries. Nothing of the terms is read: they serve the contract.
+// Stays: tried as methods of a struct of the marks and the queue's end: that the marks `occurs` leaves are those written behind the struct did not close.
 // Stays: the marks of all references stand in the rows beside the queue, so that no part up to the queue's end can be lent.
 pub fn visit(terms: Terms, marks: &mut [[u32; 2]], t: u32, y: u32) -> u32
     requires fact_1 { Entries marks.old (terms.room + terms.used) t }
