@@ -100,7 +100,7 @@ pub fn instantiate(
     requires { InstantiateAsked pattern.now reference environment.now words.old room.used room.limit stack.old }
     ensures { Instantiated pattern.now reference environment.now words.old room.used room.limit result words.new }
 {
-    // Stays: tried by `pattern_at`: registers are saved for variables too, and reverse 25 took 47.2 us in place of 45.8, 4.9 times the Rust where 5 is asked.
+    // Stays: tried by `pattern_at`: registers are saved for variables too; reverse 25 took 44.1 us for 42.6, or 47.2 for 45.8, 4.9 times the Rust, not 5.
     if reference < PATTERN_ROOM {
         let value = environment[reference as usize]
             .checked_sub(1)
