@@ -87,10 +87,10 @@ fn finish(
     ensures { Finishes out.old top from.top calls.old from.end from.number word.start word.size args from.next out.new calls.new result }
 {
     let Place {
-        next,
         top: last,
         end,
         number,
+        ..
     } = from;
     if number == CALLS {
         return None;
@@ -108,10 +108,10 @@ fn finish(
     calls[stop] = [names::RESULT, place, n, 0];
     out[top] = [names::RESULT, place, n, 0];
     Some(Place {
-        next,
         top: top + 1,
         end: stop + 1,
         number: number + 1,
+        ..from
     })
 }
 
@@ -130,10 +130,7 @@ pub fn flatten(
     let at = from.next;
     let top = from.top;
     // No term stands past the last row, so that any answer serves there.
-    if rows.len() <= at {
-        return None;
-    }
-    let row = rows[at];
+    let row = *rows.get(at)?;
     let n = arity(row[0], row[3]);
     out[top] = row;
     let mut place = Place {

@@ -46,17 +46,13 @@ pub fn enter(
     match names::find_at(text, &variables[..count], kind, Word { start, size }) {
         Some(index) => {
             let old = variables[index][SORT];
+            if old != 0 && sort != 0 && old != sort {
+                return Err(Refusal::TwoSorts);
+            }
             if old == 0 {
                 variables[index][SORT] = sort;
-                return Ok(EnteredVariable { index, count });
             }
-            if sort == 0 {
-                return Ok(EnteredVariable { index, count });
-            }
-            if old == sort {
-                return Ok(EnteredVariable { index, count });
-            }
-            Err(Refusal::TwoSorts)
+            Ok(EnteredVariable { index, count })
         }
         None => {
             if count < VARIABLES {
@@ -103,17 +99,13 @@ fn variable(
     ensures made_placed { MadePlaced (λ _. LiesAt (column row 0) (column row 1) (column row 2)) variables.old from.variables result variables.new }
 {
     let entered = enter(text, variables, from.variables, row, want)?;
-    if from.room == 0 {
-        return Err(Refusal::Full);
-    }
-    let room = from.room - 1;
+    let room = from.room.checked_sub(1).ok_or(Refusal::Full)?;
     Ok(CompiledTerm {
         node: entered.index as u32,
         place: Place {
-            next: from.next,
             variables: entered.count,
-            used: from.used,
             room,
+            ..from
         },
     })
 }
@@ -172,11 +164,8 @@ fn numeral_misfit(
     let mut m = room;
     for _k in 0..n {
         misfit(&symbols[succ], s, 1)?;
-        if m == 0 {
-            return Err(Refusal::Full);
-        }
+        m = m.checked_sub(1).ok_or(Refusal::Full)?;
         s = symbols[succ][FIRST_INPUT];
-        m -= 1;
     }
     misfit(&symbols[zero], s, 0)?;
     if m == 0 {
@@ -194,13 +183,11 @@ fn numeral_words(words: &mut [u32], used: usize, numerals: NumeralSymbols, n: us
     let NumeralSymbols { zero, succ } = numerals;
     words[used] = arena::header_of(zero, 0);
     let h = arena::header_of(succ, 1);
-    let mut u = used + 1;
     let mut r = PATTERN_ROOM + (used as u32);
-    for _k in 0..n {
-        words[u] = h;
-        words[u + 1] = r;
-        r = PATTERN_ROOM + (u as u32);
-        u += 2;
+    for k in 0..n {
+        let u = (used + 1 + 2 * k) as u32;
+        arena::push_node(words, u, h, &[r]);
+        r = PATTERN_ROOM + u;
     }
     r
 }
@@ -231,10 +218,9 @@ fn numeral(
     Ok(CompiledTerm {
         node: r,
         place: Place {
-            next: from.next,
-            variables: from.variables,
             used: from.used + 1 + 2 * n,
             room: from.room - 1 - n,
+            ..from
         },
     })
 }
@@ -258,10 +244,7 @@ pub fn pattern(
         rows,
         symbols,
     } = source;
-    if rows.len() <= from.next {
-        return Err(Refusal::UnknownSymbol);
-    }
-    let row = rows[from.next];
+    let row = *rows.get(from.next).ok_or(Refusal::UnknownSymbol)?;
     let [kind, start, size, more] = row;
     let behind = Place {
         next: from.next + 1,
@@ -301,12 +284,9 @@ fn node(
 {
     let symbols = source.symbols;
     misfit(&symbols[i], want, arguments)?;
-    if from.room == 0 {
-        return Err(Refusal::Full);
-    }
     let mut refs = [0u32; INPUTS as usize];
     let mut place = Place {
-        room: from.room - 1,
+        room: from.room.checked_sub(1).ok_or(Refusal::Full)?,
         ..from
     };
     for (k, sort) in symbols[i][FIRST_INPUT..FIRST_INPUT + arguments]

@@ -99,17 +99,11 @@ fn are_columns(rule: &RuleRow, sorts: u32) -> bool
     are_sorts(&rule[FIRST_SORT..FIRST_SORT + variables], sorts)
 }
 
-// Whether references are of the part of the words from `from` up to `middle`.
-fn are_roots(words: &[u32], from: u32, middle: u32, references: &[u32]) -> bool
-    requires { (from ≤ middle) × (middle ≤ length words.now) × (pattern_room + middle ≤ headers) }
-    ensures { Tells result (EachIndex references.now (λ k. is_argument (place_from words.now from) middle (slice_index references.now k) ≡ true)) }
+// Whether references are of the part of the words in use from `from` on.
+fn are_roots(terms: Terms, from: u32, references: &[u32]) -> bool
+    requires { terms.used ≤ length terms.words.now }
+    ensures { Tells result (EachIndex references.now (λ k. is_argument (record { words = terms.entry.words.now; room = terms.entry.room; variables = terms.entry.variables; from = from }) terms.entry.used (slice_index references.now k) ≡ true)) }
 {
-    let terms = Terms {
-        words,
-        room: PATTERN_ROOM,
-        variables: PATTERN_ROOM,
-        used: middle,
-    };
     references
         .iter()
         .all(|reference| arena::is_argument(terms, from, *reference))
@@ -146,12 +140,7 @@ fn are_parts(arities: &[u32], rule: PlacedRule) -> bool
     if !arena::check_words(premises, from, arities) {
         return false;
     }
-    if !are_roots(
-        words,
-        from,
-        middle,
-        &row[FIRST_PREMISE..FIRST_PREMISE + row[PREMISES] as usize],
-    ) {
+    if !are_roots(premises, from, rules::premises(row)) {
         return false;
     }
     let all = Terms {
@@ -172,7 +161,7 @@ fn walk_premises(words: &[u32], rule: &RuleRow, places: &mut Places, stack: &mut
 {
     let size = rule[PREMISE_WORDS];
     let mut spent = 0;
-    for reference in &rule[FIRST_PREMISE..FIRST_PREMISE + rule[PREMISES] as usize] {
+    for reference in rules::premises(rule) {
         let Some(taken) = places.meet(words, *reference, size - spent, stack) else {
             return false;
         };
@@ -185,7 +174,7 @@ fn walk_premises(words: &[u32], rule: &RuleRow, places: &mut Places, stack: &mut
 fn are_placed(words: &[u32], places: &Places) -> bool
     ensures { Tells result (EachIndex words.now (λ k. PlacedWord places.now.places (slice_index words.now k))) }
 {
-    words.iter().all(|word| *word >= PATTERN_ROOM || places.places[*word as usize] != None)
+    words.iter().all(|word| *word >= PATTERN_ROOM || places.places[*word as usize].is_some())
 }
 
 // Whether the terms of a row take the words that it counts, and its variables are numbered in writing order. The stack is scratch.
@@ -198,7 +187,7 @@ fn is_in_order(rule: PlacedRule, stack: &mut [[u32; 2]]) -> bool
         words,
         from,
         middle,
-        end: _,
+        ..
     } = rule;
     let mut places = Places::new();
     if !walk_premises(words, row, &mut places, stack) {
@@ -242,9 +231,9 @@ fn is_in_places(rule: PlacedRule, stack: &mut [[u32; 2]]) -> bool
     let PlacedRule {
         row,
         words,
-        from: _,
         middle,
         end,
+        ..
     } = rule;
     let mut places = Places::new();
     places.meet(words, row[CONCLUSION], MOST, stack);
@@ -254,8 +243,7 @@ fn is_in_places(rule: PlacedRule, stack: &mut [[u32; 2]]) -> bool
     if !are_placed(&words[middle as usize..end as usize], &places) {
         return false;
     }
-    let premises = &row[FIRST_PREMISE..FIRST_PREMISE + row[PREMISES] as usize];
-    places.meet_back(words, premises, MOST, stack);
+    places.meet_back(words, rules::premises(row), MOST, stack);
     are_places(row, &places)
 }
 
