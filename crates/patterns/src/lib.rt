@@ -27,7 +27,7 @@ pub struct EnteredVariable {
 }
 
 // The number of the variable that a row names, entered if it is new. Its sort (0: not known) is checked, and set where it was not known.
-// Stays: the sort is a column of the symbols' rows, which C callers lend with 0 for none, and goes into a column of the variable's row.
+// Stays: a variable's row holds 0 for a sort not known, and `pattern` has 0 for a judgment; an `Option` would be made of the one and be the other again.
 // Stays: callers may lend a longer table, and an array in its place would ask for exactly 64 rows.
 // Stays: a new variable's row is written just behind the `count` rows in use, which a slice of those alone would not reach.
 pub fn enter(
