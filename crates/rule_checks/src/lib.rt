@@ -80,7 +80,6 @@ pub fn are_sorts(columns: &[u32], sorts: u32) -> bool
 }
 
 // Whether the columns of a row are in form.
-// Stays: a ghost field of `PlacedRule` for these counts would be proved in `check_rule` alone, where the contracts of the tests say it now.
 fn are_columns(rule: &RuleRow, sorts: u32) -> bool
     requires { (column rule.now 3 ≤ 64) × (column rule.now 4 ≤ 16) }
     ensures { Tells result (Columns sorts rule.now) }
@@ -109,7 +108,7 @@ fn are_roots(terms: Terms, from: u32, references: &[u32]) -> bool
         .all(|reference| arena::is_argument(terms, from, *reference))
 }
 
-// A rule's row and its words: those of its premises from `from` up to `middle`, and those of its conclusion from there up to `end`.
+// A rule's row and its words: those of its premises from `from` up to `middle`, and those of its conclusion from there up to `end`, as the row counts them.
 #[derive(Clone, Copy)]
 struct PlacedRule<'a> {
     row: &'a RuleRow,
@@ -117,11 +116,13 @@ struct PlacedRule<'a> {
     from: u32,
     middle: u32,
     end: u32,
+    ghost counted: { OrderAsked from middle end row.now },
+    ghost few: { column row.now 4 ≤ 16 },
+    ghost lent: { (end ≤ length words.now) × (pattern_room + end ≤ headers) },
 }
 
 // Whether the words of premises and conclusion are in form, and the references of the row are theirs.
 fn are_parts(arities: &[u32], rule: PlacedRule) -> bool
-    requires { (column rule.row.now 4 ≤ 16) × (rule.from ≤ rule.middle) × (rule.middle ≤ rule.end) × (rule.end ≤ length rule.words.now) × (pattern_room + rule.end ≤ headers) }
     ensures { Tells result (Parts arities.now rule.entry.words.now rule.entry.from rule.entry.middle rule.entry.end rule.entry.row.now) }
 {
     let PlacedRule {
@@ -179,7 +180,7 @@ fn are_placed(words: &[u32], places: &Places) -> bool
 
 // Whether the terms of a row take the words that it counts, and its variables are numbered in writing order. The stack is scratch.
 fn is_in_order(rule: PlacedRule, stack: &mut [[u32; 2]]) -> bool
-    requires { OrderAsked rule.from rule.middle rule.end rule.row.now × Walkable rule.words.now rule.end rule.row.now × (2048 ≤ length stack.old) }
+    requires { Walkable rule.words.now rule.end rule.row.now × (2048 ≤ length stack.old) }
     ensures { Tells result (InOrder rule.entry.words.now rule.entry.from rule.entry.row.now) }
 {
     let PlacedRule {
@@ -225,7 +226,7 @@ fn are_places(rule: &RuleRow, places: &Places) -> bool
 
 // Whether a row has the variables of its conclusion counted and the places of all in meeting order. The stack is scratch.
 fn is_in_places(rule: PlacedRule, stack: &mut [[u32; 2]]) -> bool
-    requires { OrderAsked rule.from rule.middle rule.end rule.row.now × Walkable rule.words.now rule.end rule.row.now × InOrder rule.words.now rule.from rule.row.now × (2048 ≤ length stack.old) }
+    requires { Walkable rule.words.now rule.end rule.row.now × InOrder rule.words.now rule.from rule.row.now × (2048 ≤ length stack.old) }
     ensures { Tells result (InPlaces rule.entry.words.now rule.entry.from rule.entry.row.now) }
 {
     let PlacedRule {
