@@ -251,7 +251,7 @@ fn is_in_places(rule: PlacedRule, stack: &mut [[u32; 2]]) -> bool
 // Tests a rule, whose words start at `from`; `used` words are in use, and there are so many sorts. Answers where the rule's words end, if row and words
 // are in form. The stack is scratch, lent once for all rules: laying one out takes longer than the walk through a small rule.
 // Stays: callers may lend a longer stack, and an array in its place would ask for exactly 2,048 rows.
-// Stays: the contract speaks of the whole table, as the callers' do; of `&words[..used]` each caller would have to prove it for the whole table again.
+// Stays: `from` is a place in the whole table, of which the contract speaks, as its one caller's does; of `&words[..used]` that one would prove it again.
 pub fn check_rule(
     text: &[u8],
     arities: &[u32],

@@ -276,7 +276,7 @@ fn keep(
 }
 
 // Where a rule is entered: its number, and the space for its words.
-// Stays: words and rules go beside the place; a struct of the two buffers would be made anew at each call, and each contract would say they come back.
+// Stays: words and rules go apart from the place; of a struct that lends both, each contract from here to `declarations` would say that both come back.
 #[derive(Clone, Copy)]
 pub struct RulePlace {
     pub number: usize,
