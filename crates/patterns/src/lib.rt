@@ -5,6 +5,7 @@
 
 ghost use Rattle.std.specs.Prelude.{◌≡◌, List, [], ◌∷◌, ℕ, ◌+◌, ◌*◌, ◌≤◌, ◌<◌, length};
 ghost use Rattle.names.specs.Names.{name_of};
+ghost use Rattle.names.specs.Named.{symbols_named};
 ghost use Rattle.names.specs.Symbols.{column, row_at, symbol_of, symbols_of, variables_of};
 ghost use Rattle.patterns.specs.Patterns.{enter as enterOf, counted, misfit as misfitOf};
 ghost use Rattle.patterns.specs.Laying.{lay, laid};
@@ -210,7 +211,7 @@ fn numeral(
     from: Place,
 ) -> Result<CompiledTerm, Refusal>
     requires { (length source.symbols.now ≤ 1024) × (from.variables ≤ 64) × (from.used + 2 * from.room ≤ length words.old) × (from.used + 2 * from.room ≤ 65536) }
-    ensures { Numbered source.entry.text.now (symbols_of source.entry.text.now source.entry.symbols.now (length source.entry.symbols.now)) n want from.variables from.next words.old from.used from.room result words.new }
+    ensures { Numbered source.entry.text.now (symbols_named source.entry) n want from.variables from.next words.old from.used from.room result words.new }
 {
     let numerals = NumeralSymbols::find(source.text, source.symbols)?;
     numeral_misfit(source.symbols, numerals, n, want, from.room)?;
@@ -237,7 +238,7 @@ pub fn pattern(
     from: Place,
 ) -> Result<CompiledTerm, Refusal>
     requires { Ready source.symbols.now (length source.symbols.now) variables.old from.variables words.old from.used from.room }
-    ensures { Compiled source.entry.text.now source.entry.rows.now from.next (symbols_of source.entry.text.now source.entry.symbols.now (length source.entry.symbols.now)) want variables.old from.variables words.old from.used from.room result variables.new words.new }
+    ensures { Compiled source.entry.text.now source.entry.rows.now from.next (symbols_named source.entry) want variables.old from.variables words.old from.used from.room result variables.new words.new }
 {
     let SourceTerms {
         text,
@@ -280,7 +281,7 @@ fn node(
     from: Place,
 ) -> Result<CompiledTerm, Refusal>
     requires { (Ready source.symbols.now (length source.symbols.now) variables.old from.variables words.old from.used from.room) × ((i < length source.symbols.now) × (from.next ≤ length source.rows.now)) }
-    ensures { NodeMade source.entry.text.now source.entry.rows.now from.next arguments (symbols_of source.entry.text.now source.entry.symbols.now (length source.entry.symbols.now)) i want variables.old from.variables words.old from.used from.room result variables.new words.new }
+    ensures { NodeMade source.entry.text.now source.entry.rows.now from.next arguments (symbols_named source.entry) i want variables.old from.variables words.old from.used from.room result variables.new words.new }
 {
     let symbols = source.symbols;
     misfit(&symbols[i], want, arguments)?;
@@ -317,7 +318,7 @@ pub fn judgments(
     from: Place,
 ) -> Result<Place, Refusal>
     requires { Ready source.symbols.now (length source.symbols.now) variables.old from.variables words.old from.used from.room }
-    ensures { Judged source.entry.text.now source.entry.rows.now from.next (length heads.old) (symbols_of source.entry.text.now source.entry.symbols.now (length source.entry.symbols.now)) variables.old from.variables words.old from.used from.room result variables.new words.new heads.new }
+    ensures { Judged source.entry.text.now source.entry.rows.now from.next (length heads.old) (symbols_named source.entry) variables.old from.variables words.old from.used from.room result variables.new words.new heads.new }
 {
     let mut place = from;
     for head in heads {
