@@ -1,5 +1,5 @@
 // The clauses of functions: the test that each concludes in its own function and calls only functions. It reads headers alone.
-ghost use Rattle.std.specs.Prelude.{◌≡◌, List, ℕ, ◌≤◌, ◌<◌, length, get_or};
+ghost use Rattle.std.specs.Prelude.{◌≡◌, List, ℕ, ◌≤◌, ◌<◌, length, get_or, eqb};
 ghost use Rattle.terms.specs.Term.{Terms, app};
 ghost use Rattle.arena.specs.Cells.{symbol_of, terms_of};
 ghost use Rattle.meeting.specs.Contract.{term_of};
@@ -47,7 +47,11 @@ fn is_call(words: &[u32], reference: u32, symbols: &[SymbolRow]) -> bool
     let Some(i) = node_symbol(words, reference) else {
         return false;
     };
-    symbols.get(i).is_some_and(|symbol| symbol[MARK] == FUNCTION)
+    symbols.get(i).is_some_and(
+        |symbol|
+            ensures { result ≡ eqb (column symbol.now 3) 1 }
+        { symbol[MARK] == FUNCTION },
+    )
 }
 
 // Are all premises of a rule calls?
