@@ -31,7 +31,7 @@ const NAMES: usize = SORTS + SYMBOLS;
 const WORDS: usize = 65536;
 
 // How much is stored of each kind.
-#[derive(Clone, Copy)]
+#[derive(Clone, Copy, Default)]
 pub struct Counts {
     pub sorts: u32,
     pub symbols: u32,
