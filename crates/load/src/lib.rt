@@ -82,10 +82,8 @@ fn enter_all(
             rows,
             at: progress.next,
         };
-        match declarations::declare(source, sorts, symbols, store, progress.state) {
-            Ok(further) => progress = further,
-            Err(refusal) => return Err(Rejection { refusal, line }),
-        }
+        progress = declarations::declare(source, sorts, symbols, store, progress.state)
+            .map_err(|refusal| Rejection { refusal, line })?;
     }
     Ok(Entered {
         state: progress.state,

@@ -7,14 +7,8 @@ ghost use Rattle.std.specs.Prelude.{◌≡◌, replicate};
 ghost use Rattle.load_storage.specs.Storage.{cleared_from, too_short, SignatureCleared, ScratchCleared, Wiped};
 ghost use Rattle.load_storage.specs.Lent.{buffers_of, IsLent};
 
-use names::{SortRow, SymbolRow, TermRow};
+use names::{SORTS, SYMBOLS, SortRow, SymbolRow, TermRow};
 use rules::{RULES, RuleRow};
-
-// How many sorts and symbols there may be.
-// Stays: `loader` names these numbers too, but it is not below this crate.
-const SORTS: usize = 256;
-
-const SYMBOLS: usize = 1024;
 
 // An `#eval` that waits: its line, and the row of its term.
 pub type EvalRow = [u32; 2];
@@ -34,7 +28,7 @@ pub struct LentBuffers<'a> {
 
 // How much of a signature's storage is in use.
 // Stays: `leave` serves counts of any size; those of `signature::Counts` have 32 bits, so that it would promise less.
-#[derive(Clone, Copy)]
+#[derive(Clone, Copy, Default)]
 pub struct Used {
     pub sorts: usize,
     pub symbols: usize,
@@ -71,13 +65,7 @@ pub fn leave_nothing(buffers: &mut LentBuffers)
     ensures lent { IsLent buffers.old buffers.new }
 {
     clear_rows(buffers.rows, 0);
-    let none = Used {
-        sorts: 0,
-        symbols: 0,
-        rules: 0,
-        words: 0,
-    };
-    leave(buffers, none, 0);
+    leave(buffers, Used::default(), 0);
 }
 
 // Are these buffers shorter than docs/STORAGE.md lists?

@@ -23,9 +23,7 @@ use refusals::Refusal;
 use rules::{RulePlace, RuleRow, SourceRule, Title};
 
 // How many sorts and symbols there may be.
-pub const SORTS: usize = 256;
-
-pub const SYMBOLS: usize = 1024;
+pub use names::{SORTS, SYMBOLS};
 
 // The names that there are: the rows of the sorts and symbols in use, and the text in which their names stand.
 #[derive(Clone, Copy)]
@@ -139,8 +137,8 @@ pub fn find_arrow(part: Part, sorts: &[SortRow], inputs: &mut [u32]) -> Option<u
     let Part { source, k } = part;
     let Source { text, rows, at } = source;
     let mut last = 0;
-    for i in 0..k {
-        let word = Word::behind_kind(&rows[at + i]);
+    for (i, row) in rows[at..at + k].iter().enumerate() {
+        let word = Word::behind_kind(row);
         let s = names::find(text, sorts, names::part(text, word))?;
         last = s as u32 + 1;
         slices::put(inputs, i, last);
@@ -171,27 +169,24 @@ impl Kind {
     fn head(self, word: Word, last: u32) -> SymbolHead
         ensures { result ≡ record { word = word; output = cond (is_constructor self) last 0; function = mark_in self; first = first_in self; clauses = clauses_in self } }
     {
+        let plain = SymbolHead {
+            word,
+            output: 0,
+            function: NO_FUNCTION,
+            first: 0,
+            clauses: 0,
+        };
         match self {
             Kind::Constructor => SymbolHead {
-                word,
                 output: last,
-                function: NO_FUNCTION,
-                first: 0,
-                clauses: 0,
+                ..plain
             },
-            Kind::Predicate => SymbolHead {
-                word,
-                output: 0,
-                function: NO_FUNCTION,
-                first: 0,
-                clauses: 0,
-            },
+            Kind::Predicate => plain,
             Kind::Function { first, clauses } => SymbolHead {
-                word,
-                output: 0,
                 function: FUNCTION,
                 first,
                 clauses,
+                ..plain
             },
         }
     }

@@ -19,6 +19,11 @@ pub type SortRow = [u32; 2];
 // A symbol: start, length, output, function mark, first clause, number of clauses, number of inputs, 0, 16 inputs.
 pub type SymbolRow = [u32; 24];
 
+// How many sorts and symbols there may be.
+pub const SORTS: usize = 256;
+
+pub const SYMBOLS: usize = 1024;
+
 // A source term: kind, start, length, number of arguments or value.
 pub type TermRow = [u32; 4];
 

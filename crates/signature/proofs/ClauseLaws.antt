@@ -4,9 +4,15 @@ use Prim.Native.Nat.{ℕ, zero, suc, ◌+◌, ◌-◌, ◌≤◌, ◌<◌}
 use native.Mathlib.Omega.{arith}
 use mathlib.Core.Path.{◌≡◌, refl, sym, ap, ◌∙◌, subst}
 use mathlib.Core.List.{List, [], ◌∷◌}
+use mathlib.Core.Bool.{Bool, false}
 use lib.ListN.{length, get_or}
 use lib.Dec.{eqb}
-use borrow.Author.Tests.{eqb-true, eq-eqb}
+use borrow.Author.Tests.{eqb-true, eq-eqb, ltb-true, ltb-false}
+use Rattle.std.proofs.Common.{Option, Some, None, Bor, nat_eq, nat_lt}
+use Rattle.std.specs.Option.{is_some, IfSome, MatchOption, option_eq}
+use Rattle.names.specs.SearchLaws.{get_d_any}
+use Rattle.signature.specs.Parts.{NodeSymbol}
+use Rattle.unifier.specs.Checking.{tells_no}
 use Rattle.terms.specs.Term.{Term, Terms, app}
 use Rattle.terms.specs.TermLaws.{var_app}
 use Rattle.arena.specs.Cells.{headers, symbol_of as headerSymbol, denote, decode_node, denote_variable, cells, terms_of}
@@ -59,6 +65,11 @@ module _ (words : List ℕ) (r : ℕ) where
         back = λ h. eq-eqb s i (e ∙ app_symbol n.1 h.1);
       }
 
+  -- A reference is a node of the symbol i where it has that symbol.
+  pub node_by : (o : Option ℕ) (i : ℕ) → NodeSymbol words r o → Tells (option_eq nat_eq o (Some i)) ((ts : Terms) × (term_of words r ≡ app i ts))
+  node_by None i l = tells_no (λ h. no_node l i h)
+  node_by (Some s) i h = node_told h.0 s i h.1
+
   module _ (symbols : List Symbol) where
     pub no_call : r < pattern_room → Calls symbols (term_of words r) → ⊥
     no_call l h = subst (Calls symbols) (denote_variable pattern_room (cells words) r l) h
@@ -97,6 +108,15 @@ module _ (text words : List ℕ) (r : ℕ) (rows : Rows) (m f : ℕ) (lent : m �
         back = λ h. let p : (symbol_at (symbols_of text rows m) f).function ≡ 1 = rw e (call_is words r (symbols_of text rows m) node h) in
             eq-eqb (column (row_at rows f) 3) 1 (sym a ∙ p);
       }
+
+  -- What is found in its place decides.
+  pub call_by : (found : Option (Bor (List ℕ))) (b : Bool) → m ≡ length rows → is_some found ≡ nat_lt f (length rows) → IfSome found (λ x. x.now ≡ get_or rows f x.now)
+      → MatchOption found (b ≡ false) (λ x. b ≡ eqb (column x.now 3) 1) → Tells b (Calls (symbols_of text rows m) (term_of words r))
+  call_by None b all l is h = rw h (tells_no (past_call (let z : length rows ≤ f = ltb-false _ _ (sym l) in omega arith)))
+  call_by (Some x) b all l is h =
+      let z : f < length rows = ltb-true _ _ (sym l) in
+      let q : x.now ≡ row_at rows f = is ∙ get_d_any rows f _ _ z in
+      rw (h, q) (call_told (omega arith))
 
 -- Premises
 

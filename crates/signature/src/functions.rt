@@ -1,5 +1,5 @@
 // The clauses of functions: the test that each concludes in its own function and calls only functions. It reads headers alone.
-ghost use Rattle.std.specs.Prelude.{◌≡◌, List, ℕ, ◌≤◌, ◌<◌, length, get_or};
+ghost use Rattle.std.specs.Prelude.{◌≡◌, List, ℕ, ◌≤◌, ◌<◌, length, get_or, eqb};
 ghost use Rattle.terms.specs.Term.{Terms, app};
 ghost use Rattle.arena.specs.Cells.{symbol_of, terms_of};
 ghost use Rattle.meeting.specs.Contract.{term_of};
@@ -28,20 +28,15 @@ fn symbol_at(words: &[u32], at: usize) -> usize
 fn node_symbol(words: &[u32], reference: u32) -> Option<usize>
     ensures { NodeSymbol words.now reference result }
 {
-    if reference < PATTERN_ROOM {
-        return None;
-    }
-    Some(symbol_at(words, (reference - PATTERN_ROOM) as usize))
+    let address = reference.checked_sub(PATTERN_ROOM)?;
+    Some(symbol_at(words, address as usize))
 }
 
 // Is the term of a reference a node of the symbol i?
 fn is_node_of(words: &[u32], reference: u32, i: usize) -> bool
     ensures { Tells result ((ts : Terms) × (term_of words.now reference ≡ app i ts)) }
 {
-    match node_symbol(words, reference) {
-        Some(symbol) => symbol == i,
-        None => false,
-    }
+    node_symbol(words, reference) == Some(i)
 }
 
 // Is the term of a reference a call of one of the symbols?
@@ -52,10 +47,11 @@ fn is_call(words: &[u32], reference: u32, symbols: &[SymbolRow]) -> bool
     let Some(i) = node_symbol(words, reference) else {
         return false;
     };
-    match symbols.get(i) {
-        Some(symbol) => symbol[MARK] == FUNCTION,
-        None => false,
-    }
+    symbols.get(i).is_some_and(
+        |symbol|
+            ensures { result ≡ eqb (column symbol.now 3) 1 }
+        { symbol[MARK] == FUNCTION },
+    )
 }
 
 // Are all premises of a rule calls?

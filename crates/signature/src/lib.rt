@@ -3,7 +3,7 @@
 // The entry point is `check_signature`. It asks nothing of its caller.
 #![tactic(auto)]
 
-ghost use Rattle.std.specs.Prelude.{◌≡◌, ℕ, ◌+◌, ◌≤◌, ◌<◌, length, get_or};
+ghost use Rattle.std.specs.Prelude.{◌≡◌, ℕ, ◌+◌, ◌≤◌, ◌<◌, length, take};
 ghost use Rattle.names.specs.Names.{Distinct};
 ghost use Rattle.names.specs.Symbols.{column, row_at, sorts_of, symbols_of};
 ghost use Rattle.unifier.specs.Promises.{Tells};
@@ -20,8 +20,9 @@ use arena::INPUTS;
 pub use columns::ARITY;
 use columns::{CLAUSES, FIRST_CLAUSE, FIRST_INPUT, FREE, MARK, OUTPUT, START};
 use loader::{SORTS, SYMBOLS};
+pub use names::put_column;
 use names::{FUNCTION, NO_FUNCTION, SortRow, SymbolRow, Word};
-use rules::{RULES, RuleRow};
+use rules::{RULE_WORDS, RULES, RuleRow};
 
 // How many names there may be: of sorts and symbols together.
 const NAMES: usize = SORTS + SYMBOLS;
@@ -29,11 +30,8 @@ const NAMES: usize = SORTS + SYMBOLS;
 // How many words there may be: 2 for each of 32,768 nodes.
 const WORDS: usize = 65536;
 
-// The most words of one rule's terms, and so the rows of the stack with which they are walked through.
-const RULE_WORDS: usize = 2048;
-
 // How much is stored of each kind.
-#[derive(Clone, Copy)]
+#[derive(Clone, Copy, Default)]
 pub struct Counts {
     pub sorts: u32,
     pub symbols: u32,
@@ -49,6 +47,16 @@ pub struct StoredSignature<'a> {
     pub rules: &'a [RuleRow],
     pub words: &'a [u32],
     pub counts: Counts,
+}
+
+impl<'a> StoredSignature<'a> {
+    // The rows of the symbols in use.
+    pub fn symbols_in_use(self) -> &'a [SymbolRow]
+        requires { self.counts.symbols ≤ length self.symbols.now }
+        ensures { result.now ≡ take self.entry.counts.symbols self.entry.symbols.now }
+    {
+        &self.symbols[..self.counts.symbols as usize]
+    }
 }
 
 // Are as many rows lent as there may be?
@@ -80,19 +88,8 @@ fn are_sorts_named(text: &[u8], sorts: &[SortRow]) -> bool
         .all(|row| names::is_word_place(text, Word::at_start(row)))
 }
 
-// Writes the numbers in one column of rows.
-// Stays: tried `numbers.iter_mut().zip(rows)`: the loop's invariant can't name the numbers then, and so nothing is known of what was written.
-pub fn put_column<const N: usize>(rows: &[[u32; N]], at: usize, numbers: &mut [u32])
-    requires { (at < N) × (length rows.now ≤ length numbers.old) }
-    ensures { (i : ℕ) → i < length rows.now → get_or numbers.new i 0 ≡ column (row_at rows.now i) at }
-{
-    for (i, row) in rows.iter().enumerate() {
-        numbers[i] = row[at];
-    }
-}
-
 // Writes the places of names: where they start and how long they are, which stand in rows from a column on.
-// Stays: as in `put_column`, nothing would be known of places that were written through `iter_mut().zip(rows)`.
+// Stays: tried `places.iter_mut().zip(rows)`: the loop's invariant can't name the places then, and so nothing is known of what was written.
 pub fn put_places<const N: usize>(rows: &[[u32; N]], at: usize, places: &mut [SortRow])
     requires { (at + 1 < N) × (length rows.now ≤ length places.old) }
     ensures { (i : ℕ) → i < length rows.now → row_at places.new i ≡ place_in (row_at rows.now i) at }
@@ -233,7 +230,7 @@ pub fn check_signature(text: &[u8], signature: StoredSignature) -> bool
         return false;
     }
     let sorts = &signature.sorts[..counts.sorts as usize];
-    let symbols = &signature.symbols[..counts.symbols as usize];
+    let symbols = signature.symbols_in_use();
     let rules = &signature.rules[..counts.rules as usize];
     if !are_sorts_named(text, sorts) {
         return false;

@@ -1,5 +1,10 @@
 -- `enter_all` meets its contract. The loop's invariant: the declarations before the number i are entered, and the others are left from the row `at` on.
-use mathlib.Core.Path.{refl, ◌∙◌}
+use mathlib.Core.Path.{◌≡◌, refl, ◌∙◌}
+use lib.ListN.{take}
+use borrow.Author.Rules.{rules}
+use Rattle.words.proofs.Readings.{mapped_ok, mapped_err}
+use Rattle.names.specs.Symbols.{column, row_at}
+use Rattle.refusals.specs.Refused.{handed_on}
 use Rattle.declarations.specs.Lent.{lent_start, lent_on}
 use Rattle.load.proofs.WalkLaws.{held_none, sofar_start, sofar_declaration, sofar_stops, sofar_on, sofar_end}
 use Rattle.declarations.proofs.DeclarationLaws.{first_row}
@@ -54,14 +59,17 @@ declare-requires c =
       stand = d;
     }
 
-pub returns-in-Err-clause-walked : goal.returns-in-Err-clause-walked
-returns-in-Err-clause-walked c =
+pub returns-in_err-progress-clause-walked : goal.returns-in_err-progress-clause-walked
+returns-in_err-progress-clause-walked c =
     let declare = c.declare in
     let loop = c.loop-i in
-    let loop-test = c.loop-i-test in
-    record {
-      same = λ ds a b t. sofar_stops declare.ensures.declared (loop.invariant.4 ds a b t) loop-test.true c.in-Err.is _ _ _ _ _;
-    }
+    let refused = mapped_err declare.result _ _ _ c.map_err.ensures.cases c.in_err-progress.was in
+    let learnt = refused.2 in
+    let made : c.in_err-progress.field-0.0 ≡ record { refusal = refused.0; line = column (row_at (take c.args.walk.used c.args.rows.now) loop.progress.next) 1 } = search rules in
+    rw (handed_on c.from_residual.result c.from_residual.ensures.1, made)
+    (record {
+      same = λ ds a b t. sofar_stops declare.ensures.declared (loop.invariant.4 ds a b t) c.loop-i-test.true refused.1 _ _ _ _ _;
+    })
 
 pub loop-i-preserved : goal.loop-i-preserved
 loop-i-preserved c =
@@ -73,7 +81,7 @@ loop-i-preserved c =
       declare.auto.symbols ∙ loop.invariant.1,
       note.auto.evals ∙ loop.invariant.2,
       lent_on loop.invariant.3 declare.ensures.lent,
-      λ ds a b t. rw (note.ensures.0, note.ensures.1) (sofar_on declare.ensures.declared {next = c.in-Ok.further.next} {st' = c.in-Ok.further.state} (loop.invariant.4 ds a b t) loop-test.true c.in-Ok.is),
+      λ ds a b t. rw (note.ensures.0, note.ensures.1) (sofar_on declare.ensures.declared {next = c.in_ok-progress.progress.next} {st' = c.in_ok-progress.progress.state} (loop.invariant.4 ds a b t) loop-test.true (mapped_ok declare.result _ _ _ c.map_err.ensures.cases c.in_ok-progress.was)),
     )
 
 pub returns-clause-walked : goal.returns-clause-walked

@@ -6,4 +6,4 @@ use Rattle.loader.proofs.ArrowLaws.{Sofar}
 use Rattle.loader.proofs.find_arrow.Given as goal
 
 abbrev pub invariant-loop-i : goal.invariant-loop-i
-invariant-loop-i l = Sofar (sorts_of l.text l.sorts (length l.sorts)) (names_at l.text l.rows l.at l.i) l.last l.inputs l.i
+invariant-loop-i l = Sofar (sorts_of l.text l.sorts (length l.sorts)) (names_at l.text l.fn.part.source.rows.now l.at l.i) l.last l.inputs l.i
