@@ -1,7 +1,7 @@
 -- `check_rule` meets its contract: it tells whether the row and the words are in form.
 -- Each way out is one step of the test, and the steps together are the form.
 use Rattle.unifier.specs.Checking.{tells_false}
-use Rattle.rule_checks.proofs.ListedLaws.{checked_bad, checked_good, listed_parts, listed_places, order_asked, walkable}
+use Rattle.rule_checks.proofs.ListedLaws.{checked_bad, checked_good, listed_parts, listed_places, walkable}
 use native.Mathlib.Omega.{arith}
 use Rattle.rule_checks.proofs.check_rule.Goals as goal
 
