@@ -177,30 +177,12 @@ fn list_stored(text: &[u8], limits: Limits, loaded: Loaded, lent: &LentBuffers) 
     });
 }
 
-// Loads a text and lists what it comes to. What is lent is exactly enough for texts of 16,384 bytes and for 4,096 nodes.
+// Loads a text and lists what it comes to.
 fn list_text(text: &[u8], limits: Limits) {
-    let mut tokens = [[0u32; 4]; 16384];
-    let mut rows = [[0u32; 4]; 16384];
-    let mut calls = [[0u32; 4]; 16416];
-    let mut sorts = [[0u32; 2]; 256];
-    let mut symbols = [[0u32; 24]; 1024];
-    let mut rules = [[0u32; 154]; 1024];
-    let mut pattern = [0u32; 8192];
-    let mut evals = [[0u32; 2]; 8192];
-    let mut lent = LentBuffers {
-        tokens: &mut tokens,
-        rows: &mut rows,
-        calls: &mut calls,
-        sorts: &mut sorts,
-        symbols: &mut symbols,
-        rules: &mut rules,
-        words: &mut pattern,
-        evals: &mut evals,
-    };
-    match load::load(text, limits, &mut lent) {
+    buffers::with_buffers(|lent| match load::load(text, limits, lent) {
         Err(rejection) => listing::write_refusal(rejection),
-        Ok(loaded) => list_stored(text, limits, loaded, &lent),
-    }
+        Ok(loaded) => list_stored(text, limits, loaded, lent),
+    });
 }
 
 // The text whose line is at a place. The line's third number limits the nodes, its fourth the words.

@@ -4,10 +4,8 @@
 
 use listing::recorded;
 use load::{LentBuffers as Lent, Loaded};
-use loader::{SORTS, SYMBOLS};
 use parser::Parsed;
 use refusals::Rejection;
-use rules::RULES;
 use signature::Counts;
 use signature_tests::{buffers, damage};
 use words::Limits;
@@ -36,13 +34,8 @@ fn list_loaded(text: &[u8], loaded: Loaded, parsed: Result<Parsed, Rejection>, l
 // Lists a refusal, and tests the buffers: zero throughout, and after refusal 1 as they were.
 fn list_refused(rejection: Rejection, lent: &Lent) {
     listing::write_refusal(rejection);
-    let none = Counts {
-        sorts: 0,
-        symbols: 0,
-        rules: 0,
-        words: 0,
-    };
-    buffers::test(lent, 0, 0, none, recorded::value_after(rejection.refusal));
+    let value = recorded::value_after(rejection.refusal);
+    buffers::test(lent, 0, 0, Counts::default(), value);
 }
 
 // Loads a text into buffers that hold junk.
@@ -63,29 +56,12 @@ fn list_text(text: &[u8], limits: Limits, lent: &mut Lent) {
     }
 }
 
-// What is lent is exactly enough for texts of 16,384 bytes and for 4,096 nodes.
 fn main() {
     let mut list = [0u8; 262144];
     let n = io::read_full(0, &mut list);
-    let mut tokens = [[0u32; 4]; 16384];
-    let mut rows = [[0u32; 4]; 16384];
-    let mut calls = [[0u32; 4]; 16416];
-    let mut sorts = [[0u32; 2]; SORTS];
-    let mut symbols = [[0u32; 24]; SYMBOLS];
-    let mut rules = [[0u32; 154]; RULES];
-    let mut words = [0u32; 8192];
-    let mut evals = [[0u32; 2]; 8192];
-    let mut lent = Lent {
-        tokens: &mut tokens,
-        rows: &mut rows,
-        calls: &mut calls,
-        sorts: &mut sorts,
-        symbols: &mut symbols,
-        rules: &mut rules,
-        words: &mut words,
-        evals: &mut evals,
-    };
-    recorded::replay(&list[..n], |text, recorded| {
-        list_text(text, recorded.node_limits(), &mut lent);
+    buffers::with_buffers(|lent| {
+        recorded::replay(&list[..n], |text, recorded| {
+            list_text(text, recorded.node_limits(), lent);
+        });
     });
 }

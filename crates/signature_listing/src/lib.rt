@@ -3,20 +3,19 @@
 // Stays: `Display` writes `str`, and the names are bytes of a text, so that the lines are written piece by piece by `listing`.
 #![tactic(auto)]
 
-ghost use Rattle.std.specs.Prelude.{◌≡◌, ◌≤◌, take};
+ghost use Rattle.std.specs.Prelude.{◌≡◌, ◌≤◌, ◌+◌, take};
 ghost use Rattle.source_text.specs.Parts.{part_of};
 ghost use Rattle.signature_listing.specs.Nodes.{arity_at};
 
-use arena::{HEADERS, PATTERN_ROOM, SYMBOL_STEP, symbol_of};
+use arena::{HEADERS, PATTERN_ROOM, symbol_of};
 use listing::{write, write_number};
 use load_storage::EvalRow;
-use names::{NO_FUNCTION, SymbolRow};
+use names::{NO_FUNCTION, SymbolRow, Word};
 use rules::RuleRow;
 use signature::StoredSignature;
 use signature::columns::{
     ARITY, CLAUSE, CLAUSES, CONCLUSION, CONCLUSION_WORDS, FIRST_CLAUSE, FIRST_INPUT, FIRST_PLACE,
-    FIRST_PREMISE, FIRST_SORT, FIRST_WORD, MARK, MET, OUTPUT, PREMISE_WORDS, PREMISES, SIZE, START,
-    VARIABLES,
+    FIRST_PREMISE, FIRST_SORT, FIRST_WORD, MARK, MET, OUTPUT, PREMISE_WORDS, PREMISES, VARIABLES,
 };
 
 // So many of the numbers from a place on, none where there are not as many.
@@ -24,10 +23,10 @@ use signature::columns::{
 fn numbers_from<'a>(numbers: &'a [u32], start: usize, count: usize) -> &'a [u32]
     ensures { result.now ≡ part_of numbers.now start count }
 {
-    if start <= numbers.len() && count <= numbers.len() - start {
-        return &numbers[start..start + count];
-    }
-    &numbers[0..0]
+    numbers
+        .get(start..)
+        .and_then(|rest| rest.get(..count))
+        .unwrap_or(&[])
 }
 
 fn write_numbers(numbers: &[u32]) {
@@ -39,18 +38,17 @@ fn write_numbers(numbers: &[u32]) {
 
 // Writes a reference; addresses are counted from a rule's first word.
 fn write_reference(reference: u32, first: u32) {
-    if reference < PATTERN_ROOM {
+    let Some(address) = reference.checked_sub(PATTERN_ROOM) else {
         write(b" ?v");
         write_number(reference);
         return;
-    }
-    let address = reference - PATTERN_ROOM;
-    if address < first {
+    };
+    let Some(past) = address.checked_sub(first) else {
         write(b" wrong: a node of another rule");
         return;
-    }
+    };
     write(b" #");
-    write_number(address - first);
+    write_number(past);
 }
 
 fn write_references(references: &[u32], first: u32) {
@@ -87,23 +85,12 @@ fn list_references(row: &RuleRow) {
 
 fn list_evals(evals: &[EvalRow]) {
     for row in evals {
+        let [line, at] = *row;
         write(b"eval ");
-        write_number(row[0]);
+        write_number(line);
         write(b" ");
-        write_number(row[1]);
+        write_number(at);
         write(b"\n");
-    }
-}
-
-// The arity of the node at an address; 0 where there is no header.
-// Stays: a word that is no header is passed over alone, as one of arity 0 is; an option would be turned into that at once.
-fn arity_at(words: &[u32], address: usize) -> u32
-    ensures value { result ≡ arity_at words.now address }
-    ensures upper_bound { result ≤ 31 }
-{
-    match words.get(address) {
-        Some(header) if HEADERS <= *header => *header % SYMBOL_STEP,
-        _ => 0,
     }
 }
 
@@ -123,19 +110,18 @@ struct NamedSignature<'a> {
 }
 
 impl NamedSignature<'_> {
-    // Writes the name that a row begins with.
-    fn write_name(self, start: u32, size: u32) {
-        write(words::word(self.text, start as usize, size as usize));
+    fn write_name(self, word: Word) {
+        write(names::part(self.text, word));
     }
 
     // Writes the name of a sort, `Prop` for none.
     fn write_sort(self, number: u32) {
-        if number == 0 {
+        let Some(i) = number.checked_sub(1) else {
             write(b"Prop");
             return;
-        }
-        match self.signature.sorts.get(number as usize - 1) {
-            Some(row) => self.write_name(row[START], row[SIZE]),
+        };
+        match self.signature.sorts.get(i as usize) {
+            Some(row) => self.write_name(Word::at_start(row)),
             None => write(b"wrong: no such sort"),
         }
     }
@@ -150,7 +136,7 @@ impl NamedSignature<'_> {
 
     fn write_symbol(self, number: usize) {
         match self.signature.symbols.get(number) {
-            Some(row) => self.write_name(row[START], row[SIZE]),
+            Some(row) => self.write_name(Word::at_start(row)),
             None => write(b"wrong: no such symbol"),
         }
     }
@@ -158,14 +144,14 @@ impl NamedSignature<'_> {
     fn list_sorts(self) {
         for row in used(self.signature.sorts, self.signature.counts.sorts) {
             write(b"sort ");
-            self.write_name(row[START], row[SIZE]);
+            self.write_name(Word::at_start(row));
             write(b"\n");
         }
     }
 
     fn list_symbol(self, row: &SymbolRow) {
         write(b"symbol ");
-        self.write_name(row[START], row[SIZE]);
+        self.write_name(Word::at_start(row));
         write(b" :");
         let inputs = row[ARITY] as usize;
         self.write_sorts(numbers_from(row, FIRST_INPUT, inputs));
@@ -181,25 +167,29 @@ impl NamedSignature<'_> {
         }
     }
 
-    // Lists the node at a place past a rule's first word.
-    fn list_node(self, first: u32, past: u32) {
+    // Lists the node at a place past a rule's first word, and answers how many words it takes; a word that is no header is passed over alone.
+    fn list_node(self, first: u32, past: u32) -> u32
+        ensures value { result ≡ 1 + arity_at self.entry.signature.words.now (first + past) }
+        ensures upper_bound { result ≤ 32 }
+    {
         let words = self.signature.words;
         let address = first as usize + past as usize;
         let Some(&header) = words.get(address) else {
             write(b"wrong: no such word\n");
-            return;
+            return 1;
         };
         if header < HEADERS {
             write(b"wrong: no header\n");
-            return;
+            return 1;
         }
         write(b"  #");
         write_number(past);
         write(b" ");
         self.write_symbol(symbol_of(header));
-        let arity = (header % SYMBOL_STEP) as usize;
-        write_references(numbers_from(words, address + 1, arity), first);
+        let arity = arena::arity_of(header);
+        write_references(numbers_from(words, address + 1, arity as usize), first);
         write(b"\n");
+        1 + arity
     }
 
     // Lists the nodes of a rule: those of its premises and those of its conclusion.
@@ -212,21 +202,17 @@ impl NamedSignature<'_> {
             if words.len() <= done as usize {
                 return;
             }
-            self.list_node(first, done);
-            let arity = arity_at(words, first as usize + done as usize);
-            done = done.saturating_add(1 + arity);
+            done = done.saturating_add(self.list_node(first, done));
         }
     }
 
     // Writes a rule's name, that of a clause with its number.
     fn write_rule_name(self, row: &RuleRow) {
-        self.write_name(row[START], row[SIZE]);
-        let number = row[CLAUSE];
-        if number == 0 {
-            return;
+        self.write_name(Word::at_start(row));
+        if let Some(clause) = row[CLAUSE].checked_sub(1) {
+            write(b".");
+            write_number(clause);
         }
-        write(b".");
-        write_number(number - 1);
     }
 
     fn list_heading(self, row: &RuleRow) {

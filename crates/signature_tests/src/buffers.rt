@@ -8,6 +8,8 @@ ghost use Rattle.signature_tests.specs.Rows.{are_all, is_all, Filled, AllFilled}
 pub use listing::recorded::JUNK;
 use listing::write;
 use load_storage::LentBuffers;
+use names::{SORTS, SYMBOLS};
+use rules::RULES;
 use signature::{Counts, StoredSignature};
 
 // Fills rows of any width.
@@ -30,6 +32,35 @@ pub fn fill(lent: &mut LentBuffers)
     fill_rows(lent.rules, JUNK);
     lent.words.fill(JUNK);
     fill_rows(lent.evals, JUNK);
+}
+
+// How many bytes a text may have for which `with_buffers` lends, and how many nodes.
+const TEXT: usize = 16384;
+
+const NODES: usize = 4096;
+
+// Hands on buffers that are exactly enough for texts of 16,384 bytes and for 4,096 nodes.
+pub fn with_buffers<F: FnMut(&mut LentBuffers)>(mut each: F)
+    requires { F.IsAlwaysCallable each }
+{
+    let mut tokens = [[0; 4]; TEXT];
+    let mut rows = [[0; 4]; TEXT];
+    let mut calls = [[0; 4]; TEXT + 32];
+    let mut sorts = [[0; 2]; SORTS];
+    let mut symbols = [[0; 24]; SYMBOLS];
+    let mut rules = [[0; 154]; RULES];
+    let mut words = [0; 2 * NODES];
+    let mut evals = [[0; 2]; TEXT / 2];
+    each(&mut LentBuffers {
+        tokens: &mut tokens,
+        rows: &mut rows,
+        calls: &mut calls,
+        sorts: &mut sorts,
+        symbols: &mut symbols,
+        rules: &mut rules,
+        words: &mut words,
+        evals: &mut evals,
+    });
 }
 
 // The signature in what is lent.

@@ -15,14 +15,12 @@ use signature::columns::{
 };
 use signature::{Counts, StoredSignature};
 use std::mem;
+use words::{LONGEST, TEXT};
 
 // The most bytes of a name, and the largest clause number.
-const BYTES: u32 = 64;
+const BYTES: u32 = LONGEST as u32;
 
 const LAST_CLAUSE: u32 = RULES as u32;
-
-// The most bytes of a text that is loaded.
-const TEXT: usize = 65536;
 
 // Neither a header nor a reference.
 const NO_WORD: u32 = 0xFFFF_FFFF;
@@ -92,7 +90,7 @@ fn is_accepted_with(loaded: &mut LoadedSignature, spot: Spot, value: u32) -> boo
 
 // The place past a text, of which no more is loaded than the limit.
 fn end(text: &[u8]) -> u32 {
-    text.len().min(TEXT) as u32
+    text.len().min(TEXT as usize) as u32
 }
 
 // Tests that it is refused with another number at a place.
@@ -113,15 +111,23 @@ fn test_name(loaded: &mut LoadedSignature, size: Spot)
     expect_refused(loaded, size, BYTES + 1, b"refused with a name of 65 bytes");
 }
 
+// Tests the place of a name: where it starts, and its length.
+fn test_place(loaded: &mut LoadedSignature, start: Spot, size: Spot, claim: &[u8])
+    requires { Stands start loaded.old × Stands size loaded.old }
+    ensures { loaded.new ≡ loaded.old }
+{
+    let past = end(loaded.text);
+    expect_refused(loaded, start, past, claim);
+    test_name(loaded, size);
+}
+
 // Tests one sort.
 fn test_sort(loaded: &mut LoadedSignature, i: usize)
     requires { i < length loaded.old.sorts.now }
     ensures { loaded.new ≡ loaded.old }
 {
-    let past = end(loaded.text);
     let claim = b"refused with a sort's name past the text";
-    expect_refused(loaded, Spot::Sort(i, START), past, claim);
-    test_name(loaded, Spot::Sort(i, SIZE));
+    test_place(loaded, Spot::Sort(i, START), Spot::Sort(i, SIZE), claim);
 }
 
 // Tests one symbol.
@@ -129,10 +135,8 @@ fn test_symbol(loaded: &mut LoadedSignature, i: usize)
     requires { i < length loaded.old.symbols.now }
     ensures { loaded.new ≡ loaded.old }
 {
-    let past = end(loaded.text);
     let claim = b"refused with a symbol's name past the text";
-    expect_refused(loaded, Spot::Symbol(i, START), past, claim);
-    test_name(loaded, Spot::Symbol(i, SIZE));
+    test_place(loaded, Spot::Symbol(i, START), Spot::Symbol(i, SIZE), claim);
     let no_sort = loaded.counts.sorts.wrapping_add(1);
     let claim = b"refused with an output past the sorts";
     expect_refused(loaded, Spot::Symbol(i, OUTPUT), no_sort, claim);
@@ -143,12 +147,11 @@ fn test_first_clause(loaded: &mut LoadedSignature, i: usize)
     requires { i < length loaded.old.symbols.now }
     ensures { loaded.new ≡ loaded.old }
 {
-    let first = loaded.symbols[i][FIRST_CLAUSE];
-    if first == 0 {
+    let Some(before) = loaded.symbols[i][FIRST_CLAUSE].checked_sub(1) else {
         return;
-    }
+    };
     let claim = b"refused with a clause of another function";
-    expect_refused(loaded, Spot::Symbol(i, FIRST_CLAUSE), first - 1, claim);
+    expect_refused(loaded, Spot::Symbol(i, FIRST_CLAUSE), before, claim);
 }
 
 // Has the text 64 bytes from a place on?
