@@ -164,7 +164,6 @@ module _ {symbol_rows rule_rows : Rows} {pattern : List ℕ} {i : ℕ} {values :
 
   -- A constructor.
   module _ (f : column (row_at symbol_rows i) 3 ≡ 1 → ⊥) where
-
     module _ {made : Result Made Refusal} {words' : List ℕ} (g : BuildAnswered words used limit i values made words') where
       abbrev Says : Result Outcome Refusal → Type 0
       Says r = ApplyAnswered symbol_rows rule_rows pattern i values depth calls used limit words links trees r words' links trees

@@ -195,7 +195,6 @@ module _ {text : List ℕ} {rows : Rows} {at : ℕ} {symbol_rows : Rows} {count 
           ∙ rw (numbered (head_of text rows at q t s n m), symbols_length text symbol_rows count h.tables.lent, le-ltb i count b))
 
       module _ (b : i < count) {k : ℕ} (c : k ≡ column (row_at rows at) 3) where
-
         module _ {e : ℕ} (found_in : (text : List ℕ) → e ≡ misuse (symbol_of text (row_at symbol_rows i)) k) where
           v : (text : List ℕ) → e ≡ misuse (symbol_at (symbols_of text symbol_rows count) i) k
           v text = rw (symbol_at_lem text symbol_rows count h.tables.lent i b) (found_in text)

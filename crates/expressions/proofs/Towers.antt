@@ -59,7 +59,6 @@ pub record Turn (symbols : Rows) (count y z n used limit want : ℕ) (words₀ :
   pub room : limit ≤ length words
 
 module _ {symbols : Rows} {count y z n : ℕ} {words : List ℕ} {used limit : ℕ} (h : TowerAsked symbols count y z n words used limit) where
-
   module _ {r : Result Answer Refusal} {none words' : List ℕ} (e : none ≡ []) (g : BuildAnswered words used limit z none r words') where
     tells : Tells (build_node limit z nil used) r words words' used limit
     tells = rw e at g.tells
@@ -146,7 +145,6 @@ module _ {symbols : Rows} {count y z n used limit want : ℕ} {words₀ : List �
   wrong_sort d text rules = rw (h.comes text rules, h.sorted text, wanted text, ne_eqb sort want d)
 
   module _ (e : sort ≡ want) where
-
     stepped : (text : List ℕ) (rules : List Rule) → tower_of limit (symbols_of text symbols count) rules y z (suc k) used ≡ build_node limit y (cons (value_at words top) nil) spent
     unfolding tower_of
     stepped text rules = rw (h.comes text rules, h.sorted text, wanted text, eq-eqb sort want e, h.stands.is)
