@@ -20,6 +20,7 @@ use rules::RuleRow;
 use signature::columns::CLAUSE;
 
 // Standard output.
+// Stays: `listing` has this number and the call that writes to it, but is not among the crates that this one may use.
 const STDOUT_FILENO: i32 = 1;
 
 // Writes a line to standard output, if there was room for it.
@@ -74,7 +75,7 @@ fn put_call(
 ) -> Option<()>
     requires { Fits line.old }
 {
-    let [height, _, rule, goal, _, _, _, _] = row;
+    let [height, _, rule, goal, ..] = row;
     put_decimal(height, line)?;
     put_byte(line, b' ')?;
     put_rule(terms.text, rules, rule, line)?;

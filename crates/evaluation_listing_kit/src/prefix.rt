@@ -4,7 +4,7 @@ ghost use Rattle.evaluation_listing_kit.specs.Nodes.{node_at};
 ghost use Rattle.evaluation_listing_kit.specs.Printing.{Fits, Moved, Within, Stepped};
 
 use super::output::{put, put_byte};
-use arena::{HEADERS, SYMBOL_STEP};
+use arena::HEADERS;
 use byte_output::Output;
 use names::{SymbolRow, Word};
 use signature::columns::OUTPUT;
@@ -43,7 +43,7 @@ fn node_at(words: &[u32], address: u32) -> Option<Node>
     match words.get(address as usize) {
         Some(&header) if HEADERS <= header => Some(Node {
             symbol: arena::symbol_of(header),
-            arity: header % SYMBOL_STEP,
+            arity: arena::arity_of(header),
         }),
         _ => None,
     }

@@ -1,6 +1,4 @@
 // The buffers that are lent to an evaluation: what they hold before it, and the tests of what they hold afterwards.
-ghost use Rattle.std.specs.Prelude.{replicate};
-ghost use Rattle.signature_tests.specs.Rows.{junk, Filled};
 ghost use Rattle.evaluator.specs.Storage.{AreLent};
 
 use evaluator::{Buffers, Evaluation};
@@ -18,22 +16,11 @@ pub struct EvaluationQuery<'a> {
     pub limits: Limits,
 }
 
-// Fills the buffers with junk.
-fn fill(storage: &mut Buffers)
-    ensures filled { Filled junk storage.old.words.now storage.new.words.now × Filled junk storage.old.links.now storage.new.links.now
-        × Filled (replicate 8 junk) storage.old.trees.now storage.new.trees.now }
-    ensures lent { AreLent storage.old storage.new }
-{
-    storage.words.fill(buffers::JUNK);
-    storage.links.fill(buffers::JUNK);
-    storage.trees.fill([buffers::JUNK; 8]);
-}
-
 // Evaluates a term into buffers that hold junk.
 pub fn evaluate(query: EvaluationQuery, storage: &mut Buffers) -> Result<Evaluation, Refusal>
     ensures { AreLent storage.old storage.new }
 {
-    fill(storage);
+    storage.fill(buffers::JUNK);
     evaluator::evaluate(query.signature, query.term, query.limits, storage)
 }
 

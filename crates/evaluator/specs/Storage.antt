@@ -39,11 +39,15 @@ too_short limits b = is_short (most_words limits) (length b.words) (length b.lin
 abbrev pub zero_tree : List ℕ
 zero_tree = replicate 8 0
 
+-- The value in each word, link and column.
+abbrev pub filled : ℕ → Results → Results
+filled value b =
+    record {
+      words = replicate (length b.words) value;
+      links = replicate (length b.links) value;
+      trees = replicate (length b.trees) (replicate 8 value);
+    }
+
 -- All is zero.
 abbrev pub wiped : Results → Results
-wiped b =
-    record {
-      words = replicate (length b.words) 0;
-      links = replicate (length b.links) 0;
-      trees = replicate (length b.trees) zero_tree;
-    }
+wiped b = filled 0 b

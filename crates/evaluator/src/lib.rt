@@ -8,17 +8,17 @@
 ghost use Rattle.std.specs.Prelude.{◌≡◌, ◌≤◌, length};
 ghost use Rattle.function_calls.specs.Calls.{tree_rows};
 ghost use Rattle.signature.specs.Storage.{store_of};
-ghost use Rattle.evaluator.specs.Storage.{is_short, wiped, results_in, AreLent};
+ghost use Rattle.evaluator.specs.Storage.{is_short, filled, results_in, AreLent};
 ghost use Rattle.evaluator.specs.Evaluating.{Readable, Tested, Ready, EvaluationLeft, Evaluating, Forwarding};
 
-use function_calls::{MAX_CALLS, MAX_DEPTH, Program, Spent, Store, TreeRow};
+use function_calls::{MAX_CALLS, MAX_DEPTH, Outcome, Program, Spent, Store, TreeRow};
 use names::Source;
 use refusals::Refusal;
 use signature::StoredSignature;
 use words::Limits;
 
 // The scratch behind the words, and the rows of the stack: as many as a rule's terms may take words, and one more.
-pub const SCRATCH: usize = 2049;
+pub const SCRATCH: usize = rules::RULE_WORDS + 1;
 
 // An evaluation: the reference of the value, the number of calls and that of words.
 #[derive(Clone, Copy)]
@@ -59,14 +59,14 @@ impl Buffers<'_> {
         self.trees.len() < rows
     }
 
-    // Zeroes all.
-    fn wipe(&mut self)
-        ensures wiped { results_in self.new ≡ wiped (results_in self.old) }
+    // Puts a value into each word, link and column of a row.
+    pub fn fill(&mut self, value: u32)
+        ensures filled { results_in self.new ≡ filled value (results_in self.old) }
         ensures lent { AreLent self.old self.new }
     {
-        self.words.fill(0);
-        self.links.fill(0);
-        self.trees.fill([0; 8]);
+        self.words.fill(value);
+        self.links.fill(value);
+        self.trees.fill([value; 8]);
     }
 }
 
@@ -100,15 +100,15 @@ pub fn evaluate_listed(
     let nothing = Spent { calls: 0, used: 0 };
     match expressions::expression(term, program, 0, nothing, &mut store) {
         Err(refusal) => {
-            buffers.wipe();
+            buffers.fill(0);
             Err(refusal)
         }
         Ok(expressed) => {
-            let spent = expressed.spent;
+            let Outcome { value, spent } = expressed.outcome;
             slices::clear_from(buffers.words, spent.used as usize, 0);
             slices::clear_from(buffers.trees, spent.calls as usize, [0; 8]);
             Ok(Evaluation {
-                value: expressed.value,
+                value,
                 calls: spent.calls,
                 words: spent.used,
             })

@@ -9,6 +9,7 @@ use evaluation_listing_kit::StoredTerms;
 use evaluation_tests_kit::lent::{self, EvaluationQuery};
 use evaluation_tests_kit::refused;
 use evaluator::{Buffers, Evaluation};
+use function_calls::MAX_CALLS;
 use listing::recorded::{self, Recorded};
 use listing::{write, write_number};
 use load::{EvalRow, LentBuffers, Loaded};
@@ -69,24 +70,23 @@ fn list_evaluation(loaded: LoadedText, answer: Result<Evaluation, Refusal>, stor
     }
 }
 
-// The row of an `#eval`'s term.
-fn term_row(eval: EvalRow) -> usize {
-    eval[1] as usize
-}
-
 // Writes the start of an `#eval`'s line.
-fn write_eval(eval: EvalRow) {
+fn write_eval(line: u32) {
     write(b"eval ");
-    write_number(eval[0]);
+    write_number(line);
     write(b" ");
 }
 
-// The term whose rows start at a place.
-fn term_at(loaded: LoadedText, at: usize) -> Source {
-    Source {
-        text: loaded.text,
-        rows: loaded.rows,
-        at,
+// The evaluation of the term whose rows start at a place.
+fn query_at(loaded: LoadedText, at: u32) -> EvaluationQuery {
+    EvaluationQuery {
+        signature: loaded.signature,
+        term: Source {
+            text: loaded.text,
+            rows: loaded.rows,
+            at: at as usize,
+        },
+        limits: loaded.limits,
     }
 }
 
@@ -107,12 +107,9 @@ fn is_evaluated(query: EvaluationQuery) -> bool {
 
 // Lists one `#eval`.
 fn list_eval(loaded: LoadedText, eval: EvalRow, storage: &mut Buffers) {
-    write_eval(eval);
-    let query = EvaluationQuery {
-        signature: loaded.signature,
-        term: term_at(loaded, term_row(eval)),
-        limits: loaded.limits,
-    };
+    let [line, at] = eval;
+    write_eval(line);
+    let query = query_at(loaded, at);
     if !is_evaluated(query) {
         return;
     }
@@ -123,12 +120,8 @@ fn list_eval(loaded: LoadedText, eval: EvalRow, storage: &mut Buffers) {
 // Tests calls that must be refused, with the first `#eval`.
 fn test_refused(loaded: LoadedText, storage: &mut Buffers) {
     // Where there is no `#eval`, any place serves: each of these calls is refused before the term there is read.
-    let at = loaded.evals.first().map_or(0, |eval| term_row(*eval));
-    let query = EvaluationQuery {
-        signature: loaded.signature,
-        term: term_at(loaded, at),
-        limits: loaded.limits,
-    };
+    let [_, at] = loaded.evals.first().copied().unwrap_or([0; 2]);
+    let query = query_at(loaded, at);
     refused::test_unlisted_forward(query.signature, query.term);
     refused::test_short(query, storage.words, storage.links, storage.trees);
     refused::test_unlisted(query, storage);
@@ -151,9 +144,9 @@ fn most_words(limits: Limits) -> u32
 
 // Lists a loaded text, with so much lent for the results as the limits ask.
 fn list_loaded(loaded: LoadedText) {
-    let mut words = [0u32; 67585];
-    let mut links = [0u32; 65536];
-    let mut trees = [[0u32; 8]; 10000];
+    let mut words = [0u32; WORDS as usize + evaluator::SCRATCH];
+    let mut links = [0u32; WORDS as usize];
+    let mut trees = [[0u32; 8]; MAX_CALLS as usize];
     let most = most_words(loaded.limits);
     let links_end = most as usize;
     let words_end = links_end + evaluator::SCRATCH;

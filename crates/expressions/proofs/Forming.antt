@@ -72,7 +72,7 @@ pub made_worth : {v c u value calls used : ℕ} → outcome value calls used ≡
 made_worth e = ap (λ (o : Outcome). o.spent.calls) (sym (ok_is e))
 
 pub made_answer : {v n c u value next calls used : ℕ} → expressed value next calls used ≡ expressed v n c u → c ≡ calls
-made_answer e = ap (λ (o : Expressed). o.spent.calls) (sym (ok_is e))
+made_answer e = ap (λ (o : Expressed). o.outcome.spent.calls) (sym (ok_is e))
 
 pub value_at_lem : {v u value used : ℕ} → built_at value used ≡ built_at v u → v ≡ value
 value_at_lem e = ap (λ (o : Built). o.value) (sym (ok_is e))
@@ -87,10 +87,10 @@ pub used_worth : {v c u value calls used : ℕ} → outcome value calls used ≡
 used_worth e = ap (λ (o : Outcome). o.spent.used) (sym (ok_is e))
 
 pub value_answer : {v n c u value next calls used : ℕ} → expressed value next calls used ≡ expressed v n c u → v ≡ value
-value_answer e = ap (λ (o : Expressed). o.value) (sym (ok_is e))
+value_answer e = ap (λ (o : Expressed). o.outcome.value) (sym (ok_is e))
 
 pub next_answer : {v n c u value next calls used : ℕ} → expressed value next calls used ≡ expressed v n c u → n ≡ next
 next_answer e = ap (λ (o : Expressed). o.next) (sym (ok_is e))
 
 pub used_answer : {v n c u value next calls used : ℕ} → expressed value next calls used ≡ expressed v n c u → u ≡ used
-used_answer e = ap (λ (o : Expressed). o.spent.used) (sym (ok_is e))
+used_answer e = ap (λ (o : Expressed). o.outcome.spent.used) (sym (ok_is e))

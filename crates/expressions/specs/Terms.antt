@@ -17,7 +17,7 @@ use Rattle.refusals.specs.declared.Refusal.{Refusal}
 
 -- A value, with the row behind its term, the calls made and the words used then.
 abbrev pub expressed : ℕ → ℕ → ℕ → ℕ → Result Expressed Refusal
-expressed value next calls used = Ok (record { value = value; next = next; spent = record { calls = calls; used = used } })
+expressed value next calls used = Ok (record { outcome = record { value = value; spent = record { calls = calls; used = used } }; next = next })
 
 -- The rows from a place on stand for a term.
 pub record ExpressionAsked (text : List ℕ) (rows : Rows) (at : ℕ) (symbol_rows : Rows) (count : ℕ) (rule_rows : Rows) (pattern : List ℕ)

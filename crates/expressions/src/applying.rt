@@ -6,7 +6,7 @@ ghost use Rattle.function_calls.specs.Calls.{IsLent};
 ghost use Rattle.expressions.specs.Nodes.{Finds};
 ghost use Rattle.expressions.specs.Applying.{ApplyAsked, ApplyAnswered};
 
-use super::nodes::build;
+use super::nodes::{build, outcome};
 use function_calls::{Level, Outcome, Program, Room, Spent, Store, call};
 use names::columns::{ARITY, MARK, OUTPUT};
 use names::{FUNCTION, NO_FUNCTION, SymbolRow};
@@ -57,11 +57,5 @@ pub fn apply(
         limit: program.limit,
     };
     let built = build(store.words, room, i, values)?;
-    Ok(Outcome {
-        value: built.value,
-        spent: Spent {
-            used: built.used,
-            ..spent
-        },
-    })
+    Ok(outcome(built, spent))
 }

@@ -4,22 +4,20 @@ ghost use Rattle.arena.specs.Cells.{symbol_of as symbolIn};
 ghost use Rattle.names.specs.Symbols.{symbol_at, symbols_of};
 ghost use Rattle.expressions.specs.Nodes.{BuildAsked, BuildAnswered};
 
-use function_calls::{Built, Room};
+use function_calls::{Built, Outcome, Room, Spent};
 use names::SymbolRow;
 use names::columns::OUTPUT;
 use refusals::Refusal;
 
 // The sort of a value by its header: the output of its symbol.
 // Stays: where there is no such symbol the definition's output is 0, as a predicate's is, and the contract would have to say so of an option too.
-// Stays: tried with `symbols.get(f).map_or(0, |row| row[OUTPUT])`: that the answer is the definition's output in both cases was not proved.
 pub fn sort_of(symbols: &[SymbolRow], header: u32) -> u32
     ensures { (text : List ℕ) → result ≡ (symbol_at (symbols_of text symbols.now (length symbols.now)) (symbolIn header)).output }
 {
-    let f = arena::symbol_of(header);
-    if f < symbols.len() {
-        return symbols[f][OUTPUT];
+    match symbols.get(arena::symbol_of(header)) {
+        Some(row) => row[OUTPUT],
+        None => 0,
     }
-    0
 }
 
 // A node of a symbol on values.
@@ -37,4 +35,17 @@ pub fn build(words: &mut [u32], room: Room, symbol: usize, values: &[u32]) -> Re
         value: room.used,
         used: room.used + 1 + count,
     })
+}
+
+// What is evaluated when a value is built: no call is made.
+pub fn outcome(built: Built, spent: Spent) -> Outcome
+    ensures { result ≡ record { value = built.value; spent = record { calls = spent.calls; used = built.used } } }
+{
+    Outcome {
+        value: built.value,
+        spent: Spent {
+            used: built.used,
+            ..spent
+        },
+    }
 }

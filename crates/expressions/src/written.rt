@@ -4,19 +4,19 @@ ghost use Rattle.function_calls.specs.Calls.{IsLent};
 ghost use Rattle.expressions.specs.Terms.{ExpressionAsked, ExpressionAnswered, ApplicationAsked, ApplicationAnswered};
 
 use super::applying::{apply, check_use};
-use super::nodes::sort_of;
+use super::nodes::{outcome, sort_of};
 use super::numerals::numeral;
-use function_calls::{MAX_DEPTH, Program, Room, Spent, Store};
+use arena::INPUTS;
+use function_calls::{MAX_DEPTH, Outcome, Program, Room, Spent, Store};
 use names::columns::FIRST_INPUT;
 use names::{Source, Word};
 use refusals::Refusal;
 
-// A term that has a value: the value, the row behind the term, and what is spent then.
+// A term that has a value: the value with what is spent then, and the row behind the term.
 #[derive(Clone, Copy)]
 pub struct Expressed {
-    pub value: u32,
+    pub outcome: Outcome,
     pub next: usize,
-    pub spent: Spent,
 }
 
 // A symbol on so many arguments, of which the first is given, each at the next depth; the sort of each is tested at once.
@@ -39,26 +39,23 @@ fn application(
         store.old.words.now store.old.links.now store.old.trees.now result store.new.words.now store.new.links.now store.new.trees.now }
     ensures lent { IsLent store.old store.new }
 {
-    let mut values = [0u32; 16];
+    let mut values = [0u32; INPUTS as usize];
     let mut p = first.at;
     let mut spent = before;
     for k in 0..arguments {
         let term = Source { at: p, ..first };
         let argument = expression(term, program, depth + 1, spent, store)?;
-        let header = store.words[argument.value as usize];
+        let value = argument.outcome.value;
+        let header = store.words[value as usize];
         if sort_of(program.symbols, header) != program.symbols[i][FIRST_INPUT + k] {
             return Err(Refusal::WrongSort);
         }
-        values[k] = argument.value;
+        values[k] = value;
         p = argument.next;
-        spent = argument.spent;
+        spent = argument.outcome.spent;
     }
     let outcome = apply(program, depth, i, &values[..arguments], spent, store)?;
-    Ok(Expressed {
-        value: outcome.value,
-        next: p,
-        spent: outcome.spent,
-    })
+    Ok(Expressed { outcome, next: p })
 }
 
 // The value of a term at a depth, where so much is spent.
@@ -83,6 +80,7 @@ pub fn expression(
         return Err(Refusal::TooDeep);
     }
     let row = &term.rows[term.at];
+    // Stays: a match on the numbers of kinds and on no enum, since C reads the rows, and the row is lent with them.
     match row[0] {
         words::NUMERAL => {
             let room = Room {
@@ -91,12 +89,8 @@ pub fn expression(
             };
             let built = numeral(term.text, program.symbols, row[3], depth, store.words, room)?;
             Ok(Expressed {
-                value: built.value,
+                outcome: outcome(built, spent),
                 next: term.at + 1,
-                spent: Spent {
-                    used: built.used,
-                    ..spent
-                },
             })
         }
         words::METAVARIABLE => Err(Refusal::NotGround),

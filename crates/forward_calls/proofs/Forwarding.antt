@@ -2,12 +2,13 @@
 use Prim.Native.Nat.{ℕ, suc, ◌-◌, ◌≤◌, ◌<◌}
 use native.Mathlib.Omega.{arith}
 use mathlib.Core.Path.{◌≡◌, refl, sym, ap, ◌∙◌, subst}
-use mathlib.Core.Bool.{Bool, true, false, ◌&&◌}
+use mathlib.Core.Bool.{Bool, true, false, ◌&&◌, not}
 use mathlib.Core.List.{List}
 use lib.Dec.{eqb, ltb}
 use lib.ListN.{length}
-use borrow.Author.Tests.{eq-eqb, ne_eqb, lt-ltb, le-ltb}
+use borrow.Author.Tests.{eq-eqb, ne_eqb, eqb-true, eqb-false, lt-ltb, le-ltb}
 use Rattle.std.specs.Prelude.{Option, Some, None, position}
+use Rattle.std.specs.Option.{SomeIff, option_eq}
 use Rattle.std.proofs.Math.Seq.{take-length}
 use Rattle.source_text.specs.Bytes.{same_bytes}
 use Rattle.names.specs.SearchLaws.{symbol_some, symbol_none}
@@ -40,6 +41,23 @@ and_false false b = refl
 and_false₂ : (a : Bool) → (a && false) ≡ false
 and_false₂ true = refl
 and_false₂ false = refl
+
+not_true : (b : Bool) → not b ≡ true → b ≡ false
+not_true true e = sym e
+not_true false e = refl
+
+not_false : (b : Bool) → not b ≡ false → b ≡ true
+not_false true e = refl
+not_false false e = sym e
+
+-- A number less one, if there is one less, is compared with another.
+one_more : {n m : ℕ} (o : Option ℕ) → SomeIff o (1 ≤ n) (n - 1) → not (option_eq eqb o (Some m)) ≡ false → suc m ≡ n
+one_more None s e = absurd (let z : ⊥ = cc in z)
+one_more {n} {m} (Some x) s e = let (l, q) = s in let p : x ≡ m = eqb-true x m (not_false (eqb x m) e) in omega arith
+
+not_more : {n m : ℕ} (o : Option ℕ) → SomeIff o (1 ≤ n) (n - 1) → not (option_eq eqb o (Some m)) ≡ true → suc m ≡ n → ⊥
+not_more {n} {m} None s e f = s (omega arith)
+not_more {n} {m} (Some x) s e f = let (l, q) = s in eqb-false x m (not_true (eqb x m) e) (omega arith)
 
 module _ {text : List ℕ} {rows : Rows} {at : ℕ} {symbols : Rows} (h : ForwardAsked text rows at symbols) where
   abbrev count : ℕ
@@ -90,17 +108,13 @@ module _ {text : List ℕ} {rows : Rows} {at : ℕ} {symbols : Rows} (h : Forwar
       wrong_count f = answer false
           (rw (arity_at_lem text symbols count lent i l, ne_eqb (suc (column (row_at rows at) 3)) (column (row_at symbols i) 6) f, and_false₂ (eqb (symbol_at table i).function 1)) (and_false₂ (ltb i count))) false (λ t q s. refl)
 
-      pub of_none : column (row_at symbols i) 6 ≡ 0 → ForwardAnswered text rows at symbols false
-      of_none e = wrong_count (λ f. let z : ⊥ = omega arith in z)
+      module _ (o : Option ℕ) (s : SomeIff o (1 ≤ column (row_at symbols i) 6) (column (row_at symbols i) 6 - 1)) where
+        pub of_count : not (option_eq eqb o (Some (column (row_at rows at) 3))) ≡ true → ForwardAnswered text rows at symbols false
+        of_count e = wrong_count (not_more o s e)
 
-      module _ (p : column (row_at symbols i) 6 ≡ 0 → ⊥) where
-        pub of_count : (column (row_at symbols i) 6 - 1 ≡ column (row_at rows at) 3 → ⊥) → ForwardAnswered text rows at symbols false
-        of_count e = wrong_count (λ f. e (omega arith))
-
-        pub of_call : column (row_at symbols i) 3 ≡ 1 → column (row_at symbols i) 6 - 1 ≡ column (row_at rows at) 3 → {r : Bool} → GroundAnswered text rows at r → ForwardAnswered text rows at symbols r
+        pub of_call : column (row_at symbols i) 3 ≡ 1 → not (option_eq eqb o (Some (column (row_at rows at) 3))) ≡ false → {r : Bool} → GroundAnswered text rows at r → ForwardAnswered text rows at symbols r
         of_call f e {r} g =
-            let x : suc (column (row_at rows at) 3) ≡ column (row_at symbols i) 6 = omega (arith, p) in
-            answer true (rw (lt-ltb i count l, function_at text symbols count lent i l, eq-eqb (column (row_at symbols i) 3) 1 f, arity_at_lem text symbols count lent i l, eq-eqb (suc (column (row_at rows at) 3)) (column (row_at symbols i) 6) x)) r (λ t q s. g.says t q s)
+            answer true (rw (lt-ltb i count l, function_at text symbols count lent i l, eq-eqb (column (row_at symbols i) 3) 1 f, arity_at_lem text symbols count lent i l, eq-eqb (suc (column (row_at rows at) 3)) (column (row_at symbols i) 6) (one_more o s e))) r (λ t q s. g.says t q s)
 
   pub ground_asked : GroundAsked text rows at
   ground_asked = record { term = h.term; next = h.next; stands = h.stands }

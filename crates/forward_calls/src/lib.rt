@@ -10,7 +10,8 @@ use names::columns::{ARITY, MARK};
 use names::{FUNCTION, Source, SymbolRow, Word};
 
 // Whether a term has no metavariable: its rows stand in preorder, so one pass over them sees every part.
-// Stays: `clauses::skip` finds the row behind the term by the same walk; with `any` on the rows up to there it would be two passes in place of one.
+// Stays: `clauses::skip` finds the row behind the term, and `any` could go over the rows up to there; but it asks for at most 65,536 rows, which is more than is
+// asked here.
 pub fn is_ground(term: Source) -> bool
     requires { GroundAsked term.text.now term.rows.now term.at }
     ensures { GroundAnswered term.entry.text.now term.entry.rows.now term.entry.at result }
@@ -46,11 +47,7 @@ pub fn is_forward_call(term: Source, symbols: &[SymbolRow]) -> bool
     if symbols[i][MARK] != FUNCTION {
         return false;
     }
-    let inputs = symbols[i][ARITY];
-    if inputs == 0 {
-        return false;
-    }
-    if inputs - 1 != row[3] {
+    if symbols[i][ARITY].checked_sub(1) != Some(row[3]) {
         return false;
     }
     is_ground(term)

@@ -8,6 +8,7 @@ ghost use Rattle.tree_rows.specs.Trees.{tree_row};
 pub type TreeRow = [u32; 8];
 
 // The kind of a node: a rule was used.
+// Stays: a number and no enum, since C reads the rows.
 const RULE: u32 = 0;
 
 // The row of a node.

@@ -18,7 +18,7 @@ returns-in-Err-clause-left c =
     let l = c.expression.ensures.lent in
     left_refused c.requires _ (ap (λ (l : Limits). l.words) c.capped-most.ensures) (c.fill.ensures.after (λ y e. e))
     (part_answered _ _ _ (symbols_within c.requires.readable) c.expression.ensures.answered) _ c.in-Err.is l.trees_kept _
-    (given_wiped c.wipe.ensures.wiped (search (rules, l.words)) (search (rules, l.links)) (search (rules, l.trees)))
+    (given_wiped c.fill-in-Err.ensures.filled (search (rules, l.words)) (search (rules, l.links)) (search (rules, l.trees)))
 
 pub returns-in-Ok-clause-left : goal.returns-in-Ok-clause-left
 returns-in-Ok-clause-left c =

@@ -1,7 +1,7 @@
 -- `is_forward_call` meets its contract: one law for each way out.
 use native.Mathlib.Omega.{arith}
-use Rattle.std.proofs.Common.{refl}
-use Rattle.forward_calls.proofs.Forwarding.{some_symbol, no_symbol, inside, of_numeral, of_meta, of_unknown, of_other, of_none, of_count, of_call, ground_asked}
+use Rattle.std.proofs.Common.{refl, sym, ◌∙◌}
+use Rattle.forward_calls.proofs.Forwarding.{some_symbol, no_symbol, inside, of_numeral, of_meta, of_unknown, of_other, of_count, of_call, ground_asked}
 use Rattle.forward_calls.proofs.is_forward_call.Goals.{then-kind-eq-NUMERAL-via-then-kind-eq-NUMERAL, then-kind-eq-NUMERAL-via-else-kind-eq-NUMERAL+then-kind-eq-METAVARIABLE}
 use Rattle.forward_calls.proofs.is_forward_call.Goals as goal
 
@@ -24,14 +24,11 @@ returns-in_default c = of_unknown c.requires c.if-kind-eq-NUMERAL.false c.if-kin
 pub returns-then-symbols-i-ne-FUNCTION : goal.returns-then-symbols-i-ne-FUNCTION
 returns-then-symbols-i-ne-FUNCTION c = of_other c.requires c.if-kind-eq-NUMERAL.false c.if-kind-eq-METAVARIABLE.false (some_symbol c.args.term.text.now c.args.symbols.now _ _ c.in-Some.is (rw c.behind_kind.ensures at c.find_at.ensures)).0 (some_symbol c.args.term.text.now c.args.symbols.now _ _ c.in-Some.is (rw c.behind_kind.ensures at c.find_at.ensures)).1 c.if-symbols-i-ne-FUNCTION.true
 
-pub returns-then-inputs-eq0 : goal.returns-then-inputs-eq0
-returns-then-inputs-eq0 c = of_none c.requires c.if-kind-eq-NUMERAL.false c.if-kind-eq-METAVARIABLE.false (some_symbol c.args.term.text.now c.args.symbols.now _ _ c.in-Some.is (rw c.behind_kind.ensures at c.find_at.ensures)).0 (some_symbol c.args.term.text.now c.args.symbols.now _ _ c.in-Some.is (rw c.behind_kind.ensures at c.find_at.ensures)).1 c.if-inputs-eq0.true
-
-pub returns-then-inputs-row : goal.returns-then-inputs-row
-returns-then-inputs-row c = of_count c.requires c.if-kind-eq-NUMERAL.false c.if-kind-eq-METAVARIABLE.false (some_symbol c.args.term.text.now c.args.symbols.now _ _ c.in-Some.is (rw c.behind_kind.ensures at c.find_at.ensures)).0 (some_symbol c.args.term.text.now c.args.symbols.now _ _ c.in-Some.is (rw c.behind_kind.ensures at c.find_at.ensures)).1 c.if-inputs-eq0.false c.if-inputs-row.true
+pub returns-then-ne : goal.returns-then-ne
+returns-then-ne c = of_count c.requires c.if-kind-eq-NUMERAL.false c.if-kind-eq-METAVARIABLE.false (some_symbol c.args.term.text.now c.args.symbols.now _ _ c.in-Some.is (rw c.behind_kind.ensures at c.find_at.ensures)).0 (some_symbol c.args.term.text.now c.args.symbols.now _ _ c.in-Some.is (rw c.behind_kind.ensures at c.find_at.ensures)).1 c.checked_sub.result c.checked_sub.ensures (sym c.ne.ensures ∙ c.if-ne.true)
 
 pub is_ground-requires : goal.is_ground-requires
 is_ground-requires c = ground_asked c.requires
 
 pub returns : goal.returns
-returns c = of_call c.requires c.if-kind-eq-NUMERAL.false c.if-kind-eq-METAVARIABLE.false (some_symbol c.args.term.text.now c.args.symbols.now _ _ c.in-Some.is (rw c.behind_kind.ensures at c.find_at.ensures)).0 (some_symbol c.args.term.text.now c.args.symbols.now _ _ c.in-Some.is (rw c.behind_kind.ensures at c.find_at.ensures)).1 c.if-inputs-eq0.false c.if-symbols-i-ne-FUNCTION.false c.if-inputs-row.false c.is_ground.ensures
+returns c = of_call c.requires c.if-kind-eq-NUMERAL.false c.if-kind-eq-METAVARIABLE.false (some_symbol c.args.term.text.now c.args.symbols.now _ _ c.in-Some.is (rw c.behind_kind.ensures at c.find_at.ensures)).0 (some_symbol c.args.term.text.now c.args.symbols.now _ _ c.in-Some.is (rw c.behind_kind.ensures at c.find_at.ensures)).1 c.checked_sub.result c.checked_sub.ensures c.if-symbols-i-ne-FUNCTION.false (sym c.ne.ensures ∙ c.if-ne.false) c.is_ground.ensures

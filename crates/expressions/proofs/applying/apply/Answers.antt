@@ -15,4 +15,4 @@ returns-in_err-built-clause-answered c =
     (not_built c.requires c.if-program-i-eq-FUNCTION.false c.build.ensures c.in_err-built.was)
 
 pub returns-clause-answered : goal.returns-clause-answered
-returns-clause-answered c = is_built c.requires c.if-program-i-eq-FUNCTION.false c.build.ensures c.in_ok-built.was
+returns-clause-answered c = rw c.outcome.ensures (is_built c.requires c.if-program-i-eq-FUNCTION.false c.build.ensures c.in_ok-built.was)

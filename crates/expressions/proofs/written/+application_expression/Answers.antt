@@ -22,8 +22,8 @@ application-returns-in_err-argument-clause-answered t c =
     rw (handed_on c.from_residual.result c.from_residual.ensures.1)
     (argument_refused c.loop-k.invariant.turn c.loop-k-test.true c.expression.ensures.answered c.in_err-argument.was)
 
-pub application-bounds-store-argument : goal.application-bounds-store-argument
-application-bounds-store-argument t c = let (a, b, d) = value_inside c.loop-k.invariant.turn c.loop-k-test.true c.expression.ensures.answered c.in_ok-argument.was in omega arith
+pub application-bounds-store-value : goal.application-bounds-store-value
+application-bounds-store-value t c = let (a, b, d) = value_inside c.loop-k.invariant.turn c.loop-k-test.true c.expression.ensures.answered c.in_ok-argument.was in omega arith
 
 pub application-returns-then-sort_of-program-clause-answered : goal.application-returns-then-sort_of-program-clause-answered
 application-returns-then-sort_of-program-clause-answered t c =
@@ -60,7 +60,7 @@ expression-returns-in_err-built-in-14-clause-answered t c =
 
 pub expression-returns-in_ok-built-in-14-clause-answered : goal.expression-returns-in_ok-built-in-14-clause-answered
 expression-returns-in_ok-built-in-14-clause-answered t c =
-    number_built c.requires c.if-depth-gt-MAX_DEPTH.false c.in-14.is c.numeral.ensures c.in_ok-built-in-14.was
+    rw c.outcome.ensures (number_built c.requires c.if-depth-gt-MAX_DEPTH.false c.in-14.is c.numeral.ensures c.in_ok-built-in-14.was)
 
 pub expression-returns-in-13-clause-answered : goal.expression-returns-in-13-clause-answered
 expression-returns-in-13-clause-answered t c = of_meta c.requires c.if-depth-gt-MAX_DEPTH.false c.in-13.is
