@@ -16,7 +16,8 @@ use Rattle.evaluation.specs.Calls.{Spent, returned, call_of}
 use Rattle.evaluation.specs.Expressions.{evaluated, expression_of, evaluate_of, nothing_spent}
 use Rattle.evaluation.specs.CallLaws.{Grown, with_call, with_words, KeptByCalls, Returning, KeptByTerms}
 use Rattle.evaluation.proofs.CallLaws.{calls_keep, expressions_keep}
-use Rattle.evaluation.specs.CountLaws.{SpentOn, nodes}
+use Rattle.resolution.specs.Refutations.{nodes}
+use Rattle.evaluation.specs.CountLaws.{SpentOn}
 
 -- A listing has a line for each node.
 pub nodes_listed : {s : Kind} (h : ℕ) (p : Tree s) → length (preorder h p) ≡ nodes p

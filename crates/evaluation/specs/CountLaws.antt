@@ -1,16 +1,11 @@
 -- What an evaluation spends (document 01, "Evaluated terms" and 37): each call is a node of a tree that comes back, calls and words
 -- only grow, and neither passes its limit.
 -- Here are the definitions; the theorems about them are in proofs/CountLaws.
-use Rattle.std.specs.Prelude.{ℕ, suc, ◌+◌, ◌≤◌, ◌≡◌}
+use Rattle.std.specs.Prelude.{ℕ, ◌+◌, ◌≤◌, ◌≡◌}
 use Rattle.terms.specs.Term.{Kind}
-use Rattle.resolution.specs.Rules.{Tree, node, leaf, ◌◂◌}
+use Rattle.resolution.specs.Rules.{Tree, node}
 use Rattle.evaluation.specs.Calls.{Spent, max_calls}
-
--- How many nodes a tree has, and several trees together.
-abbrev pub nodes : {s : Kind} → Tree s → ℕ
-nodes (node r g ps) = suc (nodes ps)
-nodes leaf = 0
-nodes (p ◂ ps) = nodes p + nodes ps
+use Rattle.resolution.specs.Refutations.{nodes}
 
 -- What was spent when these trees came back: as many calls more as they have nodes, no fewer words, and no more of either than is
 -- allowed if that was so before.

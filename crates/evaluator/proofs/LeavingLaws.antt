@@ -22,7 +22,7 @@ use Rattle.rules.specs.PatternLaws.{arities_of}
 use Rattle.load_storage.specs.Storage.{cleared_from}
 use Rattle.signature.specs.Storage.{SignatureStore, symbols_in, rules_in, signature_of}
 use Rattle.term_check.specs.TermLaws.{term_stands}
-use Rattle.tree_rows.specs.Trees.{Lists}
+use Rattle.tree_rows.specs.Trees.{Lists, zero_tree}
 use Rattle.tree_rows.proofs.TreeLaws.{lists_grown, lists_same}
 use Rattle.evaluation.specs.Expressions.{Evaluated, failed, evaluated, evaluate_of}
 use Rattle.clause_matching.specs.Building.{Stands as Built}
@@ -33,7 +33,7 @@ use Rattle.std.specs.Prelude.{Result, Err}
 use Rattle.refusals.specs.declared.Refusal.{Refusal}
 use Rattle.refusals.specs.Refusals.{number_of}
 use Rattle.expressions.proofs.Forming.{value_answer, made_answer, used_answer}
-use Rattle.evaluator.specs.Storage.{Results, most_words, is_short, zero_tree, wiped}
+use Rattle.evaluator.specs.Storage.{Results, most_words, is_short, wiped}
 use Rattle.evaluator.specs.Evaluating.{evaluation, written_in, Ready, Valued, Left, EvaluationLeft}
 use Rattle.evaluator.specs.ProgramLaws.{pattern, listed_headed, listed_tables}
 

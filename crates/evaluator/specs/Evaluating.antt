@@ -13,11 +13,11 @@ use Rattle.resolution.specs.Rules.{Tree}
 use Rattle.rules.specs.PatternLaws.{arities_of}
 use Rattle.signature.specs.Storage.{SignatureStore, symbols_in, signature_of, SignatureListed}
 use Rattle.term_check.specs.TermRows.{TermAt}
-use Rattle.tree_rows.specs.Trees.{Lists}
+use Rattle.tree_rows.specs.Trees.{Lists, zero_tree}
 use Rattle.evaluation.specs.Calls.{Spent}
 use Rattle.evaluation.specs.Expressions.{is_forward_call, Evaluated, failed, evaluated, evaluate_of}
 use Rattle.load_storage.specs.Storage.{cleared_from}
-use Rattle.evaluator.specs.Storage.{Results, most_words, too_short, zero_tree, wiped}
+use Rattle.evaluator.specs.Storage.{Results, most_words, too_short, wiped}
 use Rattle.refusals.specs.declared.Refusal.{Refusal}
 use Rattle.refusals.specs.declared.Refusal.TheVariants.{Storage}
 use Rattle.refusals.specs.Refusals.{number_of}

@@ -36,9 +36,6 @@ is_short most words links trees = ltb words (most + scratch_words) || (ltb links
 abbrev pub too_short : Limits → Results → Bool
 too_short limits b = is_short (most_words limits) (length b.words) (length b.links) (length b.trees)
 
-abbrev pub zero_tree : List ℕ
-zero_tree = replicate 8 0
-
 -- The value in each word, link and column.
 abbrev pub filled : ℕ → Results → Results
 filled value b =

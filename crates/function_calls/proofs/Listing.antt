@@ -10,7 +10,8 @@ use Rattle.terms.specs.Term.{Term}
 use Rattle.terms.specs.Term.Kind.{one as single, many as several}
 use Rattle.arena.specs.Cells.{cells, Same}
 use Rattle.resolution.specs.Rules.{Tree, node, leaf, ◌◂◌, joined}
-use Rattle.tree_rows.specs.Trees.{Rows, tree_row, Lists}
+use Rattle.arena.specs.Rows.{Rows}
+use Rattle.tree_rows.specs.Trees.{tree_row, Lists}
 use Rattle.tree_rows.proofs.TreeLaws.{lists_up, lists_grown, lists_same, lists_node, lists_joined, lists_one}
 use Rattle.evaluation.specs.Calls.{Spent}
 use Rattle.clause_matching.specs.Stored.{Value, Values, value_at}

@@ -2,7 +2,8 @@
 use Rattle.std.specs.Prelude.{◌≡◌, List, ℕ, length, replicate}
 use Rattle.names.specs.Symbols.{Rows}
 use Rattle.load_storage.specs.Storage.{cleared_from}
-use Rattle.sessions.specs.Storage.{zero_name, zero_tree}
+use Rattle.tree_rows.specs.Trees.{zero_tree}
+use Rattle.sessions.specs.Storage.{zero_name}
 use Rattle.search_machine.specs.declared.Store.{Store}
 use Rattle.sessions.specs.declared.SessionCounts.{SessionCounts}
 

@@ -5,7 +5,8 @@ use Rattle.bindings.specs.Promises.{Tells}
 use Rattle.names.specs.Symbols.{Rows}
 use Rattle.deepening.specs.Clearing.{ClearFrom}
 use Rattle.signature.specs.Storage.{SignatureStore}
-use Rattle.sessions.specs.Storage.{SessionStore, Workspace, zero_name, zero_tree}
+use Rattle.tree_rows.specs.Trees.{zero_tree}
+use Rattle.sessions.specs.Storage.{SessionStore, Workspace, zero_name}
 use Rattle.sessions.specs.Goals.{goal_in}
 use Rattle.sessions.specs.Promises.{Asked, Given, ProveReady, answer_to, ProveLeaves}
 use Rattle.sessions.specs.declared.SessionCounts.{SessionCounts}

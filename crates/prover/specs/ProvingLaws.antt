@@ -27,7 +27,7 @@ use Rattle.rules.specs.PatternLaws.{arities_of}
 use Rattle.rules.specs.StoredRows.{Kept}
 use Rattle.rules.specs.LayingLaws.{lying_form}
 use Rattle.rule_checks.specs.RuleForm.{rule_in}
-use Rattle.tree_rows.specs.Trees.{Lists, entries_from}
+use Rattle.tree_rows.specs.Trees.{Lists, entries_from, zero_tree}
 use Rattle.signature.specs.Form.{rules_of}
 use Rattle.signature.specs.Storage.{SignatureStore, symbols_in, rules_in, SignatureListed}
 use Rattle.signature.specs.StoreLaws.{row_kept}
@@ -40,7 +40,7 @@ use Rattle.search_machine.specs.declared.Store.{Store}
 use Rattle.deepening.specs.Bounds.{prove_of, Counted}
 use Rattle.refusals.specs.declared.Refusal.{Refusal}
 use Rattle.refusals.specs.Refusals.{number_of}
-use Rattle.sessions.specs.Storage.{SessionStore, session_store, session_of, is_short, zero_name, zero_tree}
+use Rattle.sessions.specs.Storage.{SessionStore, session_store, session_of, is_short, zero_name}
 use Rattle.sessions.specs.Goals.{goal_in, goal_compiled}
 use Rattle.sessions.specs.Promises.{Asked, Given, ProveReady, allowance_of, query_of, answer_to, Continued, ProofListed}
 use Rattle.sessions.specs.Promises.{ProofLeft, ProveLeaves}

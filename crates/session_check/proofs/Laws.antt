@@ -29,7 +29,8 @@ use Rattle.signature.proofs.UsedLaws.{used_length, row_used, used_each, each_use
 use Rattle.sessions.specs.Storage.{SessionStore, Workspace, NameFormed, too_short}
 use Rattle.sessions.specs.OpeningLaws.{enough_lent}
 use Rattle.sessions.specs.declared.SessionCounts.{SessionCounts}
-use Rattle.session_check.specs.Parts.{SessionCounted, NameKind, NamesFormed, Rising, word_in}
+use Rattle.term_check.specs.Walk.{word_in}
+use Rattle.session_check.specs.Parts.{SessionCounted, NameKind, NamesFormed, Rising}
 use Rattle.session_check.specs.Parts.{PlacesDistinct}
 use Rattle.session_check.specs.Parts.{NamesListed, SessionReady, SessionChecked}
 

@@ -1,6 +1,5 @@
 -- What `check_session` decides, and its parts, each decided by a function of its own.
 use Rattle.std.specs.Prelude.{ℕ, ◌≤◌, ◌<◌, ◌≡◌, Bool, false, ◌⊎◌, List}
-use Rattle.source_text.specs.Parts.{part_of}
 use Rattle.words.specs.Names.{name_kind, metavariable_kind}
 use Rattle.words.specs.declared.Limits.{Limits}
 use Rattle.arena.specs.Copies.{term_room}
@@ -12,6 +11,7 @@ use Rattle.names.specs.Symbols.{Rows, column, row_at, symbols_of}
 use Rattle.rules.specs.PatternLaws.{arities_of}
 use Rattle.sessions.specs.Storage.{SessionStore, Workspace, NameFormed, SessionListed, too_short}
 use Rattle.sessions.specs.declared.SessionCounts.{SessionCounts}
+use Rattle.term_check.specs.Walk.{word_in}
 
 -- The counts are within document 01's limits, and so many words are lent.
 pub record SessionCounted (n : SessionCounts) (lent : ℕ) : Type 0 where
@@ -40,9 +40,6 @@ abbrev pub Rising : Rows → ℕ → Type 0
 Rising rows n = (i j : ℕ) → i < j → j < n → column (row_at rows i) 4 < column (row_at rows j) 4
 
 -- no word stands twice at their places;
-abbrev pub word_in : List ℕ → List ℕ → List ℕ
-word_in text row = part_of text (column row 1) (column row 2)
-
 abbrev pub PlacesDistinct : List ℕ → Rows → ℕ → Type 0
 PlacesDistinct text rows n = (i j : ℕ) → i < j → j < n → word_in text (row_at rows i) ≡ word_in text (row_at rows j) → ⊥
 

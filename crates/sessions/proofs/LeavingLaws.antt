@@ -18,7 +18,8 @@ use Rattle.rules.specs.PatternLaws.{arities_of}
 use Rattle.arena.specs.Copies.{term_room}
 use Rattle.signature.specs.Storage.{SignatureStore, symbols_in}
 use Rattle.load_storage.specs.Storage.{cleared_from}
-use Rattle.sessions.specs.Storage.{SessionStore, session_of, SessionIn, zero_name, zero_tree}
+use Rattle.tree_rows.specs.Trees.{zero_tree}
+use Rattle.sessions.specs.Storage.{SessionStore, session_of, SessionIn, zero_name}
 use Rattle.sessions.specs.Promises.{Asked, Given, bound_in, answer_told, Continued, ProofListed, ProveLeaves}
 use Rattle.sessions.specs.Leaving.{texts_of, NamesFit, NewRows, NamesKept, SessionMade, PartUnproved, grown_counts, cleared}
 use Rattle.sessions.specs.StoreLaws.{names_length}

@@ -14,10 +14,10 @@ use Rattle.resolution.specs.Session.{Allowance, Query, ask}
 use Rattle.resolution.specs.Session as theory
 use Rattle.resolution.specs.Preorder.{preorder, flat}
 use Rattle.names.specs.Symbols.{Rows}
-use Rattle.tree_rows.specs.Trees.{Lists}
+use Rattle.tree_rows.specs.Trees.{Lists, zero_tree}
 use Rattle.term_check.specs.TermRows.{TermAt}
 use Rattle.signature.specs.Storage.{SignatureStore, symbols_in, rules_in, SignatureListed}
-use Rattle.sessions.specs.Storage.{SessionStore, Workspace, session_of, SessionIn, too_short, zero_name, zero_tree, zero_store, zero_space}
+use Rattle.sessions.specs.Storage.{SessionStore, Workspace, session_of, SessionIn, too_short, zero_name, zero_store, zero_space}
 use Rattle.sessions.specs.Goals.{WrittenTerm, goal_in, goal_compiled}
 use Rattle.sessions.specs.declared.SessionCounts.{SessionCounts}
 use Rattle.refusals.specs.Refusals.{number_of}

@@ -115,9 +115,6 @@ zero_name = replicate 5 0
 abbrev pub zero_triple : List ℕ
 zero_triple = replicate 3 0
 
-abbrev pub zero_tree : List ℕ
-zero_tree = replicate 8 0
-
 -- Storage of the same sizes with zero throughout.
 abbrev pub zero_store : SessionStore → SessionStore
 zero_store b =

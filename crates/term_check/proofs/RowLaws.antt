@@ -15,7 +15,8 @@ use Rattle.source_text.specs.Numerals.{numeral_of}
 use Rattle.std.specs.Prelude.{Option, Some, None}
 use Rattle.std.specs.Bool.{then_some}
 use Rattle.names.specs.NamePlaces.{is_word_place}
-use Rattle.term_check.specs.Walk.{is_held, column, word_in, top_of}
+use Rattle.names.specs.Symbols.{column}
+use Rattle.term_check.specs.Walk.{is_held, word_in, top_of}
 
 -- A row holds the value that is read at its place.
 eqb_swap : (a b : ℕ) → eqb a b ≡ eqb b a

@@ -16,7 +16,8 @@ use Rattle.term_parser.specs.Rows.{Rows, rows_of}
 use Rattle.term_parser.specs.Depth.{depth}
 use Rattle.names.specs.NamePlaces.{NamePlace, is_word_place}
 use Rattle.term_check.specs.TermRows.{Worded, Lies}
-use Rattle.term_check.specs.Walk.{is_held, takes, column, word_in, top_of}
+use Rattle.names.specs.Symbols.{column}
+use Rattle.term_check.specs.Walk.{is_held, takes, word_in, top_of}
 
 -- Rows one after the other
 

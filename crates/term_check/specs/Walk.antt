@@ -9,6 +9,7 @@ use Rattle.term_parser.specs.Rows.{Rows, application_kind}
 use Rattle.term_parser.specs.Depth.{depth}
 use Rattle.names.specs.NamePlaces.{is_word_place}
 use Rattle.term_check.specs.TermRows.{Worded, Lies, TermAt}
+use Rattle.names.specs.Symbols.{column}
 
 -- One row
 
@@ -23,9 +24,6 @@ takes kind n held =
     cond (eqb kind numeral_kind) (cond held (Some 0) None)
     (cond (eqb kind application_kind) (cond (eqb n 0) None (Some n))
     (cond (eqb n 0) (cond (eqb kind metavariable_kind || eqb kind name_kind) (Some 0) None) None))
-
-abbrev pub column : List ℕ → ℕ → ℕ
-column row j = get_or row j 0
 
 abbrev pub word_in : List ℕ → List ℕ → List ℕ
 word_in text row = part_of text (column row 1) (column row 2)

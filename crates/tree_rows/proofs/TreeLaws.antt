@@ -12,7 +12,8 @@ use Rattle.arena.specs.Cells.{cells, denote, Same, Reference, WellFormed, refere
 use Rattle.arena.specs.NodeLaws.{reference_same}
 use Rattle.resolution.specs.Rules.{Tree, node, leaf, ◌◂◌, joined}
 use Rattle.resolution.specs.Preorder.{Entry, entry, preorder}
-use Rattle.tree_rows.specs.Trees.{Rows, row_at, tree_row, RowOf, Lists, entry_of, entries_from}
+use Rattle.arena.specs.Rows.{Rows}
+use Rattle.tree_rows.specs.Trees.{row_at, tree_row, RowOf, Lists, entry_of, entries_from}
 
 module _ (room variables : ℕ) where
   pub lists_up : {s : Kind} (words : List ℕ) (used : ℕ) (rows : Rows) (p height : ℕ) (t : Tree s) (q : ℕ) → Lists room variables words used rows p height t q → p ≤ q

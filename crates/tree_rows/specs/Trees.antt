@@ -1,14 +1,12 @@
 -- Trees in storage (document 01, "One text in full": nodes in preorder with their heights): a row for each node, in preorder. A row has the height, counted from
 -- the top, the kind (0: a rule was used), the rule's number and the reference of the goal; the other columns are zero. The evaluator and the search leave
 -- such rows; their words have room for different numbers of variables.
-use Rattle.std.specs.Prelude.{ℕ, zero, suc, ◌≡◌, List, [], ◌∷◌, get_or}
+use Rattle.std.specs.Prelude.{ℕ, zero, suc, ◌≡◌, List, [], ◌∷◌, get_or, replicate}
 use Rattle.terms.specs.Term.{Kind, Term}
 use Rattle.arena.specs.Cells.{cells, denote, Reference}
 use Rattle.resolution.specs.Rules.{Tree, node, leaf, ◌◂◌}
 use Rattle.resolution.specs.Preorder.{Entry, entry}
-
-abbrev pub Rows : Type 0
-Rows = List (List ℕ)
+use Rattle.arena.specs.Rows.{Rows}
 
 abbrev pub row_at : Rows → ℕ → List ℕ
 row_at rows i = get_or rows i []
@@ -16,6 +14,10 @@ row_at rows i = get_or rows i []
 -- The row of a node.
 abbrev pub tree_row : ℕ → ℕ → ℕ → List ℕ
 tree_row height rule goal = height ∷ 0 ∷ rule ∷ goal ∷ 0 ∷ 0 ∷ 0 ∷ 0 ∷ []
+
+-- A row that no node has.
+abbrev pub zero_tree : List ℕ
+zero_tree = replicate 8 0
 
 -- Words with room for `room` variables, the first `variables` of which there are.
 module _ (room variables : ℕ) where

@@ -4,7 +4,8 @@ use lib.Dec.{eqb}
 use Rattle.std.specs.Prelude.{Some}
 use Rattle.std.specs.Option.{option_eq}
 use Rattle.source_text.specs.Numerals.{numeral_of}
-use Rattle.term_check.specs.Walk.{column, word_in}
+use Rattle.names.specs.Symbols.{column}
+use Rattle.term_check.specs.Walk.{word_in}
 use borrow.Author.Rules.{rules}
 use native.Mathlib.Omega.{arith}
 use Rattle.term_check.proofs.RowLaws.{held_is, top_nowhere, top_numeral, top_application, top_word, top_other}

@@ -1,7 +1,7 @@
 -- `clear_past` meets its contract: names, words and proof are cleared, and bindings and scratch stand.
 use Rattle.std.proofs.Common.{refl, arith}
 use Rattle.std.proofs.lemmas.Grind.{same_number_lists}
-use Rattle.sessions.specs.Storage.{zero_tree}
+use Rattle.tree_rows.specs.Trees.{zero_tree}
 use Rattle.prover.proofs.clearing.clear_past.Goals as goal
 
 pub returns-clause-cleared : goal.returns-clause-cleared
