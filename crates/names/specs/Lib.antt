@@ -2,6 +2,7 @@
 pub mod Names
 pub mod NamePlaces
 pub mod Symbols
+pub mod Named
 pub mod Standing
 pub mod SearchLaws
 pub mod UsedLaws
