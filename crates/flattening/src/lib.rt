@@ -6,7 +6,8 @@
 ghost use Rattle.std.specs.Prelude.{◌≡◌, ◌+◌, ◌-◌, ◌*◌, ◌≤◌, ◌<◌, eqb, length};
 ghost use Rattle.source_text.specs.Parts.{part_of};
 ghost use Rattle.names.specs.Names.{result_length};
-ghost use Rattle.names.specs.Symbols.{column, row_at, symbols_of};
+ghost use Rattle.names.specs.Named.{symbols_named};
+ghost use Rattle.names.specs.Symbols.{column, row_at};
 ghost use Rattle.flattening.specs.Flattening.{is_function};
 ghost use Rattle.flattening.specs.Promises.{call_limit, arity_of, is_call, Copied, Finishes, Room, Flattens};
 
@@ -35,7 +36,7 @@ pub fn move_rows(source: &[TermRow], from: usize, n: usize, to: &mut [TermRow], 
 
 // Is the word at a place of the text the name of a function?
 fn is_function(source: SourceTerms, word: Word) -> bool
-    ensures { result ≡ is_function (symbols_of source.entry.text.now source.entry.symbols.now (length source.entry.symbols.now)) (part_of source.entry.text.now word.start word.size) }
+    ensures { result ≡ is_function (symbols_named source.entry) (part_of source.entry.text.now word.start word.size) }
 {
     names::find(source.text, source.symbols, names::part(source.text, word)).is_some_and(
         |i|
@@ -48,7 +49,7 @@ fn is_function(source: SourceTerms, word: Word) -> bool
 // Does a row stand for a call?
 // Stays: C callers lend the kind, which may be none of these; an enum would be made by the same `match`, only to be matched again here.
 fn is_call(source: SourceTerms, row: &TermRow) -> bool
-    ensures { result ≡ is_call (symbols_of source.entry.text.now source.entry.symbols.now (length source.entry.symbols.now)) (column row.now 0) (part_of source.entry.text.now (column row.now 1) (column row.now 2)) }
+    ensures { result ≡ is_call (symbols_named source.entry) (column row.now 0) (part_of source.entry.text.now (column row.now 1) (column row.now 2)) }
 {
     match row[0] {
         words::METAVARIABLE | words::NUMERAL => false,
@@ -87,10 +88,10 @@ fn finish(
     ensures { Finishes out.old top from.top calls.old from.end from.number word.start word.size args from.next out.new calls.new result }
 {
     let Place {
-        next,
         top: last,
         end,
         number,
+        ..
     } = from;
     if number == CALLS {
         return None;
@@ -108,10 +109,10 @@ fn finish(
     calls[stop] = [names::RESULT, place, n, 0];
     out[top] = [names::RESULT, place, n, 0];
     Some(Place {
-        next,
         top: top + 1,
         end: stop + 1,
         number: number + 1,
+        ..from
     })
 }
 
@@ -124,16 +125,13 @@ pub fn flatten(
     from: Place,
 ) -> Option<Place>
     requires { Room source.rows.now from.next source.symbols.now (length source.symbols.now) out.old from.top calls.old from.end from.number }
-    ensures { Flattens source.entry.text.now source.entry.rows.now from.next (symbols_of source.entry.text.now source.entry.symbols.now (length source.entry.symbols.now)) out.old from.top calls.old from.end from.number out.new calls.new result }
+    ensures { Flattens source.entry.text.now source.entry.rows.now from.next (symbols_named source.entry) out.old from.top calls.old from.end from.number out.new calls.new result }
 {
     let rows = source.rows;
     let at = from.next;
     let top = from.top;
     // No term stands past the last row, so that any answer serves there.
-    if rows.len() <= at {
-        return None;
-    }
-    let row = rows[at];
+    let row = *rows.get(at)?;
     let n = arity(row[0], row[3]);
     out[top] = row;
     let mut place = Place {
