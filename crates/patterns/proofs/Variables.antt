@@ -11,10 +11,17 @@ use Rattle.names.specs.SearchLaws.{table_length, table_at, table_set, table_more
 use Rattle.patterns.specs.Patterns.{no_variable, Entry, refused, entered, known, enter, counted}
 use Rattle.patterns.specs.Laying.{laid, lay}
 use Rattle.patterns.specs.Promises.{yes, stored, entry_of, answer}
-use Rattle.std.specs.Prelude.{Result, Ok, Err}
+use Rattle.std.specs.Prelude.{Result, Ok, Err, Option, Some, None, SomeIff}
 use Rattle.refusals.specs.declared.Refusal.{Refusal}
 use Rattle.refusals.specs.declared.Refusal.TheVariants.{Full}
 use Rattle.patterns.specs.declared.EnteredVariable.{EnteredVariable}
+
+-- A room from which 1 is taken: what is left of it, or none was there.
+pub room_left : {n m : ℕ} {o : Option ℕ} → SomeIff o (1 ≤ n) (n - 1) → o ≡ Some m → (0 < n) × (m ≡ n - 1)
+room_left {n} s e = let (l, q) = rw e at s in (omega arith, q)
+
+pub room_none : {n : ℕ} {o : Option ℕ} → SomeIff o (1 ≤ n) (n - 1) → o ≡ None → n ≡ 0
+room_none {n} s e = let w = rw e at s in omega arith
 
 -- A row whose last number is changed.
 pub last_changed : (row : List ℕ) (s : ℕ) → length row ≡ 4 → set row 3 s ≡ column row 0 ∷ column row 1 ∷ column row 2 ∷ s ∷ []

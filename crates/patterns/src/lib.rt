@@ -5,6 +5,7 @@
 
 ghost use Rattle.std.specs.Prelude.{◌≡◌, List, [], ◌∷◌, ℕ, ◌+◌, ◌*◌, ◌≤◌, ◌<◌, length};
 ghost use Rattle.names.specs.Names.{name_of};
+ghost use Rattle.names.specs.Named.{symbols_named};
 ghost use Rattle.names.specs.Symbols.{column, row_at, symbol_of, symbols_of, variables_of};
 ghost use Rattle.patterns.specs.Patterns.{enter as enterOf, counted, misfit as misfitOf};
 ghost use Rattle.patterns.specs.Laying.{lay, laid};
@@ -27,7 +28,7 @@ pub struct EnteredVariable {
 }
 
 // The number of the variable that a row names, entered if it is new. Its sort (0: not known) is checked, and set where it was not known.
-// Stays: the sort is a column of the symbols' rows, which C callers lend with 0 for none, and goes into a column of the variable's row.
+// Stays: a variable's row holds 0 for a sort not known, and `pattern` has 0 for a judgment; an `Option` would be made of the one and be the other again.
 // Stays: callers may lend a longer table, and an array in its place would ask for exactly 64 rows.
 // Stays: a new variable's row is written just behind the `count` rows in use, which a slice of those alone would not reach.
 pub fn enter(
@@ -46,17 +47,13 @@ pub fn enter(
     match names::find_at(text, &variables[..count], kind, Word { start, size }) {
         Some(index) => {
             let old = variables[index][SORT];
+            if old != 0 && sort != 0 && old != sort {
+                return Err(Refusal::TwoSorts);
+            }
             if old == 0 {
                 variables[index][SORT] = sort;
-                return Ok(EnteredVariable { index, count });
             }
-            if sort == 0 {
-                return Ok(EnteredVariable { index, count });
-            }
-            if old == sort {
-                return Ok(EnteredVariable { index, count });
-            }
-            Err(Refusal::TwoSorts)
+            Ok(EnteredVariable { index, count })
         }
         None => {
             if count < VARIABLES {
@@ -103,17 +100,13 @@ fn variable(
     ensures made_placed { MadePlaced (λ _. LiesAt (column row 0) (column row 1) (column row 2)) variables.old from.variables result variables.new }
 {
     let entered = enter(text, variables, from.variables, row, want)?;
-    if from.room == 0 {
-        return Err(Refusal::Full);
-    }
-    let room = from.room - 1;
+    let room = from.room.checked_sub(1).ok_or(Refusal::Full)?;
     Ok(CompiledTerm {
         node: entered.index as u32,
         place: Place {
-            next: from.next,
             variables: entered.count,
-            used: from.used,
             room,
+            ..from
         },
     })
 }
@@ -172,11 +165,8 @@ fn numeral_misfit(
     let mut m = room;
     for _k in 0..n {
         misfit(&symbols[succ], s, 1)?;
-        if m == 0 {
-            return Err(Refusal::Full);
-        }
+        m = m.checked_sub(1).ok_or(Refusal::Full)?;
         s = symbols[succ][FIRST_INPUT];
-        m -= 1;
     }
     misfit(&symbols[zero], s, 0)?;
     if m == 0 {
@@ -194,13 +184,11 @@ fn numeral_words(words: &mut [u32], used: usize, numerals: NumeralSymbols, n: us
     let NumeralSymbols { zero, succ } = numerals;
     words[used] = arena::header_of(zero, 0);
     let h = arena::header_of(succ, 1);
-    let mut u = used + 1;
     let mut r = PATTERN_ROOM + (used as u32);
-    for _k in 0..n {
-        words[u] = h;
-        words[u + 1] = r;
-        r = PATTERN_ROOM + (u as u32);
-        u += 2;
+    for k in 0..n {
+        let u = (used + 1 + 2 * k) as u32;
+        arena::push_node(words, u, h, &[r]);
+        r = PATTERN_ROOM + u;
     }
     r
 }
@@ -223,7 +211,7 @@ fn numeral(
     from: Place,
 ) -> Result<CompiledTerm, Refusal>
     requires { (length source.symbols.now ≤ 1024) × (from.variables ≤ 64) × (from.used + 2 * from.room ≤ length words.old) × (from.used + 2 * from.room ≤ 65536) }
-    ensures { Numbered source.entry.text.now (symbols_of source.entry.text.now source.entry.symbols.now (length source.entry.symbols.now)) n want from.variables from.next words.old from.used from.room result words.new }
+    ensures { Numbered source.entry.text.now (symbols_named source.entry) n want from.variables from.next words.old from.used from.room result words.new }
 {
     let numerals = NumeralSymbols::find(source.text, source.symbols)?;
     numeral_misfit(source.symbols, numerals, n, want, from.room)?;
@@ -231,10 +219,9 @@ fn numeral(
     Ok(CompiledTerm {
         node: r,
         place: Place {
-            next: from.next,
-            variables: from.variables,
             used: from.used + 1 + 2 * n,
             room: from.room - 1 - n,
+            ..from
         },
     })
 }
@@ -251,17 +238,14 @@ pub fn pattern(
     from: Place,
 ) -> Result<CompiledTerm, Refusal>
     requires { Ready source.symbols.now (length source.symbols.now) variables.old from.variables words.old from.used from.room }
-    ensures { Compiled source.entry.text.now source.entry.rows.now from.next (symbols_of source.entry.text.now source.entry.symbols.now (length source.entry.symbols.now)) want variables.old from.variables words.old from.used from.room result variables.new words.new }
+    ensures { Compiled source.entry.text.now source.entry.rows.now from.next (symbols_named source.entry) want variables.old from.variables words.old from.used from.room result variables.new words.new }
 {
     let SourceTerms {
         text,
         rows,
         symbols,
     } = source;
-    if rows.len() <= from.next {
-        return Err(Refusal::UnknownSymbol);
-    }
-    let row = rows[from.next];
+    let row = *rows.get(from.next).ok_or(Refusal::UnknownSymbol)?;
     let [kind, start, size, more] = row;
     let behind = Place {
         next: from.next + 1,
@@ -297,16 +281,13 @@ fn node(
     from: Place,
 ) -> Result<CompiledTerm, Refusal>
     requires { (Ready source.symbols.now (length source.symbols.now) variables.old from.variables words.old from.used from.room) × ((i < length source.symbols.now) × (from.next ≤ length source.rows.now)) }
-    ensures { NodeMade source.entry.text.now source.entry.rows.now from.next arguments (symbols_of source.entry.text.now source.entry.symbols.now (length source.entry.symbols.now)) i want variables.old from.variables words.old from.used from.room result variables.new words.new }
+    ensures { NodeMade source.entry.text.now source.entry.rows.now from.next arguments (symbols_named source.entry) i want variables.old from.variables words.old from.used from.room result variables.new words.new }
 {
     let symbols = source.symbols;
     misfit(&symbols[i], want, arguments)?;
-    if from.room == 0 {
-        return Err(Refusal::Full);
-    }
     let mut refs = [0u32; INPUTS as usize];
     let mut place = Place {
-        room: from.room - 1,
+        room: from.room.checked_sub(1).ok_or(Refusal::Full)?,
         ..from
     };
     for (k, sort) in symbols[i][FIRST_INPUT..FIRST_INPUT + arguments]
@@ -337,7 +318,7 @@ pub fn judgments(
     from: Place,
 ) -> Result<Place, Refusal>
     requires { Ready source.symbols.now (length source.symbols.now) variables.old from.variables words.old from.used from.room }
-    ensures { Judged source.entry.text.now source.entry.rows.now from.next (length heads.old) (symbols_of source.entry.text.now source.entry.symbols.now (length source.entry.symbols.now)) variables.old from.variables words.old from.used from.room result variables.new words.new heads.new }
+    ensures { Judged source.entry.text.now source.entry.rows.now from.next (length heads.old) (symbols_named source.entry) variables.old from.variables words.old from.used from.room result variables.new words.new heads.new }
 {
     let mut place = from;
     for head in heads {

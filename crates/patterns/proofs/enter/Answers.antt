@@ -7,8 +7,9 @@ use Rattle.names.specs.Names.{name_of}
 use Rattle.names.specs.Symbols.{column, row_at}
 use Rattle.names.specs.SearchLaws.{variable_some, variable_none}
 use Rattle.patterns.proofs.Variables.{last_changed, sort_set, sort_none, sort_same, sort_other, var_new, var_full}
-use Rattle.patterns.proofs.Places.{placed_kept, placed_sort, placed_new}
+use Rattle.patterns.proofs.Places.{placed_sort, placed_new}
 use Rattle.patterns.proofs.enter.Goals as goal
+use Rattle.patterns.proofs.enter.Goals.{else-old-ne0-via-then-old-ne0+then-sort-ne0+else-old-sort, else-old-ne0-via-then-old-ne0+else-sort-ne0, else-old-ne0-via-else-old-ne0}
 
 pub returns-then-old-eq0 : goal.returns-then-old-eq0
 returns-then-old-eq0 c =
@@ -21,16 +22,16 @@ returns-then-old-eq0 c =
       entry_placed = placed_sort _ a.variables.now a.count c.in-Some.index a.sort (omega arith);
     })
 
-pub returns-then-sort-eq0 : goal.returns-then-sort-eq0
-returns-then-sort-eq0 c =
+pub returns-else-old-eq0-clause-variables_after : goal.returns-else-old-eq0-clause-variables_after
+returns-else-old-eq0-clause-variables_after c =
     let a = c.args in
     let h : a.count ≤ length a.variables.now = omega arith in
     let (e, l) = variable_some a.text.now a.variables.now a.count h (name_of a.text.now (column a.row 0) (column a.row 1) (column a.row 2)) c.in-Some.index c.in-Some.ensures in
-    record {
-      grew = (l, omega arith, omega arith);
-      variables_after = sort_none a.text.now a.variables.now a.count h _ a.sort c.in-Some.index e l refl c.if-old-eq0.false c.if-sort-eq0.true;
-      entry_placed = placed_kept _ a.variables.now a.count;
-    }
+    elim c.else-old-ne0.branch [
+      | else-old-ne0-via-then-old-ne0+then-sort-ne0+else-old-sort w ↦ sort_same a.text.now a.variables.now a.count h _ a.sort c.in-Some.index e l refl c.if-old-eq0.false w.if-sort-ne0.true w.if-old-sort.false
+      | else-old-ne0-via-then-old-ne0+else-sort-ne0 w ↦ sort_none a.text.now a.variables.now a.count h _ a.sort c.in-Some.index e l refl c.if-old-eq0.false w.if-sort-ne0.false
+      | else-old-ne0-via-else-old-ne0 w ↦ absurd (c.if-old-eq0.false w.if-old-ne0.false)
+    ]
 
 pub returns-then-old-sort : goal.returns-then-old-sort
 returns-then-old-sort c =
@@ -38,19 +39,8 @@ returns-then-old-sort c =
     let h : a.count ≤ length a.variables.now = omega arith in
     let (e, l) = variable_some a.text.now a.variables.now a.count h (name_of a.text.now (column a.row 0) (column a.row 1) (column a.row 2)) c.in-Some.index c.in-Some.ensures in
     record {
-      grew = (l, omega arith, omega arith);
-      variables_after = sort_same a.text.now a.variables.now a.count h _ a.sort c.in-Some.index e l refl c.if-old-eq0.false c.if-sort-eq0.false c.if-old-sort.true;
-      entry_placed = placed_kept _ a.variables.now a.count;
-    }
-
-pub returns-else-old-sort : goal.returns-else-old-sort
-returns-else-old-sort c =
-    let a = c.args in
-    let h : a.count ≤ length a.variables.now = omega arith in
-    let (e, l) = variable_some a.text.now a.variables.now a.count h (name_of a.text.now (column a.row 0) (column a.row 1) (column a.row 2)) c.in-Some.index c.in-Some.ensures in
-    record {
       grew = omega arith;
-      variables_after = sort_other a.text.now a.variables.now a.count h _ a.sort c.in-Some.index e l refl c.if-old-eq0.false c.if-sort-eq0.false c.if-old-sort.false;
+      variables_after = sort_other a.text.now a.variables.now a.count h _ a.sort c.in-Some.index e l refl c.if-old-ne0.true c.if-sort-ne0.true c.if-old-sort.true;
       entry_placed = tt;
     }
 

@@ -8,4 +8,4 @@ use Rattle.patterns.specs.Promises.{tower}
 use Rattle.patterns.proofs.numeral_words.Given as goal
 
 abbrev pub invariant-loop-k : goal.invariant-loop-k
-invariant-loop-k l = (length l.words ≡ length l.initial.words) × (l.u ≡ l.used + 1 + 2 * l._k) × ((v : List ℕ) → l.initial.words ≡ set v l.used (1048576 + 32 * l.zero) → lay (tower l.succ l.zero l._k) v l.used ≡ laid (l.r ∷ []) l.words l.u)
+invariant-loop-k l = (length l.words ≡ length l.initial.words) × ((v : List ℕ) → l.initial.words ≡ set v l.used (1048576 + 32 * l.zero) → lay (tower l.succ l.zero l.k) v l.used ≡ laid (l.r ∷ []) l.words (l.used + 1 + 2 * l.k))
