@@ -10,7 +10,7 @@ ghost use Rattle.std.proofs.lemmas.List.Edits.{sets};
 ghost use Rattle.names.specs.Symbols.{column, symbols_of, variables_of};
 ghost use Rattle.meeting.specs.Places.{place_numbers};
 ghost use Rattle.patterns.specs.Promises.{Ready};
-ghost use Rattle.rules.specs.StoredRows.{rule_row};
+ghost use Rattle.rules.specs.StoredRows.{rule_row, heads_in};
 ghost use Rattle.rules.specs.Promises.{Judging, OrderAsked, Ordered, Keeping, KeepAsked, RuleAsked, RuleEntered};
 
 pub mod columns; // the columns of a rule's row
@@ -36,6 +36,15 @@ pub const PREMISES: usize = 16;
 pub const RULE_WORDS: usize = 2048;
 
 pub const RULES: usize = 1024;
+
+// The references of a rule's premises: the part of its row that has them.
+pub fn premises(row: &RuleRow) -> &[u32]
+    requires { column row.now 4 ≤ 16 }
+    ensures { result.now ≡ heads_in row.now }
+{
+    let end = FIRST_PREMISE + row[columns::PREMISES] as usize;
+    &row[FIRST_PREMISE..end]
+}
 
 // How many words are used, and the room for nodes left.
 #[derive(Clone, Copy)]
@@ -78,45 +87,35 @@ fn judgments(
     requires fact_2 { (source.n ≤ 16) × (length heads.old ≡ 16) }
     ensures { Judging source.entry.text.now source.entry.premises.now source.entry.at source.entry.n source.entry.conclusions.now source.entry.here (symbols_of source.entry.text.now source.entry.symbols.now (length source.entry.symbols.now)) variables.old words.old space.used space.room result variables.new words.new heads.new }
 {
-    let SourceRule {
-        text,
-        symbols,
-        premises,
-        at,
-        n,
-        conclusions,
-        here,
-    } = source;
     let from = Place {
-        next: at,
+        next: source.at,
         variables: 0,
         used: space.used,
         room: space.room,
     };
-    let rows = premises;
+    let premises = SourceTerms {
+        text: source.text,
+        rows: source.premises,
+        symbols: source.symbols,
+    };
     let place = patterns::judgments(
-        SourceTerms {
-            text,
-            rows,
-            symbols,
-        },
+        premises,
         variables,
         words,
-        &mut heads[..n],
+        &mut heads[..source.n],
         from,
     )?;
-    let rows = conclusions;
+    let conclusions = SourceTerms {
+        rows: source.conclusions,
+        ..premises
+    };
     let made = patterns::pattern(
-        SourceTerms {
-            text,
-            rows,
-            symbols,
-        },
+        conclusions,
         0,
         variables,
         words,
         Place {
-            next: here,
+            next: source.here,
             ..place
         },
     )?;
@@ -277,7 +276,7 @@ fn keep(
 }
 
 // Where a rule is entered: its number, and the space for its words.
-// Stays: words and rules go beside the place; a struct of the two buffers would be made anew at each call, and each contract would say they come back.
+// Stays: words and rules go apart from the place; of a struct that lends both, each contract from here to `declarations` would say that both come back.
 #[derive(Clone, Copy)]
 pub struct RulePlace {
     pub number: usize,
