@@ -4,7 +4,7 @@
 #![tactic(auto)]
 
 ghost use Rattle.std.specs.Prelude.{◌+◌, ◌-◌, ◌≤◌, ◌<◌, length};
-ghost use Rattle.names.specs.Symbols.{symbols_of};
+ghost use Rattle.names.specs.Named.{symbols_named};
 ghost use Rattle.clauses.specs.Promises.{Skipped, HeadingAsked, Headed, ClauseAsked, ClauseEntered};
 
 use flattening::Place;
@@ -58,7 +58,7 @@ fn heading(rows: &[TermRow], at: usize, n: usize, word: Word, out: &mut [TermRow
 }
 
 // Enters a clause as a rule at a place. Its rows are flattened in `out` and `calls`, which are scratch.
-// Stays: words and rules go beside the place; a struct of the two buffers would be made anew at each call, and each contract would say they come back.
+// Stays: words and rules go apart from the place; of a struct that lends both, each contract from here to `declarations` would say that both come back.
 pub fn clause(
     written: SourceClause,
     title: Title,
@@ -69,7 +69,7 @@ pub fn clause(
     calls: &mut [TermRow],
 ) -> Result<EnteredRule, Refusal>
     requires { ClauseAsked written.source.text.now written.source.rows.now written.at written.n written.source.symbols.now (length written.source.symbols.now) words.old place.space.used place.space.room rules.old out.old calls.old }
-    ensures { ClauseEntered written.entry.source.text.now written.entry.source.rows.now written.entry.at written.entry.n (symbols_of written.entry.source.text.now written.entry.source.symbols.now (length written.entry.source.symbols.now)) title words.old place.space.used place.space.room rules.old place.number result words.new rules.new }
+    ensures { ClauseEntered written.entry.source.text.now written.entry.source.rows.now written.entry.at written.entry.n (symbols_named written.entry.source) title words.old place.space.used place.space.room rules.old place.number result words.new rules.new }
 {
     let SourceClause { source, at, n } = written;
     let right = heading(source.rows, at, n, title.word, out);
