@@ -3,8 +3,7 @@ use mathlib.Core.Path.{◌≡◌, refl, sym, ap, ◌∙◌}
 use mathlib.Core.Bool.{Bool, true, false}
 use Rattle.terms.specs.Numbers.{by_bool, true_false}
 use mathlib.Core.List.{List, [], ◌∷◌}
-use lib.Seq.{ext_get_or}
-use lib.ListN.{length, get_or, take, drop}
+use lib.ListN.{length, get_or}
 use Prim.Native.Nat.{ℕ, suc, ◌+◌, ◌-◌, ◌≤◌, ◌<◌}
 use native.Mathlib.Omega.{arith}
 use Rattle.terms.specs.Term.{Kind, Syn, Term}
@@ -15,7 +14,7 @@ use Rattle.resolution.specs.Search.{words}
 use Rattle.names.specs.Symbols.{column, columns}
 use Rattle.names.specs.SearchLaws.{columns_length, columns_at}
 use Rattle.rule_checks.specs.Steps.{Walked}
-use Rattle.rule_checks.proofs.PartLaws.{part_index, part_length}
+use Rattle.rules.specs.StoredRows.{heads_in}
 use Rattle.std.specs.Prelude.{Option, eqb}
 use Rattle.std.proofs.lemmas.Bool.{eqb-true, eq-eqb}
 
@@ -40,25 +39,12 @@ walked_tells t {size} {spent} e w h = by_bool (eqb spent size)
 
 -- References
 
--- The references of n premises, as the row lends them.
-unfoldable pub heads : List ℕ → ℕ → List ℕ
-heads row n = take (10 + n - 10) (drop 10 row)
+-- The references of a row's premises are its columns.
+pub heads_length : (row : List ℕ) → length (heads_in row) ≡ column row 4
+heads_length row = columns_length row 10 (column row 4)
 
-module _ (row : List ℕ) (n : ℕ) (few : n ≤ 16) (long : length row ≡ 154) where
-  pub heads_length : length (heads row n) ≡ n
-  unfolding heads
-  heads_length = let l = part_length row 10 (10 + n) (omega arith) in omega arith
-
-  pub heads_index : (k : ℕ) → k < length (heads row n) → get_or (heads row n) k 0 ≡ column row (10 + k)
-  unfolding heads
-  heads_index k l = let m = heads_length in part_index row 10 (10 + n) k (omega arith)
-
-  -- They are the row's columns.
-  pub heads_columns : heads row n ≡ columns row 10 n
-  heads_columns =
-      let m = heads_length in
-      let w = columns_length row 10 n in
-      ext_get_or 0 (heads row n) (columns row 10 n) (m ∙ sym w) (λ i l. heads_index i l ∙ sym (columns_at row 10 n i (omega arith)))
+pub heads_index : (row : List ℕ) (k : ℕ) → k < column row 4 → get_or (heads_in row) k 0 ≡ column row (10 + k)
+heads_index row k l = columns_at row 10 (column row 4) k l
 
 -- Those of n premises from number k on.
 abbrev pub rest : List ℕ → ℕ → ℕ → List ℕ

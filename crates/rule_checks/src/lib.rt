@@ -80,7 +80,6 @@ pub fn are_sorts(columns: &[u32], sorts: u32) -> bool
 }
 
 // Whether the columns of a row are in form.
-// Stays: a ghost field of `PlacedRule` for these counts would be proved in `check_rule` alone, where the contracts of the tests say it now.
 fn are_columns(rule: &RuleRow, sorts: u32) -> bool
     requires { (column rule.now 3 ≤ 64) × (column rule.now 4 ≤ 16) }
     ensures { Tells result (Columns sorts rule.now) }
@@ -99,23 +98,17 @@ fn are_columns(rule: &RuleRow, sorts: u32) -> bool
     are_sorts(&rule[FIRST_SORT..FIRST_SORT + variables], sorts)
 }
 
-// Whether references are of the part of the words from `from` up to `middle`.
-fn are_roots(words: &[u32], from: u32, middle: u32, references: &[u32]) -> bool
-    requires { (from ≤ middle) × (middle ≤ length words.now) × (pattern_room + middle ≤ headers) }
-    ensures { Tells result (EachIndex references.now (λ k. is_argument (place_from words.now from) middle (slice_index references.now k) ≡ true)) }
+// Whether references are of the part of the words in use from `from` on.
+fn are_roots(terms: Terms, from: u32, references: &[u32]) -> bool
+    requires { terms.used ≤ length terms.words.now }
+    ensures { Tells result (EachIndex references.now (λ k. is_argument (record { words = terms.entry.words.now; room = terms.entry.room; variables = terms.entry.variables; from = from }) terms.entry.used (slice_index references.now k) ≡ true)) }
 {
-    let terms = Terms {
-        words,
-        room: PATTERN_ROOM,
-        variables: PATTERN_ROOM,
-        used: middle,
-    };
     references
         .iter()
         .all(|reference| arena::is_argument(terms, from, *reference))
 }
 
-// A rule's row and its words: those of its premises from `from` up to `middle`, and those of its conclusion from there up to `end`.
+// A rule's row and its words: those of its premises from `from` up to `middle`, and those of its conclusion from there up to `end`, as the row counts them.
 #[derive(Clone, Copy)]
 struct PlacedRule<'a> {
     row: &'a RuleRow,
@@ -123,11 +116,13 @@ struct PlacedRule<'a> {
     from: u32,
     middle: u32,
     end: u32,
+    ghost counted: { OrderAsked from middle end row.now },
+    ghost few: { column row.now 4 ≤ 16 },
+    ghost lent: { (end ≤ length words.now) × (pattern_room + end ≤ headers) },
 }
 
 // Whether the words of premises and conclusion are in form, and the references of the row are theirs.
 fn are_parts(arities: &[u32], rule: PlacedRule) -> bool
-    requires { (column rule.row.now 4 ≤ 16) × (rule.from ≤ rule.middle) × (rule.middle ≤ rule.end) × (rule.end ≤ length rule.words.now) × (pattern_room + rule.end ≤ headers) }
     ensures { Tells result (Parts arities.now rule.entry.words.now rule.entry.from rule.entry.middle rule.entry.end rule.entry.row.now) }
 {
     let PlacedRule {
@@ -146,12 +141,7 @@ fn are_parts(arities: &[u32], rule: PlacedRule) -> bool
     if !arena::check_words(premises, from, arities) {
         return false;
     }
-    if !are_roots(
-        words,
-        from,
-        middle,
-        &row[FIRST_PREMISE..FIRST_PREMISE + row[PREMISES] as usize],
-    ) {
+    if !are_roots(premises, from, rules::premises(row)) {
         return false;
     }
     let all = Terms {
@@ -172,7 +162,7 @@ fn walk_premises(words: &[u32], rule: &RuleRow, places: &mut Places, stack: &mut
 {
     let size = rule[PREMISE_WORDS];
     let mut spent = 0;
-    for reference in &rule[FIRST_PREMISE..FIRST_PREMISE + rule[PREMISES] as usize] {
+    for reference in rules::premises(rule) {
         let Some(taken) = places.meet(words, *reference, size - spent, stack) else {
             return false;
         };
@@ -185,12 +175,12 @@ fn walk_premises(words: &[u32], rule: &RuleRow, places: &mut Places, stack: &mut
 fn are_placed(words: &[u32], places: &Places) -> bool
     ensures { Tells result (EachIndex words.now (λ k. PlacedWord places.now.places (slice_index words.now k))) }
 {
-    words.iter().all(|word| *word >= PATTERN_ROOM || places.places[*word as usize] != None)
+    words.iter().all(|word| *word >= PATTERN_ROOM || places.places[*word as usize].is_some())
 }
 
 // Whether the terms of a row take the words that it counts, and its variables are numbered in writing order. The stack is scratch.
 fn is_in_order(rule: PlacedRule, stack: &mut [[u32; 2]]) -> bool
-    requires { OrderAsked rule.from rule.middle rule.end rule.row.now × Walkable rule.words.now rule.end rule.row.now × (2048 ≤ length stack.old) }
+    requires { Walkable rule.words.now rule.end rule.row.now × (2048 ≤ length stack.old) }
     ensures { Tells result (InOrder rule.entry.words.now rule.entry.from rule.entry.row.now) }
 {
     let PlacedRule {
@@ -198,7 +188,7 @@ fn is_in_order(rule: PlacedRule, stack: &mut [[u32; 2]]) -> bool
         words,
         from,
         middle,
-        end: _,
+        ..
     } = rule;
     let mut places = Places::new();
     if !walk_premises(words, row, &mut places, stack) {
@@ -236,15 +226,15 @@ fn are_places(rule: &RuleRow, places: &Places) -> bool
 
 // Whether a row has the variables of its conclusion counted and the places of all in meeting order. The stack is scratch.
 fn is_in_places(rule: PlacedRule, stack: &mut [[u32; 2]]) -> bool
-    requires { OrderAsked rule.from rule.middle rule.end rule.row.now × Walkable rule.words.now rule.end rule.row.now × InOrder rule.words.now rule.from rule.row.now × (2048 ≤ length stack.old) }
+    requires { Walkable rule.words.now rule.end rule.row.now × InOrder rule.words.now rule.from rule.row.now × (2048 ≤ length stack.old) }
     ensures { Tells result (InPlaces rule.entry.words.now rule.entry.from rule.entry.row.now) }
 {
     let PlacedRule {
         row,
         words,
-        from: _,
         middle,
         end,
+        ..
     } = rule;
     let mut places = Places::new();
     places.meet(words, row[CONCLUSION], MOST, stack);
@@ -254,15 +244,14 @@ fn is_in_places(rule: PlacedRule, stack: &mut [[u32; 2]]) -> bool
     if !are_placed(&words[middle as usize..end as usize], &places) {
         return false;
     }
-    let premises = &row[FIRST_PREMISE..FIRST_PREMISE + row[PREMISES] as usize];
-    places.meet_back(words, premises, MOST, stack);
+    places.meet_back(words, rules::premises(row), MOST, stack);
     are_places(row, &places)
 }
 
 // Tests a rule, whose words start at `from`; `used` words are in use, and there are so many sorts. Answers where the rule's words end, if row and words
 // are in form. The stack is scratch, lent once for all rules: laying one out takes longer than the walk through a small rule.
 // Stays: callers may lend a longer stack, and an array in its place would ask for exactly 2,048 rows.
-// Stays: the contract speaks of the whole table, as the callers' do; of `&words[..used]` each caller would have to prove it for the whole table again.
+// Stays: `from` is a place in the whole table, of which the contract speaks, as its one caller's does; of `&words[..used]` that one would prove it again.
 pub fn check_rule(
     text: &[u8],
     arities: &[u32],

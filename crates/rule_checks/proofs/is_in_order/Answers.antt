@@ -20,9 +20,9 @@ returns-then-not-are_placed c =
     let pre = c.requires in
     let args = c.args in
     let rec = walk-premises.ensures.records c.if-not-walk_premises.false [] c.new-places.ensures in
-    let m = pre.0.middle in
-    let z = pre.0.last in
-    tells_no (λ h. tells_false c.are_placed.ensures c.if-not-are_placed.true (each_part args.rule.words.now args.rule.from args.rule.middle (PlacedWord walk-premises.new.places.places) (omega (arith, pre.1.within)) (listed_placed (premises_of args.rule.words.now args.rule.row.now) rec args.rule.words.now args.rule.from args.rule.middle (λ a l b. h.listed a l (omega arith)))))
+    let m = args.rule.counted.middle in
+    let z = args.rule.counted.last in
+    tells_no (λ h. tells_false c.are_placed.ensures c.if-not-are_placed.true (each_part args.rule.words.now args.rule.from args.rule.middle (PlacedWord walk-premises.new.places.places) (omega (arith, pre.0.within)) (listed_placed (premises_of args.rule.words.now args.rule.row.now) rec args.rule.words.now args.rule.from args.rule.middle (λ a l b. h.listed a l (omega arith)))))
 
 pub returns-then-places-row : goal.returns-then-places-row
 returns-then-places-row c =
@@ -40,12 +40,12 @@ returns c =
     let rec = walk-premises.ensures.records c.if-not-walk_premises.false [] c.new-places.ensures in
     let fits = (walked_words c.meet.ensures _ (place_is _ _ (not_false _ (sym c.ne.ensures ∙ c.if-ne.false)))).0 in
     let both = c.meet.ensures.recorded (omega arith) _ rec in
-    let m = pre.0.middle in
-    let z = pre.0.last in
+    let m = args.rule.counted.middle in
+    let z = args.rule.counted.last in
     record {
       yes = λ e. record {
         body = walk-premises.ensures.fits c.if-not-walk_premises.false;
-        listed = λ a l b. placed_listed (premises_of args.rule.words.now args.rule.row.now) rec args.rule.words.now args.rule.from args.rule.middle (part_each args.rule.words.now args.rule.from args.rule.middle (PlacedWord walk-premises.new.places.places) (omega (arith, pre.1.within)) (c.are_placed.ensures.yes c.if-not-are_placed.false)) a l (omega arith);
+        listed = λ a l b. placed_listed (premises_of args.rule.words.now args.rule.row.now) rec args.rule.words.now args.rule.from args.rule.middle (part_each args.rule.words.now args.rule.from args.rule.middle (PlacedWord walk-premises.new.places.places) (omega (arith, pre.0.within)) (c.are_placed.ensures.yes c.if-not-are_placed.false)) a l (omega arith);
         head = sym fits;
         order = order_list both (sym in-order ∙ e) ∙ ap numbers_below c.if-places-row.false;
       };

@@ -1,18 +1,15 @@
 -- `is_in_places` meets its contract: it tells whether the row has the places in meeting order.
 -- The conclusion and then the premises, the last first, are met in a new table.
 use mathlib.Core.Path.{sym, ap, ◌∙◌, subst}
-use Prim.Native.Nat.{ℕ}
-use Rattle.arena.specs.Cells.{terms_of}
-use Rattle.resolution.specs.Fresh.{met, met_back}
-use Rattle.meeting.specs.Places.{Records}
-use Rattle.meeting.specs.Contract.{term_of, WholeAsked}
+use Prim.Native.Nat.{ℕ, ◌<◌}
+use Rattle.meeting.specs.Contract.{WholeAsked}
 use Rattle.names.specs.Symbols.{column}
 use Rattle.std.specs.Prelude.{Some}
 use Rattle.meeting.specs.PlaceLaws.{some_one}
-use mathlib.Core.List.{List, []}
+use mathlib.Core.List.{[]}
 use Rattle.unifier.specs.Checking.{tells_no, tells_false}
 use Rattle.rule_checks.specs.Steps.{conclusion_of, PlacedWord}
-use Rattle.rule_checks.proofs.PremiseLaws.{heads, heads_length, heads_index, heads_columns}
+use Rattle.rule_checks.proofs.PremiseLaws.{heads_length, heads_index}
 use Rattle.rule_checks.proofs.PartLaws.{part_each, each_part}
 use Rattle.rule_checks.proofs.TableLaws.{placed_listed, listed_placed, table_places}
 use Rattle.rule_checks.proofs.ListedLaws.{conclusion_asked, premise_asked}
@@ -23,40 +20,35 @@ pub returns-then-not-are_placed : goal.returns-then-not-are_placed
 returns-then-not-are_placed c =
     let pre = c.requires in
     let args = c.args in
-    let rec = c.meet.ensures.recorded (conclusion_asked pre.1 pre.0 pre.2).small [] c.new-places.ensures in
-    let m = pre.0.middle in
-    let z = pre.0.last in
-    tells_no (λ h. tells_false c.are_placed.ensures c.if-not-are_placed.true (each_part args.rule.words.now args.rule.middle args.rule.end (PlacedWord c.meet.new.self.places) pre.1.within (listed_placed (conclusion_of args.rule.words.now args.rule.row.now) rec args.rule.words.now args.rule.middle args.rule.end (λ a l b. h.listed a (omega arith) (omega arith)))))
+    let rec = c.meet.ensures.recorded (conclusion_asked pre.0 args.rule.counted pre.1).small [] c.new-places.ensures in
+    let m = args.rule.counted.middle in
+    let z = args.rule.counted.last in
+    tells_no (λ h. tells_false c.are_placed.ensures c.if-not-are_placed.true (each_part args.rule.words.now args.rule.middle args.rule.end (PlacedWord c.meet.new.self.places) pre.0.within (listed_placed (conclusion_of args.rule.words.now args.rule.row.now) rec args.rule.words.now args.rule.middle args.rule.end (λ a l b. h.listed a (omega arith) (omega arith)))))
 
 pub meet_back-requires : goal.meet_back-requires
-unfolding heads
-meet_back-requires c = λ i l.
+meet_back-requires c = rw c.premises.ensures (λ i l.
     let pre = c.requires in
     let args = c.args in
     let row = args.rule.row.now in
-    let n = column row 4 in
-    let m = heads_length row n pre.1.premises (omega arith) in
-    let a = premise_asked pre.1 pre.0 pre.2 i (omega arith) in
-    subst (λ (r : ℕ). WholeAsked args.rule.words.now r 2048 c.meet.new.stack) (sym (heads_index row n pre.1.premises (omega arith) i l))
-    (record { used = a.end; within = a.within; low = a.low; formed = a.formed; root = a.root; room = omega (arith, pre.3) }, a.small)
+    let n : i < column row 4 = omega (arith, heads_length row, l) in
+    let a = premise_asked pre.0 args.rule.counted pre.1 i n in
+    subst (λ (r : ℕ). WholeAsked args.rule.words.now r 2048 c.meet.new.stack) (sym (heads_index row i n))
+    (record { used = a.end; within = a.within; low = a.low; formed = a.formed; root = a.root; room = omega (arith, pre.2) }, a.small))
 
 pub returns : goal.returns
-unfolding heads
 returns c =
     let pre = c.requires in
     let args = c.args in
-    let m = pre.0.middle in
-    let z = pre.0.last in
-    let rec = c.meet.ensures.recorded (conclusion_asked pre.1 pre.0 pre.2).small [] c.new-places.ensures in
+    let m = args.rule.counted.middle in
+    let z = args.rule.counted.last in
+    let rec = c.meet.ensures.recorded (conclusion_asked pre.0 args.rule.counted pre.1).small [] c.new-places.ensures in
     let row = args.rule.row.now in
-    let n = column row 4 in
-    let all = subst (λ (l : List ℕ). Records (met_back (terms_of (term_of args.rule.words.now) l) (met (conclusion_of args.rule.words.now row) [])) c.meet_back.new.self.places c.meet_back.new.self.count)
-    (heads_columns row n pre.1.premises (omega arith)) (c.meet_back.ensures _ rec) in
-    let placed = table_places pre.2 pre.0.variables all in
+    let all = rw c.premises.ensures at (c.meet_back.ensures _ rec) in
+    let placed = table_places pre.1 args.rule.counted.variables all in
     record {
       yes = λ e. record {
         meets = sym c.if-places-row.false ∙ rec.counted;
-        listed = λ a l b. placed_listed (conclusion_of args.rule.words.now args.rule.row.now) rec args.rule.words.now args.rule.middle args.rule.end (part_each args.rule.words.now args.rule.middle args.rule.end (PlacedWord c.meet.new.self.places) pre.1.within (c.are_placed.ensures.yes c.if-not-are_placed.false)) a (omega arith) (omega arith);
+        listed = λ a l b. placed_listed (conclusion_of args.rule.words.now args.rule.row.now) rec args.rule.words.now args.rule.middle args.rule.end (part_each args.rule.words.now args.rule.middle args.rule.end (PlacedWord c.meet.new.self.places) pre.0.within (c.are_placed.ensures.yes c.if-not-are_placed.false)) a (omega arith) (omega arith);
         placed = λ x l. some_one (sym (c.are_places.ensures.yes e x l) ∙ placed x l);
       };
       back = λ h. c.are_places.ensures.back (λ x l. placed x l ∙ ap Some (sym (h.placed x l)));

@@ -1,38 +1,36 @@
 -- `walk_premises` meets its contract: the variables of premises of so many words are met.
-use Rattle.std.proofs.Common.{◌≤◌, arith, refl}
+use Rattle.std.proofs.Common.{◌≤◌, ◌<◌, arith, refl, ap, ◌∙◌, get_or}
 use Rattle.meeting.specs.Contract.{term_of}
 use Rattle.meeting.specs.WalkLaws.{walked_over, walked_words}
 use Rattle.names.specs.Symbols.{column}
 use Rattle.rule_checks.specs.Steps.{premises_of}
-use Rattle.rule_checks.proofs.PremiseLaws.{heads, heads_length, heads_index, walked_differs, walked_tells, going_on, going_over, going_words, going_records}
+use Rattle.rule_checks.proofs.PremiseLaws.{heads_length, heads_index, walked_differs, walked_tells, going_on, going_over, going_words, going_records}
 use Rattle.rule_checks.proofs.walk_premises.Goals as goal
 
 pub meet-requires : goal.meet-requires
-unfolding heads
 meet-requires c =
     let loop = c.loop-reference in
     let (end, w) = c.requires.1 in
     let s = c.requires.2 in
     let small = c.requires.0 in
-    let n = heads_length c.args.rule.now _ w.premises c.told-rule in
+    let n : loop.reference-index < column c.args.rule.now 4 = omega (arith, heads_length c.args.rule.now, rw c.premises-reference-items.ensures at c.loop-reference-test.true) in
     record {
       used = end;
       within = w.within;
       low = w.low;
       formed = w.formed;
-      root = rw (heads_index c.args.rule.now _ w.premises c.told-rule loop.reference-index c.loop-reference-test.true) (w.roots loop.reference-index (omega (arith, c.loop-reference-test.true)));
+      root = rw (c.premises-reference-items.ensures, heads_index c.args.rule.now loop.reference-index n) (w.roots loop.reference-index n);
       room = omega arith;
     }
 
 pub returns-in_default : goal.returns-in_default
-unfolding heads
 returns-in_default c =
     let loop = c.loop-reference in
     let args = c.args in
     let w = c.requires.1.1 in
-    let n = heads_length args.rule.now _ w.premises c.told-rule in
-    let e = heads_index args.rule.now _ w.premises c.told-rule loop.reference-index c.loop-reference-test.true in
-    walked_differs (premises_of args.words.now args.rule.now) (going_over (term_of args.words.now) args.rule.now _ loop.invariant.1 (omega (arith, c.loop-reference-test.true)) _ loop.invariant.0 (rw e at (walked_over c.meet.ensures c.in_default.is)))
+    let n : loop.reference-index < column args.rule.now 4 = omega (arith, heads_length args.rule.now, rw c.premises-reference-items.ensures at c.loop-reference-test.true) in
+    let e = ap (λ l. get_or l loop.reference-index 0) c.premises-reference-items.ensures ∙ heads_index args.rule.now loop.reference-index n in
+    walked_differs (premises_of args.words.now args.rule.now) (going_over (term_of args.words.now) args.rule.now _ loop.invariant.1 n _ loop.invariant.0 (rw e at (walked_over c.meet.ensures c.in_default.is)))
 
 pub overflow_add-spent : goal.overflow_add-spent
 overflow_add-spent c =
@@ -42,27 +40,24 @@ overflow_add-spent c =
     omega arith
 
 pub loop-reference-preserved : goal.loop-reference-preserved
-unfolding heads
 loop-reference-preserved c =
     let loop = c.loop-reference in
     let args = c.args in
     let w = c.requires.1.1 in
-    let n = heads_length args.rule.now _ w.premises c.told-rule in
-    let e = heads_index args.rule.now _ w.premises c.told-rule loop.reference-index c.loop-reference-test.true in
+    let n : loop.reference-index < column args.rule.now 4 = omega (arith, heads_length args.rule.now, rw c.premises-reference-items.ensures at c.loop-reference-test.true) in
+    let e = ap (λ l. get_or l loop.reference-index 0) c.premises-reference-items.ensures ∙ heads_index args.rule.now loop.reference-index n in
     let counted = walked_words c.meet.ensures _ c.in-Some.is in
     let a = counted.1 in
     let l = loop.invariant.0 in (
       omega arith,
-      going_on (term_of args.words.now) args.rule.now _ loop.invariant.1 (omega (arith, c.loop-reference-test.true)) (rw e at counted.0)
+      going_on (term_of args.words.now) args.rule.now _ loop.invariant.1 n (rw e at counted.0)
           (λ e' h. rw e at (c.meet.ensures.recorded (omega arith) e' h)),
     )
 
 pub returns : goal.returns
-unfolding heads
 returns c =
     let args = c.args in
     let loop = c.loop-reference in
-    let n = heads_length args.rule.now _ c.requires.1.1.premises c.told-rule in
-    let l : column args.rule.now 4 ≤ loop.reference-index = omega (arith, c.loop-reference-test.false) in
+    let l : column args.rule.now 4 ≤ loop.reference-index = omega (arith, heads_length args.rule.now, rw c.premises-reference-items.ensures at c.loop-reference-test.false) in
     walked_tells (premises_of args.words.now args.rule.now) refl (going_words (term_of args.words.now) args.rule.now _ loop.invariant.1 l)
     (going_records (term_of args.words.now) args.rule.now _ loop.invariant.1 l)
