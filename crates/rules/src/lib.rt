@@ -98,13 +98,7 @@ fn judgments(
         rows: source.premises,
         symbols: source.symbols,
     };
-    let place = patterns::judgments(
-        premises,
-        variables,
-        words,
-        &mut heads[..source.n],
-        from,
-    )?;
+    let place = patterns::judgments(premises, variables, words, &mut heads[..source.n], from)?;
     let conclusions = SourceTerms {
         rows: source.conclusions,
         ..premises
