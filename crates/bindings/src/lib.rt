@@ -20,7 +20,7 @@ ghost use Rattle.bindings.specs.Promises.{Walked, Free, Checked, BindingsChecked
 use acyclicity::is_acyclic;
 use arena::Terms;
 use trails::{check_rest, check_trail};
-use visits::{visit, visit_edges};
+use visits::Queue;
 
 // Bindings in lent rows: by variable the value, 0 or 1 + a reference, and beside it the trail, whose first `bound` entries are the bound variables in
 // their order.
@@ -62,19 +62,22 @@ pub fn occurs(
     requires fact_4 { Free terms.room terms.used marks.old }
     ensures { Checked terms.entry.room terms.entry.words.now bindings.entry.rows.now marks.old marks.new bindings.entry.bound x r result }
 {
-    let mut t = visit(terms, marks, 0, r);
+    let mut queue = Queue { marks, end: 0 };
+    queue.visit(terms, r);
     let mut h = 0;
     // Stays: the queue grows while it is gone through, so no range is known at the start.
-    while h < t {
-        let y = marks[h as usize][1];
+    while h < queue.end {
+        let [_, y] = queue.marks[h as usize];
         if y == x {
-            undo(marks, t, 0);
+            let end = queue.end;
+            undo(queue.marks, end, 0);
             return true;
         }
-        t = visit_edges(terms, bindings, marks, t, y);
+        queue.visit_edges(terms, bindings, y);
         h += 1;
     }
-    undo(marks, t, 0);
+    let end = queue.end;
+    undo(queue.marks, end, 0);
     false
 }
 

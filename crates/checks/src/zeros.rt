@@ -4,7 +4,7 @@ ghost use Rattle.unifier.specs.Promises.{Scratch};
 ghost use Rattle.checks.specs.Ready.{Joined, Zeros};
 
 // Or-s a row to what was seen.
-// Stays: as a chain this is a `fold` in the `fold` of `are_zero` and no plainer; `all` would have a branch at each number.
+// Stays: as a chain this is a `fold` in the `fold` of `are_zero` and no plainer.
 fn join<const N: usize>(seen: u32, row: &[u32; N]) -> u32
     ensures { Joined seen row.now result }
 {
@@ -16,6 +16,7 @@ fn join<const N: usize>(seen: u32, row: &[u32; N]) -> u32
 }
 
 // Whether there are at least so many rows, and all are zero.
+// Stays: tried with `are_all`: 265,636 rows of two numbers take 171 us in place of 48 us.
 pub fn are_zero<const N: usize>(rows: &[[u32; N]], least: usize) -> bool
     ensures { Tells result (Zeros rows.now least) }
 {
