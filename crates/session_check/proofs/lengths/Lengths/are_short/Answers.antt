@@ -9,7 +9,7 @@ pub returns-else-self-references-2 : goal.returns-else-self-references-2
 returns-else-self-references-2 c =
     let marks : ltb c.args.self.marks (term_room + c.capped-capped.result.words) ≡ false =
     elim c.if-self-references.branch [
-      then-self-references w ↦ true_false w.if-self-references.true (sym w.value-is ∙ c.if-self-references-2.false)
-    | else-self-references w ↦ sym w.value-is ∙ c.if-self-references-2.false
+      | then-self-references w ↦ true_false w.if-self-references.true (sym w.value-is ∙ c.if-self-references-2.false)
+      | else-self-references w ↦ sym w.value-is ∙ c.if-self-references-2.false
     ] in
     grind (arith, marks)
