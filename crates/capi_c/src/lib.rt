@@ -1,5 +1,5 @@
 // The functions of `capi` for programs in other languages, as a static library: each is exported under its name, with the contract that it has there.
-// Stays: the functions of `capi` have no names that C can call, so that each stands here again with that name.
+// Stays: a crate is a library or a static library, not both, and `prover_capi` calls `capi`; so its functions stand here again, to be exported.
 #![tactic(auto)]
 
 ghost use Rattle.std.specs.Prelude.{◌≡◌};
@@ -149,7 +149,7 @@ pub extern "C" fn horn_open(
 }
 
 // `capi::horn_prove`.
-// Stays: the parameters are those that programs in C pass, each buffer by itself, and those of `capi::horn_prove`, which has no name that C can call.
+// Stays: the parameters are those that programs in C pass, each buffer by itself.
 #[unsafe(no_mangle)]
 pub extern "C" fn horn_prove(
     text: &[u8],

@@ -26,7 +26,7 @@ use Rattle.attempts.specs.Promises.{Added}
 use Rattle.attempts.specs.Extending.{held_kept, form_back}
 use Rattle.tree_rows.specs.Trees.{tree_row}
 use Rattle.search_machine.specs.State.{term, rules_from, frame_at, entries, top, Start, Well, limits, Holds, Proving, Ending, Refusing}
-use Rattle.search_machine.specs.Moves.{to_start}
+use Rattle.search_machine.specs.Moves.{to_start, in_use_of}
 use Rattle.search_machine.specs.Promises.{Ready, Stopped, Searched}
 use Rattle.search_machine.specs.Carry.{term_kept, refers_kept}
 use Rattle.search_machine.specs.Ways.{case_at}
@@ -57,9 +57,9 @@ module _ {F F' : Rows} {W W' : List ℕ} {T T' : Rows} {m : Machine} {d t u : �
   left_at r k e l = record { is = subst (λ (k : Mode). Leaves F F' W W' T T' m d t u r k) (sym e) l }
 
   pub left_proved : {F₁ : Rows} → m.mode ≡ Proved → F₁ ≡ tree_rows d F m.frames → T' ≡ T → Wiped F₁ F' W W' m m.used m.frames
-      → Left F F' W W' T T' m d t u (Ok (Found m.frames m.steps m.counter m.bound m.used))
+      → Left F F' W W' T T' m d t u (Ok (Found m.frames m.steps (in_use_of m)))
   left_proved e f b w =
-      left_at (Ok (Found m.frames m.steps m.counter m.bound m.used)) Proved e
+      left_at (Ok (Found m.frames m.steps (in_use_of m))) Proved e
       (refl, b, subst (λ (B : Rows). Wiped B F' W W' m m.used m.frames) f w)
 
   pub left_over : m.mode ≡ Over → T' ≡ T → Wiped F F' W W' m u 0 → Left F F' W W' T T' m d t u (Ok (Failed m.steps m.cut m.counter))
@@ -128,7 +128,7 @@ module _ {a : Allowed} {P : List ℕ} {R F : Rows} {W : List ℕ} {T L M S : Row
         record { text = text; arities = arities; words = W; rows = T; frames = F; counter = c; used = u; bound = t; steps = s; depth = d }
 
     begins : (text arities : List ℕ) → Holds a P R F W T (start text arities) (bounded_of a text P R W T g d s c t u)
-        (to_start g (d - 1) (s - 1) c t u)
+        (to_start g (d - 1) (s - 1) (record { counter = c; bound = t; used = u }))
     unfolding start search
     begins text arities =
         let st = asking.steps in
@@ -167,7 +167,7 @@ module _ {a : Allowed} {P : List ℕ} {R F : Rows} {W : List ℕ} {T L M S : Row
           frames_long = refl;
         }
 
-    module _ {m₀ : Machine} (e₀ : m₀ ≡ to_start g (d - 1) (s - 1) c t u) where
+    module _ {m₀ : Machine} (e₀ : m₀ ≡ to_start g (d - 1) (s - 1) (record { counter = c; bound = t; used = u })) where
       begun : (text arities : List ℕ) → Holds a P R F W T (start text arities) (bounded_of a text P R W T g d s c t u) m₀
       begun text arities =
           subst (λ (m : Machine). Holds a P R F W T (start text arities) (bounded_of a text P R W T g d s c t u) m) (sym e₀)
@@ -328,7 +328,7 @@ module _ {a : Allowed} {P : List ℕ} {R F : Rows} {W : List ℕ} {T L M S : Row
                 }
 
             bound_found : Bounded a P R F F'' W W'' T T'' L L' M M' S S' g d s c t u
-                (Ok (Found m.frames m.steps m.counter m.bound m.used))
+                (Ok (Found m.frames m.steps (in_use_of m)))
             unfolding start
             bound_found = record {
               says = λ text. record {

@@ -20,6 +20,7 @@ use Rattle.tree_rows.specs.Trees.{Lists, entries_from}
 use Rattle.search_machine.specs.State.{term, Refers, rules_from, RulesStored, RulesInForm, Well}
 use Rattle.search_machine.specs.Promises.{Stopped}
 use Rattle.search_machine.specs.Allowed.{Allowed}
+use Rattle.search_machine.specs.Moves.{in_use_of}
 use Rattle.search_machine.specs.declared.Machine.{Machine}
 use Rattle.search_machine.specs.declared.Mode.{Mode}
 use Rattle.search_machine.specs.declared.Mode.TheVariants.{Enter, Try, Fail, Proved as Done, Over, Refused as Exceeding}
@@ -90,7 +91,7 @@ pub record Counted (a : Allowed) (W : List ℕ) (T : Rows) (c t u c' : ℕ) : Ty
 -- What an answer says of the theory's result.
 abbrev pub Says : Allowed → List ℕ → Rows → Rows → Rows → List ℕ → List ℕ → Rows → Rows → ℕ → ℕ → ℕ → ℕ → Result → Outcome Came Refusal → Type 0
 Says a P R F F' W W' T T' s c t u o (Err e) = (number_of e ≡ 37) × (refused ≡ o) × Unchanged F F' W W' T T'
-Says a P R F F' W W' T T' s c t u o (Ok (Found n b c' t' u')) = Shown a P R F F' W W' T T' s c t u o n b c' t' u'
+Says a P R F F' W W' T T' s c t u o (Ok (Found n b i)) = Shown a P R F F' W W' T T' s c t u o n b i.counter i.bound i.used
 Says a P R F F' W W' T T' s c t u o (Ok (Failed b cut c')) = (failed b cut c' ≡ o) × (b ≤ s) × Counted a W T c t u c' × Unchanged F F' W W' T T'
 
 -- `at_bound` searched at the depth bound d; the scratch is as it was.
@@ -109,7 +110,7 @@ pub record Wiped (F F' : Rows) (W W' : List ℕ) (m : Machine) (u n : ℕ) : Typ
 -- What `leave` leaves, by the mode in which the machine has stopped; t and u are the bindings and words at the start.
 abbrev pub Leaves : Rows → Rows → List ℕ → List ℕ → Rows → Rows → Machine → ℕ → ℕ → ℕ → Outcome Came Refusal → Mode → Type 0
 Leaves F F' W W' T T' m d t u r Done =
-    (r ≡ Ok (Found m.frames m.steps m.counter m.bound m.used)) × (T' ≡ T) × Wiped (tree_rows d F m.frames) F' W W' m m.used
+    (r ≡ Ok (Found m.frames m.steps (in_use_of m))) × (T' ≡ T) × Wiped (tree_rows d F m.frames) F' W W' m m.used
     m.frames
 Leaves F F' W W' T T' m d t u r Over = (r ≡ Ok (Failed m.steps m.cut m.counter)) × (T' ≡ T) × Wiped F F' W W' m u 0
 Leaves F F' W W' T T' m d t u r Exceeding = (r ≡ Err OverLimit) × (T' ≡ undone T t (m.bound - t)) × Wiped F F' W W' m u 0
@@ -153,7 +154,7 @@ pub record Proven (a : Allowed) (P : List ℕ) (R F F' : Rows) (W W' : List ℕ)
 -- What an answer says of the theory's verdict.
 abbrev pub Answers : Allowed → List ℕ → Rows → Rows → Rows → List ℕ → List ℕ → Rows → Rows → ℕ → ℕ → ℕ → Verdict → Outcome Answer Refusal → Type 0
 Answers a P R F F' W W' T T' c t u v (Err e) = (number_of e ≡ 37) × (refusal 37 ≡ v) × Unchanged F F' W W' T T'
-Answers a P R F F' W W' T T' c t u v (Ok (Proved n k c' t' u')) = Proven a P R F F' W W' T T' c t u v n k c' t' u'
+Answers a P R F F' W W' T T' c t u v (Ok (Proved n k i)) = Proven a P R F F' W W' T T' c t u v n k i.counter i.bound i.used
 Answers a P R F F' W W' T T' c t u v (Ok (Nothing k c')) = (nothing k c' ≡ v) × Counted a W T c t u c' × Unchanged F F' W W' T T'
 Answers a P R F F' W W' T T' c t u v (Ok (Undecided k c')) = (undecided k c' ≡ v) × Counted a W T c t u c' × Unchanged F F' W W' T T'
 

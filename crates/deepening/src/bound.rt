@@ -8,7 +8,7 @@ use super::clearing::clear_written;
 use super::trees::write_tree;
 use bindings::undo;
 use refusals::Refusal;
-use search_machine::{Machine, Mode, Program, Store, run};
+use search_machine::{InUse, Machine, Mode, Program, Store, run};
 
 // What came of one depth bound that the limits allow.
 // Stays: a bound without a proof is no error, and an `Option` would leave out the steps and the variables that it took.
@@ -18,9 +18,7 @@ pub enum Came {
     Found {
         applications: u32,
         left: u32,
-        counter: u32,
-        bound: u32,
-        used: u32,
+        in_use: InUse,
     },
     // None: steps left, whether a goal was cut off, and variables in use.
     Failed {
@@ -33,7 +31,7 @@ pub enum Came {
 // The end of a bound: a proof's frames become its rows, and what else was written is cleared; without a proof all that was written is cleared, and
 // refused, the bindings are undone too.
 fn leave(store: &mut Store, m: Machine, question: Question, depth: u32) -> Result<Came, Refusal>
-    requires { Leaving store.old.bindings.now m question.bound }
+    requires { Leaving store.old.bindings.now m question.in_use.bound }
     ensures left { LeftIn store.old store.new m question depth result }
     ensures lent { IsLent store.old store.new }
 {
@@ -44,13 +42,11 @@ fn leave(store: &mut Store, m: Machine, question: Question, depth: u32) -> Resul
             Ok(Came::Found {
                 applications: m.frames,
                 left: m.steps,
-                counter: m.counter,
-                bound: m.bound,
-                used: m.used,
+                in_use: m.in_use(),
             })
         }
         Mode::Over => {
-            clear_written(store, question.used, 0, m);
+            clear_written(store, question.in_use.used, 0, m);
             Ok(Came::Failed {
                 left: m.steps,
                 cut: m.cut,
@@ -58,8 +54,8 @@ fn leave(store: &mut Store, m: Machine, question: Question, depth: u32) -> Resul
             })
         }
         _ => {
-            undo(store.bindings, m.bound, question.bound);
-            clear_written(store, question.used, 0, m);
+            undo(store.bindings, m.bound, question.in_use.bound);
+            clear_written(store, question.in_use.used, 0, m);
             Err(Refusal::OverLimit)
         }
     }
@@ -77,7 +73,7 @@ pub fn at_bound(
     ensures lent { IsLent store.old store.new }
 {
     let steps = question.steps;
-    let counter = question.counter;
+    let counter = question.in_use.counter;
     if steps == 0 {
         return Ok(Came::Failed {
             left: 0,
@@ -92,14 +88,7 @@ pub fn at_bound(
             counter,
         });
     }
-    let first = Machine::at_start(
-        question.goal,
-        depth - 1,
-        steps - 1,
-        counter,
-        question.bound,
-        question.used,
-    );
+    let first = Machine::at_start(question.goal, depth - 1, steps - 1, question.in_use);
     let m = run(program, store, first);
     leave(store, m, question, depth)
 }

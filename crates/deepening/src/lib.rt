@@ -16,16 +16,14 @@ ghost use Rattle.deepening.specs.Groups.{AskingIn, DeepenedIn};
 
 use bound::{Came, at_bound};
 use refusals::Refusal;
-use search_machine::{Program, Store};
+use search_machine::{InUse, Program, Store};
 
-// A goal that is asked: its reference, the steps that the search may use, and the variables, bindings and words of the session.
+// A goal that is asked: its reference, the steps that the search may use, and what of the session is in use.
 #[derive(Clone, Copy)]
 pub struct Question {
     pub goal: u32,
     pub steps: u32,
-    pub counter: u32,
-    pub bound: u32,
-    pub used: u32,
+    pub in_use: InUse,
 }
 
 // The answer to a goal that the limits allow.
@@ -36,9 +34,7 @@ pub enum Answer {
     Proved {
         applications: u32,
         steps: u32,
-        counter: u32,
-        bound: u32,
-        used: u32,
+        in_use: InUse,
     },
     // No proof, or undecided: steps used, and variables in use.
     Nothing {
@@ -72,27 +68,24 @@ pub fn prove(
 {
     let mut depth = 4;
     let mut taken = 0;
-    let mut met = question.counter;
+    let mut met = question.in_use.counter;
     while depth <= largest {
-        let asked = Question {
+        let in_use = InUse {
             counter: met,
-            ..question
+            ..question.in_use
         };
+        let asked = Question { in_use, ..question };
         let came = at_bound(program, store, asked, depth)?;
         match came {
             Came::Found {
                 applications,
                 left,
-                counter,
-                bound,
-                used,
+                in_use,
             } => {
                 return Ok(Answer::Proved {
                     applications,
                     steps: question.steps - left,
-                    counter,
-                    bound,
-                    used,
+                    in_use,
                 });
             }
             Came::Failed { left, cut, counter } => {

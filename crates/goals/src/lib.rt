@@ -16,12 +16,15 @@ ghost use Rattle.goals.specs.Storing.{name_row, StoreAsked, GoalStored};
 
 use arena::{PATTERN_ROOM, RulePart, TERM_ROOM};
 use names::{SourceTerms, VariableRow};
-use patterns::Place;
+use patterns::{Place, VARIABLES};
 use refusals::Refusal;
 use sessions::{NAME_VARIABLE, NameRow, SessionCounts};
 
 // How many nodes a goal may have.
 const NODES: usize = 1024;
+
+// How many words the buffer for a goal's words has: two for each node.
+pub const WORDS: usize = 2 * NODES;
 
 // A compiled goal: its reference, how many variables there are with it, the session's names first, and how many words it has.
 #[derive(Clone, Copy)]
@@ -39,7 +42,8 @@ fn copy_names(names: &[NameRow], variables: &mut [VariableRow])
         ≡ map variable_for (names_in text names.now (length names.now)) }
 {
     for (i, row) in names.iter().enumerate() {
-        variables[i] = [row[0], row[1], row[2], row[3]];
+        let [kind, start, size, sort, _] = *row;
+        variables[i] = [kind, start, size, sort];
     }
 }
 
@@ -120,7 +124,7 @@ pub fn store(
     ensures { GoalStored variables.now pattern.now goal names.old words.old counts
         result names.new words.new }
 {
-    let mut places = [0u32; 64];
+    let mut places = [0u32; VARIABLES];
     let n = counts.names as usize;
     let v = goal.variables as usize;
     enter_names(&variables[n..v], &mut names[n..v], counts.variables);

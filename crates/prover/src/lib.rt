@@ -66,7 +66,8 @@ pub fn prove_cleared(
 }
 
 // Proves the goal of a query, in a session, where all that is read is in form and the buffers are long enough.
-// Stays: names, store and counts are three, since the counts afterwards are in the verdict; in a struct with the buffers they would be out of date.
+// Stays: names and store are two, since the search is lent the store alone and knows no names; counts beside them would be out of date, as those
+// afterwards are in the verdict.
 pub fn prove_listed(
     query: Query,
     names: &mut [NameRow],
@@ -83,7 +84,8 @@ pub fn prove_listed(
 }
 
 // Proves the goal of a query, in a session.
-// Stays: tried with a `Store` as parameter: the test would be lent some of its buffers to read and the marks to write, and the proof of that did not close.
+// Stays: programs in C lend each buffer by itself, and the test is lent the marks to write and the others to read; of a `Store` it would get each field
+// apart, and `capi` would make it in as many lines.
 pub fn prove(
     query: Query,
     names: &mut [NameRow],

@@ -6,7 +6,9 @@ ghost use Rattle.prover.specs.Preparing.{search_limits, PrepareAsked, Preparing}
 
 use super::Query;
 use attempts::SearchLimits;
+use goals::WORDS;
 use names::SourceTerms;
+use patterns::VARIABLES;
 use refusals::Refusal;
 use sessions::{NameRow, SessionCounts};
 use words::Limits;
@@ -15,6 +17,7 @@ use words::Limits;
 const DEPTH: u32 = 128;
 
 // A goal that stands in the session's words: its reference, and the names, variables and words with it.
+// Stays: as `SessionCounts` these would have the session's bindings beside them, which no goal changes, and each contract would say that they are those.
 #[derive(Clone, Copy)]
 pub struct StoredGoal {
     pub node: u32,
@@ -31,6 +34,7 @@ pub fn is_too_much(query: Query) -> bool
 }
 
 // How many variables and words the limits allow a search.
+// Stays: neither type is of this crate, and `attempts`, which has `SearchLimits`, knows no `Limits`, so that no `From` can stand here or there.
 pub fn search_limits(limits: Limits) -> SearchLimits
     ensures { result ≡ search_limits limits }
 {
@@ -53,8 +57,8 @@ pub fn prepare(
     ensures { Preparing query.entry.goal.text.now query.entry.limits query.entry.signature.symbols.now query.entry.signature.counts.symbols
         query.entry.goal.rows.now query.entry.goal.at names.old words.old session result names.new words.new }
 {
-    let mut variables = [[0u32; 4]; 64];
-    let mut pattern = [0u32; 2048];
+    let mut variables = [[0u32; 4]; VARIABLES];
+    let mut pattern = [0u32; WORDS];
     let n = session.names as usize;
     let source = SourceTerms {
         text: query.goal.text,

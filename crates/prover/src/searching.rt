@@ -9,7 +9,7 @@ use super::Query;
 use super::preparing::StoredGoal;
 use deepening::{Answer as Deepened, Question};
 use refusals::Refusal;
-use search_machine::{Program, Store};
+use search_machine::{InUse, Program, Store};
 use sessions::{NameRow, SessionCounts, Verdict};
 
 // Searches for a goal that stands in the session. Without a proof its words are cleared; refused by the limits, so are its names.
@@ -29,9 +29,11 @@ pub fn search_goal(
     let question = Question {
         goal: goal.node,
         steps: query.steps,
-        counter: goal.variables,
-        bound: session.bound,
-        used: goal.words,
+        in_use: InUse {
+            counter: goal.variables,
+            bound: session.bound,
+            used: goal.words,
+        },
     };
     match deepening::prove(program, store, question, query.depth) {
         Err(refusal) => {
@@ -43,18 +45,16 @@ pub fn search_goal(
             Deepened::Proved {
                 applications,
                 steps,
-                counter,
-                bound,
-                used,
+                in_use,
             },
         ) => Ok(Verdict::Proved {
             steps,
             nodes: applications,
             counts: SessionCounts {
                 names: goal.names,
-                variables: counter,
-                bound,
-                words: used,
+                variables: in_use.counter,
+                bound: in_use.bound,
+                words: in_use.used,
             },
         }),
         Ok(Deepened::Nothing { steps, counter }) => Ok(Verdict::Nothing {

@@ -27,24 +27,23 @@ pub record Heads (W : List ℕ) (T : Rows) (v u t g h : ℕ) : Type 0 where
   pub clash : (P : List ℕ) (s : ℕ) → Comparable term_room P W T v u t g s → pattern_room ≤ s → cells P (s - pattern_room) ≢ h
       → Clashes term_room P W T t g s
 
--- A rule's row is there, and so is the header of its conclusion.
-pub record Readable (R : Rows) (P : List ℕ) (r : ℕ) : Type 0 where
-  pub known : r < length R
-  pub header : pattern_room ≤ column (row_at R r) 5 → column (row_at R r) 5 - pattern_room < length P
-  pub low : pattern_room ≤ column (row_at R r) 5 → column (row_at R r) 5 ≤ headers
+-- A conclusion's header is there.
+pub record Readable (P : List ℕ) (s : ℕ) : Type 0 where
+  pub header : pattern_room ≤ s → s - pattern_room < length P
+  pub low : pattern_room ≤ s → s ≤ headers
 
--- The conclusion of a rule is a node with another header.
-pub record Differs (R : Rows) (P : List ℕ) (h : Option ℕ) (r : ℕ) : Type 0 where
+-- A conclusion is a node with another header.
+pub record Differs (P : List ℕ) (h : Option ℕ) (s : ℕ) : Type 0 where
   pub header : ℕ
   pub known : h ≡ Some header
-  pub node : pattern_room ≤ column (row_at R r) 5
-  pub other : cells P (column (row_at R r) 5 - pattern_room) ≢ header
+  pub node : pattern_room ≤ s
+  pub other : cells P (s - pattern_room) ≢ header
 
--- What is known of a goal, which may lead to the header h, where a rule is judged.
-pub record Judged (R : Rows) (P : List ℕ) (W : List ℕ) (T : Rows) (m : Machine) (h : Option ℕ) (r : ℕ) : Type 0 where
-  pub readable : Readable R P r
-  pub heads : IfSome h (Heads W T m.counter m.used m.bound m.goal)
-  pub comparable : Comparable term_room P W T m.counter m.used m.bound m.goal (column (row_at R r) 5)
+-- What is known of a goal, which may lead to the header h, where a conclusion is judged.
+pub record Judged (P W : List ℕ) (T : Rows) (v u t g : ℕ) (h : Option ℕ) (s : ℕ) : Type 0 where
+  pub readable : Readable P s
+  pub heads : IfSome h (Heads W T v u t g)
+  pub comparable : Comparable term_room P W T v u t g s
 
 -- The machine is about to try a rule; frames and scratch are not looked at.
 pub record Choosing (a : Allowed) (P : List ℕ) (R : Rows) (W : List ℕ) (T : Rows) (m : Machine) : Type 0 where

@@ -46,11 +46,11 @@ module _ {W : List ℕ} {T : Rows} {v u t g q : ℕ} (walked : Walked term_room 
 -- One rule
 
 -- A conclusion with another header than the goal's clashes with it.
-pub judged_differs : {R : Rows} {P W : List ℕ} {T : Rows} {m : Machine} {h : Option ℕ} {r : ℕ} → Judged R P W T m h r → Differs R P h r
-    → Clashes term_room P W T m.bound m.goal (column (row_at R r) 5)
-judged_differs {W = W} {T = T} {m = m} judged differs =
-    let heads : IfSome (Some differs.header) (Heads W T m.counter m.used m.bound m.goal) =
-    subst (λ (h : Option ℕ). IfSome h (Heads W T m.counter m.used m.bound m.goal)) differs.known judged.heads in
+pub judged_differs : {P W : List ℕ} {T : Rows} {v u t g s : ℕ} {h : Option ℕ} → Judged P W T v u t g h s → Differs P h s
+    → Clashes term_room P W T t g s
+judged_differs {W = W} {T = T} {v = v} {u = u} {t = t} {g = g} judged differs =
+    let heads : IfSome (Some differs.header) (Heads W T v u t g) =
+    subst (λ (h : Option ℕ). IfSome h (Heads W T v u t g)) differs.known judged.heads in
     heads.clash _ _ judged.comparable differs.node differs.other
 
 module _ {most limit : ℕ} {P : List ℕ} {R : Rows} {W : List ℕ} {T L M S : Rows} {c u t g r : ℕ}
@@ -58,9 +58,8 @@ module _ {most limit : ℕ} {P : List ℕ} {R : Rows} {W : List ℕ} {T L M S : 
   row_comparable : Comparable term_room P W T c u t g (column (row_at R r) 5)
   row_comparable = head_comparable (head_asked asked.asked)
 
-  row_readable : Readable R P r
+  row_readable : Readable P (column (row_at R r) 5)
   row_readable = record {
-    known = asked.known;
     low = λ n. let q = row_comparable.pattern_refers.node n in let b = row_comparable.low in omega arith;
     header = λ n. let q = row_comparable.pattern_refers.node n in let b = row_comparable.there in omega arith;
   }
@@ -107,7 +106,8 @@ module _ {a : Allowed} {P : List ℕ} {R : Rows} {W : List ℕ} {T : Rows} {m : 
       let h = at_start choosing.frames choosing.start choosing.result choosing.holds in
       record { form = h.well.form; refers = h.refers }
 
-  pub choosing_judged : {h : Option ℕ} → IfSome h (Heads W T m.counter m.used m.bound m.goal) → (r : ℕ) → r < a.rules → Judged R P W T m h r
+  pub choosing_judged : {h : Option ℕ} → IfSome h (Heads W T m.counter m.used m.bound m.goal) → (r : ℕ) → r < a.rules
+      → Judged P W T m.counter m.used m.bound m.goal h (column (row_at R r) 5)
   choosing_judged heads r l = record { readable = row_readable (asked_at r l); heads = heads; comparable = row_comparable (asked_at r l) }
 
   trying_same : (F : Rows) (z : Start) (o : Result) → Trying a P R F W T z o m

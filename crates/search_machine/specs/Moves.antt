@@ -4,6 +4,7 @@ use Rattle.arena.specs.Rows.{Rows}
 use Rattle.attempts.specs.declared.SearchLimits.{SearchLimits}
 use Rattle.attempts.specs.declared.SearchState.{SearchState}
 use Rattle.search_machine.specs.State.{frame_at}
+use Rattle.search_machine.specs.declared.InUse.{InUse}
 use Rattle.search_machine.specs.declared.Machine.{Machine}
 use Rattle.search_machine.specs.declared.Mode.{Mode}
 use Rattle.search_machine.specs.declared.Mode.TheVariants.{Enter, Try, Fail, Proved, Over, Refused}
@@ -58,9 +59,9 @@ to_retry m x =
       rule = x.rule + 1;
     }
 
--- The first state: a goal, the depth that its premises get, and steps, variables, bindings and words.
-abbrev pub to_start : ℕ → ℕ → ℕ → ℕ → ℕ → ℕ → Machine
-to_start goal depth steps counter bound used =
+-- The first state: a goal, the depth that its premises get, the steps, and what is in use.
+abbrev pub to_start : ℕ → ℕ → ℕ → InUse → Machine
+to_start goal depth steps i =
     record {
       mode = Try;
       parent = 0;
@@ -68,15 +69,19 @@ to_start goal depth steps counter bound used =
       frames = 0;
       steps = steps;
       cut = false;
-      counter = counter;
-      bound = bound;
-      used = used;
+      counter = i.counter;
+      bound = i.bound;
+      used = i.used;
       goal = goal;
       depth = depth;
       rule = 0;
-      top = used;
+      top = i.used;
       high = 0;
     }
+
+-- What of a state is in use.
+abbrev pub in_use_of : Machine → InUse
+in_use_of m = record { counter = m.counter; bound = m.bound; used = m.used }
 
 -- Where an attempt with the next rule starts.
 abbrev pub state_for : Machine → SearchLimits → SearchState

@@ -67,3 +67,10 @@ unfolding premise_ref
 premise_is {rules} {x} {k} asked lent e =
     e ∙ ap₂ (λ (p : List ℕ) (w : ℕ). moved p x.counter (pattern_room + column (row_at rules x.rule) 6)
     (term_room + (x.used + column (row_at rules x.rule) 8)) w) lent (sym asked.premise)
+
+-- The same of a row that is the rule's.
+pub premise_of : {rules : Rows} {x : Frame} {k r : ℕ} {places row : List ℕ} → PremiseAsked rules x k → row_at rules x.rule ≡ row
+    → places ≡ places_in row
+    → r ≡ moved places x.counter (pattern_room + column row 6) (term_room + (x.used + column row 8)) (column row (10 + k))
+    → r ≡ premise_ref rules x k
+premise_of {places = places} asked is lent e = premise_is {places = places} asked (rw is lent) (rw is e)

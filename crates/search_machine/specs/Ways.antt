@@ -15,6 +15,7 @@ use Rattle.unifier.specs.Promises.{Scratch}
 use Rattle.resolution.specs.Search.{Result}
 use Rattle.attempts.specs.declared.Tried.TheVariants.{Missed, Entered}
 use Rattle.search_machine.specs.Storage.{RowAsked, RowTried, PremiseAsked, Attempt}
+use Rattle.names.specs.Symbols.{column, row_at}
 use Rattle.search_machine.specs.State.{arity, premise_ref, frame_at, row_of, Start, Holds, Case, Entering, Trying, Failing}
 use Rattle.search_machine.specs.Moves.{to_place, to_fail, to_stop, to_goal, to_rule, to_body, to_retry, frame_for, weights, current, measure}
 use Rattle.search_machine.specs.Promises.{Ready, Stepped, Moved, Seen, Returned, Known, Choice, Live, Stopped, Searched}
@@ -71,6 +72,11 @@ pub stepped_as : {a : Allowed} {P : List ℕ} {R F F' : Rows} {W W' : List ℕ} 
     → r ≡ m' → Stepped a P R F F' W W' T T' L L' M M' S S' m m' → Stepped a P R F F' W W' T T' L L' M M' S S' m r
 stepped_as {a} {P} {R} {F} {F'} {W} {W'} {T} {T'} {L} {L'} {M} {M'} {S} {S'} {m} e h =
     subst (λ (r : Machine). Stepped a P R F F' W W' T T' L L' M M' S S' m r) (sym e) h
+
+-- How many premises a rule has is the fifth column of its row.
+pub arity_is : (R : Rows) (r : ℕ) → column (row_at R r) 4 ≡ arity R r
+unfolding arity
+arity_is R r = refl
 
 module _ {a : Allowed} {R F : Rows} {m : Machine} (s : Seen a R F m) where
   e : m.mode ≡ Enter

@@ -1,7 +1,6 @@
 // The rules that a goal passes over by arithmetic: those whose conclusion clashes with it by heads. They number their variables and count
 // their words as if they were tried, and nothing is copied.
 ghost use Rattle.std.specs.Prelude.{◌≡◌, false, IfSome};
-ghost use Rattle.names.specs.Symbols.{column, row_at};
 ghost use Rattle.arena.specs.Copies.{term_room};
 ghost use Rattle.attempts.specs.Clashes.{Clashes};
 ghost use Rattle.search_machine.specs.Groups.{allowed_in};
@@ -14,60 +13,43 @@ use bindings::StoredBindings;
 use rules::columns::{CONCLUSION, CONCLUSION_WORDS, MET, PREMISE_WORDS};
 
 // The header that the bindings lead to from the goal; none where they lead to a variable.
-fn goal_header(store: &Store, m: Machine) -> Option<u32>
-    requires { Goal store.now.words.now store.now.bindings.now m.counter m.used m.bound m.goal }
-    ensures { IfSome result (Heads store.now.words.now store.now.bindings.now m.counter m.used m.bound m.goal) }
+fn goal_header(terms: Terms, held: StoredBindings, goal: u32) -> Option<u32>
+    requires room { terms.room ≡ term_room }
+    requires goal { Goal terms.words.now held.rows.now terms.variables terms.used held.bound goal }
+    ensures { IfSome result (Heads terms.entry.words.now held.entry.rows.now terms.entry.variables terms.entry.used held.entry.bound goal) }
 {
-    let terms = Terms {
-        words: store.words,
-        room: TERM_ROOM,
-        variables: m.counter,
-        used: m.used,
-    };
-    let held = StoredBindings {
-        rows: store.bindings,
-        bound: m.bound,
-    };
-    let node = goal_node(terms, held, m.goal)?;
-    Some(store.words[(node - TERM_ROOM) as usize])
+    let node = goal_node(terms, held, goal)?;
+    Some(terms.header(node))
 }
 
-// Whether the conclusion of a rule may unify with a goal that leads to this header: a node with another one cannot.
-fn may_unify(program: Program, header: Option<u32>, rule: u32) -> bool
-    requires { Readable program.rules.now program.pattern.now rule }
-    ensures { result ≡ false → Differs program.entry.rules.now program.entry.pattern.now header rule }
+// Whether a conclusion may unify with a goal that leads to this header: a node with another one cannot.
+fn may_unify(pattern: &[u32], header: Option<u32>, conclusion: u32) -> bool
+    requires { Readable pattern.now conclusion }
+    ensures { result ≡ false → Differs pattern.now header conclusion }
 {
     let Some(header) = header else {
         return true;
     };
-    let conclusion = program.rules[rule as usize][CONCLUSION];
     if conclusion < PATTERN_ROOM {
         return true;
     }
-    program.pattern[(conclusion - PATTERN_ROOM) as usize] == header
+    pattern[(conclusion - PATTERN_ROOM) as usize] == header
 }
 
-// Whether a rule has to be tried: its conclusion does not clash with the goal, by its head or by those of its arguments.
-fn is_candidate(program: Program, store: &Store, m: Machine, header: Option<u32>, rule: u32) -> bool
-    requires { Judged program.rules.now program.pattern.now store.now.words.now store.now.bindings.now m header rule }
-    ensures { result ≡ false → Clashes term_room program.entry.pattern.now store.now.words.now store.now.bindings.now m.bound m.goal
-        (column (row_at program.entry.rules.now rule) 5) }
+// Whether the rule of a conclusion has to be tried: it does not clash with the goal, by its head or by those of its arguments.
+fn is_candidate(
+    pattern: &[u32],
+    terms: Terms,
+    held: StoredBindings,
+    goal: u32,
+    header: Option<u32>,
+    conclusion: u32,
+) -> bool
+    requires room { terms.room ≡ term_room }
+    requires judged { Judged pattern.now terms.words.now held.rows.now terms.variables terms.used held.bound goal header conclusion }
+    ensures { result ≡ false → Clashes term_room pattern.now terms.entry.words.now held.entry.rows.now held.entry.bound goal conclusion }
 {
-    if !may_unify(program, header, rule) {
-        return false;
-    }
-    let conclusion = program.rules[rule as usize][CONCLUSION];
-    let terms = Terms {
-        words: store.words,
-        room: TERM_ROOM,
-        variables: m.counter,
-        used: m.used,
-    };
-    let held = StoredBindings {
-        rows: store.bindings,
-        bound: m.bound,
-    };
-    !clashes(program.pattern, terms, held, m.goal, conclusion)
+    may_unify(pattern, header, conclusion) && !clashes(pattern, terms, held, goal, conclusion)
 }
 
 // The state at the next rule that has to be tried; at the end of the rules it fails, and at the limits it is refused.
@@ -75,13 +57,24 @@ pub fn next_candidate(program: Program, store: &Store, m: Machine) -> Machine
     requires { Choosing (allowed_in program) program.pattern.now program.rules.now store.now.words.now store.now.bindings.now m }
     ensures { Chosen (allowed_in program.entry) program.entry.pattern.now program.entry.rules.now store.now.words.now store.now.bindings.now m result }
 {
-    let header = goal_header(store, m);
+    let terms = Terms {
+        words: store.words,
+        room: TERM_ROOM,
+        variables: m.counter,
+        used: m.used,
+    };
+    let held = StoredBindings {
+        rows: store.bindings,
+        bound: m.bound,
+    };
+    let header = goal_header(terms, held, m.goal);
     let rules = program.rules.len() as u32;
     let mut counter = m.counter;
     for rule in m.rule..rules {
         let row = &program.rules[rule as usize];
+        let conclusion = row[CONCLUSION];
         let head = m.used + row[CONCLUSION_WORDS];
-        if is_candidate(program, store, m, header, rule) {
+        if is_candidate(program.pattern, terms, held, m.goal, header, conclusion) {
             let top = m.top.max(head + row[PREMISE_WORDS]);
             return m.at_rule(rule, counter, top);
         }

@@ -22,10 +22,12 @@ use bindings::undo;
 use candidates::next_candidate;
 pub use frames::Frame;
 use rules::RuleRow;
-use stored::{arity_of, premise, try_stored};
+use rules::columns::PREMISES;
+use stored::{premise, try_stored};
 
 // What a search reads, the rules of a signature and the words of their patterns, and what it may use: variables of the session and words, and frames.
 // The number of frames is named only in contracts: so many rows are lent, and the steps left do not outnumber those that are free.
+// Stays: the length of the rows that are lent need not fit a word, and the number of frames that are entered has to; so it is no more than this one.
 #[derive(Clone, Copy)]
 pub struct Program<'a> {
     pub rules: &'a [RuleRow],
@@ -36,6 +38,8 @@ pub struct Program<'a> {
 
 // What a search writes: the session's words and bindings, the scratch of unification, and a row for each rule that is entered.
 // Stays: each function promises that the same buffers are lent afterwards (`IsLent`); an invariant tells of one value, and not of the one before.
+// Stays: tried with a `Workspace` in it: where `prover::prove` makes one of buffers that are lent apart, its lifetime is an intersection of theirs, which
+// the borrow checker does not cover.
 #[derive(Drop)]
 pub struct Store<'a> {
     pub words: &'a mut [u32],
@@ -82,15 +86,23 @@ impl Mode {
     }
 }
 
+// What is in use: variables, bindings and words.
+#[derive(Clone, Copy)]
+pub struct InUse {
+    pub counter: u32,
+    pub bound: u32,
+    pub used: u32,
+}
+
 // The machine's state beside its storage.
 // Stays: `cut` tells of the whole search; no field has its meaning from it alone, so that an option would hold nothing.
-// Stays: of `counter`, `bound` and `used`, `at_rule` sets one and `at_retry` two, so that a struct of the three would be taken apart there.
+// Stays: of `counter`, `bound` and `used`, `at_rule` sets one and `at_retry` two, so that with an `InUse` each would have two struct updates.
 // Stays: with a `Frame` in it the five moves that set a field of one would each have two struct updates, one inside the other.
 #[derive(Clone, Copy)]
 pub struct Machine {
     pub mode: Mode,
     // The place: the application, counted from 1, and the number of its premise; application 0 is the top.
-    // Stays: so the number goes into a frame's row as it is; with an option both `From` of `Frame` would convert it at each frame.
+    // Stays: so the number goes into a frame's row as it is; an option would go in as one more, and `From` could not ask that this fits a word.
     pub parent: u32,
     pub place: u32,
     // How many applications there are.
@@ -116,24 +128,22 @@ fn enter(program: Program, store: &Store, m: Machine) -> Machine
     requires { Seen (allowed_in program) program.rules.now store.now.frames.now m }
     ensures { Moved (allowed_in program.entry) program.entry.rules.now store.now.frames.now m result }
 {
-    let steps = m.steps;
-    let parent = m.parent;
-    let place = m.place;
-    if steps == 0 {
+    let Some(steps) = m.steps.checked_sub(1) else {
         return m.at_fail(0, m.cut);
+    };
+    let Some(at) = m.parent.checked_sub(1) else {
+        return m.at_stop(Mode::Proved, steps);
+    };
+    let x = store.frame(at);
+    let row = &program.rules[x.rule as usize];
+    if m.place == row[PREMISES] {
+        return m.at_place(x.parent, x.place + 1, steps);
     }
-    if parent == 0 {
-        return m.at_stop(Mode::Proved, steps - 1);
-    }
-    let x = store.frame(parent - 1);
-    if place == arity_of(program.rules, x.rule) {
-        return m.at_place(x.parent, x.place + 1, steps - 1);
-    }
-    if x.depth == 0 {
-        return m.at_fail(steps - 1, true);
-    }
-    let goal = premise(program.rules, x, place);
-    m.at_goal(goal, x.depth - 1, steps - 1)
+    let Some(depth) = x.depth.checked_sub(1) else {
+        return m.at_fail(steps, true);
+    };
+    let goal = premise(row, x, m.place);
+    m.at_goal(goal, depth, steps)
 }
 
 // One attempt with the rule that was chosen for the goal.

@@ -1,22 +1,15 @@
 // The machine's next states.
 ghost use Rattle.std.specs.Prelude.{◌≡◌, ◌<◌};
-ghost use Rattle.search_machine.specs.Moves.{to_place, to_fail, to_stop, to_goal, to_rule, to_body, to_retry, to_start, frame_for, state_for};
+ghost use Rattle.search_machine.specs.Moves.{to_place, to_fail, to_stop, to_goal, to_rule, to_body, to_retry, to_start, in_use_of, frame_for, state_for};
 
 use super::frames::Frame;
-use super::{Machine, Mode};
+use super::{InUse, Machine, Mode};
 use attempts::{SearchLimits, SearchState};
 
 impl Machine {
     // The first state: a goal, from the first rule on; nothing was written.
-    pub fn at_start(
-        goal: u32,
-        depth: u32,
-        steps: u32,
-        counter: u32,
-        bound: u32,
-        used: u32,
-    ) -> Machine
-        ensures { result ≡ to_start goal depth steps counter bound used }
+    pub fn at_start(goal: u32, depth: u32, steps: u32, in_use: InUse) -> Machine
+        ensures { result ≡ to_start goal depth steps in_use }
     {
         Machine {
             mode: Mode::Try,
@@ -25,13 +18,13 @@ impl Machine {
             frames: 0,
             steps,
             cut: false,
-            counter,
-            bound,
-            used,
+            counter: in_use.counter,
+            bound: in_use.bound,
+            used: in_use.used,
             goal,
             depth,
             rule: 0,
-            top: used,
+            top: in_use.used,
             high: 0,
         }
     }
@@ -134,6 +127,23 @@ impl Machine {
             depth: x.depth,
             rule: x.rule + 1,
             ..self
+        }
+    }
+
+    // What is in use.
+    pub fn in_use(self) -> InUse
+        ensures { result ≡ in_use_of self }
+    {
+        let Machine {
+            counter,
+            bound,
+            used,
+            ..
+        } = self;
+        InUse {
+            counter,
+            bound,
+            used,
         }
     }
 

@@ -1,10 +1,11 @@
 // What an attempt reads in a rule's row.
-ghost use Rattle.std.specs.Prelude.{◌≡◌, ◌≤◌, ◌<◌, length};
-ghost use Rattle.names.specs.Symbols.{column};
+ghost use Rattle.std.specs.Prelude.{◌≡◌, ◌≤◌};
+ghost use Rattle.arena.specs.Rows.{Rows};
+ghost use Rattle.names.specs.Symbols.{column, row_at};
 ghost use Rattle.rules.specs.StoredRows.{places_in, stored_in};
 ghost use Rattle.search_machine.specs.Storage.{PremiseAsked};
 ghost use Rattle.search_machine.specs.Groups.{AskedIn, TriedIn, IsLent};
-ghost use Rattle.search_machine.specs.State.{arity, premise_ref};
+ghost use Rattle.search_machine.specs.State.{premise_ref};
 
 use super::frames::Frame;
 use super::{Machine, Program, Store};
@@ -33,15 +34,6 @@ fn stored_in(row: &RuleRow) -> Stored
     }
 }
 
-// The number of premises of a rule.
-#[tactic(auto, unfolding(crate::specs::State::arity))]
-pub fn arity_of(rules: &[RuleRow], rule: u32) -> u32
-    requires { rule < length rules.now }
-    ensures { result ≡ arity rules.now rule }
-{
-    rules[rule as usize][PREMISES]
-}
-
 // The places of a rule's variables: the part of its row that has them.
 fn places(row: &RuleRow) -> &[u32]
     requires { column row.now 3 ≤ 64 }
@@ -51,12 +43,11 @@ fn places(row: &RuleRow) -> &[u32]
     &row[FIRST_PLACE..end]
 }
 
-// The reference of a premise of an application.
-pub fn premise(rules: &[RuleRow], x: Frame, place: u32) -> u32
-    requires { PremiseAsked rules.now x place }
-    ensures { result ≡ premise_ref rules.now x place }
+// The reference of a premise of an application, whose rule has this row.
+pub fn premise(row: &RuleRow, x: Frame, place: u32) -> u32
+    requires { (rules : Rows) × PremiseAsked rules x place × (row_at rules x.rule ≡ row.now) }
+    ensures { (rules : Rows) → PremiseAsked rules x place → row_at rules x.rule ≡ row.now → result ≡ premise_ref rules x place }
 {
-    let row = &rules[x.rule as usize];
     let at = FIRST_PREMISE + place as usize;
     let first = PATTERN_ROOM + row[FIRST_WORD];
     let base = TERM_ROOM + (x.used + row[CONCLUSION_WORDS]);

@@ -6,7 +6,7 @@ ghost use Rattle.sessions.specs.Storage.{is_short};
 ghost use Rattle.session_check.specs.Parts.{SessionCounted};
 
 use arena::TERM_ROOM;
-use sessions::StoredSession;
+use sessions::{NameRow, StoredSession};
 
 // Document 01's limit on the names in a session. The limit on its variables is `arena::TERM_ROOM`, that on its words `words::WORDS`.
 pub const NAMES: usize = 64;
@@ -23,6 +23,35 @@ pub struct Lengths {
 }
 
 impl Lengths {
+    // Those of these buffers.
+    // Stays: programs in C lend each buffer by itself, and `check_session` and `session_open::open` have them as parameters of their own.
+    pub fn of(
+        names: &[NameRow],
+        words: &[u32],
+        bindings: &[[u32; 2]],
+        links: &[[u32; 2]],
+        marks: &[[u32; 2]],
+        stack: &[[u32; 3]],
+    ) -> Lengths
+        ensures { result ≡ record {
+          names = length names.now;
+          words = length words.now;
+          bindings = length bindings.now;
+          links = length links.now;
+          marks = length marks.now;
+          stack = length stack.now;
+        } }
+    {
+        Lengths {
+            names: names.len(),
+            words: words.len(),
+            bindings: bindings.len(),
+            links: links.len(),
+            marks: marks.len(),
+            stack: stack.len(),
+        }
+    }
+
     // Are the buffers shorter than the limits ask?
     pub fn are_short(self, limits: words::Limits) -> bool
         ensures { result ≡ is_short (capped_of limits).variables (capped_of limits).words self.names self.words self.bindings

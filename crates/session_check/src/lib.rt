@@ -40,14 +40,7 @@ pub fn check_session(
 {
     let counts = session.counts;
     let words = session.words;
-    let lengths = Lengths {
-        names: session.names.len(),
-        words: words.len(),
-        bindings: session.bindings.len(),
-        links: links.len(),
-        marks: marks.len(),
-        stack: stack.len(),
-    };
+    let lengths = Lengths::of(session.names, words, session.bindings, links, marks, stack);
     if lengths.are_short(limits) {
         return false;
     }

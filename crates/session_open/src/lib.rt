@@ -25,14 +25,7 @@ pub fn open(
         (record { names = names.new; words = words.new; bindings = bindings.new })
         (record { links = links.new; marks = marks.new; stack = stack.new }) }
 {
-    let lengths = Lengths {
-        names: names.len(),
-        words: words.len(),
-        bindings: bindings.len(),
-        links: links.len(),
-        marks: marks.len(),
-        stack: stack.len(),
-    };
+    let lengths = Lengths::of(names, words, bindings, links, marks, stack);
     if lengths.are_short(limits) {
         return Err(Refusal::Storage);
     }

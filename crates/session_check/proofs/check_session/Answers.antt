@@ -36,7 +36,7 @@ returns c =
     let s = c.args.session in
     let text = c.args.text.now in
     let counted = c.is_counted.ensures.yes c.if-not-is_counted.false in
-    let enough = sym c.are_short.ensures ∙ c.if-are_short.false in
+    let enough = sym (rw c.of-lengths.ensures at c.are_short.ensures) ∙ c.if-are_short.false in
     let there = names_there c.args.limits (part_in s) (record { links = c.args.links.now; marks = c.args.marks.now; stack = c.args.stack.now }) s.counts.names enough counted.few_names in
     told c.are_words_formed.result enough counted
     (names_listed s.names.now s.counts.names there (c.are_names_listed.ensures.yes c.if-not-are_names_listed.false))

@@ -10,7 +10,7 @@ pub returns-then-are_short : goal.returns-then-are_short
 returns-then-are_short c =
     let a = c.args in
     opening_short a.limits (record { names = a.names.now; words = a.words.now; bindings = a.bindings.now })
-    (record { links = a.links.now; marks = a.marks.now; stack = a.stack.now }) c.are_short.ensures c.if-are_short.true
+    (record { links = a.links.now; marks = a.marks.now; stack = a.stack.now }) (rw c.of-lengths.ensures at c.are_short.ensures) c.if-are_short.true
 
 pub returns : goal.returns
 returns c =
@@ -22,4 +22,4 @@ returns c =
     let marks = c.fill-5.ensures.after (λ y h. same_number_lists y zero_pair h.long (λ k l. h.at k 0 0 (omega (arith, h.long)))) in
     let stack = c.fill-6.ensures.after (λ y h. same_number_lists y zero_triple h.long (λ k l. h.at k 0 0 (omega (arith, h.long)))) in
     rw (names, words, bindings, links, marks, stack) (opening_new a.limits (record { names = a.names.now; words = a.words.now; bindings = a.bindings.now })
-    (record { links = a.links.now; marks = a.marks.now; stack = a.stack.now }) c.are_short.ensures c.if-are_short.false)
+    (record { links = a.links.now; marks = a.marks.now; stack = a.stack.now }) (rw c.of-lengths.ensures at c.are_short.ensures) c.if-are_short.false)

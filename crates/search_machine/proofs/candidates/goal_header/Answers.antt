@@ -4,5 +4,5 @@ use Rattle.search_machine.proofs.candidates.goal_header.Goals as goal
 
 pub returns : goal.returns
 returns c =
-    let l = c.in_ok-node.ensures in
-    heads_node l.1 l.0
+    let l = rw c.requires.room at c.in_ok-node.ensures in
+    rw (c.header.ensures, c.requires.room) (heads_node l.1 l.0)
