@@ -59,8 +59,7 @@ impl Terms<'_> {
 }
 
 // Part of the words of all rules, that of one rule: `count` words from the address `from` on, and for each variable its place among the new ones.
-// Stays: with these words alone lent, `count` would go and `from` stay, as an address in them counts from the first word of all rules; but each of the three
-// callers would cut the words out, which `inst` does for all, and prove that a copy of the part is one from the whole.
+// Stays: of a part `from` stays too, as its addresses count from the first word of all; three callers would cut it, and prove a copy of it one of the whole.
 #[derive(Clone, Copy)]
 pub struct RulePart<'a> {
     pub words: &'a [u32],

@@ -57,8 +57,7 @@ pub fn limits_of(steps: u32, variables: u32, words: u32) -> words::Limits
 }
 
 // The first four counts that `horn_load` leaves. Whether there are so many is asked by each function that programs in C call.
-// Stays: with an `Option` the five tests of these would be a line shorter each, and `prover_capi`, which knows both lengths, would have two cases for
-// none that never come, with an answer of their own.
+// Stays: with an `Option`, `prover_capi`, which knows both lengths, would have two cases for none that never come, each with an answer of its own.
 pub fn signature_counts(counts: &[u32]) -> signature::Counts
     requires { 4 ≤ length counts.now }
     ensures { result ≡ stored_counts counts.now }

@@ -99,8 +99,7 @@ pub fn tactic(input: Input, from: Position, out: &mut [[u32; 4]]) -> Result<Read
 }
 
 // `sort n`, from its keyword on, which is in this line, as each declaration below.
-// Stays: what these ask for speaks of the rows too, which they write: a struct of input, place and rows would be lent to be written, input and all;
-// that a token is left is asked beside it, as the position alone does not know the tokens.
+// Stays: what these ask for speaks of the rows too, which they write: a struct of input, place and rows would be lent to be written, input and all.
 pub fn sort(
     input: Input,
     from: Position,

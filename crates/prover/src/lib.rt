@@ -66,8 +66,7 @@ pub fn prove_cleared(
 }
 
 // Proves the goal of a query, in a session, where all that is read is in form and the buffers are long enough.
-// Stays: names and store are two, since the search is lent the store alone and knows no names; counts beside them would be out of date, as those
-// afterwards are in the verdict.
+// Stays: names and store are two, as the search is lent the store alone; counts beside them would be out of date, as those afterwards are in the verdict.
 pub fn prove_listed(
     query: Query,
     names: &mut [NameRow],
@@ -84,8 +83,7 @@ pub fn prove_listed(
 }
 
 // Proves the goal of a query, in a session.
-// Stays: programs in C lend each buffer by itself, and the test is lent the marks to write and the others to read; of a `Store` it would get each field
-// apart, and `capi` would make it in as many lines.
+// Stays: C lends each buffer by itself, and the test reads some and writes the marks: of a `Store` it would get each field apart, in no fewer lines.
 pub fn prove(
     query: Query,
     names: &mut [NameRow],

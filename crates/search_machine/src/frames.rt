@@ -4,8 +4,7 @@ ghost use Rattle.search_machine.specs.State.{frame_of, row_of};
 
 // One application of a rule: the rule, its goal, the depth that its premises get; the place that it takes, a premise of its parent; and the
 // variables, bindings and words in use before it.
-// Stays: parent 0 is the top, so that the number goes into the row as it is. An option would go in as one more, and `From` asks nothing of what it
-// is given, so that it could not ask that this fits a word.
+// Stays: parent 0 is the top, as in the row; an option would go in as one more, and `From` can't ask of what it is given that this fits a word.
 #[derive(Clone, Copy)]
 pub struct Frame {
     pub rule: u32,

@@ -38,8 +38,7 @@ pub struct Program<'a> {
 
 // What a search writes: the session's words and bindings, the scratch of unification, and a row for each rule that is entered.
 // Stays: each function promises that the same buffers are lent afterwards (`IsLent`); an invariant tells of one value, and not of the one before.
-// Stays: tried with a `Workspace` in it: where `prover::prove` makes one of buffers that are lent apart, its lifetime is an intersection of theirs, which
-// the borrow checker does not cover.
+// Stays: tried with a `Workspace` in it: made by `prover::prove` of buffers lent apart, its lifetime is an intersection, which the check does not cover.
 #[derive(Drop)]
 pub struct Store<'a> {
     pub words: &'a mut [u32],

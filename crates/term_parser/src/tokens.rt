@@ -12,8 +12,7 @@ use refusals::{Refusal, Rejection};
 use words::NAME;
 
 // The token at a place; past the end all its numbers are 0. No other function reads the list.
-// Stays: no kind is 0, so past the end no reader finds a kind that it looks for, and it reads the other numbers only where it found one; `line` alone
-// goes past the end, where there are no tokens, and 0 is then no line. Of an `Option` ten readers would ask `is_some_and(|token| token.kind == KIND)`.
+// Stays: no kind is 0, so that past the end no reader finds the one that it looks for; of an `Option` ten readers would ask `is_some_and(..)`.
 pub fn peek(tokens: &[[u32; 4]], at: usize) -> Token
     ensures { result ≡ token_of (drop at tokens.now) }
 {
