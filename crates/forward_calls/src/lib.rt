@@ -10,8 +10,7 @@ use names::columns::{ARITY, MARK};
 use names::{FUNCTION, Source, SymbolRow, Word};
 
 // Whether a term has no metavariable: its rows stand in preorder, so one pass over them sees every part.
-// Stays: `clauses::skip` finds the row behind the term, and `any` could go over the rows up to there; but it asks for at most 65,536 rows, which is more than is
-// asked here.
+// Stays: with `clauses::skip` and `any` on the rows up to there, this public function would ask for at most 65,536 rows, as `skip` does.
 pub fn is_ground(term: Source) -> bool
     requires { GroundAsked term.text.now term.rows.now term.at }
     ensures { GroundAnswered term.entry.text.now term.entry.rows.now term.entry.at result }
