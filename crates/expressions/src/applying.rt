@@ -29,7 +29,7 @@ pub fn check_use(symbol: &SymbolRow, arguments: usize) -> Result<(), Refusal>
 }
 
 // A constructor is built, a function called at the next depth.
-// Stays: the program is read, the store written, depth and spent are values; in one struct, `apply` would promise that the program stands.
+// Stays: program, depth and spent are no struct: the first is the same at every call and the others differ at nearly each, so it would be made anew there.
 pub fn apply(
     program: Program,
     depth: u32,

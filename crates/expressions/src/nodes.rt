@@ -37,7 +37,7 @@ pub fn build(words: &mut [u32], room: Room, symbol: usize, values: &[u32]) -> Re
     })
 }
 
-// What is evaluated when a value is built: no call is made.
+// A value that was built, with what is spent then: no call was made for it.
 pub fn outcome(built: Built, spent: Spent) -> Outcome
     ensures { result ≡ record { value = built.value; spent = record { calls = spent.calls; used = built.used } } }
 {
