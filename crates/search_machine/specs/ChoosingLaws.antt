@@ -107,8 +107,10 @@ module _ {a : Allowed} {P : List ℕ} {R : Rows} {W : List ℕ} {T : Rows} {m : 
       record { form = h.well.form; refers = h.refers }
 
   pub choosing_judged : {h : Option ℕ} → IfSome h (Heads W T m.counter m.used m.bound m.goal) → (r : ℕ) → r < a.rules
-      → Judged P W T m.counter m.used m.bound m.goal h (column (row_at R r) 5)
-  choosing_judged heads r l = record { readable = row_readable (asked_at r l); heads = heads; comparable = row_comparable (asked_at r l) }
+      → (r < length R) × Judged P W T m.counter m.used m.bound m.goal h (column (row_at R r) 5)
+  choosing_judged heads r l =
+      let asked = asked_at r l in
+      (asked.known, record { readable = row_readable asked; heads = heads; comparable = row_comparable asked })
 
   trying_same : (F : Rows) (z : Start) (o : Result) → Trying a P R F W T z o m
       → Trying a P R F W T z o (to_rule m m.rule m.counter m.top)
