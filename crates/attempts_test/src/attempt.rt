@@ -42,7 +42,7 @@ const RULE: Stored = Stored {
 };
 
 // Whether storage has room for what the limits allow, and the scratch is zero.
-// Stays: the same buffers are lent here to be read and there to be written, so one struct would not serve all three.
+// Stays: as at `is_state`, of words, bindings and workspace.
 fn has_room(words: &[u32], bindings: &[[u32; 2]], workspace: &Workspace, state: SearchState) -> bool
     ensures { result ≡ true → Room state.limits.variables state.limits.words words.now bindings.now
         workspace.now.links.now workspace.now.marks.now workspace.now.stack.now }
@@ -69,7 +69,7 @@ fn has_room(words: &[u32], bindings: &[[u32; 2]], workspace: &Workspace, state: 
 }
 
 // Whether storage is what an attempt asks; the marks are left as they are.
-// Stays: the same buffers are lent here to be read and there to be written, so one struct would not serve all three.
+// Stays: only the marks are written here; of words and bindings in one struct with them it would be promised that they stay as they were.
 fn is_state(
     words: &[u32],
     bindings: &[[u32; 2]],
@@ -93,7 +93,7 @@ fn is_state(
 }
 
 // Tries the rule: as `try_rule` answers.
-// Stays: the same buffers are lent here to be read and there to be written, so one struct would not serve all three.
+// Stays: as at `is_state`, of words, bindings and workspace.
 pub fn attempt(
     words: &mut [u32],
     bindings: &mut [[u32; 2]],

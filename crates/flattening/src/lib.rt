@@ -47,7 +47,7 @@ fn is_function(source: SourceTerms, word: Word) -> bool
 }
 
 // Does a row stand for a call?
-// Stays: C callers lend the kind, which may be none of these; an enum would be made by the same `match`, only to be matched again here.
+// Stays: the kind is a number in a row of the parser; an enum of kinds would be made by the same `match`, only to be matched again here.
 fn is_call(source: SourceTerms, row: &TermRow) -> bool
     ensures { result ≡ is_call (symbols_named source.entry) (column row.now 0) (part_of source.entry.text.now (column row.now 1) (column row.now 2)) }
 {

@@ -10,7 +10,7 @@ use refusals::Rejection;
 use words::{CHECK, METAVARIABLE, NAME, NUMERAL, Row};
 
 // The word for a token's kind, between spaces.
-// Stays: the kind is that of a token's row, which C callers lend as a number; a type of kinds would be made for this one `match`.
+// Stays: the kind is a number of a token's row, as C reads it; a type of kinds would be made for this one `match`.
 fn kind_word(kind: u32) -> &'static [u8]
     ensures { result.now ≡ kind_word kind }
 {

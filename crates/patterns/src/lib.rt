@@ -194,7 +194,7 @@ fn numeral_words(words: &mut [u32], used: usize, numerals: NumeralSymbols, n: us
 }
 
 // The number of the constructor that is called w.
-// Stays: no row is read here, and `NumeralSymbols::find`, which calls it, is given none.
+// Stays: no row of a term is read here, only those of symbols, and `NumeralSymbols::find`, which calls it, is given none.
 pub fn constructor(text: &[u8], symbols: &[SymbolRow], w: &[u8]) -> Option<usize>
     ensures { result ≡ constructor_of (symbols_of text.now symbols.now (length symbols.now)) w.now }
 {

@@ -24,7 +24,7 @@ pub struct Lengths {
 
 impl Lengths {
     // Those of these buffers.
-    // Stays: programs in C lend each buffer by itself, and `check_session` and `session_open::open` have them as parameters of their own.
+    // Stays: C lends each buffer by itself; `session_open::open` has all six apart, and `check_session` the scratch beside a `StoredSession`.
     pub fn of(
         names: &[NameRow],
         words: &[u32],

@@ -31,7 +31,7 @@ pub struct StoredSession<'a> {
 // The verdict on a goal that is not refused, with the steps used in the last bound and the counts then, and for a proof the number of its
 // nodes. After a refusal the counts are those at entry.
 // Stays: no case is an error: each is an answer to the goal.
-// Stays: with `steps` and `counts` beside an enum of the cases, `capi` would have one arm less, and each of `prover`'s three a literal inside the other.
+// Stays: with `steps`, `counts` beside an enum of the cases, `capi` would match those inside, and each of `prover`'s three be a literal in another.
 #[derive(Clone, Copy)]
 pub enum Verdict {
     Proved {

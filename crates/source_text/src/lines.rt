@@ -6,7 +6,7 @@ ghost use Rattle.source_text.specs.TakenLines.{LineTaken};
 use super::bytes::starts_with;
 
 // The end of the line that a place is in: the next line feed, or the text's end.
-// Stays: callers keep places of the text; of a rest alone each would add the place that it has cut at.
+// Stays: `Lines::next`, which calls it, keeps places of the text; of a rest alone it would add the place that it has cut at.
 pub fn line_end(text: &[u8], at: usize) -> usize
     requires { at ≤ length text.now }
     ensures { result ≡ at + length (line_of (drop at text.now)) }
