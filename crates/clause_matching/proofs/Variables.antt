@@ -1,5 +1,5 @@
 -- A pattern that is a variable: what is built is its value, which stands already; and it takes a value, or is compared with it.
-use Prim.Native.Nat.{ℕ, ◌-◌, ◌≤◌, ◌<◌}
+use Prim.Native.Nat.{ℕ, zero, suc, ◌-◌, ◌≤◌, ◌<◌}
 use native.Mathlib.Omega.{arith}
 use mathlib.Core.Path.{◌≡◌, refl, sym, ap, subst}
 use mathlib.Core.Logic.{◌≢◌}
@@ -15,19 +15,31 @@ use Rattle.arena.specs.Copies.{pattern_room}
 use Rattle.arena.specs.Rows.{Rows}
 use Rattle.evaluation.specs.Matching.{Built, value_of, instantiate_of}
 use Rattle.clause_matching.specs.Stored.{Valued, pattern_at}
-use Rattle.std.specs.Option.{SomeIff}
-use Rattle.std.specs.Prelude.{Option as Optional, None, Some, Err}
+use Rattle.std.specs.Option.{SomeIff, ok_or}
+use Rattle.std.specs.Prelude.{Option as Optional, None, Some, Result, Ok, Err}
+use Rattle.refusals.specs.declared.Refusal.{Refusal}
 use Rattle.refusals.specs.declared.Refusal.TheVariants.{Unbound}
-use Rattle.clause_matching.specs.Building.{built_at, InstantiateAsked, Tells, Instantiated}
+use Rattle.clause_matching.specs.Building.{held, built_at, InstantiateAsked, Tells, Instantiated}
 use Rattle.clause_matching.specs.Matching.{Matched}
 use Rattle.clause_matching.proofs.Forming.{unbuilt_forms, built_forms}
 
--- A number that stands for a reference is one more than it; 0 stands for none.
-pub held_is : {n z : ℕ} {o : Optional ℕ} → SomeIff o (1 ≤ n) (n - 1) → o ≡ Some z → (n ≢ 0) × (z ≡ n - 1)
-held_is {n} {z} s e = let (l, q) = rw e at s in (λ w. let b : ⊥ = omega arith in b, q)
+-- One less than a number of an environment, or the refusal at 0, is what it stands for.
+pub held_as : (n : ℕ) (o : Optional ℕ) → SomeIff o (1 ≤ n) (n - 1) → ok_or o Unbound ≡ held n
+unfolding held
+held_as zero None s = refl
+held_as zero (Some z) s = absurd (let l = s.0 in let b : ⊥ = omega arith in b)
+held_as (suc n) None s = absurd (let b : ⊥ = omega arith in b)
+held_as (suc n) (Some z) s = ap Ok (let q = s.1 in let w : z ≡ n = omega arith in w)
 
-pub held_none : {n : ℕ} {o : Optional ℕ} → SomeIff o (1 ≤ n) (n - 1) → o ≡ None → n ≡ 0
-held_none {n} s e = let w = rw e at s in omega arith
+pub held_is : {n z : ℕ} {r : Result ℕ Refusal} → r ≡ held n → r ≡ Ok z → (n ≢ 0) × (z ≡ n - 1)
+unfolding held
+held_is {n = zero} s q = absurd (let b : ⊥ = cc in b)
+held_is {n = suc n} {z = z} s q = let w : z ≡ n = cc in (λ e. let b : ⊥ = omega arith in b, omega arith)
+
+pub held_none : {n : ℕ} {r : Result ℕ Refusal} {e : Refusal} → r ≡ held n → r ≡ Err e → (n ≡ 0) × (e ≡ Unbound)
+unfolding held
+held_none {n = zero} s q = (refl, cc)
+held_none {n = suc n} s q = absurd (let b : ⊥ = cc in b)
 
 -- The pattern of such a reference.
 variable_is : (pattern : List ℕ) (reference : ℕ) → reference < pattern_room → pattern_at pattern reference ≡ var reference

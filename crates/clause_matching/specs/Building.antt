@@ -1,5 +1,5 @@
 -- What building in storage asks and answers (document 01, "Evaluated terms"; `instantiate_of` of `evaluation`).
-use Rattle.std.specs.Prelude.{ℕ, suc, ◌+◌, ◌≤◌, ◌<◌, ◌≡◌, ◌≢◌, List, length, Result, Ok}
+use Rattle.std.specs.Prelude.{ℕ, zero, suc, ◌+◌, ◌≤◌, ◌<◌, ◌≡◌, ◌≢◌, List, length, Result, Ok, Err}
 use Rattle.terms.specs.Term.{Term, Terms}
 use Rattle.terms.specs.Term.Kind.{one as single, many as several}
 use Rattle.terms.specs.Bindings.{Bindings}
@@ -9,8 +9,14 @@ use Rattle.arena.specs.Rows.{Rows}
 use Rattle.evaluation.specs.Matching.{Built, barred, built, instantiate_of}
 use Rattle.clause_matching.specs.Stored.{Value, Values, PatternIn, Holds, Headed, Formed, value_at, pattern_at}
 use Rattle.refusals.specs.declared.Refusal.{Refusal}
+use Rattle.refusals.specs.declared.Refusal.TheVariants.{Unbound}
 use Rattle.refusals.specs.Refused.{Refuses}
 use Rattle.clause_matching.specs.declared.building.Built.{Built as Answer}
+
+-- What an environment's number stands for: 0 for no value, else 1 + the reference of a value.
+unfoldable pub held : ℕ → Result ℕ Refusal
+held zero = Err Unbound
+held (suc r) = Ok r
 
 -- It is a value, with the words then used.
 abbrev pub built_at : ℕ → ℕ → Result Answer Refusal

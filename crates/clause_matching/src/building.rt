@@ -1,9 +1,10 @@
 // Values from patterns: the Rust's `instantiate`.
-ghost use Rattle.std.specs.Prelude.{suc, ◌+◌, ◌≤◌, ◌<◌, length};
+ghost use Rattle.std.specs.Prelude.{suc, ◌≡◌, ◌+◌, ◌≤◌, ◌<◌, length};
+ghost use Rattle.arena.specs.Cells.{cells};
 ghost use Rattle.arena.specs.Copies.{pattern_room};
-ghost use Rattle.clause_matching.specs.Building.{Pushed, InstantiateAsked, Instantiated, ArgumentsAsked, ArgumentsBuilt};
+ghost use Rattle.clause_matching.specs.Building.{held, Pushed, InstantiateAsked, Instantiated, ArgumentsAsked, ArgumentsBuilt};
 
-use arena::{PATTERN_ROOM, SYMBOL_STEP};
+use arena::{PATTERN_ROOM, arity_of};
 use refusals::Refusal;
 
 // A term that was built: its value, and the words then used.
@@ -19,6 +20,16 @@ pub struct Built {
 pub struct Room {
     pub used: u32,
     pub limit: u32,
+}
+
+// The value of a variable, by its number.
+fn value_of(environment: &[u32], index: u32) -> Result<u32, Refusal>
+    requires { index < length environment.now }
+    ensures { result ≡ held (cells environment.now index) }
+{
+    environment[index as usize]
+        .checked_sub(1)
+        .ok_or(Refusal::Unbound)
 }
 
 // Writes a node at an address, whose arguments stand from `from` on, and then its reference in the first one's place.
@@ -53,18 +64,14 @@ fn instantiate_node(
     // Stays: the stack grows and shrinks, so no range is known at the start.
     while depth != 0 {
         let row = depth - 1;
-        let address = stack[row][0];
-        let taken = stack[row][1];
-        let base = stack[row][2];
+        let [address, taken, base] = stack[row];
         let header = pattern[address as usize];
-        let arity = header % SYMBOL_STEP;
+        let arity = arity_of(header);
         if taken < arity {
             stack[row] = [address, taken + 1, base];
             let next = pattern[(address + 1 + taken) as usize];
             if next < PATTERN_ROOM {
-                let value = environment[next as usize]
-                    .checked_sub(1)
-                    .ok_or(Refusal::Unbound)?;
+                let value = value_of(environment, next)?;
                 words[top as usize] = value;
                 top += 1;
             } else {
@@ -102,9 +109,7 @@ pub fn instantiate(
 {
     // Stays: tried by `pattern_at`: registers are saved for variables too; reverse 25 took 44.1 us for 42.6, or 47.2 for 45.8, 4.9 times the Rust, not 5.
     if reference < PATTERN_ROOM {
-        let value = environment[reference as usize]
-            .checked_sub(1)
-            .ok_or(Refusal::Unbound)?;
+        let value = value_of(environment, reference)?;
         return Ok(Built {
             value,
             used: room.used,

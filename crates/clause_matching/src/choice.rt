@@ -50,8 +50,8 @@ pub fn find_clause(
     'clauses: for (i, rule) in clauses.rules.iter().enumerate() {
         let Pattern::Node { header: _, first } = pattern_at(clauses.pattern, rule[CONCLUSION])
         else {
-            // Never reached: the conclusion of a clause in form is a node.
-            return None;
+            // The conclusion of a clause in form is a node.
+            unreachable!()
         };
         let base = first as usize;
         if is_apart(clauses.pattern, base, values.words, arguments) {

@@ -9,7 +9,7 @@ ghost use Rattle.clause_matching.specs.Stored.{pattern_at};
 ghost use Rattle.clause_matching.specs.Matching.{Lent, Matched, BindAsked};
 
 use super::references::{Pattern, pattern_at};
-use arena::{SYMBOL_STEP, Terms};
+use arena::Terms;
 
 // Values: words of stored terms, of which so many are in use.
 // Stays: the value in question and the environment go beside them; values are only read, and these change at each step.
@@ -73,7 +73,7 @@ fn bind_node(
                 if wanted != values.words[other as usize] {
                     return false;
                 }
-                stack[depth] = [inner, other + 1, wanted % SYMBOL_STEP];
+                stack[depth] = [inner, other + 1, arena::arity_of(wanted)];
                 depth += 1;
             }
             None => {

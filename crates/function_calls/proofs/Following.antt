@@ -5,10 +5,8 @@ use native.Mathlib.Numerals.{add-one}
 use mathlib.Core.Path.{◌≡◌, refl, sym, ap, ap₂, ◌∙◌, subst}
 use mathlib.Core.List.{List}
 use lib.Dec.{ltb}
-use lib.ListN.{length, set, get_or, take, drop, length-drop}
-use lib.Seq.{get_or-take, get_or-drop, length-take-le}
-use Rattle.std.proofs.lemmas.List.{get_or_past}
-use Rattle.terms.specs.Numbers.{by_bool, by_less, less_no}
+use lib.ListN.{length, set, get_or}
+use Rattle.terms.specs.Numbers.{by_bool, less_no}
 use Rattle.terms.specs.Term.{Term, Terms, var, app, nil, cons, count}
 use Rattle.terms.specs.Term.Kind.{one as single, many as several}
 use Rattle.terms.specs.TermLaws.{app_inj}
@@ -16,6 +14,8 @@ use Rattle.terms.specs.Bindings.{Bindings}
 use Rattle.arena.specs.Cells.{headers, cells, symbol_of, arity_of, args, denote, Same, denote_node, reference_argument}
 use Rattle.arena.specs.Copies.{pattern_room}
 use Rattle.names.specs.Symbols.{Rows, Symbol, column, row_at}
+use Rattle.names.specs.SearchLaws.{columns_length, columns_at}
+use Rattle.rules.specs.StoredRows.{heads_in}
 use Rattle.resolution.specs.Rules.{Rule, Tree, node, leaf, ◌◂◌, joined}
 use Rattle.tree_rows.specs.Trees.{tree_row}
 use Rattle.evaluation.specs.Matching.{Fitted, misfit, fitted, bind_of, Built, barred, built, if_built, build_node, instantiate_of, front, last}
@@ -226,25 +226,14 @@ module _ {symbol_rows rule_rows : Rows} {pattern : List ℕ} {rule depth height 
       (premises_of limit (call_of limit h.asked.symbols h.asked.rules (128 - depth)) h.asked.R.premises h.asked.known.0 (record { calls = suc calls; words = used }))
   mine = h.reached h.asked.size h.asked.symbols h.asked.rules h.asked.program h.asked.patterns h.asked.R h.asked.clause h.asked.known.0 h.asked.known.1
 
-  -- A premise is left.
   -- The references of the premises, as they are lent.
-  long_row : column row 4 ≤ length row - 10
-  long_row = by_less (length row - 10) (column row 4)
-      (λ l t. let p = (h.asked.clause.premises (length row - 10) l).node in
-      let z : column row (10 + (length row - 10)) ≡ 0 = get_or_past row (10 + (length row - 10)) 0 (omega arith) in absurd (let w : ⊥ = omega arith in w))
-      (λ l t. l)
+  pub part_long : length (heads_in row) ≡ column row 4
+  part_long = columns_length row 10 (column row 4)
 
-  pub part_long : length (take (10 + column row 4 - 10) (drop 10 row)) ≡ column row 4
-  part_long =
-      let e : 10 + column row 4 - 10 ≡ column row 4 = omega arith in
-      let d = length-drop 10 row in let n = long_row in
-      rw e (length-take-le (column row 4) (drop 10 row) (omega arith))
+  pub part_cell : j < column row 4 → get_or (heads_in row) j 0 ≡ column row (10 + j)
+  part_cell l = columns_at row 10 (column row 4) j l
 
-  pub part_cell : j < column row 4 → get_or (take (10 + column row 4 - 10) (drop 10 row)) j 0 ≡ column row (10 + j)
-  part_cell l =
-      let e : 10 + column row 4 - 10 ≡ column row 4 = omega arith in
-      rw e (get_or-take (column row 4) (drop 10 row) j 0 l) ∙ get_or-drop 10 row j 0
-
+  -- A premise is left.
   module _ (l : j < column row 4) where
     abbrev reference : ℕ
     reference = column row (10 + j)

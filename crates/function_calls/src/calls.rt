@@ -1,7 +1,7 @@
 // Calls of functions: the Rust's `Evaluator::call`.
 ghost use Rattle.function_calls.specs.Calls.{CallAsked, CallAnswered, FollowAsked, Followed, PremiseAsked, PremiseAnswered, IsLent};
 
-use arena::SYMBOL_STEP;
+use arena::{INPUTS, PATTERN_ROOM, arity_of};
 use clause_matching::{
     Clauses, Pattern, Room, Values, bind, find_clause, instantiate, instantiate_arguments,
     pattern_at,
@@ -10,7 +10,7 @@ use names::SymbolRow;
 use names::columns::{CLAUSES, FIRST_CLAUSE};
 use refusals::Refusal;
 use rules::RuleRow;
-use rules::columns::{CONCLUSION, FIRST_PREMISE, PREMISES};
+use rules::columns::CONCLUSION;
 pub use tree_rows::TreeRow;
 
 // The deepest expression or call.
@@ -41,8 +41,8 @@ pub struct Level {
 }
 
 // A program: its symbols, its rules, the words of their patterns, and how many words its values may take.
-// Stays: a ghost field that says that it is in form would spare nothing, as each contract names the symbols and rules that stand in it anyway.
-// Stays: a method for `Room { used, limit: program.limit }` would be given `used` and hold that one line, with a contract that four proofs unfold again.
+// Stays: that it is in form says of each clause that there is a rule which it stores; a fact with "there is" can't stand in a ghost field.
+// Stays: a method for `Room { used, limit: program.limit }` would hold that one line, and each of its four callers' proofs would unfold its contract again.
 #[derive(Clone, Copy)]
 pub struct Program<'a> {
     pub symbols: &'a [SymbolRow],
@@ -61,7 +61,8 @@ pub struct Store<'a> {
 }
 
 // One premise of a clause, a node by its header and the address of its first argument: its call, whose value has to fit its last argument.
-// Stays: a program is read, a store written, level and spent come by value; as one struct, each function would promise besides that the program stands.
+// Stays: program and store are apart, since one is read and the other written; as one struct, each function would promise besides that the program stands.
+// Stays: no struct of program, level and spent: a premise's call has another level and `spent`, the next premise another `spent`; each would make it anew.
 #[cycle(call_follow_premise)]
 fn premise(
     program: Program,
@@ -80,12 +81,12 @@ fn premise(
         environment.new store.new.words.now store.new.links.now store.new.trees.now }
     ensures lent { IsLent store.old store.new }
 {
-    let count = (header % SYMBOL_STEP - 1) as usize;
+    let count = (arity_of(header) - 1) as usize;
     let room = Room {
         used: spent.used,
         limit: program.limit,
     };
-    let mut values = [0u32; 16];
+    let mut values = [0u32; INPUTS as usize];
     let before = instantiate_arguments(
         program.pattern,
         first,
@@ -147,11 +148,10 @@ fn follow(
         calls: before.calls + 1,
         ..before
     };
-    let row = &program.rules[rule];
-    for reference in &row[FIRST_PREMISE..FIRST_PREMISE + row[PREMISES] as usize] {
+    for reference in rules::premises(&program.rules[rule]) {
         let Pattern::Node { header, first } = pattern_at(program.pattern, *reference) else {
-            // Never reached: a premise in form is a node.
-            return Err(Refusal::Storage);
+            // A premise in form is a node.
+            unreachable!()
         };
         let outcome = premise(program, header, first, level, spent, environment, store)?;
         spent = outcome.spent;
@@ -171,7 +171,7 @@ fn follow(
     store.trees[before.calls as usize] = tree_rows::row(level.height, rule as u32, built.value);
     let header = store.words[built.value as usize];
     Ok(Outcome {
-        value: store.words[(built.value + header % SYMBOL_STEP) as usize],
+        value: store.words[(built.value + arity_of(header)) as usize],
         spent: Spent {
             used: built.used,
             ..spent
@@ -208,7 +208,7 @@ pub fn call(
         rules: &program.rules[from..end],
         pattern: program.pattern,
     };
-    let mut environment = [0u32; 64];
+    let mut environment = [0u32; PATTERN_ROOM as usize];
     let words = &mut *store.words;
     let among = Values {
         words,

@@ -6,7 +6,7 @@ use Rattle.arena.specs.Copies.{pattern_room}
 use native.Mathlib.Omega.{arith}
 use mathlib.Core.Path.{refl}
 use lib.ListN.{length-set}
-use Rattle.refusals.specs.Refused.{handed_on, none_is}
+use Rattle.refusals.specs.Refused.{handed_on}
 use Rattle.clause_matching.proofs.Variables.{held_is, held_none}
 use Rattle.clause_matching.proofs.BuildTurns.{turn_start, turn_lent, variable_unbound, less_value, turn_value, free_row, less_enter, turn_enter, turn_done, facts, less_next, turn_next, node_refused, push_room, turn_build}
 use Rattle.clause_matching.proofs.building.instantiate_node.Goals as goal
@@ -38,47 +38,60 @@ bounds-stack-row-then-taken-arity c =
 
 pub returns-in_err-value : goal.returns-in_err-value
 returns-in_err-value c =
-    rw (handed_on c.from_residual.result c.from_residual.ensures.1, none_is c.checked_sub.result c.in_err-value.ensures.ok_part c.in_err-value.ensures.value)
-    (variable_unbound (turn_next c.loop-depth.invariant.1 refl c.loop-depth-test.true c.if-taken-arity.true) refl c.if-next-lt-PATTERN_ROOM.true
-    (held_none c.checked_sub.ensures c.in_err-value.ensures.ok_part))
+    let more = rw c.arity_of-arity.ensures at c.if-taken-arity.true in
+    let (z, e) = held_none c.value_of.ensures c.in_err-value.was in
+    rw (handed_on c.from_residual.result c.from_residual.ensures.1, e)
+    (variable_unbound (turn_next c.loop-depth.invariant.1 refl c.loop-depth-test.true more) refl c.if-next-lt-PATTERN_ROOM.true z)
 
 pub loop-depth-smaller-then-next-lt-PATTERN_ROOM : goal.loop-depth-smaller-then-next-lt-PATTERN_ROOM
 loop-depth-smaller-then-next-lt-PATTERN_ROOM c =
-    let x = less_next c.loop-depth.invariant.1 refl c.loop-depth-test.true c.if-taken-arity.true in
-    let y = less_value (turn_next c.loop-depth.invariant.1 refl c.loop-depth-test.true c.if-taken-arity.true) refl c.if-next-lt-PATTERN_ROOM.true
-    (held_is c.checked_sub.ensures c.in_ok-value.ensures.ok_part).0 in
+    let more = rw c.arity_of-arity.ensures at c.if-taken-arity.true in
+    let x = less_next c.loop-depth.invariant.1 refl c.loop-depth-test.true more in
+    let y = less_value (turn_next c.loop-depth.invariant.1 refl c.loop-depth-test.true more) refl c.if-next-lt-PATTERN_ROOM.true
+    (held_is c.value_of.ensures c.in_ok-value.was).0 in
     omega arith
 
 pub loop-depth-preserved-then-next-lt-PATTERN_ROOM : goal.loop-depth-preserved-then-next-lt-PATTERN_ROOM
 loop-depth-preserved-then-next-lt-PATTERN_ROOM c =
-    let (n, z) = held_is c.checked_sub.ensures c.in_ok-value.ensures.ok_part in
-    rw z (_, turn_value (turn_next c.loop-depth.invariant.1 refl c.loop-depth-test.true c.if-taken-arity.true) refl c.if-next-lt-PATTERN_ROOM.true n)
+    let more = rw c.arity_of-arity.ensures at c.if-taken-arity.true in
+    let (n, z) = held_is c.value_of.ensures c.in_ok-value.was in
+    rw z (_, turn_value (turn_next c.loop-depth.invariant.1 refl c.loop-depth-test.true more) refl c.if-next-lt-PATTERN_ROOM.true n)
 
 pub bounds-stack-depth : goal.bounds-stack-depth
 bounds-stack-depth c =
-    free_row (turn_next c.loop-depth.invariant.1 refl c.loop-depth-test.true c.if-taken-arity.true) refl c.if-next-lt-PATTERN_ROOM.false
+    let more = rw c.arity_of-arity.ensures at c.if-taken-arity.true in
+    free_row (turn_next c.loop-depth.invariant.1 refl c.loop-depth-test.true more) refl c.if-next-lt-PATTERN_ROOM.false
 
 pub loop-depth-smaller-else-next-lt-PATTERN_ROOM : goal.loop-depth-smaller-else-next-lt-PATTERN_ROOM
 loop-depth-smaller-else-next-lt-PATTERN_ROOM c =
-    let x = less_next c.loop-depth.invariant.1 refl c.loop-depth-test.true c.if-taken-arity.true in
-    let y = less_enter (turn_next c.loop-depth.invariant.1 refl c.loop-depth-test.true c.if-taken-arity.true) refl c.if-next-lt-PATTERN_ROOM.false in
+    let more = rw c.arity_of-arity.ensures at c.if-taken-arity.true in
+    let x = less_next c.loop-depth.invariant.1 refl c.loop-depth-test.true more in
+    let y = less_enter (turn_next c.loop-depth.invariant.1 refl c.loop-depth-test.true more) refl c.if-next-lt-PATTERN_ROOM.false in
     omega arith
 
 pub loop-depth-preserved-else-next-lt-PATTERN_ROOM : goal.loop-depth-preserved-else-next-lt-PATTERN_ROOM
 loop-depth-preserved-else-next-lt-PATTERN_ROOM c =
-    (_, turn_enter (turn_next c.loop-depth.invariant.1 refl c.loop-depth-test.true c.if-taken-arity.true) refl c.if-next-lt-PATTERN_ROOM.false)
+    let more = rw c.arity_of-arity.ensures at c.if-taken-arity.true in
+    (_, turn_enter (turn_next c.loop-depth.invariant.1 refl c.loop-depth-test.true more) refl c.if-next-lt-PATTERN_ROOM.false)
 
 pub returns-then-room-spent : goal.returns-then-room-spent
 returns-then-room-spent c =
-    node_refused c.loop-depth.invariant.1 refl c.loop-depth-test.true c.if-taken-arity.false c.if-room-spent.true
+    let all = rw c.arity_of-arity.ensures at c.if-taken-arity.false in
+    let full = rw c.arity_of-arity.ensures at c.if-room-spent.true in
+    node_refused c.loop-depth.invariant.1 refl c.loop-depth-test.true all full
 
 pub push_values-requires : goal.push_values-requires
 push_values-requires c =
-    push_room c.loop-depth.invariant.1 refl c.loop-depth-test.true c.if-taken-arity.false c.if-room-spent.false
+    let all = rw c.arity_of-arity.ensures at c.if-taken-arity.false in
+    let room = rw c.arity_of-arity.ensures at c.if-room-spent.false in
+    rw c.arity_of-arity.ensures (push_room c.loop-depth.invariant.1 refl c.loop-depth-test.true all room)
 
 pub loop-depth-preserved : goal.loop-depth-preserved
 loop-depth-preserved c =
-    (_, turn_build c.loop-depth.invariant.1 refl c.loop-depth-test.true c.if-taken-arity.false c.if-room-spent.false _ c.push_values.ensures)
+    let all = rw c.arity_of-arity.ensures at c.if-taken-arity.false in
+    let room = rw c.arity_of-arity.ensures at c.if-room-spent.false in
+    let pushed = rw c.arity_of-arity.ensures at c.push_values.ensures in
+    rw c.arity_of-arity.ensures (_, turn_build c.loop-depth.invariant.1 refl c.loop-depth-test.true all room _ pushed)
 
 pub returns : goal.returns
 returns c = turn_done c.loop-depth.invariant.1 refl c.loop-depth-test.false

@@ -8,9 +8,8 @@ use Rattle.clause_matching.proofs.PatternOf.{part_long, part_cell}
 use Rattle.clause_matching.proofs.Choosing.{part_inside, is_no_variable, first_is, trying_start, bind_asked, apart_asked, choosing_apart, choosing_next, trying_next, none_fits, clause_fits}
 use Rattle.clause_matching.proofs.choice.find_clause.Goals as goal
 
-pub returns-in_default : goal.returns-in_default
-returns-in_default c =
-    absurd (is_no_variable c.clauses.invariant c.clauses-test.true _ _ c.pattern_at.ensures c.in_default.is)
+pub unreachable-requires : goal.unreachable-requires
+unreachable-requires c = is_no_variable c.clauses.invariant c.clauses-test.true _ _ c.pattern_at.ensures c.in_default.is
 
 pub is_apart-requires : goal.is_apart-requires
 is_apart-requires c =

@@ -23,12 +23,12 @@ bounds-stack-depth c =
 pub loop-waiting-smaller-in-Some : goal.loop-waiting-smaller-in-Some
 loop-waiting-smaller-in-Some c =
     let i = rw c.in-Some.is at c.loop-waiting.invariant in
-    rw c.in-Some.is (less_waits (i.0 refl) i.1 refl c.if-wanted-values.false)
+    rw (c.in-Some.is, c.arity_of.ensures) (less_waits (i.0 refl) i.1 refl c.if-wanted-values.false)
 
 pub loop-waiting-preserved-in-Some : goal.loop-waiting-preserved-in-Some
 loop-waiting-preserved-in-Some c =
     let i = rw c.in-Some.is at c.loop-waiting.invariant in
-    (λ b. true_false b refl, turn_waits (i.0 refl) i.1 refl c.if-wanted-values.false)
+    rw c.arity_of.ensures (λ b. true_false b refl, turn_waits (i.0 refl) i.1 refl c.if-wanted-values.false)
 
 pub returns-then-depth-eq0 : goal.returns-then-depth-eq0
 returns-then-depth-eq0 c = turn_done c.loop-waiting.invariant.1 (ap is_some c.in-None.is) c.if-depth-eq0.true

@@ -39,32 +39,32 @@ follow-loop-reference-init t c = record { turn = turn_start c.requires; lent = l
 
 pub follow-pattern_at-requires : goal.follow-pattern_at-requires
 follow-pattern_at-requires t c =
-    let l = rw (part_long c.loop-reference.invariant.turn) at c.loop-reference-test.true in
-    rw (part_cell c.loop-reference.invariant.turn l) (referable c.loop-reference.invariant.turn l)
+    let l = rw (c.premises-reference-items.ensures, part_long c.loop-reference.invariant.turn) at c.loop-reference-test.true in
+    rw (c.premises-reference-items.ensures, part_cell c.loop-reference.invariant.turn l) (referable c.loop-reference.invariant.turn l)
 
-pub follow-returns-in_default-clause-answered : goal.follow-returns-in_default-clause-answered
-follow-returns-in_default-clause-answered t c =
-    let l = rw (part_long c.loop-reference.invariant.turn) at c.loop-reference-test.true in
-    let p = rw (part_cell c.loop-reference.invariant.turn l) at c.pattern_at.ensures in
-    absurd (no_variable_lem c.loop-reference.invariant.turn l _ _ p c.in_default.is)
+pub follow-unreachable-requires : goal.follow-unreachable-requires
+follow-unreachable-requires t c =
+    let l = rw (c.premises-reference-items.ensures, part_long c.loop-reference.invariant.turn) at c.loop-reference-test.true in
+    let p = rw (c.premises-reference-items.ensures, part_cell c.loop-reference.invariant.turn l) at c.pattern_at.ensures in
+    no_variable_lem c.loop-reference.invariant.turn l _ _ p c.in_default.is
 
 pub follow-premise-requires : goal.follow-premise-requires
 follow-premise-requires t c =
-    let l = rw (part_long c.loop-reference.invariant.turn) at c.loop-reference-test.true in
-    let p = rw (part_cell c.loop-reference.invariant.turn l) at c.pattern_at.ensures in
+    let l = rw (c.premises-reference-items.ensures, part_long c.loop-reference.invariant.turn) at c.loop-reference-test.true in
+    let p = rw (c.premises-reference-items.ensures, part_cell c.loop-reference.invariant.turn l) at c.pattern_at.ensures in
     (let d = c.loop-reference.invariant.turn.asked.deep in omega arith, premise_asked c.loop-reference.invariant.turn l _ _ _ p c.in-Node.is)
 
 pub follow-returns-in_err-outcome-clause-answered : goal.follow-returns-in_err-outcome-clause-answered
 follow-returns-in_err-outcome-clause-answered t c =
-    let l = rw (part_long c.loop-reference.invariant.turn) at c.loop-reference-test.true in
-    let p = rw (part_cell c.loop-reference.invariant.turn l) at c.pattern_at.ensures in
+    let l = rw (c.premises-reference-items.ensures, part_long c.loop-reference.invariant.turn) at c.loop-reference-test.true in
+    let p = rw (c.premises-reference-items.ensures, part_cell c.loop-reference.invariant.turn l) at c.pattern_at.ensures in
     rw (handed_on c.from_residual.result c.from_residual.ensures.1)
     (premise_refused c.loop-reference.invariant.turn l _ _ _ p c.in-Node.is c.premise.ensures.answered _ c.in_err-outcome.was)
 
 pub follow-loop-reference-preserved : goal.follow-loop-reference-preserved
 follow-loop-reference-preserved t c =
-    let l = rw (part_long c.loop-reference.invariant.turn) at c.loop-reference-test.true in
-    let p = rw (part_cell c.loop-reference.invariant.turn l) at c.pattern_at.ensures in
+    let l = rw (c.premises-reference-items.ensures, part_long c.loop-reference.invariant.turn) at c.loop-reference-test.true in
+    let p = rw (c.premises-reference-items.ensures, part_cell c.loop-reference.invariant.turn l) at c.pattern_at.ensures in
     record {
       turn = turn_next c.loop-reference.invariant.turn l _ _ _ p c.in-Node.is c.premise.ensures.answered _ _ _ c.in_ok-outcome.was _
           c.premise.ensures.lent.trees_kept c.premise.ensures.lent.stack_kept;
@@ -72,71 +72,74 @@ follow-loop-reference-preserved t c =
     }
 
 pub follow-instantiate-requires : goal.follow-instantiate-requires
-follow-instantiate-requires t c = conclusion_asked c.loop-reference.invariant.turn (rw (part_long c.loop-reference.invariant.turn) at c.loop-reference-test.false)
+follow-instantiate-requires t c = conclusion_asked c.loop-reference.invariant.turn (rw (c.premises-reference-items.ensures, part_long c.loop-reference.invariant.turn) at c.loop-reference-test.false)
 
 pub follow-bounds-store-built : goal.follow-bounds-store-built
 follow-bounds-store-built t c =
-    let (x, y, z) = result_inside c.loop-reference.invariant.turn (rw (part_long c.loop-reference.invariant.turn) at c.loop-reference-test.false) c.instantiate.ensures _ _ c.in_ok-built.was in omega arith
+    let (x, y, z) = result_inside c.loop-reference.invariant.turn (rw (c.premises-reference-items.ensures, part_long c.loop-reference.invariant.turn) at c.loop-reference-test.false) c.instantiate.ensures _ _ c.in_ok-built.was in omega arith
 
 pub follow-overflow_add-result : goal.follow-overflow_add-result
 follow-overflow_add-result t c =
-    let (x, y, z) = result_inside c.loop-reference.invariant.turn (rw (part_long c.loop-reference.invariant.turn) at c.loop-reference-test.false) c.instantiate.ensures _ _ c.in_ok-built.was in omega arith
+    let (x, y, z) = result_inside c.loop-reference.invariant.turn (rw (c.premises-reference-items.ensures, part_long c.loop-reference.invariant.turn) at c.loop-reference-test.false) c.instantiate.ensures _ _ c.in_ok-built.was in
+    let e = c.arity_of.ensures in omega arith
 
 pub follow-bounds-store-built-2 : goal.follow-bounds-store-built-2
 follow-bounds-store-built-2 t c =
-    let (x, y, z) = result_inside c.loop-reference.invariant.turn (rw (part_long c.loop-reference.invariant.turn) at c.loop-reference-test.false) c.instantiate.ensures _ _ c.in_ok-built.was in omega arith
+    let (x, y, z) = result_inside c.loop-reference.invariant.turn (rw (c.premises-reference-items.ensures, part_long c.loop-reference.invariant.turn) at c.loop-reference-test.false) c.instantiate.ensures _ _ c.in_ok-built.was in
+    let e = c.arity_of.ensures in omega arith
 
 pub follow-returns-in_err-built-clause-answered : goal.follow-returns-in_err-built-clause-answered
 follow-returns-in_err-built-clause-answered t c =
     rw (handed_on c.from_residual-in_err-built.result c.from_residual-in_err-built.ensures.1)
-    (conclusion_refused c.loop-reference.invariant.turn (rw (part_long c.loop-reference.invariant.turn) at c.loop-reference-test.false) c.instantiate.ensures _ c.in_err-built.was)
+    (conclusion_refused c.loop-reference.invariant.turn (rw (c.premises-reference-items.ensures, part_long c.loop-reference.invariant.turn) at c.loop-reference-test.false) c.instantiate.ensures _ c.in_err-built.was)
 
 pub follow-returns-clause-answered : goal.follow-returns-clause-answered
 follow-returns-clause-answered t c =
-    rw c.row.ensures
-    (conclusion_built c.loop-reference.invariant.turn (rw (part_long c.loop-reference.invariant.turn) at c.loop-reference-test.false) c.instantiate.ensures _ _ c.in_ok-built.was)
+    rw (c.row.ensures, c.arity_of.ensures)
+    (conclusion_built c.loop-reference.invariant.turn (rw (c.premises-reference-items.ensures, part_long c.loop-reference.invariant.turn) at c.loop-reference-test.false) c.instantiate.ensures _ _ c.in_ok-built.was)
 
 pub premise-instantiate_arguments-requires : goal.premise-instantiate_arguments-requires
-premise-instantiate_arguments-requires t c = part_asked c.requires _ refl
+premise-instantiate_arguments-requires t c = rw c.arity_of.ensures (part_asked c.requires _ refl)
 
 pub premise-returns-in_err-before-clause-answered : goal.premise-returns-in_err-before-clause-answered
 premise-returns-in_err-before-clause-answered t c =
-    let a = part_whole c.requires _ refl c.instantiate_arguments.auto.values c.instantiate_arguments.ensures in
+    let a = part_whole c.requires _ refl (rw c.arity_of.ensures at c.instantiate_arguments.auto.values) (rw c.arity_of.ensures at c.instantiate_arguments.ensures) in
     rw (handed_on c.from_residual.result c.from_residual.ensures.1)
     (arguments_refused c.requires a _ c.in_err-before.was)
 
 pub premise-call-requires : goal.premise-call-requires
 premise-call-requires t c =
-    let a = part_whole c.requires _ refl c.instantiate_arguments.auto.values c.instantiate_arguments.ensures in
-    let n = part_length c.requires _ _ refl c.instantiate_arguments.auto.values in (
+    let a = part_whole c.requires _ refl (rw c.arity_of.ensures at c.instantiate_arguments.auto.values) (rw c.arity_of.ensures at c.instantiate_arguments.ensures) in
+    let n = part_length c.requires _ _ refl (rw c.arity_of.ensures at c.instantiate_arguments.auto.values) in (
       let d = c.requires.deep in omega arith,
-      rw c.symbol_of-symbol.ensures (call_asked c.requires a _ c.in_ok-before.was n _ c.instantiate_arguments.auto.stack),
+      rw (c.symbol_of-symbol.ensures, c.arity_of.ensures) (call_asked c.requires a _ c.in_ok-before.was n _ c.instantiate_arguments.auto.stack),
     )
 
 pub premise-returns-in_err-outcome-clause-answered : goal.premise-returns-in_err-outcome-clause-answered
 premise-returns-in_err-outcome-clause-answered t c =
-    let a = part_whole c.requires _ refl c.instantiate_arguments.auto.values c.instantiate_arguments.ensures in
-    let n = part_length c.requires _ _ refl c.instantiate_arguments.auto.values in
+    let a = part_whole c.requires _ refl (rw c.arity_of.ensures at c.instantiate_arguments.auto.values) (rw c.arity_of.ensures at c.instantiate_arguments.ensures) in
+    let n = part_length c.requires _ _ refl (rw c.arity_of.ensures at c.instantiate_arguments.auto.values) in
     rw (handed_on c.from_residual-in_err-outcome.result c.from_residual-in_err-outcome.ensures.1)
-    (call_failed c.requires a _ c.in_ok-before.was n (rw c.symbol_of-symbol.ensures at c.call.ensures.answered) _ c.in_err-outcome.was)
+    (call_failed c.requires a _ c.in_ok-before.was n (rw (c.symbol_of-symbol.ensures, c.arity_of.ensures) at c.call.ensures.answered) _ c.in_err-outcome.was)
 
 pub premise-bind-requires : goal.premise-bind-requires
 premise-bind-requires t c =
-    let a = part_whole c.requires _ refl c.instantiate_arguments.auto.values c.instantiate_arguments.ensures in
-    let n = part_length c.requires _ _ refl c.instantiate_arguments.auto.values in
-    bind_asked c.requires a _ c.in_ok-before.was n (rw c.symbol_of-symbol.ensures at c.call.ensures.answered) _ _ _ c.in_ok-outcome.was _
-    (c.call.ensures.lent.stack_kept ∙ c.instantiate_arguments.auto.stack)
+    let a = part_whole c.requires _ refl (rw c.arity_of.ensures at c.instantiate_arguments.auto.values) (rw c.arity_of.ensures at c.instantiate_arguments.ensures) in
+    let n = part_length c.requires _ _ refl (rw c.arity_of.ensures at c.instantiate_arguments.auto.values) in
+    rw c.arity_of.ensures
+    (bind_asked c.requires a _ c.in_ok-before.was n (rw (c.symbol_of-symbol.ensures, c.arity_of.ensures) at c.call.ensures.answered) _ _ _ c.in_ok-outcome.was _
+    (c.call.ensures.lent.stack_kept ∙ c.instantiate_arguments.auto.stack))
 
 pub premise-returns-then-not-bind-clause-answered : goal.premise-returns-then-not-bind-clause-answered
 premise-returns-then-not-bind-clause-answered t c =
-    let a = part_whole c.requires _ refl c.instantiate_arguments.auto.values c.instantiate_arguments.ensures in
-    let n = part_length c.requires _ _ refl c.instantiate_arguments.auto.values in
-    result_failed c.requires a _ c.in_ok-before.was n (rw c.symbol_of-symbol.ensures at c.call.ensures.answered) _ _ _ c.in_ok-outcome.was
-    c.bind.ensures c.if-not-bind.true
+    let a = part_whole c.requires _ refl (rw c.arity_of.ensures at c.instantiate_arguments.auto.values) (rw c.arity_of.ensures at c.instantiate_arguments.ensures) in
+    let n = part_length c.requires _ _ refl (rw c.arity_of.ensures at c.instantiate_arguments.auto.values) in
+    result_failed c.requires a _ c.in_ok-before.was n (rw (c.symbol_of-symbol.ensures, c.arity_of.ensures) at c.call.ensures.answered) _ _ _ c.in_ok-outcome.was
+    (rw c.arity_of.ensures at c.bind.ensures) c.if-not-bind.true
 
 pub premise-returns-clause-answered : goal.premise-returns-clause-answered
 premise-returns-clause-answered t c =
-    let a = part_whole c.requires _ refl c.instantiate_arguments.auto.values c.instantiate_arguments.ensures in
-    let n = part_length c.requires _ _ refl c.instantiate_arguments.auto.values in
-    result_fitted c.requires a _ c.in_ok-before.was n (rw c.symbol_of-symbol.ensures at c.call.ensures.answered) _ _ _ c.in_ok-outcome.was
-    c.bind.ensures c.if-not-bind.false
+    let a = part_whole c.requires _ refl (rw c.arity_of.ensures at c.instantiate_arguments.auto.values) (rw c.arity_of.ensures at c.instantiate_arguments.ensures) in
+    let n = part_length c.requires _ _ refl (rw c.arity_of.ensures at c.instantiate_arguments.auto.values) in
+    result_fitted c.requires a _ c.in_ok-before.was n (rw (c.symbol_of-symbol.ensures, c.arity_of.ensures) at c.call.ensures.answered) _ _ _ c.in_ok-outcome.was
+    (rw c.arity_of.ensures at c.bind.ensures) c.if-not-bind.false
