@@ -82,8 +82,9 @@ fn enter_all(
             rows,
             at: progress.next,
         };
-        progress = declarations::declare(source, sorts, symbols, store, progress.state)
-            .map_err(|refusal| Rejection { refusal, line })?;
+        progress = declarations::declare(source, sorts, symbols, store, progress.state).map_err(
+            |refusal| Rejection { refusal, line },
+        )?;
     }
     Ok(Entered {
         state: progress.state,
