@@ -66,11 +66,8 @@ fn enter_all(
     let mut progress = Progress {
         next: 0,
         state: State {
-            sorts: 0,
-            symbols: 0,
-            rules: 0,
-            used: 0,
             left: walk.limit,
+            ..State::default()
         },
     };
     let mut count = 0;
@@ -82,8 +79,9 @@ fn enter_all(
             rows,
             at: progress.next,
         };
-        progress = declarations::declare(source, sorts, symbols, store, progress.state)
-            .map_err(|refusal| Rejection { refusal, line })?;
+        progress = declarations::declare(source, sorts, symbols, store, progress.state).map_err(
+            |refusal| Rejection { refusal, line },
+        )?;
     }
     Ok(Entered {
         state: progress.state,

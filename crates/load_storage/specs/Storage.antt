@@ -72,3 +72,18 @@ pub record ScratchCleared (tokens calls evals : Rows) (n : ℕ) (tokens' calls' 
 -- Every buffer is zero throughout.
 pub record Wiped (b b' : Buffers) : Type 0 where
   pub is : b' ≡ wiped b
+
+-- A buffer holds the same in each place, and is as long as it was.
+abbrev pub Filled : {A : Type 0} → A → List A → List A → Type 0
+Filled a before after = after ≡ replicate (length before) a
+
+-- Every number of every buffer is the value.
+pub record AllFilled (value : ℕ) (b b' : Buffers) : Type 0 where
+  pub tokens : Filled (replicate 4 value) b.tokens b'.tokens
+  pub rows : Filled (replicate 4 value) b.rows b'.rows
+  pub calls : Filled (replicate 4 value) b.calls b'.calls
+  pub sorts : Filled (replicate 2 value) b.sorts b'.sorts
+  pub symbols : Filled (replicate 24 value) b.symbols b'.symbols
+  pub rules : Filled (replicate 154 value) b.rules b'.rules
+  pub words : Filled value b.words b'.words
+  pub evals : Filled (replicate 2 value) b.evals b'.evals

@@ -4,7 +4,7 @@
 #![tactic(auto)]
 
 ghost use Rattle.std.specs.Prelude.{◌≡◌, replicate};
-ghost use Rattle.load_storage.specs.Storage.{cleared_from, too_short, SignatureCleared, ScratchCleared, Wiped};
+ghost use Rattle.load_storage.specs.Storage.{cleared_from, too_short, SignatureCleared, ScratchCleared, Wiped, Filled, AllFilled};
 ghost use Rattle.load_storage.specs.Lent.{buffers_of, IsLent};
 
 use names::{SORTS, SYMBOLS, SortRow, SymbolRow, TermRow};
@@ -26,6 +26,23 @@ pub struct LentBuffers<'a> {
     pub evals: &'a mut [EvalRow],
 }
 
+impl LentBuffers<'_> {
+    // Sets every number of every buffer to a value.
+    pub fn fill(&mut self, value: u32)
+        ensures filled { AllFilled value (buffers_of self.old) (buffers_of self.new) }
+        ensures lent { IsLent self.old self.new }
+    {
+        fill_rows(self.tokens, value);
+        fill_rows(self.rows, value);
+        fill_rows(self.calls, value);
+        fill_rows(self.sorts, value);
+        fill_rows(self.symbols, value);
+        fill_rows(self.rules, value);
+        self.words.fill(value);
+        fill_rows(self.evals, value);
+    }
+}
+
 // How much of a signature's storage is in use.
 // Stays: `leave` serves counts of any size; those of `signature::Counts` have 32 bits, so that it would promise less.
 #[derive(Clone, Copy, Default)]
@@ -34,6 +51,13 @@ pub struct Used {
     pub symbols: usize,
     pub rules: usize,
     pub words: usize,
+}
+
+// Sets each number of the rows to a value, whatever their width.
+fn fill_rows<const N: usize>(rows: &mut [[u32; N]], value: u32)
+    ensures { Filled (replicate N value) rows.old rows.new }
+{
+    slices::clear_from(rows, 0, [value; N]);
 }
 
 // Zeroes the rows from a place on, whatever their width.
@@ -64,8 +88,7 @@ pub fn leave_nothing(buffers: &mut LentBuffers)
     ensures wiped { Wiped (buffers_of buffers.old) (buffers_of buffers.new) }
     ensures lent { IsLent buffers.old buffers.new }
 {
-    clear_rows(buffers.rows, 0);
-    leave(buffers, Used::default(), 0);
+    buffers.fill(0);
 }
 
 // Are these buffers shorter than docs/STORAGE.md lists?

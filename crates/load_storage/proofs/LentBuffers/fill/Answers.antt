@@ -1,6 +1,6 @@
 -- `fill` meets its contract: each buffer is filled by a call of its own.
 use borrow.Author.Rules.{rules}
-use Rattle.signature_tests.proofs.buffers.fill.Goals as goal
+use Rattle.load_storage.proofs.LentBuffers.fill.Goals as goal
 
 pub returns-clause-filled : goal.returns-clause-filled
 returns-clause-filled c =
