@@ -28,10 +28,15 @@ use Rattle.loader.specs.Holding.{RulesKept, rules_entered}
 use Rattle.loader.specs.Entering.{Storage}
 use Rattle.rule_checks.specs.RuleForm.{RuleNamed}
 use Rattle.declarations.specs.Held.{RulesStored, RulesHeld}
-use Rattle.declarations.specs.Steps.{Ready, Told, progress_of, Advanced}
+use Rattle.declarations.specs.Steps.{Ready, progress_of, Advanced}
 use Rattle.declarations.specs.declared.State.{State}
 use Rattle.declarations.specs.declared.Progress.{Progress}
 use Rattle.declarations.proofs.StoredLaws.{rule_stored}
+
+-- No sum is too large, and no difference below zero, where so many nodes were allowed.
+abbrev pub Told : State → ℕ → Result EnteredRule Refusal → Type 0
+Told st m (Err e) = Unit {0}
+Told st m (Ok r) = (r.space.room ≤ m) × (m ≤ st.left) × (st.rules ≤ 1024)
 
 -- With nothing entered but below the number.
 entering_few : (number : ℕ) (x : Ruled) {R : Rule} {m : ℕ} → entering number x ≡ ruled R m → number < 1024

@@ -55,6 +55,11 @@ abbrev pub GoesTo : ℕ → Progress → Result Progress Refusal → Type 0
 GoesTo n x (Ok y) = (0 ≡ n) × (y ≡ x)
 GoesTo n x (Err e) = (number_of e ≡ n) × (0 < number_of e)
 
+-- A number that is not 0, or no declaration.
+abbrev pub SomeOf : ℕ → Result ℕ Refusal → Type 0
+SomeOf n (Ok k) = (k ≡ n) × (0 < n)
+SomeOf n (Err e) = (e ≡ NoDeclaration) × (n ≡ 0)
+
 -- What `declare_symbol` asks: k sorts behind the row of the name.
 pub record SymbolAsked (rows : Rows) (p : ℕ) (sorts symbols : Rows) (st : State) : Type 0 where
   pub there : p + 2 + column (row_at rows p) 2 ≤ length rows
@@ -96,11 +101,6 @@ abbrev pub progress_of : State → ℕ → Result EnteredRule Refusal → Result
 progress_of st m (Err e) = Err e
 progress_of st m (Ok r) =
     Ok (record { next = r.next; state = record { sorts = st.sorts; symbols = st.symbols; rules = st.rules + 1; used = r.space.used; left = st.left - (m - r.space.room) } })
-
--- No sum is too large, and no difference below zero.
-abbrev pub Told : State → ℕ → Result EnteredRule Refusal → Type 0
-Told st m (Err e) = Unit {0}
-Told st m (Ok r) = (r.space.room ≤ m) × (m ≤ st.left) × (st.rules ≤ 1024)
 
 -- What `declare_rule` asks: as many judgments as the declaration's row says, behind the row of the name.
 pub record RuleAsked (text : List ℕ) (rows : Rows) (p : ℕ) (symbols rules : Rows) (words : List ℕ) (st : State) : Type 0 where

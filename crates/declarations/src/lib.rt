@@ -4,11 +4,11 @@
 // All functions here serve the crates above: they ask for storage of the listed sizes.
 #![tactic(auto)]
 
-ghost use Rattle.std.specs.Prelude.{◌≡◌, cond, [], ◌∷◌, ◌+◌, ◌≤◌, min, eqb, length};
+ghost use Rattle.std.specs.Prelude.{◌≡◌, Ok, cond, [], ◌∷◌, ◌+◌, ◌≤◌, min, eqb, length};
 ghost use Rattle.names.specs.Symbols.{column, row_at, sorts_of, symbols_of};
 ghost use Rattle.loader.specs.Signature.{sort_refusal};
 ghost use Rattle.loader.specs.Rows.{entered};
-ghost use Rattle.declarations.specs.Steps.{name_at, GoesTo, sort_progress, SymbolAsked, SymbolDeclared, Told, progress_of, RuleAsked, RuleDeclared, ClauseAsked, ClauseDeclared, ClausesAsked, ClausesDeclared, DefAsked, DefDeclared, DeclareAsked, DeclareDone};
+ghost use Rattle.declarations.specs.Steps.{name_at, GoesTo, SomeOf, sort_progress, SymbolAsked, SymbolDeclared, progress_of, RuleAsked, RuleDeclared, ClauseAsked, ClauseDeclared, ClausesAsked, ClausesDeclared, DefAsked, DefDeclared, DeclareAsked, DeclareDone};
 ghost use Rattle.declarations.specs.Lent.{IsLent};
 ghost use Rattle.loader.specs.Kinds.{is_constructor, mark_in, first_in, clauses_in};
 
@@ -24,7 +24,7 @@ const RULE_NODES: usize = 1024;
 
 // How many sorts, symbols and rules there are, how many words are in use, and how many nodes are left.
 // Stays: the counts of `signature::Counts` have 32 bits, so `declare` would ask for more; `load_storage::Used` is as wide, but its crate is not below this one.
-#[derive(Clone, Copy)]
+#[derive(Clone, Copy, Default)]
 pub struct State {
     pub sorts: usize,
     pub symbols: usize,
@@ -43,6 +43,22 @@ impl State {
             space: Space {
                 used: self.used,
                 room: self.left.min(RULE_NODES),
+            },
+        }
+    }
+
+    // What there is behind a rule for which m nodes were allowed.
+    fn with_rule(self, m: usize, rule: EnteredRule) -> Progress
+        requires { (rule.space.room ≤ m) × (m ≤ self.left) × (self.rules ≤ 1024) }
+        ensures { Ok result ≡ progress_of self m (Ok rule) }
+    {
+        Progress {
+            next: rule.next,
+            state: State {
+                rules: self.rules + 1,
+                used: rule.space.used,
+                left: self.left - (m - rule.space.room),
+                ..self
             },
         }
     }
@@ -100,7 +116,9 @@ fn declare_symbol(
     ensures { SymbolDeclared source.entry.text.now source.entry.rows.now source.entry.at (is_constructor kind) (mark_in kind) (first_in kind) (clauses_in kind) sorts.now symbols.old state result symbols.new }
 {
     let Source { rows, at, .. } = source;
-    let k = rows[at][2] as usize;
+    let [_, _, count, _] = rows[at];
+    let k = count as usize;
+    // Stays: `Source { at: .., ..source }` here and below is one update, as plain as a call, and each proof would rewrite by the contract of a method for it.
     let part = Part {
         source: Source {
             at: at + 1,
@@ -118,21 +136,15 @@ fn declare_symbol(
     })
 }
 
-// What came of a rule for which m nodes were allowed.
-fn told(state: State, m: usize, outcome: Result<EnteredRule, Refusal>) -> Result<Progress, Refusal>
-    requires { Told state m outcome }
-    ensures { result ≡ progress_of state m outcome }
+// How many sorts or judgments stand behind the name of a declaration that needs one.
+fn some_behind(row: &TermRow) -> Result<usize, Refusal>
+    ensures { SomeOf (column row.now 2) result }
 {
-    let rule = outcome?;
-    Ok(Progress {
-        next: rule.next,
-        state: State {
-            rules: state.rules + 1,
-            used: rule.space.used,
-            left: state.left - (m - rule.space.room),
-            ..state
-        },
-    })
+    let [_, _, count, _] = *row;
+    if count == 0 {
+        return Err(Refusal::NoDeclaration);
+    }
+    Ok(count as usize)
 }
 
 // `rule`: the judgments stand behind the row of the name.
@@ -147,10 +159,7 @@ fn declare_rule(
     ensures lent { IsLent store.old store.new }
 {
     let Source { rows, at, .. } = source;
-    let k = rows[at][2] as usize;
-    if k == 0 {
-        return Err(Refusal::NoDeclaration);
-    }
+    let k = some_behind(&rows[at])?;
     let word = Word::behind_kind(&rows[at + 1]);
     let place = state.next_rule();
     let part = Part {
@@ -160,15 +169,15 @@ fn declare_rule(
         },
         k,
     };
-    let outcome = loader::enter_rule(
+    let rule = loader::enter_rule(
         part,
         word,
         &symbols[..state.symbols],
         store.words,
         store.rules,
         place,
-    );
-    told(state, place.space.room, outcome)
+    )?;
+    Ok(state.with_rule(place.space.room, rule))
 }
 
 // The clause with a number of the function whose name stands at a place.
@@ -185,7 +194,8 @@ fn declare_clause(
     ensures lent { IsLent store.old store.new }
 {
     let Source { text, rows, at } = source;
-    let n = rows[at][3] as usize;
+    let [_, _, _, patterns] = rows[at];
+    let n = patterns as usize;
     let place = state.next_rule();
     let title = Title {
         word,
@@ -201,7 +211,7 @@ fn declare_clause(
         at: at + 1,
         n,
     };
-    let outcome = clauses::clause(
+    let rule = clauses::clause(
         clause,
         title,
         store.words,
@@ -209,8 +219,8 @@ fn declare_clause(
         place,
         store.out,
         store.calls,
-    );
-    told(state, place.space.room, outcome)
+    )?;
+    Ok(state.with_rule(place.space.room, rule))
 }
 
 // The n clauses, from a row on, of the function whose name stands at a place.
@@ -265,10 +275,9 @@ fn declare_def(
     ensures lent { IsLent store.old store.new }
 {
     let Source { rows, at, .. } = source;
-    if rows[at][2] == 0 {
-        return Err(Refusal::NoDeclaration);
-    }
-    let n = rows[at][3] as usize;
+    some_behind(&rows[at])?;
+    let [_, _, _, clauses] = rows[at];
+    let n = clauses as usize;
     let kind = Kind::Function {
         first: first_clause(n, state.rules),
         clauses: n as u32,
@@ -296,12 +305,11 @@ pub fn declare(
     ensures lent { IsLent store.old store.new }
 {
     let Source { rows, at, .. } = source;
-    match rows[at][0] {
+    let [keyword, _, _, _] = rows[at];
+    match keyword {
         SORT => declare_sort(source, sorts, symbols, state),
         CTOR => {
-            if rows[at][2] == 0 {
-                return Err(Refusal::NoDeclaration);
-            }
+            some_behind(&rows[at])?;
             declare_symbol(source, Kind::Constructor, sorts, symbols, state)
         }
         PRED => declare_symbol(source, Kind::Predicate, sorts, symbols, state),

@@ -1,10 +1,11 @@
 -- `declare` meets its contract: the keyword in the declaration's row says which function declares it.
 use Rattle.declarations.proofs.DeclareLaws.{sort_done, ctor_asked, ctor_none, ctor_done, pred_asked, pred_done, rule_asked, rule_done, def_asked, def_done, eval_done, others_done}
-use native.Mathlib.Omega.{arith}
+use Rattle.refusals.specs.Refused.{handed_on}
 use Rattle.declarations.proofs.declare.Goals as goal
 
-pub returns-then-rows-at-eq0-clause-declared : goal.returns-then-rows-at-eq0-clause-declared
-returns-then-rows-at-eq0-clause-declared c = record { same = λ limit ts s held d q st. ctor_none held st _ _ _ _ c.in-2.is c.if-rows-at-eq0.true }
+pub returns-in_err-some_behind-in-2-clause-declared : goal.returns-in_err-some_behind-in-2-clause-declared
+returns-in_err-some_behind-in-2-clause-declared c =
+    rw (handed_on c.from_residual.result c.from_residual.ensures.1, c.in_err-some_behind-in-2.ensures.0) (record { same = λ limit ts s held d q st. ctor_none held st _ _ _ _ c.in-2.is c.in_err-some_behind-in-2.ensures.1 })
 
 pub declare_symbol-requires : goal.declare_symbol-requires
 declare_symbol-requires c =
@@ -32,12 +33,10 @@ returns-in-1-clause-declared c =
       same = λ limit ts s held d q st. sort_done held st _ _ c.in-1.is c.declare_sort.ensures.value c.declare_sort.ensures.sorts_after;
     }
 
-pub returns-else-rows-at-eq0-clause-declared : goal.returns-else-rows-at-eq0-clause-declared
-returns-else-rows-at-eq0-clause-declared c =
-    let if1 = c.if-rows-at-eq0 in
-    let declare-symbol = c.declare_symbol in
+pub returns-in_ok-some_behind-in-2-clause-declared : goal.returns-in_ok-some_behind-in-2-clause-declared
+returns-in_ok-some_behind-in-2-clause-declared c =
     record {
-      same = λ limit ts s held d q st. ctor_done held st _ _ c.in-2.is (omega (arith, if1.false)) declare-symbol.ensures;
+      same = λ limit ts s held d q st. ctor_done held st _ _ c.in-2.is c.in_ok-some_behind-in-2.ensures.1 c.declare_symbol.ensures;
     }
 
 pub returns-in-3-clause-declared : goal.returns-in-3-clause-declared

@@ -7,13 +7,14 @@ use Rattle.declarations.proofs.DefLaws.{def_no, first_is, def_none, def_refused,
 use native.Mathlib.Omega.{arith}
 use Rattle.declarations.proofs.declare_def.Goals as goal
 
-pub returns-then-rows-at-eq0-clause-declared : goal.returns-then-rows-at-eq0-clause-declared
-returns-then-rows-at-eq0-clause-declared c =
+pub returns-in_err-some_behind-clause-declared : goal.returns-in_err-some_behind-clause-declared
+returns-in_err-some_behind-clause-declared c =
     let args = c.args in
     let pre = c.requires in
-    record {
-      same = λ limit ts s held cs q st e legal. def_no held args.source.rows.now args.source.at pre.inside cs 0 q _ _ _ _ refl (def_none held args.source.rows.now args.source.at pre.inside cs c.if-rows-at-eq0.true);
-    }
+    rw (handed_on c.from_residual.result c.from_residual.ensures.1, c.in_err-some_behind.ensures.0)
+    (record {
+      same = λ limit ts s held cs q st e legal. def_no held args.source.rows.now args.source.at pre.inside cs 0 q _ _ _ _ refl (def_none held args.source.rows.now args.source.at pre.inside cs c.in_err-some_behind.ensures.1);
+    })
 
 pub returns-in_err-entered-clause-declared : goal.returns-in_err-entered-clause-declared
 returns-in_err-entered-clause-declared c =
@@ -22,9 +23,9 @@ returns-in_err-entered-clause-declared c =
     let first-clause = c.first_clause in
     let h = c.in_err-entered.ensures in
     let none : h.refusal ≡ 0 → ⊥ = λ y. (let l = h.is.1 in let m = h.is.0 in omega arith) in
-    rw (handed_on c.from_residual.result c.from_residual.ensures.1)
+    rw (handed_on c.from_residual-in_err-entered.result c.from_residual-in_err-entered.ensures.1)
     (record {
-      same = λ limit ts s held cs q st e legal. def_no held args.source.rows.now args.source.at pre.inside cs h.refusal q _ _ _ _ h.is.0 (def_refused held args.source.rows.now args.source.at pre.inside cs (omega (arith, c.if-rows-at-eq0.false)) (first_is held args.source.rows.now args.source.at pre.inside cs first-clause.ensures e) e h.entered none);
+      same = λ limit ts s held cs q st e legal. def_no held args.source.rows.now args.source.at pre.inside cs h.refusal q _ _ _ _ h.is.0 (def_refused held args.source.rows.now args.source.at pre.inside cs c.in_ok-some_behind.ensures.1 (first_is held args.source.rows.now args.source.at pre.inside cs first-clause.ensures e) e h.entered none);
     })
 
 pub declare_clauses-requires : goal.declare_clauses-requires
@@ -36,7 +37,7 @@ declare_clauses-requires c =
     let held = pre.ready.3 in
     let cs = pre.stand.0 in
     let e = pre.stand.3 in
-    let some : 0 < column (row_at args.source.rows.now args.source.at) 2 = omega (arith, c.if-rows-at-eq0.false) in
+    let some : 0 < column (row_at args.source.rows.now args.source.at) 2 = c.in_ok-some_behind.ensures.1 in
     let f = first_is held args.source.rows.now args.source.at pre.inside cs first-clause.ensures e in
     let d = def_entered held args.source.rows.now args.source.at pre.inside cs some f e h.entered (sym h.is.0) in
     rw (h.is.1, c.behind_kind-word.ensures)
@@ -57,7 +58,7 @@ returns-clause-declared c =
     let first-clause = c.first_clause in
     let h = c.in_ok-entered.ensures in
     let declared = rw (h.is.1, c.behind_kind-word.ensures) at c.declare_clauses.ensures.declared in
-    let some : 0 < column (row_at args.source.rows.now args.source.at) 2 = omega (arith, c.if-rows-at-eq0.false) in
+    let some : 0 < column (row_at args.source.rows.now args.source.at) 2 = c.in_ok-some_behind.ensures.1 in
     record {
       same = λ limit ts s held cs q st e legal.
           let f = first_is held args.source.rows.now args.source.at pre.inside cs first-clause.ensures e in
