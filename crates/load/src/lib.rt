@@ -66,11 +66,8 @@ fn enter_all(
     let mut progress = Progress {
         next: 0,
         state: State {
-            sorts: 0,
-            symbols: 0,
-            rules: 0,
-            used: 0,
             left: walk.limit,
+            ..State::default()
         },
     };
     let mut count = 0;

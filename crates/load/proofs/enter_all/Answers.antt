@@ -15,7 +15,8 @@ pub loop-i-init : goal.loop-i-init
 loop-i-init c =
     let pre = c.requires.1 in
     let args = c.args in
-    (refl, refl, refl, lent_start, sofar_start pre.evals_lent (held_none args.walk.text.now args.walk.limit args.sorts.now args.symbols.now args.store.now.rules.now args.store.now.words.now pre.sorts_lent pre.symbols_lent pre.rules_lent pre.words_lent pre.limited))
+    let none : c.default.result ≡ record { sorts = 0; symbols = 0; rules = 0; used = 0; left = 0 } = search rules in
+    rw none (refl, refl, refl, lent_start, sofar_start pre.evals_lent (held_none args.walk.text.now args.walk.limit args.sorts.now args.symbols.now args.store.now.rules.now args.store.now.words.now pre.sorts_lent pre.symbols_lent pre.rules_lent pre.words_lent pre.limited))
 
 pub bounds-rows-progress : goal.bounds-rows-progress
 bounds-rows-progress c =
