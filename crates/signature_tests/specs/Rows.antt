@@ -1,7 +1,7 @@
 -- Rows of any width whose numbers are all one value.
-use Rattle.std.specs.Prelude.{◌≡◌, ℕ, Bool, List, length, replicate, ◌==◌}
+use Rattle.std.specs.Prelude.{ℕ, Bool, List, ◌==◌}
 use Rattle.std.specs.List.{list_all}
-use Rattle.load_storage.specs.Storage.{Buffers}
+use Rattle.load_storage.specs.Storage.{Buffers, AllFilled as AllFilledWith}
 
 -- Is each of the numbers v?
 abbrev pub is_all : ℕ → List ℕ → Bool
@@ -15,17 +15,6 @@ are_all v rows = list_all (is_all v) rows
 abbrev pub junk : ℕ
 junk = 2779096485
 
--- A buffer holds the same in each place, and is as long as it was.
-abbrev pub Filled : {A : Type 0} → A → List A → List A → Type 0
-Filled a before after = after ≡ replicate (length before) a
-
--- All that a load is lent.
-pub record AllFilled (b b' : Buffers) : Type 0 where
-  pub tokens : Filled (replicate 4 junk) b.tokens b'.tokens
-  pub rows : Filled (replicate 4 junk) b.rows b'.rows
-  pub calls : Filled (replicate 4 junk) b.calls b'.calls
-  pub sorts : Filled (replicate 2 junk) b.sorts b'.sorts
-  pub symbols : Filled (replicate 24 junk) b.symbols b'.symbols
-  pub rules : Filled (replicate 154 junk) b.rules b'.rules
-  pub words : Filled junk b.words b'.words
-  pub evals : Filled (replicate 2 junk) b.evals b'.evals
+-- All that a load is lent holds this number in each place.
+abbrev pub AllFilled : Buffers → Buffers → Type 0
+AllFilled b b' = AllFilledWith junk b b'

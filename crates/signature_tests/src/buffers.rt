@@ -1,9 +1,9 @@
 // The lent buffers: what they hold before a call, and the tests of what they hold afterwards.
-ghost use Rattle.std.specs.Prelude.{◌≡◌, ◌&&◌, length, drop, nat_le, replicate};
+ghost use Rattle.std.specs.Prelude.{◌≡◌, ◌&&◌, length, drop, nat_le};
 ghost use Rattle.load_storage.specs.Lent.{buffers_of, IsLent};
 ghost use Rattle.signature.specs.Storage.{store_of};
 ghost use Rattle.signature_tests.specs.Damage.{stored_in};
-ghost use Rattle.signature_tests.specs.Rows.{are_all, is_all, Filled, AllFilled};
+ghost use Rattle.signature_tests.specs.Rows.{are_all, is_all, AllFilled};
 
 pub use listing::recorded::JUNK;
 use listing::write;
@@ -12,26 +12,12 @@ use names::{SORTS, SYMBOLS};
 use rules::RULES;
 use signature::{Counts, StoredSignature};
 
-// Fills rows of any width.
-fn fill_rows<const N: usize>(rows: &mut [[u32; N]], value: u32)
-    ensures { Filled (replicate N value) rows.old rows.new }
-{
-    slices::clear_from(rows, 0, [value; N]);
-}
-
 // Fills all that a load is lent.
 pub fn fill(lent: &mut LentBuffers)
     ensures filled { AllFilled (buffers_of lent.old) (buffers_of lent.new) }
     ensures lent { IsLent lent.old lent.new }
 {
-    fill_rows(lent.tokens, JUNK);
-    fill_rows(lent.rows, JUNK);
-    fill_rows(lent.calls, JUNK);
-    fill_rows(lent.sorts, JUNK);
-    fill_rows(lent.symbols, JUNK);
-    fill_rows(lent.rules, JUNK);
-    lent.words.fill(JUNK);
-    fill_rows(lent.evals, JUNK);
+    lent.fill(JUNK);
 }
 
 // How many bytes a text may have for which `with_buffers` lends, and how many nodes.
