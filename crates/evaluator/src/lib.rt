@@ -84,7 +84,7 @@ pub fn evaluate_listed(
 {
     let most = limits.capped().words;
     let program = Program {
-        symbols: &signature.symbols[..signature.counts.symbols as usize],
+        symbols: signature.symbols_in_use(),
         rules: signature.rules,
         pattern: &signature.words[..signature.counts.words as usize],
         limit: most,
@@ -150,6 +150,6 @@ pub fn is_forward_call(signature: StoredSignature, term: Source) -> Result<bool,
     ensures { Forwarding term.entry.text.now (store_of signature.entry) term.entry.rows.now term.entry.at result }
 {
     check(signature, term)?;
-    let symbols = &signature.symbols[..signature.counts.symbols as usize];
+    let symbols = signature.symbols_in_use();
     Ok(forward_calls::is_forward_call(term, symbols))
 }

@@ -209,7 +209,7 @@ fn replay_one(list: &[u8], at: usize) -> usize
 }
 
 // Goes through a list from text to text.
-// Stays: a line has a fourth number before its text; a parameter for that in `recorded::read` would go into its contract and all three programs.
+// Stays: tried: with a reader as a parameter of `recorded::replay`, the search for `replay-requires-clause-callable` in `words_replay` ran out of stack.
 fn replay(list: &[u8]) {
     let end = recorded::end(list);
     let mut at = 0;

@@ -7,7 +7,8 @@
 ghost use Rattle.std.specs.Prelude.{◌≡◌, List, map, ℕ, ◌+◌, ◌≤◌, ◌<◌, length};
 ghost use Rattle.std.proofs.lemmas.List.Edits.{sets};
 ghost use Rattle.arena.specs.Copies.{term_room, pattern_room, moved, copied, Copyable, Movable};
-ghost use Rattle.names.specs.Symbols.{row_at, symbols_of, variables_of};
+ghost use Rattle.names.specs.Named.{symbols_named};
+ghost use Rattle.names.specs.Symbols.{row_at, variables_of};
 ghost use Rattle.patterns.specs.Promises.{Ready};
 ghost use Rattle.sessions.specs.Goals.{variable_for};
 ghost use Rattle.sessions.specs.Storage.{names_in};
@@ -58,8 +59,8 @@ pub fn compile(
 ) -> Result<Goal, Refusal>
     requires { Ready source.symbols.now (length source.symbols.now) variables.old (length names.now) words.old 0 1024 }
     ensures bounds { Bounds (length names.now) result }
-    ensures goal_made { GoalMade source.entry.text.now source.entry.rows.now at (symbols_of source.entry.text.now source.entry.symbols.now (length source.entry.symbols.now))
-        names.now words.old result variables.new words.new }
+    ensures goal_made { GoalMade source.entry.text.now source.entry.rows.now at (symbols_named source.entry) names.now words.old result
+        variables.new words.new }
 {
     copy_names(names, variables);
     let start = Place {

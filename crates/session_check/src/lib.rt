@@ -55,7 +55,7 @@ pub fn check_session(
     if !are_names_listed(text, names, bounds) {
         return false;
     }
-    let symbols = &signature.symbols[..signature.counts.symbols as usize];
+    let symbols = signature.symbols_in_use();
     let terms = Terms {
         words,
         room: TERM_ROOM,

@@ -10,19 +10,20 @@ use Rattle.evaluator.proofs.evaluate_listed.Goals as goal
 
 pub expression-requires : goal.expression-requires
 expression-requires c =
-    part_asked _ _ _ (symbols_within c.requires.readable)
-    (expression_asked c.requires _ (ap (λ (l : Limits). l.words) c.capped-most.ensures) _ _ (c.fill.ensures.after (λ y e. e)) refl)
+    rw c.symbols_in_use.ensures
+    (part_asked _ _ _ (symbols_within c.requires.readable)
+    (expression_asked c.requires _ (ap (λ (l : Limits). l.words) c.capped-most.ensures) _ _ (c.fill.ensures.after (λ y e. e)) refl))
 
 pub returns-in-Err-clause-left : goal.returns-in-Err-clause-left
 returns-in-Err-clause-left c =
     let l = c.expression.ensures.lent in
     left_refused c.requires _ (ap (λ (l : Limits). l.words) c.capped-most.ensures) (c.fill.ensures.after (λ y e. e))
-    (part_answered _ _ _ (symbols_within c.requires.readable) c.expression.ensures.answered) _ c.in-Err.is l.trees_kept _
+    (part_answered _ _ _ (symbols_within c.requires.readable) (rw c.symbols_in_use.ensures at c.expression.ensures.answered)) _ c.in-Err.is l.trees_kept _
     (given_wiped c.fill-in-Err.ensures.filled (search (rules, l.words)) (search (rules, l.links)) (search (rules, l.trees)))
 
 pub returns-in-Ok-clause-left : goal.returns-in-Ok-clause-left
 returns-in-Ok-clause-left c =
     let l = c.expression.ensures.lent in
     left_valued c.requires _ (ap (λ (l : Limits). l.words) c.capped-most.ensures) (c.fill.ensures.after (λ y e. e))
-    (part_answered _ _ _ (symbols_within c.requires.readable) c.expression.ensures.answered) _ _ _ _ c.in-Ok.is l.trees_kept
+    (part_answered _ _ _ (symbols_within c.requires.readable) (rw c.symbols_in_use.ensures at c.expression.ensures.answered)) _ _ _ _ c.in-Ok.is l.trees_kept
     c.clear_from.ensures c.clear_from-in-Ok.ensures (search (rules, l.words)) (search (rules, l.links)) (search (rules, l.trees))

@@ -6,4 +6,5 @@ pub is_forward_call-requires : goal.is_forward_call-requires
 is_forward_call-requires c = forward_asked _ (tested_sound c.check.ensures c.in_ok-check.was)
 
 pub returns : goal.returns
-returns c = is_decided (tested_sound c.check.ensures c.in_ok-check.was) c.is_forward_call.ensures
+returns c =
+    is_decided (tested_sound c.check.ensures c.in_ok-check.was) (rw c.symbols_in_use-symbols.ensures at c.is_forward_call.ensures)

@@ -18,7 +18,7 @@ pub returns-then-not-are_words_formed : goal.returns-then-not-are_words_formed
 returns-then-not-are_words_formed c =
     let sg = c.args.signature in
     let text = c.args.text.now in
-    told_no refl (λ h. true_false ((rw (symbols_used sg.symbols.now sg.counts.symbols c.requires.1 text) at (c.are_words_formed.ensures text)) ∙ h.session.words) c.if-not-are_words_formed.true)
+    told_no refl (λ h. true_false ((rw (c.symbols_in_use-symbols.ensures, symbols_used sg.symbols.now sg.counts.symbols c.requires.1 text) at (c.are_words_formed.ensures text)) ∙ h.session.words) c.if-not-are_words_formed.true)
 
 pub check_bindings-requires-clause-fact_1 : goal.check_bindings-requires-clause-fact_1
 check_bindings-requires-clause-fact_1 c =
@@ -28,7 +28,7 @@ check_bindings-requires-clause-fact_1 c =
     let tested = c.are_words_formed in
     words_formed (arities_of (symbols_of text sg.symbols.now sg.counts.symbols)) s.words.now s.counts
     tested.result (c.is_counted.ensures.yes c.if-not-is_counted.false)
-    (rw (symbols_used sg.symbols.now sg.counts.symbols c.requires.1 text) at (tested.ensures text)) c.if-not-are_words_formed.false-raw
+    (rw (c.symbols_in_use-symbols.ensures, symbols_used sg.symbols.now sg.counts.symbols c.requires.1 text) at (tested.ensures text)) c.if-not-are_words_formed.false-raw
 
 pub returns : goal.returns
 returns c =
@@ -40,7 +40,7 @@ returns c =
     let there = names_there c.args.limits (part_in s) (record { links = c.args.links.now; marks = c.args.marks.now; stack = c.args.stack.now }) s.counts.names enough counted.few_names in
     told c.are_words_formed.result enough counted
     (names_listed s.names.now s.counts.names there (c.are_names_listed.ensures.yes c.if-not-are_names_listed.false))
-    (rw (symbols_used sg.symbols.now sg.counts.symbols c.requires.1 text) at (c.are_words_formed.ensures text))
+    (rw (c.symbols_in_use-symbols.ensures, symbols_used sg.symbols.now sg.counts.symbols c.requires.1 text) at (c.are_words_formed.ensures text))
     c.if-not-are_words_formed.false-raw
     (c.is_scratch_zero.ensures.yes c.if-not-is_scratch_zero.false)
     c.check_bindings.ensures
