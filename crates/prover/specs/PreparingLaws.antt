@@ -71,6 +71,12 @@ module _ (l : Limits) {c : Limits} (is : c ≡ capped_of l) where
   steps_is : c.steps ≡ at_most theory.step_limit l.steps
   steps_is = ap (λ (x : Limits). x.steps) is ∙ sym (most_is theory.step_limit l.steps)
 
+  variables_is : c.variables ≡ at_most variable_limit l.variables
+  variables_is = ap (λ (x : Limits). x.variables) is ∙ sym (capped_variables l)
+
+  words_is : c.words ≡ at_most word_limit l.words
+  words_is = ap (λ (x : Limits). x.words) is ∙ sym (capped_words l)
+
   -- More steps than allowed,
   pub much_steps : (s d : ℕ) → c.steps < s → true ≡ too_much s d (allowance_of l)
   much_steps s d h = let e = steps_is in
@@ -83,6 +89,19 @@ module _ (l : Limits) {c : Limits} (is : c ≡ capped_of l) where
   much_depth s d h = let e = steps_is in
       let m : s ≤ at_most theory.step_limit l.steps = omega arith in
       sym (ap (λ (b : Bool). b || less theory.depth_limit d) (less_no m))
+
+  -- More variables than the limits allow, or words.
+  pub over_variables : (v w : ℕ) → c.variables < v → true ≡ over (limits_of (allowance_of l)) v w
+  over_variables v w h = let e = variables_is in
+      let m : at_most variable_limit l.variables < v = omega arith in
+      rw (less_yes m)
+
+  pub over_words : (v w : ℕ) → v ≤ c.variables → ltb c.words w ≡ over (limits_of (allowance_of l)) v w
+  unfolding less
+  over_words v w h = let e = variables_is in
+      let m : v ≤ at_most variable_limit l.variables = omega arith in
+      ap (λ (i : ℕ). less i w) words_is
+      ∙ sym (ap (λ (b : Bool). b || less (at_most word_limit l.words) w) (less_no m))
 
 -- More variables or words than a search may use are more than the limits allow.
 pub over_told : (l : Limits) {s : SearchLimits} {r : Bool} (v w : ℕ) → s ≡ search_limits l → r ≡ over (within s.variables s.words) v w
