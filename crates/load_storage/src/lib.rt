@@ -1,6 +1,6 @@
 // Storage of `load`: whether lent buffers are as long as docs/STORAGE.md lists, and what is cleared of them.
 //
-// All functions here serve `load`, and ask nothing of their caller.
+// All functions here serve `load` and its tests, and ask nothing of their caller.
 #![tactic(auto)]
 
 ghost use Rattle.std.specs.Prelude.{◌≡◌, replicate};
