@@ -4,7 +4,6 @@ use Rattle.std.specs.Prelude.{ℕ, ◌-◌, ◌≤◌, ◌<◌, ◌≡◌, ◌�
 use Rattle.arena.specs.Cells.{headers, Reference, cells}
 use Rattle.arena.specs.Copies.{pattern_room, term_room}
 use Rattle.arena.specs.Rows.{Rows}
-use Rattle.names.specs.Symbols.{column, row_at}
 use Rattle.bindings.specs.Stored.{Form}
 use Rattle.unifier.specs.Promises.{Scratch}
 use Rattle.resolution.specs.Search.{Result}

@@ -1,7 +1,7 @@
 -- `back` meets its contract: the newest frame is taken off and its bindings are taken back, or there is none.
 use native.Mathlib.Omega.{arith}
 use Rattle.std.proofs.Common.{refl}
-use Rattle.search_machine.specs.Ways.{returned_as, returned_over, returned_goal, known_frame, known_few, known_undoable}
+use Rattle.search_machine.specs.Ways.{returned_as, returned_over, returned_goal, known_undoable}
 use Rattle.search_machine.proofs.back.Goals as goal
 
 pub returns-then-count-eq0-clause-returned : goal.returns-then-count-eq0-clause-returned
@@ -14,19 +14,9 @@ returns-then-count-eq0-clause-returned c = record {
   frames = refl;
 }
 
-pub frame-x-requires : goal.frame-x-requires
-frame-x-requires c = known_frame c.requires (omega arith)
-
 pub undo-requires : goal.undo-requires
 undo-requires c = known_undoable c.requires c.frame-x.result c.frame-x.ensures
     (omega arith)
-
-pub at_retry-requires : goal.at_retry-requires
-at_retry-requires c = (
-  known_few c.requires c.frame-x.result
-      c.frame-x.ensures (omega arith),
-  omega arith,
-)
 
 pub returns-clause-returned : goal.returns-clause-returned
 returns-clause-returned c = record {

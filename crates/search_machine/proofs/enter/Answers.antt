@@ -1,9 +1,8 @@
 -- `enter` meets its contract: each way on from a place is one of the theory's equations.
 use Rattle.std.proofs.Common.{ℕ, ◌≡◌, ◌+◌, ◌-◌, ap, ◌∙◌, refl, arith, true}
 use Rattle.search_machine.specs.Moves.{to_place, to_fail, to_stop, to_goal}
-use Rattle.search_machine.specs.declared.Machine.{Machine}
 use Rattle.search_machine.specs.declared.Mode.TheVariants.{Proved}
-use Rattle.search_machine.specs.Ways.{moved_as, moved_out, moved_proof, moved_built, moved_cut, moved_goal, seen_frame, seen_rule, seen_place, seen_premise, arity_is}
+use Rattle.search_machine.specs.Ways.{moved_as, moved_out, moved_proof, moved_built, moved_cut, moved_goal, seen_rule, seen_place, seen_premise, arity_is}
 use Rattle.search_machine.proofs.enter.Goals as goal
 
 pub returns-in_default : goal.returns-in_default
@@ -14,11 +13,6 @@ returns-in_default-checked_sub c =
     let s : c.in-Some.steps ≡ c.args.m.steps - 1 = omega (arith, c.in-Some.ensures) in
     moved_as (c.at_stop.ensures ∙ ap (λ (n : ℕ). to_stop c.args.m Proved n) s)
     (moved_proof c.requires (omega (arith, c.in-Some.ensures)) (omega arith))
-
-pub frame-x-requires : goal.frame-x-requires
-frame-x-requires c =
-    let p : c.in-Some-checked_sub.at ≡ c.args.m.parent - 1 = omega (arith, c.in-Some-checked_sub.ensures) in
-    rw p (seen_frame c.requires (omega (arith, c.in-Some-checked_sub.ensures)))
 
 pub bounds-program-x : goal.bounds-program-x
 bounds-program-x c =

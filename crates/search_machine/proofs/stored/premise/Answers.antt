@@ -2,8 +2,5 @@
 use Rattle.search_machine.specs.Parts.{premise_of}
 use Rattle.search_machine.proofs.stored.premise.Goals as goal
 
-pub moved_word-requires : goal.moved_word-requires
-moved_word-requires c = rw c.places.ensures (rw c.requires.2 at c.requires.1.movable)
-
 pub returns : goal.returns
 returns c = λ rules asked is. premise_of asked is c.places.ensures c.moved_word.ensures
