@@ -63,7 +63,7 @@ pub fn prepare(
     let source = SourceTerms {
         text: query.goal.text,
         rows: query.goal.rows,
-        symbols: &query.signature.symbols[..query.signature.counts.symbols as usize],
+        symbols: query.signature.symbols_in_use(),
     };
     let goal = goals::compile(
         source,
