@@ -9,13 +9,14 @@ use lib.ListN.{length, get_or, take, drop, length-drop}
 use lib.Dec.{eqb}
 use borrow.Author.Tests.{ne_eqb, eqb-true}
 use Rattle.std.proofs.Common.{◌⊎◌, ⊎_elim}
+use Rattle.std.proofs.lemmas.List.{get_or_past}
 use Rattle.source_text.specs.Bytes.{starts_with, same_bytes}
 use Rattle.source_text.specs.Characters.{class_number, arrow, character_of}
 use Rattle.words.specs.Names.{if_fits, word_item, keywords, keyword_of, number_among, name_kind}
 use Rattle.words.specs.Signs.{signs, sign_among, sign_item}
 use Rattle.words.specs.Tokens.{is_word, word_of, item_of}
 use Rattle.refusals.specs.declared.Refusal.TheVariants.{UnexpectedCharacter, NumeralTooLarge}
-use Rattle.std.specs.Prelude.{Option, Some, None}
+use Rattle.std.specs.Prelude.{◌≢◌, Option, Some, None}
 use Rattle.std.specs.Option.{is_some}
 use Rattle.source_text.specs.declared.characters.Class.{Class}
 use Rattle.source_text.specs.declared.characters.Class.TheVariants.{Letter, Digit}
@@ -52,6 +53,38 @@ no_arrow [] (suc i) a e f = refl
 no_arrow (c ∷ s) zero a e f = simp (e, f)
 no_arrow (c ∷ s) (suc i) a e f = no_arrow s i a e f
 
+-- A sign whose first byte is not that of →, by its first two bytes.
+sign_first : {k : Item} (s : List ℕ) (a : ℕ) → get_or s 0 0 ≡ a → eqb a 0xE2 ≡ false → k ≡ sign_by a (get_or s 1 0) false → k ≡ sign_item s
+sign_first s a e f k = k ∙ sym (sign_at s 0 ∙ simp (no_arrow s 0 a e f, e))
+
+module _ (s : List ℕ) where
+  pub sign_minus : get_or s 0 0 ≡ 45 → get_or s 1 0 ≡ 62 → Token 15 2 ≡ sign_item s
+  sign_minus a b = sign_first s 45 a refl (simp b)
+
+  pub sign_double : get_or s 0 0 ≡ 61 → get_or s 1 0 ≡ 62 → Token 16 2 ≡ sign_item s
+  sign_double a b = sign_first s 61 a refl (simp b)
+
+  pub sign_defines : get_or s 0 0 ≡ 58 → get_or s 1 0 ≡ 61 → Token 17 2 ≡ sign_item s
+  sign_defines a b = sign_first s 58 a refl (simp b)
+
+  pub sign_open : get_or s 0 0 ≡ 40 → Token 18 1 ≡ sign_item s
+  sign_open a = sign_first s 40 a refl refl
+
+  pub sign_close : get_or s 0 0 ≡ 41 → Token 19 1 ≡ sign_item s
+  sign_close a = sign_first s 41 a refl refl
+
+  pub sign_colon : get_or s 0 0 ≡ 58 → get_or s 1 0 ≢ 61 → Token 20 1 ≡ sign_item s
+  sign_colon a b = sign_first s 58 a refl (simp (ne_eqb _ _ b))
+
+  pub sign_comma : get_or s 0 0 ≡ 44 → Token 21 1 ≡ sign_item s
+  sign_comma a = sign_first s 44 a refl refl
+
+  pub sign_bar : get_or s 0 0 ≡ 124 → Token 22 1 ≡ sign_item s
+  sign_bar a = sign_first s 124 a refl refl
+
+  pub sign_equals : get_or s 0 0 ≡ 61 → get_or s 1 0 ≢ 62 → Token 23 1 ≡ sign_item s
+  sign_equals a b = sign_first s 61 a refl (simp (ne_eqb _ _ b))
+
 -- Where the first bytes start no sign, → alone stands.
 pub sign_else : (a b : ℕ) (t : Bool) → (a ≡ 45 → b ≡ 62 → ⊥) → (a ≡ 61 → ⊥) → (a ≡ 58 → ⊥) → (a ≡ 40 → ⊥) → (a ≡ 41 → ⊥) → (a ≡ 44 → ⊥) → (a ≡ 124 → ⊥) → sign_by a b t ≡ cond t (Token 15 3) (Refused UnexpectedCharacter)
 sign_else a b t n0 n1 n2 n3 n4 n5 n6 =
@@ -78,6 +111,9 @@ sign_none s n0 n1 n2 n3 n4 n5 n6 n7 =
     absurd (n7 (eqb-true _ _ (and_left _ _ y)) (eqb-true _ _ (and_left (eqb (get_or s 1 0) 0x86) _ z)) (eqb-true _ _ (and_right (eqb (get_or s 1 0) 0x86) _ z))))
     (λ e. e) in
     sym (sign_at s 0 ∙ sign_else (get_or s 0 0) (get_or s 1 0) (starts_with arrow s) n0 n1 n2 n3 n4 n5 n6 ∙ simp t)
+
+-- What the first bytes of a rest of a line tell of its sign.
+pub ruleset sign_told = (get_or_past, sign_minus, sign_double, sign_defines, sign_open, sign_close, sign_colon, sign_comma, sign_bar, sign_equals, sign_arrow, sign_none)
 
 -- The item of a character's class.
 pub item_blank : (s : List ℕ) → (character_of s).class ≡ 1 → item_of s ≡ Blank

@@ -27,6 +27,7 @@ pub const BAR: u32 = 22;
 pub const EQUALS: u32 = 23;
 
 // The sign with which a rest of a line starts.
+#[tactic(auto, using(crate::proofs::Items::sign_told))]
 pub fn sign_item(rest: &[u8]) -> Result<Lexeme, Refusal>
     ensures { lexeme_item result ≡ sign_item rest.now }
 {
