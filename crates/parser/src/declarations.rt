@@ -100,6 +100,7 @@ pub fn tactic(input: Input, from: Position, out: &mut [[u32; 4]]) -> Result<Read
 
 // `sort n`, from its keyword on, which is in this line, as each declaration below.
 // Stays: what these ask for speaks of the rows too, which they write: a struct of input, place and rows would be lent to be written, input and all.
+// Stays: that a token is left is asked beside it, as a `Position` does not know the tokens.
 pub fn sort(
     input: Input,
     from: Position,

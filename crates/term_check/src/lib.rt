@@ -41,17 +41,16 @@ pub fn check_term(source: Source) -> Option<usize>
     let mut d: usize = 1;
     let mut p = at;
     // Stays: `d` is the height of a stack of levels, which grows and shrinks.
-    while 0 < d {
-        let k = left[d - 1];
-        if k == 0 {
-            d -= 1;
+    while let Some(top) = d.checked_sub(1) {
+        let Some(rest) = left[top].checked_sub(1) else {
+            d = top;
             continue;
-        }
-        if rows.len() <= p || LEVELS <= d {
+        };
+        if LEVELS <= d {
             return None;
         }
-        let count = top_of(text, rows[p])?;
-        left[d - 1] = k - 1;
+        let count = top_of(text, *rows.get(p)?)?;
+        left[top] = rest;
         left[d] = count;
         d += 1;
         p += 1;

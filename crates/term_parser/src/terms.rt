@@ -88,10 +88,10 @@ pub fn atom(
         }
         OPEN => {
             let inside = from.past_token();
-            if left == 0 {
+            let Some(rest) = left.checked_sub(1) else {
                 return Err(rejection(Refusal::ParenthesisLimit, input.tokens, from.at));
-            }
-            let inner = term(input, inside, left - 1, out)?;
+            };
+            let inner = term(input, inside, rest, out)?;
             Ok(Some(sign(input, CLOSE, inner.position)?))
         }
         _ => Ok(None),
@@ -106,15 +106,15 @@ pub fn app(input: Input, from: Position, left: u32, out: &mut [[u32; 4]]) -> Res
     ensures { Reads 1 rows_of (λ text last. app_of text last (parenthesis text last left)) input.entry from out.old (step result) out.new }
 {
     let mut next = from;
-    let mut n = 0;
+    let mut n: u32 = 0;
     while let Some(more) = atom(input, next, left, out)? {
         next = more.position;
         n += 1;
     }
-    if n == 0 {
+    let Some(more) = n.checked_sub(1) else {
         return Err(rejection(Refusal::TermExpected, input.tokens, next.at));
-    }
-    apply(input, next, out, from.used, n - 1)
+    };
+    apply(input, next, out, from.used, more)
 }
 
 // A judgment: `f args`, or `f args = result`.

@@ -7,8 +7,8 @@ use lib.ListN.{length}
 use Rattle.term_check.specs.Walk.{Walking}
 use Rattle.term_check.proofs.check_term.Given as goal
 
-abbrev pub invariant-loop-d : goal.invariant-loop-d
-invariant-loop-d l = Walking l.text l.rows l.at l.left l.d l.p × (length l.left ≡ 132)
+abbrev pub invariant-loop-top : goal.invariant-loop-top
+invariant-loop-top l = Walking l.text l.rows l.at l.left l.d l.p × (length l.left ≡ 132)
 
-abbrev pub decreases-loop-d : goal.decreases-loop-d
-decreases-loop-d l = l.d + 2 * (length l.rows - l.p)
+abbrev pub decreases-loop-top : goal.decreases-loop-top
+decreases-loop-top l = l.d + 2 * (length l.rows - l.p)

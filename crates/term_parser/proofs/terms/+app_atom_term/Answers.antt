@@ -1,7 +1,7 @@
 -- `atom`, `app` and `term` call each other in turn: the tokens left fall, and with the same tokens left the rank of the three.
 use mathlib.Core.Path.{◌≡◌, refl, sym, ap, ◌∙◌}
 use mathlib.Core.List.{[], ◌∷◌}
-use Prim.Native.Nat.{ℕ}
+use Prim.Native.Nat.{ℕ, ◌-◌}
 use lib.Dec.{eqb}
 use lib.ListN.{set}
 use borrow.Author.Tests.{eqb-true, eq-eqb}
@@ -29,14 +29,14 @@ app-loop-more-smaller t c = let m = moved (c.atom.ensures) (ap maybe_step (c.in_
 pub app-loop-more-preserved : goal.app-loop-more-preserved
 app-loop-more-preserved t c = let args = c.args in let pre = c.requires in let atom = c.atom in let loop = c.loop-more in atoms_turn (args.input.text.now) (args.input.tokens.now) (args.left) (pre) (atom.ensures) (loop.invariant) (ap maybe_step (c.in_ok-more.was ∙ ap Ok c.in-Some.is)) (atom.auto.out)
 
-pub app-returns-then-n-eq0 : goal.app-returns-then-n-eq0
-app-returns-then-n-eq0 t c = let args = c.args in let pre = c.requires in let atom = c.atom in let loop = c.loop-more in let if1 = c.if-n-eq0 in rw c.rejection.ensures (atoms_none (args.input.text.now) (args.input.tokens.now) (args.left) (pre) (atom.ensures) (loop.invariant) (ap maybe_step (c.in_ok-more.was ∙ ap Ok c.in_default.is)) (if1.true) refl)
+pub app-returns-in_default-checked_sub : goal.app-returns-in_default-checked_sub
+app-returns-in_default-checked_sub t c = let args = c.args in let pre = c.requires in let atom = c.atom in let loop = c.loop-more in rw c.rejection.ensures (atoms_none (args.input.text.now) (args.input.tokens.now) (args.left) (pre) (atom.ensures) (loop.invariant) (ap maybe_step (c.in_ok-more.was ∙ ap Ok c.in_default.is)) (omega (arith, c.in_default-checked_sub.ensures)) refl)
 
 pub app-apply-requires : goal.app-apply-requires
-app-apply-requires t c = let args = c.args in let pre = c.requires in let loop = c.loop-more in let if1 = c.if-n-eq0 in let atom = c.atom in let r = atoms_room (args.input.text.now) (args.input.tokens.now) (args.left) (pre) (loop.invariant) in let f = atoms_past (args.input.text.now) (args.input.tokens.now) (args.left) (pre) (loop.invariant) (if1.false) in omega (arith, f, r.here, r.lent, (pre.below), (atom.auto.out))
+app-apply-requires t c = let args = c.args in let pre = c.requires in let loop = c.loop-more in let atom = c.atom in let r = atoms_room (args.input.text.now) (args.input.tokens.now) (args.left) (pre) (loop.invariant) in let f = atoms_past (args.input.text.now) (args.input.tokens.now) (args.left) (pre) (loop.invariant) (omega (arith, c.in-Some-checked_sub.ensures)) in omega (arith, c.in-Some-checked_sub.ensures, f, r.here, r.lent, (pre.below), (atom.auto.out))
 
 pub app-returns : goal.app-returns
-app-returns t c = let args = c.args in let pre = c.requires in let atom = c.atom in let loop = c.loop-more in let if1 = c.if-n-eq0 in let apply = c.apply in atoms_applied (args.input.text.now) (args.input.tokens.now) (args.left) (pre) (atom.ensures) (loop.invariant) (ap maybe_step (c.in_ok-more.was ∙ ap Ok c.in_default.is)) (if1.false) (apply.ensures)
+app-returns t c = let args = c.args in let pre = c.requires in let atom = c.atom in let loop = c.loop-more in let p : c.in-Some-checked_sub.more ≡ loop.n - 1 = omega (arith, c.in-Some-checked_sub.ensures) in let apply = c.apply in atoms_applied (args.input.text.now) (args.input.tokens.now) (args.left) (pre) (atom.ensures) (loop.invariant) (ap maybe_step (c.in_ok-more.was ∙ ap Ok c.in_default.is)) (omega (arith, c.in-Some-checked_sub.ensures)) (rw p at apply.ensures)
 
 pub app-returns-in_err-more : goal.app-returns-in_err-more
 app-returns-in_err-more t c = let args = c.args in let pre = c.requires in let atom = c.atom in let loop = c.loop-more in rw (maybe_exits _ _ c.in_err-more.was c.from_residual.ensures.1, ap maybe_step c.in_err-more.was) (atoms_refused (args.input.text.now) (args.input.tokens.now) (args.left) (pre) (atom.ensures) (loop.invariant) (ap maybe_step c.in_err-more.was))
@@ -134,22 +134,22 @@ atom-returns-in-14 t c =
     let args = c.args in
     is_numeral_lem args.input.text.now args.input.tokens.now args.left c.requires c.peek-t.ensures (ap (λ r. maybe_step (Ok (Some r))) c.push.ensures.0) (λ e. omega (arith, c.in-14.is)) (λ e. omega (arith, c.in-14.is)) c.in-14.is c.saturated-value.ensures c.push.ensures.1
 
-pub atom-returns-then-left-eq0 : goal.atom-returns-then-left-eq0
-atom-returns-then-left-eq0 t c =
+pub atom-returns-in_default-checked_sub : goal.atom-returns-in_default-checked_sub
+atom-returns-in_default-checked_sub t c =
     let args = c.args in
-    rw c.rejection.ensures (too_deep args.input.text.now args.input.tokens.now args.from.at args.left args.from.used _ (is_open args.input.text.now args.input.tokens.now args.left c.requires c.peek-t.ensures (λ e. omega (arith, c.in-18.is)) (λ e. omega (arith, c.in-18.is)) (λ e. omega (arith, c.in-18.is)) c.in-18.is) c.if-left-eq0.true refl)
+    rw c.rejection.ensures (too_deep args.input.text.now args.input.tokens.now args.from.at args.left args.from.used _ (is_open args.input.text.now args.input.tokens.now args.left c.requires c.peek-t.ensures (λ e. omega (arith, c.in-18.is)) (λ e. omega (arith, c.in-18.is)) (λ e. omega (arith, c.in-18.is)) c.in-18.is) (omega (arith, c.in_default-checked_sub.ensures)) refl)
 
 pub atom-returns-in_err-inner-in-18 : goal.atom-returns-in_err-inner-in-18
 atom-returns-in_err-inner-in-18 t c =
     let args = c.args in
-    rw (exits_maybe _ _ c.in_err-inner-in-18.was c.from_residual.ensures.1) (inner_stopped args.input.text.now args.input.tokens.now args.from.at args.left args.from.used _ (is_open args.input.text.now args.input.tokens.now args.left c.requires c.peek-t.ensures (λ e. omega (arith, c.in-18.is)) (λ e. omega (arith, c.in-18.is)) (λ e. omega (arith, c.in-18.is)) c.in-18.is) c.if-left-eq0.false (rw c.past_token-inside.ensures at c.term.ensures) (stopped_err _ c.in_err-inner-in-18.was))
+    rw (exits_maybe _ _ c.in_err-inner-in-18.was c.from_residual.ensures.1) (inner_stopped args.input.text.now args.input.tokens.now args.from.at args.left args.from.used _ (is_open args.input.text.now args.input.tokens.now args.left c.requires c.peek-t.ensures (λ e. omega (arith, c.in-18.is)) (λ e. omega (arith, c.in-18.is)) (λ e. omega (arith, c.in-18.is)) c.in-18.is) (omega (arith, c.in-Some.ensures)) (rw (c.past_token-inside.ensures, let p : c.in-Some.rest ≡ c.args.left - 1 = omega (arith, c.in-Some.ensures) in p) at c.term.ensures) (stopped_err _ c.in_err-inner-in-18.was))
 
 pub atom-returns-in_ok-sign-in-18 : goal.atom-returns-in_ok-sign-in-18
 atom-returns-in_ok-sign-in-18 t c =
     let args = c.args in
-    rw (ap step c.in_ok-sign-in-18.was) at (inner_closed args.input.text.now args.input.tokens.now args.from.at args.left args.from.used _ (is_open args.input.text.now args.input.tokens.now args.left c.requires c.peek-t.ensures (λ e. omega (arith, c.in-18.is)) (λ e. omega (arith, c.in-18.is)) (λ e. omega (arith, c.in-18.is)) c.in-18.is) c.if-left-eq0.false (rw c.past_token-inside.ensures at c.term.ensures) (ap step c.in_ok-inner-in-18.was) c.sign.ensures)
+    rw (ap step c.in_ok-sign-in-18.was) at (inner_closed args.input.text.now args.input.tokens.now args.from.at args.left args.from.used _ (is_open args.input.text.now args.input.tokens.now args.left c.requires c.peek-t.ensures (λ e. omega (arith, c.in-18.is)) (λ e. omega (arith, c.in-18.is)) (λ e. omega (arith, c.in-18.is)) c.in-18.is) (omega (arith, c.in-Some.ensures)) (rw (c.past_token-inside.ensures, let p : c.in-Some.rest ≡ c.args.left - 1 = omega (arith, c.in-Some.ensures) in p) at c.term.ensures) (ap step c.in_ok-inner-in-18.was) c.sign.ensures)
 
 pub atom-returns-in_err-sign-in-18 : goal.atom-returns-in_err-sign-in-18
 atom-returns-in_err-sign-in-18 t c =
     let args = c.args in
-    rw (exits_maybe _ _ c.in_err-sign-in-18.was c.from_residual-in_err-sign-in-18.ensures.1) (inner_closed args.input.text.now args.input.tokens.now args.from.at args.left args.from.used _ (is_open args.input.text.now args.input.tokens.now args.left c.requires c.peek-t.ensures (λ e. omega (arith, c.in-18.is)) (λ e. omega (arith, c.in-18.is)) (λ e. omega (arith, c.in-18.is)) c.in-18.is) c.if-left-eq0.false (rw c.past_token-inside.ensures at c.term.ensures) (ap step c.in_ok-inner-in-18.was) c.sign.ensures)
+    rw (exits_maybe _ _ c.in_err-sign-in-18.was c.from_residual-in_err-sign-in-18.ensures.1) (inner_closed args.input.text.now args.input.tokens.now args.from.at args.left args.from.used _ (is_open args.input.text.now args.input.tokens.now args.left c.requires c.peek-t.ensures (λ e. omega (arith, c.in-18.is)) (λ e. omega (arith, c.in-18.is)) (λ e. omega (arith, c.in-18.is)) c.in-18.is) (omega (arith, c.in-Some.ensures)) (rw (c.past_token-inside.ensures, let p : c.in-Some.rest ≡ c.args.left - 1 = omega (arith, c.in-Some.ensures) in p) at c.term.ensures) (ap step c.in_ok-inner-in-18.was) c.sign.ensures)
