@@ -16,11 +16,8 @@ use clauses::{EnteredRule, SourceClause};
 use loader::{Kind, Part};
 use names::{SortRow, Source, SourceTerms, SymbolRow, TermRow, Word};
 use refusals::Refusal;
-use rules::{RulePlace, RuleRow, Space, Title};
+use rules::{RULE_NODES, RulePlace, RuleRow, Space, Title};
 use words::{CTOR, DEF, EVAL, PRED, RULE, SORT};
-
-// The most nodes of one rule.
-const RULE_NODES: usize = 1024;
 
 // How many sorts, symbols and rules there are, how many words are in use, and how many nodes are left.
 // Stays: the counts of `signature::Counts` have 32 bits, so `declare` would ask for more; `load_storage::Used` is as wide, but its crate is not below this one.

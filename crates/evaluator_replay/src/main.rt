@@ -21,6 +21,7 @@ use signature_tests::buffers;
 use words::Limits;
 
 // What is lent is exactly enough for this limit on words.
+// Stays: this limit is the program's own, and no limit of document 01; a text of the list that asks for more is refused by 1.
 const WORDS: u32 = 65536;
 
 // A loaded text: its signature, the rows of its terms, its `#eval`, and the limits to evaluate them under.

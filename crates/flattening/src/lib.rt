@@ -12,7 +12,7 @@ ghost use Rattle.flattening.specs.Flattening.{is_function};
 ghost use Rattle.flattening.specs.Promises.{call_limit, arity_of, is_call, Copied, Finishes, Room, Flattens};
 
 use names::columns::MARK;
-use names::{FUNCTION, SourceTerms, TermRow, Word};
+use names::{FUNCTION, PREMISES, SourceTerms, TermRow, Word};
 
 // How far flattening is: the next row of the source, where the next row of the term and of the premises goes, and how many calls were made.
 #[derive(Clone, Copy)]
@@ -22,9 +22,6 @@ pub struct Place {
     pub end: usize,
     pub number: usize,
 }
-
-// The most premises of a rule, and so the most calls (document 01, 28).
-const CALLS: usize = 16;
 
 // Copies n rows.
 pub fn move_rows(source: &[TermRow], from: usize, n: usize, to: &mut [TermRow], at: usize)
@@ -93,7 +90,7 @@ fn finish(
         number,
         ..
     } = from;
-    if number == CALLS {
+    if number == PREMISES {
         return None;
     }
     calls[end] = [

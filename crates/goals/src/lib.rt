@@ -19,13 +19,11 @@ use arena::{PATTERN_ROOM, RulePart, TERM_ROOM};
 use names::{SourceTerms, VariableRow};
 use patterns::{Place, VARIABLES};
 use refusals::Refusal;
+use rules::{RULE_NODES, RULE_WORDS};
 use sessions::{NAME_VARIABLE, NameRow, SessionCounts};
 
-// How many nodes a goal may have.
-const NODES: usize = 1024;
-
-// How many words the buffer for a goal's words has: two for each node.
-pub const WORDS: usize = 2 * NODES;
+// How many words the buffer for a goal's words has: a goal is compiled as a rule without premises.
+pub const WORDS: usize = RULE_WORDS;
 
 // A compiled goal: its reference, how many variables there are with it, the session's names first, and how many words it has.
 #[derive(Clone, Copy)]
@@ -67,7 +65,7 @@ pub fn compile(
         next: at,
         variables: names.len(),
         used: 0,
-        room: NODES,
+        room: RULE_NODES,
     };
     let compiled = patterns::pattern(source, 0, variables, words, start)?;
     let place = compiled.place;

@@ -3,11 +3,12 @@
 // The entry point is `load`. It asks nothing of its caller, and its contract fixes the answer and every lent buffer on all inputs.
 #![tactic(auto)]
 
-ghost use Rattle.std.specs.Prelude.{◌≡◌, cond, [], ◌∷◌, ◌+◌, ◌≤◌, eqb, length, set, take};
+ghost use Rattle.std.specs.Prelude.{◌≡◌, Err, cond, [], ◌∷◌, ◌+◌, ◌≤◌, eqb, length, set, take};
 ghost use Rattle.load.specs.Load.{noted, WalkAsked, Walked};
 ghost use Rattle.load.specs.Loading.{LoadingText};
 ghost use Rattle.load.specs.Clearing.{RowsAsked, RowsLoaded};
 ghost use Rattle.load_storage.specs.Lent.{buffers_of, IsLent};
+ghost use Rattle.load_storage.specs.Storage.{Wiped};
 ghost use Rattle.declarations.specs.Lent.{IsLent as IsLentFor};
 
 use declarations::{Progress, State, Store};
@@ -97,6 +98,16 @@ pub struct Loaded {
     pub counts: Counts,
 }
 
+// Clears everything, as the text is refused.
+fn refused(rejection: Rejection, buffers: &mut LentBuffers) -> Result<Loaded, Rejection>
+    ensures answer { result ≡ Err rejection }
+    ensures wiped { Wiped (buffers_of buffers.old) (buffers_of buffers.new) }
+    ensures lent { IsLent buffers.old buffers.new }
+{
+    load_storage::leave_nothing(buffers);
+    Err(rejection)
+}
+
 // Enters the declarations, and clears what is past the counts; or clears everything.
 fn load_rows(walk: Walk, buffers: &mut LentBuffers) -> Result<Loaded, Rejection>
     requires { RowsAsked walk.text.now walk.limit walk.n walk.used buffers.old.tokens.now buffers.old.rows.now buffers.old.calls.now buffers.old.sorts.now buffers.old.symbols.now buffers.old.rules.now buffers.old.words.now buffers.old.evals.now }
@@ -118,10 +129,7 @@ fn load_rows(walk: Walk, buffers: &mut LentBuffers) -> Result<Loaded, Rejection>
         &mut store,
         buffers.evals,
     ) {
-        Err(rejection) => {
-            load_storage::leave_nothing(buffers);
-            Err(rejection)
-        }
+        Err(rejection) => refused(rejection, buffers),
         Ok(Entered { state, evals: k }) => {
             let used = Used {
                 sorts: state.sorts,
@@ -153,14 +161,11 @@ pub fn load(
     ensures loaded { LoadingText text.now limits (buffers_of buffers.old) result (buffers_of buffers.new) }
     ensures lent { IsLent buffers.old buffers.new }
 {
-    if load_storage::is_short(buffers, limits) {
+    if load_storage::is_short(limits, buffers.lengths()) {
         return Err(Rejection::from(Refusal::Storage));
     }
     match parser::parse_text(text, limits, buffers.tokens, buffers.rows) {
-        Err(rejection) => {
-            load_storage::leave_nothing(buffers);
-            Err(rejection)
-        }
+        Err(rejection) => refused(rejection, buffers),
         Ok(parsed) => {
             let walk = Walk {
                 text,

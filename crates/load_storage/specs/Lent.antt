@@ -3,6 +3,7 @@ use Rattle.std.specs.Prelude.{◌≡◌, length}
 use Rattle.std.proofs.Common.{refl, ◌∙◌}
 use Rattle.load_storage.specs.Storage.{Buffers}
 use Rattle.load_storage.specs.declared.LentBuffers.{LentBuffers}
+use Rattle.load_storage.specs.declared.Lengths.{Lengths}
 
 -- What the struct refers to.
 abbrev pub buffers_of : LentBuffers → Buffers
@@ -16,6 +17,20 @@ buffers_of b =
       rules = b.rules.now;
       words = b.words.now;
       evals = b.evals.now;
+    }
+
+-- How long buffers are.
+abbrev pub lengths_of : Buffers → Lengths
+lengths_of b =
+    record {
+      tokens = length b.tokens;
+      rows = length b.rows;
+      calls = length b.calls;
+      sorts = length b.sorts;
+      symbols = length b.symbols;
+      rules = length b.rules;
+      words = length b.words;
+      evals = length b.evals;
     }
 
 -- The same buffers are lent, as long as they were.

@@ -4,11 +4,11 @@
 #![tactic(auto)]
 
 ghost use Rattle.std.specs.Prelude.{◌≡◌, replicate};
-ghost use Rattle.load_storage.specs.Storage.{cleared_from, too_short, SignatureCleared, ScratchCleared, Wiped, Filled, AllFilled};
-ghost use Rattle.load_storage.specs.Lent.{buffers_of, IsLent};
+ghost use Rattle.load_storage.specs.Storage.{cleared_from, is_short, SignatureCleared, ScratchCleared, Wiped, Filled, AllFilled};
+ghost use Rattle.load_storage.specs.Lent.{buffers_of, lengths_of, IsLent};
 
 use names::{SORTS, SYMBOLS, SortRow, SymbolRow, TermRow};
-use rules::{RULES, RuleRow};
+use rules::{PREMISES, RULES, RuleRow};
 
 // An `#eval` that waits: its line, and the row of its term.
 pub type EvalRow = [u32; 2];
@@ -26,7 +26,36 @@ pub struct LentBuffers<'a> {
     pub evals: &'a mut [EvalRow],
 }
 
+// The lengths of such buffers.
+#[derive(Clone, Copy)]
+pub struct Lengths {
+    pub tokens: usize,
+    pub rows: usize,
+    pub calls: usize,
+    pub sorts: usize,
+    pub symbols: usize,
+    pub rules: usize,
+    pub words: usize,
+    pub evals: usize,
+}
+
 impl LentBuffers<'_> {
+    // How long they are.
+    pub fn lengths(&self) -> Lengths
+        ensures { result ≡ lengths_of (buffers_of self.now) }
+    {
+        Lengths {
+            tokens: self.tokens.len(),
+            rows: self.rows.len(),
+            calls: self.calls.len(),
+            sorts: self.sorts.len(),
+            symbols: self.symbols.len(),
+            rules: self.rules.len(),
+            words: self.words.len(),
+            evals: self.evals.len(),
+        }
+    }
+
     // Sets every number of every buffer to a value.
     pub fn fill(&mut self, value: u32)
         ensures filled { AllFilled value (buffers_of self.old) (buffers_of self.new) }
@@ -91,21 +120,21 @@ pub fn leave_nothing(buffers: &mut LentBuffers)
     buffers.fill(0);
 }
 
-// Are these buffers shorter than docs/STORAGE.md lists?
-pub fn is_short(buffers: &LentBuffers, limits: words::Limits) -> bool
-    ensures { result ≡ too_short limits (buffers_of buffers.now) }
+// Are buffers of these lengths shorter than docs/STORAGE.md lists?
+pub fn is_short(limits: words::Limits, lengths: Lengths) -> bool
+    ensures { result ≡ is_short limits lengths.tokens lengths.rows lengths.calls lengths.sorts lengths.symbols lengths.rules lengths.words lengths.evals }
 {
     let capped = limits.capped();
     let text = capped.text as usize;
     let nodes = capped.nodes as usize;
-    if buffers.sorts.len() < SORTS {
+    if lengths.sorts < SORTS {
         return true;
     }
-    buffers.tokens.len() < text
-        || buffers.rows.len() < text
-        || buffers.calls.len() < text + 32
-        || buffers.symbols.len() < SYMBOLS
-        || buffers.rules.len() < RULES
-        || buffers.words.len() < 2 * nodes
-        || buffers.evals.len() < text / 2
+    lengths.tokens < text
+        || lengths.rows < text
+        || lengths.calls < text + 2 * PREMISES
+        || lengths.symbols < SYMBOLS
+        || lengths.rules < RULES
+        || lengths.words < 2 * nodes
+        || lengths.evals < text / 2
 }

@@ -24,6 +24,9 @@ pub const SORTS: usize = 256;
 
 pub const SYMBOLS: usize = 1024;
 
+// How many premises a rule may have, and so how many calls, as each has a result that is named.
+pub const PREMISES: usize = 16;
+
 // A source term: kind, start, length, number of arguments or value.
 pub type TermRow = [u32; 4];
 
@@ -85,7 +88,7 @@ pub const NO_FUNCTION: u32 = 0;
 pub const FUNCTION: u32 = 1;
 
 // The names `result.1` to `result.16`, 16 bytes each.
-const RESULT_NAMES: [u8; 256] =
+const RESULT_NAMES: [u8; 16 * PREMISES] =
     *b"result.1\0\0\0\0\0\0\0\0result.2\0\0\0\0\0\0\0\0result.3\0\0\0\0\0\0\0\0result.4\0\0\0\0\0\0\0\0result.5\0\0\0\0\0\0\0\0result.6\0\0\0\0\0\0\0\0result.7\0\0\0\0\0\0\0\0result.8\0\0\0\0\0\0\0\0result.9\0\0\0\0\0\0\0\0result.10\0\0\0\0\0\0\0result.11\0\0\0\0\0\0\0result.12\0\0\0\0\0\0\0result.13\0\0\0\0\0\0\0result.14\0\0\0\0\0\0\0result.15\0\0\0\0\0\0\0result.16\0\0\0\0\0\0\0";
 
 // The word at a place of a text.

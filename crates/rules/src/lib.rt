@@ -19,6 +19,7 @@ use arena::PATTERN_ROOM;
 use columns::{END, FIRST_PLACE, FIRST_PREMISE, FIRST_SORT};
 use meeting::Places;
 use names::columns::SORT;
+pub use names::PREMISES;
 use names::{SourceTerms, SymbolRow, TermRow, VariableRow, Word};
 use patterns::{Place, VARIABLES};
 use refusals::Refusal;
@@ -30,10 +31,10 @@ pub type RuleRow = [u32; END];
 // Most rules have few words, and a walk through few words needs a small stack only.
 const FEW: usize = 64;
 
-// How many premises a rule may have, how many words its terms may take (2 for each of 1,024 nodes), and how many rules there may be.
-pub const PREMISES: usize = 16;
+// How many nodes a rule may have, how many words its terms may take, 2 for each node, and how many rules there may be.
+pub const RULE_NODES: usize = 1024;
 
-pub const RULE_WORDS: usize = 2048;
+pub const RULE_WORDS: usize = 2 * RULE_NODES;
 
 pub const RULES: usize = 1024;
 

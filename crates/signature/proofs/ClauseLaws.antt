@@ -18,9 +18,8 @@ use Rattle.terms.specs.TermLaws.{var_app}
 use Rattle.arena.specs.Cells.{headers, symbol_of as headerSymbol, denote, decode_node, denote_variable, cells, terms_of}
 use Rattle.arena.specs.Copies.{pattern_room}
 use Rattle.meeting.specs.Contract.{term_of}
-use Rattle.names.specs.Symbols.{Rows, Symbol, column, columns, row_at, symbol_of, symbols_of, symbol_at, no_symbol}
+use Rattle.names.specs.Symbols.{Rows, Symbol, column, row_at, symbol_of, symbols_of, symbol_at, no_symbol}
 use Rattle.patterns.proofs.Terms.{symbol_at_lem, symbols_length}
-use Rattle.rules.specs.StoredRows.{heads_in}
 use Rattle.loader.specs.Legal.{Calls}
 use Rattle.unifier.specs.Promises.{Tells}
 
@@ -118,31 +117,13 @@ module _ (text words : List ℕ) (r : ℕ) (rows : Rows) (m f : ℕ) (lent : m �
       let q : x.now ≡ row_at rows f = is ∙ get_d_any rows f _ _ z in
       rw (h, q) (call_told (omega arith))
 
--- Premises
+-- References denote calls where each does.
+module _ (symbols : List Symbol) (g : ℕ → Term) where
+  pub all_call : (rs : List ℕ) → ((i : ℕ) → i < length rs → Calls symbols (g (get_or rs i 0))) → Calls symbols (terms_of g rs)
+  all_call [] h = tt
+  all_call (r ∷ rs) h = (h 0 (omega arith), all_call rs (λ i l. h (suc i) (omega arith)))
 
-module _ (symbols : List Symbol) (g : ℕ → Term) (row : List ℕ) where
-  all_calls : (a n : ℕ) → ((j : ℕ) → j < n → Calls symbols (g (column row (a + j)))) → Calls symbols (terms_of g (columns row a n))
-  unfolding columns
-  all_calls a zero h = tt
-  all_calls a (suc n) h =
-      let z : a + 0 ≡ a = omega arith in
-      let h₀ : Calls symbols (g (column row (a + 0))) = h 0 (omega arith) in (
-        rw z at h₀,
-        all_calls (suc a) n (λ j l. let y : a + suc j ≡ suc a + j = omega arith in
-            let h₁ : Calls symbols (g (column row (a + suc j))) = h (suc j) (omega arith) in rw y at h₁),
-      )
-
-  call_at : (a n : ℕ) → Calls symbols (terms_of g (columns row a n)) → (j : ℕ) → j < n → Calls symbols (g (column row (a + j)))
-  unfolding columns
-  call_at a zero h j l = absurd (omega arith)
-  call_at a (suc n) h zero l = let z : a + 0 ≡ a = omega arith in rw z h.0
-  call_at a (suc n) h (suc j) l = let y : a + suc j ≡ suc a + j = omega arith in rw y (call_at (suc a) n h.1 j (omega arith))
-
--- The premises of a row are calls where each is.
-pub premises_call : (symbols : List Symbol) (words row : List ℕ) → ((j : ℕ) → j < column row 4 → Calls symbols (term_of words (column row (10 + j))))
-    → Calls symbols (terms_of (term_of words) (heads_in row))
-premises_call symbols words row h = all_calls symbols (term_of words) row 10 (column row 4) h
-
-pub premise_calls : (symbols : List Symbol) (words row : List ℕ) → Calls symbols (terms_of (term_of words) (heads_in row))
-    → (j : ℕ) → j < column row 4 → Calls symbols (term_of words (column row (10 + j)))
-premise_calls symbols words row h j l = call_at symbols (term_of words) row 10 (column row 4) h j l
+  pub each_calls : (rs : List ℕ) → Calls symbols (terms_of g rs) → (i : ℕ) → i < length rs → Calls symbols (g (get_or rs i 0))
+  each_calls [] h i l = absurd (omega arith)
+  each_calls (r ∷ rs) h zero l = h.0
+  each_calls (r ∷ rs) h (suc i) l = each_calls rs h.1 i (omega arith)

@@ -10,7 +10,7 @@ ghost use Rattle.loader.specs.Legal.{Calls, ClauseFormed};
 ghost use Rattle.unifier.specs.Promises.{Tells};
 ghost use Rattle.signature.specs.Parts.{NodeSymbol, ClausesAsked, ClausesOf, ClausesListed};
 
-use super::columns::{CLAUSES, CONCLUSION, FIRST_CLAUSE, FIRST_PREMISE, MARK, PREMISES};
+use super::columns::{CLAUSES, CONCLUSION, FIRST_CLAUSE, MARK};
 use arena::PATTERN_ROOM;
 use names::{FUNCTION, SymbolRow};
 use rules::RuleRow;
@@ -60,7 +60,7 @@ fn are_calls(words: &[u32], rule: &RuleRow, symbols: &[SymbolRow]) -> bool
     ensures { (text : List ℕ) → Tells result (Calls (symbols_of text symbols.now (length symbols.now))
         (terms_of (term_of words.now) (heads_in rule.now))) }
 {
-    rule[FIRST_PREMISE..FIRST_PREMISE + rule[PREMISES] as usize]
+    rules::premises(rule)
         .iter()
         .all(|reference| is_call(words, *reference, symbols))
 }

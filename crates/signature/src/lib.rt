@@ -27,8 +27,8 @@ use rules::{RULE_WORDS, RULES, RuleRow};
 // How many names there may be: of sorts and symbols together.
 const NAMES: usize = SORTS + SYMBOLS;
 
-// How many words there may be: 2 for each of 32,768 nodes.
-const WORDS: usize = 65536;
+// How many words there may be: 2 for each node.
+const WORDS: usize = 2 * words::NODES as usize;
 
 // How much is stored of each kind.
 #[derive(Clone, Copy, Default)]

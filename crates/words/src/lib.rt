@@ -40,7 +40,7 @@ pub struct Limits {
 // Document 01's limits: 65,536 bytes of text, 32,768 nodes in all, 65,535 steps, 65,536 variables, 262,144 words.
 pub const TEXT: u32 = 65536;
 
-const NODES: u32 = 32768;
+pub const NODES: u32 = 32768;
 
 const STEPS: u32 = 65535;
 

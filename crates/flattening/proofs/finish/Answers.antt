@@ -9,5 +9,5 @@ returns c =
     let result-length = c.result_length-n in
     let move-rows = c.move_rows in
     let pre = c.requires in
-    let if1 = c.if-number-eq-CALLS in
+    let if1 = c.if-number-eq-PREMISES in
     replaced args.out.now args.calls.now _ args.top args.from.top args.from.end args.from.number args.word.start args.word.size args.args result-length.result args.from.next move-rows.ensures pre.0 pre.1 pre.2 (omega (arith, if1.false)) result-length.ensures

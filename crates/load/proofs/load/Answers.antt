@@ -15,14 +15,15 @@ use Rattle.load.proofs.ToldLaws.{as_loading}
 use Rattle.load.proofs.load.Goals as goal
 
 pub returns-then-is_short-clause-loaded : goal.returns-then-is_short-clause-loaded
-returns-then-is_short-clause-loaded c = as_loading _ _ _ _ _ (λ z. (rw c.from.ensures (refl, refl), refl)) (λ z. true_false (sym c.is_short.ensures ∙ c.if-is_short.true) z)
+returns-then-is_short-clause-loaded c = as_loading _ _ _ _ _ (λ z. (rw c.from.ensures (refl, refl), refl)) (λ z. let told = rw c.lengths.ensures at c.is_short.ensures in true_false (sym told ∙ c.if-is_short.true) z)
 
 pub load_rows-requires : goal.load_rows-requires
 load_rows-requires c =
     let args = c.args in
     let b = buffers_of args.buffers.now in
     let parse-text = c.parse_text in
-    let no = sym c.is_short.ensures ∙ c.if-is_short.false in
+    let told = rw c.lengths.ensures at c.is_short.ensures in
+    let no = sym told ∙ c.if-is_short.false in
     let lent = enough (capped_of args.limits).text (capped_of args.limits).nodes (length b.tokens) (length b.rows) (length b.calls) (length b.sorts) (length b.symbols) (length b.rules) (length b.words) (length b.evals) no in
     let an = rw (c.in-Ok.is) at (answered parse-text.ensures lent.tokens_lent lent.rows_lent) in
     let lm = ap (λ (x : Limits). x.nodes) c.capped.ensures in
@@ -33,7 +34,8 @@ returns-in-Ok-clause-loaded c =
     let args = c.args in
     let b = buffers_of args.buffers.now in
     let parse-text = c.parse_text in
-    let no = sym c.is_short.ensures ∙ c.if-is_short.false in
+    let told = rw c.lengths.ensures at c.is_short.ensures in
+    let no = sym told ∙ c.if-is_short.false in
     let lent = enough (capped_of args.limits).text (capped_of args.limits).nodes (length b.tokens) (length b.rows) (length b.calls) (length b.sorts) (length b.symbols) (length b.rules) (length b.words) (length b.evals) no in
     let an = rw (c.in-Ok.is) at (answered parse-text.ensures lent.tokens_lent lent.rows_lent) in
     let lm = ap (λ (x : Limits). x.nodes) c.capped.ensures in
