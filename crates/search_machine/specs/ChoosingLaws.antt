@@ -292,11 +292,15 @@ module _ {a : Allowed} {P : List ℕ} {R F : Rows} {W : List ℕ} {T L M S : Row
     }
 
     -- There is none.
-    pub chosen_stops : n.mode ≢ Try → Stepped a P R F F W W T T L L M M S S m n
-    chosen_stops e = record {
+    pub chosen_stops : (k : Mode) → n.mode ≡ k → (Onward a R m n k → measure a.rules F n < measure a.rules F m)
+        → Stepped a P R F F W W T T L L M M S S m n
+    chosen_stops k q f = record {
       keeps = λ z o h. chosen.keeps F z o h;
-      falls = onward_less a R m n n.mode e chosen.goes F;
+      falls = f (goes_at k q);
       links = refl;
       marks = refl;
       stack = refl;
     }
+
+    pub chosen_none : n.mode ≢ Try → Stepped a P R F F W W T T L L M M S S m n
+    chosen_none e = chosen_stops n.mode refl (λ o. onward_less a R m n n.mode e o F)
