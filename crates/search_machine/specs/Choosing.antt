@@ -21,10 +21,15 @@ pub record Goal (W : List ℕ) (T : Rows) (v u t g : ℕ) : Type 0 where
   pub form : Form term_room W T v u t
   pub refers : Reference term_room (cells W) v u g
 
--- The goal leads to a node with the header h, so that a pattern's node with another header clashes with it.
+-- The goal leads to a node with the header h, so that a pattern's node with another header clashes with it; or h is 0, which tells nothing.
 pub record Heads (W : List ℕ) (T : Rows) (v u t g h : ℕ) : Type 0 where
-  pub clash : (P : List ℕ) (s : ℕ) → Comparable term_room P W T v u t g s → pattern_room ≤ s → cells P (s - pattern_room) ≢ h
+  pub clash : (P : List ℕ) (s : ℕ) → Comparable term_room P W T v u t g s → pattern_room ≤ s → h ≢ 0 → cells P (s - pattern_room) ≢ h
       → Clashes term_room P W T t g s
+
+-- The goal leads to a node with the header h, which is not 0.
+pub record HeadsNode (W : List ℕ) (T : Rows) (v u t g h : ℕ) : Type 0 where
+  pub some : h ≢ 0
+  pub heads : Heads W T v u t g h
 
 -- A conclusion's header is there.
 pub record Readable (P : List ℕ) (s : ℕ) : Type 0 where
@@ -41,7 +46,7 @@ pub record Differs (P : List ℕ) (h : Option ℕ) (s : ℕ) : Type 0 where
 -- What is known of a goal, which may lead to the header h, where a conclusion is judged.
 pub record Judged (P W : List ℕ) (T : Rows) (v u t g : ℕ) (h : Option ℕ) (s : ℕ) : Type 0 where
   pub readable : Readable P s
-  pub heads : IfSome h (Heads W T v u t g)
+  pub heads : IfSome h (HeadsNode W T v u t g)
   pub comparable : Comparable term_room P W T v u t g s
 
 -- The machine is about to try a rule; frames and scratch are not looked at.

@@ -1,5 +1,5 @@
 -- Rules that are passed over: each is an attempt whose conclusion clashes with the goal, or that the limits refuse.
-use Rattle.std.specs.Prelude.{ℕ, ◌+◌, ◌-◌, ◌*◌, ◌≤◌, ◌<◌, ◌≡◌, refl, true, false, ◌≢◌, List, length, Option, Some, None, IfSome, Ok, Err}
+use Rattle.std.specs.Prelude.{ℕ, ◌+◌, ◌-◌, ◌*◌, ◌≤◌, ◌<◌, ◌≡◌, refl, true, false, ◌≢◌, List, length, Option, Some, IfSome, Ok, Err}
 use Rattle.refusals.specs.declared.Refusal.TheVariants.{OverLimit}
 use Rattle.std.proofs.Common.{arith, ap, sym, subst}
 use Rattle.arena.specs.Cells.{headers, cells}
@@ -18,7 +18,7 @@ use Rattle.search_machine.specs.Storage.{RowAsked, RowTried}
 use Rattle.search_machine.specs.State.{Start, Holds, Trying}
 use Rattle.search_machine.specs.Moves.{to_fail, to_stop, to_rule, current, measure}
 use Rattle.search_machine.specs.Promises.{Ready, Stepped, Choice}
-use Rattle.search_machine.specs.Choosing.{Goal, Heads, Readable, Differs, Judged, Choosing, Passing, Onward, Chosen}
+use Rattle.search_machine.specs.Choosing.{Goal, Heads, HeadsNode, Readable, Differs, Judged, Choosing, Passing, Onward, Chosen}
 use Rattle.search_machine.specs.Falls.{falls_mode, falls_not}
 use Rattle.search_machine.specs.Attempts.{row_asked}
 use Rattle.search_machine.specs.Tries.{tried_none, tried_refused, tried_missed}
@@ -30,14 +30,18 @@ use Rattle.search_machine.specs.declared.Mode.TheVariants.{Enter, Try, Fail, Pro
 
 -- The goal's header
 
--- The goal leads to a variable: there is no header, of which nothing is known.
-pub heads_nothing : (W : List ℕ) (T : Rows) (v u t g : ℕ) → IfSome None (Heads W T v u t g)
-heads_nothing W T v u t g = tt
+-- The goal leads to a variable.
+pub heads_nothing : {W : List ℕ} {T : Rows} {v u t g : ℕ} → Heads W T v u t g 0
+heads_nothing = record { clash = λ P s h n z d. absurd (z refl) }
 
 module _ {W : List ℕ} {T : Rows} {v u t g q : ℕ} (walked : Walked term_room W T v u t g q) (node : term_room ≤ q) where
   -- It leads to a node.
   pub heads_node : Heads W T v u t g (cells W (q - term_room))
-  heads_node = record { clash = λ P s h n d. heads_clash h walked node n (λ e. d (sym e)) }
+  heads_node = record { clash = λ P s h n z d. heads_clash h walked node n (λ e. d (sym e)) }
+
+  -- Its header is not 0: headers are above all references.
+  pub heads_some : HeadsNode W T v u t g (cells W (q - term_room))
+  heads_some = record { some = λ e. let l = walked.in_form.header node in omega arith; heads = heads_node }
 
   -- The node is there.
   pub node_in : Goal W T v u t g → q - term_room < length W
@@ -49,9 +53,9 @@ module _ {W : List ℕ} {T : Rows} {v u t g q : ℕ} (walked : Walked term_room 
 pub judged_differs : {P W : List ℕ} {T : Rows} {v u t g s : ℕ} {h : Option ℕ} → Judged P W T v u t g h s → Differs P h s
     → Clashes term_room P W T t g s
 judged_differs {W = W} {T = T} {v = v} {u = u} {t = t} {g = g} judged differs =
-    let heads : IfSome (Some differs.header) (Heads W T v u t g) =
-    subst (λ (h : Option ℕ). IfSome h (Heads W T v u t g)) differs.known judged.heads in
-    heads.clash _ _ judged.comparable differs.node differs.other
+    let node : IfSome (Some differs.header) (HeadsNode W T v u t g) =
+    subst (λ (h : Option ℕ). IfSome h (HeadsNode W T v u t g)) differs.known judged.heads in
+    node.heads.clash _ _ judged.comparable differs.node node.some differs.other
 
 module _ {most limit : ℕ} {P : List ℕ} {R : Rows} {W : List ℕ} {T L M S : Rows} {c u t g r : ℕ}
     (asked : RowAsked most limit P R W T L M S c u t g r) where
@@ -106,7 +110,7 @@ module _ {a : Allowed} {P : List ℕ} {R : Rows} {W : List ℕ} {T : Rows} {m : 
       let h = at_start choosing.frames choosing.start choosing.result choosing.holds in
       record { form = h.well.form; refers = h.refers }
 
-  pub choosing_judged : {h : Option ℕ} → IfSome h (Heads W T m.counter m.used m.bound m.goal) → (r : ℕ) → r < a.rules
+  pub choosing_judged : {h : Option ℕ} → IfSome h (HeadsNode W T m.counter m.used m.bound m.goal) → (r : ℕ) → r < a.rules
       → (r < length R) × Judged P W T m.counter m.used m.bound m.goal h (column (row_at R r) 5)
   choosing_judged heads r l =
       let asked = asked_at r l in
@@ -288,11 +292,15 @@ module _ {a : Allowed} {P : List ℕ} {R F : Rows} {W : List ℕ} {T L M S : Row
     }
 
     -- There is none.
-    pub chosen_stops : n.mode ≢ Try → Stepped a P R F F W W T T L L M M S S m n
-    chosen_stops e = record {
+    pub chosen_stops : (k : Mode) → n.mode ≡ k → (Onward a R m n k → measure a.rules F n < measure a.rules F m)
+        → Stepped a P R F F W W T T L L M M S S m n
+    chosen_stops k q f = record {
       keeps = λ z o h. chosen.keeps F z o h;
-      falls = onward_less a R m n n.mode e chosen.goes F;
+      falls = f (goes_at k q);
       links = refl;
       marks = refl;
       stack = refl;
     }
+
+    pub chosen_none : n.mode ≢ Try → Stepped a P R F F W W T T L L M M S S m n
+    chosen_none e = chosen_stops n.mode refl (λ o. onward_less a R m n n.mode e o F)

@@ -12,7 +12,7 @@ use Rattle.search_machine.specs.declared.Store.{Store}
 abbrev pub allowed_in : Program → Allowed
 allowed_in p = record { limits = p.limits; frames = p.frames; rules = length p.rules.now }
 
--- The same buffers are lent.
+-- The same buffers are lent, and those that the search writes are as long as before; the others are as they were.
 pub record IsLent (s s' : Store) : Type 0 where
   pub words : s'.words.ghost_name ≡ s.words.ghost_name
   pub bindings : s'.bindings.ghost_name ≡ s.bindings.ghost_name
@@ -20,6 +20,9 @@ pub record IsLent (s s' : Store) : Type 0 where
   pub marks : s'.marks.ghost_name ≡ s.marks.ghost_name
   pub stack : s'.stack.ghost_name ≡ s.stack.ghost_name
   pub frames : s'.frames.ghost_name ≡ s.frames.ghost_name
+  pub words_long : length s'.words.now ≡ length s.words.now
+  pub rows_long : length s'.bindings.now ≡ length s.bindings.now
+  pub frames_long : length s'.frames.now ≡ length s.frames.now
 
 -- What an attempt with the rule of a state asks, and what it leaves.
 abbrev pub AskedIn : Program → Store → Machine → Type 0
@@ -59,7 +62,17 @@ SearchedIn p s s' m m' =
 -- Laws
 
 pub lent_start : {s : Store} → IsLent s s
-lent_start = record { words = refl; bindings = refl; links = refl; marks = refl; stack = refl; frames = refl }
+lent_start = record {
+  words = refl;
+  bindings = refl;
+  links = refl;
+  marks = refl;
+  stack = refl;
+  frames = refl;
+  words_long = refl;
+  rows_long = refl;
+  frames_long = refl;
+}
 
 pub lent_on : {s s' s'' : Store} → IsLent s s' → IsLent s' s'' → IsLent s s''
 lent_on h k = record {
@@ -69,4 +82,7 @@ lent_on h k = record {
   marks = k.marks ∙ h.marks;
   stack = k.stack ∙ h.stack;
   frames = k.frames ∙ h.frames;
+  words_long = k.words_long ∙ h.words_long;
+  rows_long = k.rows_long ∙ h.rows_long;
+  frames_long = k.frames_long ∙ h.frames_long;
 }

@@ -27,22 +27,17 @@ part_columns row j n l = let e : j + n - j ≡ n = omega arith in ap (λ (k : �
 pub places_lent : (row : List ℕ) → column row 3 ≤ 64 → length row ≡ 154 → take (90 + column row 3 - 90) (drop 90 row) ≡ places_in row
 places_lent row few long = part_columns row 90 (column row 3) (omega arith)
 
+-- An attempt with the parts is one with the rule.
 module _ {most limit : ℕ} {pattern : List ℕ} {rules : Rows} {words : List ℕ} {rows links marks stack : Rows} {counter used bound goal r : ℕ}
-    (asked : RowAsked most limit pattern rules words rows links marks stack counter used bound goal r)
-    (long : length (row_at rules r) ≡ 154) where
-  heads_lent : take (10 + column (row_at rules r) 4 - 10) (drop 10 (row_at rules r)) ≡ heads_in (row_at rules r)
-  heads_lent = let a = asked.premises in part_columns (row_at rules r) 10 (column (row_at rules r) 4) (omega arith)
+    (asked : RowAsked most limit pattern rules words rows links marks stack counter used bound goal r) {heads places : List ℕ} {stored : Stored}
+    (lent : heads ≡ heads_in (row_at rules r)) (placed : places ≡ places_in (row_at rules r)) (is : stored ≡ stored_in (row_at rules r)) where
+  pub parts_asked : Asked most limit pattern heads places stored words rows links marks stack counter used bound goal
+  parts_asked = rw (is, placed, lent) asked.asked
 
-  module _ {places : List ℕ} {stored : Stored} (lent : places ≡ places_in (row_at rules r)) (is : stored ≡ stored_in (row_at rules r)) where
-    pub parts_asked : Asked most limit pattern (take (10 + column (row_at rules r) 4 - 10) (drop 10 (row_at rules r))) places stored words rows
-        links marks stack counter used bound goal
-    parts_asked = rw (is, lent, heads_lent) asked.asked
-
-    pub parts_tried : {words' : List ℕ} {rows' links' marks' stack' : Rows} {answer : Attempt}
-        → Attempted most limit pattern (take (10 + column (row_at rules r) 4 - 10) (drop 10 (row_at rules r))) places stored words words' rows rows'
-        links links' marks marks' stack stack' counter used bound goal answer
-        → RowTried most limit pattern rules words words' rows rows' links links' marks marks' stack stack' counter used bound goal r answer
-    parts_tried h = rw (is, lent, heads_lent) at h
+  pub parts_tried : {words' : List ℕ} {rows' links' marks' stack' : Rows} {answer : Attempt}
+      → Attempted most limit pattern heads places stored words words' rows rows' links links' marks marks' stack stack' counter used bound goal answer
+      → RowTried most limit pattern rules words words' rows rows' links links' marks marks' stack stack' counter used bound goal r answer
+  parts_tried h = rw (is, placed, lent) at h
 
 -- What was tried with a workspace was tried with the buffers that it was made of.
 pub tried_lent : {most limit : ℕ} {pattern premises places : List ℕ} {stored : Stored} {words words' : List ℕ} {rows rows' links links' links'' marks marks' marks'' stack stack' stack'' : Rows}

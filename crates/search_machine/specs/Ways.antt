@@ -326,13 +326,16 @@ live_goes k l = (λ _. l, λ q. true_false {b = true} refl q)
 pub live_stops : (k : Mode) → Stopped k → (◌≡◌ {A = Bool} false true → Live k) × (◌≡◌ {A = Bool} false false → Stopped k)
 live_stops k l = (λ q. true_false {b = false} q refl, λ _. l)
 
--- The loop's invariant: what the state means is what the first one meant.
+-- The loop's invariant: what the state means is what the first one meant, and the storage has its size.
 pub record Going (a : Allowed) (P : List ℕ) (R F₀ F : Rows) (W₀ W : List ℕ) (T₀ T L₀ L M₀ M S₀ S : Rows) (m₀ m : Machine) : Type 0 where
   pub ready : Ready a P R F W T L M S m
   pub keeps : (z : Start) (o : Result) → Holds a P R F₀ W₀ T₀ z o m₀ → Holds a P R F W T z o m
   pub links : L ≡ L₀
   pub marks : M ≡ M₀
   pub stack : S ≡ S₀
+  pub words_long : length W ≡ length W₀
+  pub rows_long : length T ≡ length T₀
+  pub frames_long : length F ≡ length F₀
 
 module _ {a : Allowed} {P : List ℕ} {R F₀ : Rows} {W₀ : List ℕ} {T₀ L₀ M₀ S₀ : Rows} {m₀ : Machine} where
   pub going_start : Ready a P R F₀ W₀ T₀ L₀ M₀ S₀ m₀ → Going a P R F₀ F₀ W₀ W₀ T₀ T₀ L₀ L₀ M₀ M₀ S₀ S₀ m₀ m₀
@@ -342,12 +345,15 @@ module _ {a : Allowed} {P : List ℕ} {R F₀ : Rows} {W₀ : List ℕ} {T₀ L�
     links = refl;
     marks = refl;
     stack = refl;
+    words_long = refl;
+    rows_long = refl;
+    frames_long = refl;
   }
 
   module _ {F : Rows} {W : List ℕ} {T L M S : Rows} {m : Machine} (g : Going a P R F₀ F W₀ W T₀ T L₀ L M₀ M S₀ S m₀ m) where
     pub going_on : {F' : Rows} {W' : List ℕ} {T' L' M' S' : Rows} {m' : Machine} → Stepped a P R F F' W W' T T' L L' M M' S S' m m'
-        → Going a P R F₀ F' W₀ W' T₀ T' L₀ L' M₀ M' S₀ S' m₀ m'
-    going_on {L' = L'} {M' = M'} {S' = S'} s = record {
+        → length W' ≡ length W → length T' ≡ length T → length F' ≡ length F → Going a P R F₀ F' W₀ W' T₀ T' L₀ L' M₀ M' S₀ S' m₀ m'
+    going_on {L' = L'} {M' = M'} {S' = S'} s x y w = record {
       ready = record {
         start = g.ready.start;
         result = g.ready.result;
@@ -361,6 +367,9 @@ module _ {a : Allowed} {P : List ℕ} {R F₀ : Rows} {W₀ : List ℕ} {T₀ L�
       links = s.links ∙ g.links;
       marks = s.marks ∙ g.marks;
       stack = s.stack ∙ g.stack;
+      words_long = x ∙ g.words_long;
+      rows_long = y ∙ g.rows_long;
+      frames_long = w ∙ g.frames_long;
     }
 
     pub going_stops : Stopped m.mode → Searched a P R F₀ F W₀ W T₀ T L₀ L M₀ M S₀ S m₀ m

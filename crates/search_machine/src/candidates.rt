@@ -4,7 +4,7 @@ ghost use Rattle.std.specs.Prelude.{◌≡◌, false, IfSome};
 ghost use Rattle.arena.specs.Copies.{term_room};
 ghost use Rattle.attempts.specs.Clashes.{Clashes};
 ghost use Rattle.search_machine.specs.Groups.{allowed_in};
-ghost use Rattle.search_machine.specs.Choosing.{Goal, Heads, Readable, Differs, Judged, Choosing, Chosen};
+ghost use Rattle.search_machine.specs.Choosing.{Goal, HeadsNode, Readable, Differs, Judged, Choosing, Chosen};
 
 use super::{Machine, Mode, Program, Store};
 use arena::{PATTERN_ROOM, TERM_ROOM, Terms};
@@ -16,7 +16,7 @@ use rules::columns::{CONCLUSION, CONCLUSION_WORDS, MET, PREMISE_WORDS};
 fn goal_header(terms: Terms, held: StoredBindings, goal: u32) -> Option<u32>
     requires room { terms.room ≡ term_room }
     requires goal { Goal terms.words.now held.rows.now terms.variables terms.used held.bound goal }
-    ensures { IfSome result (Heads terms.entry.words.now held.entry.rows.now terms.entry.variables terms.entry.used held.entry.bound goal) }
+    ensures { IfSome result (HeadsNode terms.entry.words.now held.entry.rows.now terms.entry.variables terms.entry.used held.entry.bound goal) }
 {
     let node = goal_node(terms, held, goal)?;
     Some(terms.header(node))

@@ -12,11 +12,11 @@ use super::{Machine, Program, Store};
 use arena::{PATTERN_ROOM, TERM_ROOM, moved_word};
 use attempts::{LentRule, Stored, Tried, try_rule};
 use refusals::Refusal;
-use rules::RuleRow;
 use rules::columns::{
     CONCLUSION, CONCLUSION_WORDS, FIRST_PLACE, FIRST_PREMISE, FIRST_WORD, MET, PREMISE_WORDS,
-    PREMISES, VARIABLES,
+    VARIABLES,
 };
+use rules::{RuleRow, premises};
 use unifier::Workspace;
 
 // What a row says of its rule.
@@ -63,10 +63,9 @@ pub fn try_stored(program: Program, store: &mut Store, m: Machine) -> Result<Tri
 {
     let row = &program.rules[m.rule as usize];
     let stored = stored_in(row);
-    let heads = FIRST_PREMISE + row[PREMISES] as usize;
     let rule = LentRule {
         pattern: program.pattern,
-        premises: &row[FIRST_PREMISE..heads],
+        premises: premises(row),
         places: places(row),
         stored,
     };

@@ -1,5 +1,5 @@
 -- `next_rule` meets its contract: the rule that was chosen is tried, or there is none.
-use Rattle.search_machine.specs.ChoosingLaws.{chosen_ready, chosen_tried, chosen_stops}
+use Rattle.search_machine.specs.ChoosingLaws.{chosen_ready, chosen_tried, chosen_none}
 use Rattle.search_machine.proofs.next_rule.Goals as goal
 
 pub attempt-requires-clause-ready : goal.attempt-requires-clause-ready
@@ -10,4 +10,4 @@ returns-in-Try-clause-stepped c =
     chosen_tried c.requires.ready c.requires.mode c.next_candidate-n.ensures c.in-Try.is c.attempt.ensures.stepped
 
 pub returns-in_default-clause-stepped : goal.returns-in_default-clause-stepped
-returns-in_default-clause-stepped c = chosen_stops c.requires.ready c.requires.mode c.next_candidate-n.ensures c.in_default.not-Try
+returns-in_default-clause-stepped c = chosen_none c.requires.ready c.requires.mode c.next_candidate-n.ensures c.in_default.not-Try

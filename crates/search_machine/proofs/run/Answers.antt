@@ -4,7 +4,8 @@ use Rattle.search_machine.specs.Ways.{going_on}
 use Rattle.search_machine.proofs.run.Goals as goal
 
 pub loop-program-preserved : goal.loop-program-preserved
-loop-program-preserved c = record {
-  going = going_on c.loop-program.invariant.going c.step-m.ensures.stepped;
-  lent = lent_on c.loop-program.invariant.lent c.step-m.ensures.lent;
-}
+loop-program-preserved c =
+    let lent = c.step-m.ensures.lent in record {
+      going = going_on c.loop-program.invariant.going c.step-m.ensures.stepped lent.words_long lent.rows_long lent.frames_long;
+      lent = lent_on c.loop-program.invariant.lent lent;
+    }
