@@ -13,7 +13,7 @@ ghost use Rattle.declarations.specs.Lent.{IsLent};
 ghost use Rattle.loader.specs.Kinds.{is_constructor, mark_in, first_in, clauses_in};
 
 use clauses::{EnteredRule, SourceClause};
-use loader::{Kind, Part};
+use loader::{Kind, Part, SymbolMarks};
 use names::{SortRow, Source, SourceTerms, SymbolRow, TermRow, Word};
 use refusals::Refusal;
 use rules::{RULE_NODES, RulePlace, RuleRow, Space, Title};
@@ -123,7 +123,13 @@ fn declare_symbol(
         },
         k,
     };
-    loader::enter_symbol(part, kind, &sorts[..state.sorts], symbols, state.symbols)?;
+    loader::enter_symbol(
+        part,
+        SymbolMarks::from(kind),
+        &sorts[..state.sorts],
+        symbols,
+        state.symbols,
+    )?;
     Ok(Progress {
         next: at + 2 + k,
         state: State {

@@ -174,7 +174,7 @@ fn list_stored(text: &[u8], limits: Limits, loaded: Loaded, lent: &LentBuffers) 
 // Loads a text and lists what it comes to.
 fn list_text(text: &[u8], limits: Limits) {
     buffers::with_buffers(|lent| match load::load(text, limits, lent) {
-        Err(rejection) => listing::write_refusal(rejection),
+        Err(rejection) => listing::write_refusal(u32::from(rejection.refusal), rejection.line),
         Ok(loaded) => list_stored(text, limits, loaded, lent),
     });
 }

@@ -1,6 +1,10 @@
 -- Recorded lists of texts: for each text a line `LENGTH LIMIT ROWS`, then LENGTH bytes, then a line end.
-use Rattle.std.specs.Prelude.{Option, Some, None, ℕ, zero, suc, ◌+◌, ◌*◌, ◌-◌, min, cond, List, eqb, ltb, get_or, length}
+use Rattle.std.specs.Prelude.{Option, Some, None, ℕ, zero, suc, ◌+◌, ◌*◌, ◌-◌, ◌≤◌, ◌<◌, ◌≡◌, min, cond, List, [], ◌∷◌, eqb, ltb, get_or, length}
+use Rattle.std.specs.Fn.{Mut, Called}
+use Rattle.std.specs.List.{FoldsTo}
+use denote.Ref.{Bor}
 use Rattle.source_text.specs.Bytes.{within}
+use Rattle.source_text.specs.Parts.{part_of}
 use Rattle.refusals.specs.declared.Refusal.{Refusal}
 use Rattle.refusals.specs.Refusals.{number_of}
 use Rattle.words.specs.declared.Limits.{Limits}
@@ -67,3 +71,22 @@ node_limits r =
 -- What each number of a lent buffer is after a refusal: 0xA5A5A5A5, as it was, after refusal 1, else zero.
 abbrev pub value_after : Refusal → ℕ
 value_after refusal = cond (eqb (number_of refusal) 1) 2779096485 0
+
+-- The texts of a list from a place on, one behind the other.
+abbrev pub Texts : List ℕ → ℕ → List Recorded → Type 0
+Texts list at [] = end_of list ≤ at
+Texts list at (r ∷ rs) = (at < end_of list) × (r ≡ recorded_at list at) × Texts list r.next rs
+
+module _ {F : Type 0} (g : Mut F (Bor (List ℕ) × (Recorded × Unit {0})) (Unit {0})) (list : List ℕ) where
+  -- A call at the bytes of a text, and at what the list says of it.
+  pub record CalledAtText (f : F) (r : Recorded) (f' : F) : Type 0 where
+    pub shown : Bor (List ℕ)
+    pub shows : shown.now ≡ part_of list r.start r.length
+    pub called : Called g f (shown, (r, tt)) tt f'
+
+  -- Such a call at each text of the list, in order.
+  pub record Replayed (f : F) : Type 0 where
+    pub texts : List Recorded
+    pub last : F
+    pub all : Texts list 0 texts
+    pub ran : FoldsTo CalledAtText f texts last

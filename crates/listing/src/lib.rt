@@ -10,11 +10,9 @@ mod lines; // the line of a token, and of a refused text
 ghost use Rattle.std.specs.Prelude.{◌≡◌, ◌≤◌, length};
 ghost use Rattle.byte_output.specs.Output.{Written};
 ghost use Rattle.listing.specs.Listing.{token_lines, refused_line, listing_size, listed_buffer, listed_rows, ListingWritten};
-ghost use Rattle.refusals.specs.Refusals.{number_of};
 
 use byte_output::Output;
 use lines::{write_refused_line, write_token};
-use refusals::Rejection;
 use words::{Limits, Row};
 
 // The longest line of a refusal: both its numbers have ten digits.
@@ -40,12 +38,12 @@ fn write_tokens(text: &[u8], rows: &[Row], out: &mut [u8]) -> usize
 }
 
 // Writes the one line of a refused text.
-fn write_refused(rejection: Rejection, out: &mut [u8]) -> usize
-    requires { length (refused_line (number_of rejection.refusal) rejection.line) ≤ length out.old }
-    ensures { Written out.old 0 (refused_line (number_of rejection.refusal) rejection.line) result out.new }
+fn write_refused(number: u32, line: u32, out: &mut [u8]) -> usize
+    requires { length (refused_line number line) ≤ length out.old }
+    ensures { Written out.old 0 (refused_line number line) result out.new }
 {
     let mut output = Output { bytes: out, at: 0 };
-    write_refused_line(rejection, &mut output);
+    write_refused_line(number, line, &mut output);
     output.at
 }
 
@@ -60,7 +58,10 @@ pub fn write_listing(text: &[u8], limits: Limits, rows: &mut [Row], out: &mut [u
     }
     let end = match words::lex(text, limits, rows) {
         Ok(count) => write_tokens(text, &rows[..count], out),
-        Err(rejection) => write_refused(rejection, out),
+        Err(rejection) => {
+            let number = u32::from(rejection.refusal);
+            write_refused(number, rejection.line, out)
+        }
     };
     Some(end)
 }
@@ -77,8 +78,8 @@ pub fn list(text: &[u8], limits: Limits, rows: &mut [Row], out: &mut [u8])
 }
 
 // Writes the line `refused N line L` to standard output.
-pub fn write_refusal(rejection: Rejection) {
+pub fn write_refusal(number: u32, line: u32) {
     let mut out = [0u8; REFUSAL];
-    let n = write_refused(rejection, &mut out);
+    let n = write_refused(number, line, &mut out);
     write(words::word(&out, 0, n));
 }

@@ -2,11 +2,9 @@
 // Stays: words of a text are bytes, which `write!` does not write, and it promises its bytes only where it answers `Ok`.
 ghost use Rattle.std.specs.Prelude.{◌≡◌, ◌+◌, ◌≤◌, length};
 ghost use Rattle.byte_output.specs.Output.{IsWritten};
-ghost use Rattle.refusals.specs.Refusals.{number_of};
 ghost use Rattle.listing.specs.Listing.{kind_word, token_line, refused_line};
 
 use byte_output::Output;
-use refusals::Rejection;
 use words::{CHECK, METAVARIABLE, NAME, NUMERAL, Row};
 
 // The word for a token's kind, between spaces.
@@ -36,13 +34,13 @@ pub fn write_token(text: &[u8], row: Row, out: &mut Output)
 }
 
 // Writes the line `refused N line L`.
-pub fn write_refused_line(rejection: Rejection, out: &mut Output)
-    requires { out.old.at + length (refused_line (number_of rejection.refusal) rejection.line) ≤ length out.old.bytes.now }
-    ensures { IsWritten out.old out.new (refused_line (number_of rejection.refusal) rejection.line) }
+pub fn write_refused_line(number: u32, line: u32, out: &mut Output)
+    requires { out.old.at + length (refused_line number line) ≤ length out.old.bytes.now }
+    ensures { IsWritten out.old out.new (refused_line number line) }
 {
     out.write(b"refused ");
-    out.write_decimal(u32::from(rejection.refusal));
+    out.write_decimal(number);
     out.write(b" line ");
-    out.write_decimal(rejection.line);
+    out.write_decimal(line);
     out.write_byte(b'\n');
 }

@@ -2,6 +2,7 @@
 use Rattle.std.specs.Prelude.{ℕ, Bool, true, false}
 use Rattle.loader.specs.declared.Kind.{Kind}
 use Rattle.loader.specs.declared.Kind.TheVariants.{Constructor, Predicate, Function}
+use Rattle.loader.specs.declared.SymbolMarks.{SymbolMarks}
 
 abbrev pub is_constructor : Kind → Bool
 is_constructor Constructor = true
@@ -22,3 +23,6 @@ abbrev pub clauses_in : Kind → ℕ
 clauses_in Constructor = 0
 clauses_in Predicate = 0
 clauses_in (Function first clauses) = clauses
+
+abbrev pub marks_of : Kind → SymbolMarks
+marks_of kind = record { constructor = is_constructor kind; function = mark_in kind; first = first_in kind; clauses = clauses_in kind }

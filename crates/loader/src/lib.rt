@@ -7,7 +7,7 @@ ghost use Rattle.std.specs.Prelude.{◌≡◌, [], ◌∷◌, ◌+◌, ◌-◌, 
 ghost use Rattle.source_text.specs.Parts.{part_of};
 ghost use Rattle.names.specs.Symbols.{column, row_at, sorts_of, symbols_of};
 ghost use Rattle.loader.specs.Known.{sorts_known, symbols_known};
-ghost use Rattle.loader.specs.Kinds.{is_constructor, mark_in, first_in, clauses_in};
+ghost use Rattle.loader.specs.Kinds.{marks_of};
 ghost use Rattle.patterns.specs.Promises.{RefusedFor};
 ghost use Rattle.loader.specs.Signature.{is_taken, sort_refusal, symbol_refusal, numbers_of};
 ghost use Rattle.loader.specs.Rows.{symbol_row, entered};
@@ -18,7 +18,7 @@ ghost use Rattle.loader.specs.SymbolEntry.{SymbolAnswered};
 use arena::INPUTS;
 use clauses::EnteredRule;
 use names::columns::FIRST_INPUT;
-use names::{FUNCTION, NO_FUNCTION, SortRow, Source, SymbolRow, Word};
+use names::{FUNCTION, SortRow, Source, SymbolRow, Word};
 use refusals::Refusal;
 use rules::{RulePlace, RuleRow, SourceRule, Title};
 
@@ -154,40 +154,63 @@ pub enum Kind {
     Function { first: u32, clauses: u32 },
 }
 
-impl Kind {
+// What a symbol is, as the columns of its row have it: whether its last sort is its output, its function mark, and its clauses.
+// Stays: any four numbers of a row may be entered, as C callers lend them; a `Kind` has only those of a declaration.
+#[derive(Clone, Copy, Default)]
+pub struct SymbolMarks {
+    pub constructor: bool,
+    pub function: u32,
+    pub first: u32,
+    pub clauses: u32,
+}
+
+impl From<Kind> for SymbolMarks {
+    ghost from_gives = { λ kind marks. marks ≡ marks_of kind };
+
+    fn from(kind: Kind) -> SymbolMarks {
+        match kind {
+            Kind::Constructor => SymbolMarks {
+                constructor: true,
+                ..SymbolMarks::default()
+            },
+            Kind::Predicate => SymbolMarks::default(),
+            Kind::Function { first, clauses } => SymbolMarks {
+                constructor: false,
+                function: FUNCTION,
+                first,
+                clauses,
+            },
+        }
+    }
+}
+
+impl SymbolMarks {
     // How many of k sorts are inputs: a constructor's last is its output.
     fn input_count(self, k: usize) -> usize
-        ensures { result ≡ cond (is_constructor self) (k - 1) k }
+        ensures { result ≡ cond self.constructor (k - 1) k }
     {
-        match self {
-            Kind::Constructor => k.saturating_sub(1),
-            _ => k,
+        if self.constructor {
+            return k.saturating_sub(1);
         }
+        k
     }
 
     // The symbol whose name stands at a place and whose last sort has a number.
     fn head(self, word: Word, last: u32) -> SymbolHead
-        ensures { result ≡ record { word = word; output = cond (is_constructor self) last 0; function = mark_in self; first = first_in self; clauses = clauses_in self } }
+        ensures { result ≡ record { word = word; output = cond self.constructor last 0; function = self.function; first = self.first; clauses = self.clauses } }
     {
-        let plain = SymbolHead {
+        let SymbolMarks {
+            constructor,
+            function,
+            first,
+            clauses,
+        } = self;
+        SymbolHead {
             word,
-            output: 0,
-            function: NO_FUNCTION,
-            first: 0,
-            clauses: 0,
-        };
-        match self {
-            Kind::Constructor => SymbolHead {
-                output: last,
-                ..plain
-            },
-            Kind::Predicate => plain,
-            Kind::Function { first, clauses } => SymbolHead {
-                function: FUNCTION,
-                first,
-                clauses,
-                ..plain
-            },
+            output: if constructor { last } else { 0 },
+            function,
+            first,
+            clauses,
         }
     }
 }
@@ -196,13 +219,13 @@ impl Kind {
 // Stays: the row behind those in use is written, so a part in use would not do.
 pub fn enter_symbol(
     part: Part,
-    kind: Kind,
+    marks: SymbolMarks,
     sorts: &[SortRow],
     symbols: &mut [SymbolRow],
     count: usize,
 ) -> Result<(), Refusal>
     requires { (part.source.at + 1 + part.k ≤ length part.source.rows.now) × (length part.source.rows.now ≤ 65536) × (length sorts.now ≤ 256) × (count ≤ 1024) × (1024 ≤ length symbols.old) }
-    ensures { SymbolAnswered part.entry.source.text.now part.entry.source.rows.now (part.entry.source.at + 1) part.entry.k (column (row_at part.entry.source.rows.now part.entry.source.at) 1) (column (row_at part.entry.source.rows.now part.entry.source.at) 2) (is_constructor kind) (mark_in kind) (first_in kind) (clauses_in kind) sorts.now (length sorts.now) symbols.old count result symbols.new }
+    ensures { SymbolAnswered part.entry.source.text.now part.entry.source.rows.now (part.entry.source.at + 1) part.entry.k (column (row_at part.entry.source.rows.now part.entry.source.at) 1) (column (row_at part.entry.source.rows.now part.entry.source.at) 2) marks.constructor marks.function marks.first marks.clauses sorts.now (length sorts.now) symbols.old count result symbols.new }
 {
     let Part { source, k } = part;
     let Source { text, rows, at } = source;
@@ -215,7 +238,7 @@ pub fn enter_symbol(
         k,
     };
     let last = find_arrow(behind, sorts, &mut inputs).ok_or(Refusal::UnknownSort)?;
-    let n = kind.input_count(k);
+    let n = marks.input_count(k);
     let known = Known {
         text,
         sorts,
@@ -223,7 +246,7 @@ pub fn enter_symbol(
     };
     let word = Word::behind_kind(&rows[at]);
     check_symbol(known, names::part(text, word), n)?;
-    let symbol = kind.head(word, last);
+    let symbol = marks.head(word, last);
     put_symbol(&mut symbols[count], symbol, &inputs[..n]);
     Ok(())
 }

@@ -33,7 +33,7 @@ fn list_loaded(text: &[u8], loaded: Loaded, parsed: Result<Parsed, Rejection>, l
 
 // Lists a refusal, and tests the buffers: zero throughout, and after refusal 1 as they were.
 fn list_refused(rejection: Rejection, lent: &Lent) {
-    listing::write_refusal(rejection);
+    listing::write_refusal(u32::from(rejection.refusal), rejection.line);
     let value = recorded::value_after(rejection.refusal);
     buffers::test(lent, 0, 0, Counts::default(), value);
 }

@@ -56,7 +56,7 @@ fn list(text: &[u8], limits: Limits, tokens: &mut [Row], rows: &mut [Row]) {
             expect_all(b"declaration", rows, parsed.rows, 0);
         }
         Err(rejection) => {
-            listing::write_refusal(rejection);
+            listing::write_refusal(u32::from(rejection.refusal), rejection.line);
             let value = recorded::value_after(rejection.refusal);
             expect_all(b"token", tokens, 0, value);
             expect_all(b"declaration", rows, 0, value);

@@ -32,7 +32,7 @@ write_refused-end-requires c =
     let l = ap length (refusal_listed c.args.text.now c.args.limits c.args.rows.now c.lex.ensures.rows e) in
     let f = listing_fits c.args.text.now c.args.limits (length c.args.rows.now) in
     let s = c.size.ensures in
-    omega arith
+    rw c.from-number.ensures (omega arith)
 
 pub returns-in-Ok : goal.returns-in-Ok
 returns-in-Ok c =
@@ -46,4 +46,4 @@ returns-in-Err c =
     let left = c.lex.ensures.rows in
     let e = sym c.in-Err.is ∙ c.lex.ensures.answer in
     let s = c.size.ensures in
-    listing_done c.args.text.now c.args.limits c.args.rows.now c.args.out.now (omega arith) (written_as c.write_refused-end.ensures (refusal_listed c.args.text.now c.args.limits c.args.rows.now left e)) left
+    listing_done c.args.text.now c.args.limits c.args.rows.now c.args.out.now (omega arith) (written_as (rw c.from-number.ensures at c.write_refused-end.ensures) (refusal_listed c.args.text.now c.args.limits c.args.rows.now left e)) left

@@ -7,7 +7,6 @@ use Rattle.source_text.specs.Parts.{part_of}
 use Rattle.names.specs.Symbols.{column, row_at, sorts_of, symbols_of}
 use Rattle.names.specs.UsedLaws.{symbols_used}
 use Rattle.loader.specs.Signature.{numbers_of, symbol_refusal}
-use Rattle.loader.specs.Kinds.{is_constructor, mark_in, first_in, clauses_in}
 use Rattle.loader.specs.Arrows.{names_at}
 use Rattle.loader.specs.SymbolEntry.{arrow_refusal}
 use Rattle.refusals.specs.Refused.{handed_on}
@@ -24,7 +23,7 @@ returns-in_err-check_symbol c =
     let input-count = c.input_count-n in
     let look = arrow_known (numbers_of (sorts_of (args.part.source.text.now) (args.sorts.now) (length args.sorts.now)) (names_at (args.part.source.text.now) (args.part.source.rows.now) (args.part.source.at + 1) (args.part.k))) (find-arrow.result) _ (args.part.k) _ (find-arrow.ensures) c.in_ok-last.ensures.ok_part in
     let c₁ = arrow_count (sorts_of (args.part.source.text.now) (args.sorts.now) (length args.sorts.now)) (args.part.source.text.now) (args.part.source.rows.now) (args.part.source.at + 1) (args.part.k) look.found look.is in
-    let n = inputs_count (is_constructor args.kind) look.found (args.part.k) c₁ in
+    let n = inputs_count args.marks.constructor look.found (args.part.k) c₁ in
     rw (handed_on c.from_residual-in_err-check_symbol.result c.from_residual-in_err-check_symbol.ensures.1)
     (record {
       number = _;
@@ -32,7 +31,7 @@ returns-in_err-check_symbol c =
       comes_to = record {
         refusal = ((rw (known, c.part.ensures, c.behind_kind-word.ensures) at c.in_err-check_symbol.ensures.0)
             ∙ ap (symbol_refusal (sorts_of (args.part.source.text.now) (args.sorts.now) (length args.sorts.now)) (symbols_of (args.part.source.text.now) (args.symbols.now) (args.count)) _) (input-count.ensures ∙ sym n)
-            ∙ ap (arrow_refusal (sorts_of (args.part.source.text.now) (args.sorts.now) (length args.sorts.now)) (symbols_of (args.part.source.text.now) (args.symbols.now) (args.count)) _ (is_constructor args.kind)) (sym look.is));
+            ∙ ap (arrow_refusal (sorts_of (args.part.source.text.now) (args.sorts.now) (length args.sorts.now)) (symbols_of (args.part.source.text.now) (args.symbols.now) (args.count)) _ args.marks.constructor) (sym look.is));
         refused = λ z. refl;
         entered = λ z. absurd (let l = c.in_err-check_symbol.ensures.1 in omega arith);
       };
@@ -47,7 +46,7 @@ bounds-symbols-count c =
     let pre = c.requires in
     let look = arrow_known (numbers_of (sorts_of (args.part.source.text.now) (args.sorts.now) (length args.sorts.now)) (names_at (args.part.source.text.now) (args.part.source.rows.now) (args.part.source.at + 1) (args.part.k))) (find-arrow.result) _ (args.part.k) _ (find-arrow.ensures) c.in_ok-last.ensures.ok_part in
     let c₁ = arrow_count (sorts_of (args.part.source.text.now) (args.sorts.now) (length args.sorts.now)) (args.part.source.text.now) (args.part.source.rows.now) (args.part.source.at + 1) (args.part.k) look.found look.is in
-    let n = inputs_count (is_constructor args.kind) look.found (args.part.k) c₁ in
+    let n = inputs_count args.marks.constructor look.found (args.part.k) c₁ in
     let f = not_refused (sorts_of (args.part.source.text.now) (args.sorts.now) (length args.sorts.now)) (symbols_of (args.part.source.text.now) (args.symbols.now) (args.count)) (part_of (args.part.source.text.now) (column (row_at (args.part.source.rows.now) (args.part.source.at)) 1) (column (row_at (args.part.source.rows.now) (args.part.source.at)) 2)) (input-count.result) (sym (rw (known, c.part.ensures, c.behind_kind-word.ensures) at c.in_ok-check_symbol.ensures)) in
     let l = symbols_length (args.part.source.text.now) (args.symbols.now) (args.count) (omega (arith, pre.3, pre.4)) in
     omega arith
@@ -62,7 +61,7 @@ returns c =
     let put-symbol = c.put_symbol in
     let look = arrow_known (numbers_of (sorts_of (args.part.source.text.now) (args.sorts.now) (length args.sorts.now)) (names_at (args.part.source.text.now) (args.part.source.rows.now) (args.part.source.at + 1) (args.part.k))) (find-arrow.result) _ (args.part.k) _ (find-arrow.ensures) c.in_ok-last.ensures.ok_part in
     let c₁ = arrow_count (sorts_of (args.part.source.text.now) (args.sorts.now) (length args.sorts.now)) (args.part.source.text.now) (args.part.source.rows.now) (args.part.source.at + 1) (args.part.k) look.found look.is in
-    let n = inputs_count (is_constructor args.kind) look.found (args.part.k) c₁ in
+    let n = inputs_count args.marks.constructor look.found (args.part.k) c₁ in
     let f = not_refused (sorts_of (args.part.source.text.now) (args.sorts.now) (length args.sorts.now)) (symbols_of (args.part.source.text.now) (args.symbols.now) (args.count)) (part_of (args.part.source.text.now) (column (row_at (args.part.source.rows.now) (args.part.source.at)) 1) (column (row_at (args.part.source.rows.now) (args.part.source.at)) 2)) (input-count.result) (sym (rw (known, c.part.ensures, c.behind_kind-word.ensures) at c.in_ok-check_symbol.ensures)) in
     let l = symbols_length (args.part.source.text.now) (args.symbols.now) (args.count) (omega (arith, pre.3, pre.4)) in
     let h = find-arrow.auto.inputs in
@@ -73,9 +72,9 @@ returns c =
       number = 0;
       answer = refl;
       comes_to = record {
-        refusal = ((rw (known, c.part.ensures, c.behind_kind-word.ensures) at c.in_ok-check_symbol.ensures) ∙ ap (symbol_refusal (sorts_of (args.part.source.text.now) (args.sorts.now) (length args.sorts.now)) (symbols_of (args.part.source.text.now) (args.symbols.now) (args.count)) _) (input-count.ensures ∙ sym n) ∙ ap (arrow_refusal (sorts_of (args.part.source.text.now) (args.sorts.now) (length args.sorts.now)) (symbols_of (args.part.source.text.now) (args.symbols.now) (args.count)) _ (is_constructor args.kind)) (sym look.is));
+        refusal = ((rw (known, c.part.ensures, c.behind_kind-word.ensures) at c.in_ok-check_symbol.ensures) ∙ ap (symbol_refusal (sorts_of (args.part.source.text.now) (args.sorts.now) (length args.sorts.now)) (symbols_of (args.part.source.text.now) (args.symbols.now) (args.count)) _) (input-count.ensures ∙ sym n) ∙ ap (arrow_refusal (sorts_of (args.part.source.text.now) (args.sorts.now) (length args.sorts.now)) (symbols_of (args.part.source.text.now) (args.symbols.now) (args.count)) _ args.marks.constructor) (sym look.is));
         refused = λ z. absurd (z refl);
         entered = λ z ns e. let q : look.found ≡ ns = same_numbers (sym look.is ∙ e) in
-            rw (← q) (ap (set (args.symbols.now) (args.count)) (put ∙ row_is (column (row_at (args.part.source.rows.now) (args.part.source.at)) 1) (column (row_at (args.part.source.rows.now) (args.part.source.at)) 2) (mark_in args.kind) (first_in args.kind) (clauses_in args.kind) (args.part.k) (is_constructor args.kind) look.found _ _ c₁ look.last_is few look.written));
+            rw (← q) (ap (set (args.symbols.now) (args.count)) (put ∙ row_is (column (row_at (args.part.source.rows.now) (args.part.source.at)) 1) (column (row_at (args.part.source.rows.now) (args.part.source.at)) 2) args.marks.function args.marks.first args.marks.clauses (args.part.k) args.marks.constructor look.found _ _ c₁ look.last_is few look.written));
       };
     }

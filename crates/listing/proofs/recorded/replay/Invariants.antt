@@ -1,9 +1,14 @@
--- `replay` is safe and ends: each text moves the place forward, so no more of them are counted than places passed.
+-- `replay` is safe and ends: each text moves the place forward, so no more of them are counted than places passed. Calls at the texts that are left make
+-- calls at all of them.
 use Prim.Native.Nat.{◌≤◌, ◌-◌, ◌+◌}
+use Rattle.std.specs.List.{FoldsTo}
+use Rattle.listing.specs.Recorded.{Texts, CalledAtText, Replayed}
 use Rattle.listing.proofs.recorded.replay.Given as goal
 
 abbrev pub invariant-loop-at : goal.invariant-loop-at
-invariant-loop-at g l = goal.F-IsAlwaysCallable g l.each × (l.number ≤ l.at + 1)
+invariant-loop-at g l =
+    goal.F-IsAlwaysCallable g l.each × (l.number ≤ l.at + 1)
+    × ((texts : _) (last : _) → Texts l.list l.at texts → FoldsTo (CalledAtText g.F.FnMut l.list) l.each texts last → Replayed g.F.FnMut l.list l.fn.each)
 
 abbrev pub decreases-loop-at : goal.decreases-loop-at
 decreases-loop-at g l = l.end - l.at
