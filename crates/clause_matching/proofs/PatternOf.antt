@@ -5,6 +5,8 @@ use mathlib.Core.Path.{◌≡◌, sym, ◌∙◌}
 use mathlib.Core.List.{List}
 use lib.ListN.{length, get_or, take, drop, length-drop}
 use lib.Seq.{get_or-take, get_or-drop, length-take-le}
+use Rattle.std.specs.Option.{SomeIff}
+use Rattle.std.specs.Prelude.{Option, None, Some}
 use Rattle.terms.specs.Numbers.{by_less}
 use Rattle.arena.specs.Cells.{headers, cells}
 use Rattle.arena.specs.Copies.{pattern_room}
@@ -12,6 +14,17 @@ use Rattle.clause_matching.specs.Stored.{PatternIn}
 use Rattle.clause_matching.specs.Choice.{Referable, pattern_from}
 use Rattle.clause_matching.specs.declared.references.Pattern.{Pattern}
 use Rattle.clause_matching.specs.declared.references.Pattern.TheVariants.{Variable, Node}
+
+-- What is left of a reference past the room for variables is a node's address; where nothing is left, it is a variable.
+module _ (reference : ℕ) {r : Option ℕ} (s : SomeIff r (pattern_room ≤ reference) (reference - pattern_room)) where
+  pub is_low : r ≡ None → reference < pattern_room
+  is_low q = let n = rw q at s in omega arith
+
+  pub is_high : {address : ℕ} → r ≡ Some address → (pattern_room ≤ reference) × (address ≡ reference - pattern_room)
+  is_high q = rw q at s
+
+  pub back : {address : ℕ} → r ≡ Some address → address + pattern_room ≡ reference
+  back q = let (l, e) = is_high q in omega arith
 
 module _ (pattern : List ℕ) (reference : ℕ) {r : Pattern} (e : r ≡ pattern_from pattern reference) where
   pub variable_is : (index : ℕ) → r ≡ Variable index → (reference < pattern_room) × (index ≡ reference)

@@ -44,20 +44,21 @@ fn push_values(words: &mut [u32], address: u32, header: u32, from: u32, count: u
     words[source] = address;
 }
 
-// A pattern that is a node, with the values of its variables put in. The words from the limit on are scratch: references of arguments whose node is open.
+// A pattern that is a node, by its address, with the values of its variables put in. The words from the limit on are scratch: references of arguments whose
+// node is open.
 fn instantiate_node(
     pattern: &[u32],
-    reference: u32,
+    root: u32,
     environment: &[u32],
     words: &mut [u32],
     room: Room,
     stack: &mut [[u32; 3]],
 ) -> Result<Built, Refusal>
-    requires { (pattern_room ≤ reference) × InstantiateAsked pattern.now reference environment.now words.old room.used room.limit stack.old }
-    ensures { Instantiated pattern.now reference environment.now words.old room.used room.limit result words.new }
+    requires { InstantiateAsked pattern.now (root + pattern_room) environment.now words.old room.used room.limit stack.old }
+    ensures { Instantiated pattern.now (root + pattern_room) environment.now words.old room.used room.limit result words.new }
 {
     // A row of the stack is an open node: its address in the pattern, how many arguments were taken, and where the first one's reference stands.
-    stack[0] = [reference - PATTERN_ROOM, 0, room.limit];
+    stack[0] = [root, 0, room.limit];
     let mut depth: usize = 1;
     let mut top = room.limit;
     let mut spent = room.used;
@@ -70,14 +71,16 @@ fn instantiate_node(
         if taken < arity {
             stack[row] = [address, taken + 1, base];
             let next = pattern[(address + 1 + taken) as usize];
-            if next < PATTERN_ROOM {
-                let value = value_of(environment, next)?;
-                words[top as usize] = value;
-                top += 1;
-            } else {
-                // Stays: a row has the node's address, which `pattern_at` gives only as one less than that of the first argument.
-                stack[depth] = [next - PATTERN_ROOM, 0, top];
-                depth += 1;
+            match next.checked_sub(PATTERN_ROOM) {
+                None => {
+                    let value = value_of(environment, next)?;
+                    words[top as usize] = value;
+                    top += 1;
+                }
+                Some(inner) => {
+                    stack[depth] = [inner, 0, top];
+                    depth += 1;
+                }
             }
         } else {
             if room.limit - spent <= arity {
@@ -107,15 +110,14 @@ pub fn instantiate(
     requires { InstantiateAsked pattern.now reference environment.now words.old room.used room.limit stack.old }
     ensures { Instantiated pattern.now reference environment.now words.old room.used room.limit result words.new }
 {
-    // Stays: tried by `pattern_at`: registers are saved for variables too; reverse 25 took 44.1 us for 42.6, or 47.2 for 45.8, 4.9 times the Rust, not 5.
-    if reference < PATTERN_ROOM {
+    let Some(root) = reference.checked_sub(PATTERN_ROOM) else {
         let value = value_of(environment, reference)?;
         return Ok(Built {
             value,
             used: room.used,
         });
-    }
-    instantiate_node(pattern, reference, environment, words, room, stack)
+    };
+    instantiate_node(pattern, root, environment, words, room, stack)
 }
 
 // The arguments of a pattern's node from the address `first` on, one for each place of `values`, built from left to right: how many words are then used. Their

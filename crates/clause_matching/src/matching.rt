@@ -13,7 +13,7 @@ use arena::Terms;
 
 // Values: words of stored terms, of which so many are in use.
 // Stays: the value in question and the environment go beside them; values are only read, and these change at each step.
-// Stays: `&words[..used]` would be the words alone, but each value that is built makes `used` grow, and `arena::Terms` takes a count beside its words too.
+// Stays: tried as `&words[..used]`: what a store's field is after a part of it was lent is not told (goal `call-follow-requires`, its `store-1.given`).
 #[derive(Clone, Copy)]
 pub struct Values<'a> {
     pub words: &'a [u32],

@@ -16,12 +16,13 @@ pub fn pattern_at(pattern: &[u32], reference: u32) -> Pattern
     requires { Referable pattern.now reference }
     ensures { result ≡ pattern_from pattern.now reference }
 {
-    if reference < PATTERN_ROOM {
-        return Pattern::Variable { index: reference };
-    }
-    let address = reference - PATTERN_ROOM;
-    Pattern::Node {
-        header: pattern[address as usize],
-        first: address + 1,
+    match reference.checked_sub(PATTERN_ROOM) {
+        None => Pattern::Variable { index: reference },
+        Some(address) => {
+            Pattern::Node {
+                header: pattern[address as usize],
+                first: address + 1,
+            }
+        }
     }
 }

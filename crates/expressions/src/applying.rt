@@ -6,8 +6,8 @@ ghost use Rattle.function_calls.specs.Calls.{IsLent};
 ghost use Rattle.expressions.specs.Nodes.{Finds};
 ghost use Rattle.expressions.specs.Applying.{ApplyAsked, ApplyAnswered};
 
-use super::nodes::{build, outcome};
-use function_calls::{Level, Outcome, Program, Room, Spent, Store, call};
+use super::nodes::build;
+use function_calls::{Level, Outcome, Program, Spent, Store, call};
 use names::columns::{ARITY, MARK, OUTPUT};
 use names::{FUNCTION, NO_FUNCTION, SymbolRow};
 use refusals::Refusal;
@@ -52,10 +52,6 @@ pub fn apply(
         };
         return call(program, i, values, level, spent, store);
     }
-    let room = Room {
-        used: spent.used,
-        limit: program.limit,
-    };
-    let built = build(store.words, room, i, values)?;
-    Ok(outcome(built, spent))
+    let built = build(store.words, program.room(spent), i, values)?;
+    Ok(Outcome::of_built(built, spent))
 }

@@ -4,7 +4,7 @@ ghost use Rattle.arena.specs.Cells.{symbol_of as symbolIn};
 ghost use Rattle.names.specs.Symbols.{symbol_at, symbols_of};
 ghost use Rattle.expressions.specs.Nodes.{BuildAsked, BuildAnswered};
 
-use function_calls::{Built, Outcome, Room, Spent};
+use function_calls::{Built, Room};
 use names::SymbolRow;
 use names::columns::OUTPUT;
 use refusals::Refusal;
@@ -35,17 +35,4 @@ pub fn build(words: &mut [u32], room: Room, symbol: usize, values: &[u32]) -> Re
         value: room.used,
         used: room.used + 1 + count,
     })
-}
-
-// A value that was built, with what is spent then: no call was made for it.
-pub fn outcome(built: Built, spent: Spent) -> Outcome
-    ensures { result ≡ record { value = built.value; spent = record { calls = spent.calls; used = built.used } } }
-{
-    Outcome {
-        value: built.value,
-        spent: Spent {
-            used: built.used,
-            ..spent
-        },
-    }
 }

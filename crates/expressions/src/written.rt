@@ -4,10 +4,10 @@ ghost use Rattle.function_calls.specs.Calls.{IsLent};
 ghost use Rattle.expressions.specs.Terms.{ExpressionAsked, ExpressionAnswered, ApplicationAsked, ApplicationAnswered};
 
 use super::applying::{apply, check_use};
-use super::nodes::{outcome, sort_of};
+use super::nodes::sort_of;
 use super::numerals::numeral;
 use arena::INPUTS;
-use function_calls::{MAX_DEPTH, Outcome, Program, Room, Spent, Store};
+use function_calls::{MAX_DEPTH, Outcome, Program, Spent, Store};
 use names::columns::FIRST_INPUT;
 use names::{Source, Word};
 use refusals::Refusal;
@@ -83,13 +83,16 @@ pub fn expression(
     // Stays: a match on the numbers of kinds and on no enum, since C reads the rows, and the row is lent with them.
     match row[0] {
         words::NUMERAL => {
-            let room = Room {
-                used: spent.used,
-                limit: program.limit,
-            };
-            let built = numeral(term.text, program.symbols, row[3], depth, store.words, room)?;
+            let built = numeral(
+                term.text,
+                program.symbols,
+                row[3],
+                depth,
+                store.words,
+                program.room(spent),
+            )?;
             Ok(Expressed {
-                outcome: outcome(built, spent),
+                outcome: Outcome::of_built(built, spent),
                 next: term.at + 1,
             })
         }

@@ -1,9 +1,10 @@
 // Calls of functions: the Rust's `Evaluator::call`.
+ghost use Rattle.std.specs.Prelude.{◌≡◌};
 ghost use Rattle.function_calls.specs.Calls.{CallAsked, CallAnswered, FollowAsked, Followed, PremiseAsked, PremiseAnswered, IsLent};
 
 use arena::{INPUTS, PATTERN_ROOM, arity_of};
 use clause_matching::{
-    Clauses, Pattern, Room, Values, bind, find_clause, instantiate, instantiate_arguments,
+    Built, Clauses, Pattern, Room, Values, bind, find_clause, instantiate, instantiate_arguments,
     pattern_at,
 };
 use names::SymbolRow;
@@ -33,6 +34,21 @@ pub struct Outcome {
     pub spent: Spent,
 }
 
+impl Outcome {
+    // The outcome where a value was built: no call was made for it.
+    pub fn of_built(built: Built, spent: Spent) -> Self
+        ensures { result ≡ record { value = built.value; spent = record { calls = spent.calls; used = built.used } } }
+    {
+        Outcome {
+            value: built.value,
+            spent: Spent {
+                used: built.used,
+                ..spent
+            },
+        }
+    }
+}
+
 // Where a call stands: its depth, and the height of its row among the trees.
 #[derive(Clone, Copy)]
 pub struct Level {
@@ -42,13 +58,24 @@ pub struct Level {
 
 // A program: its symbols, its rules, the words of their patterns, and how many words its values may take.
 // Stays: that it is in form says of each clause that there is a rule which it stores; a fact with "there is" can't stand in a ghost field.
-// Stays: a method for `Room { used, limit: program.limit }` would hold that one line, and each of its four callers' proofs would unfold its contract again.
 #[derive(Clone, Copy)]
 pub struct Program<'a> {
     pub symbols: &'a [SymbolRow],
     pub rules: &'a [RuleRow],
     pub pattern: &'a [u32],
     pub limit: u32,
+}
+
+impl Program<'_> {
+    // Where values are built once so much is spent.
+    pub fn room(self, spent: Spent) -> Room
+        ensures { result ≡ record { used = spent.used; limit = self.entry.limit } }
+    {
+        Room {
+            used: spent.used,
+            limit: self.limit,
+        }
+    }
 }
 
 // What an evaluation writes: the words of values, links for comparing them, a row of trees for each call, and a row of the stack for each node that is open.
@@ -82,17 +109,13 @@ fn premise(
     ensures lent { IsLent store.old store.new }
 {
     let count = (arity_of(header) - 1) as usize;
-    let room = Room {
-        used: spent.used,
-        limit: program.limit,
-    };
     let mut values = [0u32; INPUTS as usize];
     let before = instantiate_arguments(
         program.pattern,
         first,
         environment,
         store.words,
-        room,
+        program.room(spent),
         store.stack,
         &mut values[..count],
     )?;
@@ -156,27 +179,21 @@ fn follow(
         let outcome = premise(program, header, first, level, spent, environment, store)?;
         spent = outcome.spent;
     }
-    let room = Room {
-        used: spent.used,
-        limit: program.limit,
-    };
     let built = instantiate(
         program.pattern,
         program.rules[rule][CONCLUSION],
         environment,
         store.words,
-        room,
+        program.room(spent),
         store.stack,
     )?;
     store.trees[before.calls as usize] = tree_rows::row(level.height, rule as u32, built.value);
     let header = store.words[built.value as usize];
-    Ok(Outcome {
+    let result = Built {
         value: store.words[(built.value + arity_of(header)) as usize],
-        spent: Spent {
-            used: built.used,
-            ..spent
-        },
-    })
+        ..built
+    };
+    Ok(Outcome::of_built(result, spent))
 }
 
 // A call of the function `symbol` on values.

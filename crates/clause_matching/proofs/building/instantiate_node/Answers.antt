@@ -1,19 +1,22 @@
 -- `instantiate_node` meets its contract. The loop's invariant: going on from what is built and what is open comes to building the whole. What falls: the size of what
 -- is left of the pattern, then the open rows. A turn that takes an argument is two steps of the laws: it waits, and then it is put in or opened.
-use Prim.Native.Nat.{◌-◌}
+use Prim.Native.Nat.{◌+◌, ◌-◌, ◌≤◌}
 use mathlib.Core.List.{[], ◌∷◌}
 use Rattle.arena.specs.Copies.{pattern_room}
 use native.Mathlib.Omega.{arith}
-use mathlib.Core.Path.{refl}
+use mathlib.Core.Path.{◌≡◌, refl}
 use lib.ListN.{length-set}
 use Rattle.refusals.specs.Refused.{handed_on}
+use Rattle.clause_matching.proofs.PatternOf.{is_low, is_high}
 use Rattle.clause_matching.proofs.Variables.{held_is, held_none}
 use Rattle.clause_matching.proofs.BuildTurns.{turn_start, turn_lent, variable_unbound, less_value, turn_value, free_row, less_enter, turn_enter, turn_done, facts, less_next, turn_next, node_refused, push_room, turn_build}
 use Rattle.clause_matching.proofs.building.instantiate_node.Goals as goal
 
 pub loop-depth-init : goal.loop-depth-init
 loop-depth-init c =
-    (c.args.reference, turn_lent _ (length-set c.args.stack.now 0 ((c.args.reference - pattern_room) ∷ 0 ∷ c.args.room.limit ∷ [])) (turn_enter (turn_start c.requires.1) refl c.requires.0))
+    let high : pattern_room ≤ c.args.root + pattern_room = omega arith in
+    let same : c.args.root + pattern_room - pattern_room ≡ c.args.root = omega arith in
+    (c.args.root + pattern_room, turn_lent _ (length-set c.args.stack.now 0 (c.args.root ∷ 0 ∷ c.args.room.limit ∷ [])) (rw same at (turn_enter (turn_start c.requires) refl high)))
 
 pub bounds-stack-row : goal.bounds-stack-row
 bounds-stack-row c =
@@ -36,43 +39,48 @@ bounds-stack-row-then-taken-arity c =
     let o = c.if-taken-arity.true in
     omega arith
 
-pub returns-in_err-value : goal.returns-in_err-value
-returns-in_err-value c =
+pub returns-in_err-value-in-None : goal.returns-in_err-value-in-None
+returns-in_err-value-in-None c =
     let more = rw c.arity_of-arity.ensures at c.if-taken-arity.true in
-    let (z, e) = held_none c.value_of.ensures c.in_err-value.was in
+    let low = is_low _ c.checked_sub.ensures c.in-None.is in
+    let (z, e) = held_none c.value_of.ensures c.in_err-value-in-None.was in
     rw (handed_on c.from_residual.result c.from_residual.ensures.1, e)
-    (variable_unbound (turn_next c.loop-depth.invariant.1 refl c.loop-depth-test.true more) refl c.if-next-lt-PATTERN_ROOM.true z)
+    (variable_unbound (turn_next c.loop-depth.invariant.1 refl c.loop-depth-test.true more) refl low z)
 
-pub loop-depth-smaller-then-next-lt-PATTERN_ROOM : goal.loop-depth-smaller-then-next-lt-PATTERN_ROOM
-loop-depth-smaller-then-next-lt-PATTERN_ROOM c =
+pub loop-depth-smaller-in-None : goal.loop-depth-smaller-in-None
+loop-depth-smaller-in-None c =
     let more = rw c.arity_of-arity.ensures at c.if-taken-arity.true in
+    let low = is_low _ c.checked_sub.ensures c.in-None.is in
     let x = less_next c.loop-depth.invariant.1 refl c.loop-depth-test.true more in
-    let y = less_value (turn_next c.loop-depth.invariant.1 refl c.loop-depth-test.true more) refl c.if-next-lt-PATTERN_ROOM.true
-    (held_is c.value_of.ensures c.in_ok-value.was).0 in
+    let y = less_value (turn_next c.loop-depth.invariant.1 refl c.loop-depth-test.true more) refl low
+    (held_is c.value_of.ensures c.in_ok-value-in-None.was).0 in
     omega arith
 
-pub loop-depth-preserved-then-next-lt-PATTERN_ROOM : goal.loop-depth-preserved-then-next-lt-PATTERN_ROOM
-loop-depth-preserved-then-next-lt-PATTERN_ROOM c =
+pub loop-depth-preserved-in-None : goal.loop-depth-preserved-in-None
+loop-depth-preserved-in-None c =
     let more = rw c.arity_of-arity.ensures at c.if-taken-arity.true in
-    let (n, z) = held_is c.value_of.ensures c.in_ok-value.was in
-    rw z (_, turn_value (turn_next c.loop-depth.invariant.1 refl c.loop-depth-test.true more) refl c.if-next-lt-PATTERN_ROOM.true n)
+    let low = is_low _ c.checked_sub.ensures c.in-None.is in
+    let (n, z) = held_is c.value_of.ensures c.in_ok-value-in-None.was in
+    rw z (_, turn_value (turn_next c.loop-depth.invariant.1 refl c.loop-depth-test.true more) refl low n)
 
 pub bounds-stack-depth : goal.bounds-stack-depth
 bounds-stack-depth c =
     let more = rw c.arity_of-arity.ensures at c.if-taken-arity.true in
-    free_row (turn_next c.loop-depth.invariant.1 refl c.loop-depth-test.true more) refl c.if-next-lt-PATTERN_ROOM.false
+    free_row (turn_next c.loop-depth.invariant.1 refl c.loop-depth-test.true more) refl (is_high _ c.checked_sub.ensures c.in-Some.is).0
 
-pub loop-depth-smaller-else-next-lt-PATTERN_ROOM : goal.loop-depth-smaller-else-next-lt-PATTERN_ROOM
-loop-depth-smaller-else-next-lt-PATTERN_ROOM c =
+pub loop-depth-smaller-in-Some : goal.loop-depth-smaller-in-Some
+loop-depth-smaller-in-Some c =
     let more = rw c.arity_of-arity.ensures at c.if-taken-arity.true in
+    let (high, e) = is_high _ c.checked_sub.ensures c.in-Some.is in
     let x = less_next c.loop-depth.invariant.1 refl c.loop-depth-test.true more in
-    let y = less_enter (turn_next c.loop-depth.invariant.1 refl c.loop-depth-test.true more) refl c.if-next-lt-PATTERN_ROOM.false in
-    omega arith
+    let y = less_enter (turn_next c.loop-depth.invariant.1 refl c.loop-depth-test.true more) refl high in
+    rw e (omega arith)
 
-pub loop-depth-preserved-else-next-lt-PATTERN_ROOM : goal.loop-depth-preserved-else-next-lt-PATTERN_ROOM
-loop-depth-preserved-else-next-lt-PATTERN_ROOM c =
+pub loop-depth-preserved-in-Some : goal.loop-depth-preserved-in-Some
+loop-depth-preserved-in-Some c =
     let more = rw c.arity_of-arity.ensures at c.if-taken-arity.true in
-    (_, turn_enter (turn_next c.loop-depth.invariant.1 refl c.loop-depth-test.true more) refl c.if-next-lt-PATTERN_ROOM.false)
+    let (high, e) = is_high _ c.checked_sub.ensures c.in-Some.is in
+    rw e (_, turn_enter (turn_next c.loop-depth.invariant.1 refl c.loop-depth-test.true more) refl high)
 
 pub returns-then-room-spent : goal.returns-then-room-spent
 returns-then-room-spent c =

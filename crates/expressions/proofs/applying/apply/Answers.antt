@@ -12,7 +12,7 @@ returns-then-program-i-eq-FUNCTION-clause-answered c = called c.requires c.if-pr
 pub returns-in_err-built-clause-answered : goal.returns-in_err-built-clause-answered
 returns-in_err-built-clause-answered c =
     rw (handed_on c.from_residual.result c.from_residual.ensures.1)
-    (not_built c.requires c.if-program-i-eq-FUNCTION.false c.build.ensures c.in_err-built.was)
+    (not_built c.requires c.if-program-i-eq-FUNCTION.false (rw c.room.ensures at c.build.ensures) c.in_err-built.was)
 
 pub returns-clause-answered : goal.returns-clause-answered
-returns-clause-answered c = rw c.outcome.ensures (is_built c.requires c.if-program-i-eq-FUNCTION.false c.build.ensures c.in_ok-built.was)
+returns-clause-answered c = rw c.of_built.ensures (is_built c.requires c.if-program-i-eq-FUNCTION.false (rw c.room.ensures at c.build.ensures) c.in_ok-built.was)

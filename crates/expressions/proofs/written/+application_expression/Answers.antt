@@ -56,11 +56,11 @@ expression-bounds-term-term t c = inside c.requires
 pub expression-returns-in_err-built-in-14-clause-answered : goal.expression-returns-in_err-built-in-14-clause-answered
 expression-returns-in_err-built-in-14-clause-answered t c =
     rw (handed_on c.from_residual.result c.from_residual.ensures.1)
-    (number_refused c.requires c.if-depth-gt-MAX_DEPTH.false c.in-14.is c.numeral.ensures c.in_err-built-in-14.was)
+    (number_refused c.requires c.if-depth-gt-MAX_DEPTH.false c.in-14.is (rw c.room.ensures at c.numeral.ensures) c.in_err-built-in-14.was)
 
 pub expression-returns-in_ok-built-in-14-clause-answered : goal.expression-returns-in_ok-built-in-14-clause-answered
 expression-returns-in_ok-built-in-14-clause-answered t c =
-    rw c.outcome.ensures (number_built c.requires c.if-depth-gt-MAX_DEPTH.false c.in-14.is c.numeral.ensures c.in_ok-built-in-14.was)
+    rw c.of_built.ensures (number_built c.requires c.if-depth-gt-MAX_DEPTH.false c.in-14.is (rw c.room.ensures at c.numeral.ensures) c.in_ok-built-in-14.was)
 
 pub expression-returns-in-13-clause-answered : goal.expression-returns-in-13-clause-answered
 expression-returns-in-13-clause-answered t c = of_meta c.requires c.if-depth-gt-MAX_DEPTH.false c.in-13.is

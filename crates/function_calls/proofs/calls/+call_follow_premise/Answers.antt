@@ -72,44 +72,45 @@ follow-loop-reference-preserved t c =
     }
 
 pub follow-instantiate-requires : goal.follow-instantiate-requires
-follow-instantiate-requires t c = conclusion_asked c.loop-reference.invariant.turn (rw (c.premises-reference-items.ensures, part_long c.loop-reference.invariant.turn) at c.loop-reference-test.false)
+follow-instantiate-requires t c =
+    rw c.room.ensures (conclusion_asked c.loop-reference.invariant.turn (rw (c.premises-reference-items.ensures, part_long c.loop-reference.invariant.turn) at c.loop-reference-test.false))
 
 pub follow-bounds-store-built : goal.follow-bounds-store-built
 follow-bounds-store-built t c =
-    let (x, y, z) = result_inside c.loop-reference.invariant.turn (rw (c.premises-reference-items.ensures, part_long c.loop-reference.invariant.turn) at c.loop-reference-test.false) c.instantiate.ensures _ _ c.in_ok-built.was in omega arith
+    let (x, y, z) = result_inside c.loop-reference.invariant.turn (rw (c.premises-reference-items.ensures, part_long c.loop-reference.invariant.turn) at c.loop-reference-test.false) (rw c.room.ensures at c.instantiate.ensures) _ _ c.in_ok-built.was in omega arith
 
 pub follow-overflow_add-result : goal.follow-overflow_add-result
 follow-overflow_add-result t c =
-    let (x, y, z) = result_inside c.loop-reference.invariant.turn (rw (c.premises-reference-items.ensures, part_long c.loop-reference.invariant.turn) at c.loop-reference-test.false) c.instantiate.ensures _ _ c.in_ok-built.was in
+    let (x, y, z) = result_inside c.loop-reference.invariant.turn (rw (c.premises-reference-items.ensures, part_long c.loop-reference.invariant.turn) at c.loop-reference-test.false) (rw c.room.ensures at c.instantiate.ensures) _ _ c.in_ok-built.was in
     let e = c.arity_of.ensures in omega arith
 
 pub follow-bounds-store-built-2 : goal.follow-bounds-store-built-2
 follow-bounds-store-built-2 t c =
-    let (x, y, z) = result_inside c.loop-reference.invariant.turn (rw (c.premises-reference-items.ensures, part_long c.loop-reference.invariant.turn) at c.loop-reference-test.false) c.instantiate.ensures _ _ c.in_ok-built.was in
+    let (x, y, z) = result_inside c.loop-reference.invariant.turn (rw (c.premises-reference-items.ensures, part_long c.loop-reference.invariant.turn) at c.loop-reference-test.false) (rw c.room.ensures at c.instantiate.ensures) _ _ c.in_ok-built.was in
     let e = c.arity_of.ensures in omega arith
 
 pub follow-returns-in_err-built-clause-answered : goal.follow-returns-in_err-built-clause-answered
 follow-returns-in_err-built-clause-answered t c =
     rw (handed_on c.from_residual-in_err-built.result c.from_residual-in_err-built.ensures.1)
-    (conclusion_refused c.loop-reference.invariant.turn (rw (c.premises-reference-items.ensures, part_long c.loop-reference.invariant.turn) at c.loop-reference-test.false) c.instantiate.ensures _ c.in_err-built.was)
+    (conclusion_refused c.loop-reference.invariant.turn (rw (c.premises-reference-items.ensures, part_long c.loop-reference.invariant.turn) at c.loop-reference-test.false) (rw c.room.ensures at c.instantiate.ensures) _ c.in_err-built.was)
 
 pub follow-returns-clause-answered : goal.follow-returns-clause-answered
 follow-returns-clause-answered t c =
-    rw (c.row.ensures, c.arity_of.ensures)
-    (conclusion_built c.loop-reference.invariant.turn (rw (c.premises-reference-items.ensures, part_long c.loop-reference.invariant.turn) at c.loop-reference-test.false) c.instantiate.ensures _ _ c.in_ok-built.was)
+    rw (c.row.ensures, c.of_built.ensures, c.arity_of.ensures)
+    (conclusion_built c.loop-reference.invariant.turn (rw (c.premises-reference-items.ensures, part_long c.loop-reference.invariant.turn) at c.loop-reference-test.false) (rw c.room.ensures at c.instantiate.ensures) _ _ c.in_ok-built.was)
 
 pub premise-instantiate_arguments-requires : goal.premise-instantiate_arguments-requires
-premise-instantiate_arguments-requires t c = rw c.arity_of.ensures (part_asked c.requires _ refl)
+premise-instantiate_arguments-requires t c = rw (c.room.ensures, c.arity_of.ensures) (part_asked c.requires _ refl)
 
 pub premise-returns-in_err-before-clause-answered : goal.premise-returns-in_err-before-clause-answered
 premise-returns-in_err-before-clause-answered t c =
-    let a = part_whole c.requires _ refl (rw c.arity_of.ensures at c.instantiate_arguments.auto.values) (rw c.arity_of.ensures at c.instantiate_arguments.ensures) in
+    let a = part_whole c.requires _ refl (rw c.arity_of.ensures at c.instantiate_arguments.auto.values) (rw (c.room.ensures, c.arity_of.ensures) at c.instantiate_arguments.ensures) in
     rw (handed_on c.from_residual.result c.from_residual.ensures.1)
     (arguments_refused c.requires a _ c.in_err-before.was)
 
 pub premise-call-requires : goal.premise-call-requires
 premise-call-requires t c =
-    let a = part_whole c.requires _ refl (rw c.arity_of.ensures at c.instantiate_arguments.auto.values) (rw c.arity_of.ensures at c.instantiate_arguments.ensures) in
+    let a = part_whole c.requires _ refl (rw c.arity_of.ensures at c.instantiate_arguments.auto.values) (rw (c.room.ensures, c.arity_of.ensures) at c.instantiate_arguments.ensures) in
     let n = part_length c.requires _ _ refl (rw c.arity_of.ensures at c.instantiate_arguments.auto.values) in (
       let d = c.requires.deep in omega arith,
       rw (c.symbol_of-symbol.ensures, c.arity_of.ensures) (call_asked c.requires a _ c.in_ok-before.was n _ c.instantiate_arguments.auto.stack),
@@ -117,14 +118,14 @@ premise-call-requires t c =
 
 pub premise-returns-in_err-outcome-clause-answered : goal.premise-returns-in_err-outcome-clause-answered
 premise-returns-in_err-outcome-clause-answered t c =
-    let a = part_whole c.requires _ refl (rw c.arity_of.ensures at c.instantiate_arguments.auto.values) (rw c.arity_of.ensures at c.instantiate_arguments.ensures) in
+    let a = part_whole c.requires _ refl (rw c.arity_of.ensures at c.instantiate_arguments.auto.values) (rw (c.room.ensures, c.arity_of.ensures) at c.instantiate_arguments.ensures) in
     let n = part_length c.requires _ _ refl (rw c.arity_of.ensures at c.instantiate_arguments.auto.values) in
     rw (handed_on c.from_residual-in_err-outcome.result c.from_residual-in_err-outcome.ensures.1)
     (call_failed c.requires a _ c.in_ok-before.was n (rw (c.symbol_of-symbol.ensures, c.arity_of.ensures) at c.call.ensures.answered) _ c.in_err-outcome.was)
 
 pub premise-bind-requires : goal.premise-bind-requires
 premise-bind-requires t c =
-    let a = part_whole c.requires _ refl (rw c.arity_of.ensures at c.instantiate_arguments.auto.values) (rw c.arity_of.ensures at c.instantiate_arguments.ensures) in
+    let a = part_whole c.requires _ refl (rw c.arity_of.ensures at c.instantiate_arguments.auto.values) (rw (c.room.ensures, c.arity_of.ensures) at c.instantiate_arguments.ensures) in
     let n = part_length c.requires _ _ refl (rw c.arity_of.ensures at c.instantiate_arguments.auto.values) in
     rw c.arity_of.ensures
     (bind_asked c.requires a _ c.in_ok-before.was n (rw (c.symbol_of-symbol.ensures, c.arity_of.ensures) at c.call.ensures.answered) _ _ _ c.in_ok-outcome.was _
@@ -132,14 +133,14 @@ premise-bind-requires t c =
 
 pub premise-returns-then-not-bind-clause-answered : goal.premise-returns-then-not-bind-clause-answered
 premise-returns-then-not-bind-clause-answered t c =
-    let a = part_whole c.requires _ refl (rw c.arity_of.ensures at c.instantiate_arguments.auto.values) (rw c.arity_of.ensures at c.instantiate_arguments.ensures) in
+    let a = part_whole c.requires _ refl (rw c.arity_of.ensures at c.instantiate_arguments.auto.values) (rw (c.room.ensures, c.arity_of.ensures) at c.instantiate_arguments.ensures) in
     let n = part_length c.requires _ _ refl (rw c.arity_of.ensures at c.instantiate_arguments.auto.values) in
     result_failed c.requires a _ c.in_ok-before.was n (rw (c.symbol_of-symbol.ensures, c.arity_of.ensures) at c.call.ensures.answered) _ _ _ c.in_ok-outcome.was
     (rw c.arity_of.ensures at c.bind.ensures) c.if-not-bind.true
 
 pub premise-returns-clause-answered : goal.premise-returns-clause-answered
 premise-returns-clause-answered t c =
-    let a = part_whole c.requires _ refl (rw c.arity_of.ensures at c.instantiate_arguments.auto.values) (rw c.arity_of.ensures at c.instantiate_arguments.ensures) in
+    let a = part_whole c.requires _ refl (rw c.arity_of.ensures at c.instantiate_arguments.auto.values) (rw (c.room.ensures, c.arity_of.ensures) at c.instantiate_arguments.ensures) in
     let n = part_length c.requires _ _ refl (rw c.arity_of.ensures at c.instantiate_arguments.auto.values) in
     result_fitted c.requires a _ c.in_ok-before.was n (rw (c.symbol_of-symbol.ensures, c.arity_of.ensures) at c.call.ensures.answered) _ _ _ c.in_ok-outcome.was
     (rw c.arity_of.ensures at c.bind.ensures) c.if-not-bind.false
