@@ -6,10 +6,11 @@ use mathlib.Core.Bool.{Bool, true, false}
 use mathlib.Core.Logic.{◌⊎◌, inl, inr, ⊎_elim}
 use mathlib.Core.List.{List}
 use Rattle.std.proofs.Common.{max}
-use lib.ListN.{length, set, take, drop, length-set, length-drop}
-use lib.Seq.{ext_get_or, get_or-take, get_or-drop, length-take-le}
+use lib.ListN.{length, set, length-set}
+use lib.Seq.{ext_get_or}
 use Rattle.terms.specs.Numbers.{by_same, by_bool, true_false}
 use Rattle.arena.specs.Cells.{headers, cells, arity_of, denote, Reference, low_or_high, reference_up}
+use Rattle.arena.specs.Arguments.{arguments_in, arguments_long, argument_in}
 use Rattle.arena.specs.Form.{is_argument}
 use Rattle.arena.specs.FormLaws.{argument_reference, reference_accepted}
 use Rattle.arena.specs.Links.{Descending, Agrees, Each, Joined, Linkable, Arguments, Comparable, Settled}
@@ -27,21 +28,9 @@ reference_test room w nv used r h = reference_accepted (record { words = w; room
 test_reference : (room : ℕ) (w : List ℕ) (nv used r : ℕ) → test room w nv used r ≡ true → Reference room (cells w) nv used r
 test_reference room w nv used r e = argument_reference (record { words = w; room = room; variables = nv; from = 0 }) used r e
 
--- The n words behind the address a, where a node has its arguments.
-abbrev pub part : List ℕ → ℕ → ℕ → List ℕ
-part w a n = take (a + 1 + n - (a + 1)) (drop (a + 1) w)
-
-part_long : (w : List ℕ) (a n : ℕ) → a + n < length w → length (part w a n) ≡ n
-part_long w a n l =
-    let e : a + 1 + n - (a + 1) ≡ n = omega arith in
-    let d = length-drop (a + 1) w in
-    rw e (length-take-le n (drop (a + 1) w) (omega arith))
-
-part_cell : (w : List ℕ) (a n i : ℕ) → i < n → cells (part w a n) i ≡ cells w (a + suc i)
-part_cell w a n i l =
-    let e : a + 1 + n - (a + 1) ≡ n = omega arith in
-    let d : a + 1 + i ≡ a + suc i = omega arith in
-    rw e (get_or-take n (drop (a + 1) w) i 0 l) ∙ get_or-drop (a + 1) w i 0 ∙ ap (cells w) d
+-- The header of the node at the address `at`, read by its reference.
+pub header_at : (room : ℕ) (w : List ℕ) (at : ℕ) {x : ℕ} → x ≡ cells w (room + at - room) → x ≡ cells w at
+header_at room w at e = let d : room + at - room ≡ at = omega arith in rw d at e
 
 module _ (room : ℕ) (w L : List ℕ) (nv used at : ℕ) (h : Comparable room w L nv used) (in_use : at < used) where
   -- There is no link.
@@ -139,43 +128,44 @@ module _ (room : ℕ) (w L : List ℕ) (nv used at : ℕ) (h : Comparable room w
 
       -- The words of both nodes' arguments.
       abbrev firsts : List ℕ
-      firsts = part w at (arity_of (cells w at))
+      firsts = arguments_in w at
 
       abbrev seconds : List ℕ
-      seconds = part w b (arity_of (cells w at))
+      seconds = arguments_in w b
 
       pub first_in : at + arity_of (cells w at) < length w
       first_in = let p = h.formed.fits at in_use header_first in let k = h.words_in_lem in omega arith
 
-      pub second_in : b + arity_of (cells w at) < length w
-      second_in =
-          let s = lower in
-          let q : b + arity_of (cells w b) < used = h.formed.fits b (omega arith) header_second in
-          let q' : b + arity_of (cells w at) < used = rw e q in
-          let k = h.words_in_lem in
-          omega arith
+      pub second_in : b + arity_of (cells w b) < length w
+      second_in = let s = lower in let q = h.formed.fits b (omega arith) header_second in let k = h.words_in_lem in omega arith
+
+      first_cell : {i : ℕ} → i < arity_of (cells w at) → cells firsts i ≡ cells w (at + suc i)
+      first_cell {i} l = let d : suc at + i ≡ at + suc i = omega arith in argument_in w at i l ∙ ap (cells w) d
+
+      second_cell : {i : ℕ} → i < arity_of (cells w at) → cells seconds i ≡ cells w (b + suc i)
+      second_cell {i} l = let d : suc b + i ≡ b + suc i = omega arith in argument_in w b i (rw e at l) ∙ ap (cells w) d
 
       pub arguments_linkable : Arguments room firsts seconds (set L at 0)
       arguments_linkable =
           let s = lower in
           let c = h.scratch in
           let m = length-set L at 0 in
-          let n = part_long w at (arity_of (cells w at)) first_in in
+          let n = arguments_long w at first_in in
           record {
             form = gone_form;
-            like = n ∙ sym (part_long w b (arity_of (cells w at)) second_in);
+            like = n ∙ ap arity_of e ∙ sym (arguments_long w b second_in);
             lefts = λ i l. let k : i < arity_of (cells w at) = omega arith in
-                rw (part_cell w at (arity_of (cells w at)) i k) (⊎_elim (λ v. omega arith) (λ v. omega arith) (under (cells w (at + suc i)) at (argument_first i k)));
+                rw (first_cell k) (⊎_elim (λ v. omega arith) (λ v. omega arith) (under (cells w (at + suc i)) at (argument_first i k)));
             rights = λ i l. let k : i < arity_of (cells w at) = omega arith in
-                rw (part_cell w b (arity_of (cells w at)) i k) (⊎_elim (λ v. omega arith) (λ v. omega arith) (under (cells w (b + suc i)) b (argument_second i k)));
+                rw (second_cell k) (⊎_elim (λ v. omega arith) (λ v. omega arith) (under (cells w (b + suc i)) b (argument_second i k)));
           }
 
       module _ (L' : List ℕ) (low low' : ℕ) (r : Bool) (parts : Joined room (set L at 0) L' (length firsts) (cells firsts) (cells seconds) low low' r) where
         j : Joined room (set L at 0) L' (arity_of (cells w at)) (λ i. cells w (at + suc i)) (λ i. cells w (b + suc i)) low low' r
         j = joined_same room (set L at 0) (cells firsts) (cells seconds) (λ i. cells w (at + suc i)) (λ i. cells w (b + suc i)) L' (arity_of (cells w at)) low low' r
-            (λ i k. part_cell w at (arity_of (cells w at)) i k)
-            (λ i k. part_cell w b (arity_of (cells w at)) i k)
-            (rw (part_long w at (arity_of (cells w at)) first_in) at parts)
+            (λ i k. first_cell k)
+            (λ i k. second_cell k)
+            (rw (arguments_long w at first_in) at parts)
 
         joined_above : (i : ℕ) → at ≤ i → cells L' i ≡ cells (set L at 0) i
         joined_above i l = j.above (room + at)

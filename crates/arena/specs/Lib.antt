@@ -1,5 +1,6 @@
 -- Stored terms, in reading order.
 pub mod Cells
+pub mod Arguments
 pub mod Rows
 pub mod NodeLaws
 pub mod Copies

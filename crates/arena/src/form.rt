@@ -53,10 +53,9 @@ pub fn is_argument(terms: Terms, from: u32, word: u32) -> bool
     ensures { result ≡ is_argument (record { words = terms.entry.words.now; room = terms.entry.room; variables = terms.entry.variables; from = from })
         terms.entry.used word }
 {
-    if word < terms.room {
+    let Some(address) = word.checked_sub(terms.room) else {
         return word < terms.variables;
-    }
-    let address = word - terms.room;
+    };
     if address < from {
         return false;
     }

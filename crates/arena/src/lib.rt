@@ -12,6 +12,7 @@ mod links; // nodes that have to denote the same term
 ghost use Rattle.std.specs.Prelude.{◌≡◌, suc, ◌∷◌, ◌+◌, ◌-◌, ◌<◌, ◌≤◌, length};
 ghost use Rattle.std.proofs.lemmas.List.Edits.{sets};
 ghost use Rattle.arena.specs.Cells.{headers, cells, arity_of};
+ghost use Rattle.arena.specs.Arguments.{arguments_in};
 ghost use Rattle.arena.specs.Copies.{copied, Copyable};
 ghost use Rattle.arena.specs.Form.{in_form};
 ghost use Rattle.arena.specs.Equality.{Ready, Compared};
@@ -32,7 +33,7 @@ pub struct Terms<'a> {
     pub used: u32,
 }
 
-impl Terms<'_> {
+impl<'a> Terms<'a> {
     // The header of the node r.
     pub fn header(self, r: u32) -> u32
         requires { (self.room ≤ r) × (r - self.room < length self.words.now) }
@@ -55,6 +56,15 @@ impl Terms<'_> {
         ensures { result ≡ cells self.entry.words.now (suc (r - self.entry.room) + i) }
     {
         self.words[(r - self.room) as usize + 1 + i as usize]
+    }
+
+    // The arguments of the node r.
+    pub fn arguments(self, r: u32) -> &'a [u32]
+        requires { (self.room ≤ r) × (r - self.room + arity_of (cells self.words.now (r - self.room)) < length self.words.now) }
+        ensures { result.now ≡ arguments_in self.entry.words.now (r - self.entry.room) }
+    {
+        let first = (r - self.room) as usize + 1;
+        &self.words[first..first + self.arity(r) as usize]
     }
 }
 

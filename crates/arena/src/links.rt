@@ -4,7 +4,6 @@ ghost use Rattle.arena.specs.Cells.{headers, cells};
 ghost use Rattle.arena.specs.Links.{Linkable, Arguments, Comparable, Joined, Settled};
 
 use super::Terms;
-use super::form::arity_of;
 
 // Whether what was linked so far can be the same, and an address below which there are no links.
 // Stays: `low` is read where `same` is false too, since the links that are left have to be cleared.
@@ -71,19 +70,16 @@ pub fn settle(terms: Terms, links: &mut [u32], at: u32, linked: Linked) -> Linke
     requires fact_2 { at < terms.used }
     ensures { Settled terms.entry.room terms.entry.words.now links.old links.new terms.entry.variables terms.entry.used at linked.same linked.low result.low result.same }
 {
-    let i = at as usize;
-    let Some(next) = links[i].checked_sub(1) else {
+    let Some(next) = links[at as usize].checked_sub(1) else {
         return linked;
     };
-    links[i] = 0;
+    links[at as usize] = 0;
     let low = linked.low;
     if linked.same {
-        let other = (next - terms.room) as usize;
-        let header = terms.words[i];
-        if header == terms.words[other] {
-            let count = arity_of(header) as usize;
-            let left = &terms.words[i + 1..i + 1 + count];
-            let right = &terms.words[other + 1..other + 1 + count];
+        let node = terms.room + at;
+        if terms.header(node) == terms.header(next) {
+            let left = terms.arguments(node);
+            let right = terms.arguments(next);
             return link_arguments(links, terms.room, left, right, low);
         }
     }
