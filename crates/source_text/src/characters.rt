@@ -1,6 +1,6 @@
 // The character test: the class and the byte length of the character at a place.
 ghost use Rattle.std.specs.Prelude.{◌≡◌, ◌<◌, length, drop};
-ghost use Rattle.source_text.specs.Characters.{class_number, class_numbers, classed_of, class_of, class_table, character_of, has_outside};
+ghost use Rattle.source_text.specs.Characters.{class_number, classed_of, class_of, character_of, has_outside};
 
 use super::bytes::starts_with;
 use super::utf8::character_length;
@@ -19,9 +19,9 @@ pub enum Class {
     Outside,
 }
 
-// The class of each of the 128 ASCII codes.
+// The class of each of the 128 ASCII codes, as a static, since a constant is laid out anew wherever it is named.
 // Stays: a `match` on ranges of codes was tried: it is proved, but lexing 60,000 bytes of declarations takes 565 us in place of 273.
-const CLASS: [Class; 128] = [
+static CLASS: [Class; 128] = [
     Class::Stray, // 0
     Class::Stray, // 1
     Class::Stray, // 2
@@ -162,69 +162,55 @@ pub struct Character {
     pub length: usize,
 }
 
-// The class table, which is lent to the loops that read it, since a constant is laid out anew wherever it is named.
-#[derive(Clone, Copy)]
-pub struct Classes {
-    codes: [Class; 128],
-    ghost table: { class_numbers codes ≡ class_table },
+// The class of an ASCII code.
+fn class_of(c: u8) -> Class
+    requires { c < 128 }
+    ensures { class_number result ≡ class_of c }
+{
+    CLASS[c as usize]
 }
 
-impl Classes {
-    // The table.
-    pub fn new() -> Self {
-        Classes { codes: CLASS }
+// The character at a place of a text; past the end, a stray one of no length.
+// Stays: each caller goes through the places of a text: it would cut the text at each, and unwrap an `Option` where there is always a character.
+pub fn character_at(text: &[u8], at: usize) -> Character
+    ensures { classed_of result ≡ character_of (drop at text.now) }
+{
+    if text.len() <= at {
+        return Character {
+            class: Class::Stray,
+            length: 0,
+        };
     }
+    let c = text[at];
+    if c < 128 {
+        return Character {
+            class: class_of(c),
+            length: 1,
+        };
+    }
+    if starts_with(&text[at..], &UNICODE_ARROW) {
+        return Character {
+            class: Class::Sign,
+            length: 3,
+        };
+    }
+    Character {
+        class: Class::Outside,
+        length: character_length(&text[at..]).unwrap_or(0),
+    }
+}
 
-    // The class of an ASCII code.
-    fn class_of(&self, c: u8) -> Class
-        requires { c < 128 }
-        ensures { class_number result ≡ class_of c }
-    {
-        self.codes[c as usize]
+// Has a line a character outside the domain?
+pub fn has_outside(line: &[u8]) -> bool
+    ensures { result ≡ has_outside line.now }
+{
+    let mut at = 0;
+    while at < line.len() {
+        let c = character_at(line, at);
+        if let Class::Outside = c.class {
+            return true;
+        }
+        at += c.length;
     }
-
-    // The character at a place of a text; past the end, a stray one of no length.
-    // Stays: each caller goes through the places of a text: it would cut the text at each, and unwrap an `Option` where there is always a character.
-    pub fn character_at(&self, text: &[u8], at: usize) -> Character
-        ensures { classed_of result ≡ character_of (drop at text.now) }
-    {
-        if text.len() <= at {
-            return Character {
-                class: Class::Stray,
-                length: 0,
-            };
-        }
-        let c = text[at];
-        if c < 128 {
-            return Character {
-                class: self.class_of(c),
-                length: 1,
-            };
-        }
-        if starts_with(&text[at..], &UNICODE_ARROW) {
-            return Character {
-                class: Class::Sign,
-                length: 3,
-            };
-        }
-        Character {
-            class: Class::Outside,
-            length: character_length(&text[at..]).unwrap_or(0),
-        }
-    }
-
-    // Has a line a character outside the domain?
-    pub fn has_outside(&self, line: &[u8]) -> bool
-        ensures { result ≡ has_outside line.now }
-    {
-        let mut at = 0;
-        while at < line.len() {
-            let c = self.character_at(line, at);
-            if let Class::Outside = c.class {
-                return true;
-            }
-            at += c.length;
-        }
-        false
-    }
+    false
 }

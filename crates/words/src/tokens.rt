@@ -10,7 +10,7 @@ ghost use Rattle.words.specs.Tokens.{is_word, word_of, item_of, read_after, read
 use super::names::word_item;
 use super::signs::sign_item;
 use refusals::{Refusal, Rejection};
-use source_text::characters::{Class, Classes};
+use source_text::characters::{Class, character_at, has_outside};
 use source_text::lines::{Code, Lines};
 
 pub type Row = [u32; 4];
@@ -24,12 +24,12 @@ pub struct Lexeme {
 
 // The place past the word that starts at a place.
 // Stays: tokens are told by their places in the line, here and in `item_at`; a rest would be cut off at each place.
-fn word_end(classes: &Classes, line: &[u8], at: usize) -> usize
+fn word_end(line: &[u8], at: usize) -> usize
     requires { at ≤ length line.now }
     ensures { result ≡ at + length (word_of (drop at line.now)) }
 {
     (at..line.len())
-        .find(|i| !in_word(classes.character_at(line, *i).class))
+        .find(|i| !in_word(character_at(line, *i).class))
         .unwrap_or(line.len())
 }
 
@@ -41,14 +41,14 @@ fn in_word(class: Class) -> bool
 }
 
 // What stands at a place of a line: a token, or nothing at a blank.
-fn item_at(classes: &Classes, line: &[u8], at: usize) -> Result<Option<Lexeme>, Refusal>
+fn item_at(line: &[u8], at: usize) -> Result<Option<Lexeme>, Refusal>
     requires { at < length line.now }
     ensures { item result ≡ item_of (drop at line.now) }
 {
-    match classes.character_at(line, at).class {
+    match character_at(line, at).class {
         Class::Blank => Ok(None),
         Class::Letter | Class::Digit => {
-            let end = word_end(classes, line, at);
+            let end = word_end(line, at);
             Ok(Some(word_item(&line[at..end])?))
         }
         Class::Sign => Ok(Some(sign_item(&line[at..])?)),
@@ -57,7 +57,7 @@ fn item_at(classes: &Classes, line: &[u8], at: usize) -> Result<Option<Lexeme>, 
 }
 
 // Reads the code of a line; its tokens go to the rows from 0 on.
-fn read_code(classes: &Classes, code: Code, rows: &mut [Row]) -> Result<usize, Rejection>
+fn read_code(code: Code, rows: &mut [Row]) -> Result<usize, Rejection>
     requires { Room code.bytes.now code.start rows.old }
     ensures { Read (read_after code.entry.bytes.now 0 code.entry.start code.entry.line) (length code.entry.bytes.now) 0 rows.old result rows.new }
 {
@@ -66,7 +66,7 @@ fn read_code(classes: &Classes, code: Code, rows: &mut [Row]) -> Result<usize, R
     let mut n = 0;
     // Stays: a step is as long as a token, and one byte only at a blank.
     while at < bytes.len() {
-        let item = item_at(classes, bytes, at).map_err(|refusal| Rejection { refusal, line })?;
+        let item = item_at(bytes, at).map_err(|refusal| Rejection { refusal, line })?;
         match item {
             None => {
                 at += 1;
@@ -86,11 +86,10 @@ pub fn read_lines(text: &[u8], rows: &mut [Row]) -> Result<usize, Rejection>
     requires { (length text.now ≤ 65536) × (length text.now ≤ length rows.old) }
     ensures { Read (read_lines (lines text.now) 0 1) (length text.now) 0 rows.old result rows.new }
 {
-    let classes = Classes::new();
     let mut lines = Lines::new(text);
     let mut count = 0;
     while let Some(code) = lines.next() {
-        let read = read_code(&classes, code, &mut rows[count..])?;
+        let read = read_code(code, &mut rows[count..])?;
         count += read;
     }
     Ok(count)
@@ -101,10 +100,9 @@ pub fn outside_line(text: &[u8]) -> Option<u32>
     requires { length text.now ≤ 65536 }
     ensures { result ≡ positive (outside_line (lines text.now) 1) }
 {
-    let classes = Classes::new();
     let mut lines = Lines::new(text);
     while let Some(code) = lines.next() {
-        if classes.has_outside(code.bytes) {
+        if has_outside(code.bytes) {
             return Some(code.line);
         }
     }

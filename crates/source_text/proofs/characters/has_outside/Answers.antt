@@ -4,7 +4,7 @@ use Rattle.source_text.specs.Characters.{class_number, classed_of, has_outside}
 use Rattle.source_text.proofs.Encodings.{outside_number, inside_at, outside_next, outside_here, outside_end}
 use borrow.Author.Rules.{rules}
 use native.Mathlib.Omega.{arith}
-use Rattle.source_text.proofs.characters.Classes.has_outside.Goals as goal
+use Rattle.source_text.proofs.characters.has_outside.Goals as goal
 
 pub loop-at-init : goal.loop-at-init
 unfolding has_outside

@@ -7,7 +7,7 @@ use Rattle.std.proofs.lemmas.List.{take_all}
 use Rattle.source_text.specs.Bytes.{starts_with}
 use Rattle.source_text.specs.Utf8.{positive, character_length}
 use Rattle.source_text.proofs.Encodings.{positive_or, character_past, character_ascii, character_wide}
-use Rattle.source_text.proofs.characters.Classes.character_at.Goals as goal
+use Rattle.source_text.proofs.characters.character_at.Goals as goal
 
 pub returns-then-text-at : goal.returns-then-text-at
 returns-then-text-at c = sym (character_past _ _ c.if-text-at.true)
