@@ -1,6 +1,7 @@
 -- Stored terms, in reading order.
 pub mod Cells
 pub mod Rows
+pub mod ArgumentLaws
 pub mod NodeLaws
 pub mod Copies
 pub mod CopyLaws
