@@ -2,11 +2,13 @@
 -- variable denotes another term than any other reference.
 use Rattle.std.specs.Prelude.{ℕ, zero, suc, ◌+◌, ◌-◌, ◌≤◌, ◌<◌, ◌≡◌, refl, Bool, true, false, ◌&&◌}
 use Rattle.std.proofs.Common.{arith, not-suc-le-zero, sym, ap, ap₂, ◌∙◌, subst, ⊎_elim}
+use Rattle.std.proofs.lemmas.Bool.{and_parts}
 use Rattle.terms.specs.Numbers.{same, same_refl, same_true, by_bool, true_false}
 use Rattle.terms.specs.Term.{Kind, Syn, Term, var, app, nil, cons, count}
 use Rattle.arena.specs.Equality.{alike}
 use Rattle.terms.specs.TermLaws.{app_inj, cons_inj, var_inj, var_app}
 use Rattle.arena.specs.Cells.{headers, Cells, symbol_of, arity_of, args, denote, Reference, WellFormed, low_or_high, decode_node, denote_node, denote_variable}
+use Rattle.arena.specs.ArgumentLaws.{count_args}
 
 -- The test.
 alike_refl : {s : Kind} (t : Syn s) → alike t t ≡ true
@@ -18,19 +20,15 @@ alike_refl (cons t ts) = rw (alike_refl t, alike_refl ts)
 pub alike_same : {s : Kind} (t u : Syn s) → t ≡ u → alike t u ≡ true
 alike_same t u e = subst (λ v. alike t v ≡ true) e (alike_refl t)
 
-both : (a b : Bool) → (a && b) ≡ true → (a ≡ true) × (b ≡ true)
-both true b e = (refl, e)
-both false b e = true_false e refl
-
 pub alike_true : {s : Kind} (t u : Syn s) → alike t u ≡ true → t ≡ u
 alike_true (var x) (var y) e = ap var (same_true e)
 alike_true (var x) (app g us) e = true_false e refl
 alike_true (app f ts) (var y) e = true_false e refl
-alike_true (app f ts) (app g us) e = let k = both (same f g) (alike ts us) e in ap₂ app (same_true k.0) (alike_true ts us k.1)
+alike_true (app f ts) (app g us) e = let k = and_parts (same f g) (alike ts us) e in ap₂ app (same_true k.0) (alike_true ts us k.1)
 alike_true nil nil e = refl
 alike_true nil (cons u us) e = true_false e refl
 alike_true (cons t ts) nil e = true_false e refl
-alike_true (cons t ts) (cons u us) e = let k = both (alike t u) (alike ts us) e in ap₂ cons (alike_true t u k.0) (alike_true ts us k.1)
+alike_true (cons t ts) (cons u us) e = let k = and_parts (alike t u) (alike ts us) e in ap₂ cons (alike_true t u k.0) (alike_true ts us k.1)
 
 pub alike_not : {s : Kind} (t u : Syn s) → (t ≡ u → ⊥) → alike t u ≡ false
 alike_not t u n = by_bool (alike t u) (λ e. absurd (n (alike_true t u e))) (λ e. e)
@@ -57,10 +55,6 @@ equal_args g w p q (suc n) e (suc i) l =
     let d : p + suc i ≡ suc p + i = omega arith in
     let d' : q + suc i ≡ suc q + i = omega arith in
     rw (d, d') (equal_args g w (suc p) (suc q) n (cons_inj (g (w p)) (g (w q)) (args g w (suc p) n) (args g w (suc q) n) e).1 i (omega arith))
-
-count_args : (g : ℕ → Term) (w : Cells) (p n : ℕ) → count (args g w p n) ≡ n
-count_args g w p zero = refl
-count_args g w p (suc n) = ap suc (count_args g w (suc p) n)
 
 pub variable_apart : (N : ℕ) (w : Cells) (p q : ℕ) → q < N → q < p → denote N w p ≡ denote N w q → ⊥
 unfolding denote

@@ -8,6 +8,8 @@ use Rattle.std.proofs.Math.ListN.{length}
 use Rattle.std.proofs.lemmas.List.Edits.{sets, sets-eq}
 use Rattle.std.proofs.Math.Seq.{slice, length-slice, get_or-take, get_or-drop}
 use Rattle.std.proofs.lemmas.List.{drop-append-le}
+use Rattle.std.proofs.lemmas.Bool.{and_parts}
+use Rattle.std.specs.Cmp.Derive.{both_true}
 use Rattle.terms.specs.Numbers.{true_false}
 use Rattle.arena.specs.Cells.{arity_of, Reference, WellFormed, Same, reference_up, cells}
 use Rattle.arena.specs.NodeLaws.{sets_below, reference_same}
@@ -16,13 +18,6 @@ use Rattle.arena.specs.CopyLaws.{moved_header, copied_length, inst_reference_bel
 use Rattle.arena.specs.Form.{is_header, Place, is_argument, nodes, in_form}
 use Rattle.arena.specs.FormLaws.{header_accepted, argument_reference, argument_from, reference_accepted}
 
-and_both : {a b : Bool} → a ≡ true → b ≡ true → (a && b) ≡ true
-and_both p q = rw (p, q)
-
-and_split : (a b : Bool) → (a && b) ≡ true → (a ≡ true) × (b ≡ true)
-and_split true b e = (refl, e)
-and_split false b e = true_false e refl
-
 -- Nodes behind nodes.
 nodes_append : (p : Place) (arities xs ys : List ℕ) (at node left node' : ℕ) → nodes p arities xs at node left ≡ true
     → nodes p arities ys (at + length xs) node' 0 ≡ true → nodes p arities (xs ++ ys) at node left ≡ true
@@ -30,13 +25,13 @@ nodes_append p arities [] [] at node zero node' e f = refl
 nodes_append p arities [] (y ∷ ys) at node zero node' e f = let d : at + 0 ≡ at = omega arith in rw d at f
 nodes_append p arities [] ys at node (suc left) node' e f = true_false e refl
 nodes_append p arities (x ∷ xs) ys at node zero node' e f =
-    let k = and_split (is_header arities x) (nodes p arities xs (suc at) at (arity_of x)) e in
+    let k = and_parts (is_header arities x) (nodes p arities xs (suc at) at (arity_of x)) e in
     let d : at + suc (length xs) ≡ suc at + length xs = omega arith in
-    and_both k.0 (nodes_append p arities xs ys (suc at) at (arity_of x) node' k.1 (rw d at f))
+    both_true k.0 (nodes_append p arities xs ys (suc at) at (arity_of x) node' k.1 (rw d at f))
 nodes_append p arities (x ∷ xs) ys at node (suc left) node' e f =
-    let k = and_split (is_argument p node x) (nodes p arities xs (suc at) node left) e in
+    let k = and_parts (is_argument p node x) (nodes p arities xs (suc at) node left) e in
     let d : at + suc (length xs) ≡ suc at + length xs = omega arith in
-    and_both k.0 (nodes_append p arities xs ys (suc at) node left node' k.1 (rw d at f))
+    both_true k.0 (nodes_append p arities xs ys (suc at) node left node' k.1 (rw d at f))
 
 -- What arguments are tested against.
 abbrev pub place : List ℕ → ℕ → ℕ → ℕ → Place
@@ -55,16 +50,16 @@ module _ (room from nv nv' top : ℕ) (more : nv ≤ nv') (w w' : List ℕ) (s :
   nodes_kept [] at node zero l b e = refl
   nodes_kept [] at node (suc left) l b e = true_false e refl
   nodes_kept (x ∷ xs) at node zero l b e =
-      let k = and_split (is_header arities x) (nodes (place w room nv from) arities xs (suc at) at (arity_of x)) e in
-      and_both k.0 (nodes_kept xs (suc at) at (arity_of x) (omega arith) (omega arith) k.1)
+      let k = and_parts (is_header arities x) (nodes (place w room nv from) arities xs (suc at) at (arity_of x)) e in
+      both_true k.0 (nodes_kept xs (suc at) at (arity_of x) (omega arith) (omega arith) k.1)
   nodes_kept (x ∷ xs) at node (suc left) l b e =
-      let k = and_split (is_argument (place w room nv from) node x) (nodes (place w room nv from) arities xs (suc at) node left) e in
-      and_both (argument_kept node x (omega arith) k.0) (nodes_kept xs (suc at) node left (omega arith) (omega arith) k.1)
+      let k = and_parts (is_argument (place w room nv from) node x) (nodes (place w room nv from) arities xs (suc at) node left) e in
+      both_true (argument_kept node x (omega arith) k.0) (nodes_kept xs (suc at) node left (omega arith) (omega arith) k.1)
 
 nodes_arguments : (p : Place) (arities xs : List ℕ) (at node : ℕ) → ((i : ℕ) → i < length xs → is_argument p node (get_or xs i 0) ≡ true)
     → nodes p arities xs at node (length xs) ≡ true
 nodes_arguments p arities [] at node h = refl
-nodes_arguments p arities (x ∷ xs) at node h = and_both (h 0 (omega arith)) (nodes_arguments p arities xs (suc at) node (λ i l. h (suc i) (omega arith)))
+nodes_arguments p arities (x ∷ xs) at node h = both_true (h 0 (omega arith)) (nodes_arguments p arities xs (suc at) node (λ i l. h (suc i) (omega arith)))
 
 -- Words that agree below the address `used` are in form alike, also with more variables: so what lies past `used` may be given up or written again.
 pub form_same : (w w' : List ℕ) (from used room nv nv' : ℕ) (arities : List ℕ) → from ≤ used → used ≤ length w → used ≤ length w' → nv ≤ nv' → Same room (cells w) (cells w') used
@@ -107,7 +102,7 @@ push_form w from used room nv h xs arities order space form header arity ok =
     let t : nodes (place w' room nv from) arities xs (suc used) used (length xs) ≡ true =
     nodes_arguments (place w' room nv from) arities xs (suc used) used (λ i l.
     argument_kept room from nv nv used (omega arith) w w' (λ i l. sym (sets_below (h ∷ xs) w used i l)) arities used (get_or xs i 0) (omega arith) (ok i l)) in
-    form_written w (h ∷ xs) from used order space room nv nv used arities (omega arith) form (and_both header (rw arity t))
+    form_written w (h ∷ xs) from used order space room nv nv used arities (omega arith) form (both_true header (rw arity t))
 
 -- A part of the pattern's words, accepted and copied by `inst`.
 module _ (pattern : List ℕ) (from count : ℕ) (places words : List ℕ) (room used counter k nv nv' : ℕ) (asked : Copyable pattern from count places words room used counter)
@@ -139,16 +134,16 @@ module _ (pattern : List ℕ) (from count : ℕ) (places words : List ℕ) (room
   nodes_moved [] at node zero l m b s e = refl
   nodes_moved [] at node (suc left) l m b s e = true_false e refl
   nodes_moved (x ∷ rest) at node zero l m b s e =
-      let t = and_split (is_header arities x) (nodes (place pattern pattern_room k from) arities rest (suc at) at (arity_of x)) e in
+      let t = and_parts (is_header arities x) (nodes (place pattern pattern_room k from) arities rest (suc at) at (arity_of x)) e in
       let h = (header_accepted arities x t.0).high in
       let q : move x ≡ x = moved_header places counter (pattern_room + from) (room + used) x h in
       let d : used + (suc at - from) ≡ suc (used + (at - from)) = omega arith in
       let n : nodes (place result room nv' 0) arities (map move rest) (used + (suc at - from)) (used + (at - from)) (arity_of x) ≡ true =
       nodes_moved rest (suc at) at (arity_of x) (omega arith) (omega arith) (omega arith) (λ i v. let c : at + suc i ≡ suc at + i = omega arith in
       let s₁ : get_or rest i 0 ≡ get_or pattern (at + suc i) 0 = s (suc i) (omega arith) in rw c at s₁) t.1 in
-      rw q (and_both t.0 (rw d at n))
+      rw q (both_true t.0 (rw d at n))
   nodes_moved (x ∷ rest) at node (suc left) l m b s e =
-      let t = and_split (is_argument (place pattern pattern_room k from) node x) (nodes (place pattern pattern_room k from) arities rest (suc at) node left) e in
+      let t = and_parts (is_argument (place pattern pattern_room k from) node x) (nodes (place pattern pattern_room k from) arities rest (suc at) node left) e in
       let c₀ : at + 0 ≡ from + (at - from) = omega arith in
       let x₀ : x ≡ get_or pattern (at + 0) 0 = s 0 (omega arith) in
       let x₁ : x ≡ get_or pattern (from + (at - from)) 0 = rw c₀ at x₀ in
@@ -158,7 +153,7 @@ module _ (pattern : List ℕ) (from count : ℕ) (places words : List ℕ) (room
       let n : nodes (place result room nv' 0) arities (map move rest) (used + (suc at - from)) (used + (node - from)) left ≡ true =
       nodes_moved rest (suc at) node left l (omega arith) (omega arith) (λ i v. let c : at + suc i ≡ suc at + i = omega arith in
       let s₁ : get_or rest i 0 ≡ get_or pattern (at + suc i) 0 = s (suc i) (omega arith) in rw c at s₁) t.1 in
-      and_both a (rw d at n)
+      both_true a (rw d at n)
 
   -- The words that the copy is written behind stay in form with it.
   pub inst_form : in_form words 0 used room nv arities ≡ true → in_form pattern from (from + count) pattern_room k arities ≡ true

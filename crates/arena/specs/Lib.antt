@@ -2,6 +2,7 @@
 pub mod Cells
 pub mod Arguments
 pub mod Rows
+pub mod ArgumentLaws
 pub mod NodeLaws
 pub mod Copies
 pub mod CopyLaws
