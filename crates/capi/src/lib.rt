@@ -21,6 +21,7 @@ use evaluator::Buffers;
 use names::Source;
 use prover::Query;
 use refusals::{Refusal, Rejection};
+use search_machine::Store;
 use sessions::Verdict;
 use signature::StoredSignature;
 use unifier::Workspace;
@@ -456,10 +457,16 @@ pub fn horn_prove(
         steps,
         depth,
     };
+    let mut store = Store {
+        words,
+        bindings,
+        links,
+        marks,
+        stack,
+        frames: proof,
+    };
     let used = session_counts(session);
-    let answer = prover::prove(
-        query, names, words, bindings, used, links, marks, stack, proof,
-    );
+    let answer = prover::prove(query, names, &mut store, used);
     tell_answer(results, answer)
 }
 

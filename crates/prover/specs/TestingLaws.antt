@@ -15,9 +15,7 @@ use Rattle.session_check.specs.ReadyLaws.{ready_part, part_ready, symbols_there_
 use Rattle.sessions.specs.Storage.{SessionStore, Workspace}
 use Rattle.sessions.specs.Promises.{Asked, Given, ProveReady, Proving}
 use Rattle.sessions.specs.declared.SessionCounts.{SessionCounts}
-use Rattle.search_machine.specs.declared.Store.{Store}
-use Rattle.sessions.specs.Answers.{Answer, Refused}
-use Rattle.prover.specs.Queries.{given_of, given_in}
+use Rattle.sessions.specs.Answers.{Refused}
 use Rattle.prover.specs.Proving.{ProveLeft, call_of, ReadyTold}
 
 abbrev SignatureTold : List ℕ → SignatureStore → Bool → Type 0
@@ -119,9 +117,3 @@ module _ {sg : SignatureStore} {text : List ℕ} {limits : Limits} {rows : Rows}
   prove_ready e {g} f =
       let left = subst (λ (m : Rows). ProveLeft sg (call m) b n g) told.kept f in
       record { unready = λ u. absurd (u (is_ready e)); ready = left; tells = λ u. is_ready e }
-
--- The buffers are those of the store.
-pub stored_given : {sg : SignatureStore} {k : Asked} {b : SessionStore} {n : SessionCounts} {a : Answer} {N T F L M S : Rows} {W : List ℕ}
-    (s : Store) → W ≡ s.words.now → T ≡ s.bindings.now → F ≡ s.frames.now → L ≡ s.links.now → M ≡ s.marks.now → S ≡ s.stack.now
-    → Proving sg k b n (given_in a N s) → Proving sg k b n (given_of a N W T F L M S)
-stored_given s w t f l m r h = rw (w, t, f, l, m, r) h

@@ -13,8 +13,7 @@ ghost use Rattle.search_machine.specs.Groups.{IsLent};
 ghost use Rattle.signature.specs.Storage.{store_of};
 ghost use Rattle.sessions.specs.Answers.{answer_in};
 ghost use Rattle.sessions.specs.Promises.{ProveReady, Proving};
-ghost use Rattle.sessions.specs.Storage.{session_store};
-ghost use Rattle.prover.specs.Queries.{asked_of, asked_in, session_in, given_of, given_in};
+ghost use Rattle.prover.specs.Queries.{asked_in, session_in, given_in};
 ghost use Rattle.prover.specs.Proving.{ClearedReady, ProveLeft};
 
 use clearing::clear_past;
@@ -26,7 +25,6 @@ use searching::search_goal;
 use sessions::{NameRow, SessionCounts, StoredSession, Verdict};
 use signature::StoredSignature;
 use testing::is_ready;
-use tree_rows::TreeRow;
 use words::Limits;
 
 // What is asked of a signature: a goal as it is written, the limits, and how many steps and what depth the search may take.
@@ -83,38 +81,31 @@ pub fn prove_listed(
 }
 
 // Proves the goal of a query, in a session.
-// Stays: C lends each buffer by itself, and the test reads some and writes the marks: of a `Store` it would get each field apart, in no fewer lines.
 pub fn prove(
     query: Query,
     names: &mut [NameRow],
-    words: &mut [u32],
-    bindings: &mut [[u32; 2]],
+    store: &mut Store,
     session: SessionCounts,
-    links: &mut [[u32; 2]],
-    marks: &mut [[u32; 2]],
-    stack: &mut [[u32; 3]],
-    proof: &mut [TreeRow],
 ) -> Result<Verdict, Refusal>
-    ensures { Proving (store_of query.entry.signature) (asked_of query.entry proof.old links.old marks.old stack.old)
-        (session_store names.old words.old bindings.old) session
-        (given_of (answer_in result) names.new words.new bindings.new proof.new links.new marks.new stack.new) }
+    ensures proving { Proving (store_of query.entry.signature) (asked_in query.entry store.old)
+        (session_in names.old store.old) session (given_in (answer_in result) names.new store.new) }
+    ensures lent { IsLent store.old store.new }
 {
+    // The test is lent each buffer by itself: it writes the marks alone.
+    let words = &mut *store.words;
+    let bindings = &mut *store.bindings;
+    let links = &mut *store.links;
+    let marks = &mut *store.marks;
+    let stack = &mut *store.stack;
+    let frames = &mut *store.frames;
     let stored = StoredSession {
         names,
         words,
         bindings,
         counts: session,
     };
-    if !is_ready(query, stored, links, marks, stack, proof) {
+    if !is_ready(query, stored, links, marks, stack, frames) {
         return Err(Refusal::Storage);
     }
-    let mut store = Store {
-        words,
-        bindings,
-        links,
-        marks,
-        stack,
-        frames: proof,
-    };
-    prove_listed(query, names, &mut store, session)
+    prove_listed(query, names, store, session)
 }

@@ -17,7 +17,7 @@ use words::Limits;
 const DEPTH: u32 = 128;
 
 // A goal that stands in the session's words: its reference, and the names, variables and words with it.
-// Stays: as `SessionCounts` these would have the session's bindings beside them, which no goal changes, and each contract would say that they are those.
+// Stays: with `SessionCounts` in it no line is shorter: `prepare` takes over the session's bindings, and each contract says that they are those.
 #[derive(Clone, Copy)]
 pub struct StoredGoal {
     pub node: u32,

@@ -4,7 +4,7 @@ ghost use Rattle.search_machine.specs.State.{frame_of, row_of};
 
 // One application of a rule: the rule, its goal, the depth that its premises get; the place that it takes, a premise of its parent; and the
 // variables, bindings and words in use before it.
-// Stays: parent 0 is the top, as in the row; an option would go in as one more, and `From` can't ask of what it is given that this fits a word.
+// Stays: parent 0 is the top. Tried an `Option`: the row has one more, so that `from` has to ask that this fits, and an impl may ask no more than its trait.
 #[derive(Clone, Copy)]
 pub struct Frame {
     pub rule: u32,

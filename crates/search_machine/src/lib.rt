@@ -26,8 +26,8 @@ use rules::columns::PREMISES;
 use stored::{premise, try_stored};
 
 // What a search reads, the rules of a signature and the words of their patterns, and what it may use: variables of the session and words, and frames.
-// The number of frames is named only in contracts: so many rows are lent, and the steps left do not outnumber those that are free.
-// Stays: the length of the rows that are lent need not fit a word, and the number of frames that are entered has to; so it is no more than this one.
+// The number of frames is named only in contracts: so many rows are lent or more, and the steps left do not outnumber those that are free; it fits a word.
+// Stays: tried `frames` as a `ghost` clause: proved, at ten functions and ten calls; tried to lend so many rows: `prover::prove_cleared` is not covered.
 #[derive(Clone, Copy)]
 pub struct Program<'a> {
     pub rules: &'a [RuleRow],
@@ -38,7 +38,7 @@ pub struct Program<'a> {
 
 // What a search writes: the session's words and bindings, the scratch of unification, and a row for each rule that is entered.
 // Stays: each function promises that the same buffers are lent afterwards (`IsLent`); an invariant tells of one value, and not of the one before.
-// Stays: tried with a `Workspace` in it: made by `prover::prove` of buffers lent apart, its lifetime is an intersection, which the check does not cover.
+// Stays: tried with a `Workspace` in it: made of buffers that C lends apart, its lifetime is an intersection, which the check does not cover.
 #[derive(Drop)]
 pub struct Store<'a> {
     pub words: &'a mut [u32],
