@@ -62,45 +62,41 @@ fn bind_node(
     ensures { Matched (pattern_at pattern.now (first - 1 + pattern_room)) values.entry.words.now values.entry.used value
         environment.old links.old result environment.new links.new }
 {
-    // A row of the stack is an open node: the addresses of its next argument in the pattern and in the value, and how many are left. `waiting` is a node,
-    // by its header and the address of its first argument, and the value that it is to fit.
-    let mut depth: usize = 0;
-    let mut waiting = Some((header, first, value));
-    loop {
-        match waiting {
-            Some((wanted, inner, other)) => {
-                waiting = None;
-                if wanted != values.words[other as usize] {
-                    return false;
-                }
-                stack[depth] = [inner, other + 1, arena::arity_of(wanted)];
-                depth += 1;
-            }
-            None => {
-                if depth == 0 {
-                    return true;
-                }
-                let row = depth - 1;
-                let [at, across, left] = stack[row];
-                if left == 0 {
-                    depth -= 1;
-                } else {
-                    stack[row] = [at + 1, across + 1, left - 1];
-                    let other = values.words[across as usize];
-                    match pattern_at(pattern, pattern[at as usize]) {
-                        Pattern::Variable { index } => {
-                            if !take(values, other, environment, index, links) {
-                                return false;
-                            }
-                        }
-                        Pattern::Node { header, first } => {
-                            waiting = Some((header, first, other));
-                        }
+    if header != values.words[value as usize] {
+        return false;
+    }
+    // A row of the stack is an open node: the addresses of its next argument in the pattern and in the value, and how many are left.
+    stack[0] = [first, value + 1, arena::arity_of(header)];
+    let mut depth: usize = 1;
+    // Stays: the stack grows and shrinks, so no range is known at the start.
+    while depth != 0 {
+        let row = depth - 1;
+        let [at, across, left] = stack[row];
+        if left == 0 {
+            depth = row;
+        } else {
+            stack[row] = [at + 1, across + 1, left - 1];
+            let other = values.words[across as usize];
+            match pattern_at(pattern, pattern[at as usize]) {
+                Pattern::Variable { index } => {
+                    if !take(values, other, environment, index, links) {
+                        return false;
                     }
+                }
+                Pattern::Node {
+                    header: wanted,
+                    first: inner,
+                } => {
+                    if wanted != values.words[other as usize] {
+                        return false;
+                    }
+                    stack[depth] = [inner, other + 1, arena::arity_of(wanted)];
+                    depth += 1;
                 }
             }
         }
     }
+    true
 }
 
 // Whether the value fits the pattern; its variables take their values.

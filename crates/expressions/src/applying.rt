@@ -29,7 +29,7 @@ pub fn check_use(symbol: &SymbolRow, arguments: usize) -> Result<(), Refusal>
 }
 
 // A constructor is built, a function called at the next depth.
-// Stays: program, depth and spent are no struct: the first is the same at every call and the others differ at nearly each, so it would be made anew there.
+// Stays: no struct of program, depth and spent: of the four calls that pass them on only that of `application` has the same three; each other makes it anew.
 pub fn apply(
     program: Program,
     depth: u32,

@@ -10,7 +10,7 @@ use names::columns::{ARITY, MARK};
 use names::{FUNCTION, Source, SymbolRow, Word};
 
 // Whether a term has no metavariable: its rows stand in preorder, so one pass over them sees every part.
-// Stays: `any` could go over the rows up to where `clauses::skip` finds the next term; but `skip` asks for 65,536 rows at most, which would ask more here.
+// Stays: tried by `any` up to the row that `clauses::skip` finds: its goal `skip-end-requires` is open, as here there may be more than 65,536 rows.
 pub fn is_ground(term: Source) -> bool
     requires { GroundAsked term.text.now term.rows.now term.at }
     ensures { GroundAnswered term.entry.text.now term.entry.rows.now term.entry.at result }

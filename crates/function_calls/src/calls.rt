@@ -57,7 +57,7 @@ pub struct Level {
 }
 
 // A program: its symbols, its rules, the words of their patterns, and how many words its values may take.
-// Stays: that it is in form says of each clause that there is a rule which it stores; a fact with "there is" can't stand in a ghost field.
+// Stays: tried with a ghost field that it is in form: no proposition, as the symbols and rules that it stores are data, which the rows alone don't fix.
 #[derive(Clone, Copy)]
 pub struct Program<'a> {
     pub symbols: &'a [SymbolRow],
@@ -88,8 +88,8 @@ pub struct Store<'a> {
 }
 
 // One premise of a clause, a node by its header and the address of its first argument: its call, whose value has to fit its last argument.
-// Stays: program and store are apart, since one is read and the other written; as one struct, each function would promise besides that the program stands.
-// Stays: no struct of program, level and spent: a premise's call has another level and `spent`, the next premise another `spent`; each would make it anew.
+// Stays: program and store are apart: as one struct behind `&mut`, the contracts of the six functions on both would promise besides that the program stands.
+// Stays: no struct of program, level and spent: of the four calls that pass them on only that of `follow` has the same three; each other would make it anew.
 #[cycle(call_follow_premise)]
 fn premise(
     program: Program,

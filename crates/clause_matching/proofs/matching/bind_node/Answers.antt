@@ -1,77 +1,81 @@
--- `bind_node` meets its contract. The loop's invariant: matching what is left, from the values that the environment holds, comes to matching the whole, and what waits
--- is a node. What falls: the size of what is left of the pattern, then the open rows. A turn that takes a variable is two steps of the laws.
-use mathlib.Core.Path.{refl, ap}
-use Rattle.std.specs.Option.{is_some}
-use Rattle.terms.specs.Numbers.{true_false}
+-- `bind_node` meets its contract. The loop's invariant: matching what is left, from the values that the environment holds, comes to matching the whole. What falls: the
+-- size of what is left of the pattern, then the open rows. A turn that takes an argument is two steps of the laws: it waits, and then it is matched or opened.
+use native.Mathlib.Omega.{arith}
+use mathlib.Core.Path.{refl}
 use Rattle.clause_matching.proofs.PatternOf.{variable_is, node_is}
-use Rattle.clause_matching.proofs.BindTurns.{read_waits, turn_start, referable, take_lent, variable_misfits, waits_misfits, waits_free, less_waits, turn_waits, turn_done, less_close, turn_close, less_next, turn_next, less_taken, turn_taken}
+use Rattle.clause_matching.proofs.BindTurns.{read_waits, turn_start, referable, take_lent, variable_misfits, waits_misfits, waits_free, turn_waits, turn_done, less_close, turn_close, turn_next, less_taken, turn_taken, node_inside, opened_misfits, opened_free, less_opened, turn_opened}
 use Rattle.clause_matching.proofs.matching.bind_node.Goals as goal
 
-pub loop-waiting-init : goal.loop-waiting-init
-loop-waiting-init c = (λ b. (c.requires.0, c.requires.1), turn_start c.requires.2)
+pub returns-then-header-values : goal.returns-then-header-values
+returns-then-header-values c = waits_misfits (c.requires.0, c.requires.1) (turn_start c.requires.2) refl c.if-header-values.true
 
-pub returns-then-wanted-values : goal.returns-then-wanted-values
-returns-then-wanted-values c =
-    let i = rw c.in-Some.is at c.loop-waiting.invariant in
-    waits_misfits (i.0 refl) i.1 refl c.if-wanted-values.true
+pub bounds-stack-0 : goal.bounds-stack-0
+bounds-stack-0 c = waits_free (c.requires.0, c.requires.1) (turn_start c.requires.2) refl c.if-header-values.false
 
-pub bounds-stack-depth : goal.bounds-stack-depth
-bounds-stack-depth c =
-    let i = rw c.in-Some.is at c.loop-waiting.invariant in
-    waits_free (i.0 refl) i.1 refl c.if-wanted-values.false
+pub loop-depth-init : goal.loop-depth-init
+loop-depth-init c = rw c.arity_of.ensures (turn_waits (c.requires.0, c.requires.1) (turn_start c.requires.2) refl c.if-header-values.false)
 
-pub loop-waiting-smaller-in-Some : goal.loop-waiting-smaller-in-Some
-loop-waiting-smaller-in-Some c =
-    let i = rw c.in-Some.is at c.loop-waiting.invariant in
-    rw (c.in-Some.is, c.arity_of.ensures) (less_waits (i.0 refl) i.1 refl c.if-wanted-values.false)
+pub loop-depth-smaller-then-left-eq0 : goal.loop-depth-smaller-then-left-eq0
+loop-depth-smaller-then-left-eq0 c = less_close c.loop-depth.invariant refl c.loop-depth-test.true c.if-left-eq0.true
 
-pub loop-waiting-preserved-in-Some : goal.loop-waiting-preserved-in-Some
-loop-waiting-preserved-in-Some c =
-    let i = rw c.in-Some.is at c.loop-waiting.invariant in
-    rw c.arity_of.ensures (λ b. true_false b refl, turn_waits (i.0 refl) i.1 refl c.if-wanted-values.false)
-
-pub returns-then-depth-eq0 : goal.returns-then-depth-eq0
-returns-then-depth-eq0 c = turn_done c.loop-waiting.invariant.1 (ap is_some c.in-None.is) c.if-depth-eq0.true
-
-pub loop-waiting-smaller-then-left-eq0 : goal.loop-waiting-smaller-then-left-eq0
-loop-waiting-smaller-then-left-eq0 c =
-    less_close c.loop-waiting.invariant.1 (ap is_some c.in-None.is) c.if-depth-eq0.false c.if-left-eq0.true
-
-pub loop-waiting-preserved-then-left-eq0 : goal.loop-waiting-preserved-then-left-eq0
-loop-waiting-preserved-then-left-eq0 c =
-    (c.loop-waiting.invariant.0, turn_close c.loop-waiting.invariant.1 (ap is_some c.in-None.is) c.if-depth-eq0.false c.if-left-eq0.true)
+pub loop-depth-preserved-then-left-eq0 : goal.loop-depth-preserved-then-left-eq0
+loop-depth-preserved-then-left-eq0 c = turn_close c.loop-depth.invariant refl c.loop-depth-test.true c.if-left-eq0.true
 
 pub pattern_at-requires : goal.pattern_at-requires
-pattern_at-requires c = referable (turn_next c.loop-waiting.invariant.1 (ap is_some c.in-None.is) c.if-depth-eq0.false c.if-left-eq0.false) refl
+pattern_at-requires c = referable (turn_next c.loop-depth.invariant refl c.loop-depth-test.true c.if-left-eq0.false) refl
 
 pub take-requires : goal.take-requires
 take-requires c =
     let (v, e) = variable_is _ _ c.pattern_at.ensures _ c.in-Variable.is in
-    rw e (take_lent (turn_next c.loop-waiting.invariant.1 (ap is_some c.in-None.is) c.if-depth-eq0.false c.if-left-eq0.false) refl v)
+    rw e (take_lent (turn_next c.loop-depth.invariant refl c.loop-depth-test.true c.if-left-eq0.false) refl v)
 
 pub returns-then-not-take : goal.returns-then-not-take
 returns-then-not-take c =
     let (v, e) = variable_is _ _ c.pattern_at.ensures _ c.in-Variable.is in
-    variable_misfits (turn_next c.loop-waiting.invariant.1 (ap is_some c.in-None.is) c.if-depth-eq0.false c.if-left-eq0.false) refl v _ _ _ (rw e at c.take.ensures) c.if-not-take.true
+    variable_misfits (turn_next c.loop-depth.invariant refl c.loop-depth-test.true c.if-left-eq0.false) refl v _ _ _ (rw e at c.take.ensures) c.if-not-take.true
 
-pub loop-waiting-smaller-else-not-take : goal.loop-waiting-smaller-else-not-take
-loop-waiting-smaller-else-not-take c =
+pub loop-depth-smaller-else-not-take : goal.loop-depth-smaller-else-not-take
+loop-depth-smaller-else-not-take c =
     let (v, e) = variable_is _ _ c.pattern_at.ensures _ c.in-Variable.is in
-    less_taken c.loop-waiting.invariant.1 (ap is_some c.in-None.is) c.if-depth-eq0.false c.if-left-eq0.false v
+    less_taken c.loop-depth.invariant refl c.loop-depth-test.true c.if-left-eq0.false v
 
-pub loop-waiting-preserved-else-not-take : goal.loop-waiting-preserved-else-not-take
-loop-waiting-preserved-else-not-take c =
+pub loop-depth-preserved-else-not-take : goal.loop-depth-preserved-else-not-take
+loop-depth-preserved-else-not-take c =
     let (v, e) = variable_is _ _ c.pattern_at.ensures _ c.in-Variable.is in
-    (c.loop-waiting.invariant.0, turn_taken c.loop-waiting.invariant.1 (ap is_some c.in-None.is) c.if-depth-eq0.false c.if-left-eq0.false v _ _ _ (rw e at c.take.ensures) c.if-not-take.false)
+    turn_taken c.loop-depth.invariant refl c.loop-depth-test.true c.if-left-eq0.false v _ _ _ (rw e at c.take.ensures) c.if-not-take.false
 
-pub loop-waiting-smaller : goal.loop-waiting-smaller
-loop-waiting-smaller c =
+pub bounds-values-other : goal.bounds-values-other
+bounds-values-other c =
     let (v, h, f) = node_is _ _ c.pattern_at.ensures _ _ c.in-Node.is in
-    let (w, e) = read_waits c.args.pattern.now v h f in
-    rw e (less_next c.loop-waiting.invariant.1 (ap is_some c.in-None.is) c.if-depth-eq0.false c.if-left-eq0.false)
+    (node_inside c.loop-depth.invariant c.loop-depth-test.true c.if-left-eq0.false (read_waits c.args.pattern.now v h f)).0
 
-pub loop-waiting-preserved : goal.loop-waiting-preserved
-loop-waiting-preserved c =
+pub returns-then-wanted-values : goal.returns-then-wanted-values
+returns-then-wanted-values c =
     let (v, h, f) = node_is _ _ c.pattern_at.ensures _ _ c.in-Node.is in
-    let (w, e) = read_waits c.args.pattern.now v h f in
-    (λ b. w, rw e (turn_next c.loop-waiting.invariant.1 (ap is_some c.in-None.is) c.if-depth-eq0.false c.if-left-eq0.false))
+    opened_misfits c.loop-depth.invariant c.loop-depth-test.true c.if-left-eq0.false (read_waits c.args.pattern.now v h f) c.if-wanted-values.true
+
+pub overflow_add-stack-in-Node : goal.overflow_add-stack-in-Node
+overflow_add-stack-in-Node c =
+    let (v, h, f) = node_is _ _ c.pattern_at.ensures _ _ c.in-Node.is in
+    let l = (node_inside c.loop-depth.invariant c.loop-depth-test.true c.if-left-eq0.false (read_waits c.args.pattern.now v h f)).1 in
+    omega arith
+
+pub bounds-stack-depth : goal.bounds-stack-depth
+bounds-stack-depth c =
+    let (v, h, f) = node_is _ _ c.pattern_at.ensures _ _ c.in-Node.is in
+    opened_free c.loop-depth.invariant c.loop-depth-test.true c.if-left-eq0.false (read_waits c.args.pattern.now v h f) c.if-wanted-values.false
+
+pub loop-depth-smaller : goal.loop-depth-smaller
+loop-depth-smaller c =
+    let (v, h, f) = node_is _ _ c.pattern_at.ensures _ _ c.in-Node.is in
+    rw c.arity_of-in-Node.ensures
+    (less_opened c.loop-depth.invariant c.loop-depth-test.true c.if-left-eq0.false (read_waits c.args.pattern.now v h f) c.if-wanted-values.false)
+
+pub loop-depth-preserved : goal.loop-depth-preserved
+loop-depth-preserved c =
+    let (v, h, f) = node_is _ _ c.pattern_at.ensures _ _ c.in-Node.is in
+    rw c.arity_of-in-Node.ensures
+    (turn_opened c.loop-depth.invariant c.loop-depth-test.true c.if-left-eq0.false (read_waits c.args.pattern.now v h f) c.if-wanted-values.false)
+
+pub returns : goal.returns
+returns c = turn_done c.loop-depth.invariant refl c.loop-depth-test.false
