@@ -18,8 +18,8 @@ pub mod columns; // the columns of a rule's row
 use arena::PATTERN_ROOM;
 use columns::{END, FIRST_PLACE, FIRST_PREMISE, FIRST_SORT};
 use meeting::Places;
-use names::columns::SORT;
 pub use names::PREMISES;
+use names::columns::SORT;
 use names::{SourceTerms, SymbolRow, TermRow, VariableRow, Word};
 use patterns::{Place, VARIABLES};
 use refusals::Refusal;

@@ -8,8 +8,8 @@ ghost use Rattle.session_check.specs.Parts.{SessionCounted};
 use arena::TERM_ROOM;
 use sessions::{NameRow, StoredSession};
 
-// Document 01's limit on the names in a session. The limit on its variables is `arena::TERM_ROOM`, that on its words `words::WORDS`.
-pub const NAMES: usize = 64;
+// A session's names are variables of its goals, each of which is a rule. The limit on its variables is `arena::TERM_ROOM`, that on words `words::WORDS`.
+pub const NAMES: usize = patterns::VARIABLES;
 
 // The lengths of the buffers that are lent with a session.
 #[derive(Clone, Copy)]
