@@ -1,15 +1,20 @@
 -- The edges of stored bindings, one by one: they are numbered without gaps, they lead from references to references, and their words are in range.
 use Prim.Native.Nat.{ℕ, suc, ◌+◌, ◌-◌, ◌≤◌, ◌<◌}
 use native.Mathlib.Omega.{arith}
-use mathlib.Core.Path.{◌≡◌, sym, ◌∙◌, subst}
+use mathlib.Core.Path.{◌≡◌, sym, ap, ◌∙◌, subst}
 use mathlib.Core.Logic.{⊎_elim, ◌≢◌}
 use mathlib.Core.List.{List}
 use lib.ListN.{length}
+use denote.Ref.{Bor}
+use Rattle.std.specs.Prelude.{Option, Some, None}
+use Rattle.std.specs.Slice.{IsItemAt}
+use Rattle.std.specs.Option.{option_copied}
 use Rattle.terms.specs.Numbers.{less_yes, less_no, same_refl, same_ne, by_same, by_less}
 use Rattle.arena.specs.Cells.{headers, Cells, cells, arity_of, Reference, low_or_high, reference_up}
+use Rattle.arena.specs.Arguments.{arguments_in, arguments_long, argument_in}
 use Rattle.arena.specs.Rows.{Rows, column}
 use Rattle.acyclicity.specs.Contract.{Stored}
-use Rattle.acyclicity.specs.Edges.{edge, Outside}
+use Rattle.acyclicity.specs.Edges.{number, edge, Outside}
 
 module _ (N : ℕ) (w bound : Cells) (r : ℕ) where
   pub edge_variable : (i : ℕ) → r < N → i ≡ 0 → edge N w bound r i ≡ bound r
@@ -86,3 +91,16 @@ module _ {words : List ℕ} {bindings : Rows} {N variables used : ℕ} (s : Stor
   argument_small {r} i h l b =
       let k = reference_within (edge_reference i (cells words (r - N + suc i)) h (edge_argument N (cells words) (column 0 bindings) r i l b)) in
       let a = s.low in omega arith
+
+  -- An argument that was looked up is the edge, as none is where there is no such argument.
+  pub edge_looked_up : {r : ℕ} (i : ℕ) (found : Option (Bor ℕ)) → Reference N (cells words) variables used r → N ≤ r → IsItemAt (arguments_in words (r - N)) i found
+      → number (option_copied found) ≡ edge N (cells words) (column 0 bindings) r i
+  edge_looked_up {r} i None h l k =
+      let long = arguments_long words (r - N) (node_words h l) in
+      let past = k.3 in
+      sym (edge_past N (cells words) (column 0 bindings) r i l (omega arith))
+  edge_looked_up {r} i (Some x) h l k =
+      let long = arguments_long words (r - N) (node_words h l) in
+      let below : i < arity_of (cells words (r - N)) = let q = k.3.0 in omega arith in
+      let d : suc (r - N) + i ≡ r - N + suc i = omega arith in
+      ap suc (k.4 (omega arith) 0 ∙ argument_in words (r - N) i below ∙ ap (cells words) d) ∙ sym (edge_argument N (cells words) (column 0 bindings) r i l below)

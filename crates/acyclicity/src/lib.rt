@@ -42,10 +42,7 @@ fn edge_at(terms: Terms, bindings: &[[u32; 2]], reference: u32, i: u32) -> Optio
         }
         return None;
     }
-    if i < terms.arity(reference) {
-        return Some(terms.argument(reference, i));
-    }
-    None
+    terms.arguments(reference).get(i as usize).copied()
 }
 
 // Whether the stored bindings are acyclic; leaves its marks in scratch.

@@ -1,5 +1,8 @@
 -- The check of stored bindings: its parts hold together exactly where the rows are in form.
-use Rattle.std.specs.Prelude.{ℕ, zero, suc, ◌+◌, ◌-◌, ◌≤◌, ◌<◌, ◌≡◌, refl, Bool, true, false, ◌≢◌, Result, Ok, Err, List, length}
+use Rattle.std.specs.Bool.{MatchBool}
+use Rattle.std.specs.List.{range_with_len, HoldsAt, AllWithin}
+use Rattle.std.proofs.lemmas.List.FromFn.{length-range_with_len, get_or-range_with_len}
+use Rattle.std.specs.Prelude.{ℕ, zero, suc, ◌+◌, ◌-◌, ◌≤◌, ◌<◌, ◌≡◌, refl, Bool, true, false, ◌≢◌, Result, Ok, Err, List, get_or, length}
 use Rattle.std.proofs.Common.{zero-le, arith, not-suc-le-zero, le_refl, sym, ap, subst, ◌∙◌, ⊎_elim}
 use Rattle.std.proofs.Math.Option.{none, some}
 use Rattle.terms.specs.Numbers.{by_bool, by_same, same_ne, true_false, some_none}
@@ -24,6 +27,23 @@ tells_yes p = record { yes = λ _. p; back = λ _. refl }
 
 pub tells_false : {answer : Bool} {P : Type 0} → Tells answer P → answer ≡ false → P → ⊥
 tells_false h e p = true_false {P = ⊥} (h.back p) e
+
+pub tells_iff : {answer : Bool} {P Q : Type 0} → (P → Q) → (Q → P) → Tells answer P → Tells answer Q
+tells_iff f g h = record { yes = λ e. f (h.yes e); back = λ q. h.back (g q) }
+
+-- Where a chain tells that each number has P, or names one that has not, its answer tells so; likewise of the numbers below n.
+pub tells_each : (P : ℕ → Type 0) (xs : List ℕ) (answer : Bool) → MatchBool answer (AllWithin P xs 0 (length xs)) ((k : ℕ) × (k < length xs) × HoldsAt (λ x. P x → ⊥) xs k)
+    → Tells answer ((k : ℕ) → k < length xs → P (get_or xs k 0))
+tells_each P xs true h = tells_yes (λ k l. h k 0 (omega arith) l)
+tells_each P xs false h = tells_no (λ f. h.2 0 (f h.0 h.1))
+
+pub tells_below : (P : ℕ → Type 0) (n : ℕ) (answer : Bool)
+    → MatchBool answer (AllWithin P (range_with_len 0 n) 0 (length (range_with_len 0 n))) ((k : ℕ) × (k < length (range_with_len 0 n)) × HoldsAt (λ x. P x → ⊥) (range_with_len 0 n) k)
+    → Tells answer ((k : ℕ) → k < n → P k)
+tells_below P n answer h =
+    let long = length-range_with_len 0 n in
+    let is : (k : ℕ) → k < n → get_or (range_with_len 0 n) k 0 ≡ k = (λ k l. get_or-range_with_len 0 n k 0 l ∙ (let z : 0 + k ≡ k = omega arith in z)) in
+    tells_iff (λ f k l. subst P (is k l) (f k (rw long l))) (λ f k l. let m = rw long at l in subst P (sym (is k m)) (f k m)) (tells_each P (range_with_len 0 n) answer h)
 
 -- The trail entered among the marks.
 pub record Entering (b m₀ m : Rows) (variables n : ℕ) : Type 0 where

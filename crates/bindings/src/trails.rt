@@ -60,17 +60,11 @@ fn good_value(terms: Terms, rows: &[[u32; 2]], marks: &[[u32; 2]], v: usize) -> 
 }
 
 // Whether all values are 0 or in form.
-// Stays: tried with `all` over the range: that its answer tells of every value did not close.
 fn check_values(terms: Terms, rows: &[[u32; 2]], marks: &[[u32; 2]]) -> bool
     requires { (terms.used ≤ length terms.words.now) × (terms.variables ≤ length marks.now) }
     ensures { Tells result ((v : ℕ) → GoodValue terms.entry.room terms.entry.words.now rows.now marks.now terms.entry.variables terms.entry.used v) }
 {
-    for v in 0..rows.len() {
-        if !good_value(terms, rows, marks, v) {
-            return false;
-        }
-    }
-    true
+    (0..rows.len()).all(|v| good_value(terms, rows, marks, v))
 }
 
 // Whether the trail is 0 behind its entries.

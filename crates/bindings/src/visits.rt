@@ -45,8 +45,8 @@ impl Queue<'_> {
             self.old.marks.now self.old.end self.new.marks.now self.new.end }
         ensures lent { self.new.marks.ghost_name ≡ self.old.marks.ghost_name }
     {
-        for i in 0..terms.arity(r) {
-            self.visit(terms, terms.argument(r, i));
+        for y in terms.arguments(r) {
+            self.visit(terms, *y);
         }
     }
 

@@ -1,5 +1,5 @@
 // Whether words are terms in form.
-ghost use Rattle.std.specs.Prelude.{◌<◌, ◌≤◌, length};
+ghost use Rattle.std.specs.Prelude.{◌+◌, ◌<◌, ◌≤◌, length};
 ghost use Rattle.arena.specs.Cells.{cells, headers, WellFormed};
 ghost use Rattle.bindings.specs.Promises.{Tells};
 ghost use Rattle.checks.specs.Ready.{NodeFormed, Stored};
@@ -8,35 +8,31 @@ use arena::{HEADERS, Terms, arity_of};
 use bindings::is_reference;
 
 // Whether the word at an address is no header, or that of a node in form.
-// Stays: tried with `all` over the range of the arguments: that its answer tells of each of them did not close.
 fn is_node(terms: Terms, address: u32) -> bool
-    requires { (address < terms.used) × (terms.used ≤ length terms.words.now) × (terms.used ≤ headers) }
+    requires { (address < terms.used) × (terms.used ≤ length terms.words.now) × (terms.room + terms.used ≤ headers) }
     ensures { Tells result (NodeFormed terms.entry.room (cells terms.entry.words.now) terms.entry.variables terms.entry.used address) }
 {
-    let header = terms.words[address as usize];
+    let node = terms.room + address;
+    let header = terms.header(node);
     if header < HEADERS {
         return true;
     }
-    let arity = arity_of(header);
-    if terms.used <= address + arity {
+    if terms.used <= address + arity_of(header) {
         return false;
     }
     let before = Terms {
         used: address,
         ..terms
     };
-    for i in 0..arity {
-        let argument = terms.words[(address + 1 + i) as usize];
-        if !is_reference(before, argument) {
-            return false;
-        }
-    }
-    true
+    terms
+        .arguments(node)
+        .iter()
+        .all(|argument| is_reference(before, *argument))
 }
 
 // Whether all nodes of the words in use are in form.
 fn are_nodes(terms: Terms) -> bool
-    requires { (terms.used ≤ length terms.words.now) × (terms.used ≤ headers) }
+    requires { (terms.used ≤ length terms.words.now) × (terms.room + terms.used ≤ headers) }
     ensures { Tells result (WellFormed terms.entry.room (cells terms.entry.words.now) terms.entry.variables terms.entry.used) }
 {
     (0..terms.used).all(|address| is_node(terms, address))
