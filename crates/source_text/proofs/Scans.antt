@@ -165,9 +165,6 @@ two_at a b y z [] (suc i) = simp y
 two_at a b y z (c ∷ s) zero = ap (λ t. eqb c a && t) (one_at b z s 0)
 two_at a b y z (c ∷ s) (suc i) = two_at a b y z s i
 
-pub ends_at : (s : List ℕ) (i : ℕ) → ends_code (drop i s) ≡ (eqb (get_or s i 0) 10 || (eqb (get_or s i 0) 45 && eqb (get_or s (i + 1) 0) 45))
-ends_at s i = simp (one_at 10 refl s i, two_at 45 45 refl refl s i, add-one)
-
 -- The line that starts at place `at` of a text: c is the end of its code, e its own.
 module _ (text : List ℕ) (at c e : ℕ) (h : at < length text) (f : c ≡ at + length (code_of (line_of (drop at text)))) (g : e ≡ c + length (line_of (drop c text))) where
   code_in_line : length (code_of (line_of (drop at text))) ≤ length (line_of (drop at text))

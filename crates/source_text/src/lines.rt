@@ -15,14 +15,16 @@ pub fn line_end(text: &[u8], at: usize) -> usize
     at + rest.iter().position(|c| *c == b'\n').unwrap_or(rest.len())
 }
 
-// Does the code of a line end at a place, at a line feed or at `--`?
-fn ends_code(text: &[u8], at: usize) -> bool
-    requires { at < length text.now }
-    ensures { result ≡ ends_code (drop at text.now) }
+// Does the code of a line end where a rest of the text starts, at a line feed or at `--`?
+// Stays: Tried by slice patterns: lexing 65,536 bytes of declarations takes 515 us in place of 473, and 566 by two calls of `starts_with`.
+#[tactic(auto, unfolding(crate::specs::Bytes::starts_with))]
+fn ends_code(rest: &[u8]) -> bool
+    requires { 0 < length rest.now }
+    ensures { result ≡ ends_code rest.now }
 {
-    match text[at] {
+    match rest[0] {
         b'\n' => true,
-        b'-' => starts_with(&text[at..], b"--"),
+        b'-' => starts_with(rest, b"--"),
         _ => false,
     }
 }
@@ -33,7 +35,7 @@ pub fn code_end(text: &[u8], at: usize) -> usize
     ensures { result ≡ at + length (code_of (line_of (drop at text.now))) }
 {
     (at..text.len())
-        .find(|i| ends_code(text, *i))
+        .find(|i| ends_code(&text[*i..]))
         .unwrap_or(text.len())
 }
 

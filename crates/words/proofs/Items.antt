@@ -2,10 +2,10 @@
 use mathlib.Core.Path.{◌≡◌, refl, sym, ap, ◌∙◌}
 use mathlib.Core.Bool.{Bool, true, false, cond, not, ◌&&◌}
 use mathlib.Core.List.{List, [], ◌∷◌}
-use Prim.Native.Nat.{ℕ, zero, suc, ◌+◌, ◌-◌, ◌≤◌, ◌<◌}
+use Prim.Native.Nat.{ℕ, zero, suc, ◌+◌, ◌≤◌, ◌<◌}
 use native.Mathlib.Numerals.{add-one}
 use native.Mathlib.Omega.{arith}
-use lib.ListN.{length, get_or, take, drop, length-drop}
+use lib.ListN.{length, get_or, take, drop}
 use lib.Dec.{eqb}
 use borrow.Author.Tests.{ne_eqb, eqb-true}
 use Rattle.std.proofs.Common.{◌⊎◌, ⊎_elim}
@@ -20,10 +20,9 @@ use Rattle.std.specs.Prelude.{◌≢◌, Option, Some, None}
 use Rattle.std.specs.Option.{is_some}
 use Rattle.source_text.specs.declared.characters.Class.{Class}
 use Rattle.source_text.specs.declared.characters.Class.TheVariants.{Letter, Digit}
-use Rattle.source_text.specs.Characters.{Classed}
 use Rattle.words.specs.Items.{Item}
 use Rattle.words.specs.Items.Item.{Blank, Token, Refused}
-use Rattle.source_text.proofs.Scans.{by_bool, and_left, and_right, one_at, two_at, scan_next, scan_stop, scan_end, scan_fits, scan_take}
+use Rattle.source_text.proofs.Scans.{by_bool, and_left, and_right, one_at, two_at, scan_next, scan_fits, scan_take}
 
 -- The sign whose first bytes are a and b; t: stands there.
 abbrev pub sign_by : ℕ → ℕ → Bool → Item
@@ -165,31 +164,18 @@ keyword_none [] h n0 n1 n2 n3 n4 n5 n6 n7 n8 n9 = absurd (omega arith)
 keyword_none (c ∷ w) h n0 n1 n2 n3 n4 n5 n6 n7 n8 n9 =
     simp (ne_eqb _ _ n0, ne_eqb _ _ n1, ne_eqb _ _ n2, ne_eqb _ _ n3, ne_eqb _ _ n4, ne_eqb _ _ n5, ne_eqb _ _ n6, ne_eqb _ _ n7, ne_eqb _ _ n8, ne_eqb _ _ n9)
 
--- The word at place i.
-module _ (s : List ℕ) (i : ℕ) where
-  pub word_next : i < length s → is_word (character_of (drop i s)).class ≡ true → length (word_of (drop i s)) ≡ suc (length (word_of (drop (i + 1) s)))
+-- The word with which s starts.
+module _ (s : List ℕ) where
+  pub word_fits : length (word_of s) ≤ length s
   unfolding word_of
-  word_next h e = scan_next (λ l. not (is_word (character_of l).class)) s i h (simp e)
+  word_fits = scan_fits (λ l. not (is_word (character_of l).class)) s
 
-  pub word_stop : is_word (character_of (drop i s)).class ≡ false → length (word_of (drop i s)) ≡ 0
+  -- Its bytes are the first of s.
+  pub word_part : (n : ℕ) → n ≡ length (word_of s) → take n s ≡ word_of s
   unfolding word_of
-  word_stop e = scan_stop (λ l. not (is_word (character_of l).class)) s i (simp e)
+  word_part n e = rw e (sym (scan_take (λ l. not (is_word (character_of l).class)) s))
 
-  pub word_past : length s ≤ i → length (word_of (drop i s)) ≡ 0
+  -- It is not empty where the first character is one of words.
+  pub word_starts : 0 < length s → is_word (character_of s).class ≡ true → 0 < length (word_of s)
   unfolding word_of
-  word_past h = scan_end (λ l. not (is_word (character_of l).class)) s i h
-
-  pub word_fits : i ≤ length s → i + length (word_of (drop i s)) ≤ length s
-  unfolding word_of
-  word_fits h = let k : length (word_of (drop i s)) ≤ length s - i = simp length-drop at (scan_fits (λ l. not (is_word (character_of l).class)) (drop i s)) in omega arith
-
-  -- Its bytes are those from i up to its end.
-  pub word_part : (e : ℕ) → e ≡ i + length (word_of (drop i s)) → take (e - i) (drop i s) ≡ word_of (drop i s)
-  unfolding word_of
-  word_part e q = let k : e - i ≡ length (word_of (drop i s)) = omega arith in rw k (sym (scan_take (λ l. not (is_word (character_of l).class)) (drop i s)))
-
-  -- It is not empty where its first character is one of words.
-  pub word_starts : (e : ℕ) (c : Classed) → i < length s → c ≡ character_of (drop i s) → is_word c.class ≡ true → e ≡ i + length (word_of (drop i s)) → 0 < length (take (e - i) (drop i s))
-  word_starts e c h f g q =
-      let n : length (word_of (drop i s)) ≡ suc (length (word_of (drop (i + 1) s))) = word_next h (rw (← f) g) in
-      rw (word_part e q) (omega arith)
+  word_starts h e = let n : length (word_of s) ≡ suc (length (word_of (drop 1 s))) = scan_next (λ l. not (is_word (character_of l).class)) s 0 h (simp e) in omega arith

@@ -11,6 +11,7 @@ use lib.Seq.{drop-cons, take-suc-set, length-take-le}
 use lib.Dec.{eqb, ltb}
 use Rattle.std.proofs.Common.{length-append}
 use Rattle.std.proofs.Math.Seq.{take-append-add}
+use Rattle.std.proofs.lemmas.List.{take_all}
 use borrow.Author.Tests.{ltb-true}
 use Rattle.source_text.specs.Bytes.{starts_with}
 use Rattle.source_text.specs.Characters.{character_of, has_outside}
@@ -34,7 +35,7 @@ use Rattle.words.specs.Items.{Item}
 use Rattle.words.specs.Items.Item.{Blank, Token, Refused}
 use Rattle.source_text.proofs.Scans.{by_bool, and_left, and_right, prefix_fits, lines_taken}
 use Rattle.source_text.proofs.Encodings.{past}
-use Rattle.words.proofs.Items.{word_next, word_fits}
+use Rattle.words.proofs.Items.{word_fits, word_starts}
 
 -- One reading after another.
 pub then_nil : (r : Reading) → and_then (tokens []) r ≡ r
@@ -105,10 +106,13 @@ item_length_lem l h =
   where
     worded : is_word (character_of l).class ≡ true → (0 < item_length (word_item (word_of l))) × (item_length (word_item (word_of l)) ≤ length l)
     worded f =
-        let k : length (word_of l) ≡ suc (length (word_of (drop 1 l))) = word_next l 0 h f in
-        let q : 0 + length (word_of l) ≤ length l = word_fits l 0 (omega arith) in
-        let m : (0 < item_length (word_item (word_of l))) × (item_length (word_item (word_of l)) ≤ length (word_of l)) = word_length (word_of l) (omega arith) in
+        let q : length (word_of l) ≤ length l = word_fits l in
+        let m : (0 < item_length (word_item (word_of l))) × (item_length (word_item (word_of l)) ≤ length (word_of l)) = word_length (word_of l) (word_starts l h f) in
         (omega arith, omega arith)
+
+-- The rest of a list is what its slice holds.
+pub item_whole : (s : List ℕ) (i : ℕ) → item_of (take (length s - i) (drop i s)) ≡ item_of (drop i s)
+item_whole s i = ap item_of (take_all (length s - i) (drop i s) (simp length-drop (omega arith)))
 
 -- A line s that starts at place p, from its place i on, where the item x stands.
 module _ (s : List ℕ) (i p n : ℕ) (x : Item) (h : i < length s) (e : x ≡ item_of (drop i s)) where

@@ -1,5 +1,5 @@
 // One item, one line, all lines.
-ghost use Rattle.std.specs.Prelude.{◌≡◌, ◌+◌, ◌≤◌, ◌<◌, length, drop};
+ghost use Rattle.std.specs.Prelude.{◌≡◌, ◌+◌, ◌≤◌, ◌<◌, length};
 ghost use Rattle.source_text.specs.Characters.{class_number};
 ghost use Rattle.source_text.specs.Lines.{lines};
 ghost use Rattle.source_text.specs.Utf8.{positive};
@@ -22,15 +22,13 @@ pub struct Lexeme {
     pub length: usize,
 }
 
-// The place past the word that starts at a place.
-// Stays: tokens are told by their places in the line, here and in `item_at`; a rest would be cut off at each place.
-fn word_end(line: &[u8], at: usize) -> usize
-    requires { at ≤ length line.now }
-    ensures { result ≡ at + length (word_of (drop at line.now)) }
+// The length of the word with which a rest of a line starts.
+fn word_length(rest: &[u8]) -> usize
+    ensures { result ≡ length (word_of rest.now) }
 {
-    (at..line.len())
-        .find(|i| !in_word(character_at(line, *i).class))
-        .unwrap_or(line.len())
+    (0..rest.len())
+        .find(|i| !in_word(character_at(rest, *i).class))
+        .unwrap_or(rest.len())
 }
 
 // Do characters of a class make words?
@@ -40,18 +38,15 @@ fn in_word(class: Class) -> bool
     matches!(class, Class::Letter | Class::Digit)
 }
 
-// What stands at a place of a line: a token, or nothing at a blank.
-fn item_at(line: &[u8], at: usize) -> Result<Option<Lexeme>, Refusal>
-    requires { at < length line.now }
-    ensures { item result ≡ item_of (drop at line.now) }
+// What stands where a rest of a line starts: a token, or nothing at a blank.
+fn item_at(rest: &[u8]) -> Result<Option<Lexeme>, Refusal>
+    requires { 0 < length rest.now }
+    ensures { item result ≡ item_of rest.now }
 {
-    match character_at(line, at).class {
+    match character_at(rest, 0).class {
         Class::Blank => Ok(None),
-        Class::Letter | Class::Digit => {
-            let end = word_end(line, at);
-            Ok(Some(word_item(&line[at..end])?))
-        }
-        Class::Sign => Ok(Some(sign_item(&line[at..])?)),
+        Class::Letter | Class::Digit => Ok(Some(word_item(&rest[..word_length(rest)])?)),
+        Class::Sign => Ok(Some(sign_item(rest)?)),
         Class::Stray | Class::Outside => Err(Refusal::UnexpectedCharacter),
     }
 }
@@ -66,7 +61,7 @@ fn read_code(code: Code, rows: &mut [Row]) -> Result<usize, Rejection>
     let mut n = 0;
     // Stays: a step is as long as a token, and one byte only at a blank.
     while at < bytes.len() {
-        let item = item_at(bytes, at).map_err(|refusal| Rejection { refusal, line })?;
+        let item = item_at(&bytes[at..]).map_err(|refusal| Rejection { refusal, line })?;
         match item {
             None => {
                 at += 1;

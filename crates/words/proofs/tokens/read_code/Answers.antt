@@ -12,7 +12,7 @@ use Rattle.words.specs.Items.Item.{Token}
 use Rattle.std.specs.Prelude.{Ok, Err}
 use Rattle.words.specs.Rows.{outcome}
 use Rattle.refusals.specs.Refused.{handed_on}
-use Rattle.words.proofs.Readings.{mapped_ok, mapped_err, item_within, read_end, read_blank, read_token, read_refused, push_row}
+use Rattle.words.proofs.Readings.{mapped_ok, mapped_err, item_whole, item_within, read_end, read_blank, read_token, read_refused, push_row}
 use borrow.Author.Rules.{rules}
 use native.Mathlib.Omega.{arith}
 use Rattle.words.proofs.tokens.read_code.Goals as goal
@@ -25,12 +25,13 @@ loop-at-preserved-in-None c =
     let loop = c.loop-at in
     let args = c.args in
     let loop-test = c.loop-at-test in
-    let item-at = c.item_at in (
+    let item-at = c.item_at in
+    let told = item-at.ensures ∙ item_whole args.code.bytes.now loop.at in (
       omega arith,
       omega (arith, loop.invariant),
       loop.invariant.2,
       loop.invariant.3
-          ∙ read_blank args.code.bytes.now loop.at args.code.start args.code.line _ loop-test.true (sym (ap item (mapped_ok item-at.result _ _ _ c.map_err.ensures.cases c.in_ok-item.was ∙ ap Ok c.in-None.is)) ∙ item-at.ensures),
+          ∙ read_blank args.code.bytes.now loop.at args.code.start args.code.line _ loop-test.true (sym (ap item (mapped_ok item-at.result _ _ _ c.map_err.ensures.cases c.in_ok-item.was ∙ ap Ok c.in-None.is)) ∙ told),
     )
 
 pub overflow_cast-rows-in-Some : goal.overflow_cast-rows-in-Some
@@ -39,8 +40,9 @@ overflow_cast-rows-in-Some c =
     let args = c.args in
     let loop-test = c.loop-at-test in
     let item-at = c.item_at in
+    let told = item-at.ensures ∙ item_whole args.code.bytes.now loop.at in
     let pre = c.requires in
-    let w : (0 < c.in-Some.lexeme.length) × (loop.at + c.in-Some.lexeme.length ≤ length args.code.bytes.now) = item_within args.code.bytes.now loop.at args.code.start args.code.line (Token c.in-Some.lexeme.kind c.in-Some.lexeme.length) loop-test.true (sym (ap item (mapped_ok item-at.result _ _ _ c.map_err.ensures.cases c.in_ok-item.was ∙ ap Ok c.in-Some.is)) ∙ item-at.ensures) in
+    let w : (0 < c.in-Some.lexeme.length) × (loop.at + c.in-Some.lexeme.length ≤ length args.code.bytes.now) = item_within args.code.bytes.now loop.at args.code.start args.code.line (Token c.in-Some.lexeme.kind c.in-Some.lexeme.length) loop-test.true (sym (ap item (mapped_ok item-at.result _ _ _ c.map_err.ensures.cases c.in_ok-item.was ∙ ap Ok c.in-Some.is)) ∙ told) in
     omega (arith, pre.small)
 
 pub bounds-rows-n : goal.bounds-rows-n
@@ -55,8 +57,9 @@ overflow_add-at-in-Some c =
     let args = c.args in
     let loop-test = c.loop-at-test in
     let item-at = c.item_at in
+    let told = item-at.ensures ∙ item_whole args.code.bytes.now loop.at in
     let pre = c.requires in
-    let w : (0 < c.in-Some.lexeme.length) × (loop.at + c.in-Some.lexeme.length ≤ length args.code.bytes.now) = item_within args.code.bytes.now loop.at args.code.start args.code.line (Token c.in-Some.lexeme.kind c.in-Some.lexeme.length) loop-test.true (sym (ap item (mapped_ok item-at.result _ _ _ c.map_err.ensures.cases c.in_ok-item.was ∙ ap Ok c.in-Some.is)) ∙ item-at.ensures) in
+    let w : (0 < c.in-Some.lexeme.length) × (loop.at + c.in-Some.lexeme.length ≤ length args.code.bytes.now) = item_within args.code.bytes.now loop.at args.code.start args.code.line (Token c.in-Some.lexeme.kind c.in-Some.lexeme.length) loop-test.true (sym (ap item (mapped_ok item-at.result _ _ _ c.map_err.ensures.cases c.in_ok-item.was ∙ ap Ok c.in-Some.is)) ∙ told) in
     omega (arith, pre.small)
 
 pub loop-at-smaller : goal.loop-at-smaller
@@ -65,7 +68,8 @@ loop-at-smaller c =
     let args = c.args in
     let loop-test = c.loop-at-test in
     let item-at = c.item_at in
-    let w : (0 < c.in-Some.lexeme.length) × (loop.at + c.in-Some.lexeme.length ≤ length args.code.bytes.now) = item_within args.code.bytes.now loop.at args.code.start args.code.line (Token c.in-Some.lexeme.kind c.in-Some.lexeme.length) loop-test.true (sym (ap item (mapped_ok item-at.result _ _ _ c.map_err.ensures.cases c.in_ok-item.was ∙ ap Ok c.in-Some.is)) ∙ item-at.ensures) in
+    let told = item-at.ensures ∙ item_whole args.code.bytes.now loop.at in
+    let w : (0 < c.in-Some.lexeme.length) × (loop.at + c.in-Some.lexeme.length ≤ length args.code.bytes.now) = item_within args.code.bytes.now loop.at args.code.start args.code.line (Token c.in-Some.lexeme.kind c.in-Some.lexeme.length) loop-test.true (sym (ap item (mapped_ok item-at.result _ _ _ c.map_err.ensures.cases c.in_ok-item.was ∙ ap Ok c.in-Some.is)) ∙ told) in
     omega arith
 
 pub loop-at-preserved : goal.loop-at-preserved
@@ -74,14 +78,15 @@ loop-at-preserved c =
     let args = c.args in
     let loop-test = c.loop-at-test in
     let item-at = c.item_at in
+    let told = item-at.ensures ∙ item_whole args.code.bytes.now loop.at in
     let pre = c.requires in
-    let w : (0 < c.in-Some.lexeme.length) × (loop.at + c.in-Some.lexeme.length ≤ length args.code.bytes.now) = item_within args.code.bytes.now loop.at args.code.start args.code.line (Token c.in-Some.lexeme.kind c.in-Some.lexeme.length) loop-test.true (sym (ap item (mapped_ok item-at.result _ _ _ c.map_err.ensures.cases c.in_ok-item.was ∙ ap Ok c.in-Some.is)) ∙ item-at.ensures) in
+    let w : (0 < c.in-Some.lexeme.length) × (loop.at + c.in-Some.lexeme.length ≤ length args.code.bytes.now) = item_within args.code.bytes.now loop.at args.code.start args.code.line (Token c.in-Some.lexeme.kind c.in-Some.lexeme.length) loop-test.true (sym (ap item (mapped_ok item-at.result _ _ _ c.map_err.ensures.cases c.in_ok-item.was ∙ ap Ok c.in-Some.is)) ∙ told) in
     let room : loop.n < length loop.rows = omega (arith, pre.lent, loop.invariant) in (
       omega arith,
       omega (arith, loop.invariant),
       simp length-set loop.invariant.2,
       loop.invariant.3
-          ∙ read_token args.code.bytes.now loop.at args.code.start args.code.line (take loop.n loop.rows) loop-test.true c.in-Some.lexeme.kind c.in-Some.lexeme.length (sym (ap item (mapped_ok item-at.result _ _ _ c.map_err.ensures.cases c.in_ok-item.was ∙ ap Ok c.in-Some.is)) ∙ item-at.ensures)
+          ∙ read_token args.code.bytes.now loop.at args.code.start args.code.line (take loop.n loop.rows) loop-test.true c.in-Some.lexeme.kind c.in-Some.lexeme.length (sym (ap item (mapped_ok item-at.result _ _ _ c.map_err.ensures.cases c.in_ok-item.was ∙ ap Ok c.in-Some.is)) ∙ told)
           ∙ ap (λ ts. and_then (tokens ts) (read_after (drop (loop.at + c.in-Some.lexeme.length) args.code.bytes.now) 0 (args.code.start + (loop.at + c.in-Some.lexeme.length)) args.code.line)) (sym (push_row loop.rows loop.n (c.in-Some.lexeme.kind ∷ (args.code.start + loop.at) ∷ c.in-Some.lexeme.length ∷ args.code.line ∷ []) room)),
     )
 
@@ -90,6 +95,7 @@ returns-in_err-item c =
     let loop = c.loop-at in
     let args = c.args in
     let loop-test = c.loop-at-test in
+    let told = c.item_at.ensures ∙ item_whole args.code.bytes.now loop.at in
     let refused = mapped_err c.item_at.result _ _ _ c.map_err.ensures.cases c.in_err-item.was in
     let learnt = refused.2 in
     let made : c.in_err-item.field-0.0 ≡ record { refusal = refused.0; line = args.code.line } = search rules in
@@ -97,7 +103,7 @@ returns-in_err-item c =
     (record {
       reads = ap (λ e. outcome (Err e) loop.rows) made
           ∙ sym (loop.invariant.3
-          ∙ read_refused args.code.bytes.now loop.at args.code.start args.code.line (take loop.n loop.rows) loop-test.true refused.0 (sym (ap item refused.1) ∙ c.item_at.ensures));
+          ∙ read_refused args.code.bytes.now loop.at args.code.start args.code.line (take loop.n loop.rows) loop-test.true refused.0 (sym (ap item refused.1) ∙ told));
       fits = omega arith;
       long = loop.invariant.2;
     })
