@@ -22,7 +22,9 @@ use Rattle.source_text.specs.declared.characters.Class.TheVariants.{Letter, Digi
 use Rattle.source_text.specs.Characters.{Classed}
 use Rattle.words.specs.Items.{Item}
 use Rattle.words.specs.Items.Item.{Blank, Token, Refused}
-use Rattle.source_text.proofs.Scans.{by_bool, and_left, and_right, one_at, two_at, scan_next, scan_stop, scan_end, scan_fits, scan_take}
+use Rattle.source_text.specs.ByteLaws.{by_bool, and_left, and_right}
+use Rattle.source_text.specs.ScanLaws.{upto_short}
+use Rattle.source_text.proofs.Scans.{one_at, two_at, scan_next, scan_stop, scan_end, scan_take}
 
 -- The sign whose first bytes are a and b; t: stands there.
 abbrev pub sign_by : ℕ → ℕ → Bool → Item
@@ -145,7 +147,7 @@ module _ (s : List ℕ) (i : ℕ) where
 
   pub word_fits : i ≤ length s → i + length (word_of (drop i s)) ≤ length s
   unfolding word_of
-  word_fits h = let k : length (word_of (drop i s)) ≤ length s - i = simp length-drop at (scan_fits (λ l. not (is_word (character_of l).class)) (drop i s)) in omega arith
+  word_fits h = let k : length (word_of (drop i s)) ≤ length s - i = simp length-drop at (upto_short (λ l. not (is_word (character_of l).class)) (drop i s)) in omega arith
 
   -- Its bytes are those from i up to its end.
   pub word_part : (e : ℕ) → e ≡ i + length (word_of (drop i s)) → take (e - i) (drop i s) ≡ word_of (drop i s)
