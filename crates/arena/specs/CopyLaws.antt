@@ -1,9 +1,9 @@
 -- Laws of a copied part: earlier words and terms stay, the words stay well formed, and a moved reference denotes the instance of what the pattern's
 -- reference denotes. As many words are written as are copied.
-use Rattle.std.specs.Prelude.{ℕ, zero, suc, ◌+◌, ◌-◌, ◌≤◌, ◌<◌, ◌≡◌, refl, true, List, [], ◌∷◌, map, get_or, length, take}
+use Rattle.std.specs.Prelude.{ℕ, zero, suc, ◌+◌, ◌-◌, ◌≤◌, ◌<◌, ◌≡◌, refl, true, List, get_or, length, take}
 use native.Mathlib.Omega.{arith}
 use Rattle.std.proofs.Common.{not-suc-le-zero, sym, ap, ap₂, ◌∙◌, ⊎_elim, get_or-take, get_or-drop}
-use Rattle.std.proofs.lemmas.List.{length-map}
+use Rattle.std.proofs.lemmas.List.{length-map, get_or-map}
 use Rattle.std.proofs.lemmas.List.Edits.{sets}
 use Rattle.std.proofs.Math.Seq.{slice, length-slice}
 use Rattle.terms.specs.Numbers.{less_yes, less_no}
@@ -157,11 +157,6 @@ module _ (N k nv nv' from count u counter : ℕ) (places : List ℕ) (p w w' : C
   copy_old r h = frame_denote N w nv u old w' below r h
 
 -- The words of a copy, one by one.
-map_at : (f : ℕ → ℕ) (l : List ℕ) (i : ℕ) → i < length l → get_or (map f l) i 0 ≡ f (get_or l i 0)
-map_at f [] i b = absurd (not-suc-le-zero b)
-map_at f (x ∷ l) zero b = refl
-map_at f (x ∷ l) (suc i) b = map_at f l i (omega arith)
-
 module _ (pattern : List ℕ) (from count : ℕ) (places : List ℕ) (room used counter : ℕ) (part : from + count ≤ length pattern) where
   -- As many words are written as are copied.
   pub copied_length : length (copied pattern from count places room used counter) ≡ count
@@ -173,7 +168,7 @@ module _ (pattern : List ℕ) (from count : ℕ) (places : List ℕ) (room used 
       → get_or (copied pattern from count places room used counter) i 0 ≡ moved places counter (pattern_room + from) (room + used) (get_or pattern (from + i) 0)
   copied_at i l =
       let n : length (slice from (from + count) pattern) ≡ from + count - from = length-slice from (from + count) pattern part in
-      map_at (moved places counter (pattern_room + from) (room + used)) (slice from (from + count) pattern) i (omega arith)
+      get_or-map (moved places counter (pattern_room + from) (room + used)) (slice from (from + count) pattern) i 0 0 (omega arith)
       ∙ ap (moved places counter (pattern_room + from) (room + used)) (get_or-drop from (take (from + count) pattern) i 0 ∙ get_or-take (from + count) pattern (from + i) 0 (omega arith))
 
 -- What `inst` leaves: the words with the copy written behind the used part. The pattern's variables are below k, those of the words below nv, and with

@@ -1,6 +1,6 @@
 -- Laws of equal terms: the test says true exactly of the same terms. And of equal stored terms: two nodes denote the same term exactly where their headers are the same and their arguments denote the same terms, and a
 -- variable denotes another term than any other reference.
-use Rattle.std.specs.Prelude.{ℕ, zero, suc, ◌+◌, ◌-◌, ◌≤◌, ◌<◌, ◌≡◌, refl, Bool, true, false, ◌&&◌}
+use Rattle.std.specs.Prelude.{ℕ, zero, suc, ◌+◌, ◌-◌, ◌≤◌, ◌<◌, ◌≡◌, refl, true, false}
 use Rattle.std.proofs.Common.{arith, not-suc-le-zero, sym, ap, ap₂, ◌∙◌, subst, ⊎_elim}
 use Rattle.std.proofs.lemmas.Bool.{and_parts}
 use Rattle.terms.specs.Numbers.{same, same_refl, same_true, by_bool, true_false}

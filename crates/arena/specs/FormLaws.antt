@@ -1,24 +1,17 @@
 -- Laws of words in form: they are well formed, each header is a known symbol's with its own arity, and each other word refers to a variable or to a
 -- node of the same part.
-use Rattle.std.specs.Prelude.{ℕ, zero, suc, ◌+◌, ◌-◌, ◌≤◌, ◌<◌, ◌≡◌, refl, Bool, true, false, ◌&&◌, not, List, [], ◌∷◌, get_or, take}
+use Rattle.std.specs.Prelude.{ℕ, zero, suc, ◌+◌, ◌-◌, ◌≤◌, ◌<◌, ◌≡◌, refl, true, ◌&&◌, not, List, [], ◌∷◌, get_or, take}
 use native.Mathlib.Omega.{arith}
 use Rattle.std.proofs.Common.{not-suc-le-zero, ◌∙◌, subst, ⊎_elim, get_or-take, get_or-drop}
 use Rattle.std.proofs.Math.ListN.{length}
 use Rattle.std.proofs.Math.Seq.{slice, length-slice}
-use Rattle.terms.specs.Numbers.{same, less, less_yes, less_no, by_less, true_false, same_true}
+use Rattle.std.proofs.lemmas.Bool.{and_parts}
+use Rattle.terms.specs.Numbers.{same, less, less_yes, less_no, by_less, true_false, same_refl, same_true}
 use Rattle.arena.specs.Cells.{headers, symbol_of, arity_of, Reference, WellFormed, low_or_high, cells}
 use Rattle.arena.specs.NodeLaws.{formed_node}
 use Rattle.arena.specs.Form.{inputs, is_header, Place, is_argument, nodes, in_form}
 
 -- What the tests say.
-and_left : (a b : Bool) → (a && b) ≡ true → a ≡ true
-and_left true b e = refl
-and_left false b e = e
-
-and_right : (a b : Bool) → (a && b) ≡ true → b ≡ true
-and_right true b e = e
-and_right false b e = true_false e refl
-
 not_less : (x y : ℕ) → not (less x y) ≡ true → y ≤ x
 not_less x y e = by_less x y (λ l q. true_false (subst (λ b. not b ≡ true) q e) refl) (λ l q. l)
 
@@ -39,13 +32,15 @@ pub record Header (arities : List ℕ) (h : ℕ) : Type 0 where
 pub header_accepted : (arities : List ℕ) (h : ℕ) → is_header arities h ≡ true → Header arities h
 unfolding is_header
 header_accepted arities h e =
-    let a = and_left (not (less h headers)) _ e in
-    let e₁ = and_right (not (less h headers)) _ e in
-    let b = and_left (less (symbol_of h) (length arities)) _ e₁ in
-    let e₂ = and_right (less (symbol_of h) (length arities)) _ e₁ in
-    let c = and_left (same (arity_of h) (get_or arities (symbol_of h) 0)) _ e₂ in
-    let d = and_right (same (arity_of h) (get_or arities (symbol_of h) 0)) _ e₂ in
+    let (a, e₁) = and_parts (not (less h headers)) _ e in
+    let (b, e₂) = and_parts (less (symbol_of h) (length arities)) _ e₁ in
+    let (c, d) = and_parts (same (arity_of h) (get_or arities (symbol_of h) 0)) _ e₂ in
     record { high = not_less h headers a; known = is_less (symbol_of h) (length arities) b; own = same_true c; few = not_less inputs (arity_of h) d }
+
+-- A known symbol's header is accepted.
+pub header_yes : (arities : List ℕ) (x : ℕ) → Header arities x → is_header arities x ≡ true
+unfolding is_header
+header_yes arities x h = rw (less_no h.high, less_yes h.known, ← h.own, same_refl (arity_of x), less_no h.few)
 
 -- An argument that the test accepts.
 pub argument_reference : (p : Place) (a r : ℕ) → is_argument p a r ≡ true → Reference p.room (cells p.words) p.variables a r
@@ -57,9 +52,9 @@ argument_reference p a r e =
     record { variable = λ k. v'; node = λ k. let z : ⊥ = omega arith in absurd z; header = λ k. let z : ⊥ = omega arith in absurd z })
     (λ l q.
     let e₀ : (not (less r (p.room + p.from)) && (less r (p.room + a) && not (less (get_or p.words (r - p.room) 0) headers))) ≡ true = rw q at e in
-    let e₁ = and_right (not (less r (p.room + p.from))) _ e₀ in
-    let n = is_less r (p.room + a) (and_left (less r (p.room + a)) _ e₁) in
-    let h = not_less (get_or p.words (r - p.room) 0) headers (and_right (less r (p.room + a)) _ e₁) in
+    let e₁ = (and_parts (not (less r (p.room + p.from))) _ e₀).1 in
+    let n = is_less r (p.room + a) (and_parts (less r (p.room + a)) _ e₁).0 in
+    let h = not_less (get_or p.words (r - p.room) 0) headers (and_parts (less r (p.room + a)) _ e₁).1 in
     record { variable = λ k. let z : ⊥ = omega arith in absurd z; node = λ k. n; header = λ k. h })
 
 pub argument_from : (p : Place) (a r : ℕ) → is_argument p a r ≡ true → p.room ≤ r → p.room + p.from ≤ r
@@ -67,7 +62,7 @@ unfolding is_argument
 argument_from p a r e l =
     let q = less_no l in
     let e₀ : (not (less r (p.room + p.from)) && (less r (p.room + a) && not (less (get_or p.words (r - p.room) 0) headers))) ≡ true = rw q at e in
-    not_less r (p.room + p.from) (and_left (not (less r (p.room + p.from))) _ e₀)
+    not_less r (p.room + p.from) (and_parts (not (less r (p.room + p.from))) _ e₀).0
 
 -- The test accepts every reference in form that is not before `from`.
 pub reference_accepted : (p : Place) (a r : ℕ) → Reference p.room (cells p.words) p.variables a r → (p.room ≤ r → p.room + p.from ≤ r) → is_argument p a r ≡ true
@@ -136,20 +131,20 @@ module _ (p : Place) (arities : List ℕ) (top : ℕ) (small : p.room + top ≤ 
       let d' : at + suc (length rest) ≡ suc at + length rest = omega arith in
       let x₀ : x ≡ cells p.words (at + 0) = s 0 (omega arith) in
       let x₁ : x ≡ cells p.words at = rw d at x₀ in
-      let hd = (header_accepted arities x (and_left (is_header arities x) _ e)).high in
+      let hd = (header_accepted arities x (and_parts (is_header arities x) _ e).0).high in
       let o : Open (suc at) at (arity_of x) = rw x₁ (open_header at h (rw x₁ at hd)) in
       rw d' (accepted rest (suc at) at (arity_of x) (λ i l. let q : at + suc i ≡ suc at + i = omega arith in
       let s₁ : get_or rest i 0 ≡ cells p.words (at + suc i) = s (suc i) (omega arith) in rw q at s₁) (omega arith) (omega arith)
-      (and_right (is_header arities x) _ e) (complete (suc at) at (arity_of x) (omega arith) o))
+      (and_parts (is_header arities x) _ e).1 (complete (suc at) at (arity_of x) (omega arith) o))
   accepted (x ∷ rest) at node (suc left) s f b e h =
       let d : at + 0 ≡ at = omega arith in
       let d' : at + suc (length rest) ≡ suc at + length rest = omega arith in
       let x₀ : x ≡ cells p.words (at + 0) = s 0 (omega arith) in
       let x₁ : x ≡ cells p.words at = rw d at x₀ in
-      let r = argument_reference p node x (and_left (is_argument p node x) _ e) in
+      let r = argument_reference p node x (and_parts (is_argument p node x) _ e).0 in
       rw d' (accepted rest (suc at) node left (λ i l. let q : at + suc i ≡ suc at + i = omega arith in
       let s₁ : get_or rest i 0 ≡ cells p.words (at + suc i) = s (suc i) (omega arith) in rw q at s₁) (omega arith) (omega arith)
-      (and_right (is_argument p node x) _ e) (complete (suc at) node left (omega arith) (open_argument at node left h (rw x₁ at r))))
+      (and_parts (is_argument p node x) _ e).1 (complete (suc at) node left (omega arith) (open_argument at node left h (rw x₁ at r))))
 
   argument_word : (a b r : ℕ) → a ≤ b → b ≤ top → is_argument p a r ≡ true → Word arities p.room p.variables p.from b r
   argument_word a b r l m e =
@@ -175,14 +170,14 @@ module _ (p : Place) (arities : List ℕ) (top : ℕ) (small : p.room + top ≤ 
   accepted_words : (rest : List ℕ) (at node left : ℕ) → at + length rest ≤ top → node ≤ at → nodes p arities rest at node left ≡ true
       → (i : ℕ) → i < length rest → Word arities p.room p.variables p.from (at + i) (get_or rest i 0)
   accepted_words [] at node left f b e i l = absurd (not-suc-le-zero l)
-  accepted_words (x ∷ rest) at node zero f b e zero l = header_word (at + 0) x (omega arith) (and_left (is_header arities x) _ e)
+  accepted_words (x ∷ rest) at node zero f b e zero l = header_word (at + 0) x (omega arith) (and_parts (is_header arities x) _ e).0
   accepted_words (x ∷ rest) at node zero f b e (suc i) l =
       let q : at + suc i ≡ suc at + i = omega arith in
-      rw q (accepted_words rest (suc at) at (arity_of x) (omega arith) (omega arith) (and_right (is_header arities x) _ e) i (omega arith))
-  accepted_words (x ∷ rest) at node (suc left) f b e zero l = argument_word node (at + 0) x (omega arith) (omega arith) (and_left (is_argument p node x) _ e)
+      rw q (accepted_words rest (suc at) at (arity_of x) (omega arith) (omega arith) (and_parts (is_header arities x) _ e).1 i (omega arith))
+  accepted_words (x ∷ rest) at node (suc left) f b e zero l = argument_word node (at + 0) x (omega arith) (omega arith) (and_parts (is_argument p node x) _ e).0
   accepted_words (x ∷ rest) at node (suc left) f b e (suc i) l =
       let q : at + suc i ≡ suc at + i = omega arith in
-      rw q (accepted_words rest (suc at) node left (omega arith) (omega arith) (and_right (is_argument p node x) _ e) i (omega arith))
+      rw q (accepted_words rest (suc at) node left (omega arith) (omega arith) (and_parts (is_argument p node x) _ e).1 i (omega arith))
 
 -- Words accepted from the address `from` up to `to`, all references to which are below the headers.
 module _ (words : List ℕ) (from to room variables : ℕ) (arities : List ℕ) (order : from ≤ to) (long : to ≤ length words) (small : room + to ≤ headers)

@@ -12,6 +12,7 @@ use Rattle.terms.specs.Unification.{Outcome, unfinished, fails, unified, unify}
 use Rattle.terms.specs.Robinson.{Unified}
 use Rattle.terms.proofs.Robinson.{unify_ok}
 use Rattle.arena.specs.Cells.{headers, Cells, symbol_of, arity_of, args, denote, Reference, WellFormed, denote_node, reference_argument, cells}
+use Rattle.arena.specs.ArgumentLaws.{count_args}
 use Rattle.arena.specs.Copies.{pattern_room}
 use Rattle.arena.specs.Rows.{Rows}
 use Rattle.bindings.specs.Stored.{held, Form}
@@ -55,10 +56,6 @@ pub record Comparable (room : ℕ) (pattern words : List ℕ) (rows : Rows) (var
 -- The goal and every instance of the pattern's term clash.
 abbrev pub Clashes : ℕ → List ℕ → List ℕ → Rows → ℕ → ℕ → ℕ → Type 0
 Clashes room pattern words rows bound r s = (ν : Subst) → Clash (held room words rows bound) (denote room (cells words) r) (sub ν (pattern_of pattern s))
-
-count_args : (g : ℕ → Term) (w : Cells) (p n : ℕ) → count (args g w p n) ≡ n
-count_args g w p zero = refl
-count_args g w p (suc n) = ap suc (count_args g w (suc p) n)
 
 -- A header is its symbol and its number of arguments.
 headers_same : (a b : ℕ) → headers ≤ a → headers ≤ b → (ts us : Terms) → count ts ≡ arity_of a → count us ≡ arity_of b → app (symbol_of a) ts ≡ app (symbol_of b) us → a ≡ b

@@ -1,13 +1,11 @@
 -- Reasoning by the order of two numbers, and the pigeonhole: k different numbers below n are at most n.
 use Rattle.std.specs.Prelude.{ℕ, zero, suc, ◌-◌, ◌≤◌, ◌<◌, ◌≡◌, refl, cond, ◌⊎◌, ◌≢◌}
 use Rattle.std.proofs.Common.{zero-le, arith, sym, ◌∙◌, inl, inr, ⊎_elim}
+pub use Rattle.std.proofs.lemmas.Bool.{cases_lt as low_or_high}
 use Rattle.terms.specs.Numbers.{same, same_refl, same_ne, by_same, by_less}
 
 pub by_order {ℓ} : {P : Type ℓ} (x y : ℕ) → (x < y → P) → (y ≤ x → P) → P
 by_order x y f g = by_less x y (λ l e. f l) (λ l e. g l)
-
-pub low_or_high : (x y : ℕ) → (x < y) ⊎ (y ≤ x)
-low_or_high x y = by_order x y inl inr
 
 pub same_or_not : (a b : ℕ) → (a ≡ b) ⊎ (a ≢ b)
 same_or_not a b = by_same a b (λ p e. inl p) (λ p e. inr p)

@@ -10,11 +10,12 @@ use Rattle.terms.specs.Numbers.{by_same}
 use Rattle.terms.specs.Term.{app, Term, Terms}
 use Rattle.terms.specs.Bindings.{start}
 use Rattle.arena.specs.Cells.{headers, cells, arity_of, symbol_of, args, denote, denote_node}
+use Rattle.arena.specs.ArgumentLaws.{count_args}
 use Rattle.arena.specs.Copies.{pattern_room}
 use Rattle.evaluation.specs.Matching.{Fitted, misfit, if_fitted, bind_of}
 use Rattle.clause_matching.specs.Stored.{pattern_at, value_at}
 use Rattle.clause_matching.specs.Choice.{patterns_from, values_of, ApartAsked}
-use Rattle.clause_matching.proofs.Open.{args_count, bind_uneven}
+use Rattle.clause_matching.proofs.Open.{bind_uneven}
 
 -- The first of a list, where there is one.
 pub first_is : (xs : List ℕ) (x : ℕ) → Some x ≡ slice_get xs 0 → x ≡ get_or xs 0 0
@@ -57,8 +58,8 @@ module _ {pattern : List ℕ} {base : ℕ} {words values : List ℕ} (h : ApartA
     unfolding bind_of
     headers_apart n = by_same (symbol_of (cells pattern address)) (symbol_of (cells words value))
         (λ p e. rw e (bind_uneven inner other start (λ c.
-        let a = args_count (denote pattern_room (cells pattern)) (cells pattern) (suc address) (arity_of (cells pattern address)) in
-        let b = args_count (denote 0 (cells words)) (cells words) (suc value) (arity_of (cells words value)) in
+        let a = count_args (denote pattern_room (cells pattern)) (cells pattern) (suc address) (arity_of (cells pattern address)) in
+        let b = count_args (denote 0 (cells words)) (cells words) (suc value) (arity_of (cells words value)) in
         let z : value - 0 ≡ value = omega arith in
         let x : headers ≤ cells pattern address = (h.patterned some).root.header v in
         let y : headers ≤ cells words value = rw z at ((h.root some).header (omega arith)) in

@@ -10,7 +10,9 @@ use Rattle.terms.specs.Numbers.{by_same, by_less}
 use Rattle.terms.specs.Term.{nil, cons, Term, Terms, append}
 use Rattle.terms.specs.Term.Kind.{one as single, many as several}
 use Rattle.terms.specs.Bindings.{Bindings}
+use Rattle.terms.specs.TermLists.{append_nothing, append_more}
 use Rattle.arena.specs.Cells.{cells, args, denote, Same, reference_up, frame_denote, args_same}
+use Rattle.arena.specs.ArgumentLaws.{args_more}
 use Rattle.arena.specs.NodeLaws.{reference_same}
 use Rattle.arena.specs.Copies.{pattern_room}
 use Rattle.arena.specs.Rows.{Rows}
@@ -22,7 +24,7 @@ use Rattle.std.specs.Prelude.{Result, Ok, Err}
 use Rattle.refusals.specs.declared.Refusal.{Refusal}
 use Rattle.refusals.specs.Refusals.{number_of}
 use Rattle.clause_matching.proofs.Forming.{FormsKept, ok_is, unbuilt_arguments, built_arguments}
-use Rattle.clause_matching.proofs.BuildTurns.{holds_grown, args_more}
+use Rattle.clause_matching.proofs.BuildTurns.{holds_grown}
 
 -- What an answer says.
 pub refused_is : (o : Built single) (refusal : Refusal) (values values' : List ℕ) (used limit : ℕ) → Tells o (Err refusal) values values' used limit
@@ -70,10 +72,6 @@ as_it_is : (o : Built several) → if_built o (λ us v. built us v) ≡ o
 as_it_is (barred e) = refl
 as_it_is (built ts u) = refl
 
-append_more : (ts : Terms) (t : Term) (us : Terms) → append ts (cons t us) ≡ append (append ts (cons t nil)) us
-append_more nil t us = refl
-append_more (cons u ts) t us = ap (cons u) (append_more ts t us)
-
 pub turn_start : {pattern : List ℕ} {first count : ℕ} {environment values : List ℕ} {used limit : ℕ} {stack : Rows} {slots : List ℕ}
     → ArgumentsAsked pattern first count environment values used limit stack slots
     → Turn pattern first count environment values used limit stack slots values stack slots used 0
@@ -116,7 +114,7 @@ module _ {pattern : List ℕ} {first count : ℕ} {environment values₀ : List 
               record {
                 stored = h.stored;
                 roots = λ i m. h.roots i (omega arith);
-                are = ap (λ (n : ℕ). args (denote 0 (cells values)) (cells slots) 0 n) (sym e) ∙ sym (nothing (args (denote 0 (cells values)) (cells slots) 0 k));
+                are = ap (λ (n : ℕ). args (denote 0 (cells values)) (cells slots) 0 n) (sym e) ∙ sym (append_nothing (args (denote 0 (cells values)) (cells slots) 0 k));
                 same = h.same;
                 grows = h.grows;
                 within = h.within;
@@ -125,10 +123,6 @@ module _ {pattern : List ℕ} {first count : ℕ} {environment values₀ : List 
         forms = built_arguments pattern spent values₀ values used₀ h.forms;
         kept = h.kept;
       }
-    where
-      nothing : (ts : Terms) → append ts nil ≡ ts
-      nothing nil = refl
-      nothing (cons t ts) = ap (cons t) (nothing ts)
 
   module _ (l : k < count) where
     abbrev here : ℕ

@@ -12,15 +12,18 @@ use Rattle.terms.specs.Numbers.{same_refl, by_same, by_less, true_false}
 use Rattle.terms.specs.Term.{var, app, cons, Term, Terms, count, append, size}
 use Rattle.terms.specs.TermLaws.{size_pos}
 use Rattle.terms.specs.Bindings.{Bindings}
+use Rattle.terms.specs.TermLists.{pending}
 use Rattle.arena.specs.Cells.{headers, cells, arity_of, symbol_of, args, denote, Reference, denote_node, denote_variable, reference_argument}
+use Rattle.arena.specs.ArgumentLaws.{count_args}
 use Rattle.arena.specs.Copies.{pattern_room}
 use Rattle.arena.specs.Rows.{Rows, column}
 use Rattle.resolution.specs.Search.{words}
+use Rattle.resolution.specs.WordLaws.{words_append}
 use Rattle.evaluation.specs.Matching.{Fitted, misfit, fitted, if_fitted, bind_of}
 use Rattle.clause_matching.specs.Stored.{Value, Holds, pattern_at, value_at}
 use Rattle.clause_matching.specs.Choice.{Referable}
 use Rattle.clause_matching.specs.Matching.{Says, Lent, Matched, BindAsked}
-use Rattle.clause_matching.proofs.Open.{unmet, pending, Row, words_append, size_append, args_count, unmet_put, bind_append, bind_uneven, bind_alone}
+use Rattle.clause_matching.proofs.Open.{unmet, Row, size_append, unmet_put, bind_append, bind_uneven, bind_alone}
 
 -- What is left of the pattern and of the value.
 abbrev pub patterns_left : List ℕ → Rows → ℕ → Terms
@@ -228,8 +231,8 @@ module _ {pattern : List ℕ} {reference : ℕ} {values : List ℕ} {used value 
       unfolding bind_of
       headers_apart n γ = by_same (symbol_of header) (symbol_of (cells values other))
           (λ p e. rw e (bind_uneven inner other_inner γ (λ c.
-          let a = args_count (denote pattern_room (cells pattern)) (cells pattern) (suc address) (arity_of header) in
-          let b = args_count (denote 0 (cells values)) (cells values) (suc other) (arity_of (cells values other)) in
+          let a = count_args (denote pattern_room (cells pattern)) (cells pattern) (suc address) (arity_of header) in
+          let b = count_args (denote 0 (cells values)) (cells values) (suc other) (arity_of (cells values other)) in
           let z : other - 0 ≡ other = omega arith in
           let x : headers ≤ header = (h.ahead q).header v in
           let y : headers ≤ cells values other = rw z at ((h.across q).header (omega arith)) in
@@ -252,7 +255,7 @@ module _ {pattern : List ℕ} {reference : ℕ} {values : List ℕ} {used value 
         spends : depth + suc (arity_of header + words inner + words (patterns_left pattern stack depth)) ≤ length stack₀
         spends =
             let d : depth + words (cons (pattern_at pattern next) (patterns_left pattern stack depth)) ≤ length stack₀ = here.deep in
-            let c = args_count (denote pattern_room (cells pattern)) (cells pattern) (suc address) (arity_of header) in
+            let c = count_args (denote pattern_room (cells pattern)) (cells pattern) (suc address) (arity_of header) in
             let e : depth + words (cons (app (symbol_of header) inner) (patterns_left pattern stack depth)) ≤ length stack₀ = rw is_node at d in
             omega arith
 
@@ -297,8 +300,8 @@ module _ {pattern : List ℕ} {reference : ℕ} {values : List ℕ} {used value 
               }))
               (λ e p. rw (get_or-set_other stack depth i row [] e) (h.others i (by_less i depth (λ k s. k) (λ k s. absurd (e (omega arith))))));
           reached = λ β k. let a = here.reached β k in
-              let c = args_count (denote pattern_room (cells pattern)) (cells pattern) (suc address) (arity_of header) in
-              let d = args_count (denote 0 (cells values)) (cells values) (suc other) (arity_of (cells values other)) in
+              let c = count_args (denote pattern_room (cells pattern)) (cells pattern) (suc address) (arity_of header) in
+              let d = count_args (denote 0 (cells values)) (cells values) (suc other) (arity_of (cells values other)) in
               let ev : count inner ≡ count other_inner = c ∙ ap arity_of o ∙ sym d in
               record {
                 γ = a.γ;

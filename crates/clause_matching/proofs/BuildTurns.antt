@@ -15,6 +15,7 @@ use Rattle.terms.specs.Term.Kind.{one as single}
 use Rattle.terms.specs.TermLaws.{size_pos}
 use Rattle.terms.specs.Bindings.{Bindings, lookup}
 use Rattle.arena.specs.Cells.{headers, cells, Cells, arity_of, symbol_of, args, denote, Reference, WellFormed, Same, denote_node, denote_variable, reference_argument, reference_up, frame_denote, args_same}
+use Rattle.arena.specs.ArgumentLaws.{count_args, args_more}
 use Rattle.arena.specs.NodeLaws.{reference_same, formed_same, formed_node}
 use Rattle.arena.specs.Copies.{pattern_room}
 use Rattle.arena.specs.Rows.{Rows, column}
@@ -24,7 +25,6 @@ use Rattle.clause_matching.specs.Stored.{Value, Values, Valued, Holds, pattern_a
 use Rattle.std.specs.Prelude.{Err}
 use Rattle.refusals.specs.declared.Refusal.TheVariants.{Unbound, OverLimit}
 use Rattle.clause_matching.specs.Building.{built_at, rule_words, Pushed, InstantiateAsked, Tells, Instantiated}
-use Rattle.clause_matching.proofs.Open.{args_count}
 use Rattle.clause_matching.proofs.Forming.{FormsKept, forms_same, pushed_form, unbuilt_forms, built_forms}
 use Rattle.clause_matching.proofs.Frames.{Frame, frame, carry, resume, carry_alone, carry_given, resume_next, resume_entered, resume_full, node_fits, node_over}
 
@@ -131,12 +131,6 @@ places_high limit stack zero top h = omega arith
 places_high limit stack (suc d) top h =
     let a = h.0 in let b = h.1 in let c = places_high limit stack d (column 2 stack d) h.2 in omega arith
 
-pub args_more : (g : ℕ → Term) (w : Cells) (p n : ℕ) → args g w p (suc n) ≡ append (args g w p n) (cons (g (w (p + n))) nil)
-args_more g w p zero = let e : p ≡ p + 0 = omega arith in ap (λ (k : ℕ). cons (g (w k)) nil) e
-args_more g w p (suc n) =
-    let e : suc p + n ≡ p + suc n = omega arith in
-    ap (cons (g (w p))) (args_more g w (suc p) n ∙ ap (λ (k : ℕ). append (args g w (suc p) n) (cons (g (w k)) nil)) e)
-
 -- References at two places that denote the same.
 args_move : (g g' : ℕ → Term) (w w' : Cells) (p p' n : ℕ) → ((i : ℕ) → i < n → g (w (p + i)) ≡ g' (w' (p' + i))) → args g w p n ≡ args g' w' p' n
 args_move g g' w w' p p' zero h = refl
@@ -163,9 +157,6 @@ frames_same pattern limit values values' stack (suc d) top h s =
 -- Rows written at d or above leave the first d rows as they are.
 column_set : (k : ℕ) (rows : Rows) (i d : ℕ) (row : List ℕ) → d < i → column k (set rows i row) d ≡ column k rows d
 column_set k rows i d row l = ap (λ (r : List ℕ). get_or r k 0) (get_or-set_other rows i d row [] (λ q. omega arith))
-
-column_put : (k : ℕ) (rows : Rows) (d : ℕ) (row : List ℕ) → d < length rows → column k (set rows d row) d ≡ get_or row k 0
-column_put k rows d row l = ap (λ (r : List ℕ). get_or r k 0) (get_or-set_same rows d row [] l)
 
 module _ (pattern : List ℕ) (stack : Rows) (i : ℕ) (row : List ℕ) where
   frames_set : (values : List ℕ) (d : ℕ) → d ≤ i → frames_of pattern values (set stack i row) d ≡ frames_of pattern values stack d
@@ -430,7 +421,7 @@ module _ {pattern : List ℕ} {reference : ℕ} {environment values₀ : List �
 
       room_node : depth + top + suc (arity + words inner) + owed pattern stack depth ≤ limit + rule_words
       room_node =
-          let c = args_count (denote pattern_room (cells pattern)) (cells pattern) (suc address) arity in
+          let c = count_args (denote pattern_room (cells pattern)) (cells pattern) (suc address) arity in
           let r : depth + top + words (app (symbol_of (cells pattern address)) inner) + owed pattern stack depth ≤ limit + rule_words = rw is_node at here.room in
           omega arith
 
@@ -460,7 +451,7 @@ module _ {pattern : List ℕ} {reference : ℕ} {environment values₀ : List �
           let g : Going pattern reference environment values₀ used₀ limit values opened depth top spent = record {
             taken = rw put (omega arith);
             places = subst (λ (r : List ℕ). Places limit opened depth (get_or r 2 0)) (sym put) (places_set pattern stack depth row limit depth top (omega arith) p);
-            room = (let c = args_count (denote pattern_room (cells pattern)) (cells pattern) (suc address) arity in
+            room = (let c = count_args (denote pattern_room (cells pattern)) (cells pattern) (suc address) arity in
                 let o = owed_set pattern stack depth row depth (omega arith) in
                 let a : words (rest_of pattern opened depth) ≡ words inner = ap words rest_is in
                 let b : count (rest_of pattern opened depth) ≡ count inner = ap count rest_is in
@@ -678,7 +669,7 @@ module _ {pattern : List ℕ} {reference : ℕ} {environment values₀ : List �
         done = done_of values base inputs
 
         done_count : count done ≡ inputs
-        done_count = args_count (denote 0 (cells values)) (cells values) base inputs
+        done_count = count_args (denote 0 (cells values)) (cells values) base inputs
 
         rest_none : rest_of pattern stack last ≡ nil
         rest_none =

@@ -6,19 +6,12 @@ use borrow.Author.Tests.{lt-ltb, le-ltb}
 use Rattle.terms.specs.Term.{app, nil, cons, Term, Terms, count, append}
 use Rattle.terms.specs.Term.Kind.{one as single, many as several}
 use Rattle.terms.specs.Bindings.{Bindings}
+use Rattle.terms.specs.TermLists.{append_nothing, append_more}
 use Rattle.evaluation.specs.Matching.{Built, barred, built, if_built, build_node, instantiate_of}
 
 -- An open node: its symbol, the arguments that are built, and those that are left.
 pub data Frame : Type 0 where
   frame : ℕ → Terms → Terms → Frame
-
-append_more : (ts : Terms) (t : Term) (us : Terms) → append ts (cons t us) ≡ append (append ts (cons t nil)) us
-append_more nil t us = refl
-append_more (cons u ts) t us = ap (cons u) (append_more ts t us)
-
-append_nothing : (ts : Terms) → append ts nil ≡ ts
-append_nothing nil = refl
-append_nothing (cons t ts) = ap (cons t) (append_nothing ts)
 
 -- A node fits the words, or not.
 pub node_fits : (limit f : ℕ) (ts : Terms) (used : ℕ) → used + suc (count ts) ≤ limit → build_node limit f ts used ≡ built (app f ts) (used + suc (count ts))

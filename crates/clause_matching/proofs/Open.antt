@@ -3,7 +3,6 @@ use Prim.Native.Nat.{ℕ, zero, suc, ◌+◌, ◌≤◌, ◌<◌}
 use native.Mathlib.Omega.{arith}
 use mathlib.Core.Path.{◌≡◌, refl, ap}
 use mathlib.Core.Logic.{◌≢◌}
-use mathlib.Core.Bool.{Bool, true, false}
 use mathlib.Core.List.{List, []}
 use lib.ListN.{get_or, length, set}
 use lib.Seq.{get_or-set_same, get_or-set_other}
@@ -11,7 +10,6 @@ use Rattle.terms.specs.Term.{nil, cons, Term, Terms, count, append, size}
 use Rattle.terms.specs.Bindings.{Bindings}
 use Rattle.arena.specs.Cells.{Cells, args, denote, Reference}
 use Rattle.arena.specs.Rows.{Rows, column}
-use Rattle.resolution.specs.Search.{words}
 use Rattle.evaluation.specs.Matching.{Fitted, misfit, fitted, if_fitted, bind_of}
 
 -- The arguments left in the first d rows, those of the last row first: column 2 says how many, and column k where they stand.
@@ -19,27 +17,14 @@ abbrev pub unmet : ℕ → ℕ → Cells → Rows → ℕ → Terms
 unmet N k w rows zero = nil
 unmet N k w rows (suc d) = append (args (denote N w) w (column k rows d) (column 2 rows d)) (unmet N k w rows d)
 
--- A term that waits, in front of them.
-abbrev pub pending : Bool → Term → Terms → Terms
-pending true t ts = cons t ts
-pending false t ts = ts
-
 -- n references in use, from the address p on.
 pub record Row (N : ℕ) (w : Cells) (variables used p n : ℕ) : Type 0 where
   pub inside : p + n ≤ used
   pub references : (i : ℕ) → i < n → Reference N w variables used (w (p + i))
 
-pub words_append : (ts us : Terms) → words (append ts us) ≡ words ts + words us
-words_append nil us = omega arith
-words_append (cons t ts) us = let h = words_append ts us in omega arith
-
 pub size_append : (ts us : Terms) → size (append ts us) + 1 ≡ size ts + size us
 size_append nil us = omega arith
 size_append (cons t ts) us = let h = size_append ts us in omega arith
-
-pub args_count : (g : ℕ → Term) (w : Cells) (p n : ℕ) → count (args g w p n) ≡ n
-args_count g w p zero = refl
-args_count g w p (suc n) = ap suc (args_count g w (suc p) n)
 
 -- Rows written at d or above leave the first d rows as they are.
 unmet_set : (N k : ℕ) (w : Cells) (rows : Rows) (d i : ℕ) (row : List ℕ) → d ≤ i → unmet N k w (set rows i row) d ≡ unmet N k w rows d

@@ -8,14 +8,12 @@ use Rattle.arena.specs.Cells.{headers, cells, denote, Reference, WellFormed}
 use Rattle.arena.specs.Copies.{pattern_room}
 use Rattle.arena.specs.Form.{is_header, in_form}
 use Rattle.resolution.specs.Search.{words}
+-- The term of a pattern's reference.
+pub use Rattle.attempts.specs.StoredRules.{pattern_of as pattern_at}
 
 -- The value of a reference.
 abbrev pub value_at : List ℕ → ℕ → Term
 value_at values r = denote 0 (cells values) r
-
--- The term of a pattern's reference.
-abbrev pub pattern_at : List ℕ → ℕ → Term
-pattern_at pattern r = denote pattern_room (cells pattern) r
 
 -- Is r the reference of a value among the first `used` words?
 abbrev pub Value : List ℕ → ℕ → ℕ → Type 0

@@ -8,6 +8,7 @@ use Rattle.parser.specs.Rows.{declared_rows}
 use Rattle.names.specs.Names.{Name}
 use Rattle.names.specs.NamePlaces.{NamePlace}
 use Rattle.names.specs.Symbols.{Rows, column, row_at, symbols_of}
+pub use Rattle.names.specs.RowNames.{name_at}
 use Rattle.rules.specs.PatternLaws.{InputsUpto}
 use Rattle.rules.specs.declared.Title.{Title}
 use Rattle.refusals.specs.declared.Refusal.{Refusal}
@@ -27,10 +28,6 @@ use Rattle.loader.specs.PlaceLaws.{Titled}
 use Rattle.declarations.specs.Held.{RulesHeld, Held}
 use Rattle.declarations.specs.declared.State.{State}
 use Rattle.declarations.specs.declared.Progress.{Progress}
-
--- The name in a row.
-abbrev pub name_at : List ℕ → Rows → ℕ → Name
-name_at text rows p = part_of text (column (row_at rows p) 1) (column (row_at rows p) 2)
 
 -- The place of the name in a row.
 abbrev pub place_at : Rows → ℕ → Place

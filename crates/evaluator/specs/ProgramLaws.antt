@@ -7,12 +7,13 @@ use Rattle.std.proofs.Common.{◌∙◌, length-take, get_or-take}
 use Rattle.std.proofs.Math.Option.{some}
 use mathlib.Core.List.{List, [], ◌∷◌, map}
 use Rattle.std.proofs.Math.ListN.{length, get_or-map, get_or-eq_default}
-use Rattle.terms.specs.Numbers.{less_yes, less_no, same_refl, by_less}
+use Rattle.std.proofs.lemmas.List.{get_or_past}
+use Rattle.terms.specs.Numbers.{by_less}
 use Rattle.terms.specs.Term.{Term, Terms, var, app, cons, count}
 use Rattle.arena.specs.Cells.{headers, Cells, cells, symbol_of, arity_of, args, denote, terms_of, Same, Reference, WellFormed, denote_variable, denote_node, reference_up}
 use Rattle.arena.specs.Copies.{pattern_room}
-use Rattle.arena.specs.Form.{is_header, in_form}
-use Rattle.arena.specs.FormLaws.{Header, form_words}
+use Rattle.arena.specs.Form.{in_form}
+use Rattle.arena.specs.FormLaws.{Header, header_yes, form_words}
 use Rattle.resolution.specs.Rules.{Rule, rule_at_lem}
 use Rattle.resolution.specs.Search.{words}
 use Rattle.names.specs.Symbols.{Rows, Symbol, column, columns, row_at, symbol_at, no_symbol, symbol_of as symbolIn}
@@ -33,13 +34,8 @@ use Rattle.clause_matching.specs.Stored.{PatternIn, Headed, pattern_at}
 use Rattle.clause_matching.specs.Building.{rule_words}
 use Rattle.function_calls.specs.Calls.{PremiseIn, ClauseIn, Program}
 use Rattle.expressions.specs.Applying.{Tables}
-use Rattle.expressions.proofs.Building.{count_args}
 
 -- A known symbol's header is accepted.
-header_yes : (arities : List ℕ) (x : ℕ) → Header arities x → is_header arities x ≡ true
-unfolding is_header
-header_yes arities x h = rw (less_no h.high, less_yes h.known, ← h.own, same_refl (arity_of x), less_no h.few)
-
 -- Kept rules, one behind another
 
 module _ (text arities pattern : List ℕ) (rows : Rows) where
@@ -181,12 +177,7 @@ module _ (text : List ℕ) (sg : SignatureStore) (h : SignatureListed text sg) w
       (λ m q. let e : 0 + a ≡ a = omega arith in
       let w = form_words pattern 0 used pattern_room pattern_room arities (omega arith) (omega arith) low all_in_form a (omega arith) in
       rw e at (w.header (rw e l)))
-      (λ m q. let z : get_or pattern a 0 ≡ 0 = past pattern a (omega arith) in absurd (let y : ⊥ = omega arith in y))
-    where
-      past : (xs : List ℕ) (i : ℕ) → length xs ≤ i → get_or xs i 0 ≡ 0
-      past [] i l = refl
-      past (x ∷ xs) zero l = let z : ⊥ = omega arith in absurd z
-      past (x ∷ xs) (suc i) l = past xs i (omega arith)
+      (λ m q. let z : get_or pattern a 0 ≡ 0 = get_or_past pattern a 0 (omega arith) in absurd (let y : ⊥ = omega arith in y))
 
   -- Each header among the words in use is a known symbol's.
   pub listed_headed : Headed arities pattern

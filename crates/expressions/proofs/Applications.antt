@@ -7,6 +7,7 @@ use mathlib.Core.List.{List}
 use lib.Dec.{eqb}
 use lib.ListN.{length, get_or}
 use borrow.Author.Tests.{eq-eqb, ne_eqb}
+use Rattle.std.proofs.Math.Bool.{and-false}
 use Rattle.terms.specs.Term.{Terms}
 use Rattle.terms.specs.Term.Kind.{one as single, many as several}
 use Rattle.term_parser.specs.Source.{one}
@@ -33,10 +34,6 @@ use Rattle.forward_calls.proofs.Tables.{symbols_length, function_at, arity_at_le
 use Rattle.expressions.proofs.Forming.{arity_within, arity_known, denied_worth, made_worth, used_worth}
 use Rattle.expressions.proofs.Building.{built_is, built_barred}
 
-and_no : (a : Bool) → (a && false) ≡ false
-and_no true = refl
-and_no false = refl
-
 -- What a symbol is refused for, by its row.
 module _ (text row : List ℕ) (k : ℕ) where
   abbrev mark : ℕ
@@ -59,7 +56,7 @@ module _ (text row : List ℕ) (k : ℕ) where
   no_function a = rw (ne_eqb mark 0 a)
 
   pub no_predicate : (out ≡ 0 → ⊥) → (eqb mark 0 && eqb out 0) ≡ false
-  no_predicate a = rw (ne_eqb out 0 a) (and_no (eqb mark 0))
+  no_predicate a = rw (ne_eqb out 0 a) (and-false (eqb mark 0))
 
   module _ (e : (eqb mark 0 && eqb out 0) ≡ false) where
     pub misuse_count : (wanted ≡ k → ⊥) → misuse (symbol_of text row) k ≡ 21

@@ -1,5 +1,5 @@
 -- A node on values.
-use Prim.Native.Nat.{ℕ, zero, suc, ◌+◌, ◌-◌, ◌*◌, ◌≤◌, ◌<◌}
+use Prim.Native.Nat.{ℕ, suc, ◌+◌, ◌-◌, ◌*◌, ◌≤◌, ◌<◌}
 use native.Mathlib.Omega.{arith}
 use mathlib.Core.Path.{◌≡◌, refl, sym, ap, ap₂, ◌∙◌, subst}
 use mathlib.Core.List.{List, ◌∷◌}
@@ -9,7 +9,8 @@ use lib.Seq.{sets, length-sets}
 use borrow.Author.Tests.{lt-ltb, le-ltb}
 use Rattle.terms.specs.Numbers.{by_bool}
 use Rattle.terms.specs.Term.{Term, Terms, app, count}
-use Rattle.arena.specs.Cells.{headers, Cells, cells, args, denote}
+use Rattle.arena.specs.Cells.{headers, cells, denote}
+use Rattle.arena.specs.ArgumentLaws.{count_args}
 use Rattle.arena.specs.NodeLaws.{HeaderOf, header_of, args_list, push_frame, push_formed, push_reference, push_denotes}
 use Rattle.evaluation.specs.Matching.{Built, barred, built, build_node}
 use Rattle.clause_matching.specs.Stored.{Formed, value_at}
@@ -22,10 +23,6 @@ use Rattle.refusals.specs.Refusals.{number_of}
 use Rattle.refusals.specs.declared.Refusal.TheVariants.{OverLimit}
 use Rattle.expressions.specs.Nodes.{BuildAsked, BuildAnswered}
 use Rattle.expressions.proofs.Forming.{node_formed, barred_at, value_at_lem, used_at}
-
-pub count_args : (g : ℕ → Term) (w : Cells) (p n : ℕ) → count (args g w p n) ≡ n
-count_args g w p zero = refl
-count_args g w p (suc n) = ap suc (count_args g w (suc p) n)
 
 module _ {words : List ℕ} {used limit symbol : ℕ} {values : List ℕ} (h : BuildAsked words used limit symbol values) where
   abbrev size : ℕ

@@ -1,5 +1,5 @@
 -- What a numeral is refused for before anything is built.
-use Prim.Native.Nat.{ℕ, ◌+◌, ◌-◌, ◌≤◌, ◌<◌, min}
+use Prim.Native.Nat.{ℕ, zero, suc, ◌+◌, ◌-◌, ◌≤◌, ◌<◌, min}
 use native.Mathlib.Omega.{arith}
 use mathlib.Core.Path.{◌≡◌, refl, sym, ◌∙◌}
 use mathlib.Core.Bool.{Bool, true, false, cond, not, ◌&&◌}
@@ -12,10 +12,16 @@ use Rattle.refusals.specs.declared.Refusal.{Refusal}
 use Rattle.refusals.specs.Refusals.{number_of}
 use Rattle.terms.specs.Numbers.{by_less}
 use Rattle.names.specs.Symbols.{Rows, column, row_at, symbols_of}
+use Rattle.term_parser.specs.Source.{one as single}
 use Rattle.resolution.specs.Rules.{Rule}
-use Rattle.evaluation.specs.Expressions.{numeral_misuse}
+use Rattle.evaluation.specs.Expressions.{Evaluated, failed, unless, numeral_misuse}
 use Rattle.forward_calls.proofs.Tables.{arity_at_lem}
 use Rattle.expressions.specs.Nodes.{Finds}
+
+-- A misuse is the answer, whatever would come after it.
+pub unless_some : (e : ℕ) (f : ℕ → Evaluated single) → (e ≡ 0 → ⊥) → unless e f ≡ failed e
+unless_some zero f h = absurd (h refl)
+unless_some (suc e) f h = refl
 
 -- In numbers: y has a inputs, z has b.
 abbrev pub refusal_of : ℕ → ℕ → ℕ → ℕ → ℕ

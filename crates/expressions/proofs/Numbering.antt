@@ -1,5 +1,5 @@
 -- `numeral`: one law for each way out.
-use Prim.Native.Nat.{ℕ, zero, suc, ◌+◌, ◌≤◌, ◌<◌, min}
+use Prim.Native.Nat.{ℕ, zero, ◌+◌, ◌≤◌, ◌<◌, min}
 use native.Mathlib.Omega.{arith}
 use mathlib.Core.Path.{◌≡◌, refl, sym, ◌∙◌, subst}
 use mathlib.Core.Bool.{true, false, ◌&&◌}
@@ -20,11 +20,7 @@ use Rattle.refusals.specs.Refusals.{number_of}
 use Rattle.expressions.specs.Numerals.{NumeralAsked, TowerAsked, TowerAnswered, Gives, NumeralAnswered}
 use Rattle.forward_calls.proofs.Tables.{symbols_length}
 use Rattle.expressions.proofs.Forming.{barred_at}
-use Rattle.expressions.proofs.Misuses.{misuse_is, nothing_refused, refusal_row, refusal_of}
-
-unless_some : (e : ℕ) (f : ℕ → Evaluated one) → (e ≡ 0 → ⊥) → unless e f ≡ failed e
-unless_some zero f h = absurd (h refl)
-unless_some (suc e) f h = refl
+use Rattle.expressions.proofs.Misuses.{unless_some, misuse_is, nothing_refused, refusal_row, refusal_of}
 
 around_gives : (r : Result Answer Refusal) (words words' : List ℕ) (used limit calls : ℕ) (b : Built _) → Tells b r words words' used limit → Gives (around leaf calls b) calls r words words' used limit
 around_gives r words words' used limit calls (barred e) h = h

@@ -32,6 +32,7 @@ use Rattle.expressions.specs.declared.written.Expressed.{Expressed}
 use Rattle.forward_calls.proofs.Tables.{symbols_length, symbol_at_lem, function_at, arity_at_lem}
 use Rattle.forward_calls.proofs.Heads.{Head, head_of, row_within, number_row, meta_row}
 use Rattle.expressions.proofs.Forming.{value_at_lem, used_at, refused_answer, made_answer, used_answer}
+use Rattle.expressions.proofs.Misuses.{unless_some}
 
 -- A numeral makes no calls.
 abbrev Treeless : Evaluated one → Type 0
@@ -81,10 +82,6 @@ module _ (q : ℕ) (words : List ℕ) (trees : Rows) (words' : List ℕ) (used l
       let l : Lists 0 0 words' c.words trees calls 1 ps c.calls =
       subst (λ (y : Tree several). Lists 0 0 words' c.words trees calls 1 y c.calls) (sym n) k in
       (x, rw (a, b, k), s, record { lists = l; before = λ j y. refl })
-
-unless_some : (e : ℕ) (f : ℕ → Evaluated one) → (e ≡ 0 → ⊥) → unless e f ≡ failed e
-unless_some zero f h = absurd (h refl)
-unless_some (suc e) f h = refl
 
 deep_fails : (limit : ℕ) (S : List Symbol) (rules : List Rule) (t : Written one) (sorts : List ℕ) (depth : ℕ) (c : Spent) → 128 < depth → expression_of limit S rules t sorts depth c ≡ failed 29
 unfolding expression_of

@@ -9,7 +9,9 @@ use borrow.Author.Tests.{eq-eqb, ne_eqb}
 use Rattle.terms.specs.Numbers.{by_same}
 use Rattle.terms.specs.Term.{Term, Terms, nil, cons, append}
 use Rattle.terms.specs.Term.Kind.{many as several}
-use Rattle.arena.specs.Cells.{headers, Cells, cells, symbol_of, args, args_same, denote, Same, denote_node, frame_denote, reference_up}
+use Rattle.terms.specs.TermLists.{append_nothing, append_more}
+use Rattle.arena.specs.Cells.{headers, cells, symbol_of, args, args_same, denote, Same, denote_node, frame_denote, reference_up}
+use Rattle.arena.specs.ArgumentLaws.{args_more}
 use Rattle.arena.specs.NodeLaws.{reference_same}
 use Rattle.term_parser.specs.Source.{one, many}
 use Rattle.term_parser.specs.Standing as standing
@@ -17,7 +19,8 @@ use Rattle.term_parser.specs.Standing.{Written, nil as none, cons as more, size}
 use Rattle.names.specs.Symbols.{Rows, Symbol, column, row_at, symbols_of, symbol_at}
 use Rattle.names.specs.SearchLaws.{columns_at}
 use Rattle.patterns.specs.Patterns.{first, rest}
-use Rattle.resolution.specs.Rules.{Rule, Tree, leaf, ◌◂◌, joined}
+use Rattle.resolution.specs.Rules.{Rule, Tree, leaf, joined}
+use Rattle.resolution.specs.Refutations.{joined_joined}
 use Rattle.rules.specs.PatternLaws.{arities_of}
 use Rattle.tree_rows.proofs.TreeLaws.{lists_up, lists_grown, lists_same, lists_joined}
 use Rattle.evaluation.specs.Calls.{Spent}
@@ -47,26 +50,10 @@ extend_none : (o : Evaluated many) → extend nil leaf o ≡ o
 extend_none (failed e) = refl
 extend_none (evaluated us qs c) = refl
 
-append_more : (ts : Terms) (t : Term) (us : Terms) → append ts (cons t us) ≡ append (append ts (cons t nil)) us
-append_more nil t us = refl
-append_more (cons u ts) t us = ap (cons u) (append_more ts t us)
-
-append_nothing : (ts : Terms) → append ts nil ≡ ts
-append_nothing nil = refl
-append_nothing (cons t ts) = ap (cons t) (append_nothing ts)
-
-joined_again : (a b c : Tree several) → joined a (joined b c) ≡ joined (joined a b) c
-joined_again leaf b c = refl
-joined_again (p ◂ a) b c = ap (λ (x : Tree several). p ◂ x) (joined_again a b c)
-
 extend_more : (vs : Terms) (ps : Tree several) (v : Term) (qs : Tree several) (o : Evaluated many)
     → extend vs ps (if_evaluated o (λ us rs e. evaluated (cons v us) (joined qs rs) e)) ≡ extend (append vs (cons v nil)) (joined ps qs) o
 extend_more vs ps v qs (failed e) = refl
-extend_more vs ps v qs (evaluated us rs c) = ap₂ (λ (x : Terms) (y : Tree several). evaluated x y c) (append_more vs v us) (joined_again ps qs rs)
-
-args_more : (g : ℕ → Term) (w : Cells) (p n : ℕ) → args g w p (suc n) ≡ append (args g w p n) (cons (g (w (p + n))) nil)
-args_more g w p zero = let e : p + 0 ≡ p = omega arith in rw e
-args_more g w p (suc n) = let e : suc p + n ≡ p + suc n = omega arith in ap (cons (g (w p))) (rw e at (args_more g w (suc p) n))
+extend_more vs ps v qs (evaluated us rs c) = ap₂ (λ (x : Terms) (y : Tree several). evaluated x y c) (append_more vs v us) (joined_joined ps qs rs)
 
 rest_drop : (k : ℕ) (l : List ℕ) → rest (drop k l) ≡ drop (suc k) l
 rest_drop zero [] = refl

@@ -8,13 +8,14 @@ use native.Mathlib.Omega.{arith}
 use lib.ListN.{length, set, length-set}
 use lib.Seq.{get_or-set_same, get_or-set_other}
 use borrow.Author.Tests.{eq-eqb, ne_eqb}
-use Rattle.source_text.specs.Parts.{part_of}
 use Rattle.term_parser.specs.Source.{Arity, one, many}
 use Rattle.term_parser.specs.Rows.{application_kind}
 use Rattle.term_parser.specs.Standing as parsed
 use Rattle.term_parser.specs.Standing.{Written, number as numeral, meta, called, applied, nil as none, cons as more, size}
+use Rattle.term_parser.specs.ListLaws.{no_arguments}
 use Rattle.names.specs.Names.{Name, result_name}
 use Rattle.names.specs.Symbols.{Rows, column, row_at, Symbol, symbols_of}
+use Rattle.names.specs.RowNames.{kind_at, name_at}
 use Rattle.names.specs.Standing.{Stands, parsed_stands}
 use Rattle.flattening.specs.Flattening.{snoc, is_function, Flat, flat, resulted, calling, paired, and_flat, flatten_of}
 use Rattle.flattening.specs.Promises.{call_limit, arity_of, is_call, premise_count, Finishes, Room, FlatAs, FlatRows, TooMany, Flattens}
@@ -103,13 +104,6 @@ pub record Invariant (text : List ℕ) (rows : Rows) (at : ℕ) (symbols : List 
   pub same : (ts : Written many) (q : ℕ) (ps : Written many) → parsed.Stands text rows (at + 1) ts q → size ts ≡ n → Stands text calls₀ 0 ps end → size ps ≡ number
       → Arguments text rows symbols ts ps q n i row out (top + 1) last calls stop made
 
--- The kind of a row, and the name at its place.
-abbrev kind_at : Rows → ℕ → ℕ
-kind_at rows p = column (row_at rows p) 0
-
-abbrev word_at : List ℕ → Rows → ℕ → Name
-word_at text rows p = part_of text (column (row_at rows p) 1) (column (row_at rows p) 2)
-
 abbrev pub Counted : Rows → ℕ → ℕ → Type 0
 Counted rows at n = n ≡ arity_of (kind_at rows at) (column (row_at rows at) 3)
 
@@ -120,11 +114,6 @@ past_rows text rows at symbols calls end number l (numeral v) q ps st sp cp = ab
 past_rows text rows at symbols calls end number l (meta w) q ps st sp cp = absurd (omega arith)
 past_rows text rows at symbols calls end number l (called w) q ps st sp cp = absurd (omega arith)
 past_rows text rows at symbols calls end number l (applied w ts) q ps st sp cp = absurd (omega arith)
-
-no_arguments : (us : Written many) → size us ≡ 0 → us ≡ none
-unfolding size
-no_arguments none e = refl
-no_arguments (more u us) e = absurd (omega arith)
 
 -- The term's row is copied, and no argument is flattened yet.
 module _ (text : List ℕ) {rows : Rows} {at : ℕ} {symbol_rows : Rows} {count : ℕ} {out : Rows} {top : ℕ} {calls : Rows} {end number : ℕ}
@@ -295,18 +284,18 @@ module _ {text : List ℕ} {rows : Rows} {at : ℕ} {symbol_rows : Rows} {count 
           },
         )
 
-    plain : is_call symbols (kind_at rows at) (word_at text rows at) ≡ false → (t : Written one) (q : ℕ) (ps : Written many) → parsed.Stands text rows at t q → Stands text calls₀ 0 ps end → size ps ≡ number
+    plain : is_call symbols (kind_at rows at) (name_at text rows at) ≡ false → (t : Written one) (q : ℕ) (ps : Written many) → parsed.Stands text rows at t q → Stands text calls₀ 0 ps end → size ps ≡ number
         → (row ≡ q) × FlatAs text (flatten_of symbols t ps) out top last calls stop made
     unfolding parsed.Stands Stands flatten_of
     plain other (numeral v) q ps st sp cp = leaf (numeral v) q ps st st.3 (plain_arity (λ y. omega arith)) refl sp cp
     plain other (meta w) q ps st sp cp = let k = st.0.kinded in leaf (meta w) q ps st st.1 (plain_arity (λ y. omega arith)) refl sp cp
     plain other (called w) q ps st sp cp =
         let k = st.0.kinded in
-        let f : is_function symbols w ≡ false = rw st.0.spells at (sym (call_of_lem symbols (kind_at rows at) (word_at text rows at) (λ y. omega arith) (λ y. omega arith)) ∙ other) in
+        let f : is_function symbols w ≡ false = rw st.0.spells at (sym (call_of_lem symbols (kind_at rows at) (name_at text rows at) (λ y. omega arith) (λ y. omega arith)) ∙ other) in
         leaf (called w) q ps st st.1 (plain_arity (λ y. omega arith)) (rw f) sp cp
     plain other (applied w ts) q ps st sp cp =
         let k = st.0.kinded in
-        let f : is_function symbols w ≡ false = rw st.0.spells at (sym (call_of_lem symbols (kind_at rows at) (word_at text rows at) (λ y. omega arith) (λ y. omega arith)) ∙ other) in
+        let f : is_function symbols w ≡ false = rw st.0.spells at (sym (call_of_lem symbols (kind_at rows at) (name_at text rows at) (λ y. omega arith) (λ y. omega arith)) ∙ other) in
         let a = all_flat ts q ps st.1 (sym st.0.counts ∙ sym (applied_arity k)) sp cp in
         let h = parsed_stands text rows at (applied w ts) q st in
         let o = out_long in (
@@ -328,7 +317,7 @@ module _ {text : List ℕ} {rows : Rows} {at : ℕ} {symbol_rows : Rows} {count 
     below_top : (k : ℕ) → k < top → row_at out k ≡ row_at out₀ k
     below_top k l = inv.below k (omega arith) ∙ get_or-set_other out₀ top k (row_at rows at) [] (λ q. omega arith)
 
-    pub end_plain : is_call symbols (kind_at rows at) (word_at text rows at) ≡ false → FlatRows text rows at symbols out₀ top calls₀ end number out calls row last stop made
+    pub end_plain : is_call symbols (kind_at rows at) (name_at text rows at) ≡ false → FlatRows text rows at symbols out₀ top calls₀ end number out calls row last stop made
     end_plain other =
         record {
           onward = omega arith;
@@ -348,33 +337,33 @@ module _ {text : List ℕ} {rows : Rows} {at : ℕ} {symbol_rows : Rows} {count 
     record Call (t : Written one) (ps : Written many) (q : ℕ) : Type 0 where
       pub us : Written many
       pub qs : Written many
-      pub is : flatten_of symbols t ps ≡ resulted (word_at text rows at) us qs
+      pub is : flatten_of symbols t ps ≡ resulted (name_at text rows at) us qs
       pub ends : row ≡ q
       pub done : Stands text out (top + 1) us last
       pub sized : size us ≡ n
       pub stand : Stands text calls 0 qs stop
       pub numbered : size qs ≡ made
 
-    call_is : is_call symbols (kind_at rows at) (word_at text rows at) ≡ true → (t : Written one) (q : ℕ) (ps : Written many) → parsed.Stands text rows at t q → Stands text calls₀ 0 ps end → size ps ≡ number → Call t ps q
+    call_is : is_call symbols (kind_at rows at) (name_at text rows at) ≡ true → (t : Written one) (q : ℕ) (ps : Written many) → parsed.Stands text rows at t q → Stands text calls₀ 0 ps end → size ps ≡ number → Call t ps q
     unfolding parsed.Stands size flatten_of
-    call_is called-here (numeral v) q ps st sp cp = absurd ((is_call_kind symbols (kind_at rows at) (word_at text rows at) called-here).1 st.1)
-    call_is called-here (meta w) q ps st sp cp = absurd ((is_call_kind symbols (kind_at rows at) (word_at text rows at) called-here).0 st.0.kinded)
+    call_is called-here (numeral v) q ps st sp cp = absurd ((is_call_kind symbols (kind_at rows at) (name_at text rows at) called-here).1 st.1)
+    call_is called-here (meta w) q ps st sp cp = absurd ((is_call_kind symbols (kind_at rows at) (name_at text rows at) called-here).0 st.0.kinded)
     call_is called-here (called w) q ps st sp cp =
         let k = st.0.kinded in
-        let f : is_function symbols w ≡ true = rw st.0.spells at (sym (call_of_lem symbols (kind_at rows at) (word_at text rows at) (λ y. omega arith) (λ y. omega arith)) ∙ called-here) in
+        let f : is_function symbols w ≡ true = rw st.0.spells at (sym (call_of_lem symbols (kind_at rows at) (name_at text rows at) (λ y. omega arith) (λ y. omega arith)) ∙ called-here) in
         let a = all_flat none q ps st.1 (sym (plain_arity (λ y. omega arith))) sp cp in
         let us : none ≡ a.us = (let y = a.is in cc) in
         let qs : ps ≡ a.qs = (let y = a.is in cc) in
         record { us = a.us; qs = a.qs; is = rw (f, st.0.spells, ← us, ← qs); ends = a.ends; done = a.done; sized = a.sized; stand = a.stand; numbered = a.numbered }
     call_is called-here (applied w ts) q ps st sp cp =
         let k = st.0.kinded in
-        let f : is_function symbols w ≡ true = rw st.0.spells at (sym (call_of_lem symbols (kind_at rows at) (word_at text rows at) (λ y. omega arith) (λ y. omega arith)) ∙ called-here) in
+        let f : is_function symbols w ≡ true = rw st.0.spells at (sym (call_of_lem symbols (kind_at rows at) (name_at text rows at) (λ y. omega arith) (λ y. omega arith)) ∙ called-here) in
         let a = all_flat ts q ps st.1 (sym st.0.counts ∙ sym (applied_arity k)) sp cp in
         record { us = a.us; qs = a.qs; is = rw (f, a.is, st.0.spells); ends = a.ends; done = a.done; sized = a.sized; stand = a.stand; numbered = a.numbered }
 
     call_over : {t : Written one} {ps : Written many} {q : ℕ} → Call t ps q → made ≡ call_limit → call_limit < premise_count (flatten_of symbols t ps)
     call_over a e =
-        let k = size_snoc a.qs (applied (word_at text rows at) (snoc a.us (called (result_name (suc (size a.qs)))))) in
+        let k = size_snoc a.qs (applied (name_at text rows at) (snoc a.us (called (result_name (suc (size a.qs)))))) in
         let c = a.numbered in
         rw a.is (omega arith)
 
@@ -385,7 +374,7 @@ module _ {text : List ℕ} {rows : Rows} {at : ℕ} {symbol_rows : Rows} {count 
         (inv.written, omega arith, omega arith, inv.allowed, omega arith)
 
     -- What `finish` answers is right.
-    pub end_call : is_call symbols (kind_at rows at) (word_at text rows at) ≡ true → (out' calls' : Rows) (r : Option Place) → length out' ≡ length out → length calls' ≡ length calls
+    pub end_call : is_call symbols (kind_at rows at) (name_at text rows at) ≡ true → (out' calls' : Rows) (r : Option Place) → length out' ≡ length out → length calls' ≡ length calls
         → Finishes out top last calls stop made (column (row_at rows at) 1) (column (row_at rows at) 2) n row out' calls' r → Flattens text rows at symbols out₀ top calls₀ end number out' calls' r
     end_call called-here out' calls' None lo lc f = λ t q ps st sp cp. call_over (call_is called-here t q ps st sp cp) f
     end_call called-here out' calls' (Some p) lo lc f =
@@ -405,7 +394,7 @@ module _ {text : List ℕ} {rows : Rows} {at : ℕ} {symbol_rows : Rows} {count 
           flattens = λ u q ps st sp cp.
               let a = call_is called-here u q ps st sp cp in
               let y = f.stand text a.qs a.us a.stand a.numbered a.done a.sized in
-              let p : Written one = applied (word_at text rows at) (snoc a.us (called (result_name (suc made)))) in
+              let p : Written one = applied (name_at text rows at) (snoc a.us (called (result_name (suc made)))) in
               let k = size_snoc a.qs p in
               let c = a.numbered in (
                 f0 ∙ a.ends,

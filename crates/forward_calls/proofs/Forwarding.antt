@@ -10,6 +10,8 @@ use borrow.Author.Tests.{eq-eqb, ne_eqb, eqb-true, eqb-false, lt-ltb, le-ltb}
 use Rattle.std.specs.Prelude.{Option, Some, None, position}
 use Rattle.std.specs.Option.{SomeIff, option_eq}
 use Rattle.std.proofs.Math.Seq.{take-length}
+use Rattle.std.proofs.Math.Bool.{and-false}
+use Rattle.std.proofs.lemmas.Bool.{not-true, not-false}
 use Rattle.source_text.specs.Bytes.{same_bytes}
 use Rattle.names.specs.SearchLaws.{symbol_some, symbol_none}
 use Rattle.term_parser.specs.Source.{one}
@@ -38,26 +40,14 @@ and_false : (a b : Bool) → (a && (false && b)) ≡ false
 and_false true b = refl
 and_false false b = refl
 
-and_false₂ : (a : Bool) → (a && false) ≡ false
-and_false₂ true = refl
-and_false₂ false = refl
-
-not_true : (b : Bool) → not b ≡ true → b ≡ false
-not_true true e = sym e
-not_true false e = refl
-
-not_false : (b : Bool) → not b ≡ false → b ≡ true
-not_false true e = refl
-not_false false e = sym e
-
 -- A number less one, if there is one less, is compared with another.
 one_more : {n m : ℕ} (o : Option ℕ) → SomeIff o (1 ≤ n) (n - 1) → not (option_eq eqb o (Some m)) ≡ false → suc m ≡ n
 one_more None s e = absurd (let z : ⊥ = cc in z)
-one_more {n} {m} (Some x) s e = let (l, q) = s in let p : x ≡ m = eqb-true x m (not_false (eqb x m) e) in omega arith
+one_more {n} {m} (Some x) s e = let (l, q) = s in let p : x ≡ m = eqb-true x m (not-false (eqb x m) e) in omega arith
 
 not_more : {n m : ℕ} (o : Option ℕ) → SomeIff o (1 ≤ n) (n - 1) → not (option_eq eqb o (Some m)) ≡ true → suc m ≡ n → ⊥
 not_more {n} {m} None s e f = s (omega arith)
-not_more {n} {m} (Some x) s e f = let (l, q) = s in eqb-false x m (not_true (eqb x m) e) (omega arith)
+not_more {n} {m} (Some x) s e f = let (l, q) = s in eqb-false x m (not-true (eqb x m) e) (omega arith)
 
 module _ {text : List ℕ} {rows : Rows} {at : ℕ} {symbols : Rows} (h : ForwardAsked text rows at symbols) where
   abbrev count : ℕ
@@ -106,7 +96,7 @@ module _ {text : List ℕ} {rows : Rows} {at : ℕ} {symbols : Rows} (h : Forwar
 
       wrong_count : (suc (column (row_at rows at) 3) ≡ column (row_at symbols i) 6 → ⊥) → ForwardAnswered text rows at symbols false
       wrong_count f = answer false
-          (rw (arity_at_lem text symbols count lent i l, ne_eqb (suc (column (row_at rows at) 3)) (column (row_at symbols i) 6) f, and_false₂ (eqb (symbol_at table i).function 1)) (and_false₂ (ltb i count))) false (λ t q s. refl)
+          (rw (arity_at_lem text symbols count lent i l, ne_eqb (suc (column (row_at rows at) 3)) (column (row_at symbols i) 6) f, and-false (eqb (symbol_at table i).function 1)) (and-false (ltb i count))) false (λ t q s. refl)
 
       module _ (o : Option ℕ) (s : SomeIff o (1 ≤ column (row_at symbols i) 6) (column (row_at symbols i) 6 - 1)) where
         pub of_count : not (option_eq eqb o (Some (column (row_at rows at) 3))) ≡ true → ForwardAnswered text rows at symbols false

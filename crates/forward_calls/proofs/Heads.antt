@@ -11,6 +11,7 @@ use Rattle.term_parser.specs.Standing.{Written, number, meta, called, applied, n
 use Rattle.source_text.specs.Parts.{part_of}
 use Rattle.names.specs.Names.{Name, name_of}
 use Rattle.names.specs.Symbols.{Rows, Symbol, column, row_at, symbol_at}
+use Rattle.names.specs.RowNames.{kind_at}
 use Rattle.resolution.specs.Rules.{Rule}
 use Rattle.evaluation.specs.Calls.{Spent}
 use Rattle.evaluation.specs.Expressions.{is_ground, is_called_with, is_forward_call, within, with_symbol, apply_of, expression_of}
@@ -37,9 +38,6 @@ pub record Head (text : List ℕ) (rows : Rows) (p : ℕ) (t : Written one) (q :
 and_true : (b : Bool) → b ≡ (b && true)
 and_true true = refl
 and_true false = refl
-
-abbrev kind_at : Rows → ℕ → ℕ
-kind_at rows p = column (row_at rows p) 0
 
 spelled : (text : List ℕ) (rows : Rows) (p kind : ℕ) (w : Name) → (kind ≡ 27 → ⊥) → kind_at rows p ≡ kind
     → part_of text (column (row_at rows p) 1) (column (row_at rows p) 2) ≡ w

@@ -12,11 +12,13 @@ use Rattle.terms.specs.Term.Kind.{one as single, many as several}
 use Rattle.terms.specs.TermLaws.{app_inj}
 use Rattle.terms.specs.Bindings.{Bindings}
 use Rattle.arena.specs.Cells.{headers, cells, symbol_of, arity_of, args, denote, Same, denote_node, reference_argument}
+use Rattle.arena.specs.ArgumentLaws.{count_args}
 use Rattle.arena.specs.Copies.{pattern_room}
 use Rattle.names.specs.Symbols.{Rows, Symbol, column, row_at}
 use Rattle.names.specs.SearchLaws.{columns_length, columns_at}
 use Rattle.rules.specs.StoredRows.{heads_in}
 use Rattle.resolution.specs.Rules.{Rule, Tree, node, leaf, ◌◂◌, joined}
+use Rattle.resolution.specs.Refutations.{joined_joined}
 use Rattle.tree_rows.specs.Trees.{tree_row}
 use Rattle.evaluation.specs.Matching.{Fitted, misfit, fitted, bind_of, Built, barred, built, if_built, build_node, instantiate_of, front, last}
 use Rattle.evaluation.specs.Calls.{Spent, Called, refused, returned, Walked, stopped, walked, if_arguments, if_called, if_result, under_first, premises_of, concluded_by, concluded, call_of}
@@ -33,7 +35,6 @@ use Rattle.clause_matching.specs.declared.building.Built.{Built as Reply}
 use Rattle.clause_matching.specs.declared.references.Pattern.{Pattern}
 use Rattle.clause_matching.specs.declared.references.Pattern.TheVariants.{Variable, Node}
 use Rattle.function_calls.specs.declared.calls.Outcome.{Outcome}
-use Rattle.clause_matching.proofs.Open.{args_count}
 use Rattle.clause_matching.proofs.Forming.{FormsKept, ok_is}
 use Rattle.function_calls.proofs.Forming.{refused_forms, answer_forms, refused_spent, answer_spent}
 use Rattle.clause_matching.proofs.Arguments.{refused_is, Found, found}
@@ -48,10 +49,6 @@ prefixed ts (walked γ ps c) = walked γ (joined ts ps) c
 abbrev pub then_premises : Walked → (Bindings → Spent → Walked) → Walked
 then_premises (stopped e) next = stopped e
 then_premises (walked γ ps c) next = prefixed ps (next γ c)
-
-joined_joined : (ps qs rs : Tree several) → joined ps (joined qs rs) ≡ joined (joined ps qs) rs
-joined_joined leaf qs rs = refl
-joined_joined (p ◂ ps) qs rs = ap (λ (x : Tree several). p ◂ x) (joined_joined ps qs rs)
 
 prefixed_nothing : (o : Walked) → prefixed leaf o ≡ o
 prefixed_nothing (stopped e) = refl
@@ -495,8 +492,8 @@ module _ {symbol_rows rule_rows : Rows} {pattern : List ℕ} {rule depth height 
             let v : value_at words' value ≡ app (symbol_of header) (args (denote 0 (cells words')) (cells words') (suc value) (arity_of header)) =
             rw z at (denote_node 0 (cells words') 0 then s.stored.formed value s.root (omega arith)) in
             let (x, y) = app_inj (symbol_of (cells pattern address)) (symbol_of header) ts (args (denote 0 (cells words')) (cells words') (suc value) (arity_of header)) (sym e ∙ sym s.is ∙ v) in
-            let c₁ = args_count (denote 0 (cells words')) (cells words') (suc value) (arity_of header) in
-            let c₂ = args_count (denote pattern_room (cells pattern)) (cells pattern) (suc address) (arity_of (cells pattern address)) in
+            let c₁ = count_args (denote 0 (cells words')) (cells words') (suc value) (arity_of header) in
+            let c₂ = count_args (denote pattern_room (cells pattern)) (cells pattern) (suc address) (arity_of (cells pattern address)) in
             let c₃ : count ts ≡ count (args (denote 0 (cells words')) (cells words') (suc value) (arity_of header)) = ap count y in
             let n : arity_of header ≡ suc h.asked.patterns = (let ci = conclusion.inputs in omega arith) in
             let at : suc value + h.asked.patterns ≡ value + header % 32 = omega arith in

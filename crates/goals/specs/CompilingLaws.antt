@@ -11,6 +11,7 @@ use Rattle.names.specs.SearchLaws.{table_length, table_more}
 use Rattle.names.specs.Standing.{Stands}
 use Rattle.patterns.specs.Patterns.{Out, bad, good, pattern_of}
 use Rattle.patterns.specs.Laying.{Laid, laid, after, lay}
+use Rattle.patterns.specs.LaidLaws.{after_none, no_yes}
 use Rattle.patterns.specs.Promises.{no, yes, stored, answer, Small, NextIs, Placed, LiesIn, MadePlaced, Compiled}
 use Rattle.patterns.specs.declared.CompiledTerm.{CompiledTerm}
 use Rattle.refusals.specs.Refusals.{number_of}
@@ -55,15 +56,9 @@ copied_none text names vs = refl
 
 -- The ways out
 
-after_none : (l : Laid) → after [] l ≡ l
-after_none (laid rs w u) = refl
-
 names_count : (text : List ℕ) (names : Rows) → length (names_in text names (length names)) ≡ length names
 unfolding names_in
 names_count text names = table_length (named_in text) names (length names) (omega arith)
-
-no_yes : {A : Type 0} {e : ℕ} {l : Laid} {vs : List Variable} {m : ℕ} → no e ≡ yes l vs m → A
-no_yes q = absurd (let z : ◌≡◌ {A = ℕ} 0 1 = cc in omega arith)
 
 yes_no : {A : Type 0} {e : ℕ} {l : Laid} {vs : List Variable} {m : ℕ} → yes l vs m ≡ no e → A
 yes_no q = absurd (let z : ◌≡◌ {A = ℕ} 0 1 = cc in omega arith)

@@ -17,6 +17,7 @@ use Rattle.bindings.specs.Stored.{Form}
 use Rattle.names.specs.Symbols.{Rows, column, row_at}
 use Rattle.names.specs.SearchLaws.{table_length, table_at, get_d_any}
 use Rattle.resolution.specs.Session.{Named, variable_at}
+use Rattle.resolution.specs.Naming.{no_name}
 use Rattle.attempts.specs.StoredRules.{Part, Root}
 use Rattle.attempts.specs.Parts.{copied_form, copied_grown, copied_reference, copied_denotes}
 use Rattle.rules.specs.LayingLaws.{lying_one, lying_part, lying_root, lying_form}
@@ -121,11 +122,7 @@ module _ {vs : Rows} {pattern : List ℕ} {g : Goal} {names : Rows} {words : Lis
 
 -- Places
 
--- What stands past the last name.
-abbrev nobody : Named
-nobody = record { name = record { text = []; sort = 0 }; variable = 0 }
-
-variable_old : (ns : List Named) (c i : ℕ) → i < length ns → variable_at ns c i ≡ (get_or ns i nobody).variable
+variable_old : (ns : List Named) (c i : ℕ) → i < length ns → variable_at ns c i ≡ (get_or ns i no_name).variable
 variable_old [] c i l = absurd (omega arith)
 variable_old (n ∷ ns) c zero l = refl
 variable_old (n ∷ ns) c (suc i) l = variable_old ns c i (omega arith)
@@ -157,7 +154,7 @@ module _ (vs names names' : Rows) (n v c : ℕ) (places : List ℕ) (h : NamesEn
       let long : length ns ≡ n = table_length (named_in text) names n lent in
       by_less i n
       (λ q _. place_old i l q
-      ∙ sym (variable_old ns c i (omega arith) ∙ ap (λ (x : Named). x.variable) (get_d_any ns i nobody (named_in text []) (omega arith)
+      ∙ sym (variable_old ns c i (omega arith) ∙ ap (λ (x : Named). x.variable) (get_d_any ns i no_name (named_in text []) (omega arith)
       ∙ table_at (named_in text) names n lent i q)))
       (λ q _. place_new i l q ∙ (let e : c + (i - n) ≡ c + (i - length ns) = omega arith in e) ∙ sym (variable_new ns c i (omega arith)))
 

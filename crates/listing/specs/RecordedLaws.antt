@@ -2,11 +2,12 @@
 use Prim.Native.Nat.{ℕ, zero, suc, ◌+◌, ◌*◌, ◌-◌, ◌≤◌, ◌<◌, min}
 use Rattle.std.proofs.Common.{arith, sym, ap₂, ◌∙◌, lt-ltb, le-ltb, le-leb, leb-true, ltb-true, ltb-false}
 use Rattle.std.proofs.lemmas.Bool.{lt-leb}
+use Rattle.std.proofs.lemmas.List.{get_or_past}
 use Rattle.terms.specs.Numbers.{by_bool}
 use Rattle.source_text.specs.Bytes.{within}
 use Rattle.source_text.specs.ByteLaws.{and_right}
 use Rattle.source_text.specs.Numerals.{digit_of}
-use Rattle.std.specs.Prelude.{Some, None, IfSome, true, false, leb, ltb, ◌≡◌, List, [], ◌∷◌, get_or, length}
+use Rattle.std.specs.Prelude.{Some, None, IfSome, true, false, leb, ltb, ◌≡◌, List, get_or, length}
 use Rattle.std.proofs.Math.Path.{refl, ap}
 use Rattle.listing.specs.Recorded.{largest, digit_at, read_digit, decimal_from, decimal_at, recorded_by, recorded_at}
 use Rattle.listing.specs.declared.recorded.Decimal.{Decimal}
@@ -27,13 +28,8 @@ module _ (list : List ℕ) (at : ℕ) where
   pub digit_is : 48 ≤ get_or list at 0 → get_or list at 0 ≤ 57 → digit_at list at ≡ get_or list at 0 - 48
   digit_is l h = rw (le-leb 48 (get_or list at 0) l, le-leb (get_or list at 0) 57 h)
 
-past : (list : List ℕ) (at : ℕ) → length list ≤ at → get_or list at 0 ≡ 0
-past [] at h = refl
-past (c ∷ list) zero h = absurd (omega arith)
-past (c ∷ list) (suc at) h = past list at (omega arith)
-
 pub digit_past : (list : List ℕ) (at : ℕ) → length list ≤ at → digit_at list at ≡ 10
-digit_past list at h = let e = past list at h in rw e refl
+digit_past list at h = let e = get_or_past list at 0 h in rw e refl
 
 -- A digit is read where it is below 10.
 pub read_none : (d : ℕ) → read_digit d ≡ None → 9 < d

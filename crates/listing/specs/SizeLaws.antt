@@ -1,14 +1,14 @@
 -- A listing has at most 26 bytes for each byte of the text, or 35: the tokens are parts of the text, and each has at least a byte.
 use Prim.Native.Nat.{ℕ, zero, suc, ◌+◌, ◌*◌, ◌-◌, ◌≤◌}
 use native.Mathlib.Omega.{arith}
-use Rattle.std.specs.Prelude.{◌≡◌, Bool, true, false, eqb, ltb, leb, get_or, drop}
+use Rattle.std.specs.Prelude.{◌≡◌, Bool, false, eqb, ltb, leb, get_or, drop}
 use mathlib.Core.List.{List, [], ◌∷◌, ◌++◌}
 use Rattle.std.proofs.Math.ListN.{length, length-append}
 use Rattle.std.proofs.Common.{length-take}
 use borrow.Author.Tests.{ltb-false}
 use Rattle.terms.specs.Numbers.{by_bool}
 use Rattle.source_text.specs.Bytes.{starts_with, up_to}
-use Rattle.source_text.specs.ByteLaws.{and_right}
+use Rattle.source_text.specs.ScanLaws.{upto_short, starts_short}
 use Rattle.source_text.specs.Characters.{character_of, blank, sign}
 use Rattle.source_text.specs.Lines.{prepend, lines, code_of}
 use Rattle.source_text.specs.Numerals.{all_digits, numeral_of}
@@ -64,11 +64,6 @@ Sized n Blank = Unit {0}
 Sized n (Token kind m) = (1 ≤ m) × (m ≤ n)
 Sized n (Refused r) = Unit {0}
 
-upto_short : (p : List ℕ → Bool) (s : List ℕ) → length (up_to p s) ≤ length s
-unfolding up_to
-upto_short p [] = omega arith
-upto_short p (c ∷ s) = by_bool (p (c ∷ s)) (λ e. rw e (omega arith)) (λ e. rw e (let h = upto_short p s in omega arith))
-
 upto_some : (p : List ℕ → Bool) (c : ℕ) (s : List ℕ) → p (c ∷ s) ≡ false → 1 ≤ length (up_to p (c ∷ s))
 unfolding up_to
 upto_some p c s e = rw e (omega arith)
@@ -83,12 +78,6 @@ word_sized w n l h =
     go : (v : Option ℕ) → Sized n (if_fits v (Token numeral_kind (length w)))
     go (Read v) = (l, h)
     go None = tt
-
-starts_short : (w s : List ℕ) → starts_with w s ≡ true → length w ≤ length s
-unfolding starts_with
-starts_short [] s e = omega arith
-starts_short (a ∷ w) [] e = absurd (let z : ◌≡◌ {A = ℕ} 0 1 = cc in omega arith)
-starts_short (a ∷ w) (c ∷ s) e = let h = starts_short w s (and_right (eqb c a) (starts_with w s) e) in omega arith
 
 -- Each sign has a byte at least.
 abbrev Some : List Sign → Type 0

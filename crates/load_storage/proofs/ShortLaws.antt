@@ -4,7 +4,7 @@ use mathlib.Core.Path.{◌≡◌, refl}
 use mathlib.Core.Bool.{Bool, true, false, ◌||◌}
 use lib.Dec.{ltb}
 use borrow.Author.Tests.{lt-ltb, ltb-false}
-use Rattle.terms.specs.Numbers.{true_false}
+use Rattle.std.proofs.lemmas.Bool.{or_parts}
 use Rattle.load_storage.specs.Storage.{short_by}
 
 or_later : (a : Bool) {b : Bool} → true ≡ b → true ≡ (a || b)
@@ -27,20 +27,16 @@ pub record Enough (text nodes tokens rows calls sorts symbols rules words evals 
   pub words_lent : 2 * nodes ≤ words
   pub evals_lent : text / 2 ≤ evals
 
-or_no : (a b : Bool) → (a || b) ≡ false → (a ≡ false) × (b ≡ false)
-or_no true b e = true_false refl e
-or_no false b e = (refl, e)
-
 pub enough : (text nodes tokens rows calls sorts symbols rules words evals : ℕ) → short_by text nodes tokens rows calls sorts symbols rules words evals ≡ false
     → Enough text nodes tokens rows calls sorts symbols rules words evals
 enough text nodes tokens rows calls sorts symbols rules words evals e =
-    let a = or_no (ltb tokens text) _ e in
-    let b = or_no (ltb rows text) _ a.1 in
-    let c = or_no (ltb calls (text + 32)) _ b.1 in
-    let d = or_no (ltb sorts 256) _ c.1 in
-    let f = or_no (ltb symbols 1024) _ d.1 in
-    let g = or_no (ltb rules 1024) _ f.1 in
-    let h = or_no (ltb words (2 * nodes)) (ltb evals (text / 2)) g.1 in
+    let a = or_parts (ltb tokens text) _ e in
+    let b = or_parts (ltb rows text) _ a.1 in
+    let c = or_parts (ltb calls (text + 32)) _ b.1 in
+    let d = or_parts (ltb sorts 256) _ c.1 in
+    let f = or_parts (ltb symbols 1024) _ d.1 in
+    let g = or_parts (ltb rules 1024) _ f.1 in
+    let h = or_parts (ltb words (2 * nodes)) (ltb evals (text / 2)) g.1 in
     record {
       tokens_lent = ltb-false tokens text a.0;
       rows_lent = ltb-false rows text b.0;

@@ -8,9 +8,9 @@ use lib.Dec.{ltb, leb}
 use lib.ListN.{length, take, set, length-append, length-set}
 use lib.Seq.{take-set-le, take-append-le, take-suc-set, take_all}
 use borrow.Author.Tests.{lt-ltb, le-ltb, leb-true, leb-false}
-use Rattle.source_text.specs.Parts.{part_of}
 use Rattle.names.specs.Names.{Name}
-use Rattle.names.specs.Symbols.{Rows, column, row_at, sort_of, sort_number, sorts_of}
+use Rattle.names.specs.Symbols.{Rows, sort_of, sort_number, sorts_of}
+use Rattle.names.specs.RowNames.{name_at}
 use Rattle.names.specs.SearchLaws.{sorts_length, sort_some, sort_none}
 use Rattle.patterns.specs.Patterns.{when}
 use Rattle.loader.specs.Signature.{Numbers, unknown, numbers, prepend, numbers_of, last_of}
@@ -20,10 +20,6 @@ use Rattle.std.specs.List.{position}
 use Rattle.std.proofs.Common.{le_refl}
 use Rattle.std.proofs.Math.Seq.{take-length}
 use Rattle.source_text.specs.Bytes.{same_bytes}
-
--- The name in a row.
-abbrev pub name_at : List ℕ → Rows → ℕ → Name
-name_at text rows p = part_of text (column (row_at rows p) 1) (column (row_at rows p) 2)
 
 -- The names of i rows, and of j more.
 names_split : (text : List ℕ) (rows : Rows) (p i j : ℕ) → names_at text rows p (i + j) ≡ names_at text rows p i ++ names_at text rows (p + i) j

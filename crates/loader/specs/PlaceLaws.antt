@@ -1,6 +1,5 @@
 -- The name of every declaration that is parsed is one of the tokens; so it lies inside the text and has 1 to 64 bytes.
-use Rattle.std.specs.Prelude.{ℕ, zero, suc, ◌<◌, ◌≡◌, eqb, length}
-use Rattle.std.proofs.Common.{arith}
+use Rattle.std.specs.Prelude.{ℕ, ◌<◌, ◌≡◌, eqb, length}
 use mathlib.Core.List.{List, [], ◌∷◌}
 use Rattle.std.proofs.Math.ListN.{get_or}
 use Rattle.words.specs.Tokens.Reading.{tokens}
@@ -10,6 +9,7 @@ use Rattle.term_parser.specs.Source.{Place}
 use Rattle.term_parser.specs.Parsing.{Tokens, kind_of, last_line, Parsed, parsed, follow, sign_of, repeat}
 use Rattle.term_parser.specs.Lists.{name, title_of, arrows_of, term, judgments_of}
 use Rattle.term_parser.specs.ReaderLaws.{Each, Comes, plus_comes, follow_comes, past_comes, when_comes, repeat_each}
+use Rattle.term_parser.specs.ListLaws.{each_at}
 use Rattle.parser.specs.Source.{Declaration, sort, ctor, pred, rule, def, theorem, eval, check}
 use Rattle.parser.specs.Declarations.{ends_in_prop, Declared, binders_of, tactic_of, sort_of, ctor_of, clause_of, pred_of, rule_of, def_of, theorem_of, eval_of, check_of, body_of, declaration_of, parse_of}
 use Rattle.loader.specs.TokenPlaceLaws.{row_place, Named, tokens_inside}
@@ -115,11 +115,6 @@ module _ (P : Place → Type 0) where
 -- The names of the declarations of a text lie inside it, and have 1 to 64 bytes.
 pub titles_inside : (limit : ℕ) (text : List ℕ) (ts : Tokens) (ds : List Declared) (n : ℕ) → lex_of limit text ≡ tokens ts → parse_of text ts ≡ parsed ds n → TitlesInside text ds
 titles_inside limit text ts ds n l e = titles_placed (Named text) text ts ds n (tokens_inside limit text ts l) e
-
-each_at : {A : Type 0} (P : A → Type 0) (l : List A) (d : A) → Each P l → (i : ℕ) → i < length l → P (get_or l i d)
-each_at P [] d h i m = absurd (omega arith)
-each_at P (a ∷ l) d h zero m = h.0
-each_at P (a ∷ l) d h (suc i) m = each_at P l d h.1 i (omega arith)
 
 -- So does the name of the declaration with number i.
 pub title_inside : (text : List ℕ) (ds : List Declared) (d : Declared) → TitlesInside text ds → (i : ℕ) → i < length ds → Titled (Named text) (get_or ds i d).declaration

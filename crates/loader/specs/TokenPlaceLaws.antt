@@ -1,9 +1,9 @@
 -- Every token that reading gives lies inside the text and has 1 to 64 bytes: a longer word is refused, and signs have at most 3.
-use Rattle.std.specs.Prelude.{ℕ, zero, suc, ◌+◌, ◌-◌, ◌≤◌, ◌<◌, ◌≡◌, Bool, true, Option, Some, None, List, [], ◌∷◌, eqb, ltb, length, get_or}
+use Rattle.std.specs.Prelude.{ℕ, zero, suc, ◌+◌, ◌-◌, ◌≤◌, ◌<◌, ◌≡◌, true, Option, Some, None, List, [], ◌∷◌, eqb, ltb, length, get_or}
 use Rattle.std.proofs.Common.{arith, ltb-false}
 use Rattle.terms.specs.Numbers.{by_bool}
 use Rattle.source_text.specs.Bytes.{starts_with, up_to}
-use Rattle.source_text.specs.ByteLaws.{and_right}
+use Rattle.source_text.specs.ScanLaws.{upto_short, starts_short}
 use Rattle.source_text.specs.Characters.{character_of, blank, sign}
 use Rattle.source_text.specs.Lines.{prepend, lines, code_of}
 use Rattle.source_text.specs.Numerals.{all_digits, numeral_of}
@@ -35,11 +35,6 @@ Sized n Blank = Unit {0}
 Sized n (Token kind m) = (0 < m) × (m ≤ 64) × (m ≤ n)
 Sized n (Refused r) = Unit {0}
 
-upto_short : (p : List ℕ → Bool) (s : List ℕ) → length (up_to p s) ≤ length s
-unfolding up_to
-upto_short p [] = omega arith
-upto_short p (c ∷ s) = by_bool (p (c ∷ s)) (λ e. rw e (omega arith)) (λ e. rw e (let h = upto_short p s in omega arith))
-
 word_sized : (w : List ℕ) → 0 < length w → Sized (length w) (word_item w)
 unfolding word_item
 word_sized w some =
@@ -57,12 +52,6 @@ word_sized w some =
 word_some : (c : ℕ) (s : List ℕ) → is_word (character_of (c ∷ s)).class ≡ true → 0 < length (word_of (c ∷ s))
 unfolding word_of up_to
 word_some c s e = rw e (omega arith)
-
-starts_short : (w s : List ℕ) → starts_with w s ≡ true → length w ≤ length s
-unfolding starts_with
-starts_short [] s e = omega arith
-starts_short (a ∷ w) [] e = absurd (let z : ◌≡◌ {A = ℕ} 0 1 = cc in omega arith)
-starts_short (a ∷ w) (c ∷ s) e = let h = starts_short w s (and_right (eqb c a) (starts_with w s) e) in omega arith
 
 -- Signs have 1 to 3 bytes.
 abbrev SignSized : Sign → Type 0

@@ -1,49 +1,29 @@
--- What is left to be met: the rows of the stack as a list of terms, and how words and variables of such a list are counted.
+-- What is left to be met: the rows of the stack as a list of terms, the turns that they take, and what is met in lists one behind the other.
 use Prim.Native.Nat.{ℕ, zero, suc, ◌+◌, ◌*◌, ◌≤◌, ◌<◌}
 use native.Mathlib.Omega.{arith}
-use mathlib.Core.Path.{◌≡◌, refl, ap}
-use mathlib.Core.Bool.{Bool, true, false}
+use mathlib.Core.Path.{◌≡◌, refl}
 use mathlib.Core.List.{List, [], ◌∷◌}
 use lib.ListN.{get_or, length, set}
 use lib.Seq.{get_or-set_same, get_or-set_other}
-use Rattle.terms.specs.Term.{nil, cons, Term, Terms, count, append}
+use Rattle.terms.specs.Term.{nil, cons, Terms, append}
 use Rattle.arena.specs.Cells.{Cells, args, denote}
 use Rattle.arena.specs.Copies.{pattern_room}
 use Rattle.arena.specs.Rows.{Rows, column}
 use Rattle.resolution.specs.Fresh.{met}
-use Rattle.resolution.specs.Search.{words}
 
 -- The arguments left in the first d rows, those of the last row first.
 abbrev pub unmet : Cells → Rows → ℕ → Terms
 unmet w rows zero = nil
 unmet w rows (suc d) = append (args (denote pattern_room w) w (column 0 rows d) (column 1 rows d)) (unmet w rows d)
 
--- A term that waits, in front of them.
-abbrev pub pending : Bool → Term → Terms → Terms
-pending true t ts = cons t ts
-pending false t ts = ts
-
 -- The turns that the first d rows take: two for each argument left, and one to close the row.
 abbrev pub turns : Rows → ℕ → ℕ
 turns rows zero = 0
 turns rows (suc d) = 2 * column 1 rows d + 1 + turns rows d
 
--- One turn for a term that waits.
-abbrev pub one : Bool → ℕ
-one true = 1
-one false = 0
-
-pub words_append : (ts us : Terms) → words (append ts us) ≡ words ts + words us
-words_append nil us = omega arith
-words_append (cons t ts) us = let h = words_append ts us in omega arith
-
 pub met_append : (ts us : Terms) (e : List ℕ) → met (append ts us) e ≡ met us (met ts e)
 met_append nil us e = refl
 met_append (cons t ts) us e = met_append ts us (met t e)
-
-pub args_count : (g : ℕ → Term) (w : Cells) (p n : ℕ) → count (args g w p n) ≡ n
-args_count g w p zero = refl
-args_count g w p (suc n) = ap suc (args_count g w (suc p) n)
 
 -- Rows written at d or above leave the first d rows as they are.
 unmet_set : (w : Cells) (rows : Rows) (d i : ℕ) (row : List ℕ) → d ≤ i → unmet w (set rows i row) d ≡ unmet w rows d

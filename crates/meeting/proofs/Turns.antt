@@ -10,16 +10,19 @@ use lib.ListN.{length, set, length-set}
 use lib.Seq.{get_or-set_same, get_or-set_other}
 use Rattle.terms.specs.Numbers.{by_same, by_less, true_false}
 use Rattle.terms.specs.Term.{var, app, cons, Terms, append}
+use Rattle.terms.specs.TermLists.{pending, bit}
 use Rattle.arena.specs.Cells.{headers, cells, arity_of, symbol_of, args, denote, Reference, denote_node, denote_variable, reference_argument}
+use Rattle.arena.specs.ArgumentLaws.{count_args}
 use Rattle.arena.specs.Copies.{pattern_room}
 use Rattle.arena.specs.Rows.{Rows, column}
 use Rattle.resolution.specs.Fresh.{met}
 use Rattle.resolution.specs.Search.{words}
+use Rattle.resolution.specs.WordLaws.{words_append}
 use Rattle.meeting.specs.Places.{Records, Given}
 use Rattle.meeting.specs.PlaceLaws.{given_kept, records_met}
 use Rattle.meeting.specs.Contract.{term_of, Ready, Walked}
 use Rattle.std.specs.Prelude.{Option, Some}
-use Rattle.meeting.proofs.Pending.{unmet, pending, turns, one, words_append, met_append, args_count, unmet_put, turns_put}
+use Rattle.meeting.proofs.Pending.{unmet, turns, met_append, unmet_put, turns_put}
 
 -- n references in use, from the address p on.
 pub record Row (pattern : List ℕ) (used p n : ℕ) : Type 0 where
@@ -51,7 +54,7 @@ pub record Turn (pattern : List ℕ) (reference : ℕ) (table₀ : List (Option 
 
 -- What is left to do.
 abbrev pub left : ℕ → Rows → ℕ → ℕ → Bool → ℕ
-left most stack spent depth waiting = 2 * (most - spent) + one waiting + turns stack depth
+left most stack spent depth waiting = 2 * (most - spent) + bit waiting + turns stack depth
 
 pub turn_start : {pattern : List ℕ} {reference : ℕ} {table : List (Option ℕ)} {count most : ℕ} {stack : Rows} → pattern_room ≤ length table → Ready pattern reference most stack
     → Turn pattern reference table count most stack table stack count 0 0 reference true
@@ -130,7 +133,7 @@ module _ {pattern : List ℕ} {reference : ℕ} {table₀ : List (Option ℕ)} {
       spends_node : spent + suc (arity + words inner + words (unmet (cells pattern) stack depth)) ≡ words (term_of pattern reference)
       spends_node =
           let s : spent + words (cons (term_of pattern next) (unmet (cells pattern) stack depth)) ≡ words (term_of pattern reference) = here.spends in
-          let c = args_count (denote pattern_room (cells pattern)) (cells pattern) (suc address) arity in
+          let c = count_args (denote pattern_room (cells pattern)) (cells pattern) (suc address) arity in
           let s' : spent + words (cons (app (symbol_of (cells pattern address)) inner) (unmet (cells pattern) stack depth)) ≡ words (term_of pattern reference) = rw is_node at s in
           omega arith
 

@@ -216,26 +216,30 @@ places_order table n l = by_bool (in_order table n)
     (λ q. let e = each_order table n (λ x k. let d : 0 + x ≡ x = omega arith in rw d at (places_each table 0 n l q x k)) in true_false e p)
     (λ q. q ∙ sym p))
 
-length_numbers : (n : ℕ) → length (numbers_below n) ≡ n
-length_numbers zero = refl
-length_numbers (suc n) = let h = length_numbers n in let k = length-append (numbers_below n) (n ∷ []) in omega arith
+-- The numbers below n are n.
+pub numbers_count : (n : ℕ) → length (numbers_below n) ≡ n
+numbers_count zero = refl
+numbers_count (suc n) = let h = numbers_count n in let k = length-append (numbers_below n) (n ∷ []) in omega arith
 
-number_at : (n i : ℕ) → i < n → get_or (numbers_below n) i 0 ≡ i
+pub number_at : (n i : ℕ) → i < n → get_or (numbers_below n) i 0 ≡ i
 number_at zero i l = absurd (not-suc-le-zero l)
-number_at (suc n) i l = let k = length_numbers n in by_same i n
+number_at (suc n) i l = let k = numbers_count n in by_same i n
     (λ q r. let s = get_or-append_seam (numbers_below n) n [] 0 in let d : i ≡ length (numbers_below n) = omega arith in rw d (s ∙ sym k))
     (λ q r. let m : i < n = by_less i n (λ k s. k) (λ k s. absurd (q (omega arith))) in
     get_or-append (numbers_below n) (n ∷ []) 0 i (omega arith) ∙ number_at n i m)
 
-elem_numbers : (n x : ℕ) → n ≤ x → elem x (numbers_below n) ≡ false
+pub elem_numbers : (n x : ℕ) → n ≤ x → elem x (numbers_below n) ≡ false
 elem_numbers zero x l = refl
 elem_numbers (suc n) x l = elem_other x n (numbers_below n) (λ q. omega arith) ∙ elem_numbers n x (omega arith)
 
+pub elem_below : (n x : ℕ) → elem x (numbers_below n) ≡ true → x < n
+elem_below n x h = by_less x n (λ l e. l) (λ l e. true_false h (elem_numbers n x l))
+
 -- A number below n is in the list, at its own place.
-numbers_place : (n x : ℕ) → x < n → (elem x (numbers_below n) ≡ true) × (place (numbers_below n) x ≡ x)
+pub numbers_place : (n x : ℕ) → x < n → (elem x (numbers_below n) ≡ true) × (place (numbers_below n) x ≡ x)
 numbers_place zero x l = absurd (not-suc-le-zero l)
 numbers_place (suc n) x l = by_same x n
-    (λ q r. rw q (elem_last n (numbers_below n), place_last n (numbers_below n) (elem_numbers n n (omega arith)) ∙ length_numbers n))
+    (λ q r. rw q (elem_last n (numbers_below n), place_last n (numbers_below n) (elem_numbers n n (omega arith)) ∙ numbers_count n))
     (λ q r. let (a, b) = numbers_place n x (by_less x n (λ k s. k) (λ k s. absurd (q (omega arith)))) in
     (elem_other x n (numbers_below n) q ∙ a, place_append x (numbers_below n) (n ∷ []) a ∙ b))
 
@@ -253,7 +257,7 @@ module _ {e : List ℕ} {table : List (Option ℕ)} {count : ℕ} (h : Records e
 
   -- Then they are the numbers below the count, in order;
   pub order_list : in_order table count ≡ true → e ≡ numbers_below count
-  order_list o = ext_get_or 0 e (numbers_below count) (sym h.counted ∙ sym (length_numbers count))
+  order_list o = ext_get_or 0 e (numbers_below count) (sym h.counted ∙ sym (numbers_count count))
       (λ i l. let c = h.counted in
       let k : i < count = omega arith in
       let (a, b) = order_place o i k in

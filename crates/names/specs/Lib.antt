@@ -2,6 +2,7 @@
 pub mod Names
 pub mod NamePlaces
 pub mod Symbols
+pub mod RowNames
 pub mod Named
 pub mod Standing
 pub mod SearchLaws

@@ -1,7 +1,8 @@
 -- Searching the first n rows of a table by name, for every way of reading a row; and columns of a row.
-use Rattle.std.specs.Prelude.{◌≡◌, refl, Bool, true, false, cond, Some, None, List, [], ◌∷◌, ◌++◌, map, ℕ, zero, suc, ◌+◌, ◌≤◌, ◌<◌, ltb, length, get_or, drop, take, set, replicate}
+use Rattle.std.specs.Prelude.{◌≡◌, refl, Bool, true, false, cond, Some, None, List, [], ◌∷◌, ◌++◌, map, ℕ, zero, suc, ◌+◌, ◌-◌, ◌≤◌, ◌<◌, ltb, length, get_or, drop, take, set, replicate}
 use Rattle.std.specs.List.{position, position_or_len}
 use Rattle.std.proofs.Common.{sym, ap, ap₂, ◌∙◌, add-one, arith, drop_of_length-le, drop-cons, get_or-take, length-take-le, take-suc-set, ltb-true, ltb-false}
+use Rattle.std.proofs.lemmas.List.{map_push}
 use Rattle.std.proofs.lemmas.List.Recursion.{is_position_or_len}
 use Rattle.std.proofs.Math.ListN.{get_or-map}
 use Rattle.std.proofs.Math.Seq.{take-set-lt}
@@ -134,15 +135,11 @@ map_set f [] i a = refl
 map_set f (x ∷ l) zero a = refl
 map_set f (x ∷ l) (suc i) a = ap (λ r. f x ∷ r) (map_set f l i a)
 
-map_snoc : {A B : Type 0} (f : A → B) (l : List A) (a : A) → map f (l ++ (a ∷ [])) ≡ map f l ++ (f a ∷ [])
-map_snoc f [] a = refl
-map_snoc f (x ∷ l) a = ap (λ r. f x ∷ r) (map_snoc f l a)
-
 pub table_set : {A : Type 0} (f : List ℕ → A) (rows : Rows) (n i : ℕ) (r : List ℕ) → i < n → map f (take n (set rows i r)) ≡ set (map f (take n rows)) i (f r)
 table_set f rows n i r l = ap (map f) (take-set-lt n rows i r l) ∙ map_set f (take n rows) i r
 
 pub table_more : {A : Type 0} (f : List ℕ → A) (rows : Rows) (n : ℕ) (r : List ℕ) → n < length rows → map f (take (n + 1) (set rows n r)) ≡ map f (take n rows) ++ (f r ∷ [])
-table_more f rows n r l = rw (add-one, take-suc-set rows n r l) (map_snoc f (take n rows) r)
+table_more f rows n r l = rw (add-one, take-suc-set rows n r l) (map_push f (take n rows) r)
 
 -- What stands in a list does not depend on what is answered past its end.
 pub get_d_any : {A : Type 0} (l : List A) (i : ℕ) (d e : A) → i < length l → get_or l i d ≡ get_or l i e
@@ -161,6 +158,16 @@ unfolding columns
 columns_at row j zero k h = absurd (omega arith)
 columns_at row j (suc n) zero h = let e : j + 0 ≡ j = omega arith in rw e
 columns_at row j (suc n) (suc k) h = let e : j + suc k ≡ suc j + k = omega arith in rw e (columns_at row (suc j) n k (omega arith))
+
+from_columns : (row : List ℕ) (j n : ℕ) → j + n ≤ length row → take n (drop j row) ≡ columns row j n
+unfolding columns
+from_columns row j zero l = refl
+from_columns row j (suc n) l =
+    ap (take (suc n)) (drop-cons row j 0 (omega arith)) ∙ ap (λ (xs : List ℕ). column row j ∷ xs) (from_columns row (suc j) n (omega arith))
+
+-- A part of a row is so many of its columns.
+pub part_columns : (row : List ℕ) (j n : ℕ) → j + n ≤ length row → take (j + n - j) (drop j row) ≡ columns row j n
+part_columns row j n l = let e : j + n - j ≡ n = omega arith in ap (λ (k : ℕ). take k (drop j row)) e ∙ from_columns row j n l
 
 -- Columns that hold some values.
 pub columns_are : (row vs : List ℕ) (j : ℕ) → ((k : ℕ) → k < length vs → column row (j + k) ≡ get_or vs k 0) → columns row j (length vs) ≡ vs

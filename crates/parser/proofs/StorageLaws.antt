@@ -1,10 +1,11 @@
 -- The ways out of `parse` and `parse_text`.
 use mathlib.Core.Path.{◌≡◌, refl, sym, ap, ap₂, ◌∙◌, subst}
-use mathlib.Core.Bool.{Bool, true, false, cond, ◌||◌}
+use mathlib.Core.Bool.{Bool, true, false, cond}
 use mathlib.Core.List.{List, [], ◌++◌}
 use Prim.Native.Nat.{ℕ, ◌-◌, ◌≤◌, ◌<◌}
 use native.Mathlib.Omega.{arith}
 use borrow.Author.Tests.{lt-ltb, le-ltb}
+use Rattle.std.proofs.lemmas.Bool.{or_left, or_right, or_from}
 use lib.Dec.{ltb}
 use lib.ListN.{length, take, replicate}
 use lib.Seq.{length-take-le, take_at}
@@ -33,16 +34,6 @@ abbrev read_in : Result ℕ Rejection → Reading
 read_in (Ok n) = tokens []
 read_in (Err e) = unread e.refusal e.line
 
-either : (a b : Bool) → b ≡ true → (a || b) ≡ true
-either true b e = refl
-either false b e = e
-
-neither : (a b : Bool) → a ≡ false → b ≡ false → (a || b) ≡ false
-neither a b e f = rw (e, f)
-
-first : (a b : Bool) → a ≡ true → (a || b) ≡ true
-first a b e = rw e
-
 -- The answer by the paper's numbers, from the answer itself.
 told_by : (short : Bool) (x : Parsed (List Declared)) {r : Answer} → r ≡ cond short (rejected Storage 0) (answer_of x)
     → answer_told r ≡ cond short (refuses 1 0) (parsed_told x)
@@ -58,13 +49,13 @@ module _ (text : List ℕ) (ts : Tokens) (before : Rows) where
   as_parsing a r f = record { answer = a; told = told_by (too_short ts before) (parse_of text ts) a; rows = r; fits = f }
 
   pub over : 65536 < length ts → too_short ts before ≡ true
-  over h = first (ltb 65536 (length ts)) (ltb (length before) (length ts)) (lt-ltb _ _ h)
+  over h = or_left (ltb 65536 (length ts)) (ltb (length before) (length ts)) (lt-ltb _ _ h)
 
   pub few : length before < length ts → too_short ts before ≡ true
-  few h = either (ltb 65536 (length ts)) (ltb (length before) (length ts)) (lt-ltb _ _ h)
+  few h = or_right (ltb 65536 (length ts)) (ltb (length before) (length ts)) (lt-ltb _ _ h)
 
   enough : length ts ≤ 65536 → length ts ≤ length before → too_short ts before ≡ false
-  enough h k = neither (ltb 65536 (length ts)) (ltb (length before) (length ts)) (le-ltb _ _ h) (le-ltb _ _ k)
+  enough h k = or_from (ltb 65536 (length ts)) (ltb (length before) (length ts)) (le-ltb _ _ h) (le-ltb _ _ k)
 
   pub parse_short : too_short ts before ≡ true → Parsing text ts before (rejected Storage 0) before
   parse_short e =
@@ -106,14 +97,14 @@ module _ (text : List ℕ) (limits : Limits) (toks rows : Rows) where
   }
 
   pub short_tokens : length toks < limit → short_for limits toks rows ≡ true
-  short_tokens h = first (ltb (length toks) limit) (ltb (length rows) limit) (lt-ltb _ _ h)
+  short_tokens h = or_left (ltb (length toks) limit) (ltb (length rows) limit) (lt-ltb _ _ h)
 
   pub short_rows : length rows < limit → short_for limits toks rows ≡ true
-  short_rows h = either (ltb (length toks) limit) (ltb (length rows) limit) (lt-ltb _ _ h)
+  short_rows h = or_right (ltb (length toks) limit) (ltb (length rows) limit) (lt-ltb _ _ h)
 
   module _ (h : limit ≤ length toks) (k : limit ≤ length rows) where
     long_enough : short_for limits toks rows ≡ false
-    long_enough = neither (ltb (length toks) limit) (ltb (length rows) limit) (le-ltb _ _ h) (le-ltb _ _ k)
+    long_enough = or_from (ltb (length toks) limit) (ltb (length rows) limit) (le-ltb _ _ h) (le-ltb _ _ k)
 
     whole : (x : Reading) (y : Parsed (List Declared)) → lex_of limit text ≡ x → parsed_text text x ≡ y → {r : Answer} {toks' rows' : Rows}
         → r ≡ answer_of y → toks' ≡ tokens_after (length toks) (tokens_of x) y → rows' ≡ rows_after (length rows) y → used_of r ≤ limit → ParsingText text limits toks rows r toks' rows'
@@ -171,7 +162,7 @@ module _ (text : List ℕ) (limits : Limits) (toks rows : Rows) where
           same_part = pe ∙ read_part
 
           not_short : too_short found.0 rows ≡ false
-          not_short = let c = found.2 in let i = tokens_in in neither (ltb 65536 (length found.0)) (ltb (length rows) (length found.0)) (le-ltb 65536 (length found.0) (omega arith)) (le-ltb (length rows) (length found.0) (omega arith))
+          not_short = let c = found.2 in let i = tokens_in in or_from (ltb 65536 (length found.0)) (ltb (length rows) (length found.0)) (le-ltb 65536 (length found.0) (omega arith)) (le-ltb (length rows) (length found.0) (omega arith))
 
           parsing_answer : a ≡ answer_of (parse_of text found.0)
           parsing_answer = subst (λ (z : Tokens). a ≡ cond (too_short z rows) (rejected Storage 0) (answer_of (parse_of text z))) same_part p.answer ∙ ap (λ b. cond b (rejected Storage 0) (answer_of (parse_of text found.0))) not_short

@@ -14,12 +14,14 @@ use Rattle.terms.specs.Numbers.{by_less, true_false}
 use Rattle.terms.specs.Term.{Syn, Term, Terms, app, cons}
 use Rattle.term_parser.specs.Source.{Arity, one, many}
 use Rattle.term_parser.specs.Standing.{Written, number, meta, called, applied, nil as none, cons as more, size}
+use Rattle.term_parser.specs.ListLaws.{no_arguments}
 use Rattle.names.specs.Names.{Name, name_of, name_in}
 use Rattle.names.specs.Symbols.{Rows, Symbol, Variable, column, row_at, symbol_of, symbols_of, variables_of, symbol_number, no_symbol, symbol_at}
 use Rattle.names.specs.Standing.{Stands}
 use Rattle.names.specs.SearchLaws.{columns_at, table_length, table_at, get_d_any}
 use Rattle.patterns.specs.Patterns.{enter, kind_of, Out, bad, good, bind, counted, misfit, spent, unless, zero_name, succ_name, first, rest, chain, pattern_of}
 use Rattle.patterns.specs.Laying.{Laid, laid, header, after, lay}
+use Rattle.patterns.specs.LaidLaws.{after_none, no_yes}
 use Rattle.patterns.specs.Promises.{no, yes, stored, node_of, Placed, LiesIn, MadePlaced, Compiled}
 use Rattle.std.specs.Prelude.{Result, Ok, Err}
 use Rattle.refusals.specs.declared.Refusal.{Refusal}
@@ -38,12 +40,6 @@ module _ (text : List ℕ) (rs : Rows) (n : ℕ) (h : n ≤ length rs) where
   symbol_at_lem i l = get_d_any (symbols_of text rs n) i no_symbol (symbol_of text []) (rw (table_length (symbol_of text) rs n h) l) ∙ table_at (symbol_of text) rs n h i l
 
 -- what `stored` tells
-pub no_yes : {P : Type 0} {e : ℕ} {l : Laid} {vs : List Variable} {n : ℕ} → no e ≡ yes l vs n → P
-no_yes q = absurd (let w : ◌≡◌ {A = ℕ} 0 1 = cc in omega arith)
-
-after_nil : (l : Laid) → after [] l ≡ l
-after_nil (laid rs w u) = refl
-
 after_after : (a b : List ℕ) (l : Laid) → after a (after b l) ≡ after (a ++ b) l
 after_after a b (laid rs w u) = ap (λ x. laid x w u) (sym (append_assoc a b rs))
 
@@ -60,7 +56,7 @@ pub stored_good : {k : Arity} (o : Out k) (w : List ℕ) (u : ℕ) (l : Laid) (v
 stored_good (bad f) w u l vs n q = no_yes (sym q)
 stored_good (good t us m) w u l vs n q =
     let a : after [] (lay t w u) ≡ l = cc in
-    record { it = t; is = cc; lies = sym (after_nil (lay t w u)) ∙ a }
+    record { it = t; is = cc; lies = sym (after_none (lay t w u)) ∙ a }
 
 unless_bad : (e : ℕ) (f : ℕ → Out one) → (e ≡ 0 → ⊥) → unless e f ≡ bad e
 unless_bad zero f h = absurd (h refl)
@@ -159,11 +155,6 @@ node_done o i w u refs args w₁ u₁ vs m wx l e q =
     let d : yes (laid ((64 + u₁) ∷ []) (sets w₁ u₁ (header i args ∷ take args refs)) (u₁ + 1 + args)) vs m ≡ stored {n = one} [] (bind o (λ us ws q. good (app i us) ws q)) w u
     = rw n at (app_done o i w u (take args refs) w₁ u₁ vs m q) in
     rw e d
-
-nil_of : (ts : Written many) → size ts ≡ 0 → ts ≡ none
-unfolding size
-nil_of none e = refl
-nil_of (more t ts) e = absurd (omega arith)
 
 -- the loop of `node`: k arguments are done
 pub record Looped (text : List ℕ) (rs : Rows) (p₀ args : ℕ) (ss : List Symbol) (is : List ℕ) (vs₀ : Rows) (nv₀ : ℕ) (w₀ : List ℕ) (u₀ m₀ : ℕ)
@@ -272,7 +263,7 @@ module _ (text : List ℕ) (rs : Rows) (p₀ args : ℕ) (ss : List Symbol) (is 
       let x = L.same ts q st c in let y0 = L.few in
       let z : args - k ≡ 0 = omega arith in
       let ke : k ≡ args = omega arith in
-      let e : x.0 ≡ none = nil_of x.0 (x.2 ∙ z) in
+      let e : x.0 ≡ none = no_arguments x.0 (x.2 ∙ z) in
       let a : Stands text rs p none q = (let y = x.1 in rw e at y) in
       let g : stored [] (pattern_of ss ts is (variables_of text vs₀ nv₀) m₀) w₀ u₀ ≡ yes (laid (take k refs ++ []) w u) (variables_of text vs nv) m = (let y = x.3 in rw e at y) in
       (sym a, rw (append-nil, ke) at (sym g))

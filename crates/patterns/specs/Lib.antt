@@ -2,4 +2,5 @@
 pub mod Patterns
 pub mod Laying
 pub mod Promises
+pub mod LaidLaws
 pub mod UsedLaws

@@ -25,6 +25,7 @@ pub mod NamingLaws
 pub mod Machine
 pub mod Preorder
 pub mod Sizes
+pub mod WordLaws
 -- Checks by computing:
 pub mod Cases
 pub mod Marked

@@ -16,6 +16,10 @@ pub roots_joined : (ps qs : Tree many) → roots (joined ps qs) ≡ append (root
 roots_joined leaf qs = refl
 roots_joined (p ◂ ps) qs = ap (cons (root p)) (roots_joined ps qs)
 
+pub joined_joined : (ps qs rs : Tree many) → joined ps (joined qs rs) ≡ joined (joined ps qs) rs
+joined_joined leaf qs rs = refl
+joined_joined (p ◂ ps) qs rs = ap (λ (x : Tree many). p ◂ x) (joined_joined ps qs rs)
+
 pub derivation_joined : (rules : List Rule) (ps qs : Tree many) → Derivation rules ps → Derivation rules qs → Derivation rules (joined ps qs)
 derivation_joined rules leaf qs a b = b
 derivation_joined rules (p ◂ ps) qs a b = (a.0, derivation_joined rules ps qs a.1 b)

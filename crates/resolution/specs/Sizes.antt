@@ -1,16 +1,9 @@
 -- What a search stays within: its proof has no more nodes than steps were used, so a row for each step is enough to keep it; and where
 -- limits are set, the counter and the words of every verdict but a refusal are within them.
-use Rattle.std.specs.Prelude.{ℕ, suc, ◌+◌, ◌≤◌, List, length}
-use Rattle.terms.specs.Term.{Kind}
-use Rattle.resolution.specs.Rules.{Tree, node, leaf, ◌◂◌}
+use Rattle.std.specs.Prelude.{ℕ, ◌≤◌, length}
 use Rattle.resolution.specs.Search.{Verdict, refusal, proved, nothing, undecided}
 use Rattle.resolution.specs.Preorder.{flat}
-
--- How many nodes trees have.
-abbrev pub nodes_in : {s : Kind} → Tree s → ℕ
-nodes_in (node r g ps) = suc (nodes_in ps)
-nodes_in leaf = 0
-nodes_in (p ◂ ps) = nodes_in p + nodes_in ps
+pub use Rattle.resolution.specs.Refutations.{nodes as nodes_in}
 
 -- A verdict, m words being in use at first, with at most `most` variables and `limit` words: a proof has no more nodes than steps were
 -- used.

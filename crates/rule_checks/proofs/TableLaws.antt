@@ -12,11 +12,11 @@ use Rattle.meeting.specs.PlaceLaws.{place_is}
 use mathlib.Core.List.{List, [], ◌∷◌}
 use Prim.Native.Nat.{ℕ, zero, suc, ◌≤◌, ◌<◌}
 use native.Mathlib.Omega.{arith}
-use lib.ListN.{length, get_or, length-append}
+use lib.ListN.{length, get_or}
 use Rattle.std.specs.Prelude.{Option, Some, None}
 use Rattle.terms.specs.Numbers.{by_bool, true_false}
 use Rattle.terms.specs.Term.{Kind, Syn, mem}
-use Rattle.meeting.specs.Places.{Records, numbers_below}
+use Rattle.meeting.specs.Places.{Records}
 use Rattle.meeting.specs.PlaceLaws.{placed_yes, placed_no}
 use Rattle.resolution.specs.Fresh.{met, met_back, place}
 use Rattle.rules.specs.CountLaws.{elem_met, all_met}
@@ -24,11 +24,6 @@ use Rattle.rule_checks.specs.RuleForm.{rule_in}
 use Rattle.rule_checks.proofs.PartLaws.{each_passes}
 use Rattle.names.specs.Symbols.{column}
 use Rattle.rule_checks.specs.Steps.{PlacedWord, Placed, Listed, premises_of, conclusion_of, InOrder}
-
--- The numbers below n are n.
-pub numbers_count : (n : ℕ) → length (numbers_below n) ≡ n
-numbers_count zero = refl
-numbers_count (suc n) = let h = numbers_count n in let k = length-append (numbers_below n) (n ∷ []) in omega arith
 
 -- The table that a term's walk left.
 module _ {k : Kind} (t : Syn k) {table : List (Option ℕ)} {count : ℕ} (h : Records (met t []) table count) (words : List ℕ) (from to : ℕ) where

@@ -1,23 +1,14 @@
 -- Laws of a rule's row: what stands in its columns.
-use mathlib.Core.Path.{◌≡◌, sym, ap, ◌∙◌}
+use mathlib.Core.Path.{◌≡◌, ◌∙◌}
 use mathlib.Core.List.{List}
-use Prim.Native.Nat.{ℕ, ◌+◌, ◌-◌, ◌≤◌, ◌<◌}
+use Prim.Native.Nat.{ℕ, ◌+◌, ◌≤◌, ◌<◌}
 use native.Mathlib.Omega.{arith}
-use lib.ListN.{length, get_or, take, drop, replicate, length-replicate}
-use Rattle.std.proofs.Common.{length-take, length-drop, get_or-take, get_or-drop}
+use lib.ListN.{length, get_or, replicate, length-replicate}
 use lib.Seq.{sets, length-sets}
 use Rattle.arena.specs.NodeLaws.{sets_below, sets_within, sets_past}
 use Rattle.names.specs.Symbols.{column, columns}
 use Rattle.names.specs.SearchLaws.{columns_are, zero_at}
 use Rattle.rules.specs.StoredRows.{rule_row}
-
--- A part of a row is so many of its columns.
-pub part_columns : (row : List ℕ) (j n : ℕ) → j + n ≤ length row → take (j + n - j) (drop j row) ≡ columns row j n
-part_columns row j n l =
-    let e : j + n - j ≡ n = omega arith in
-    let m : length (take n (drop j row)) ≡ n = omega (arith, length-take n (drop j row), length-drop j row) in
-    ap (λ k. take k (drop j row)) e
-    ∙ sym (rw m at (columns_are row (take n (drop j row)) j (λ k l. sym (get_or-take n (drop j row) k 0 (omega arith) ∙ get_or-drop j row k 0))))
 
 module _ (numbers heads sorts places : List ℕ) (ten : length numbers ≡ 10) (few : length heads ≤ 16) (some : length sorts ≤ 64) (as_many : length places ≤ 64) where
   abbrev Z : List ℕ

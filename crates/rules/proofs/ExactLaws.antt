@@ -2,35 +2,22 @@
 use mathlib.Core.Path.{◌≡◌, refl, sym, ap, ◌∙◌}
 use mathlib.Core.Bool.{true}
 use mathlib.Core.List.{List, [], ◌∷◌, map}
-use Prim.Native.Nat.{ℕ, zero, suc, ◌+◌, ◌-◌, ◌≤◌, ◌<◌}
+use Prim.Native.Nat.{ℕ, ◌+◌, ◌-◌, ◌≤◌}
 use native.Mathlib.Omega.{arith}
-use lib.ListN.{length, take, get_or, length-map, get_or-append}
-use lib.Seq.{length-take-le, get_or-take, get_or_at, ext_get_or}
-use Rattle.terms.specs.Numbers.{by_less}
+use lib.ListN.{length, take, get_or, length-map}
+use lib.Seq.{length-take-le, get_or-take, ext_get_or}
+use Rattle.std.proofs.lemmas.List.{get_or-map}
 use Rattle.terms.specs.Term.{count}
 use Rattle.resolution.specs.Rules.{Rule}
 use Rattle.resolution.specs.Fresh.{elem, met, place, head_vars, all_vars}
 use Rattle.resolution.specs.Search.{words}
 use Rattle.meeting.specs.Places.{numbers_below}
-use Rattle.rules.specs.CountLaws.{numbers_count, all_met}
+use Rattle.meeting.specs.PlaceLaws.{numbers_count, number_at}
+use Rattle.rules.specs.CountLaws.{all_met}
 use Rattle.rules.specs.StoredRows.{rule_row}
 use Rattle.rules.specs.Layout.{references, rule_numbers, row_of}
 use Rattle.rules.specs.LayoutLaws.{references_length}
 use Rattle.rules.specs.declared.Title.{Title}
-
--- The number at a place of those below n is the place.
-numbers_at : (n i : ℕ) → i < n → get_or (numbers_below n) i 0 ≡ i
-numbers_at zero i l = absurd (omega arith)
-numbers_at (suc n) i l =
-    let k = numbers_count n in
-    by_less i n
-    (λ m e. get_or-append (numbers_below n) (n ∷ []) 0 i (omega arith) ∙ numbers_at n i m)
-    (λ m e. let z : i ≡ n = omega arith in rw z (get_or_at (numbers_below n) n [] 0 n k))
-
-map_at : (f : ℕ → ℕ) (l : List ℕ) (i : ℕ) → i < length l → get_or (map f l) i 0 ≡ f (get_or l i 0)
-map_at f [] i l = absurd (omega arith)
-map_at f (x ∷ xs) zero l = refl
-map_at f (x ∷ xs) (suc i) l = map_at f xs i (omega arith)
 
 -- The first v places of the table are those of the variables in order.
 pub places_exact : (R : Rule) (v : ℕ) → met R.conclusion (met R.premises []) ≡ numbers_below v → (table : List ℕ) → ((x : ℕ) → elem x (all_vars R) ≡ true → get_or table x 0 ≡ place (all_vars R) x)
@@ -41,7 +28,7 @@ places_exact R v appear table placed long =
     let c : length (numbers_below v) ≡ v = numbers_count v in
     ext_get_or 0 (take v table) (map (place (all_vars R)) (numbers_below v)) (omega arith)
     (λ i l. get_or-take v table i 0 (omega arith) ∙ placed i (all_met R v appear i (omega arith))
-    ∙ ap (place (all_vars R)) (sym (numbers_at v i (omega arith))) ∙ sym (map_at (place (all_vars R)) (numbers_below v) i (omega arith)))
+    ∙ ap (place (all_vars R)) (sym (number_at v i (omega arith))) ∙ sym (get_or-map (place (all_vars R)) (numbers_below v) i 0 0 (omega arith)))
 
 -- The ten numbers.
 numbers_exact : (title : Title) (R : Rule) (from middle used conclusion n v meets : ℕ) (heads : List ℕ)

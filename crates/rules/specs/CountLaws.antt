@@ -1,12 +1,13 @@
 -- Laws of counting a rule's variables: if those met in the premises and then in the conclusion are the numbers below n, in order, then a fresh instance,
 -- which meets them in another order, meets the same n variables.
 use Rattle.std.specs.Prelude.{ℕ, zero, suc, ◌≤◌, ◌<◌, ◌≡◌, refl, Bool, true, false, ◌||◌, cond, List, [], ◌∷◌, ◌++◌, length}
-use Rattle.std.proofs.Common.{arith, sym, ap, ◌∙◌, length-append}
+use Rattle.std.proofs.Common.{arith, sym, ap, ◌∙◌}
 use Rattle.terms.specs.Numbers.{same, less, by_bool, true_false, same_refl, same_true, same_sym, by_same, less_yes, less_no, by_less, or_false, or_right, or_assoc, or_no}
 use Rattle.terms.specs.Term.{Kind, Syn, var, app, nil, cons, Terms, mem}
 use Rattle.resolution.specs.Rules.{Rule}
 use Rattle.resolution.specs.Fresh.{elem, met, met_back, head_vars, all_vars}
 use Rattle.meeting.specs.Places.{numbers_below}
+use Rattle.meeting.specs.PlaceLaws.{numbers_count}
 
 -- Members
 
@@ -50,11 +51,6 @@ elem_met_back x (cons t ts) e =
     elem_met x t (met_back ts e) ∙ ap (λ (b : Bool). b || mem x t) (elem_met_back x ts e) ∙ or_swap (elem x e) (mem x ts) (mem x t)
 
 -- Numbers below n
-
--- They are n.
-pub numbers_count : (n : ℕ) → length (numbers_below n) ≡ n
-numbers_count zero = refl
-numbers_count (suc n) = let h = numbers_count n in let k = length-append (numbers_below n) (n ∷ []) in omega arith
 
 -- Their members are the numbers less than n.
 elem_numbers : (x n : ℕ) → elem x (numbers_below n) ≡ less x n

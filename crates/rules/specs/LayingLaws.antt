@@ -11,14 +11,14 @@ use Rattle.std.proofs.Math.ListN.{get_or, length}
 use Rattle.std.proofs.lemmas.List.Edits.{sets}
 use Rattle.std.proofs.Math.Seq.{length-sets, slice, slice_empty, slice-cons, length-slice}
 use Rattle.std.proofs.lemmas.List.{drop-append-le}
-use Rattle.terms.specs.Numbers.{same_refl, same_true, by_bool, true_false, less_yes, less_no, or_left, or_right}
+use Rattle.terms.specs.Numbers.{same_refl, same_true, by_bool, true_false, or_left, or_right}
 use Rattle.terms.specs.Term.{Kind, one, many, Syn, var, app, nil, cons, Term, Terms, count, append, mem, Below}
 use Rattle.terms.specs.TermLaws.{below_mem, cons_inj}
 use Rattle.arena.specs.Cells.{headers, Cells, symbol_of, arity_of, denote, Reference, WellFormed, Same, low_or_high, reference_up, frame_denote, denote_variable, cells, terms_of}
 use Rattle.arena.specs.Copies.{pattern_room}
 use Rattle.arena.specs.NodeLaws.{sets_below, sets_within, sets_past, header_of, reference_same, formed_same, terms_same, push_frame, push_formed, push_reference, push_denotes}
 use Rattle.arena.specs.Form.{inputs, is_header, Place, is_argument, nodes, in_form}
-use Rattle.arena.specs.FormLaws.{Header, argument_reference, argument_from, reference_accepted}
+use Rattle.arena.specs.FormLaws.{Header, header_yes, argument_reference, argument_from, reference_accepted}
 use Rattle.resolution.specs.Rules.{Rule}
 use Rattle.resolution.specs.Fresh.{elem, met, met_back, place, head_vars, all_vars}
 use Rattle.resolution.specs.FreshLaws.{Covers}
@@ -419,11 +419,6 @@ pub lay_laid : {k : Kind} (arities : List ℕ) (t : Syn k) (w : List ℕ) (u : �
 lay_laid arities t w u rs w' u' ready e = subst (λ (l : Laid). As arities t w u l) e (lay_as arities t w u ready)
 
 -- The form
-
--- A known symbol's header is accepted.
-header_yes : (arities : List ℕ) (x : ℕ) → Header arities x → is_header arities x ≡ true
-unfolding is_header
-header_yes arities x h = rw (less_no h.high, less_yes h.known, ← h.own, same_refl (arity_of x), less_no h.few)
 
 -- The arguments of the node at a that are left, from the address `at` on.
 arguments_yes : (p : Place) (arities : List ℕ) (a b : ℕ) → b ≤ length p.words → (left at : ℕ) → at + left ≤ b

@@ -7,7 +7,7 @@ use mathlib.Core.List.{List, [], ◌∷◌, ◌++◌, map}
 use Rattle.std.proofs.lemmas.List.{length-map}
 use Rattle.std.proofs.Math.ListN.{get_or-append, get_or-map}
 use Rattle.std.proofs.Math.Seq.{get_or-append_seam}
-use Rattle.terms.specs.Numbers.{same, same_ne, by_bool, by_same, by_less, true_false}
+use Rattle.terms.specs.Numbers.{by_bool, by_same, by_less}
 use Rattle.terms.specs.Term.{Kind, Syn, Term, Terms, var, app, nil, cons, count, Below}
 use Rattle.terms.specs.Term.Kind.{one as single, many as several}
 use Rattle.terms.specs.TermLaws.{below_le}
@@ -18,10 +18,10 @@ use Rattle.names.specs.Names.{Name}
 use Rattle.names.specs.Symbols.{Symbol, Variable, symbol_number, variable_number, no_symbol, symbol_at}
 use Rattle.patterns.specs.Patterns.{no_variable, Entry, refused, entered, known, enter, kind_of, Out, bad, good, bind, counted, misfit, spent, unless, is_ctor, zero_name, succ_name, first, rest, chain, pattern_of}
 use Rattle.resolution.specs.Rules.{Rule}
-use Rattle.resolution.specs.Fresh.{elem, met}
-use Rattle.resolution.proofs.FreshLaws.{elem_last, covers_grows}
+use Rattle.resolution.specs.Fresh.{met}
 use Rattle.resolution.specs.Search.{words}
 use Rattle.meeting.specs.Places.{numbers_below}
+use Rattle.meeting.specs.PlaceLaws.{elem_numbers, numbers_place}
 use Rattle.rules.specs.Rules.{Ruled, barred, ruled, all_known, closed, concluded, rule_of}
 use Rattle.rules.specs.LayingLaws.{each, Fits}
 
@@ -304,28 +304,13 @@ entered_sorts ns {vs} {s} b h (new w l) = λ j m.
     (λ k r. let d = ap (λ (u : Variable). u.sort) (get_or-append vs (v ∷ []) no_variable j k) in rw d (h j k))
     (λ k r. let q : j ≡ length vs = omega arith in let d = ap (λ (u : Variable). u.sort) (get_or-append_seam vs v [] no_variable) in rw (q, d) b)
 
--- A number below n is in the list of those below n, and no other.
-elem_other : (x y : ℕ) (e : List ℕ) → (x ≡ y → ⊥) → elem x e ≡ false → elem x (e ++ (y ∷ [])) ≡ false
-elem_other x y [] n h = rw (same_ne n)
-elem_other x y (z ∷ e) n h = by_bool (same x z) (λ q. true_false (rw q) h) (λ q. rw q (elem_other x y e n (rw q at h)))
-
-elem_no : (n x : ℕ) → n ≤ x → elem x (numbers_below n) ≡ false
-elem_no zero x l = refl
-elem_no (suc n) x l = elem_other x n (numbers_below n) (λ q. omega arith) (elem_no n x (omega arith))
-
-elem_yes : (n x : ℕ) → x < n → elem x (numbers_below n) ≡ true
-elem_yes zero x l = absurd (omega arith)
-elem_yes (suc n) x l = by_same x n
-    (λ q r. rw q (elem_last n (numbers_below n)))
-    (λ q r. covers_grows (var x) (numbers_below n) (numbers_below n ++ (n ∷ [])) (n ∷ [], refl) (elem_yes n x (by_less x n (λ k s. k) (λ k s. absurd (q (omega arith))))))
-
--- and a new one is met next.
+-- The variables entered are met in the order of their numbers: a new one is met next.
 entered_met : {vs vs' : List Variable} {s i : ℕ} → Entered vs s i vs' → met (var i) (numbers_below (length vs)) ≡ numbers_below (length vs')
-entered_met {vs} {s} (learnt {i} l e) = rw (elem_yes (length vs) i l, length-set vs i (record { name = (get_or vs i no_variable).name; sort = s }))
-entered_met {vs} (kept {i} l) = rw (elem_yes (length vs) i l)
+entered_met {vs} {s} (learnt {i} l e) = rw ((numbers_place (length vs) i l).0, length-set vs i (record { name = (get_or vs i no_variable).name; sort = s }))
+entered_met {vs} (kept {i} l) = rw (numbers_place (length vs) i l).0
 entered_met {vs} {s} (new w l) =
     let n : length (vs ++ (record { name = w; sort = s } ∷ [])) ≡ suc (length vs) = length-append vs (record { name = w; sort = s } ∷ []) ∙ omega arith in
-    rw (elem_no (length vs) (length vs) (omega arith), n)
+    rw (elem_numbers (length vs) (length vs) (omega arith), n)
 
 -- Nodes and words
 
@@ -438,7 +423,7 @@ pub record RuleMade (symbols : List Symbol) (ns : ℕ) (name : Name) (room : ℕ
   pub words_fit : words R.premises + words R.conclusion + 2 * room' ≤ 2 * room
 
 -- If all sorts are known then each is.
-all_known_lem : (vs : List Variable) → all_known vs ≡ true → (i : ℕ) → i < length vs → 0 < (get_or vs i no_variable).sort
+pub all_known_lem : (vs : List Variable) → all_known vs ≡ true → (i : ℕ) → i < length vs → 0 < (get_or vs i no_variable).sort
 unfolding all_known
 all_known_lem [] h i l = absurd (omega arith)
 all_known_lem (v ∷ vs) h zero l = ltb-true _ _ (and_left (ltb 0 v.sort) (all_known vs) h)

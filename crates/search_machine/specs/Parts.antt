@@ -1,27 +1,18 @@
 -- The parts of a rule's row that are lent to an attempt are the references of its premises and the places of its variables.
-use Rattle.std.specs.Prelude.{ℕ, zero, suc, ◌+◌, ◌-◌, ◌≤◌, ◌≡◌, refl, length, take, drop}
-use Rattle.std.proofs.Common.{arith, ap, sym, ◌∙◌, drop-cons}
+use Rattle.std.specs.Prelude.{ℕ, ◌+◌, ◌-◌, ◌≤◌, ◌≡◌, length, take, drop}
+use Rattle.std.proofs.Common.{arith, sym, ◌∙◌}
 use Rattle.std.proofs.Math.Path.{ap₂}
-use mathlib.Core.List.{List, ◌∷◌}
+use mathlib.Core.List.{List}
 use Rattle.arena.specs.Copies.{pattern_room, term_room, moved, Movable}
 use Rattle.arena.specs.Rows.{Rows}
-use Rattle.names.specs.Symbols.{column, columns, row_at}
+use Rattle.names.specs.Symbols.{column, row_at}
+pub use Rattle.names.specs.SearchLaws.{part_columns}
 use Rattle.rules.specs.StoredRows.{heads_in, places_in, stored_in}
 use Rattle.attempts.specs.Promises.{Asked, Attempted}
 use Rattle.attempts.specs.declared.Stored.{Stored}
 use Rattle.search_machine.specs.Storage.{RowAsked, RowTried, PremiseAsked, Attempt}
 use Rattle.search_machine.specs.State.{premise_ref}
 use Rattle.search_machine.specs.declared.frames.Frame.{Frame}
-
-from_columns : (row : List ℕ) (j n : ℕ) → j + n ≤ length row → take n (drop j row) ≡ columns row j n
-unfolding columns
-from_columns row j zero l = refl
-from_columns row j (suc n) l =
-    ap (take (suc n)) (drop-cons row j 0 (omega arith)) ∙ ap (λ (xs : List ℕ). column row j ∷ xs) (from_columns row (suc j) n (omega arith))
-
--- A part of a row is so many of its columns.
-pub part_columns : (row : List ℕ) (j n : ℕ) → j + n ≤ length row → take (j + n - j) (drop j row) ≡ columns row j n
-part_columns row j n l = let e : j + n - j ≡ n = omega arith in ap (λ (k : ℕ). take k (drop j row)) e ∙ from_columns row j n l
 
 -- The places of a rule's variables are the part of its row that is lent.
 pub places_lent : (row : List ℕ) → column row 3 ≤ 64 → length row ≡ 154 → take (90 + column row 3 - 90) (drop 90 row) ≡ places_in row

@@ -1,13 +1,12 @@
 -- The rules of a signature in the listed form are stored as the search asks.
-use Rattle.std.specs.Prelude.{ℕ, zero, suc, ◌+◌, ◌≤◌, ◌<◌, ◌≡◌, refl, true, ◌≢◌, List, [], ◌∷◌, ◌++◌, map, length, get_or, take}
+use Rattle.std.specs.Prelude.{ℕ, zero, suc, ◌+◌, ◌≤◌, ◌<◌, ◌≡◌, refl, true, List, [], ◌∷◌, map, length, get_or, take}
 use Rattle.std.proofs.Common.{arith, sym, ap, ap₂, ◌∙◌, subst}
-use Rattle.terms.specs.Numbers.{by_same, true_false}
 use Rattle.terms.specs.Term.{Kind, Syn, var, app, nil, cons, Below}
 use Rattle.arena.specs.Copies.{pattern_room}
 use Rattle.arena.specs.Form.{in_form}
 use Rattle.arena.specs.Rows.{Rows}
 use Rattle.names.specs.Symbols.{column, row_at}
-use Rattle.meeting.specs.Places.{numbers_below}
+use Rattle.meeting.specs.PlaceLaws.{elem_below}
 use Rattle.resolution.specs.Rules.{Rule}
 use Rattle.resolution.specs.Fresh.{elem, met}
 use Rattle.resolution.specs.FreshLaws.{Covers}
@@ -18,15 +17,6 @@ use Rattle.rules.specs.StoredLaws.{kept_stored}
 use Rattle.rule_checks.specs.RuleForm.{rule_in, RuleFormed}
 use Rattle.search_machine.specs.State.{rules_from, RulesStored, RulesInForm}
 
-elem_end : (x y : ℕ) (e : List ℕ) → x ≢ y → elem x (e ++ (y ∷ [])) ≡ true → elem x e ≡ true
-elem_end x y [] n h = by_same x y (λ p q. absurd (n p)) (λ p q. rw q at h)
-elem_end x y (z ∷ e) n h = by_same x z (λ p q. rw q refl) (λ p q. rw q (elem_end x y e n (rw q at h)))
-
-numbers_low : (n x : ℕ) → elem x (numbers_below n) ≡ true → x < n
-numbers_low zero x h = true_false h refl
-numbers_low (suc n) x h = by_same x n (λ p q. omega arith) (λ p q. let l = numbers_low n x
-    (elem_end x n (numbers_below n) p h) in omega arith)
-
 covers_below : {s : Kind} (n : ℕ) (e : List ℕ) → ((x : ℕ) → elem x e ≡ true → x < n) → (t : Syn s) → Covers e t → Below n t
 covers_below n e h (var x) k = h x k
 covers_below n e h (app f ts) k = covers_below n e h ts k
@@ -36,7 +26,7 @@ covers_below n e h (cons t ts) k = (covers_below n e h t k.0, covers_below n e h
 -- A rule in form has no variables but those that it counts.
 module _ {text words : List ℕ} {sorts : ℕ} {row : List ℕ} (f : RuleFormed text words sorts row) where
   low : (x : ℕ) → elem x (met (rule_in text words row).conclusion (met (rule_in text words row).premises [])) ≡ true → x < column row 3
-  low x h = numbers_low (column row 3) x (subst (λ (e : List ℕ). elem x e ≡ true) f.order h)
+  low x h = elem_below (column row 3) x (subst (λ (e : List ℕ). elem x e ≡ true) f.order h)
 
   conclusion_below : Below (column row 3) (rule_in text words row).conclusion
   conclusion_below =

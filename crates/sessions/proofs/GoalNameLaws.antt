@@ -1,14 +1,14 @@
 -- The names of a session after a goal: at most 64, each with a sort that there is, and none twice. So a session in form can be left in
 -- form.
 use Prim.Native.Nat.{ℕ, zero, suc, ◌+◌, ◌≤◌, ◌<◌}
-use Rattle.std.proofs.Common.{arith, sym, ap, ap₂, ◌∙◌, subst, length-append, length-drop, take-append-drop, get_or-drop, get_or-take, length-take-le, ext_get_or, ltb-true, ltb-false}
+use Rattle.std.proofs.Common.{arith, sym, ap, ap₂, ◌∙◌, subst, length-append, length-drop, take-append-drop, get_or-drop, get_or-take, length-take-le, ext_get_or, ltb-false}
 use Rattle.std.specs.Prelude.{◌≡◌, refl, true, ◌&&◌, eqb, ltb, length, get_or, take, drop}
 use mathlib.Core.List.{List, [], ◌∷◌, ◌++◌, map}
 use Rattle.std.proofs.lemmas.List.{length-map, map-append}
 use Rattle.std.proofs.Math.ListN.{get_or-append, get_or-map}
 use Rattle.std.proofs.Math.Seq.{map-set_same, get_or-append_seam}
 use Rattle.source_text.specs.Bytes.{same_bytes}
-use Rattle.source_text.specs.ByteLaws.{and_left, and_right, same_itself}
+use Rattle.source_text.specs.ByteLaws.{same_itself}
 use Rattle.terms.specs.Numbers.{by_bool, by_less}
 use Rattle.terms.specs.Term.{Syn, Term, app, nil, cons}
 use Rattle.terms.specs.Term.Kind.{one as single}
@@ -19,7 +19,7 @@ use Rattle.names.specs.Symbols.{Symbol, Variable, symbol_number, variable_number
 use Rattle.patterns.specs.Patterns.{no_variable, Entry, refused, entered, known, enter, kind_of, Out, bad, good, bind, counted, misfit, spent}
 use Rattle.patterns.specs.Patterns.{unless, is_ctor, zero_name, succ_name, first, rest, chain, pattern_of}
 use Rattle.rules.specs.Rules.{all_known}
-use Rattle.rules.specs.PatternLaws.{Made, Fine, InputsUpto, SortsUpto, Grown, pattern_made, made_grown, made_sorts}
+use Rattle.rules.specs.PatternLaws.{all_known_lem, Made, Fine, InputsUpto, SortsUpto, Grown, pattern_made, made_grown, made_sorts}
 use Rattle.resolution.specs.Session.{Named, refuses, compiles}
 use Rattle.resolution.specs.Session as theory
 use Rattle.sessions.specs.Goals.{WrittenTerm, variable_for, name_for, closing, goal_compiled}
@@ -143,12 +143,6 @@ module _ (symbols : List Symbol) where
       (pattern_apart ts (rest sorts) ws q h) (λ us xs p k. k))
 
 -- The names after a goal
-all_known_lem : (vs : List Variable) → all_known vs ≡ true → (i : ℕ) → i < length vs → 0 < (get_or vs i no_variable).sort
-unfolding all_known
-all_known_lem [] h i l = absurd (omega arith)
-all_known_lem (v ∷ vs) h zero l = ltb-true _ _ (and_left (ltb 0 v.sort) (all_known vs) h)
-all_known_lem (v ∷ vs) h (suc i) l = all_known_lem vs (and_right (ltb 0 v.sort) (all_known vs) h) i (omega arith)
-
 texts_for : (ns : List Named) → names_of (map variable_for ns) ≡ texts_of ns
 texts_for [] = refl
 texts_for (n ∷ ns) = ap (λ (l : List Name). n.name.text ∷ l) (texts_for ns)

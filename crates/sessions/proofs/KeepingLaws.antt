@@ -21,6 +21,7 @@ use Rattle.resolution.specs.Search.{words, over, Verdict, refusal, proved, nothi
 use Rattle.resolution.specs.Session.{Named, Session, Compiled, refuses, compiles, Query, variable_limit, word_limit, at_most, limits_of}
 use Rattle.resolution.specs.Session.{too_much, goal_of, enter, searched, verdict_of, answered, tested, ask}
 use Rattle.resolution.specs.Session as theory
+use Rattle.resolution.specs.Naming.{no_name}
 use Rattle.resolution.specs.Sizes.{VerdictWithin}
 use Rattle.resolution.proofs.SizeLaws.{prove_within}
 use Rattle.names.specs.Names.{Name, Distinct, name_in}
@@ -38,10 +39,6 @@ use Rattle.sessions.specs.Leaving.{grown_counts}
 use Rattle.sessions.proofs.GoalNameLaws.{goal_names}
 use Rattle.sessions.specs.StoreLaws.{names_length, names_at_lem}
 use Rattle.sessions.specs.declared.SessionCounts.{SessionCounts}
-
--- What stands past the last name.
-abbrev nobody : Named
-nobody = record { name = record { text = []; sort = 0 }; variable = 0 }
 
 -- SessionCounts
 -- Storage holds as many bindings as the count says.
@@ -96,7 +93,7 @@ listed_distinct {text} {b = b} {n = n} h i j l m e =
     let q = names_length h in
     let a = length-map (session_of text b n).names (λ (x : Named). x.name.text) in
     let at : (i : ℕ) → i < n.names → get_or (texts_of (session_of text b n).names) i [] ≡ name_in text (row_at b.names i) =
-    λ i l. get_or-map (λ (x : Named). x.name.text) (session_of text b n).names i nobody
+    λ i l. get_or-map (λ (x : Named). x.name.text) (session_of text b n).names i no_name
     ∙ ap (λ (x : Named). x.name.text) (names_at_lem h i l) in
     h.distinct i j l (omega arith) (sym (at i (omega arith)) ∙ e ∙ at j (omega arith))
 
@@ -134,7 +131,7 @@ stored_names text sg b n signature h t new p e =
     (listed_distinct h)
     (λ i l. let s = (h.named i (omega arith)).sort in
     let at : (get_or (map variable_for (session_of text b n).names) i no_variable).sort ≡ column (row_at b.names i) 3 =
-    ap (λ (v : Variable). v.sort) (get_or-map variable_for (session_of text b n).names i nobody)
+    ap (λ (v : Variable). v.sort) (get_or-map variable_for (session_of text b n).names i no_name)
     ∙ ap (λ (x : Named). x.name.sort) (names_at_lem h i (omega arith)) in
     omega arith)
     new p e
@@ -156,7 +153,7 @@ numbered_length c [] = refl
 numbered_length c (n ∷ new) = ap suc (numbered_length (suc c) new)
 
 numbered_at : (c : ℕ) (new : List theory.Name) (i : ℕ) → i < length new
-    → get_or (numbered_from c new) i nobody ≡ record { name = get_or new i no_new; variable = c + i }
+    → get_or (numbered_from c new) i no_name ≡ record { name = get_or new i no_new; variable = c + i }
 unfolding numbered_from
 numbered_at c [] i l = absurd (omega arith)
 numbered_at c (n ∷ new) zero l = let e : c ≡ c + 0 = omega arith in ap (λ (v : ℕ). record { name = n; variable = v }) e
@@ -185,7 +182,7 @@ module _ {text arities : List ℕ} {sorts : ℕ} {b : SessionStore} {n : Session
       length-map (session_of text b n).names (λ (x : Named). x.name.text) ∙ m in
       by_less i n.names
       (λ p q. ap (name_in text) (old_row i p) ∙ sym (get_or-append (texts_of (session_of text b n).names) (new_texts new) [] i (omega arith)
-      ∙ get_or-map (λ (x : Named). x.name.text) (session_of text b n).names i nobody
+      ∙ get_or-map (λ (x : Named). x.name.text) (session_of text b n).names i no_name
       ∙ ap (λ (x : Named). x.name.text) (names_at_lem h i p)))
       (λ p q. let j : ℕ = i - n.names in
       let e : n.names + j ≡ i = omega arith in
@@ -242,7 +239,7 @@ module _ {text arities : List ℕ} {sorts : ℕ} {b : SessionStore} {n : Session
       good.distinct i j l (omega arith) (sym (text_at i (omega arith)) ∙ e ∙ text_at j m)
 
   -- each new name has its row,
-  name_at_lem : (i : ℕ) → i < length new → get_or (numbered_from n.variables new) i nobody ≡ named_in text (row_at rows (n.names + i))
+  name_at_lem : (i : ℕ) → i < length new → get_or (numbered_from n.variables new) i no_name ≡ named_in text (row_at rows (n.names + i))
   unfolding named_in
   name_at_lem i l = numbered_at n.variables new i l
       ∙ named_parts (sym (k.behind.named i l)) (sym (k.behind.sorted i l)) (sym (k.behind.numbered i l))
@@ -258,18 +255,18 @@ module _ {text arities : List ℕ} {sorts : ℕ} {b : SessionStore} {n : Session
       let q = numbered_length n.variables new in
       let all : length (old ++ numbered_from n.variables new) ≡ n.names + length new =
       length-append old (numbered_from n.variables new) ∙ omega arith in
-      ext_get_or nobody (map (named_in text) (take (n.names + length new) rows)) (old ++ numbered_from n.variables new) (omega arith)
-      (λ i l. get_d_any (map (named_in text) (take (n.names + length new) rows)) i nobody (named_in text []) l
+      ext_get_or no_name (map (named_in text) (take (n.names + length new) rows)) (old ++ numbered_from n.variables new) (omega arith)
+      (λ i l. get_d_any (map (named_in text) (take (n.names + length new) rows)) i no_name (named_in text []) l
       ∙ table_at (named_in text) rows (n.names + length new) k.lent i (omega arith)
       ∙ by_less i n.names
       (λ p r. ap (named_in text) (old_row i p) ∙ sym (names_at_lem h i p)
-      ∙ sym (get_or-append old (numbered_from n.variables new) nobody i (omega arith)))
+      ∙ sym (get_or-append old (numbered_from n.variables new) no_name i (omega arith)))
       (λ p r. let j : ℕ = i - n.names in
       let e : n.names + j ≡ i = omega arith in
       let f : length old + j ≡ i = omega arith in
       ap (λ (z : ℕ). named_in text (row_at rows z)) (sym e) ∙ sym (name_at_lem j (omega arith))
-      ∙ sym (get_or-append-add old (numbered_from n.variables new) j nobody)
-      ∙ ap (λ (z : ℕ). get_or (old ++ numbered_from n.variables new) z nobody) f))
+      ∙ sym (get_or-append-add old (numbered_from n.variables new) j no_name)
+      ∙ ap (λ (z : ℕ). get_or (old ++ numbered_from n.variables new) z no_name) f))
       ∙ sym (enter_behind old n.variables new)
 
 -- What was made is a session in form,

@@ -12,7 +12,7 @@ use Rattle.words.specs.declared.Limits.{Limits}
 use Rattle.term_parser.specs.Source.{Source, one}
 use Rattle.term_parser.specs.Parsing.{Tokens, Parsed, parsed}
 use Rattle.term_parser.specs.Rows.{Rows, rows_of, rows_of_all}
-use Rattle.term_parser.specs.ReaderLaws.{Each}
+use Rattle.term_parser.specs.ListLaws.{each_here, all_append}
 use Rattle.term_parser.specs.Depth.{depth}
 use Rattle.term_parser.specs.Standing.{spelled}
 use Rattle.parser.specs.Source.{eval}
@@ -26,16 +26,6 @@ use Rattle.term_check.specs.TermRows.{Worded, TermAt}
 use Rattle.term_check.specs.TermLaws.{term_one}
 use Rattle.term_check.specs.ParsedTerms.{Evaluable, parsed_evaluable}
 use Rattle.sessions.specs.Goals.{goal_in}
-
-each_here : {A : Type 0} (P : A → Type 0) (before : List A) (a : A) (after : List A) → Each P (before ++ (a ∷ after)) → P a
-each_here P [] a after h = h.0
-each_here P (b ∷ before) a after h = each_here P before a after h.1
-
-all_append : {A : Type 0} (rows : A → Rows) (l m : List A) → rows_of_all rows (l ++ m) ≡ rows_of_all rows l ++ rows_of_all rows m
-unfolding rows_of_all
-all_append rows [] m = refl
-all_append rows (a ∷ l) m =
-    ap (λ (r : Rows). rows a ++ r) (all_append rows l m) ∙ sym (append_assoc (rows a) (rows_of_all rows l) (rows_of_all rows m))
 
 -- The rows of a term, behind other rows, are that term's.
 placed : (text : List ℕ) (before after : Rows) (t : Source one) {p : ℕ} → length before ≡ p → Worded text t → depth t ≤ 131

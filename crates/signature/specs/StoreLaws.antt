@@ -1,17 +1,17 @@
 -- Laws of storage in the listed form, whatever it was made by: each row keeps the rule that it denotes and is a stored rule that can be tried; symbols have
 -- their rows' arities; and the clauses of a function are rules that there are, of the shape that the form asks.
-use Rattle.std.specs.Prelude.{ℕ, zero, suc, ◌+◌, ◌≤◌, ◌<◌, ◌≡◌, refl, true, List, [], ◌∷◌, ◌++◌, map, get_or, take}
+use Rattle.std.specs.Prelude.{ℕ, zero, suc, ◌+◌, ◌≤◌, ◌<◌, ◌≡◌, refl, List, [], ◌∷◌, map, get_or, take}
 use Rattle.std.proofs.Common.{arith, ◌∙◌, subst}
 use Rattle.std.proofs.Math.Path.{ap}
 use Rattle.std.proofs.Math.Option.{some}
 use Rattle.std.proofs.Math.ListN.{length, get_or-map}
-use Rattle.terms.specs.Numbers.{same_ne, by_same, true_false}
 use Rattle.terms.specs.Term.{Kind, Syn, var, app, nil, cons, Below}
 use Rattle.resolution.specs.Rules.{Rule, rule_at_lem}
-use Rattle.resolution.specs.Fresh.{elem, met}
+use Rattle.resolution.specs.Fresh.{met}
 use Rattle.resolution.specs.FreshLaws.{Covers}
 use Rattle.resolution.proofs.FreshLaws.{covers_grows, met_covers, met_grows}
 use Rattle.meeting.specs.Places.{numbers_below}
+use Rattle.meeting.specs.PlaceLaws.{elem_below}
 use Rattle.attempts.specs.StoredRules.{StoredRule}
 use Rattle.names.specs.Symbols.{Rows, Symbol, column, row_at, symbol_of, symbol_at, no_symbol}
 use Rattle.names.specs.SearchLaws.{table_length, table_at, get_d_any, columns_length}
@@ -61,14 +61,6 @@ row_kept text arities words rows k u i lent h l =
     (c.0, c.1, subst (λ (S : Rule). Kept text arities words (row_at rows i) S c.0 c.1) (rules_at text words rows k lent i l) d)
 
 -- Variables
-
-elem_other : (x y : ℕ) (e : List ℕ) → (x ≡ y → ⊥) → elem x (e ++ (y ∷ [])) ≡ true → elem x e ≡ true
-elem_other x y [] n h = true_false h (rw (same_ne n))
-elem_other x y (z ∷ e) n h = by_same x z (λ p q. rw q) (λ p q. rw q (elem_other x y e n (rw q at h)))
-
-elem_below : (n x : ℕ) → elem x (numbers_below n) ≡ true → x < n
-elem_below zero x h = true_false h refl
-elem_below (suc n) x h = by_same x n (λ p q. omega arith) (λ p q. let l = elem_below n x (elem_other x n (numbers_below n) p h) in omega arith)
 
 covered_below : {s : Kind} (n : ℕ) (t : Syn s) → Covers (numbers_below n) t → Below n t
 covered_below n (var x) c = elem_below n x c

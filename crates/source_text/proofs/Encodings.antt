@@ -20,7 +20,8 @@ use Rattle.std.specs.Prelude.{Some, None, unwrap_or}
 use Rattle.std.specs.Bool.{then_some}
 use Rattle.std.specs.List.{list_all}
 use Rattle.source_text.proofs.Table.{both, both_left, both_right, every, at}
-use Rattle.source_text.proofs.Scans.{by_bool, and_right, prefix_fits}
+use Rattle.source_text.specs.ByteLaws.{by_bool, and_right}
+use Rattle.source_text.specs.ScanLaws.{starts_short}
 
 -- What a byte of the n bytes from lo on asks, by one test over them all.
 unfoldable pub same_lead : Lead → Lead → Bool
@@ -210,7 +211,7 @@ inside [] h n = absurd (omega arith)
 inside (c ∷ s) h n =
     by_bool (ltb c 128)
     (λ e. simp e (omega arith, omega arith))
-    (λ e. by_bool (starts_with arrow (c ∷ s)) (λ f. simp (e, f) (omega arith, omega (arith, prefix_fits arrow (c ∷ s) f))) (λ f. absurd (n (simp (e, f)))))
+    (λ e. by_bool (starts_with arrow (c ∷ s)) (λ f. simp (e, f) (omega arith, omega (arith, starts_short arrow (c ∷ s) f))) (λ f. absurd (n (simp (e, f)))))
 
 module _ (s : List ℕ) (i : ℕ) (c : Classed) (h : i < length s) (e : c ≡ character_of (drop i s)) where
   pub inside_at : (c.class ≡ 5 → ⊥) → (0 < c.length) × (i + c.length ≤ length s)

@@ -11,7 +11,7 @@ use lib.Dec.{ltb}
 use borrow.Author.Tests.{lt-ltb, le-ltb}
 use Rattle.source_text.specs.Bytes.{within}
 use Rattle.source_text.specs.Numerals.{digit_of, all_digits, value_from, numeral_of}
-use Rattle.source_text.proofs.Scans.{by_bool}
+use Rattle.source_text.specs.ByteLaws.{by_bool}
 use Rattle.std.specs.Prelude.{Option, Some, None}
 
 -- The numeral whose first digits make v and whose other bytes are s.

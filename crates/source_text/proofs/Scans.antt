@@ -14,14 +14,12 @@ use Rattle.std.specs.Prelude.{Option, Some, None, MatchOption}
 use Rattle.std.specs.Option.{unwrap_or}
 use Rattle.std.specs.Cmp.Lexicographic.{pointwise}
 use Rattle.source_text.specs.Bytes.{starts_with, same_bytes, up_to}
+use Rattle.source_text.specs.ByteLaws.{by_bool}
+use Rattle.source_text.specs.ScanLaws.{upto_short}
 use Rattle.source_text.specs.Lines.{lines, line_of, code_of, ends_code}
 use Rattle.source_text.specs.TakenLines.{LineTaken}
 use Rattle.source_text.specs.declared.lines.Code.{Code}
 use Rattle.source_text.specs.declared.lines.Lines.{Lines}
-
-pub by_bool {ℓ} : {P : Type ℓ} (b : Bool) → (b ≡ true → P) → (b ≡ false → P) → P
-by_bool true f g = f refl
-by_bool false f g = g refl
 
 -- The library's test of equality.
 pub pointwise_same : (v w : List ℕ) → pointwise eqb v w ≡ same_bytes v w
@@ -38,28 +36,8 @@ prefix_is [] s = refl
 prefix_is (a ∷ w) [] = refl
 prefix_is (a ∷ w) (c ∷ s) = by_bool (eqb a c) (λ e. let f : a ≡ c = eqb-true a c e in rw f (simp (prefix_is w s))) (λ e. simp (e, ne_eqb c a (λ f. let g : eqb a c ≡ true = eq-eqb a c (sym f) in absurd (let z : ◌≡◌ {A = ℕ} 0 1 = cc in omega arith))))
 
-pub and_left : (x y : Bool) → (x && y) ≡ true → x ≡ true
-and_left true y h = refl
-and_left false y h = h
-
-pub and_right : (x y : Bool) → (x && y) ≡ true → y ≡ true
-and_right true y h = h
-and_right false y h = absurd (let z : ◌≡◌ {A = ℕ} 0 1 = cc in omega arith)
-
--- A prefix is no longer than the list.
-pub prefix_fits : (w s : List ℕ) → starts_with w s ≡ true → length w ≤ length s
-unfolding starts_with
-prefix_fits [] s e = omega arith
-prefix_fits (a ∷ w) [] e = absurd (let z : ◌≡◌ {A = ℕ} 0 1 = cc in omega arith)
-prefix_fits (a ∷ w) (c ∷ s) e = let h : length w ≤ length s = prefix_fits w s (and_right (eqb c a) (starts_with w s) e) in omega arith
-
 -- `up_to` at place i of s.
 module _ (p : List ℕ → Bool) where
-  pub scan_fits : (s : List ℕ) → length (up_to p s) ≤ length s
-  unfolding up_to
-  scan_fits [] = omega arith
-  scan_fits (c ∷ s) = by_bool (p (c ∷ s)) (λ e. simp e (omega arith)) (λ e. simp e (let h : length (up_to p s) ≤ length s = scan_fits s in omega arith))
-
   pub scan_take : (s : List ℕ) → up_to p s ≡ take (length (up_to p s)) s
   unfolding up_to
   scan_take [] = refl
@@ -169,7 +147,7 @@ two_at a b y z (c ∷ s) (suc i) = two_at a b y z s i
 module _ (text : List ℕ) (at c e : ℕ) (h : at < length text) (f : c ≡ at + length (code_of (line_of (drop at text)))) (g : e ≡ c + length (line_of (drop c text))) where
   code_in_line : length (code_of (line_of (drop at text))) ≤ length (line_of (drop at text))
   unfolding code_of
-  code_in_line = scan_fits (starts_with (45 ∷ 45 ∷ [])) (line_of (drop at text))
+  code_in_line = upto_short (starts_with (45 ∷ 45 ∷ [])) (line_of (drop at text))
 
   pub line_long : e ≡ at + length (line_of (drop at text))
   unfolding line_of
@@ -181,7 +159,7 @@ module _ (text : List ℕ) (at c e : ℕ) (h : at < length text) (f : c ≡ at +
 
   pub line_within : e ≤ length text
   unfolding line_of
-  line_within = let k : length (line_of (drop at text)) ≤ length text - at = simp length-drop at (scan_fits (starts_with (10 ∷ [])) (drop at text)) in omega (arith, line_long)
+  line_within = let k : length (line_of (drop at text)) ≤ length text - at = simp length-drop at (upto_short (starts_with (10 ∷ [])) (drop at text)) in omega (arith, line_long)
 
   pub code_within : (at ≤ c) × (c ≤ e)
   code_within = (omega arith, omega (arith, line_long, code_in_line))
@@ -212,6 +190,6 @@ module _ (text : List ℕ) (at n : ℕ) (code : Code) (after : Lines) (t : LineT
   taken_within =
       let h : at < length text = t.inside in
       let e : length code.bytes.now ≡ length (code_of (line_of (drop at text))) = ap length t.bytes in
-      let c : length (code_of (line_of (drop at text))) ≤ length (line_of (drop at text)) = scan_fits (starts_with (45 ∷ 45 ∷ [])) (line_of (drop at text)) in
-      let l : length (line_of (drop at text)) ≤ length text - at = simp length-drop at (scan_fits (starts_with (10 ∷ [])) (drop at text)) in
+      let c : length (code_of (line_of (drop at text))) ≤ length (line_of (drop at text)) = upto_short (starts_with (45 ∷ 45 ∷ [])) (line_of (drop at text)) in
+      let l : length (line_of (drop at text)) ≤ length text - at = simp length-drop at (upto_short (starts_with (10 ∷ [])) (drop at text)) in
       (omega (arith, t.next), omega arith, omega (arith, t.next))

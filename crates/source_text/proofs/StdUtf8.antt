@@ -20,7 +20,7 @@ use Rattle.std.proofs.str.Valid.{of_one, of_two, of_three, of_four}
 use Rattle.source_text.specs.Bytes.{within}
 use Rattle.source_text.specs.Utf8.{lead_of, form_of, forms, asks, tails_of, character_length, utf8_after, is_utf8}
 use Rattle.source_text.specs.declared.utf8.Lead.{Lead}
-use Rattle.source_text.proofs.Scans.{by_bool, and_left, and_right}
+use Rattle.source_text.specs.ByteLaws.{by_bool, and_left, and_right}
 use Rattle.source_text.proofs.Encodings.{same_lead, lead_range, utf8_skip}
 
 is_within : (low high c : ℕ) → low ≤ c → c ≤ high → within low high c ≡ true

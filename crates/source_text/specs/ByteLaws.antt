@@ -1,7 +1,11 @@
--- Lists of bytes that are the same byte by byte are equal.
+-- Reasoning by a test's two answers, and the parts of a test that is true. Lists of bytes that are the same byte by byte are equal.
 use Rattle.std.specs.Prelude.{◌≡◌, refl, Bool, true, false, ◌&&◌, List, [], ◌∷◌, ℕ, eqb}
 use Rattle.std.proofs.Common.{arith, eqb-true, eq-eqb}
 use Rattle.source_text.specs.Bytes.{same_bytes}
+
+pub by_bool {ℓ} : {P : Type ℓ} (b : Bool) → (b ≡ true → P) → (b ≡ false → P) → P
+by_bool true f g = f refl
+by_bool false f g = g refl
 
 pub and_left : (x y : Bool) → (x && y) ≡ true → x ≡ true
 and_left true y h = refl

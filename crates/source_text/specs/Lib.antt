@@ -8,3 +8,4 @@ pub mod Numerals
 pub mod Answers
 pub mod Parts
 pub mod ByteLaws
+pub mod ScanLaws

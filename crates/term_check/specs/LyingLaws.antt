@@ -7,7 +7,7 @@ use mathlib.Core.List.{List, [], ◌∷◌, ◌++◌, append_assoc}
 use Rattle.std.proofs.Math.ListN.{drop, length-append}
 use Rattle.std.proofs.Math.Seq.{drop-append_seam}
 use borrow.Author.Tests.{ltb-true, lt-ltb, leb-true, le-leb, eqb-true, eq-eqb, eqb-false}
-use Rattle.source_text.proofs.Scans.{by_bool}
+use Rattle.terms.specs.Numbers.{by_bool}
 use Rattle.source_text.specs.ByteLaws.{and_left, and_right}
 use Rattle.source_text.specs.Numerals.{numeral_of}
 use Rattle.std.specs.Prelude.{Option, Some, None}

@@ -6,7 +6,7 @@ use Rattle.std.proofs.Common.{sym, ◌∙◌, length-append, drop_at, eqb-true}
 use Rattle.std.proofs.Math.Path.{ap}
 use mathlib.Core.List.{List, [], ◌∷◌, ◌++◌, append_assoc}
 use Rattle.std.proofs.Math.ListN.{length, get_or, replicate}
-use Rattle.source_text.proofs.Scans.{by_bool}
+use Rattle.terms.specs.Numbers.{by_bool}
 use Rattle.words.specs.Names.{name_kind, metavariable_kind, numeral_kind}
 use Rattle.source_text.specs.Numerals.{numeral_of}
 use Rattle.words.specs.Tokens.{Reading}
@@ -21,6 +21,7 @@ use Rattle.term_parser.specs.Grammar.{value, applied, equated, atom_of, app_of, 
 use Rattle.term_parser.specs.Rows.{Rows, rows_of, rows_of_all}
 use Rattle.term_parser.specs.Lists.{name, title_of, arrows_of, term, judgments_of}
 use Rattle.term_parser.specs.ReaderLaws.{Each, Comes, plus_comes, past_comes, required_comes, when_comes, repeat_each}
+use Rattle.term_parser.specs.ListLaws.{each_drop, each_here, all_append}
 use Rattle.refusals.specs.declared.Refusal.TheVariants.{TermExpected}
 use Rattle.parser.specs.Source.{Declaration, sort, ctor, pred, rule, def, theorem, eval, check}
 use Rattle.parser.specs.Declarations.{ends_in_prop, Declared, binders_of, tactic_of, clause_of, sort_of, ctor_of, pred_of, rule_of, def_of, theorem_of, eval_of, check_of, body_of, declaration_of, parse_of}
@@ -45,11 +46,6 @@ Evaluable text (eval t) = Worded text t
 Evaluable text (check t) = Worded text t
 
 -- Terms made of terms
-
-each_drop : {A : Type 0} (T : A → Type 0) (n : ℕ) (l : List A) → Each T l → Each T (drop n l)
-each_drop T zero l h = h
-each_drop T (suc n) [] h = tt
-each_drop T (suc n) (a ∷ l) h = each_drop T n l h.1
 
 module _ (text : List ℕ) where
   all_worded : (l : List (Source one)) → Each (Worded text) l → Worded text (all_of l)
@@ -223,15 +219,6 @@ module _ (text : List ℕ) where
       rw e at g
 
 -- Where the rows stand
-
-each_here : {A : Type 0} (P : A → Type 0) (before : List A) (a : A) (after : List A) → Each P (before ++ (a ∷ after)) → P a
-each_here P [] a after h = h.0
-each_here P (b ∷ before) a after h = each_here P before a after h.1
-
-all_append : {A : Type 0} (rows : A → Rows) (l m : List A) → rows_of_all rows (l ++ m) ≡ rows_of_all rows l ++ rows_of_all rows m
-unfolding rows_of_all
-all_append rows [] m = refl
-all_append rows (a ∷ l) m = ap (λ (r : Rows). rows a ++ r) (all_append rows l m) ∙ sym (append_assoc (rows a) (rows_of_all rows l) (rows_of_all rows m))
 
 -- The rows of a term, behind other rows.
 pub term_at_lem : (text : List ℕ) (before after : Rows) (t : Source one) {p : ℕ} → length before ≡ p → Worded text t → depth t ≤ 131

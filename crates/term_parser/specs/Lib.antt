@@ -8,5 +8,6 @@ pub mod Firmness
 pub mod Rows
 pub mod Standing
 pub mod ReaderLaws
+pub mod ListLaws
 pub mod Depth
 pub mod Promises

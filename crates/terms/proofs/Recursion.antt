@@ -8,7 +8,7 @@ use Rattle.terms.specs.Bindings.{Bindings, bind, walk, occurs, Acyclic, BelowB}
 use Rattle.terms.specs.Unification.{Eqn, eqn, eqns, Step, stop, keep, join, meet, step, Outcome, fails, unified, sizes, unifies, unify, BelowE}
 use Rattle.terms.specs.BindingLaws.{unbound, unbound_bind}
 use Rattle.terms.specs.UnificationLaws.{Stepped}
-use Rattle.terms.proofs.UnificationLaws.{step_ok, sizes_pos}
+use Rattle.terms.proofs.UnificationLaws.{unifies_done, step_ok, sizes_pos}
 use Rattle.terms.specs.Loops.{Next}
 use Rattle.terms.proofs.Loops.{unify_next}
 use Rattle.terms.specs.Recursion.{and_then, unify_args, unify_walked}
@@ -41,10 +41,6 @@ below_e_append c [] fs b h = h
 below_e_append c (eqn x y ∷ es) fs b h = (b.0, b.1, below_e_append c es fs b.2 h)
 below_e_append c (eqns x y ∷ es) fs b h = (b.0, b.1, below_e_append c es fs b.2 h)
 
-unifies_empty : (k : ℕ) (β : Bindings) → unifies k β [] ≡ unified β
-unifies_empty zero β = refl
-unifies_empty (suc k) β = refl
-
 -- Equations in front of others are worked off first.
 module _ (c : ℕ) (fs : List Eqn) (bf : BelowE c fs) where
   -- The equations es, and then fs from their bindings.
@@ -60,9 +56,9 @@ module _ (c : ℕ) (fs : List Eqn) (bf : BelowE c fs) where
   below_e_behind (eqns x y) es b = (b.0, b.1, below_e_append c es fs b.2 bf)
 
   turns : (k : ℕ) → Fewer k → (n : ℕ) (β : Bindings) (es : List Eqn) → Acyclic β → BelowB c β → BelowE c es → unbound c β ≤ k → sizes β es ≤ n → InOrder β es
-  turns k fewer zero β [] ac bb be hk hn = sym (ap (λ o. and_then o (λ β'. unifies c β' fs)) (unifies_empty c β))
+  turns k fewer zero β [] ac bb be hk hn = sym (ap (λ o. and_then o (λ β'. unifies c β' fs)) (unifies_done c β))
   turns k fewer zero β (e ∷ es) ac bb be hk hn = absurd (omega (arith, sizes_pos β e es))
-  turns k fewer (suc n) β [] ac bb be hk hn = sym (ap (λ o. and_then o (λ β'. unifies c β' fs)) (unifies_empty c β))
+  turns k fewer (suc n) β [] ac bb be hk hn = sym (ap (λ o. and_then o (λ β'. unifies c β' fs)) (unifies_done c β))
   turns k fewer (suc n) β (e ∷ es) ac bb be hk hn =
       go (step β e es) (step_ok c β ac bb e es be) (unify_next c β e es ac bb be)
       (subst (λ s. Next c β s (unifies c β (e ∷ (es ++ fs)))) (step_behind β e es fs) (unify_next c β e (es ++ fs) ac bb (below_e_behind e es be)))
@@ -90,13 +86,13 @@ module _ (c : ℕ) (β : Bindings) (ac : Acyclic β) (bb : BelowB c β) where
   unify_walked_lem a b ba b' = go (walk β a) (walk β b) (unify_next c β (eqn a b) [] ac bb (ba, b', tt))
     where
       go : (v w : Term) → Next c β (meet β v w []) (unify c β a b) → unify c β a b ≡ unify_walked c β v w
-      go (var x) (var y) = by_bool (same x y) (λ e. rw e (λ h. h ∙ unifies_empty c β)) (λ e. rw e (λ h. h ∙ unifies_empty c (bind x (var y) β)))
-      go (var x) (app g us) = by_bool (occurs β x (app g us)) (λ e. rw e (λ h. h)) (λ e. rw e (λ h. h ∙ unifies_empty c (bind x (app g us) β)))
-      go (app f ts) (var y) = by_bool (occurs β y (app f ts)) (λ e. rw e (λ h. h)) (λ e. rw e (λ h. h ∙ unifies_empty c (bind y (app f ts) β)))
+      go (var x) (var y) = by_bool (same x y) (λ e. rw e (λ h. h ∙ unifies_done c β)) (λ e. rw e (λ h. h ∙ unifies_done c (bind x (var y) β)))
+      go (var x) (app g us) = by_bool (occurs β x (app g us)) (λ e. rw e (λ h. h)) (λ e. rw e (λ h. h ∙ unifies_done c (bind x (app g us) β)))
+      go (app f ts) (var y) = by_bool (occurs β y (app f ts)) (λ e. rw e (λ h. h)) (λ e. rw e (λ h. h ∙ unifies_done c (bind y (app f ts) β)))
       go (app f ts) (app g us) = by_bool (same f g) (λ e. rw e (λ h. h)) (λ e. rw e (λ h. h))
 
   pub unify_args_nil : unify_args c β nil nil ≡ unified β
-  unify_args_nil = unify_next c β (eqns nil nil) [] ac bb (tt, tt, tt) ∙ unifies_empty c β
+  unify_args_nil = unify_next c β (eqns nil nil) [] ac bb (tt, tt, tt) ∙ unifies_done c β
 
   pub unify_args_more : (u : Term) (us : Terms) → Below c u → Below c us → unify_args c β nil (cons u us) ≡ fails
   unify_args_more u us b bs = unify_next c β (eqns nil (cons u us)) [] ac bb (tt, (b, bs), tt)

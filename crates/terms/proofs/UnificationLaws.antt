@@ -10,6 +10,11 @@ use Rattle.terms.specs.TermLaws.{app_inj, cons_inj, nil_cons, size_mem}
 use Rattle.terms.specs.BindingLaws.{full_unbound, solves_res, solves_walk, res_walk, walk_ends, below_walk, extends_trans, unbound, unbound_bind}
 use Rattle.terms.specs.UnificationLaws.{Answers, Good, Joined, Kept, Mgu, Over, Stepped}
 
+-- With no equations left the bindings are the answer.
+pub unifies_done : (c : ℕ) (β : Bindings) → unifies c β [] ≡ unified β
+unifies_done zero β = refl
+unifies_done (suc c) β = refl
+
 -- No substitution makes a variable equal to a larger term in which it occurs.
 no_occurs : (σ : Subst) (β : Bindings) → Solves σ β → (x f : ℕ) (ts : Terms) → occurs β x (app f ts) ≡ true → σ x ≡ sub σ (app f ts) → ⊥
 unfolding mem

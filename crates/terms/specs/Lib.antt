@@ -14,6 +14,7 @@ pub mod Order
 pub mod Loops
 pub mod Recursion
 pub mod Skips
+pub mod TermLists
 pub mod Renaming
 -- Examples by computing:
 pub mod Examples

@@ -1,8 +1,11 @@
 -- Tests on numbers that compute to a Bool, and reasoning by their cases.
-use Rattle.std.specs.Prelude.{ℕ, ◌≤◌, ◌<◌, ◌≡◌, refl, Bool, true, false, ◌||◌, ◌≢◌, T, ltb, eqb}
+use Rattle.std.specs.Prelude.{ℕ, ◌≤◌, ◌<◌, ◌≡◌, refl, Bool, true, false, ◌≢◌, T, ltb, eqb}
 use Rattle.std.proofs.Common.{sym, ◌∙◌, subst, arith, lt-ltb, le-ltb, ltb-true, ltb-false, eqb→eq}
 use Rattle.std.proofs.Math.Option.{Option, none, some}
 use Rattle.std.proofs.Math.Dec.{eqb_refl}
+-- The library's laws of a choice between two tests.
+pub use Rattle.std.proofs.lemmas.Bool.{or_parts as or_false, or_left, or_right}
+pub use Rattle.std.proofs.Math.Bool.{or_assoc, or-true as or_true, or-false as or_no}
 
 -- Are two numbers the same?
 unfoldable pub same : ℕ → ℕ → Bool
@@ -62,27 +65,3 @@ less_no {x} {y} h = le-ltb x y h
 pub by_less {ℓ} : {P : Type ℓ} (x y : ℕ) → (x < y → less x y ≡ true → P) → (y ≤ x → less x y ≡ false → P) → P
 unfolding less
 by_less x y f g = by_bool (ltb x y) (λ e. f (ltb-true x y e) e) (λ e. g (ltb-false x y e) e)
-
-pub or_false : (a b : Bool) → (a || b) ≡ false → (a ≡ false) × (b ≡ false)
-or_false true b e = true_false refl e
-or_false false b e = (refl, e)
-
-pub or_left : (a b : Bool) → a ≡ true → (a || b) ≡ true
-or_left true b e = refl
-or_left false b e = true_false e refl
-
-pub or_right : (a b : Bool) → b ≡ true → (a || b) ≡ true
-or_right true b e = refl
-or_right false b e = e
-
-pub or_assoc : (x y z : Bool) → ((x || y) || z) ≡ (x || (y || z))
-or_assoc true y z = refl
-or_assoc false y z = refl
-
-pub or_true : (x : Bool) → (x || true) ≡ true
-or_true true = refl
-or_true false = refl
-
-pub or_no : (x : Bool) → (x || false) ≡ x
-or_no true = refl
-or_no false = refl

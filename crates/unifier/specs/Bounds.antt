@@ -6,6 +6,7 @@ use Rattle.terms.specs.Term.{Term, sub, size}
 use Rattle.terms.specs.Bindings.{Bindings, full}
 use Rattle.terms.specs.Unification.{Eqn}
 use Rattle.terms.specs.BindingLaws.{full_solves}
+pub use Rattle.terms.specs.TermLists.{bit}
 use Rattle.arena.specs.Cells.{Cells, denote}
 use Rattle.bindings.specs.Orders.{by_order, pigeonhole}
 use Rattle.bindings.specs.Entries.{zeros, zeros_less}
@@ -16,12 +17,7 @@ abbrev pub untaken : Cells → ℕ → ℕ
 untaken taken zero = 0
 untaken taken (suc d) = 2 * (32 - taken d) + untaken taken d
 
--- One where a pair is to be made equal.
-abbrev pub bit : Bool → ℕ
-bit true = 1
-bit false = 0
-
--- The number that falls with each turn.
+-- The number that falls with each turn; `bit` is one where a pair is to be made equal.
 abbrev pub measure : ℕ → Cells → Cells → ℕ → ℕ → Bool → ℕ
 measure N links taken used d b = 200 * zeros links (N + used) + 100 * (used - d) + untaken taken d + bit b
 

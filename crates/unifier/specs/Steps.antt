@@ -1,5 +1,5 @@
 -- What each decision about a pair of references comes to: skipping what is equal, binding a variable, opening a pair of nodes, and failing.
-use Rattle.std.specs.Prelude.{ℕ, zero, suc, ◌+◌, ◌-◌, ◌/◌, ◌%◌, ◌≤◌, ◌<◌, ◌≡◌, refl, true, false, ◌≢◌, List, [], ◌∷◌}
+use Rattle.std.specs.Prelude.{ℕ, zero, suc, ◌+◌, ◌-◌, ◌/◌, ◌%◌, ◌≤◌, ◌<◌, ◌≡◌, refl, true, false, ◌≢◌, List, ◌∷◌}
 use Rattle.std.proofs.Common.{arith, not-suc-le-zero, le_refl, sym, ap, ap₂, ◌∙◌, subst, ⊎_elim}
 use Rattle.terms.specs.Numbers.{same, same_refl, same_ne}
 use Rattle.terms.specs.Term.{Kind, Syn, var, app, nil, cons, Term, Terms, Subst, sub, mem, size, Below}
@@ -9,6 +9,7 @@ use Rattle.terms.specs.TermLaws.{app_inj}
 use Rattle.terms.specs.BindingLaws.{full_solves, unbound_le}
 use Rattle.terms.specs.UnificationLaws.{Answers, Over}
 use Rattle.terms.proofs.UnificationLaws.{unifies_ok, unifies_over}
+pub use Rattle.terms.proofs.UnificationLaws.{unifies_done}
 use Rattle.terms.specs.Loops.{Next}
 use Rattle.terms.proofs.Loops.{unify_next}
 use Rattle.terms.proofs.Skips.{skips}
@@ -52,10 +53,6 @@ heads a b la lb σ f g lf lg e =
     let n : a % 32 ≡ b % 32 = sym (lf (arity_of a)) ∙ ap (λ (t : Terms). len t) i.1 ∙ lg (arity_of b) in
     let m : (a - headers) / 32 ≡ (b - headers) / 32 = i.0 in
     omega (arith, n, m)
-
-pub unifies_done : (c : ℕ) (β : Bindings) → unifies c β [] ≡ unified β
-unifies_done zero β = refl
-unifies_done (suc c) β = refl
 
 module _ {N : ℕ} where
   module _ {w values trail links lefts rights taken : Cells} {variables used k d : ℕ} {β : Bindings} {X Y : Term} {es : List Eqn} (st : State N w values trail links lefts rights taken variables used k d β X Y es) where

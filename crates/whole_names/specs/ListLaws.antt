@@ -1,26 +1,16 @@
 -- Laws of lists: what holds of each item, and images.
-use Rattle.std.specs.Prelude.{ℕ, zero, suc, ◌<◌, ◌≡◌, refl, List, [], ◌∷◌, ◌++◌, map, length, get_or, take, drop, set}
+use Rattle.std.specs.Prelude.{ℕ, zero, suc, ◌<◌, ◌≡◌, List, [], ◌∷◌, ◌++◌, map, length, get_or, take, set}
 use Rattle.std.proofs.Common.{arith, sym, ap, ◌∙◌, get_or-take}
-use Rattle.std.proofs.lemmas.List.{length-map}
+use Rattle.std.proofs.lemmas.List.{length-map, get_or-map}
+pub use Rattle.std.proofs.lemmas.List.{map_push as map_more}
 use Rattle.term_parser.specs.ReaderLaws.{Each}
 use Rattle.names.specs.Symbols.{Rows, row_at}
 
--- P holds of each item that is left,
-pub each_drop : {A : Type 0} (P : A → Type 0) (n : ℕ) (l : List A) → Each P l → Each P (drop n l)
-each_drop P zero l h = h
-each_drop P (suc n) [] h = tt
-each_drop P (suc n) (a ∷ l) h = each_drop P n l h.1
-
+-- P holds of each item that is taken,
 pub each_take : {A : Type 0} (P : A → Type 0) (n : ℕ) (l : List A) → Each P l → Each P (take n l)
 each_take P zero l h = tt
 each_take P (suc n) [] h = tt
 each_take P (suc n) (a ∷ l) h = (h.0, each_take P n l h.1)
-
--- of the item with number i,
-pub each_at : {A : Type 0} (P : A → Type 0) (l : List A) (d : A) → Each P l → (i : ℕ) → i < length l → P (get_or l i d)
-each_at P [] d h i m = absurd (omega arith)
-each_at P (a ∷ l) d h zero m = h.0
-each_at P (a ∷ l) d h (suc i) m = each_at P l d h.1 i (omega arith)
 
 -- and of each when one is replaced.
 pub each_set : {A : Type 0} (P : A → Type 0) (l : List A) (i : ℕ) (a : A) → P a → Each P l → Each P (set l i a)
@@ -34,27 +24,18 @@ each_map P Q (a ∷ l) f h = (f a h.0, each_map P Q l f h.1)
 
 -- Images
 
-pub map_more : {A B : Type 0} (f : A → B) (l : List A) (x : A) → map f (l ++ (x ∷ [])) ≡ map f l ++ (f x ∷ [])
-map_more f [] x = refl
-map_more f (y ∷ l) x = ap (λ r. f y ∷ r) (map_more f l x)
-
 -- Two images that are equal, with one item more of each.
 pub both_more : {A B C : Type 0} (f : A → C) (g : B → C) (l : List A) (m : List B) (a : A) (b : B) → map f l ≡ map g m → f a ≡ g b
     → map f (l ++ (a ∷ [])) ≡ map g (m ++ (b ∷ []))
 both_more f g l m a b e q =
     map_more f l a ∙ ap (λ x. map f l ++ (x ∷ [])) q ∙ ap (λ x. x ++ (g b ∷ [])) e ∙ sym (map_more g m b)
 
-image_at : {A B : Type 0} (f : A → B) (l : List A) (a : A) (b : B) (i : ℕ) → i < length l → get_or (map f l) i b ≡ f (get_or l i a)
-image_at f [] a b i m = absurd (omega arith)
-image_at f (x ∷ l) a b zero m = refl
-image_at f (x ∷ l) a b (suc i) m = image_at f l a b i (omega arith)
-
 -- The item with number i of a list that is an image, and of one that is the image of as many rows.
 pub of_image : {A B : Type 0} (f : A → B) (l : List A) (m : List B) (a : A) (b : B) → map f l ≡ m → (i : ℕ) → i < length m
     → f (get_or l i a) ≡ get_or m i b
 of_image f l m a b e i k =
     let n : length l ≡ length m = sym (length-map l f) ∙ ap length e in
-    sym (image_at f l a b i (omega arith)) ∙ ap (λ (z : List _). get_or z i b) e
+    sym (get_or-map f l i a b (omega arith)) ∙ ap (λ (z : List _). get_or z i b) e
 
 pub of_rows : {B : Type 0} (f : List ℕ → B) (rows : Rows) (m : List B) (b : B) → map f (take (length m) rows) ≡ m → (i : ℕ)
     → i < length m → f (row_at rows i) ≡ get_or m i b

@@ -10,6 +10,7 @@ use Rattle.std.proofs.Common.{arith, sym, ap, subst}
 use Rattle.terms.specs.Numbers.{by_bool}
 use Rattle.words.specs.declared.Limits.{Limits}
 use Rattle.term_parser.specs.Source.{Place, place}
+use Rattle.term_parser.specs.ListLaws.{each_at}
 use Rattle.parser.specs.Declarations.{Declared}
 use Rattle.parser.specs.Parser.{text_of}
 use Rattle.names.specs.Symbols.{row_at, sort_of as name_in, sorts_of, symbols_of}
@@ -24,7 +25,6 @@ use Rattle.whole_words.specs.Words.{NameAt}
 use Rattle.loader.specs.Stored.{Titles, title_at, titles_of, words_from}
 use Rattle.whole_names.specs.Titles.{row_place, row_title, place_number, title_number}
 use Rattle.whole_names.specs.Uses.{WholeName}
-use Rattle.whole_names.specs.ListLaws.{each_at}
 use Rattle.whole_names.specs.NamesWhole.{NamesWhole, names_whole}
 use Rattle.whole_names.specs.RowLaws.{sort_count_lem, symbol_count_lem, rule_count_lem, one_sort_lem, one_symbol_lem, sort_symbol}
 use Rattle.whole_names.specs.PlacedLaws.{sort_placed, symbol_placed, rule_placed}

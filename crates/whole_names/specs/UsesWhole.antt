@@ -15,13 +15,14 @@ use Rattle.term_parser.specs.Parsing.{Tokens, kind_of, line_of, last_line, Parse
 use Rattle.term_parser.specs.Grammar.{value, applied, equated, atom_of, app_of, term_of, parenthesis}
 use Rattle.term_parser.specs.Lists.{separated, unless, name, title_of, arrows_of, names_of, term, app, judgments_of, patterns_of}
 use Rattle.term_parser.specs.ReaderLaws.{Each, Comes, Any, any_comes, plus_comes, required_comes, when_comes, repeat_each}
+use Rattle.term_parser.specs.ListLaws.{each_drop}
 use Rattle.refusals.specs.declared.Refusal.TheVariants.{TermExpected}
 use Rattle.parser.specs.Source.{Tactic, induction, Declaration}
 use Rattle.parser.specs.Declarations.{ends_in_prop, Declared, behind_open, binders_of, by_of, tactic_of, sort_of, ctor_of, behind_bar, clause_of, pred_of, rule_of, def_of, theorem_of, eval_of, check_of, body_of, declaration_of, parse_of}
 use Rattle.whole_words.specs.Words.{ReadAs, TokenWhole, WordAt}
 use Rattle.whole_names.specs.Uses.{WholeName, TermWhole, ClauseWhole, BindersWhole, TacticWhole, DeclarationWhole, DeclaredWhole}
 use Rattle.whole_words.proofs.TokensWhole.{tokens_whole}
-use Rattle.whole_names.specs.ListLaws.{each_drop, each_take}
+use Rattle.whole_names.specs.ListLaws.{each_take}
 
 -- Terms made of terms
 

@@ -9,6 +9,7 @@ use Rattle.terms.specs.Numbers.{by_bool}
 use Rattle.term_parser.specs.Source.{Place, place, Arity, Source, one, many, numeral, metavariable, name, application, none, more, all_of}
 use Rattle.term_parser.specs.Standing.{Written, number, meta, called, applied, nil, cons, size, spelled, bytes_at}
 use Rattle.term_parser.specs.ReaderLaws.{Each, each_append}
+use Rattle.term_parser.specs.ListLaws.{each_at}
 use Rattle.parser.specs.Source.{Clause, Declaration, sort, ctor, pred, rule, def, theorem, eval, check}
 use Rattle.parser.specs.Declarations.{Declared}
 use Rattle.names.specs.Names.{Name, result_name}
@@ -19,7 +20,7 @@ use Rattle.terms.specs.Term.{Syn}
 use Rattle.loader.specs.Signature.{front_of, last_judgment}
 use Rattle.whole_names.specs.Titles.{place_number}
 use Rattle.whole_names.specs.Uses.{Whole, TermWhole, ClauseWhole, DeclarationWhole, DeclaredWhole}
-use Rattle.whole_names.specs.ListLaws.{each_map, each_set, each_take, each_at}
+use Rattle.whole_names.specs.ListLaws.{each_map, each_set, each_take}
 use Rattle.whole_names.specs.Variables.{words_in, WordAmong, ClauseWord, written, result, VariablesNamed, JudgmentsNamed, ClauseNamed, VariablesWhole}
 
 -- Words that may become variables

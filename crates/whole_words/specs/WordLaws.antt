@@ -6,6 +6,7 @@ use Rattle.std.proofs.lemmas.Bool.{lt-leb, eqb-false, not-true}
 use Rattle.terms.specs.Numbers.{by_bool, by_less, true_false}
 use Rattle.source_text.specs.Bytes.{one_of, starts_with, same_bytes, up_to}
 use Rattle.source_text.specs.ByteLaws.{and_left, and_right, same_is, same_itself}
+use Rattle.source_text.specs.ScanLaws.{starts_short}
 use Rattle.source_text.specs.Characters.{arrow, class_of, character_of, blank, sign}
 use Rattle.words.specs.Names.{numeral_kind, keywords, number_among, keyword_of, if_fits, word_item}
 use Rattle.source_text.specs.Numerals.{all_digits, numeral_of}
@@ -230,12 +231,6 @@ word_read w =
 
 -- Signs
 
-starts_fits : (w s : List ℕ) → starts_with w s ≡ true → length w ≤ length s
-unfolding starts_with
-starts_fits [] s e = omega arith
-starts_fits (a ∷ w) [] e = true_false e refl
-starts_fits (a ∷ w) (c ∷ s) e = let h = starts_fits w s (and_right (eqb c a) (starts_with w s) e) in omega arith
-
 starts_take : (w s : List ℕ) → starts_with w s ≡ true → take (length w) s ≡ w
 unfolding starts_with
 starts_take [] s e = refl
@@ -305,7 +300,7 @@ sign_first x xs s p e =
     let t : take (length x.written) s ≡ x.written = starts_take x.written s e in
     record {
       some = leb-true 1 (length x.written) a;
-      inside = starts_fits x.written s e;
+      inside = starts_short x.written s e;
       low = leb-true 15 x.kind (and_left _ _ c);
       high = leb-true x.kind 23 (and_right (leb 15 x.kind) _ c);
       outer = λ i. rw t (none_at x.written (and_left _ _ b) i);

@@ -23,7 +23,7 @@ use Rattle.std.specs.Prelude.{Option, Some, None}
 use Rattle.words.specs.Lexer.{in_domain}
 use Rattle.refusals.specs.declared.Refusal.TheVariants.{UnexpectedCharacter, OutsideDomain}
 use Rattle.words.specs.Items.Item.{Token, Refused}
-use Rattle.source_text.proofs.Scans.{by_bool, and_left, and_right}
+use Rattle.source_text.specs.ByteLaws.{by_bool, and_left, and_right}
 use Rattle.words.proofs.Items.{sign_at, sign_by, no_arrow}
 
 -- Is a reading no refusal?

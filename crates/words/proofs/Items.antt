@@ -22,7 +22,9 @@ use Rattle.source_text.specs.declared.characters.Class.{Class}
 use Rattle.source_text.specs.declared.characters.Class.TheVariants.{Letter, Digit}
 use Rattle.words.specs.Items.{Item}
 use Rattle.words.specs.Items.Item.{Blank, Token, Refused}
-use Rattle.source_text.proofs.Scans.{by_bool, and_left, and_right, one_at, two_at, scan_next, scan_fits, scan_take}
+use Rattle.source_text.specs.ByteLaws.{by_bool, and_left, and_right}
+use Rattle.source_text.specs.ScanLaws.{upto_short}
+use Rattle.source_text.proofs.Scans.{one_at, two_at, scan_next, scan_take}
 
 -- The sign whose first bytes are a and b; t: stands there.
 abbrev pub sign_by : ℕ → ℕ → Bool → Item
@@ -168,7 +170,7 @@ keyword_none (c ∷ w) h n0 n1 n2 n3 n4 n5 n6 n7 n8 n9 =
 module _ (s : List ℕ) where
   pub word_fits : length (word_of s) ≤ length s
   unfolding word_of
-  word_fits = scan_fits (λ l. not (is_word (character_of l).class)) s
+  word_fits = upto_short (λ l. not (is_word (character_of l).class)) s
 
   -- Its bytes are the first of s.
   pub word_part : (n : ℕ) → n ≡ length (word_of s) → take n s ≡ word_of s

@@ -33,7 +33,9 @@ use Rattle.refusals.specs.declared.Rejection.{Rejection}
 use Rattle.refusals.specs.declared.Refusal.{Refusal}
 use Rattle.words.specs.Items.{Item}
 use Rattle.words.specs.Items.Item.{Blank, Token, Refused}
-use Rattle.source_text.proofs.Scans.{by_bool, and_left, and_right, prefix_fits, lines_taken}
+use Rattle.source_text.specs.ByteLaws.{by_bool, and_left, and_right}
+use Rattle.source_text.specs.ScanLaws.{starts_short}
+use Rattle.source_text.proofs.Scans.{lines_taken}
 use Rattle.source_text.proofs.Encodings.{past}
 use Rattle.words.proofs.Items.{word_fits, word_starts}
 
@@ -93,7 +95,7 @@ unfolding sign_among written
 sign_length [] s h e = (omega arith, omega arith)
 sign_length (x ∷ xs) s h e =
     by_bool (starts_with x.written s)
-    (λ f. simp f (ltb-true 0 (length x.written) (and_left _ (written xs) e), prefix_fits x.written s f))
+    (λ f. simp f (ltb-true 0 (length x.written) (and_left _ (written xs) e), starts_short x.written s f))
     (λ f. simp f (sign_length xs s h (and_right (ltb 0 (length x.written)) _ e)))
 
 pub item_length_lem : (l : List ℕ) → 0 < length l → (0 < item_length (item_of l)) × (item_length (item_of l) ≤ length l)

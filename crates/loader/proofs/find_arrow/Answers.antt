@@ -6,7 +6,8 @@ use mathlib.Core.Path.{◌∙◌}
 use native.Mathlib.Omega.{arith}
 use lib.ListN.{drop, length-take, length-drop}
 use Rattle.std.proofs.Common.{get_or-take, get_or-drop}
-use Rattle.loader.proofs.ArrowLaws.{name_at, some_sort, unknown_sort, sofar_none, sofar_more, one_unknown}
+use Rattle.names.specs.RowNames.{name_at}
+use Rattle.loader.proofs.ArrowLaws.{some_sort, unknown_sort, sofar_none, sofar_more, one_unknown}
 use Rattle.loader.proofs.find_arrow.Goals as goal
 
 pub loop-i-init : goal.loop-i-init

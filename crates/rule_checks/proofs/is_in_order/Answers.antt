@@ -4,13 +4,13 @@ use mathlib.Core.Path.{sym, ap, ◌∙◌}
 use mathlib.Core.List.{[]}
 use lib.ListN.{length}
 use Rattle.meeting.specs.Places.{numbers_below}
-use Rattle.meeting.specs.PlaceLaws.{place_is, order_list, list_order}
+use Rattle.meeting.specs.PlaceLaws.{numbers_count, place_is, order_list, list_order}
 use Rattle.meeting.specs.WalkLaws.{walked_words}
-use Rattle.rules.proofs.RuleLaws.{not_false}
+use Rattle.std.proofs.lemmas.Bool.{not-false}
 use Rattle.unifier.specs.Checking.{tells_no, tells_false}
 use Rattle.rule_checks.specs.Steps.{premises_of, PlacedWord}
 use Rattle.rule_checks.proofs.PartLaws.{part_each, each_part}
-use Rattle.rule_checks.proofs.TableLaws.{numbers_count, placed_listed, listed_placed}
+use Rattle.rule_checks.proofs.TableLaws.{placed_listed, listed_placed}
 use native.Mathlib.Omega.{arith}
 use Rattle.rule_checks.proofs.is_in_order.Goals as goal
 
@@ -27,7 +27,7 @@ returns-then-not-are_placed c =
 pub returns-then-places-row : goal.returns-then-places-row
 returns-then-places-row c =
     let rec = c.walk_premises.ensures.records c.if-not-walk_premises.false [] c.new-places.ensures in
-    let fits = (walked_words c.meet.ensures _ (place_is _ _ (not_false _ (sym c.ne.ensures ∙ c.if-ne.false)))).0 in
+    let fits = (walked_words c.meet.ensures _ (place_is _ _ (not-false _ (sym c.ne.ensures ∙ c.if-ne.false)))).0 in
     let both = c.meet.ensures.recorded (omega arith) _ rec in
     tells_no (λ h. c.if-places-row.true (both.counted ∙ ap length h.order ∙ numbers_count _))
 
@@ -38,7 +38,7 @@ returns c =
     let args = c.args in
     let in-order = c.is_in_order.ensures in
     let rec = walk-premises.ensures.records c.if-not-walk_premises.false [] c.new-places.ensures in
-    let fits = (walked_words c.meet.ensures _ (place_is _ _ (not_false _ (sym c.ne.ensures ∙ c.if-ne.false)))).0 in
+    let fits = (walked_words c.meet.ensures _ (place_is _ _ (not-false _ (sym c.ne.ensures ∙ c.if-ne.false)))).0 in
     let both = c.meet.ensures.recorded (omega arith) _ rec in
     let m = args.rule.counted.middle in
     let z = args.rule.counted.last in

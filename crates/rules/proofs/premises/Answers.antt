@@ -1,7 +1,7 @@
 -- `premises` meets its contract: the part of the row is its columns.
 use native.Mathlib.Omega.{arith}
 use Rattle.names.specs.Symbols.{column}
-use Rattle.rules.proofs.ColumnLaws.{part_columns}
+use Rattle.names.specs.SearchLaws.{part_columns}
 use Rattle.rules.proofs.premises.Goals as goal
 
 pub returns : goal.returns

@@ -5,7 +5,7 @@ use Prim.Native.Nat.{ℕ, ◌-◌}
 use lib.Dec.{eqb}
 use lib.ListN.{set}
 use borrow.Author.Tests.{eqb-true, eq-eqb}
-use Rattle.source_text.proofs.Scans.{by_bool}
+use Rattle.source_text.specs.ByteLaws.{by_bool}
 use native.Mathlib.Omega.{arith}
 use Rattle.term_parser.proofs.TokenLaws.{token_there}
 use Rattle.term_parser.proofs.Readers.{stopped_err, exits, exits_maybe, maybe_exits, moved}
