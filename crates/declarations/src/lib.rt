@@ -23,7 +23,7 @@ use words::{CTOR, DEF, EVAL, PRED, RULE, SORT};
 const RULE_NODES: usize = 1024;
 
 // How many sorts, symbols and rules there are, how many words are in use, and how many nodes are left.
-// Stays: the counts of `signature::Counts` have 32 bits, so `declare` would ask for more; `load_storage::Used` is as wide, but its crate is not below this one.
+// Stays: `Counts` of 32 bits would ask more of callers; tried as `load_storage::Used` with `left`: 6 lines more, since each update is of two structs.
 #[derive(Clone, Copy, Default)]
 pub struct State {
     pub sorts: usize,
