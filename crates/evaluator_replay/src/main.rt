@@ -199,31 +199,10 @@ fn read(list: &[u8], at: usize) -> Recorded
     }
 }
 
-// Lists the text whose line is at a place, and answers the place of the next one's.
-fn replay_one(list: &[u8], at: usize) -> usize
-    requires { at < 2 ^ 61 }
-    ensures { (at < result) × (result ≤ at + 3000000) }
-{
-    let text = read(list, at);
-    list_text(words::word(list, text.start, text.length), text.limits);
-    text.next
-}
-
-// Goes through a list from text to text.
-// Stays: tried: with a reader as a parameter of `recorded::replay`, the search for `replay-requires-clause-callable` in `words_replay` ran out of stack.
-fn replay(list: &[u8]) {
-    let end = recorded::end(list);
-    let mut at = 0;
-    let mut number = 1;
-    while at < end {
-        recorded::write_heading(number);
-        at = replay_one(list, at);
-        number += 1;
-    }
-}
-
 fn main() {
     let mut list = [0u8; 262144];
     let n = io::read_full(0, &mut list);
-    replay(&list[..n]);
+    recorded::replay(&list[..n], read, |text, recorded| {
+        list_text(text, recorded.limits);
+    });
 }

@@ -1,6 +1,6 @@
 -- Recorded lists of texts: for each text a line `LENGTH LIMIT ROWS`, then LENGTH bytes, then a line end.
-use Rattle.std.specs.Prelude.{Option, Some, None, ℕ, zero, suc, ◌+◌, ◌*◌, ◌-◌, ◌≤◌, ◌<◌, ◌≡◌, min, cond, List, [], ◌∷◌, eqb, ltb, get_or, length}
-use Rattle.std.specs.Fn.{Mut, Called}
+use Rattle.std.specs.Prelude.{Option, Some, None, ℕ, zero, suc, ◌+◌, ◌*◌, ◌-◌, ◌^◌, ◌≤◌, ◌<◌, ◌≡◌, min, cond, List, [], ◌∷◌, eqb, ltb, get_or, length}
+use Rattle.std.specs.Fn.{Shared, Mut, Called}
 use Rattle.std.specs.List.{FoldsTo}
 use denote.Ref.{Bor}
 use Rattle.source_text.specs.Bytes.{within}
@@ -72,12 +72,21 @@ node_limits r =
 abbrev pub value_after : Refusal → ℕ
 value_after refusal = cond (eqb (number_of refusal) 1) 2779096485 0
 
--- The texts of a list from a place on, one behind the other.
-abbrev pub Texts : List ℕ → ℕ → List Recorded → Type 0
-Texts list at [] = end_of list ≤ at
-Texts list at (r ∷ rs) = (at < end_of list) × (r ≡ recorded_at list at) × Texts list r.next rs
+-- What a reader may answer for the line at a place of a list.
+abbrev pub ReadAt : {R : Type 0} → Shared R (Bor (List ℕ) × (ℕ × Unit {0})) Recorded → List ℕ → R → ℕ → Recorded → Type 0
+ReadAt g list read at r = (shown : Bor (List ℕ)) × (shown.now ≡ list) × g.post read (shown, (at, tt)) r
 
-module _ {F : Type 0} (g : Mut F (Bor (List ℕ) × (Recorded × Unit {0})) (Unit {0})) (list : List ℕ) where
+-- A reader may be called at each place of a list, and the next line stands behind, at most 3,000,000 bytes.
+pub record Reads {R : Type 0} (g : Shared R (Bor (List ℕ) × (ℕ × Unit {0})) Recorded) (list : List ℕ) (read : R) : Type 0 where
+  pub may : (shown : Bor (List ℕ)) (at : ℕ) → shown.now ≡ list → at < 2 ^ 61 → g.pre read (shown, (at, tt))
+  pub moves : (at : ℕ) (r : Recorded) → at < 2 ^ 61 → ReadAt g list read at r → (at < r.next) × (r.next ≤ at + 3000000)
+
+module _ {R F : Type 0} (h : Shared R (Bor (List ℕ) × (ℕ × Unit {0})) Recorded) (g : Mut F (Bor (List ℕ) × (Recorded × Unit {0})) (Unit {0})) (list : List ℕ) (read : R) where
+  -- The texts of a list from a place on, one behind the other, as a reader reads them.
+  abbrev pub Texts : ℕ → List Recorded → Type 0
+  Texts at [] = end_of list ≤ at
+  Texts at (r ∷ rs) = (at < end_of list) × ReadAt h list read at r × Texts r.next rs
+
   -- A call at the bytes of a text, and at what the list says of it.
   pub record CalledAtText (f : F) (r : Recorded) (f' : F) : Type 0 where
     pub shown : Bor (List ℕ)
@@ -88,5 +97,5 @@ module _ {F : Type 0} (g : Mut F (Bor (List ℕ) × (Recorded × Unit {0})) (Uni
   pub record Replayed (f : F) : Type 0 where
     pub texts : List Recorded
     pub last : F
-    pub all : Texts list 0 texts
+    pub all : Texts 0 texts
     pub ran : FoldsTo CalledAtText f texts last

@@ -2,7 +2,7 @@
 //
 // A list has for each text a line `LENGTH LIMIT ROWS`, then LENGTH bytes, then a line end. A line may have more numbers; they are read one by one.
 ghost use Rattle.std.specs.Prelude.{◌≡◌, ◌+◌, ◌^◌, ◌≤◌, ◌<◌, IfSome};
-ghost use Rattle.listing.specs.Recorded.{end_of, digit_at, read_digit, decimal_at, recorded_at, node_limits, value_after, Replayed};
+ghost use Rattle.listing.specs.Recorded.{end_of, digit_at, read_digit, decimal_at, recorded_at, node_limits, value_after, Reads, Replayed};
 
 use crate::output::{write, write_number};
 use refusals::Refusal;
@@ -129,10 +129,15 @@ pub fn write_heading(number: u32) {
     write(b"\n");
 }
 
-// Goes through a list from text to text, with a heading for each, and hands on its bytes and what the list says of it.
-pub fn replay<F: FnMut(&[u8], Recorded)>(list: &[u8], mut each: F)
-    requires { F.IsAlwaysCallable each }
-    ensures { Replayed F.FnMut list.now each }
+// Goes through a list from text to text, with a heading for each, and hands on its bytes and what the list says of it, as `read` reads that.
+pub fn replay<R: Fn(&[u8], usize) -> Recorded, F: FnMut(&[u8], Recorded)>(
+    list: &[u8],
+    read: R,
+    mut each: F,
+)
+    requires reads { Reads R.Fn list.now read }
+    requires callable { F.IsAlwaysCallable each }
+    ensures { Replayed R.Fn F.FnMut list.now read each }
 {
     let end = end(list);
     let mut at = 0;

@@ -45,7 +45,7 @@ fn load_text(text: &[u8], limits: Limits, lent: &mut Lent) -> Result<Loaded, Rej
 }
 
 // Parses a text, loads it, lists the answer, and damages what was loaded.
-fn list_text(text: &[u8], limits: Limits, lent: &mut Lent) {
+fn list_lent(text: &[u8], limits: Limits, lent: &mut Lent) {
     let parsed = parser::parse_text(text, limits, lent.tokens, lent.rows);
     match load_text(text, limits, lent) {
         Err(rejection) => list_refused(rejection, lent),
@@ -56,12 +56,15 @@ fn list_text(text: &[u8], limits: Limits, lent: &mut Lent) {
     }
 }
 
+// Lists a text, with buffers of its own.
+fn list_text(text: &[u8], limits: Limits) {
+    buffers::with_buffers(|lent| list_lent(text, limits, lent));
+}
+
 fn main() {
     let mut list = [0u8; 262144];
     let n = io::read_full(0, &mut list);
-    buffers::with_buffers(|lent| {
-        recorded::replay(&list[..n], |text, recorded| {
-            list_text(text, recorded.node_limits(), lent);
-        });
+    recorded::replay(&list[..n], recorded::read, |text, recorded| {
+        list_text(text, recorded.node_limits());
     });
 }

@@ -82,7 +82,7 @@ fn main() {
     let n = io::read_full(0, &mut list);
     let mut tokens = [[0u32; 4]; 1024];
     let mut rows = [[0u32; 4]; 1024];
-    recorded::replay(&list[..n], |text, recorded| {
+    recorded::replay(&list[..n], recorded::read, |text, recorded| {
         list_lent(text, recorded, &mut tokens, &mut rows);
     });
 }

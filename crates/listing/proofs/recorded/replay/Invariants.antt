@@ -8,7 +8,7 @@ use Rattle.listing.proofs.recorded.replay.Given as goal
 abbrev pub invariant-loop-at : goal.invariant-loop-at
 invariant-loop-at g l =
     goal.F-IsAlwaysCallable g l.each × (l.number ≤ l.at + 1)
-    × ((texts : _) (last : _) → Texts l.list l.at texts → FoldsTo (CalledAtText g.F.FnMut l.list) l.each texts last → Replayed g.F.FnMut l.list l.fn.each)
+    × ((texts : _) (last : _) → Texts g.R.Fn g.F.FnMut l.list l.fn.read l.at texts → FoldsTo (CalledAtText g.R.Fn g.F.FnMut l.list l.fn.read) l.each texts last → Replayed g.R.Fn g.F.FnMut l.list l.fn.read l.fn.each)
 
 abbrev pub decreases-loop-at : goal.decreases-loop-at
 decreases-loop-at g l = l.end - l.at
