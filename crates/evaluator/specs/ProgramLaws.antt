@@ -11,6 +11,7 @@ use Rattle.std.proofs.lemmas.List.{get_or_past}
 use Rattle.terms.specs.Numbers.{by_less}
 use Rattle.terms.specs.Term.{Term, Terms, var, app, cons, count}
 use Rattle.arena.specs.Cells.{headers, Cells, cells, symbol_of, arity_of, args, denote, terms_of, Same, Reference, WellFormed, denote_variable, denote_node, reference_up}
+use Rattle.arena.specs.ArgumentLaws.{count_args}
 use Rattle.arena.specs.Copies.{pattern_room}
 use Rattle.arena.specs.Form.{in_form}
 use Rattle.arena.specs.FormLaws.{Header, header_yes, form_words}

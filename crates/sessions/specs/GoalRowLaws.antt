@@ -12,6 +12,7 @@ use Rattle.words.specs.declared.Limits.{Limits}
 use Rattle.term_parser.specs.Source.{Source, one}
 use Rattle.term_parser.specs.Parsing.{Tokens, Parsed, parsed}
 use Rattle.term_parser.specs.Rows.{Rows, rows_of, rows_of_all}
+use Rattle.term_parser.specs.ReaderLaws.{Each}
 use Rattle.term_parser.specs.ListLaws.{each_here, all_append}
 use Rattle.term_parser.specs.Depth.{depth}
 use Rattle.term_parser.specs.Standing.{spelled}
