@@ -167,8 +167,8 @@ pub struct SymbolMarks {
 impl From<Kind> for SymbolMarks {
     ghost from_gives = { λ kind marks. marks ≡ marks_of kind };
 
-    fn from(kind: Kind) -> SymbolMarks {
-        match kind {
+    fn from(symbol: Kind) -> SymbolMarks {
+        match symbol {
             Kind::Constructor => SymbolMarks {
                 constructor: true,
                 ..SymbolMarks::default()
