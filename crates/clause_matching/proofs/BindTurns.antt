@@ -502,16 +502,13 @@ module _ {pattern : List ℕ} {reference : ℕ} {values : List ℕ} {used value 
         subst (λ (s : Rows). Turn pattern reference values used value environment₀ links₀ stack₀ environment links s (depth + 1) next' other' false) opened_is
         (turn_enter h q above (header_is ∙ o))
 
--- The next argument is taken, and it is a variable: both steps at once.
+-- The next argument is taken, and then what it is: both steps at once.
 module _ {pattern : List ℕ} {reference : ℕ} {values : List ℕ} {used value : ℕ} {environment₀ links₀ : List ℕ} {stack₀ : Rows}
-    {environment links : List ℕ} {stack : Rows} {depth next other : ℕ} {waiting : Bool}
-    (h : Turn pattern reference values used value environment₀ links₀ stack₀ environment links stack depth next other waiting)
-    (q : waiting ≡ false) (n : depth ≢ 0) (o : column 2 stack (depth - 1) ≢ 0) (v : cells pattern (column 0 stack (depth - 1)) < pattern_room) where
-  abbrev row_after : List ℕ
-  row_after = (column 0 stack (depth - 1) + 1) ∷ (column 1 stack (depth - 1) + 1) ∷ (column 2 stack (depth - 1) - 1) ∷ []
-
+    {environment links : List ℕ} {stack : Rows} {depth next other : ℕ}
+    (h : Turn pattern reference values used value environment₀ links₀ stack₀ environment links stack depth next other false)
+    (n : depth ≢ 0) (o : column 2 stack (depth - 1) ≢ 0) where
   abbrev stack_after : Rows
-  stack_after = set stack (depth - 1) row_after
+  stack_after = set stack (depth - 1) ((column 0 stack (depth - 1) + 1) ∷ (column 1 stack (depth - 1) + 1) ∷ (column 2 stack (depth - 1) - 1) ∷ [])
 
   abbrev next_after : ℕ
   next_after = cells pattern (column 0 stack (depth - 1))
@@ -519,53 +516,42 @@ module _ {pattern : List ℕ} {reference : ℕ} {values : List ℕ} {used value 
   abbrev other_after : ℕ
   other_after = cells values (column 1 stack (depth - 1))
 
-  pub less_taken : left pattern stack_after depth next waiting < left pattern stack depth next waiting
-  less_taken =
-      let x : left pattern stack_after depth next_after true < left pattern stack depth next false = rw q at (less_next h q n o) in
-      let y = less_variable (turn_next h q n o) refl v in
-      rw q (omega arith)
-
-  module _ (r : Bool) (environment' links' : List ℕ) (m : Matched (var next_after) values used other_after environment links r environment' links') where
-    pub turn_taken : r ≡ true
-        → Turn pattern reference values used value environment₀ links₀ stack₀ environment' links' stack_after depth next other waiting
-    turn_taken e =
-        subst (λ (b : Bool). Turn pattern reference values used value environment₀ links₀ stack₀ environment' links' stack_after depth next other b) (sym q)
-        (turn_variable (turn_next h q n o) refl v r environment' links' m e)
-
--- The next argument is taken, and it is a node: both steps at once.
-module _ {pattern : List ℕ} {reference : ℕ} {values : List ℕ} {used value : ℕ} {environment₀ links₀ : List ℕ} {stack₀ : Rows}
-    {environment links : List ℕ} {stack : Rows} {depth next other : ℕ}
-    (h : Turn pattern reference values used value environment₀ links₀ stack₀ environment links stack depth next other false)
-    (n : depth ≢ 0) (o : column 2 stack (depth - 1) ≢ 0) {header first : ℕ}
-    (w : Waits pattern header first × (place_of first ≡ cells pattern (column 0 stack (depth - 1)))) where
-  abbrev rows_after : Rows
-  rows_after = set stack (depth - 1) ((column 0 stack (depth - 1) + 1) ∷ (column 1 stack (depth - 1) + 1) ∷ (column 2 stack (depth - 1) - 1) ∷ [])
-
-  abbrev beside_after : ℕ
-  beside_after = cells values (column 1 stack (depth - 1))
-
-  comes_to : Turn pattern reference values used value environment₀ links₀ stack₀ environment links rows_after depth (place_of first) beside_after true
-  comes_to = rw w.1 (turn_next h refl n o)
-
-  pub node_inside : (beside_after < length values) × (beside_after < headers)
-  node_inside = let (a, b, c) = value_words comes_to refl (omega arith) in (a, b)
-
-  pub opened_misfits : header ≢ cells values beside_after → Matched (pattern_at pattern reference) values used value environment₀ links₀ false environment links
-  opened_misfits = waits_misfits w.0 comes_to refl
-
-  module _ (e : header ≡ cells values beside_after) where
-    abbrev rows_opened : Rows
-    rows_opened = set rows_after depth (first ∷ (beside_after + 1) ∷ arity_of header ∷ [])
-
-    pub opened_free : depth < length rows_after
-    opened_free = waits_free w.0 comes_to refl e
-
-    pub less_opened : left pattern rows_opened (depth + 1) next false < left pattern stack depth next false
-    less_opened =
-        let x = less_next h refl n o in
-        let y : left pattern rows_opened (depth + 1) (place_of first) false < left pattern rows_after depth (place_of first) true = less_waits w.0 comes_to refl e in
-        let z = rw w.1 at y in
+  -- It is a variable.
+  module _ (v : next_after < pattern_room) where
+    pub less_taken : left pattern stack_after depth next false < left pattern stack depth next false
+    less_taken =
+        let x : left pattern stack_after depth next_after true < left pattern stack depth next false = less_next h refl n o in
+        let y = less_variable (turn_next h refl n o) refl v in
         omega arith
 
-    pub turn_opened : Turn pattern reference values used value environment₀ links₀ stack₀ environment links rows_opened (depth + 1) next other false
-    turn_opened = turn_waits w.0 comes_to refl e
+    pub turn_taken : (r : Bool) (environment' links' : List ℕ) → Matched (var next_after) values used other_after environment links r environment' links' → r ≡ true
+        → Turn pattern reference values used value environment₀ links₀ stack₀ environment' links' stack_after depth next other false
+    turn_taken r environment' links' m e = turn_variable (turn_next h refl n o) refl v r environment' links' m e
+
+  -- It is a node, by its header and the address of its first argument.
+  module _ {header first : ℕ} (w : Waits pattern header first × (place_of first ≡ next_after)) where
+    comes_to : Turn pattern reference values used value environment₀ links₀ stack₀ environment links stack_after depth (place_of first) other_after true
+    comes_to = rw w.1 (turn_next h refl n o)
+
+    pub node_inside : (other_after < length values) × (other_after < headers)
+    node_inside = let (a, b, c) = value_words comes_to refl (omega arith) in (a, b)
+
+    pub opened_misfits : header ≢ cells values other_after → Matched (pattern_at pattern reference) values used value environment₀ links₀ false environment links
+    opened_misfits = waits_misfits w.0 comes_to refl
+
+    module _ (e : header ≡ cells values other_after) where
+      abbrev stack_opened : Rows
+      stack_opened = set stack_after depth (first ∷ (other_after + 1) ∷ arity_of header ∷ [])
+
+      pub opened_free : depth < length stack_after
+      opened_free = waits_free w.0 comes_to refl e
+
+      pub less_opened : left pattern stack_opened (depth + 1) next false < left pattern stack depth next false
+      less_opened =
+          let x = less_next h refl n o in
+          let y : left pattern stack_opened (depth + 1) (place_of first) false < left pattern stack_after depth (place_of first) true = less_waits w.0 comes_to refl e in
+          let z = rw w.1 at y in
+          omega arith
+
+      pub turn_opened : Turn pattern reference values used value environment₀ links₀ stack₀ environment links stack_opened (depth + 1) next other false
+      turn_opened = turn_waits w.0 comes_to refl e

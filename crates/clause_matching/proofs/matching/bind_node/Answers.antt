@@ -37,12 +37,12 @@ returns-then-not-take c =
 pub loop-depth-smaller-else-not-take : goal.loop-depth-smaller-else-not-take
 loop-depth-smaller-else-not-take c =
     let (v, e) = variable_is _ _ c.pattern_at.ensures _ c.in-Variable.is in
-    less_taken c.loop-depth.invariant refl c.loop-depth-test.true c.if-left-eq0.false v
+    less_taken c.loop-depth.invariant c.loop-depth-test.true c.if-left-eq0.false v
 
 pub loop-depth-preserved-else-not-take : goal.loop-depth-preserved-else-not-take
 loop-depth-preserved-else-not-take c =
     let (v, e) = variable_is _ _ c.pattern_at.ensures _ c.in-Variable.is in
-    turn_taken c.loop-depth.invariant refl c.loop-depth-test.true c.if-left-eq0.false v _ _ _ (rw e at c.take.ensures) c.if-not-take.false
+    turn_taken c.loop-depth.invariant c.loop-depth-test.true c.if-left-eq0.false v _ _ _ (rw e at c.take.ensures) c.if-not-take.false
 
 pub bounds-values-other : goal.bounds-values-other
 bounds-values-other c =
