@@ -16,7 +16,7 @@ ghost use Rattle.source_text.specs.Parts.{part_of, NumeralRead};
 use numerals::value;
 
 // A word of a text, whole: the part of `length` bytes from `start` on. A place outside the text gives the empty part.
-// It is cut at once: where the rest is cut off first, the test has two sides, and a search through many names takes a sixth longer.
+// It is cut at once: cutting off the rest first takes two tests, and loading a text of many symbols 9 to 17 % more time.
 // Stays: `numbers_from` of `signature_listing` is this for numbers; one function for both would be here, and `part_of`, which many files cite, of any type.
 pub fn word<'a>(text: &'a [u8], start: usize, length: usize) -> &'a [u8]
     ensures { result.now ≡ part_of text.now start length }
