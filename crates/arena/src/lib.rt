@@ -92,6 +92,7 @@ pub fn push_node(words: &mut [u32], used: u32, header: u32, arguments: &[u32])
 
 // Copies a rule's words to the address `used`, with new variables from `counter` on.
 // Stays: with the words from `used` on alone lent, each caller would have to join what comes back to the words before, of which its contract speaks too.
+// Stays: as at `names::put_column`: of words written behind a `zip` with the part's nothing would be known.
 pub fn inst(part: RulePart, words: &mut [u32], room: u32, used: u32, counter: u32)
     // The caller counts words and variables before it copies, and a signature in form has rules whose words refer to nothing outside.
     requires { Copyable part.words.now part.from part.count part.places.now words.old room used counter }

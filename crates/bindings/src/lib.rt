@@ -25,7 +25,7 @@ use visits::Queue;
 // Bindings in lent rows: by variable the value, 0 or 1 + a reference, and beside it the trail, whose first `bound` entries are the bound variables in
 // their order.
 // Stays: terms, bindings and marks have different owners; the rows hold all values beside the trail, so that no part up to `bound` can be lent.
-// Stays: `Form` tells of these bindings and of the terms beside them, which have another owner, so that it is no invariant of this struct.
+// Stays: a struct of terms and bindings with `Form` in it would be made anew by `equate` at each pair, and for each rule that is tried, as both change.
 #[derive(Clone, Copy)]
 pub struct StoredBindings<'a> {
     pub rows: &'a [[u32; 2]],
@@ -49,6 +49,7 @@ pub fn walk(terms: Terms, bindings: StoredBindings, r: u32) -> u32
 }
 
 // Whether the unbound variable x occurs in what r denotes, the bindings put in: a search that visits each reachable reference once.
+// Stays: that marks are zero and long enough is asked of rows that C programs lend; a struct that knows it would be made for each call.
 pub fn occurs(
     terms: Terms,
     bindings: StoredBindings,

@@ -12,6 +12,7 @@ use arena::Terms;
 
 // The queue of the occurs check: its entries are those references that have a mark, in the order in which they were met.
 // Stays: the marks of all references stand in the rows beside the queue, so that no part up to the queue's end can be lent.
+// Stays: `Entries` has for each mark its place in the queue, so a ghost field takes it only truncated, and `Grown`, which holds it, would not follow.
 #[derive(Drop)]
 pub struct Queue<'a> {
     pub marks: &'a mut [[u32; 2]],

@@ -45,7 +45,10 @@ pub fn are_terms(terms: Terms) -> bool
     if terms.room < terms.variables {
         return false;
     }
-    if HEADERS < terms.room || HEADERS - terms.room < terms.used {
+    if HEADERS
+        .checked_sub(terms.room)
+        .is_none_or(|most| most < terms.used)
+    {
         return false;
     }
     if terms.words.len() < terms.used as usize {

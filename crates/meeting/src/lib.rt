@@ -2,7 +2,7 @@
 // the term takes (document 01, refusal 37). The stack is lent, so that nothing is recursive.
 #![tactic(auto)]
 
-ghost use Rattle.std.specs.Prelude.{◌≡◌, ◌<◌, ℕ, List, [], length, get_or};
+ghost use Rattle.std.specs.Prelude.{◌≡◌, ◌<◌, ◌≤◌, ℕ, List, [], length, get_or};
 ghost use Rattle.arena.specs.Copies.{pattern_room};
 ghost use Rattle.meeting.specs.Places.{Records, Given, placed_count, is_place, in_order};
 ghost use Rattle.arena.specs.Cells.{terms_of};
@@ -112,10 +112,18 @@ impl Places {
     pub fn is_in_order(&self) -> bool
         ensures { result ≡ in_order self.now.places self.now.count }
     {
-        self.places.iter().zip(0..self.count).all(
-            |(place, x)|
-                ensures { result ≡ is_place place.entry.now x }
-            { *place == Some(x) },
-        )
+        is_in_order(&self.places, self.count)
     }
+}
+
+// Whether each variable below `count` has its own number as its place.
+pub fn is_in_order(places: &[Option<u32>], count: u32) -> bool
+    requires { count ≤ length places.now }
+    ensures { result ≡ in_order places.now count }
+{
+    places.iter().zip(0..count).all(
+        |(place, x)|
+            ensures { result ≡ is_place place.entry.now x }
+        { *place == Some(x) },
+    )
 }

@@ -75,6 +75,11 @@ pub record Loop (N : ℕ) (w : List ℕ) (b₀ l₀ m₀ s₀ : Rows) (variables
   pub marks : m ≡ m₀
   pub stage : Stage N w b l s variables used n d x y (whole N w b₀ variables k r t) pending
 
+-- With no pair pending, the pair of the last turn is of no concern.
+pub loop_idle : {N : ℕ} {w : List ℕ} {b₀ l₀ m₀ s₀ b l m s : Rows} {variables used k r t x y d n c : ℕ} (x' y' : ℕ)
+    → Loop N w b₀ l₀ m₀ s₀ variables used k r t b l m s x y d n c false → Loop N w b₀ l₀ m₀ s₀ variables used k r t b l m s x' y' d n c false
+loop_idle x' y' h = record { fixed = h.fixed; binding = h.binding; linking = h.linking; stacking = h.stacking; marks = h.marks; stage = h.stage }
+
 -- What is known at the loop's end.
 pub record Equated (N : ℕ) (w : List ℕ) (b₀ b l₀ l m₀ m s₀ s : Rows) (variables used k r t : ℕ) (answer : Bool) (n c d : ℕ) : Type 0 where
   pub is : whole N w b₀ variables k r t ≡ outcome answer (held N w b n)
@@ -241,7 +246,7 @@ module _ {N : ℕ} {w : List ℕ} {b₀ l₀ m₀ s₀ : Rows} {variables used k
     checked answer v z o = subst (λ (γ : Bindings). occurs γ v (denote N (cells w) z) ≡ answer) (sym now.state.holds.is) o
 
     module _ (m' : Rows) (em : m' ≡ m) where
-      pub turn_same : Says N w b l n x y Same → Loop N w b₀ l₀ m₀ s₀ variables used k r t b l m' s 0 0 d n c false
+      pub turn_same : Says N w b l n x y Same → Loop N w b₀ l₀ m₀ s₀ variables used k r t b l m' s x y d n c false
       turn_same a = record { fixed = h.fixed; binding = h.binding; linking = h.linking; stacking = h.stacking; marks = em ∙ h.marks; stage = go a }
         where
           go : Alike N w b l x y → Resuming N (cells w) (column 0 b) (column 1 b) (column 0 l) (column 0 s) (column 1 s) (column 2 s) variables used n d (whole N w b₀ variables k r t)
@@ -249,7 +254,7 @@ module _ {N : ℕ} {w : List ℕ} {b₀ l₀ m₀ s₀ : Rows} {variables used k
           go (constants p q v lp lq e z) = skip_constants now v.first v.second lp lq e z
           go (linked p q root v i j) = skip_linked now v.first v.second root i j
 
-      pub turn_open : (p q : ℕ) → Says N w b l n x y (Open p q) → d < length s → length (get_or s d []) ≡ 3 → Loop N w b₀ l₀ m₀ s₀ variables used k r t b l m' (set s d (p ∷ q ∷ 0 ∷ [])) 0 0 (d + 1) n c false
+      pub turn_open : (p q : ℕ) → Says N w b l n x y (Open p q) → d < length s → length (get_or s d []) ≡ 3 → Loop N w b₀ l₀ m₀ s₀ variables used k r t b l m' (set s d (p ∷ q ∷ 0 ∷ [])) x y (d + 1) n c false
       turn_open p q a ds wide = record {
         fixed = h.fixed;
         binding = h.binding;
@@ -268,7 +273,7 @@ module _ {N : ℕ} {w : List ℕ} {b₀ l₀ m₀ s₀ : Rows} {variables used k
           off i j jl = column_other i s d j _ (λ z. omega arith)
 
       pub turn_bind : (v z : ℕ) → Says N w b l n x y (Bind v z) → (b' : Rows) → Changed b b' n v (z + 1) → undone b' k (n + 1 - k) ≡ undone b k (n - k) → v < variables → column 0 b v ≡ 0
-          → Loop N w b₀ l₀ m₀ s₀ variables used k r t b' l m' s 0 0 d (n + 1) c false
+          → Loop N w b₀ l₀ m₀ s₀ variables used k r t b' l m' s x y d (n + 1) c false
       turn_bind v z a b' ch back vn vz = record {
         fixed = h.fixed;
         linking = h.linking;
@@ -312,7 +317,7 @@ module _ {N : ℕ} {w : List ℕ} {b₀ l₀ m₀ s₀ : Rows} {variables used k
     bind_room v z a = let ((vn, vz), nn, zn) = bind_in v z a in let e = h.binding.long in let f = h.fixed.lent_rows in (omega arith, omega arith)
 
     -- a binding is entered
-    pub turn_enter : (m' : Rows) → m' ≡ m → (v z : ℕ) → Says N w b l n x y (Bind v z) → (b' : Rows) → Entered b b' n v (z + 1) → Loop N w b₀ l₀ m₀ s₀ variables used k r t b' l m' s 0 0 d (n + 1) c false
+    pub turn_enter : (m' : Rows) → m' ≡ m → (v z : ℕ) → Says N w b l n x y (Bind v z) → (b' : Rows) → Entered b b' n v (z + 1) → Loop N w b₀ l₀ m₀ s₀ variables used k r t b' l m' s x y d (n + 1) c false
     turn_enter m' em v z a b' en =
         let ((vn, vz), nn, zn) = bind_in v z a in
         let (ln, lv) = bind_room v z a in

