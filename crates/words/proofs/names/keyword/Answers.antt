@@ -11,7 +11,7 @@ use Rattle.std.proofs.Common.{rules}
 use Rattle.std.specs.List.{position_from}
 use Rattle.std.specs.Prelude.{Option, Some, None, MatchOption}
 use Rattle.source_text.specs.Bytes.{same_bytes}
-use Rattle.source_text.proofs.Scans.{by_bool}
+use Rattle.source_text.specs.ByteLaws.{by_bool}
 use Rattle.words.specs.Names.{keywords, keyword_of, number_among}
 use Rattle.words.proofs.names.keyword.Goals as goal
 
