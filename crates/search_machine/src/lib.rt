@@ -27,7 +27,7 @@ use stored::{premise, try_stored};
 
 // What a search reads, the rules of a signature and the words of their patterns, and what it may use: variables of the session and words, and frames.
 // The number of frames is named only in contracts: so many rows are lent or more, and the steps left do not outnumber those that are free; it fits a word.
-// Stays: tried `frames` as a `ghost` clause: proved, at ten functions and ten calls; tried to lend so many rows: `prover::prove_cleared` is not covered.
+// Stays: tried a `ghost` clause for `frames`: proved, but on seven functions with six picks; tried to lend so many rows: the check does not cover it.
 #[derive(Clone, Copy)]
 pub struct Program<'a> {
     pub rules: &'a [RuleRow],
