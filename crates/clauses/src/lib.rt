@@ -81,9 +81,10 @@ pub fn clause(
     };
     let flat = flattening::flatten(source, out, calls, from).ok_or(Refusal::Full)?;
     let rule = SourceRule {
-        text: source.text,
-        symbols: source.symbols,
-        premises: calls,
+        premises: SourceTerms {
+            rows: calls,
+            ..source
+        },
         at: 0,
         n: flat.number,
         conclusions: out,

@@ -18,7 +18,7 @@ ghost use Rattle.loader.specs.SymbolEntry.{SymbolAnswered};
 use arena::INPUTS;
 use clauses::EnteredRule;
 use names::columns::FIRST_INPUT;
-use names::{FUNCTION, SortRow, Source, SymbolRow, Word};
+use names::{FUNCTION, SortRow, Source, SourceTerms, SymbolRow, Word};
 use refusals::Refusal;
 use rules::{RulePlace, RuleRow, SourceRule, Title};
 
@@ -268,10 +268,13 @@ pub fn enter_rule(
     let n = k - 1;
     let here = clauses::skip(rows, at, n);
     let next = clauses::skip(rows, here, 1);
-    let rule = SourceRule {
+    let premises = SourceTerms {
         text,
+        rows,
         symbols,
-        premises: rows,
+    };
+    let rule = SourceRule {
+        premises,
         at,
         n,
         conclusions: rows,

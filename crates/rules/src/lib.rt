@@ -7,7 +7,8 @@ ghost use Rattle.std.specs.Prelude.{◌≡◌, [], ℕ, ◌≤◌, length, nat_l
 ghost use Rattle.std.specs.List.{list_all};
 ghost use mathlib.Core.List.{List};
 ghost use Rattle.std.proofs.lemmas.List.Edits.{sets};
-ghost use Rattle.names.specs.Symbols.{column, symbols_of, variables_of};
+ghost use Rattle.names.specs.Named.{symbols_named};
+ghost use Rattle.names.specs.Symbols.{column, variables_of};
 ghost use Rattle.meeting.specs.Places.{place_numbers};
 ghost use Rattle.patterns.specs.Promises.{Ready};
 ghost use Rattle.rules.specs.StoredRows.{rule_row, heads_in};
@@ -20,7 +21,7 @@ use columns::{END, FIRST_PLACE, FIRST_PREMISE, FIRST_SORT};
 use meeting::Places;
 pub use names::PREMISES;
 use names::columns::SORT;
-use names::{SourceTerms, SymbolRow, TermRow, VariableRow, Word};
+use names::{SourceTerms, TermRow, VariableRow, Word};
 use patterns::{Place, VARIABLES};
 use refusals::Refusal;
 
@@ -54,13 +55,11 @@ pub struct Space {
     pub room: usize,
 }
 
-// The judgments of a rule in rows: n premises from the row `at` on, and the conclusion at the row `here` of its own rows; their text and the symbols that
-// they may name.
+// The judgments of a rule: source terms, among which its n premises stand from the row `at` on; the conclusion stands at the row `here` of its own rows, with
+// their text and symbols.
 #[derive(Clone, Copy)]
 pub struct SourceRule<'a> {
-    pub text: &'a [u8],
-    pub symbols: &'a [SymbolRow],
-    pub premises: &'a [TermRow],
+    pub premises: SourceTerms<'a>,
     pub at: usize,
     pub n: usize,
     pub conclusions: &'a [TermRow],
@@ -84,9 +83,9 @@ fn judgments(
     space: Space,
     heads: &mut [u32],
 ) -> Result<Body, Refusal>
-    requires fact_1 { Ready source.symbols.now (length source.symbols.now) variables.old 0 words.old space.used space.room }
+    requires fact_1 { Ready source.premises.symbols.now (length source.premises.symbols.now) variables.old 0 words.old space.used space.room }
     requires fact_2 { (source.n ≤ 16) × (length heads.old ≡ 16) }
-    ensures { Judging source.entry.text.now source.entry.premises.now source.entry.at source.entry.n source.entry.conclusions.now source.entry.here (symbols_of source.entry.text.now source.entry.symbols.now (length source.entry.symbols.now)) variables.old words.old space.used space.room result variables.new words.new heads.new }
+    ensures { Judging source.entry.premises.text.now source.entry.premises.rows.now source.entry.at source.entry.n source.entry.conclusions.now source.entry.here (symbols_named source.entry.premises) variables.old words.old space.used space.room result variables.new words.new heads.new }
 {
     let from = Place {
         next: source.at,
@@ -94,11 +93,7 @@ fn judgments(
         used: space.used,
         room: space.room,
     };
-    let premises = SourceTerms {
-        text: source.text,
-        rows: source.premises,
-        symbols: source.symbols,
-    };
+    let premises = source.premises;
     let place = patterns::judgments(premises, variables, words, &mut heads[..source.n], from)?;
     let conclusions = SourceTerms {
         rows: source.conclusions,
@@ -286,8 +281,8 @@ pub fn rule(
     rules: &mut [RuleRow],
     place: RulePlace,
 ) -> Result<Space, Refusal>
-    requires { RuleAsked source.text.now source.premises.now source.at source.n source.conclusions.now source.here source.symbols.now (length source.symbols.now) words.old place.space.used place.space.room rules.old }
-    ensures { RuleEntered source.entry.text.now source.entry.premises.now source.entry.at source.entry.n source.entry.conclusions.now source.entry.here (symbols_of source.entry.text.now source.entry.symbols.now (length source.entry.symbols.now)) title words.old place.space.used place.space.room rules.old place.number result words.new rules.new }
+    requires { RuleAsked source.premises.text.now source.premises.rows.now source.at source.n source.conclusions.now source.here source.premises.symbols.now (length source.premises.symbols.now) words.old place.space.used place.space.room rules.old }
+    ensures { RuleEntered source.entry.premises.text.now source.entry.premises.rows.now source.entry.at source.entry.n source.entry.conclusions.now source.entry.here (symbols_named source.entry.premises) title words.old place.space.used place.space.room rules.old place.number result words.new rules.new }
 {
     let RulePlace { number, space } = place;
     let n = source.n;
