@@ -127,13 +127,16 @@ pub fn all_known(variables: &[VariableRow]) -> bool
     variables.iter().all(|row| 0 < row[SORT])
 }
 
-// A rule's terms: the references of its premises and of its conclusion, the words that hold them, and the most words of one of them.
+// A rule's terms: the references of its premises and of its conclusion, the words that hold them and how many of these are in use, and the most words of
+// one of them.
 #[derive(Clone, Copy)]
 struct RuleTerms<'a> {
     heads: &'a [u32],
     conclusion: u32,
     words: &'a [u32],
+    used: usize,
     most: u32,
+    ghost asked: { OrderAsked words.now used heads.now conclusion most },
 }
 
 // The places of a rule's variables in meeting order, and how many variables are met in the conclusion.
@@ -145,7 +148,7 @@ struct MeetingOrder {
 
 // Gives the variables of a rule their places in meeting order: the conclusion's from left to right, then those of the premises from the last to the first.
 fn order(rule: RuleTerms, stack: &mut [[u32; 2]]) -> MeetingOrder
-    requires { OrderAsked rule.words.now rule.heads.now rule.conclusion rule.most × (rule.most ≤ length stack.old) }
+    requires { rule.most ≤ length stack.old }
     ensures { Ordered rule.entry.words.now rule.entry.heads.now rule.entry.conclusion result.met result.places.places result.places.count }
 {
     let RuleTerms {
@@ -153,6 +156,7 @@ fn order(rule: RuleTerms, stack: &mut [[u32; 2]]) -> MeetingOrder
         conclusion,
         words,
         most,
+        ..
     } = rule;
     let mut places = Places::new();
     places.meet(words, conclusion, most, stack);
@@ -163,7 +167,7 @@ fn order(rule: RuleTerms, stack: &mut [[u32; 2]]) -> MeetingOrder
 
 // The same with a stack of its own, for terms of at most N words.
 fn order_within<const N: usize>(rule: RuleTerms) -> MeetingOrder
-    requires { OrderAsked rule.words.now rule.heads.now rule.conclusion rule.most × (rule.most ≤ N) × (N ≤ 2048) }
+    requires { (rule.most ≤ N) × (N ≤ 2048) }
     ensures { Ordered rule.entry.words.now rule.entry.heads.now rule.entry.conclusion result.met result.places.places result.places.count }
 {
     let mut stack = [[0u32; 2]; N];
@@ -173,7 +177,7 @@ fn order_within<const N: usize>(rule: RuleTerms) -> MeetingOrder
 // The same with a stack for as many words as the rule has: laying out the large one takes longer than the walk through
 // a small rule.
 fn order_sized(rule: RuleTerms) -> MeetingOrder
-    requires { OrderAsked rule.words.now rule.heads.now rule.conclusion rule.most × (rule.most ≤ 2048) }
+    requires { rule.most ≤ 2048 }
     ensures { Ordered rule.entry.words.now rule.entry.heads.now rule.entry.conclusion result.met result.places.places result.places.count }
 {
     if rule.most as usize <= FEW {
@@ -247,6 +251,7 @@ fn keep(
         heads,
         conclusion,
         words,
+        used,
         most: (used - from) as u32,
     };
     let order = order_sized(terms);
