@@ -156,14 +156,14 @@ fn are_parts(arities: &[u32], rule: PlacedRule) -> bool
 
 // Meets the variables of a row's premises in writing order, none of which has a place before; answers whether the premises take the words that the row
 // counts.
-fn walk_premises(words: &[u32], rule: &RuleRow, places: &mut Places, stack: &mut [[u32; 2]]) -> bool
-    requires { (column rule.now 7 ≤ 2048) × ((end : ℕ) × Walkable words.now end rule.now) × (2048 ≤ length stack.old) × Records [] places.old.places places.old.count }
-    ensures { Walked (premises_of words.now rule.now) (column rule.now 7) places.old.places places.old.count result places.new.places places.new.count }
+fn walk_premises(rule: PlacedRule, places: &mut Places, stack: &mut [[u32; 2]]) -> bool
+    requires { Walkable rule.words.now rule.end rule.row.now × (2048 ≤ length stack.old) × Records [] places.old.places places.old.count }
+    ensures { Walked (premises_of rule.entry.words.now rule.entry.row.now) (column rule.entry.row.now 7) places.old.places places.old.count result places.new.places places.new.count }
 {
-    let size = rule[PREMISE_WORDS];
+    let size = rule.row[PREMISE_WORDS];
     let mut spent = 0;
-    for reference in rules::premises(rule) {
-        let Some(taken) = places.meet(words, *reference, size - spent, stack) else {
+    for reference in rules::premises(rule.row) {
+        let Some(taken) = places.meet(rule.words, *reference, size - spent, stack) else {
             return false;
         };
         spent += taken;
@@ -191,7 +191,7 @@ fn is_in_order(rule: PlacedRule, stack: &mut [[u32; 2]]) -> bool
         ..
     } = rule;
     let mut places = Places::new();
-    if !walk_premises(words, row, &mut places, stack) {
+    if !walk_premises(rule, &mut places, stack) {
         return false;
     }
     if !are_placed(&words[from as usize..middle as usize], &places) {
