@@ -25,6 +25,9 @@ use rules::columns::{
 // The most words that the terms of a rule take, as rows count them.
 const MOST: u32 = rules::RULE_WORDS as u32;
 
+// The stack of a walk through as many words.
+type Stack = [[u32; 2]; rules::RULE_WORDS];
+
 // Whether the words of premises and conclusion are few, and no more than are left.
 fn are_sizes(left: u32, body: u32, head: u32) -> bool
     ensures { Tells result ((body + head ≤ left) × (body + head ≤ 2048)) }
@@ -156,8 +159,8 @@ fn are_parts(arities: &[u32], rule: PlacedRule) -> bool
 
 // Meets the variables of a row's premises in writing order, none of which has a place before; answers whether the premises take the words that the row
 // counts.
-fn walk_premises(rule: PlacedRule, places: &mut Places, stack: &mut [[u32; 2]]) -> bool
-    requires { Walkable rule.words.now rule.end rule.row.now × (2048 ≤ length stack.old) × Records [] places.old.places places.old.count }
+fn walk_premises(rule: PlacedRule, places: &mut Places, stack: &mut Stack) -> bool
+    requires { Walkable rule.words.now rule.end rule.row.now × Records [] places.old.places places.old.count }
     ensures { Walked (premises_of rule.entry.words.now rule.entry.row.now) (column rule.entry.row.now 7) places.old.places places.old.count result places.new.places places.new.count }
 {
     let size = rule.row[PREMISE_WORDS];
@@ -179,8 +182,8 @@ fn are_placed(words: &[u32], places: &Places) -> bool
 }
 
 // Whether the terms of a row take the words that it counts, and its variables are numbered in writing order. The stack is scratch.
-fn is_in_order(rule: PlacedRule, stack: &mut [[u32; 2]]) -> bool
-    requires { Walkable rule.words.now rule.end rule.row.now × (2048 ≤ length stack.old) }
+fn is_in_order(rule: PlacedRule, stack: &mut Stack) -> bool
+    requires { Walkable rule.words.now rule.end rule.row.now }
     ensures { Tells result (InOrder rule.entry.words.now rule.entry.from rule.entry.row.now) }
 {
     let PlacedRule {
@@ -225,8 +228,8 @@ fn are_places(rule: &RuleRow, places: &Places) -> bool
 }
 
 // Whether a row has the variables of its conclusion counted and the places of all in meeting order. The stack is scratch.
-fn is_in_places(rule: PlacedRule, stack: &mut [[u32; 2]]) -> bool
-    requires { Walkable rule.words.now rule.end rule.row.now × InOrder rule.words.now rule.from rule.row.now × (2048 ≤ length stack.old) }
+fn is_in_places(rule: PlacedRule, stack: &mut Stack) -> bool
+    requires { Walkable rule.words.now rule.end rule.row.now × InOrder rule.words.now rule.from rule.row.now }
     ensures { Tells result (InPlaces rule.entry.words.now rule.entry.from rule.entry.row.now) }
 {
     let PlacedRule {
@@ -284,6 +287,9 @@ pub fn check_rule(
     if !are_parts(arities, placed) {
         return None;
     }
+    let Some(stack) = stack.first_chunk_mut() else {
+        unreachable!();
+    };
     if !is_in_order(placed, stack) {
         return None;
     }

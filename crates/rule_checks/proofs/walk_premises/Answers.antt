@@ -12,7 +12,6 @@ meet-requires c =
     let loop = c.loop-reference in
     let rule = c.args.rule in
     let w = c.requires.0 in
-    let s = c.requires.1 in
     let small = rule.counted.small in
     let n : loop.reference-index < column c.args.rule.row.now 4 = omega (arith, heads_length c.args.rule.row.now, rw c.premises-reference-items.ensures at c.loop-reference-test.true) in
     record {
