@@ -68,6 +68,7 @@ fn are_numbers(text: &[u8], rule: &RuleRow, from: u32, used: u32) -> bool
 }
 
 // Whether columns are zero.
+// Stays: `slices::are_all` promises `list_all`; that it tells of each column, as contracts here say it, is proved here once and not at four calls.
 pub fn are_zeros(columns: &[u32]) -> bool
     ensures { IsTrue result ↔ EachIndex columns.now (λ k. slice_index columns.now k ≡ 0) }
 {

@@ -49,6 +49,8 @@ pub fn premises(row: &RuleRow) -> &[u32]
 }
 
 // How many words are used, and the room for nodes left.
+// Stays: `patterns::Place` has these two beside two more; with a `Space` in it, four of its literals would be nested, to save two here.
+// Stays: that its words are few is asked beside it, with their length (`RuleAsked`); `State::next_rule` of `declarations` would have to ask it too.
 #[derive(Clone, Copy)]
 pub struct Space {
     pub used: usize,
@@ -188,6 +190,7 @@ fn order_sized(rule: RuleTerms) -> MeetingOrder
 
 // Writes the places of variables into a row, from column 90 on.
 // Stays: C callers lend the rows, in which a place is a number; each variable of a kept rule has a place, so that the number for none is never written.
+// Stays: as at `names::put_column`, nothing would be known of what is written behind a `zip`.
 fn put_places(row: &mut RuleRow, places: &[Option<u32>])
     requires { length places.now ≤ 64 }
     ensures { row.new ≡ sets row.old 90 (place_numbers places.now) }
@@ -198,6 +201,7 @@ fn put_places(row: &mut RuleRow, places: &[Option<u32>])
 }
 
 // Writes a rule's row: ten numbers, the references, and the sorts of the variables and their places.
+// Stays: a `From` could not ask that what it is given fits the row's columns.
 fn store(
     row: &mut RuleRow,
     numbers: &[u32; 10],
