@@ -2,9 +2,7 @@
 use Rattle.std.specs.Prelude.{ℕ, suc, ◌-◌, ◌≤◌, ◌≡◌, Some, SomeIff, refl, List, [], ◌∷◌, get_or, length}
 use Rattle.std.proofs.Common.{arith}
 use Rattle.arena.specs.Cells.{Cells}
-
-abbrev pub Rows : Type 0
-Rows = List (List ℕ)
+pub use Rattle.slices.specs.Rows.{Rows}
 
 -- The number in column c of row j; 0 outside the rows.
 abbrev pub column : ℕ → Rows → Cells

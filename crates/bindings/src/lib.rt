@@ -67,19 +67,20 @@ pub fn occurs(
     queue.visit(terms, r);
     let mut h = 0;
     // Stays: the queue grows while it is gone through, so no range is known at the start.
-    while h < queue.end {
+    let found = loop {
+        if h == queue.end {
+            break false;
+        }
         let [_, y] = queue.marks[h as usize];
         if y == x {
-            let end = queue.end;
-            undo(queue.marks, end, 0);
-            return true;
+            break true;
         }
         queue.visit_edges(terms, bindings, y);
         h += 1;
-    }
+    };
     let end = queue.end;
     undo(queue.marks, end, 0);
-    false
+    found
 }
 
 // Whether rows of any contents are bindings in form over words in form.

@@ -58,7 +58,7 @@ fn heading(rows: &[TermRow], at: usize, n: usize, word: Word, out: &mut [TermRow
 }
 
 // Enters a clause as a rule at a place. Its rows are flattened in `out` and `calls`, which are scratch.
-// Stays: words and rules go apart from the place; of a struct that lends both, each contract from here to `declarations` would say that both come back.
+// Stays: words, rules and scratch go apart from the place; of a struct that lends them, each contract up to `declarations` would say that they come back.
 pub fn clause(
     written: SourceClause,
     title: Title,
@@ -81,9 +81,10 @@ pub fn clause(
     };
     let flat = flattening::flatten(source, out, calls, from).ok_or(Refusal::Full)?;
     let rule = SourceRule {
-        text: source.text,
-        symbols: source.symbols,
-        premises: calls,
+        premises: SourceTerms {
+            rows: calls,
+            ..source
+        },
         at: 0,
         n: flat.number,
         conclusions: out,

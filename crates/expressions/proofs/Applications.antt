@@ -133,7 +133,6 @@ module _ {symbol_rows rule_rows : Rows} {pattern : List ℕ} {i : ℕ} {values :
           working = h.working;
           roots = h.roots;
           deep = omega arith;
-          high = omega arith;
           spent = omega arith;
         }
 

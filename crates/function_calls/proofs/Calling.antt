@@ -234,7 +234,6 @@ module _ {symbol_rows rule_rows : Rows} {pattern : List ℕ} {symbol : ℕ} {val
                   listed = h.working.listed;
                 };
                 deep = l;
-                high = h.high;
                 many = m;
                 spent = h.spent;
               }

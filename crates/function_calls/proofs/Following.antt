@@ -271,7 +271,6 @@ module _ {symbol_rows rule_rows : Rows} {pattern : List ℕ} {rule depth height 
         known = (mine.γ, mine.holds);
         working = working;
         deep = h.asked.deep;
-        high = h.asked.high;
         spent = let a = h.asked.spent in let b = h.spends in omega arith;
       }
 

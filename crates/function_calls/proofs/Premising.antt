@@ -417,7 +417,6 @@ module _ {symbol_rows rule_rows : Rows} {pattern : List ℕ} {header first depth
             };
             roots = taken_roots;
             deep = let d = h.deep in omega arith;
-            high = let d = h.high in omega arith;
             spent = let d = h.spent in let g = stand.stand.grows in omega arith;
           }
 

@@ -108,7 +108,6 @@ pub record CallAsked (symbol_rows rule_rows : Rows) (pattern : List ℕ) (symbol
   pub working : Working words used limit links trees stack
   pub roots : (k : ℕ) → k < length values → Value words used (cells values k)
   pub deep : depth ≤ 129
-  pub high : height ≤ depth
   -- of the calls before it and itself at most `depth` are open, and each other one has taken two words at least:
   pub spent : 2 * suc calls ≤ used + 2 * depth
 
@@ -138,7 +137,6 @@ pub record FollowAsked (symbol_rows rule_rows : Rows) (pattern : List ℕ) (rule
   pub known : (β : Bindings) × Holds environment words used β
   pub working : Working words used limit links trees stack
   pub deep : depth ≤ 128
-  pub high : height ≤ depth
   pub many : calls < 10000
   pub spent : 2 * suc calls ≤ used + 2 * depth
 
@@ -185,7 +183,6 @@ pub record PremiseAsked (symbol_rows rule_rows : Rows) (pattern : List ℕ) (hea
   pub known : (β : Bindings) × Holds environment words used β
   pub working : Working words used limit links trees stack
   pub deep : depth ≤ 128
-  pub high : height ≤ depth
   -- the call whose premise this is has been counted:
   pub spent : 2 * calls ≤ used + 2 * depth
 

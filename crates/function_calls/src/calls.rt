@@ -1,5 +1,5 @@
 // Calls of functions: the Rust's `Evaluator::call`.
-ghost use Rattle.std.specs.Prelude.{◌≡◌};
+ghost use Rattle.std.specs.Prelude.{◌≡◌, ◌≤◌};
 ghost use Rattle.function_calls.specs.Calls.{CallAsked, CallAnswered, FollowAsked, Followed, PremiseAsked, PremiseAnswered, IsLent};
 
 use arena::{INPUTS, PATTERN_ROOM, arity_of};
@@ -54,6 +54,7 @@ impl Outcome {
 pub struct Level {
     pub depth: u32,
     pub height: u32,
+    ghost high: { height ≤ depth },
 }
 
 // A program: its symbols, its rules, the words of their patterns, and how many words its values may take.

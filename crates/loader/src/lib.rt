@@ -18,7 +18,7 @@ ghost use Rattle.loader.specs.SymbolEntry.{SymbolAnswered};
 use arena::INPUTS;
 use clauses::EnteredRule;
 use names::columns::FIRST_INPUT;
-use names::{FUNCTION, SortRow, Source, SymbolRow, Word};
+use names::{FUNCTION, SortRow, Source, SourceTerms, SymbolRow, Word};
 use refusals::Refusal;
 use rules::{RulePlace, RuleRow, SourceRule, Title};
 
@@ -108,6 +108,7 @@ pub struct SymbolHead {
 }
 
 // Writes a symbol into its row.
+// Stays: a `From` could not ask that the inputs fit the row's columns.
 pub fn put_symbol(row: &mut SymbolRow, symbol: SymbolHead, inputs: &[u32])
     requires { length inputs.now ≤ 16 }
     ensures { row.new ≡ symbol_row symbol.word.start symbol.word.size symbol.output symbol.function symbol.first symbol.clauses (length inputs.now) inputs.now }
@@ -137,6 +138,7 @@ pub fn find_arrow(part: Part, sorts: &[SortRow], inputs: &mut [u32]) -> Option<u
     let Part { source, k } = part;
     let Source { text, rows, at } = source;
     let mut last = 0;
+    // Stays: the names may be more than `inputs` has places for, where a `zip` would end before the last of them.
     for (i, row) in rows[at..at + k].iter().enumerate() {
         let word = Word::behind_kind(row);
         let s = names::find(text, sorts, names::part(text, word))?;
@@ -268,10 +270,13 @@ pub fn enter_rule(
     let n = k - 1;
     let here = clauses::skip(rows, at, n);
     let next = clauses::skip(rows, here, 1);
-    let rule = SourceRule {
+    let premises = SourceTerms {
         text,
+        rows,
         symbols,
-        premises: rows,
+    };
+    let rule = SourceRule {
+        premises,
         at,
         n,
         conclusions: rows,

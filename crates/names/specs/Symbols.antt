@@ -2,9 +2,7 @@
 use Rattle.std.specs.Prelude.{ℕ, zero, suc, List, [], ◌∷◌, map, take, get_or}
 use Rattle.source_text.specs.Parts.{part_of}
 use Rattle.names.specs.Names.{Name, name_in, find}
-
-abbrev pub Rows : Type 0
-Rows = List (List ℕ)
+pub use Rattle.slices.specs.Rows.{Rows, row_at}
 
 -- A symbol. Sorts are counted from 1: an output of 0 is that of a predicate. A function is a predicate whose last input is its result; `function` is then
 -- 1, and its clauses are `clauses` rules from the rule `first` on.
@@ -23,9 +21,6 @@ pub record Variable : Type 0 where
 
 abbrev pub column : List ℕ → ℕ → ℕ
 column row j = get_or row j 0
-
-abbrev pub row_at : Rows → ℕ → List ℕ
-row_at rows i = get_or rows i []
 
 -- n columns from column j on.
 unfoldable pub columns : List ℕ → ℕ → ℕ → List ℕ

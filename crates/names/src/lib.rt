@@ -42,6 +42,7 @@ pub struct Source<'a> {
 }
 
 // Source terms: the text, the rows in which they stand, and the symbols that they may name.
+// Stays: that symbols are few, with at most 16 inputs each, is asked beside it: `flattening::flatten` is given source terms too, and asks neither.
 #[derive(Clone, Copy)]
 pub struct SourceTerms<'a> {
     pub text: &'a [u8],

@@ -69,7 +69,8 @@ pub fn enter(
 }
 
 // How far the compiler is: the next row, how many variables there are, how many words are used, and the room for nodes left.
-// Stays: variables and words have different owners; a struct of the two would be made anew at each call, and each contract would say they come back.
+// Stays: variables and words have different owners; in one struct that is lent, each contract here would say besides that the same two come back.
+// Stays: that variables are at most 64 and words few is asked beside it (`Ready`); with ghost fields, six of its eight literals could not be updates.
 #[derive(Clone, Copy)]
 pub struct Place {
     pub next: usize,
@@ -176,7 +177,7 @@ fn numeral_misfit(
 }
 
 // Writes n times `succ` on `zero` behind the used words.
-// Stays: the numeral's words are written just behind the `used` ones, which a slice of those alone would not reach.
+// Stays: with the words from `used` on alone lent, the caller would have to join what comes back, and references count from the first word of all.
 fn numeral_words(words: &mut [u32], used: usize, numerals: NumeralSymbols, n: usize) -> u32
     requires { (used + 1 + 2 * n ≤ length words.old) × (used + 2 * n ≤ 65536) × (numerals.succ < 1024) × (numerals.zero < 1024) }
     ensures { lay (tower numerals.succ numerals.zero n) words.old used ≡ laid (result ∷ []) words.new (used + 1 + 2 * n) }
@@ -290,6 +291,7 @@ fn node(
         room: from.room.checked_sub(1).ok_or(Refusal::Full)?,
         ..from
     };
+    // Stays: as at `names::put_column`, nothing would be known of what is written behind a `zip`.
     for (k, sort) in symbols[i][FIRST_INPUT..FIRST_INPUT + arguments]
         .iter()
         .enumerate()

@@ -25,6 +25,9 @@ use rules::columns::{
 // The most words that the terms of a rule take, as rows count them.
 const MOST: u32 = rules::RULE_WORDS as u32;
 
+// The stack of a walk through as many words.
+type Stack = [[u32; 2]; rules::RULE_WORDS];
+
 // Whether the words of premises and conclusion are few, and no more than are left.
 fn are_sizes(left: u32, body: u32, head: u32) -> bool
     ensures { Tells result ((body + head ≤ left) × (body + head ≤ 2048)) }
@@ -65,6 +68,7 @@ fn are_numbers(text: &[u8], rule: &RuleRow, from: u32, used: u32) -> bool
 }
 
 // Whether columns are zero.
+// Stays: `slices::are_all` promises `list_all`; that it tells of each column, as contracts here say it, is proved here once and not at four calls.
 pub fn are_zeros(columns: &[u32]) -> bool
     ensures { IsTrue result ↔ EachIndex columns.now (λ k. slice_index columns.now k ≡ 0) }
 {
@@ -156,14 +160,14 @@ fn are_parts(arities: &[u32], rule: PlacedRule) -> bool
 
 // Meets the variables of a row's premises in writing order, none of which has a place before; answers whether the premises take the words that the row
 // counts.
-fn walk_premises(words: &[u32], rule: &RuleRow, places: &mut Places, stack: &mut [[u32; 2]]) -> bool
-    requires { (column rule.now 7 ≤ 2048) × ((end : ℕ) × Walkable words.now end rule.now) × (2048 ≤ length stack.old) × Records [] places.old.places places.old.count }
-    ensures { Walked (premises_of words.now rule.now) (column rule.now 7) places.old.places places.old.count result places.new.places places.new.count }
+fn walk_premises(rule: PlacedRule, places: &mut Places, stack: &mut Stack) -> bool
+    requires { Walkable rule.words.now rule.end rule.row.now × Records [] places.old.places places.old.count }
+    ensures { Walked (premises_of rule.entry.words.now rule.entry.row.now) (column rule.entry.row.now 7) places.old.places places.old.count result places.new.places places.new.count }
 {
-    let size = rule[PREMISE_WORDS];
+    let size = rule.row[PREMISE_WORDS];
     let mut spent = 0;
-    for reference in rules::premises(rule) {
-        let Some(taken) = places.meet(words, *reference, size - spent, stack) else {
+    for reference in rules::premises(rule.row) {
+        let Some(taken) = places.meet(rule.words, *reference, size - spent, stack) else {
             return false;
         };
         spent += taken;
@@ -179,8 +183,8 @@ fn are_placed(words: &[u32], places: &Places) -> bool
 }
 
 // Whether the terms of a row take the words that it counts, and its variables are numbered in writing order. The stack is scratch.
-fn is_in_order(rule: PlacedRule, stack: &mut [[u32; 2]]) -> bool
-    requires { Walkable rule.words.now rule.end rule.row.now × (2048 ≤ length stack.old) }
+fn is_in_order(rule: PlacedRule, stack: &mut Stack) -> bool
+    requires { Walkable rule.words.now rule.end rule.row.now }
     ensures { Tells result (InOrder rule.entry.words.now rule.entry.from rule.entry.row.now) }
 {
     let PlacedRule {
@@ -191,7 +195,7 @@ fn is_in_order(rule: PlacedRule, stack: &mut [[u32; 2]]) -> bool
         ..
     } = rule;
     let mut places = Places::new();
-    if !walk_premises(words, row, &mut places, stack) {
+    if !walk_premises(rule, &mut places, stack) {
         return false;
     }
     if !are_placed(&words[from as usize..middle as usize], &places) {
@@ -225,8 +229,8 @@ fn are_places(rule: &RuleRow, places: &Places) -> bool
 }
 
 // Whether a row has the variables of its conclusion counted and the places of all in meeting order. The stack is scratch.
-fn is_in_places(rule: PlacedRule, stack: &mut [[u32; 2]]) -> bool
-    requires { Walkable rule.words.now rule.end rule.row.now × InOrder rule.words.now rule.from rule.row.now × (2048 ≤ length stack.old) }
+fn is_in_places(rule: PlacedRule, stack: &mut Stack) -> bool
+    requires { Walkable rule.words.now rule.end rule.row.now × InOrder rule.words.now rule.from rule.row.now }
     ensures { Tells result (InPlaces rule.entry.words.now rule.entry.from rule.entry.row.now) }
 {
     let PlacedRule {
@@ -284,6 +288,9 @@ pub fn check_rule(
     if !are_parts(arities, placed) {
         return None;
     }
+    let Some(stack) = stack.first_chunk_mut() else {
+        unreachable!();
+    };
     if !is_in_order(placed, stack) {
         return None;
     }

@@ -54,10 +54,9 @@ module _ (heads : List ℕ) {arities : List ℕ} {R : Rule} {pattern : List ℕ}
         }
 
     -- A rule's terms take no more words than lie between its first and its last.
-    pub order_asked : OrderAsked pattern heads conclusion (used - from)
+    pub order_asked : OrderAsked pattern used heads conclusion (used - from)
     order_asked =
         record {
-          used = used;
           within = lying.conclusion.there;
           low = lying.conclusion.small;
           formed = lying.conclusion.formed;

@@ -60,9 +60,8 @@ pub record RootAsked (pattern : List ℕ) (used r most : ℕ) : Type 0 where
   pub root : Reference pattern_room (cells pattern) pattern_room used r
   pub small : words (term_of pattern r) ≤ most
 
--- What `order` asks beside the stack: words in use that are in form, and among them the conclusion and the premises, terms of at most `most` words each.
-pub record OrderAsked (pattern : List ℕ) (heads : List ℕ) (conclusion : ℕ) (most : ℕ) : Type 0 where
-  pub used : ℕ
+-- What `order` asks of a rule's terms: words in use that are in form, and among them the conclusion and the premises, terms of at most `most` words each.
+pub record OrderAsked (pattern : List ℕ) (used : ℕ) (heads : List ℕ) (conclusion : ℕ) (most : ℕ) : Type 0 where
   pub within : used ≤ length pattern
   pub low : pattern_room + used ≤ headers
   pub formed : WellFormed pattern_room (cells pattern) pattern_room used

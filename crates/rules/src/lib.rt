@@ -7,7 +7,8 @@ ghost use Rattle.std.specs.Prelude.{◌≡◌, [], ℕ, ◌≤◌, length, nat_l
 ghost use Rattle.std.specs.List.{list_all};
 ghost use mathlib.Core.List.{List};
 ghost use Rattle.std.proofs.lemmas.List.Edits.{sets};
-ghost use Rattle.names.specs.Symbols.{column, symbols_of, variables_of};
+ghost use Rattle.names.specs.Named.{symbols_named};
+ghost use Rattle.names.specs.Symbols.{column, variables_of};
 ghost use Rattle.meeting.specs.Places.{place_numbers};
 ghost use Rattle.patterns.specs.Promises.{Ready};
 ghost use Rattle.rules.specs.StoredRows.{rule_row, heads_in};
@@ -20,7 +21,7 @@ use columns::{END, FIRST_PLACE, FIRST_PREMISE, FIRST_SORT};
 use meeting::Places;
 pub use names::PREMISES;
 use names::columns::SORT;
-use names::{SourceTerms, SymbolRow, TermRow, VariableRow, Word};
+use names::{SourceTerms, TermRow, VariableRow, Word};
 use patterns::{Place, VARIABLES};
 use refusals::Refusal;
 
@@ -48,19 +49,19 @@ pub fn premises(row: &RuleRow) -> &[u32]
 }
 
 // How many words are used, and the room for nodes left.
+// Stays: `patterns::Place` has these two beside two more; with a `Space` in it, four of its literals would be nested, to save two here.
+// Stays: that its words are few is asked beside it, with their length (`RuleAsked`); `State::next_rule` of `declarations` would have to ask it too.
 #[derive(Clone, Copy)]
 pub struct Space {
     pub used: usize,
     pub room: usize,
 }
 
-// The judgments of a rule in rows: n premises from the row `at` on, and the conclusion at the row `here` of its own rows; their text and the symbols that
-// they may name.
+// The judgments of a rule: source terms, among which its n premises stand from the row `at` on; the conclusion stands at the row `here` of its own rows, with
+// their text and symbols.
 #[derive(Clone, Copy)]
 pub struct SourceRule<'a> {
-    pub text: &'a [u8],
-    pub symbols: &'a [SymbolRow],
-    pub premises: &'a [TermRow],
+    pub premises: SourceTerms<'a>,
     pub at: usize,
     pub n: usize,
     pub conclusions: &'a [TermRow],
@@ -84,9 +85,9 @@ fn judgments(
     space: Space,
     heads: &mut [u32],
 ) -> Result<Body, Refusal>
-    requires fact_1 { Ready source.symbols.now (length source.symbols.now) variables.old 0 words.old space.used space.room }
+    requires fact_1 { Ready source.premises.symbols.now (length source.premises.symbols.now) variables.old 0 words.old space.used space.room }
     requires fact_2 { (source.n ≤ 16) × (length heads.old ≡ 16) }
-    ensures { Judging source.entry.text.now source.entry.premises.now source.entry.at source.entry.n source.entry.conclusions.now source.entry.here (symbols_of source.entry.text.now source.entry.symbols.now (length source.entry.symbols.now)) variables.old words.old space.used space.room result variables.new words.new heads.new }
+    ensures { Judging source.entry.premises.text.now source.entry.premises.rows.now source.entry.at source.entry.n source.entry.conclusions.now source.entry.here (symbols_named source.entry.premises) variables.old words.old space.used space.room result variables.new words.new heads.new }
 {
     let from = Place {
         next: source.at,
@@ -94,11 +95,7 @@ fn judgments(
         used: space.used,
         room: space.room,
     };
-    let premises = SourceTerms {
-        text: source.text,
-        rows: source.premises,
-        symbols: source.symbols,
-    };
+    let premises = source.premises;
     let place = patterns::judgments(premises, variables, words, &mut heads[..source.n], from)?;
     let conclusions = SourceTerms {
         rows: source.conclusions,
@@ -132,13 +129,16 @@ pub fn all_known(variables: &[VariableRow]) -> bool
     variables.iter().all(|row| 0 < row[SORT])
 }
 
-// A rule's terms: the references of its premises and of its conclusion, the words that hold them, and the most words of one of them.
+// A rule's terms: the references of its premises and of its conclusion, the words that hold them and how many of these are in use, and the most words of
+// one of them.
 #[derive(Clone, Copy)]
 struct RuleTerms<'a> {
     heads: &'a [u32],
     conclusion: u32,
     words: &'a [u32],
+    used: usize,
     most: u32,
+    ghost asked: { OrderAsked words.now used heads.now conclusion most },
 }
 
 // The places of a rule's variables in meeting order, and how many variables are met in the conclusion.
@@ -150,7 +150,7 @@ struct MeetingOrder {
 
 // Gives the variables of a rule their places in meeting order: the conclusion's from left to right, then those of the premises from the last to the first.
 fn order(rule: RuleTerms, stack: &mut [[u32; 2]]) -> MeetingOrder
-    requires { OrderAsked rule.words.now rule.heads.now rule.conclusion rule.most × (rule.most ≤ length stack.old) }
+    requires { rule.most ≤ length stack.old }
     ensures { Ordered rule.entry.words.now rule.entry.heads.now rule.entry.conclusion result.met result.places.places result.places.count }
 {
     let RuleTerms {
@@ -158,6 +158,7 @@ fn order(rule: RuleTerms, stack: &mut [[u32; 2]]) -> MeetingOrder
         conclusion,
         words,
         most,
+        ..
     } = rule;
     let mut places = Places::new();
     places.meet(words, conclusion, most, stack);
@@ -168,7 +169,7 @@ fn order(rule: RuleTerms, stack: &mut [[u32; 2]]) -> MeetingOrder
 
 // The same with a stack of its own, for terms of at most N words.
 fn order_within<const N: usize>(rule: RuleTerms) -> MeetingOrder
-    requires { OrderAsked rule.words.now rule.heads.now rule.conclusion rule.most × (rule.most ≤ N) × (N ≤ 2048) }
+    requires { (rule.most ≤ N) × (N ≤ 2048) }
     ensures { Ordered rule.entry.words.now rule.entry.heads.now rule.entry.conclusion result.met result.places.places result.places.count }
 {
     let mut stack = [[0u32; 2]; N];
@@ -178,7 +179,7 @@ fn order_within<const N: usize>(rule: RuleTerms) -> MeetingOrder
 // The same with a stack for as many words as the rule has: laying out the large one takes longer than the walk through
 // a small rule.
 fn order_sized(rule: RuleTerms) -> MeetingOrder
-    requires { OrderAsked rule.words.now rule.heads.now rule.conclusion rule.most × (rule.most ≤ 2048) }
+    requires { rule.most ≤ 2048 }
     ensures { Ordered rule.entry.words.now rule.entry.heads.now rule.entry.conclusion result.met result.places.places result.places.count }
 {
     if rule.most as usize <= FEW {
@@ -189,6 +190,7 @@ fn order_sized(rule: RuleTerms) -> MeetingOrder
 
 // Writes the places of variables into a row, from column 90 on.
 // Stays: C callers lend the rows, in which a place is a number; each variable of a kept rule has a place, so that the number for none is never written.
+// Stays: as at `names::put_column`, nothing would be known of what is written behind a `zip`.
 fn put_places(row: &mut RuleRow, places: &[Option<u32>])
     requires { length places.now ≤ 64 }
     ensures { row.new ≡ sets row.old 90 (place_numbers places.now) }
@@ -199,6 +201,7 @@ fn put_places(row: &mut RuleRow, places: &[Option<u32>])
 }
 
 // Writes a rule's row: ten numbers, the references, and the sorts of the variables and their places.
+// Stays: a `From` could not ask that what it is given fits the row's columns.
 fn store(
     row: &mut RuleRow,
     numbers: &[u32; 10],
@@ -252,6 +255,7 @@ fn keep(
         heads,
         conclusion,
         words,
+        used,
         most: (used - from) as u32,
     };
     let order = order_sized(terms);
@@ -286,8 +290,8 @@ pub fn rule(
     rules: &mut [RuleRow],
     place: RulePlace,
 ) -> Result<Space, Refusal>
-    requires { RuleAsked source.text.now source.premises.now source.at source.n source.conclusions.now source.here source.symbols.now (length source.symbols.now) words.old place.space.used place.space.room rules.old }
-    ensures { RuleEntered source.entry.text.now source.entry.premises.now source.entry.at source.entry.n source.entry.conclusions.now source.entry.here (symbols_of source.entry.text.now source.entry.symbols.now (length source.entry.symbols.now)) title words.old place.space.used place.space.room rules.old place.number result words.new rules.new }
+    requires { RuleAsked source.premises.text.now source.premises.rows.now source.at source.n source.conclusions.now source.here source.premises.symbols.now (length source.premises.symbols.now) words.old place.space.used place.space.room rules.old }
+    ensures { RuleEntered source.entry.premises.text.now source.entry.premises.rows.now source.entry.at source.entry.n source.entry.conclusions.now source.entry.here (symbols_named source.entry.premises) title words.old place.space.used place.space.room rules.old place.number result words.new rules.new }
 {
     let RulePlace { number, space } = place;
     let n = source.n;

@@ -17,7 +17,7 @@ pub fn all_digits(w: &[u8]) -> bool
 }
 
 // The value of a word of digits, if it has 64 bits.
-// Stays: `parse` reads a `str`, and these are bytes.
+// Stays: `parse` takes a leading `+` too, which is no digit, and a `str`, which these bytes would first have to be tested for.
 pub fn value(w: &[u8]) -> Option<u64>
     ensures { result ≡ numeral_of w.now }
 {

@@ -2,10 +2,8 @@
 -- larger one.
 use Rattle.std.specs.Prelude.{ℕ, min, List, [], ◌∷◌, ◌++◌}
 use Rattle.words.specs.Names.{name_kind, metavariable_kind, numeral_kind}
+pub use Rattle.slices.specs.Rows.{Rows}
 use Rattle.term_parser.specs.Source.{Place, place, Arity, Source, numeral, metavariable, name, application, none, more, count}
-
-abbrev pub Rows : Type 0
-Rows = List (List ℕ)
 
 -- The kind of an application's row, beside the kinds of tokens.
 abbrev pub application_kind : ℕ

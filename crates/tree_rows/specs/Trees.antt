@@ -7,9 +7,7 @@ use Rattle.arena.specs.Cells.{cells, denote, Reference}
 use Rattle.resolution.specs.Rules.{Tree, node, leaf, ◌◂◌}
 use Rattle.resolution.specs.Preorder.{Entry, entry}
 use Rattle.arena.specs.Rows.{Rows}
-
-abbrev pub row_at : Rows → ℕ → List ℕ
-row_at rows i = get_or rows i []
+pub use Rattle.slices.specs.Rows.{row_at}
 
 -- The row of a node.
 abbrev pub tree_row : ℕ → ℕ → ℕ → List ℕ

@@ -7,10 +7,6 @@ use native.Mathlib.Omega.{arith}
 use lib.ListN.{length, get_or}
 use lib.Dec.{eqb, ltb}
 use borrow.Author.Tests.{ne_eqb, eqb-true, ltb-true}
-use Rattle.std.specs.Prelude.{Result, Ok, Err}
-use Rattle.std.specs.Result.{is_err}
-use Rattle.refusals.specs.declared.Rejection.{Rejection}
-use Rattle.words.specs.Rows.{outcome}
 use Rattle.source_text.specs.Bytes.{within, starts_with, up_to, one_of}
 use Rattle.source_text.specs.Characters.{arrow, character_of, class_of, has_outside, outside_after}
 use Rattle.source_text.specs.Lines.{code_of}
@@ -30,10 +26,6 @@ use Rattle.words.proofs.Items.{sign_at, sign_by, no_arrow}
 abbrev pub accepted : Reading → Bool
 accepted (tokens ts) = true
 accepted (refused r n) = false
-
-pub accepted_ok : (l : Result ℕ Rejection) (rows : List (List ℕ)) → is_err l ≡ false → accepted (outcome l rows) ≡ true
-accepted_ok (Ok n) rows e = refl
-accepted_ok (Err r) rows e = absurd (let z : ◌≡◌ {A = ℕ} 0 1 = cc in omega arith)
 
 then_accepted : (a b : Reading) → accepted (and_then a b) ≡ true → (accepted a ≡ true) × (accepted b ≡ true)
 unfolding and_then

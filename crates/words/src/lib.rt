@@ -84,17 +84,17 @@ fn read(text: &[u8], limit: usize, rows: &mut [Row]) -> Result<usize, Rejection>
     if !is_utf8(text) {
         return Err(Rejection::from(Refusal::NotUtf8));
     }
-    let read = read_lines(text, rows);
-    // A text that is read to its end has no character outside the domain, so only a refused one is searched for it.
-    if read.is_err() {
-        if let Some(line) = outside_line(text) {
-            return Err(Rejection {
+    match read_lines(text, rows) {
+        Ok(count) => Ok(count),
+        // A text that is read to its end has no character outside the domain, so only a refused one is searched for it.
+        Err(rejection) => Err(outside_line(text).map_or(
+            rejection,
+            |line| Rejection {
                 refusal: Refusal::OutsideDomain,
                 line,
-            });
-        }
+            },
+        )),
     }
-    read
 }
 
 // Reads a text into token rows (kind, start, length, line), of which there are as many as the limit on the text's bytes; answers the number of tokens.

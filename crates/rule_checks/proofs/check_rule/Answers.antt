@@ -1,8 +1,7 @@
 -- `check_rule` meets its contract: it tells whether the row and the words are in form.
 -- Each way out is one step of the test, and the steps together are the form.
 use Rattle.unifier.specs.Checking.{tells_false}
-use Rattle.rule_checks.proofs.ListedLaws.{checked_bad, checked_good, listed_parts, listed_places, walkable}
-use native.Mathlib.Omega.{arith}
+use Rattle.rule_checks.proofs.ListedLaws.{checked_bad, checked_good, listed_parts, listed_order, listed_places, walkable}
 use Rattle.rule_checks.proofs.check_rule.Goals as goal
 
 pub returns-then-not-are_parts : goal.returns-then-not-are_parts
@@ -17,7 +16,11 @@ is_in_order-requires c =
     let are-parts = c.are_parts in
     let if3 = c.if-not-are_parts in
     let n = are-numbers.ensures.yes (if1.false) in
-    (walkable args.text.now args.arities.now args.words.now 0 _ args.rule.now args.from pre.fact_1 n (are-parts.ensures.yes (if3.false)), pre.fact_2)
+    walkable args.text.now args.arities.now args.words.now 0 _ args.rule.now args.from pre.fact_1 n (are-parts.ensures.yes (if3.false))
+
+pub returns-then-not-is_in_order : goal.returns-then-not-is_in_order
+returns-then-not-is_in_order c =
+    checked_bad _ _ _ _ _ _ _ (λ next l. tells_false c.is_in_order.ensures (c.if-not-is_in_order.true) (listed_order _ _ _ _ _ _ _ l))
 
 pub is_in_places-requires : goal.is_in_places-requires
 is_in_places-requires c =
@@ -30,7 +33,7 @@ is_in_places-requires c =
     let is-in-order = c.is_in_order in
     let if4 = c.if-not-is_in_order in
     let n = are-numbers.ensures.yes (if1.false) in
-    (walkable args.text.now args.arities.now args.words.now 0 _ args.rule.now args.from pre.fact_1 n (are-parts.ensures.yes (if3.false)), is-in-order.ensures.yes (if4.false), omega (arith, pre.fact_2, is-in-order.auto.stack))
+    (walkable args.text.now args.arities.now args.words.now 0 _ args.rule.now args.from pre.fact_1 n (are-parts.ensures.yes (if3.false)), is-in-order.ensures.yes (if4.false))
 
 pub returns-then-not-is_in_places : goal.returns-then-not-is_in_places
 returns-then-not-is_in_places c =

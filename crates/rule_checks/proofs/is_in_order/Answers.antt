@@ -22,7 +22,7 @@ returns-then-not-are_placed c =
     let rec = walk-premises.ensures.records c.if-not-walk_premises.false [] c.new-places.ensures in
     let m = args.rule.counted.middle in
     let z = args.rule.counted.last in
-    tells_no (λ h. tells_false c.are_placed.ensures c.if-not-are_placed.true (each_part args.rule.words.now args.rule.from args.rule.middle (PlacedWord walk-premises.new.places.places) (omega (arith, pre.0.within)) (listed_placed (premises_of args.rule.words.now args.rule.row.now) rec args.rule.words.now args.rule.from args.rule.middle (λ a l b. h.listed a l (omega arith)))))
+    tells_no (λ h. tells_false c.are_placed.ensures c.if-not-are_placed.true (each_part args.rule.words.now args.rule.from args.rule.middle (PlacedWord walk-premises.new.places.places) (omega (arith, pre.within)) (listed_placed (premises_of args.rule.words.now args.rule.row.now) rec args.rule.words.now args.rule.from args.rule.middle (λ a l b. h.listed a l (omega arith)))))
 
 pub returns-then-places-row : goal.returns-then-places-row
 returns-then-places-row c =
@@ -45,7 +45,7 @@ returns c =
     record {
       yes = λ e. record {
         body = walk-premises.ensures.fits c.if-not-walk_premises.false;
-        listed = λ a l b. placed_listed (premises_of args.rule.words.now args.rule.row.now) rec args.rule.words.now args.rule.from args.rule.middle (part_each args.rule.words.now args.rule.from args.rule.middle (PlacedWord walk-premises.new.places.places) (omega (arith, pre.0.within)) (c.are_placed.ensures.yes c.if-not-are_placed.false)) a l (omega arith);
+        listed = λ a l b. placed_listed (premises_of args.rule.words.now args.rule.row.now) rec args.rule.words.now args.rule.from args.rule.middle (part_each args.rule.words.now args.rule.from args.rule.middle (PlacedWord walk-premises.new.places.places) (omega (arith, pre.within)) (c.are_placed.ensures.yes c.if-not-are_placed.false)) a l (omega arith);
         head = sym fits;
         order = order_list both (sym in-order ∙ e) ∙ ap numbers_below c.if-places-row.false;
       };

@@ -33,7 +33,7 @@ meet_back-requires c = rw c.premises.ensures (λ i l.
     let n : i < column row 4 = omega (arith, heads_length row, l) in
     let a = premise_asked pre.0 args.rule.counted pre.1 i n in
     subst (λ (r : ℕ). WholeAsked args.rule.words.now r 2048 c.meet.new.stack) (sym (heads_index row i n))
-    (record { used = a.end; within = a.within; low = a.low; formed = a.formed; root = a.root; room = omega (arith, pre.2) }, a.small))
+    (record { used = a.end; within = a.within; low = a.low; formed = a.formed; root = a.root; room = omega arith }, a.small))
 
 pub returns : goal.returns
 returns c =

@@ -11,10 +11,8 @@ use Rattle.rules.proofs.ExactLaws.{places_exact, row_exact}
 use native.Mathlib.Omega.{arith}
 use Rattle.rules.proofs.keep.Goals as goal
 
-pub order_sized-order-requires : goal.order_sized-order-requires
-order_sized-order-requires c =
-    let pre = c.requires in
-    (order_asked c.args.heads.now pre.rule.2 pre.rising.0, omega (arith, pre.small))
+pub invariant_of-terms : goal.invariant_of-terms
+invariant_of-terms c = record { asked = order_asked c.args.heads.now c.requires.rule.2 c.requires.rising.0 }
 
 pub returns : goal.returns
 returns c =

@@ -6,7 +6,8 @@ use lib.ListN.{length}
 use lib.Seq.{length-take-le}
 use borrow.Author.Tests.{lt-ltb, le-ltb}
 use Rattle.term_parser.specs.Standing.{size}
-use Rattle.names.specs.Symbols.{Variable, symbols_of, variables_of}
+use Rattle.names.specs.Named.{symbols_named}
+use Rattle.names.specs.Symbols.{Variable, variables_of}
 use Rattle.names.specs.UsedLaws.{variables_used}
 use Rattle.rules.specs.StoredRows.{titled}
 use Rattle.rules.specs.PatternLaws.{arities_of}
@@ -21,7 +22,7 @@ returns-then-n-gt-PREMISES c =
     let args = c.args in
     let if1 = c.if-n-gt-PREMISES in
     record {
-      same = λ ps q st cn c₁ q' st'. rw (too_many (symbols_of (args.source.text.now) (args.source.symbols.now) (length args.source.symbols.now)) (titled (args.source.text.now) (args.title.word.start) (args.title.word.size) (args.title.clause)) ps c₁ (args.place.space.room) (rw cn (if1.true))) refl;
+      same = λ ps q st cn c₁ q' st'. rw (too_many (symbols_named args.source.premises) (titled (args.source.premises.text.now) (args.title.word.start) (args.title.word.size) (args.title.clause)) ps c₁ (args.place.space.room) (rw cn (if1.true))) refl;
     }
 
 pub returns-then-not-all_known : goal.returns-then-not-all_known
@@ -34,7 +35,7 @@ returns-then-not-all_known c =
     let if2 = c.if-not-all_known in
     record {
       same = λ ps q st cn c₁ q' st'. let few : size ps ≤ 16 = rw cn (if1.false) in
-          rw (not_known (symbols_of (args.source.text.now) (args.source.symbols.now) (length args.source.symbols.now)) (titled (args.source.text.now) (args.title.word.start) (args.title.word.size) (args.title.clause)) ps c₁ (args.place.space.room) few (bodied (symbols_of (args.source.text.now) (args.source.symbols.now) (length args.source.symbols.now)) (titled (args.source.text.now) (args.title.word.start) (args.title.word.size) (args.title.clause)) ps c₁ (args.place.space.room) few (args.words.now) (args.place.space.used) _ _ _ _ _ (c.in_ok-body.ensures.same ps q st cn c₁ q' st')) (sym (all_known_lem.ensures ∙ known_rows (args.source.text.now) judgments.new.variables c.in_ok-body.body.variables)
+          rw (not_known (symbols_named args.source.premises) (titled (args.source.premises.text.now) (args.title.word.start) (args.title.word.size) (args.title.clause)) ps c₁ (args.place.space.room) few (bodied (symbols_named args.source.premises) (titled (args.source.premises.text.now) (args.title.word.start) (args.title.word.size) (args.title.clause)) ps c₁ (args.place.space.room) few (args.words.now) (args.place.space.used) _ _ _ _ _ (c.in_ok-body.ensures.same ps q st cn c₁ q' st')) (sym (all_known_lem.ensures ∙ known_rows (args.source.premises.text.now) judgments.new.variables c.in_ok-body.body.variables)
           ∙ if2.true)) refl;
     }
 
@@ -50,7 +51,7 @@ returns-then-number-ge-RULES c =
     record {
       same = λ ps q st cn c₁ q' st'. let few : size ps ≤ 16 = rw cn (if1.false) in
           rw (
-            is_rule (symbols_of (args.source.text.now) (args.source.symbols.now) (length args.source.symbols.now)) (titled (args.source.text.now) (args.title.word.start) (args.title.word.size) (args.title.clause)) ps c₁ (args.place.space.room) few (bodied (symbols_of (args.source.text.now) (args.source.symbols.now) (length args.source.symbols.now)) (titled (args.source.text.now) (args.title.word.start) (args.title.word.size) (args.title.clause)) ps c₁ (args.place.space.room) few (args.words.now) (args.place.space.used) _ _ _ _ _ (c.in_ok-body.ensures.same ps q st cn c₁ q' st')) (sym (all_known_lem.ensures ∙ known_rows (args.source.text.now) judgments.new.variables c.in_ok-body.body.variables)
+            is_rule (symbols_named args.source.premises) (titled (args.source.premises.text.now) (args.title.word.start) (args.title.word.size) (args.title.clause)) ps c₁ (args.place.space.room) few (bodied (symbols_named args.source.premises) (titled (args.source.premises.text.now) (args.title.word.start) (args.title.word.size) (args.title.clause)) ps c₁ (args.place.space.room) few (args.words.now) (args.place.space.used) _ _ _ _ _ (c.in_ok-body.ensures.same ps q st cn c₁ q' st')) (sym (all_known_lem.ensures ∙ known_rows (args.source.premises.text.now) judgments.new.variables c.in_ok-body.body.variables)
                 ∙ if2.false),
             le-ltb (args.place.number) 1024 (if3.true),
           ) refl;
@@ -73,10 +74,10 @@ keep-requires c =
     let b = c.in_ok-body.ensures.bounded in
     let lh = length-take-le args.source.n judgments.new.heads (omega (arith, judgments.auto.heads, if1.false)) in
     let lv = length-take-le c.in_ok-body.body.variables judgments.new.variables (omega (arith, judgments.auto.variables, b.0)) in
-    let B = bodied (symbols_of (args.source.text.now) (args.source.symbols.now) (length args.source.symbols.now)) (titled (args.source.text.now) (args.title.word.start) (args.title.word.size) (args.title.clause)) ps c₁ (args.place.space.room) few (args.words.now) (args.place.space.used) _ _ _ _ _ (c.in_ok-body.ensures.same ps S.behind S.stand S.number c₁ S.end S.stands) in
-    let L = lies (symbols_of (args.source.text.now) (args.source.symbols.now) (length args.source.symbols.now)) (titled (args.source.text.now) (args.title.word.start) (args.title.word.size) (args.title.clause)) ps c₁ (args.place.space.room) few B (sym (all_known_lem.ensures ∙ known_rows (args.source.text.now) judgments.new.variables c.in_ok-body.body.variables)
-    ∙ if2.false) (few_inputs (args.source.text.now) (args.source.symbols.now) (length args.source.symbols.now) (pre.lent) (pre.inputs)) (pre.upto.0) (pre.upto.1) _ _ _ refl (pre.formed) (pre.words) (pre.low) in
-    record { rule = (arities_of (symbols_of (args.source.text.now) (args.source.symbols.now) (length args.source.symbols.now)), rule_made (symbols_of (args.source.text.now) (args.source.symbols.now) (length args.source.symbols.now)) (titled (args.source.text.now) (args.title.word.start) (args.title.word.size) (args.title.clause)) ps c₁ (args.place.space.room) few B, L.lying); rising = (b.1, b.2); small = omega arith; low = omega arith; few = omega (arith, if1.false); vars = omega (arith, b.0) }
+    let B = bodied (symbols_named args.source.premises) (titled (args.source.premises.text.now) (args.title.word.start) (args.title.word.size) (args.title.clause)) ps c₁ (args.place.space.room) few (args.words.now) (args.place.space.used) _ _ _ _ _ (c.in_ok-body.ensures.same ps S.behind S.stand S.number c₁ S.end S.stands) in
+    let L = lies (symbols_named args.source.premises) (titled (args.source.premises.text.now) (args.title.word.start) (args.title.word.size) (args.title.clause)) ps c₁ (args.place.space.room) few B (sym (all_known_lem.ensures ∙ known_rows (args.source.premises.text.now) judgments.new.variables c.in_ok-body.body.variables)
+    ∙ if2.false) (few_inputs (args.source.premises.text.now) (args.source.premises.symbols.now) (length args.source.premises.symbols.now) (pre.lent) (pre.inputs)) (pre.upto.0) (pre.upto.1) _ _ _ refl (pre.formed) (pre.words) (pre.low) in
+    record { rule = (arities_of (symbols_named args.source.premises), rule_made (symbols_named args.source.premises) (titled (args.source.premises.text.now) (args.title.word.start) (args.title.word.size) (args.title.clause)) ps c₁ (args.place.space.room) few B, L.lying); rising = (b.1, b.2); small = omega arith; low = omega arith; few = omega (arith, if1.false); vars = omega (arith, b.0) }
 
 pub returns-in_err-body : goal.returns-in_err-body
 unfolding variables_of
@@ -87,7 +88,7 @@ returns-in_err-body c =
     rw (handed_on c.from_residual.result c.from_residual.ensures.1)
     (record {
       same = λ ps q st cn c₁ q' st'. let few : size ps ≤ 16 = rw cn (if1.false) in
-          rw (judgment_refused (symbols_of (args.source.text.now) (args.source.symbols.now) (length args.source.symbols.now)) (titled (args.source.text.now) (args.title.word.start) (args.title.word.size) (args.title.clause)) ps c₁ (args.place.space.room) few (args.words.now) (args.place.space.used) (c.in_err-body.ensures.same ps q st cn c₁ q' st')) refl;
+          rw (judgment_refused (symbols_named args.source.premises) (titled (args.source.premises.text.now) (args.title.word.start) (args.title.word.size) (args.title.clause)) ps c₁ (args.place.space.room) few (args.words.now) (args.place.space.used) (c.in_err-body.ensures.same ps q st cn c₁ q' st')) refl;
     })
 
 pub returns : goal.returns
@@ -102,22 +103,22 @@ returns c =
     let if3 = c.if-number-ge-RULES in
     let keep = c.keep in
     let b = c.in_ok-body.ensures.bounded in
-    let sorts = ap (map (λ (v : Variable). v.sort)) (variables_used judgments.new.variables c.in_ok-body.body.variables (omega (arith, judgments.auto.variables, b.0)) args.source.text.now) in
+    let sorts = ap (map (λ (v : Variable). v.sort)) (variables_used judgments.new.variables c.in_ok-body.body.variables (omega (arith, judgments.auto.variables, b.0)) args.source.premises.text.now) in
     record {
       same = λ ps q st cn c₁ q' st'. let few : size ps ≤ 16 = rw cn (if1.false) in
-          let B = bodied (symbols_of (args.source.text.now) (args.source.symbols.now) (length args.source.symbols.now)) (titled (args.source.text.now) (args.title.word.start) (args.title.word.size) (args.title.clause)) ps c₁ (args.place.space.room) few (args.words.now) (args.place.space.used) _ _ _ _ _ (c.in_ok-body.ensures.same ps q st cn c₁ q' st') in
-          let k = (sym (all_known_lem.ensures ∙ known_rows (args.source.text.now) judgments.new.variables c.in_ok-body.body.variables) ∙ if2.false) in
-          let M = made (symbols_of (args.source.text.now) (args.source.symbols.now) (length args.source.symbols.now)) (titled (args.source.text.now) (args.title.word.start) (args.title.word.size) (args.title.clause)) ps c₁ (args.place.space.room) few B k (few_inputs (args.source.text.now) (args.source.symbols.now) (length args.source.symbols.now) (pre.lent) (pre.inputs)) (pre.upto.0) (pre.upto.1) in
-          let L = lies (symbols_of (args.source.text.now) (args.source.symbols.now) (length args.source.symbols.now)) (titled (args.source.text.now) (args.title.word.start) (args.title.word.size) (args.title.clause)) ps c₁ (args.place.space.room) few B k (few_inputs (args.source.text.now) (args.source.symbols.now) (length args.source.symbols.now) (pre.lent) (pre.inputs)) (pre.upto.0) (pre.upto.1) _ _ _ refl (pre.formed) (pre.words) (pre.low) in
-          let X = exactly (symbols_of (args.source.text.now) (args.source.symbols.now) (length args.source.symbols.now)) (titled (args.source.text.now) (args.title.word.start) (args.title.word.size) (args.title.clause)) ps c₁ (args.place.space.room) few B _ _ _ refl in
-          rw (is_rule (symbols_of (args.source.text.now) (args.source.symbols.now) (length args.source.symbols.now)) (titled (args.source.text.now) (args.title.word.start) (args.title.word.size) (args.title.clause)) ps c₁ (args.place.space.room) few B k, lt-ltb (args.place.number) 1024 (if3.false)) (record {
+          let B = bodied (symbols_named args.source.premises) (titled (args.source.premises.text.now) (args.title.word.start) (args.title.word.size) (args.title.clause)) ps c₁ (args.place.space.room) few (args.words.now) (args.place.space.used) _ _ _ _ _ (c.in_ok-body.ensures.same ps q st cn c₁ q' st') in
+          let k = (sym (all_known_lem.ensures ∙ known_rows (args.source.premises.text.now) judgments.new.variables c.in_ok-body.body.variables) ∙ if2.false) in
+          let M = made (symbols_named args.source.premises) (titled (args.source.premises.text.now) (args.title.word.start) (args.title.word.size) (args.title.clause)) ps c₁ (args.place.space.room) few B k (few_inputs (args.source.premises.text.now) (args.source.premises.symbols.now) (length args.source.premises.symbols.now) (pre.lent) (pre.inputs)) (pre.upto.0) (pre.upto.1) in
+          let L = lies (symbols_named args.source.premises) (titled (args.source.premises.text.now) (args.title.word.start) (args.title.word.size) (args.title.clause)) ps c₁ (args.place.space.room) few B k (few_inputs (args.source.premises.text.now) (args.source.premises.symbols.now) (length args.source.premises.symbols.now) (pre.lent) (pre.inputs)) (pre.upto.0) (pre.upto.1) _ _ _ refl (pre.formed) (pre.words) (pre.low) in
+          let X = exactly (symbols_named args.source.premises) (titled (args.source.premises.text.now) (args.title.word.start) (args.title.word.size) (args.title.clause)) ps c₁ (args.place.space.room) few B _ _ _ refl in
+          rw (is_rule (symbols_named args.source.premises) (titled (args.source.premises.text.now) (args.title.word.start) (args.title.word.size) (args.title.clause)) ps c₁ (args.place.space.room) few B k, lt-ltb (args.place.number) 1024 (if3.false)) (record {
             used = _;
             is = refl;
             row = keep.new.row;
             written = refl;
             placed = keep.ensures.placed;
-            kept = keep.ensures.kept (args.source.text.now) (arities_of (symbols_of (args.source.text.now) (args.source.symbols.now) (length args.source.symbols.now))) (rule_made (symbols_of (args.source.text.now) (args.source.symbols.now) (length args.source.symbols.now)) (titled (args.source.text.now) (args.title.word.start) (args.title.word.size) (args.title.clause)) ps c₁ (args.place.space.room) few B) L.lying refl sorts M.order;
-            exact = keep.ensures.exact (args.source.text.now) (arities_of (symbols_of (args.source.text.now) (args.source.symbols.now) (length args.source.symbols.now))) (rule_made (symbols_of (args.source.text.now) (args.source.symbols.now) (length args.source.symbols.now)) (titled (args.source.text.now) (args.title.word.start) (args.title.word.size) (args.title.clause)) ps c₁ (args.place.space.room) few B) L.lying sorts M.order X.premises X.conclusion;
+            kept = keep.ensures.kept (args.source.premises.text.now) (arities_of (symbols_named args.source.premises)) (rule_made (symbols_named args.source.premises) (titled (args.source.premises.text.now) (args.title.word.start) (args.title.word.size) (args.title.clause)) ps c₁ (args.place.space.room) few B) L.lying refl sorts M.order;
+            exact = keep.ensures.exact (args.source.premises.text.now) (arities_of (symbols_named args.source.premises)) (rule_made (symbols_named args.source.premises) (titled (args.source.premises.text.now) (args.title.word.start) (args.title.word.size) (args.title.clause)) ps c₁ (args.place.space.room) few B) L.lying sorts M.order X.premises X.conclusion;
             laid = X.written;
             same = L.low;
             fits = b.3;

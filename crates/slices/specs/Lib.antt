@@ -1,0 +1,2 @@
+-- What the contracts of `slices` and of the crates above it cite.
+pub mod Rows
