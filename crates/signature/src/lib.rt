@@ -182,9 +182,9 @@ fn are_rules_listed(
     text: &[u8],
     arities: &[u32],
     signature: StoredSignature,
-    stack: &mut [[u32; 2]],
+    stack: &mut [[u32; 2]; RULE_WORDS],
 ) -> bool
-    requires { (signature.counts.words ≤ length signature.words.now) × (signature.counts.words ≤ 65536) × (signature.counts.rules ≤ length signature.rules.now) × (2048 ≤ length stack.old) }
+    requires { (signature.counts.words ≤ length signature.words.now) × (signature.counts.words ≤ 65536) × (signature.counts.rules ≤ length signature.rules.now) }
     ensures { Tells result (RulesListed text.now arities.now signature.entry.words.now signature.entry.counts.sorts signature.entry.rules.now signature.entry.counts.rules signature.entry.counts.words) }
 {
     let counts = signature.counts;
