@@ -41,7 +41,7 @@ pub fn skip(rows: &[TermRow], at: usize, n: usize) -> usize
             return p;
         }
         left -= 1;
-        left += flattening::arity(rows[p][0], rows[p][3]);
+        left += flattening::arity(&rows[p]);
     }
     rows.len().max(at)
 }

@@ -55,10 +55,11 @@ fn is_call(source: SourceTerms, row: &TermRow) -> bool
 }
 
 // How many arguments follow a row.
-pub fn arity(kind: u32, n: u32) -> usize
-    ensures value { result ≡ arity_of kind n }
+pub fn arity(row: &TermRow) -> usize
+    ensures value { result ≡ arity_of (column row.now 0) (column row.now 3) }
     ensures upper_bound { result < 4294967296 }
 {
+    let [kind, _, _, n] = *row;
     if kind == term_parser::APPLICATION {
         return n as usize;
     }
@@ -129,7 +130,7 @@ pub fn flatten(
     let top = from.top;
     // No term stands past the last row, so that any answer serves there.
     let row = *rows.get(at)?;
-    let n = arity(row[0], row[3]);
+    let n = arity(&row);
     out[top] = row;
     let mut place = Place {
         next: at + 1,
