@@ -9,7 +9,7 @@ ghost use Rattle.names.specs.Names.{result_length};
 ghost use Rattle.names.specs.Named.{symbols_named};
 ghost use Rattle.names.specs.Symbols.{column, row_at};
 ghost use Rattle.flattening.specs.Flattening.{is_function};
-ghost use Rattle.flattening.specs.Promises.{call_limit, arity_of, is_call, Copied, Finishes, Room, Flattens};
+ghost use Rattle.flattening.specs.Promises.{call_limit, arity_of, is_call, Finishes, Room, Flattens};
 
 use names::columns::MARK;
 use names::{FUNCTION, PREMISES, SourceTerms, TermRow, Word};
@@ -21,14 +21,6 @@ pub struct Place {
     pub top: usize,
     pub end: usize,
     pub number: usize,
-}
-
-// Copies n rows.
-pub fn move_rows(source: &[TermRow], from: usize, n: usize, to: &mut [TermRow], at: usize)
-    requires { (from + n ≤ length source.now) × (at + n ≤ length to.old) }
-    ensures { Copied source.now to.old to.new from n at }
-{
-    to[at..at + n].copy_from_slice(&source[from..from + n]);
 }
 
 // Is the word at a place of the text the name of a function?
@@ -100,8 +92,8 @@ fn finish(
         word.size,
         args as u32 + 1,
     ];
-    move_rows(out, top + 1, last - top - 1, calls, end + 1);
     let stop = end + (last - top);
+    calls[end + 1..stop].copy_from_slice(&out[top + 1..last]);
     let place = 16 * (number as u32);
     let n = result_length(number);
     calls[stop] = [names::RESULT, place, n, 0];
