@@ -57,6 +57,14 @@ impl<'a> StoredSignature<'a> {
     {
         &self.symbols[..self.counts.symbols as usize]
     }
+
+    // The rows of the rules in use.
+    pub fn rules_in_use(self) -> &'a [RuleRow]
+        requires { self.counts.rules ≤ length self.rules.now }
+        ensures { result.now ≡ take self.entry.counts.rules self.entry.rules.now }
+    {
+        &self.rules[..self.counts.rules as usize]
+    }
 }
 
 // Are as many rows lent as there may be?
@@ -189,7 +197,7 @@ fn are_rules_listed(
 {
     let counts = signature.counts;
     let mut at = 0;
-    for rule in &signature.rules[..counts.rules as usize] {
+    for rule in signature.rules_in_use() {
         let Some(next) = rule_checks::check_rule(
             text,
             arities,
@@ -231,7 +239,7 @@ pub fn check_signature(text: &[u8], signature: StoredSignature) -> bool
     }
     let sorts = &signature.sorts[..counts.sorts as usize];
     let symbols = signature.symbols_in_use();
-    let rules = &signature.rules[..counts.rules as usize];
+    let rules = signature.rules_in_use();
     if !are_sorts_named(text, sorts) {
         return false;
     }
