@@ -122,29 +122,31 @@ fn are_names_distinct(text: &[u8], sorts: &[SortRow], symbols: &[SymbolRow]) -> 
 }
 
 // Are a symbol's output, number of inputs and free column in form?
-fn are_numbers_formed(sorts: u32, output: u32, inputs: u32, free: u32) -> bool
-    ensures { Tells result (NumbersFormed sorts output inputs free) }
+fn are_numbers_formed(sorts: u32, row: &SymbolRow) -> bool
+    ensures { Tells result (NumbersFormed sorts (column row.now 2) (column row.now 6) (column row.now 7)) }
 {
-    output <= sorts && inputs <= INPUTS && free == 0
+    row[OUTPUT] <= sorts && row[ARITY] <= INPUTS && row[FREE] == 0
 }
 
 // A function has no output, and its last input is its result; only a function has clauses.
 // Stays: C callers lend the mark as a number that may be neither; an enum would be made by the same `match`, only to be matched again here.
-fn is_mark_formed(output: u32, mark: u32, clauses: u32, inputs: u32) -> bool
-    ensures { Tells result (MarkFormed output mark clauses inputs) }
+fn is_mark_formed(row: &SymbolRow) -> bool
+    ensures { Tells result (MarkFormed (column row.now 2) (column row.now 3) (column row.now 5) (column row.now 6)) }
 {
-    match mark {
-        NO_FUNCTION => clauses == 0,
-        FUNCTION => output == 0 && 0 < inputs,
+    match row[MARK] {
+        NO_FUNCTION => row[CLAUSES] == 0,
+        FUNCTION => row[OUTPUT] == 0 && 0 < row[ARITY],
         _ => false,
     }
 }
 
 // Are the clauses rules that there are, and is the first number zero without clauses?
-fn are_clauses_formed(first: u32, clauses: u32, rules: u32) -> bool
-    ensures { Tells result (ClausesFormed first clauses rules) }
+fn are_clauses_formed(row: &SymbolRow, rules: u32) -> bool
+    ensures { Tells result (ClausesFormed (column row.now 4) (column row.now 5) rules) }
 {
-    first as usize + clauses as usize <= rules as usize && (clauses != 0 || first == 0)
+    let first = row[FIRST_CLAUSE] as usize;
+    let clauses = row[CLAUSES] as usize;
+    first + clauses <= rules as usize && (clauses != 0 || first == 0)
 }
 
 // Is each input of a symbol's row a sort, and each column past them zero?
@@ -164,13 +166,13 @@ fn is_symbol_formed(text: &[u8], row: &SymbolRow, counts: Counts) -> bool
     if !names::is_word_place(text, Word::at_start(row)) {
         return false;
     }
-    if !are_numbers_formed(counts.sorts, row[OUTPUT], row[ARITY], row[FREE]) {
+    if !are_numbers_formed(counts.sorts, row) {
         return false;
     }
-    if !is_mark_formed(row[OUTPUT], row[MARK], row[CLAUSES], row[ARITY]) {
+    if !is_mark_formed(row) {
         return false;
     }
-    if !are_clauses_formed(row[FIRST_CLAUSE], row[CLAUSES], counts.rules) {
+    if !are_clauses_formed(row, counts.rules) {
         return false;
     }
     are_inputs_formed(counts.sorts, row)
