@@ -5,12 +5,12 @@
 
 ghost use Rattle.std.specs.Prelude.{◌≡◌, ℕ, ◌+◌, ◌≤◌, ◌<◌, length, take};
 ghost use Rattle.names.specs.Names.{Distinct};
-ghost use Rattle.names.specs.Symbols.{column, row_at, sorts_of, symbols_of};
+ghost use Rattle.names.specs.Symbols.{column, columns, row_at, sorts_of, symbols_of};
 ghost use Rattle.unifier.specs.Promises.{Tells};
 ghost use Rattle.rules.specs.PatternLaws.{arities_of};
 ghost use Rattle.loader.specs.Legal.{names_of};
 ghost use Rattle.signature.specs.Form.{SymbolFormed};
-ghost use Rattle.signature.specs.Parts.{Lent, Counted, SortsNamed, place_in, NumbersFormed, MarkFormed, ClausesFormed, InputsFormed, SymbolsFormed, RulesListed};
+ghost use Rattle.signature.specs.Parts.{Lent, Counted, SortsNamed, NumbersFormed, MarkFormed, ClausesFormed, InputsFormed, SymbolsFormed, RulesListed};
 ghost use Rattle.signature.specs.Storage.{store_of, SignatureChecked};
 
 pub mod columns;
@@ -96,14 +96,19 @@ fn are_sorts_named(text: &[u8], sorts: &[SortRow]) -> bool
         .all(|row| names::is_word_place(text, Word::at_start(row)))
 }
 
-// Writes the places of names: where they start and how long they are, which stand in rows from a column on.
-// Stays: tried `places.iter_mut().zip(rows)`: the loop's invariant can't name the places then, and so nothing is known of what was written.
-pub fn put_places<const N: usize>(rows: &[[u32; N]], at: usize, places: &mut [SortRow])
-    requires { (at + 1 < N) × (length rows.now ≤ length places.old) }
-    ensures { (i : ℕ) → i < length rows.now → row_at places.new i ≡ place_in (row_at rows.now i) at }
+// Writes M columns of rows, from a column on.
+// Stays: tried `parts.iter_mut().zip(rows)`: the loop's invariant can't name the parts then, and so nothing is known of what was written.
+pub fn put_parts<const N: usize, const M: usize>(
+    rows: &[[u32; N]],
+    at: usize,
+    parts: &mut [[u32; M]],
+)
+    requires { (at + M ≤ N) × (length rows.now ≤ length parts.old) }
+    ensures { (i : ℕ) → i < length rows.now → row_at parts.new i ≡ columns (row_at rows.now i) at M }
 {
     for (i, row) in rows.iter().enumerate() {
-        places[i] = [row[at], row[at + 1]];
+        let columns = &row[..];
+        parts[i].copy_from_slice(&columns[at..at + M]);
     }
 }
 
@@ -117,7 +122,7 @@ fn are_names_distinct(text: &[u8], sorts: &[SortRow], symbols: &[SymbolRow]) -> 
     let n = sorts.len();
     let m = symbols.len();
     places[..n].copy_from_slice(sorts);
-    put_places(symbols, START, &mut places[n..n + m]);
+    put_parts(symbols, START, &mut places[n..n + m]);
     distinct::are_distinct(text, &mut places[..n + m])
 }
 
