@@ -15,6 +15,7 @@ use names::columns::MARK;
 use names::{FUNCTION, PREMISES, SourceTerms, TermRow, Word};
 
 // How far flattening is: the next row of the source, where the next row of the term and of the premises goes, and how many calls were made.
+// Stays: `out` and `calls` go beside it: of a struct that lends both, each contract from here to `declarations` would say that both come back.
 #[derive(Clone, Copy)]
 pub struct Place {
     pub next: usize,
@@ -24,6 +25,7 @@ pub struct Place {
 }
 
 // Is the word at a place of the text the name of a function?
+// Stays: `forward_calls` tests so too, and reads the symbol's row besides; one function for both would tell `flatten` the number, which it never reads.
 fn is_function(source: SourceTerms, word: Word) -> bool
     ensures { result ≡ is_function (symbols_named source.entry) (part_of source.entry.text.now word.start word.size) }
 {

@@ -97,6 +97,7 @@ fn copy_goal(pattern: &[u32], goal: Goal, places: &[u32], words: &mut [u32], use
 }
 
 // Stores a compiled goal in a session: writes the rows of its new names, and its words with its variables put in; answers its reference.
+// Stays: the goal's counts go on as they are, into the session's; of parts, the caller would cut two buffers, and their lengths be made 32 bits again.
 pub fn store(
     variables: &[VariableRow],
     pattern: &[u32],

@@ -14,6 +14,7 @@ use rules::{PREMISES, RULES, RuleRow};
 pub type EvalRow = [u32; 2];
 
 // All that a caller of `load` lends: scratch and rows for reading a text, storage for a signature, and rows for the `#eval` that wait.
+// Stays: each function promises that the same buffers are lent afterwards (`IsLent`); an invariant tells of one value, and not of the one before.
 #[derive(Drop)]
 pub struct LentBuffers<'a> {
     pub tokens: &'a mut [TermRow],
@@ -106,6 +107,7 @@ pub fn leave(buffers: &mut LentBuffers, used: Used, waiting: usize)
 }
 
 // Zeroes everything.
+// Stays: `load` owes `Wiped`; of `fill(0)` in its place it would get what each buffer holds, and its proof would put them together.
 pub fn leave_nothing(buffers: &mut LentBuffers)
     ensures wiped { Wiped (buffers_of buffers.old) (buffers_of buffers.new) }
     ensures lent { IsLent buffers.old buffers.new }

@@ -40,6 +40,7 @@ pub struct Counts {
 }
 
 // A signature in storage: the rows of its sorts, symbols and rules, the words of the rules, and how much of each is in use.
+// Stays: C lends whole tables and counts of any size, so parts in use can be lent only behind `check_signature`, which tests that the counts fit.
 #[derive(Clone, Copy)]
 pub struct StoredSignature<'a> {
     pub sorts: &'a [SortRow],
