@@ -289,14 +289,17 @@ pub fn horn_evaluate(
         words: limit,
         ..words::NO_LIMITS
     };
-    let signature = stored_signature(sorts, symbols, rules, pattern, counts);
-    let term = Source { text, rows, at };
+    let query = evaluator::Query {
+        signature: stored_signature(sorts, symbols, rules, pattern, counts),
+        term: Source { text, rows, at },
+        limits,
+    };
     let mut buffers = Buffers {
         words,
         links,
         trees,
     };
-    match evaluator::evaluate(signature, term, limits, &mut buffers) {
+    match evaluator::evaluate(query, &mut buffers) {
         Err(refusal) => {
             clear_numbers(results, refusal);
             packed_refusal(refusal)

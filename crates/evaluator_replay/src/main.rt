@@ -6,9 +6,8 @@
 ghost use Rattle.std.specs.Prelude.{◌+◌, ◌^◌, ◌≤◌, ◌<◌};
 
 use evaluation_listing_kit::StoredTerms;
-use evaluation_tests_kit::lent::{self, EvaluationQuery};
-use evaluation_tests_kit::refused;
-use evaluator::{Buffers, Evaluation};
+use evaluation_tests_kit::{lent, refused};
+use evaluator::{Buffers, Evaluation, Query};
 use function_calls::MAX_CALLS;
 use listing::recorded::{self, Recorded};
 use listing::{write, write_number};
@@ -79,8 +78,8 @@ fn write_eval(line: u32) {
 }
 
 // The evaluation of the term whose rows start at a place.
-fn query_at(loaded: LoadedText, at: u32) -> EvaluationQuery {
-    EvaluationQuery {
+fn query_at(loaded: LoadedText, at: u32) -> Query {
+    Query {
         signature: loaded.signature,
         term: Source {
             text: loaded.text,
@@ -92,7 +91,7 @@ fn query_at(loaded: LoadedText, at: u32) -> EvaluationQuery {
 }
 
 // Is a term evaluated? A goal is listed as such.
-fn is_evaluated(query: EvaluationQuery) -> bool {
+fn is_evaluated(query: Query) -> bool {
     match evaluator::is_forward_call(query.signature, query.term) {
         Ok(true) => true,
         Ok(false) => {
