@@ -304,11 +304,9 @@ pub fn horn_evaluate(
             clear_numbers(results, refusal);
             packed_refusal(refusal)
         }
-        Ok(evaluation) => {
-            put_numbers(
-                results,
-                &[evaluation.value, evaluation.calls, evaluation.words],
-            );
+        Ok(outcome) => {
+            let spent = outcome.spent;
+            put_numbers(results, &[outcome.value, spent.calls, spent.used]);
             0
         }
     }

@@ -1,12 +1,13 @@
 // The buffers that are lent to an evaluation: what they hold before it, and the tests of what they hold afterwards.
 ghost use Rattle.evaluator.specs.Storage.{AreLent};
 
-use evaluator::{Buffers, Evaluation, Query};
+use evaluator::{Buffers, Query};
+use function_calls::Outcome;
 use refusals::Refusal;
 use signature_tests::buffers;
 
 // Evaluates a term into buffers that hold junk.
-pub fn evaluate(query: Query, storage: &mut Buffers) -> Result<Evaluation, Refusal>
+pub fn evaluate(query: Query, storage: &mut Buffers) -> Result<Outcome, Refusal>
     ensures { AreLent storage.old storage.new }
 {
     storage.fill(buffers::JUNK);

@@ -20,14 +20,6 @@ use words::Limits;
 // The scratch behind the words, and the rows of the stack: as many as a rule's terms may take words, and one more.
 pub const SCRATCH: usize = rules::RULE_WORDS + 1;
 
-// An evaluation: the reference of the value, the number of calls and that of words.
-#[derive(Clone, Copy)]
-pub struct Evaluation {
-    pub value: u32,
-    pub calls: u32,
-    pub words: u32,
-}
-
 // What is evaluated: a term, over a signature, under limits.
 #[derive(Clone, Copy)]
 pub struct Query<'a> {
@@ -80,7 +72,7 @@ impl Buffers<'_> {
 }
 
 // The value of a term, and the trees of its calls, where all that is read is in form and the buffers are long enough.
-pub fn evaluate_listed(query: Query, buffers: &mut Buffers) -> Result<Evaluation, Refusal>
+pub fn evaluate_listed(query: Query, buffers: &mut Buffers) -> Result<Outcome, Refusal>
     requires { Ready query.term.text.now query.limits (store_of query.signature) query.term.rows.now query.term.at (results_in buffers.old) }
     ensures left { EvaluationLeft query.entry.term.text.now query.entry.limits (store_of query.entry.signature)
         query.entry.term.rows.now query.entry.term.at (results_in buffers.old) result (results_in buffers.new) }
@@ -109,14 +101,10 @@ pub fn evaluate_listed(query: Query, buffers: &mut Buffers) -> Result<Evaluation
             Err(refusal)
         }
         Ok(expressed) => {
-            let Outcome { value, spent } = expressed.outcome;
+            let spent = expressed.outcome.spent;
             slices::clear_from(buffers.words, spent.used as usize, 0);
             slices::clear_from(buffers.trees, spent.calls as usize, [0; 8]);
-            Ok(Evaluation {
-                value,
-                calls: spent.calls,
-                words: spent.used,
-            })
+            Ok(expressed.outcome)
         }
     }
 }
@@ -133,7 +121,7 @@ fn check(signature: StoredSignature, term: Source) -> Result<(), Refusal>
 }
 
 // The value of a term, and the trees of its calls.
-pub fn evaluate(query: Query, buffers: &mut Buffers) -> Result<Evaluation, Refusal>
+pub fn evaluate(query: Query, buffers: &mut Buffers) -> Result<Outcome, Refusal>
     ensures evaluating { Evaluating query.entry.term.text.now query.entry.limits (store_of query.entry.signature)
         query.entry.term.rows.now query.entry.term.at (results_in buffers.old) result (results_in buffers.new) }
     ensures lent { AreLent buffers.old buffers.new }
