@@ -289,23 +289,24 @@ pub fn horn_evaluate(
         words: limit,
         ..words::Limits::default()
     };
-    let signature = stored_signature(sorts, symbols, rules, pattern, counts);
-    let term = Source { text, rows, at };
+    let query = evaluator::Query {
+        signature: stored_signature(sorts, symbols, rules, pattern, counts),
+        term: Source { text, rows, at },
+        limits,
+    };
     let mut buffers = Buffers {
         words,
         links,
         trees,
     };
-    match evaluator::evaluate(signature, term, limits, &mut buffers) {
+    match evaluator::evaluate(query, &mut buffers) {
         Err(refusal) => {
             clear_numbers(results, refusal);
             packed_refusal(refusal)
         }
-        Ok(evaluation) => {
-            put_numbers(
-                results,
-                &[evaluation.value, evaluation.calls, evaluation.words],
-            );
+        Ok(outcome) => {
+            let spent = outcome.spent;
+            put_numbers(results, &[outcome.value, spent.calls, spent.used]);
             0
         }
     }
