@@ -7,7 +7,7 @@ use Rattle.signature.specs.Storage.{SignatureStore}
 use Rattle.signature.specs.declared.Counts.{Counts}
 use Rattle.evaluator.specs.Storage.{Results}
 use Rattle.evaluator.specs.Evaluating.{Evaluating, Forwarding}
-use Rattle.evaluator.specs.declared.Evaluation.{Evaluation}
+use Rattle.function_calls.specs.declared.calls.Outcome.{Outcome}
 use Rattle.refusals.specs.Refusals.{number_of}
 use Rattle.refusals.specs.declared.Refusal.{Refusal}
 
@@ -31,19 +31,19 @@ store_with sorts symbols rules words counts =
     }
 
 -- 0 for a value, or 2^32 times the refusal's number.
-abbrev pub packed_evaluation : Result Evaluation Refusal → ℕ
+abbrev pub packed_evaluation : Result Outcome Refusal → ℕ
 packed_evaluation (Ok e) = 0
 packed_evaluation (Err r) = number_of r * 2 ^ 32
 
 -- The value's reference, the number of calls and that of words, and zero behind them; zero throughout for a refusal; 1 writes nothing.
-abbrev pub results_after : Result Evaluation Refusal → List ℕ → List ℕ
-results_after (Ok e) results = sets (replicate (length results) 0) 0 (e.value ∷ e.calls ∷ e.words ∷ [])
+abbrev pub results_after : Result Outcome Refusal → List ℕ → List ℕ
+results_after (Ok e) results = sets (replicate (length results) 0) 0 (e.value ∷ e.spent.calls ∷ e.spent.used ∷ [])
 results_after (Err r) results = cond (eqb (number_of r) 1) results (replicate (length results) 0)
 
 -- `evaluate` told in numbers.
 pub record EvaluateTold (text : List ℕ) (limits : Limits) (sg : SignatureStore) (rows : Rows) (at : ℕ) (b : Results) (results : List ℕ) (answer : ℕ) (b' : Results)
     (results' : List ℕ) : Type 0 where
-  pub given : Result Evaluation Refusal
+  pub given : Result Outcome Refusal
   pub is : answer ≡ packed_evaluation given
   pub evaluating : Evaluating text limits sg rows at b given b'
   pub written : results' ≡ results_after given results

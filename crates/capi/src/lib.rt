@@ -53,7 +53,7 @@ pub fn limits_of(steps: u32, variables: u32, words: u32) -> words::Limits
         steps,
         variables,
         words,
-        ..words::NO_LIMITS
+        ..words::Limits::default()
     }
 }
 
@@ -150,7 +150,7 @@ pub fn horn_lex(text: &[u8], limit: u32, tokens: &mut [[u32; 4]]) -> u64
 {
     let limits = words::Limits {
         text: limit,
-        ..words::NO_LIMITS
+        ..words::Limits::default()
     };
     match words::lex(text, limits, tokens) {
         Ok(n) => n as u64,
@@ -165,7 +165,7 @@ pub fn horn_parse(text: &[u8], limit: u32, tokens: &mut [[u32; 4]], rows: &mut [
 {
     let limits = words::Limits {
         text: limit,
-        ..words::NO_LIMITS
+        ..words::Limits::default()
     };
     match parser::parse_text(text, limits, tokens, rows) {
         Ok(parsed) => parsed.declarations as u64,
@@ -198,7 +198,7 @@ pub fn horn_load(
     let limits = words::Limits {
         text: bytes,
         nodes,
-        ..words::NO_LIMITS
+        ..words::Limits::default()
     };
     let mut buffers = load::LentBuffers {
         tokens,
@@ -287,25 +287,26 @@ pub fn horn_evaluate(
     }
     let limits = words::Limits {
         words: limit,
-        ..words::NO_LIMITS
+        ..words::Limits::default()
     };
-    let signature = stored_signature(sorts, symbols, rules, pattern, counts);
-    let term = Source { text, rows, at };
+    let query = evaluator::Query {
+        signature: stored_signature(sorts, symbols, rules, pattern, counts),
+        term: Source { text, rows, at },
+        limits,
+    };
     let mut buffers = Buffers {
         words,
         links,
         trees,
     };
-    match evaluator::evaluate(signature, term, limits, &mut buffers) {
+    match evaluator::evaluate(query, &mut buffers) {
         Err(refusal) => {
             clear_numbers(results, refusal);
             packed_refusal(refusal)
         }
-        Ok(evaluation) => {
-            put_numbers(
-                results,
-                &[evaluation.value, evaluation.calls, evaluation.words],
-            );
+        Ok(outcome) => {
+            let spent = outcome.spent;
+            put_numbers(results, &[outcome.value, spent.calls, spent.used]);
             0
         }
     }

@@ -16,6 +16,7 @@ pub struct Built {
 
 // Where values are built: behind the words in use, up to a limit.
 // Stays: words and stack go beside it; as the caller's store lends them apart, a struct of the three would be put together at each call.
+// Stays: that `used` is at most `limit`, and this at most `headers`, is asked beside it: four definitions ask it, and six places would show it.
 #[derive(Clone, Copy)]
 pub struct Room {
     pub used: u32,
@@ -136,6 +137,7 @@ pub fn instantiate_arguments(
 {
     let base = first as usize;
     let mut spent = room.used;
+    // Stays: as at `names::put_column`, nothing would be known of what is written behind a `zip`.
     for (k, reference) in pattern[base..base + values.len()].iter().enumerate() {
         let left = Room {
             used: spent,

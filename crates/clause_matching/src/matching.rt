@@ -14,6 +14,7 @@ use arena::Terms;
 // Values: words of stored terms, of which so many are in use.
 // Stays: the value in question and the environment go beside them; values are only read, and these change at each step.
 // Stays: tried as `&words[..used]`: what a store's field is after a part of it was lent is not told (goal `call-follow-requires`, its `store-1.given`).
+// Stays: that the words are values is asked beside it (`Lent`, `ClauseAsked`), as the laws speak of lists and would each take it as a hypothesis more.
 #[derive(Clone, Copy)]
 pub struct Values<'a> {
     pub words: &'a [u32],
@@ -102,6 +103,7 @@ fn bind_node(
 // Whether the value fits the pattern; its variables take their values.
 // Stays: the environment is the caller's local, links and stack its store's; each function on a struct of the three would promise that the same come back.
 // Stays: the pattern's words are the program's, the reference a number read in them; a struct of both would be put together again for each part.
+// Stays: callers may lend a longer environment, and an array in its place would ask for exactly 64 numbers.
 pub fn bind(
     pattern: &[u32],
     reference: u32,

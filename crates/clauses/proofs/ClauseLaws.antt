@@ -3,7 +3,8 @@ use mathlib.Core.Path.{◌≡◌, refl, sym, ap, ◌∙◌, subst}
 use mathlib.Core.List.{List, [], ◌∷◌}
 use Prim.Native.Nat.{ℕ, suc, ◌+◌, ◌-◌, ◌≤◌, ◌<◌}
 use native.Mathlib.Omega.{arith}
-use lib.ListN.{length, set, length-set}
+use lib.ListN.{length, take, drop, set, length-set}
+use borrow.Rule.Slice.PartMut.{put_mid}
 use lib.Seq.{get_or-set_same}
 use borrow.Author.Tests.{ne_eqb}
 use Rattle.source_text.specs.Parts.{part_of}
@@ -15,8 +16,8 @@ use Rattle.names.specs.Names.{Name, clause_name}
 use Rattle.names.specs.Symbols.{Rows, Symbol, row_at}
 use Rattle.names.specs.Standing.{Stands, parsed_stands}
 use Rattle.flattening.specs.Flattening.{Flat, flat, snoc, flatten_of}
-use Rattle.flattening.specs.Promises.{Copied, FlatRows, TooMany, premise_count, call_limit}
-use Rattle.flattening.proofs.RowLaws.{moved, stands_snoc, size_snoc, stands_applied}
+use Rattle.flattening.specs.Promises.{FlatRows, TooMany, premise_count, call_limit}
+use Rattle.flattening.proofs.RowLaws.{copied, moved, stands_snoc, size_snoc, stands_applied}
 use Rattle.rules.specs.Rules.{barred, rule_of, entering}
 use Rattle.rules.specs.StoredRows.{titled}
 use Rattle.rules.proofs.RuleLaws.{too_many}
@@ -43,22 +44,31 @@ module _ {rows : Rows} {p n : ℕ} {out : Rows} (asked : HeadingAsked rows p n o
       let a = it in
       (omega arith, omega arith)
 
-  -- What is written is the heading.
-  pub headed : (start size₁ r : ℕ) (out' : Rows) → Skipped rows p n r → Copied rows (set out 0 (application_kind ∷ start ∷ size₁ ∷ (n + 1) ∷ [])) out' p (r - p) 1 → Headed rows p n start size₁ out r out'
-  headed start size₁ r out' s c =
-      let w = skipped_within r s in
-      let l = asked.later in
-      let h = asked.here in
-      let t = asked.lent in
-      let k : length out' ≡ length out = c.kept ∙ length-set out 0 (application_kind ∷ start ∷ size₁ ∷ (n + 1) ∷ []) in
-      record {
-        onward = w.0;
-        within = w.1;
-        kept = k;
-        heads = c.below 0 (omega arith) ∙ get_or-set_same out 0 (application_kind ∷ start ∷ size₁ ∷ (n + 1) ∷ []) [] (omega arith);
-        behind = λ text ts q st sz. let e : r ≡ q = s.behind text ts q st sz in
-            (e, moved text rows out' ts p 1 q (1 + (q - p)) (parsed_stands text rows p ts q st) (λ i m. c.here i (omega arith)) refl (omega arith));
-      }
+  -- What is written is the heading: the function's row, and the rows of the patterns behind it.
+  module _ (start size₁ r k : ℕ) (part : Rows) where
+    abbrev first : List ℕ
+    first = application_kind ∷ start ∷ size₁ ∷ (n + 1) ∷ []
+
+    abbrev written : Rows
+    written = put_mid 1 k (set out 0 first) part
+
+    pub headed : Skipped rows p n r → k ≡ r - p → part ≡ take (r - p) (drop p rows) → Headed rows p n start size₁ out r written
+    headed s e is =
+        let w = skipped_within r s in
+        let l = asked.later in
+        let h = asked.here in
+        let t = asked.lent in
+        let f = length-set out 0 first in
+        let c = copied rows (set out 0 first) part p (r - p) 1 k e (omega arith) (omega arith) is in
+        let d = c.kept in
+        record {
+          onward = w.0;
+          within = w.1;
+          kept = c.kept ∙ f;
+          heads = c.below 0 (omega arith) ∙ get_or-set_same out 0 first [] (omega arith);
+          behind = λ text ts q st sz. let e : r ≡ q = s.behind text ts q st sz in
+              (e, moved text rows written ts p 1 q (1 + (q - p)) (parsed_stands text rows p ts q st) (λ i m. c.here i (omega arith)) refl (omega arith));
+        }
 
 -- The conclusion: the function applied to the patterns and to what is left of the right side.
 pub concluding : (text : List ℕ) (rows : Rows) (p n start size₁ : ℕ) (out out₁ out₂ : Rows) (r : ℕ) → Headed rows p n start size₁ out r out₁ → 0 < length out

@@ -41,7 +41,7 @@ pub fn skip(rows: &[TermRow], at: usize, n: usize) -> usize
             return p;
         }
         left -= 1;
-        left += flattening::arity(rows[p][0], rows[p][3]);
+        left += flattening::arity(&rows[p]);
     }
     rows.len().max(at)
 }
@@ -53,7 +53,7 @@ fn heading(rows: &[TermRow], at: usize, n: usize, word: Word, out: &mut [TermRow
 {
     let end = skip(rows, at, n);
     out[0] = [APPLICATION, word.start, word.size, n as u32 + 1];
-    flattening::move_rows(rows, at, end - at, out, 1);
+    out[1..1 + (end - at)].copy_from_slice(&rows[at..end]);
     end
 }
 

@@ -70,6 +70,7 @@ pub struct Progress {
 
 // What rules are written to: their rows and words, and scratch in which clauses are flattened.
 // Stays: sorts and symbols go apart, since functions that only read them would have to promise that they stand; the counts, since they are answered.
+// Stays: each function promises that the same buffers are lent afterwards (`IsLent`); an invariant tells of one value, and not of the one before.
 #[derive(Drop)]
 pub struct Store<'a> {
     pub rules: &'a mut [RuleRow],
@@ -79,6 +80,7 @@ pub struct Store<'a> {
 }
 
 // `sort`: the name stands in the row behind the declaration's.
+// Stays: `symbols` and `sorts` go whole beside `state`, here and below, as `declare` gets them; parts would be cut at six calls, not four.
 fn declare_sort(
     source: Source,
     sorts: &mut [SortRow],

@@ -1,27 +1,17 @@
 // The buffers that are lent to an evaluation: what they hold before it, and the tests of what they hold afterwards.
 ghost use Rattle.evaluator.specs.Storage.{AreLent};
 
-use evaluator::{Buffers, Evaluation};
-use names::Source;
+use evaluator::{Buffers, Query};
+use function_calls::Outcome;
 use refusals::Refusal;
-use signature::StoredSignature;
 use signature_tests::buffers;
-use words::Limits;
-
-// What is evaluated: a term, over a signature, under limits.
-#[derive(Clone, Copy)]
-pub struct EvaluationQuery<'a> {
-    pub signature: StoredSignature<'a>,
-    pub term: Source<'a>,
-    pub limits: Limits,
-}
 
 // Evaluates a term into buffers that hold junk.
-pub fn evaluate(query: EvaluationQuery, storage: &mut Buffers) -> Result<Evaluation, Refusal>
+pub fn evaluate(query: Query, storage: &mut Buffers) -> Result<Outcome, Refusal>
     ensures { AreLent storage.old storage.new }
 {
     storage.fill(buffers::JUNK);
-    evaluator::evaluate(query.signature, query.term, query.limits, storage)
+    evaluator::evaluate(query, storage)
 }
 
 // Tests that the words past those used and the rows past those of the calls hold the value, and the links throughout.

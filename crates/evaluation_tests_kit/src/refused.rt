@@ -3,8 +3,8 @@ ghost use Rattle.std.specs.Prelude.{◌≡◌};
 ghost use Rattle.evaluation_tests_kit.specs.Refusals.{is_refused};
 ghost use Rattle.evaluator.specs.Storage.{AreLent};
 
-use crate::lent::{self, EvaluationQuery};
-use evaluator::Buffers;
+use crate::lent;
+use evaluator::{Buffers, Query};
 use function_calls::TreeRow;
 use names::Source;
 use refusals::Refusal;
@@ -21,7 +21,7 @@ fn is_refused<T: Copy>(answer: Result<T, Refusal>) -> bool
 }
 
 // Tests that an evaluation is refused by 1, and that the buffers are as they were.
-fn test_evaluation(query: EvaluationQuery, storage: &mut Buffers, claim: &[u8])
+fn test_evaluation(query: Query, storage: &mut Buffers, claim: &[u8])
     ensures { AreLent storage.old storage.new }
 {
     let answer = lent::evaluate(query, storage);
@@ -37,12 +37,7 @@ fn test_forward(signature: StoredSignature, term: Source, claim: &[u8]) {
 
 // Lends each buffer one too short: a word, a link and a row of trees less than is asked.
 // Stays: tried with one `Buffers`: the checker makes no proof for lending part of one field while another field is used.
-pub fn test_short(
-    query: EvaluationQuery,
-    words: &mut [u32],
-    links: &mut [u32],
-    trees: &mut [TreeRow],
-) {
+pub fn test_short(query: Query, words: &mut [u32], links: &mut [u32], trees: &mut [TreeRow]) {
     if let Some(last) = words.len().checked_sub(1) {
         let mut short = Buffers {
             words: &mut words[..last],
@@ -90,13 +85,13 @@ fn past(term: Source) -> Source {
 }
 
 // Lends a damaged signature, and asks for a term past the rows.
-pub fn test_unlisted(query: EvaluationQuery, storage: &mut Buffers) {
-    let less = EvaluationQuery {
+pub fn test_unlisted(query: Query, storage: &mut Buffers) {
+    let less = Query {
         signature: damaged(query.signature),
         ..query
     };
     test_evaluation(less, storage, b"refused with a damaged signature");
-    let behind = EvaluationQuery {
+    let behind = Query {
         term: past(query.term),
         ..query
     };

@@ -26,7 +26,7 @@ use Rattle.tree_rows.specs.Trees.{Lists, zero_tree}
 use Rattle.tree_rows.proofs.TreeLaws.{lists_grown, lists_same}
 use Rattle.evaluation.specs.Expressions.{Evaluated, failed, evaluated, evaluate_of}
 use Rattle.clause_matching.specs.Building.{Stands as Built}
-use Rattle.function_calls.specs.Calls.{tree_rows, Working}
+use Rattle.function_calls.specs.Calls.{outcome, tree_rows, Working}
 use Rattle.expressions.specs.Terms.{expressed, ExpressionAsked, Evaluates, ExpressionAnswered}
 use Rattle.expressions.specs.declared.written.Expressed.{Expressed}
 use Rattle.std.specs.Prelude.{Result, Err}
@@ -34,7 +34,7 @@ use Rattle.refusals.specs.declared.Refusal.{Refusal}
 use Rattle.refusals.specs.Refusals.{number_of}
 use Rattle.expressions.proofs.Forming.{value_answer, made_answer, used_answer}
 use Rattle.evaluator.specs.Storage.{Results, most_words, is_short, wiped}
-use Rattle.evaluator.specs.Evaluating.{evaluation, written_in, Ready, Valued, Left, EvaluationLeft}
+use Rattle.evaluator.specs.Evaluating.{written_in, Ready, Valued, Left, EvaluationLeft}
 use Rattle.evaluator.specs.ProgramLaws.{pattern, listed_headed, listed_tables}
 
 -- Clearing
@@ -220,7 +220,7 @@ module _ {text : List ℕ} {limits : Limits} {sg : SignatureStore} {rows : Rows}
     pub left_valued : {words'' links'' given_words : List ℕ} {trees'' given_trees : Rows}
         → words'' ≡ cleared_from 0 used given_words → trees'' ≡ cleared_from zero_tree calls given_trees
         → given_words ≡ words' → links'' ≡ links' → given_trees ≡ trees'
-        → EvaluationLeft text limits sg rows at b (evaluation value calls used) (record { words = words''; links = links''; trees = trees'' })
+        → EvaluationLeft text limits sg rows at b (outcome value calls used) (record { words = words''; links = links''; trees = trees'' })
     left_valued {words''} {links''} {given_words} {trees''} {given_trees} e₁ e₃ f₁ e₂ f₃ h =
         let b' : Results = record { words = words''; links = links''; trees = trees'' } in
         let e : b' ≡ ending = together (e₁ ∙ ap (cleared_from 0 used) f₁) e₂ (e₃ ∙ ap (cleared_from zero_tree calls) f₃) in
@@ -232,8 +232,8 @@ module _ {text : List ℕ} {limits : Limits} {sg : SignatureStore} {rows : Rows}
         let g : length (cleared_from zero_tree calls trees') ≡ length trees' = cleared_length zero_tree calls trees' in
         let same : Same 0 (cells words') (cells (cleared_from 0 used words')) used = λ i l. sym (cleared_below 0 0 used words' i l (omega arith)) in
         let t = n in
-        subst (λ (y : Evaluated one). Left text sg b y (evaluation value calls used) b') (sym f.comes)
-        (subst (λ (z : Results). Valued text sg b f.result f.made (record { calls = calls; words = used }) (evaluation value calls used) z) (sym e) (record {
+        subst (λ (y : Evaluated one). Left text sg b y (outcome value calls used) b') (sym f.comes)
+        (subst (λ (z : Results). Valued text sg b f.result f.made (record { calls = calls; words = used }) (outcome value calls used) z) (sym e) (record {
           value = value;
           answer = refl;
           told = refl;

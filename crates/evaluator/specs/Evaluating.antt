@@ -22,11 +22,8 @@ use Rattle.refusals.specs.declared.Refusal.{Refusal}
 use Rattle.refusals.specs.declared.Refusal.TheVariants.{Storage}
 use Rattle.refusals.specs.Refusals.{number_of}
 use Rattle.refusals.specs.Refused.{Refuses}
-use Rattle.evaluator.specs.declared.Evaluation.{Evaluation}
-
--- A value, the number of calls and that of words.
-abbrev pub evaluation : ℕ → ℕ → ℕ → Result Evaluation Refusal
-evaluation value calls words = Ok (record { value = value; calls = calls; words = words })
+use Rattle.function_calls.specs.Calls.{outcome}
+use Rattle.function_calls.specs.declared.calls.Outcome.{Outcome}
 
 -- What is read is in the listed form: the signature, and from the row `at` on the rows of a term as the parser leaves one.
 pub record Readable (text : List ℕ) (sg : SignatureStore) (rows : Rows) (at : ℕ) : Type 0 where
@@ -49,15 +46,15 @@ pub record Ready (text : List ℕ) (limits : Limits) (sg : SignatureStore) (rows
   pub readable : Readable text sg rows at
 
 -- The answer by the paper's numbers: the value's reference, the number of calls and that of words; or the refusal, which has no line of its own.
-abbrev pub evaluation_told : Result Evaluation Refusal → Told
-evaluation_told (Ok e) = answers (e.value ∷ e.calls ∷ e.words ∷ [])
+abbrev pub evaluation_told : Result Outcome Refusal → Told
+evaluation_told (Ok e) = answers (e.value ∷ e.spent.calls ∷ e.spent.used ∷ [])
 evaluation_told (Err refusal) = refuses (number_of refusal) 0
 
 -- The value v and the trees ps are left in storage. At which address a node lies may differ from one correct program to another, and whether equal terms are
 -- stored once; common are the terms, the number of words, and that the words are in form.
-pub record Valued (text : List ℕ) (sg : SignatureStore) (b : Results) (v : Term) (ps : Tree several) (c : Spent) (r : Result Evaluation Refusal) (b' : Results) : Type 0 where
+pub record Valued (text : List ℕ) (sg : SignatureStore) (b : Results) (v : Term) (ps : Tree several) (c : Spent) (r : Result Outcome Refusal) (b' : Results) : Type 0 where
   pub value : ℕ
-  pub answer : r ≡ evaluation value c.calls c.words
+  pub answer : r ≡ outcome value c.calls c.words
   pub told : evaluation_told r ≡ answers (value ∷ c.calls ∷ c.words ∷ [])
   -- the words in use are in form over the signature's symbols, and zero past them; the answer refers to the value;
   pub formed : in_form b'.words 0 c.words 0 0 (arities_of (symbols_in text sg)) ≡ true
@@ -73,22 +70,22 @@ pub record Valued (text : List ℕ) (sg : SignatureStore) (b : Results) (v : Ter
   pub links_zero : b'.links ≡ replicate (length b.links) 0
 
 -- What is left of an evaluation that comes to this: a refusal leaves nothing.
-pub record Denied (b : Results) (e : ℕ) (r : Result Evaluation Refusal) (b' : Results) : Type 0 where
+pub record Denied (b : Results) (e : ℕ) (r : Result Outcome Refusal) (b' : Results) : Type 0 where
   pub answer : Refuses r e
   pub told : evaluation_told r ≡ refuses e 0
   pub left : b' ≡ wiped b
 
-abbrev pub Left : List ℕ → SignatureStore → Results → Evaluated one → Result Evaluation Refusal → Results → Type 0
+abbrev pub Left : List ℕ → SignatureStore → Results → Evaluated one → Result Outcome Refusal → Results → Type 0
 Left text sg b (failed e) r b' = Denied b e r b'
 Left text sg b (evaluated v ps c) r b' = Valued text sg b v ps c r b'
 
 -- Whatever is ready is left as the definition says.
-abbrev pub EvaluationLeft : List ℕ → Limits → SignatureStore → Rows → ℕ → Results → Result Evaluation Refusal → Results → Type 0
+abbrev pub EvaluationLeft : List ℕ → Limits → SignatureStore → Rows → ℕ → Results → Result Outcome Refusal → Results → Type 0
 EvaluationLeft text limits sg rows at b r b' =
     (h : Ready text limits sg rows at b) → Left text sg b (evaluate_of (most_words limits) (signature_of text sg) (written_in h.readable)) r b'
 
 -- What is not in form, or too short, is refused by 1, and nothing is written; all else comes to what the definition says.
-pub record Evaluating (text : List ℕ) (limits : Limits) (sg : SignatureStore) (rows : Rows) (at : ℕ) (b : Results) (r : Result Evaluation Refusal) (b' : Results) : Type 0 where
+pub record Evaluating (text : List ℕ) (limits : Limits) (sg : SignatureStore) (rows : Rows) (at : ℕ) (b : Results) (r : Result Outcome Refusal) (b' : Results) : Type 0 where
   pub unready : (Ready text limits sg rows at b → ⊥) → (r ≡ Err Storage) × (evaluation_told r ≡ refuses 1 0) × (b' ≡ b)
   pub ready : EvaluationLeft text limits sg rows at b r b'
 

@@ -25,9 +25,10 @@ use Rattle.evaluation.proofs.EvaluationLaws.{expression_derives, forward_answere
 use Rattle.evaluation.specs.NumberLaws.{evaluation_refusals, OneOf}
 use Rattle.evaluation.proofs.NumberLaws.{never_by_1, expression_numbered}
 use Rattle.evaluator.specs.Storage.{Results, most_words}
-use Rattle.evaluator.specs.Evaluating.{evaluation, written_in, Ready, Left, Evaluating}
+use Rattle.evaluator.specs.Evaluating.{written_in, Ready, Left, Evaluating}
 use Rattle.evaluator.specs.ProgramLaws.{listed_clauses, listed_there}
-use Rattle.evaluator.specs.declared.Evaluation.{Evaluation}
+use Rattle.function_calls.specs.Calls.{outcome}
+use Rattle.function_calls.specs.declared.calls.Outcome.{Outcome}
 use Rattle.std.specs.Prelude.{Result, Ok, Err}
 use Rattle.refusals.specs.declared.Refusal.{Refusal}
 use Rattle.refusals.specs.Refused.{Refuses}
@@ -43,11 +44,11 @@ pub record DerivationsLeft (text : List ℕ) (sg : SignatureStore) (term : Writt
   -- the last tree of a forward call has the function on its arguments for its root, with the value as the last argument.
   pub ends : is_forward_call (symbols_in text sg) term ≡ true → Ends trees (denote 0 (cells b'.words) value)
 
-refuses_one : (r : Result Evaluation Refusal) (m n : ℕ) → Refuses r m → Refuses r n → m ≡ n
+refuses_one : (r : Result Outcome Refusal) (m n : ℕ) → Refuses r m → Refuses r n → m ≡ n
 refuses_one (Ok e) m n h k = absurd h
 refuses_one (Err refusal) m n h k = sym h ∙ k
 
-module _ {text : List ℕ} {limits : Limits} {sg : SignatureStore} {rows : Rows} {at : ℕ} {b : Results} {r : Result Evaluation Refusal} {b' : Results}
+module _ {text : List ℕ} {limits : Limits} {sg : SignatureStore} {rows : Rows} {at : ℕ} {b : Results} {r : Result Outcome Refusal} {b' : Results}
     (done : Evaluating text limits sg rows at b r b') where
   -- What a term that is ready comes to.
   abbrev comes : Ready text limits sg rows at b → Evaluated one
@@ -83,7 +84,7 @@ module _ {text : List ℕ} {limits : Limits} {sg : SignatureStore} {rows : Rows}
       one_of_them = or_left (same 1 1) (elem 1 evaluation_refusals) (same_refl 1)
 
   -- A value comes with derivations.
-  pub value_derives : (h : Ready text limits sg rows at b) (value calls used : ℕ) → r ≡ evaluation value calls used
+  pub value_derives : (h : Ready text limits sg rows at b) (value calls used : ℕ) → r ≡ outcome value calls used
       → DerivationsLeft text sg (written_in h.readable) value calls b'
   unfolding signature_of
   value_derives h value calls used q = go (comes h) refl (done.ready h)
@@ -95,8 +96,8 @@ module _ {text : List ℕ} {limits : Limits} {sg : SignatureStore} {rows : Rows}
       go (failed n) p l = absurd (rw q at l.answer)
       go (evaluated v ps c) p l =
           let a = ok_is (sym l.answer ∙ q) in
-          let x : l.value ≡ value = ap (λ (e : Evaluation). e.value) a in
-          let k : c.calls ≡ calls = ap (λ (e : Evaluation). e.calls) a in
+          let x : l.value ≡ value = ap (λ (e : Outcome). e.value) a in
+          let k : c.calls ≡ calls = ap (λ (e : Outcome). e.spent.calls) a in
           let e = lists_preorder 0 0 b'.words c.words b'.trees 0 1 ps c.calls l.listed in
           let n : c.calls - 0 ≡ calls = omega arith in
           let d = expression_derives (most_words limits) (symbols_in text sg) (rules_in text sg) form (written_in h.readable) [] 0

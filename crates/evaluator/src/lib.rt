@@ -20,15 +20,16 @@ use words::Limits;
 // The scratch behind the words, and the rows of the stack: as many as a rule's terms may take words, and one more.
 pub const SCRATCH: usize = rules::RULE_WORDS + 1;
 
-// An evaluation: the reference of the value, the number of calls and that of words.
+// What is evaluated: a term, over a signature, under limits.
 #[derive(Clone, Copy)]
-pub struct Evaluation {
-    pub value: u32,
-    pub calls: u32,
-    pub words: u32,
+pub struct Query<'a> {
+    pub signature: StoredSignature<'a>,
+    pub term: Source<'a>,
+    pub limits: Limits,
 }
 
 // What an evaluation is lent to write: words for values, links for comparing them, and rows for the trees of its calls.
+// Stays: each function promises that the same buffers are lent afterwards (`AreLent`); an invariant tells of one value, and not of the one before.
 #[derive(Drop)]
 pub struct Buffers<'a> {
     pub words: &'a mut [u32],
@@ -71,18 +72,14 @@ impl Buffers<'_> {
 }
 
 // The value of a term, and the trees of its calls, where all that is read is in form and the buffers are long enough.
-pub fn evaluate_listed(
-    signature: StoredSignature,
-    term: Source,
-    limits: Limits,
-    buffers: &mut Buffers,
-) -> Result<Evaluation, Refusal>
-    requires { Ready term.text.now limits (store_of signature) term.rows.now term.at (results_in buffers.old) }
-    ensures left { EvaluationLeft term.entry.text.now limits (store_of signature.entry) term.entry.rows.now term.entry.at
-        (results_in buffers.old) result (results_in buffers.new) }
+pub fn evaluate_listed(query: Query, buffers: &mut Buffers) -> Result<Outcome, Refusal>
+    requires { Ready query.term.text.now query.limits (store_of query.signature) query.term.rows.now query.term.at (results_in buffers.old) }
+    ensures left { EvaluationLeft query.entry.term.text.now query.entry.limits (store_of query.entry.signature)
+        query.entry.term.rows.now query.entry.term.at (results_in buffers.old) result (results_in buffers.new) }
     ensures lent { AreLent buffers.old buffers.new }
 {
-    let most = limits.capped().words;
+    let signature = query.signature;
+    let most = query.limits.capped().words;
     let program = Program {
         symbols: signature.symbols_in_use(),
         rules: signature.rules,
@@ -98,20 +95,16 @@ pub fn evaluate_listed(
         stack: &mut stack,
     };
     let nothing = Spent { calls: 0, used: 0 };
-    match expressions::expression(term, program, 0, nothing, &mut store) {
+    match expressions::expression(query.term, program, 0, nothing, &mut store) {
         Err(refusal) => {
             buffers.fill(0);
             Err(refusal)
         }
         Ok(expressed) => {
-            let Outcome { value, spent } = expressed.outcome;
+            let spent = expressed.outcome.spent;
             slices::clear_from(buffers.words, spent.used as usize, 0);
             slices::clear_from(buffers.trees, spent.calls as usize, [0; 8]);
-            Ok(Evaluation {
-                value,
-                calls: spent.calls,
-                words: spent.used,
-            })
+            Ok(expressed.outcome)
         }
     }
 }
@@ -128,21 +121,16 @@ fn check(signature: StoredSignature, term: Source) -> Result<(), Refusal>
 }
 
 // The value of a term, and the trees of its calls.
-pub fn evaluate(
-    signature: StoredSignature,
-    term: Source,
-    limits: Limits,
-    buffers: &mut Buffers,
-) -> Result<Evaluation, Refusal>
-    ensures evaluating { Evaluating term.entry.text.now limits (store_of signature.entry) term.entry.rows.now term.entry.at
-        (results_in buffers.old) result (results_in buffers.new) }
+pub fn evaluate(query: Query, buffers: &mut Buffers) -> Result<Outcome, Refusal>
+    ensures evaluating { Evaluating query.entry.term.text.now query.entry.limits (store_of query.entry.signature)
+        query.entry.term.rows.now query.entry.term.at (results_in buffers.old) result (results_in buffers.new) }
     ensures lent { AreLent buffers.old buffers.new }
 {
-    if buffers.are_short(limits.capped().words) {
+    if buffers.are_short(query.limits.capped().words) {
         return Err(Refusal::Storage);
     }
-    check(signature, term)?;
-    evaluate_listed(signature, term, limits, buffers)
+    check(query.signature, query.term)?;
+    evaluate_listed(query, buffers)
 }
 
 // Whether a term is evaluated, as an `#eval`: a function's name with all arguments but its result, and no metavariable.

@@ -6,10 +6,9 @@
 ghost use Rattle.std.specs.Prelude.{◌+◌, ◌^◌, ◌≤◌, ◌<◌};
 
 use evaluation_listing_kit::StoredTerms;
-use evaluation_tests_kit::lent::{self, EvaluationQuery};
-use evaluation_tests_kit::refused;
-use evaluator::{Buffers, Evaluation};
-use function_calls::MAX_CALLS;
+use evaluation_tests_kit::{lent, refused};
+use evaluator::{Buffers, Query};
+use function_calls::{MAX_CALLS, Outcome};
 use listing::recorded::{self, Recorded};
 use listing::{write, write_number};
 use load::{EvalRow, LentBuffers, Loaded};
@@ -35,7 +34,7 @@ struct LoadedText<'a> {
 }
 
 // Lists a value and its calls.
-fn list_value(loaded: LoadedText, evaluation: Evaluation, storage: &Buffers) {
+fn list_value(loaded: LoadedText, outcome: Outcome, storage: &Buffers) {
     let signature = loaded.signature;
     let terms = StoredTerms {
         text: loaded.text,
@@ -44,18 +43,18 @@ fn list_value(loaded: LoadedText, evaluation: Evaluation, storage: &Buffers) {
     };
     let mut stack = [[0u32; 2]; 1024];
     let mut out = [0u8; 16384];
-    evaluation_listing_kit::list_value(terms, evaluation.value, &mut stack, &mut out);
+    evaluation_listing_kit::list_value(terms, outcome.value, &mut stack, &mut out);
     evaluation_listing_kit::list_calls(
         terms,
         signature.rules,
-        used(storage.trees, evaluation.calls),
+        used(storage.trees, outcome.spent.calls),
         &mut stack,
         &mut out,
     );
 }
 
 // Lists an answer, and tests the buffers: zero past what is used, zero throughout after a refusal, and after refusal 1 as they were.
-fn list_evaluation(loaded: LoadedText, answer: Result<Evaluation, Refusal>, storage: &Buffers) {
+fn list_evaluation(loaded: LoadedText, answer: Result<Outcome, Refusal>, storage: &Buffers) {
     match answer {
         Err(refusal) => {
             write(b"refused ");
@@ -63,10 +62,10 @@ fn list_evaluation(loaded: LoadedText, answer: Result<Evaluation, Refusal>, stor
             write(b"\n");
             lent::test(storage, 0, 0, recorded::value_after(refusal));
         }
-        Ok(evaluation) => {
-            list_value(loaded, evaluation, storage);
-            let words = evaluation.words as usize;
-            lent::test(storage, words, evaluation.calls as usize, 0);
+        Ok(outcome) => {
+            list_value(loaded, outcome, storage);
+            let spent = outcome.spent;
+            lent::test(storage, spent.used as usize, spent.calls as usize, 0);
         }
     }
 }
@@ -79,8 +78,8 @@ fn write_eval(line: u32) {
 }
 
 // The evaluation of the term whose rows start at a place.
-fn query_at(loaded: LoadedText, at: u32) -> EvaluationQuery {
-    EvaluationQuery {
+fn query_at(loaded: LoadedText, at: u32) -> Query {
+    Query {
         signature: loaded.signature,
         term: Source {
             text: loaded.text,
@@ -92,7 +91,7 @@ fn query_at(loaded: LoadedText, at: u32) -> EvaluationQuery {
 }
 
 // Is a term evaluated? A goal is listed as such.
-fn is_evaluated(query: EvaluationQuery) -> bool {
+fn is_evaluated(query: Query) -> bool {
     match evaluator::is_forward_call(query.signature, query.term) {
         Ok(true) => true,
         Ok(false) => {

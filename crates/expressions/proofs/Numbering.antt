@@ -1,5 +1,5 @@
 -- `numeral`: one law for each way out.
-use Prim.Native.Nat.{ℕ, zero, ◌+◌, ◌≤◌, ◌<◌, min}
+use Prim.Native.Nat.{ℕ, ◌+◌, ◌≤◌, ◌<◌, min}
 use native.Mathlib.Omega.{arith}
 use mathlib.Core.Path.{◌≡◌, refl, sym, ◌∙◌, subst}
 use mathlib.Core.Bool.{true, false, ◌&&◌}
@@ -59,9 +59,6 @@ module _ (text : List ℕ) (n : ℕ) {symbols : Rows} {count depth : ℕ} {words
     found_y : (y ≡ symbol_number names succ_name) × (y < count) × (is_ctor names succ_name ≡ true)
     found_y = let g = rw q at f in (g.1.0, rw (symbols_length text symbols count h.lent) at g.1.2, g.1.1)
 
-    pub check_asked : (y < count) × (z < count) × (depth ≤ 128)
-    check_asked = (found_y.1, found_z.1, h.deep)
-
     module _ {e : ℕ} (m : (limit : ℕ) (text : List ℕ) (rules : List Rule) → e ≡ numeral_misuse limit (symbols_of text symbols count) rules y z n depth) where
       abbrev a : ℕ
       a = column (row_at symbols y) 6
@@ -100,8 +97,6 @@ module _ (text : List ℕ) (n : ℕ) {symbols : Rows} {count depth : ℕ} {words
           working = record { lent = h.lent; few = h.few; deep = omega arith; stored = h.stored; fits = h.fits; low = h.low; room = h.room };
           nullary = bounds.2;
           unary = bounds.0;
-          outer = found_y.1;
-          inner = found_z.1;
         }
 
         pub numeral_built : {r : Result Answer Refusal} {words' : List ℕ} → TowerAnswered symbols count y z n words used limit r words'

@@ -58,7 +58,8 @@ pub record Turn (symbols : Rows) (count y z n used limit want : ℕ) (words₀ :
   pub kept : length words ≡ length words₀
   pub room : limit ≤ length words
 
-module _ {symbols : Rows} {count y z n : ℕ} {words : List ℕ} {used limit : ℕ} (h : TowerAsked symbols count y z n words used limit) where
+module _ {symbols : Rows} {count y z n : ℕ} {words : List ℕ} {used limit : ℕ} (outer : y < count) (inner : z < count)
+    (h : TowerAsked symbols count y z n words used limit) where
   module _ {r : Result Answer Refusal} {none words' : List ℕ} (e : none ≡ []) (g : BuildAnswered words used limit z none r words') where
     tells : Tells (build_node limit z nil used) r words words' used limit
     tells = rw e at g.tells
@@ -85,15 +86,15 @@ module _ {symbols : Rows} {count y z n : ℕ} {words : List ℕ} {used limit : �
             fixed = record {
               lent = h.working.lent;
               few = h.working.few;
-              outer = h.outer;
-              inner = h.inner;
+              outer = outer;
+              inner = inner;
               unary = h.unary;
               low = h.working.low;
               wants = w;
             };
             term = t;
             comes = λ text rules. b;
-            sorted = λ text. ap (sort_in (symbols_of text symbols count)) i ∙ output_at text symbols count h.working.lent z h.inner ∙ sym o;
+            sorted = λ text. ap (sort_in (symbols_of text symbols count)) i ∙ output_at text symbols count h.working.lent z inner ∙ sym o;
             stands = record { stored = s.stored; root = s.root; is = s.is; same = λ j l. refl; grows = omega arith; within = s.within };
             forms = λ text f. f;
             most = omega arith;
@@ -105,8 +106,8 @@ module _ {symbols : Rows} {count y z n : ℕ} {words : List ℕ} {used limit : �
           → Formed (arities_of (symbols_of text symbols count)) words' after
       first_formed text f =
           let l = h.working.lent in
-          g.forms (arities_of (symbols_of text symbols count)) (arity_within text symbols count l z h.inner)
-          (arity_known text symbols count l z h.inner ∙ h.nullary ∙ sym (ap length e)) f value after q
+          g.forms (arities_of (symbols_of text symbols count)) (arity_within text symbols count l z inner)
+          (arity_known text symbols count l z inner ∙ h.nullary ∙ sym (ap length e)) f value after q
 
       -- What the turns come to.
       pub tower_refused : {x : Refusal} {k : ℕ} → ((text : List ℕ) (rules : List Rule) → tower_of limit (symbols_of text symbols count) rules y z k used ≡ barred (number_of x)) → k ≤ n

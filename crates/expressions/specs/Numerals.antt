@@ -32,8 +32,6 @@ pub record TowerAsked (symbols : Rows) (count y z n : ℕ) (words : List ℕ) (u
   pub working : NumeralAsked symbols count 0 words used limit
   pub nullary : column (row_at symbols z) 6 ≡ 0
   pub unary : 0 < n → column (row_at symbols y) 6 ≡ 1
-  pub outer : y < count
-  pub inner : z < count
 
 pub record TowerAnswered (symbols : Rows) (count y z n : ℕ) (words : List ℕ) (used limit : ℕ) (r : Result Answer Refusal) (words' : List ℕ) : Type 0 where
   pub tells : (text : List ℕ) (rules : List Rule) → Tells (tower_of limit (symbols_of text symbols count) rules y z n used) r words words' used limit

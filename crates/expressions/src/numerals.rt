@@ -14,17 +14,16 @@ use patterns::NumeralSymbols;
 use refusals::Refusal;
 
 // What n times `succ` on `zero` is refused for at a depth, before anything is built, if it is.
-fn check_numeral(
-    symbols: &[SymbolRow],
-    numerals: NumeralSymbols,
-    n: u32,
-    depth: u32,
-) -> Result<(), Refusal>
-    requires { (numerals.succ < length symbols.now) × (numerals.zero < length symbols.now) × (depth ≤ 128) }
+fn check_numeral(numerals: NumeralSymbols, n: u32, depth: u32) -> Result<(), Refusal>
+    requires { depth ≤ 128 }
     ensures { (limit : ℕ) (text : List ℕ) (rules : List Rule)
-        → Finds result (numeral_misuse limit (symbols_of text symbols.now (length symbols.now)) rules numerals.succ numerals.zero n depth) }
+        → Finds result (numeral_misuse limit (symbols_of text numerals.entry.symbols.now (length numerals.entry.symbols.now)) rules numerals.entry.succ numerals.entry.zero n depth) }
 {
-    let NumeralSymbols { zero, succ } = numerals;
+    let NumeralSymbols {
+        symbols,
+        zero,
+        succ,
+    } = numerals;
     if 0 < n && symbols[succ][ARITY] != 1 {
         return Err(Refusal::ArgumentCount);
     }
@@ -38,17 +37,15 @@ fn check_numeral(
 }
 
 // n times `succ` on `zero`, upwards: the sort of each is tested before the next is built around it.
-fn tower(
-    symbols: &[SymbolRow],
-    numerals: NumeralSymbols,
-    n: u32,
-    words: &mut [u32],
-    room: Room,
-) -> Result<Built, Refusal>
-    requires { TowerAsked symbols.now (length symbols.now) numerals.succ numerals.zero n words.old room.used room.limit }
-    ensures { TowerAnswered symbols.now (length symbols.now) numerals.succ numerals.zero n words.old room.used room.limit result words.new }
+fn tower(numerals: NumeralSymbols, n: u32, words: &mut [u32], room: Room) -> Result<Built, Refusal>
+    requires { TowerAsked numerals.symbols.now (length numerals.symbols.now) numerals.succ numerals.zero n words.old room.used room.limit }
+    ensures { TowerAnswered numerals.entry.symbols.now (length numerals.entry.symbols.now) numerals.entry.succ numerals.entry.zero n words.old room.used room.limit result words.new }
 {
-    let NumeralSymbols { zero, succ } = numerals;
+    let NumeralSymbols {
+        symbols,
+        zero,
+        succ,
+    } = numerals;
     let mut sort = symbols[zero][OUTPUT];
     let want = symbols[succ][FIRST_INPUT];
     let mut built = build(words, room, zero, &[])?;
@@ -80,6 +77,6 @@ pub fn numeral(
     ensures { NumeralAnswered text.now symbols.now (length symbols.now) number depth words.old room.used room.limit result words.new }
 {
     let numerals = NumeralSymbols::find(text, symbols)?;
-    check_numeral(symbols, numerals, number, depth)?;
-    tower(symbols, numerals, number, words, room)
+    check_numeral(numerals, number, depth)?;
+    tower(numerals, number, words, room)
 }

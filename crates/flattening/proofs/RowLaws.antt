@@ -1,11 +1,11 @@
 -- Rows may be moved: what stands in them does not change.
 use mathlib.Core.Path.{◌≡◌, refl, ap, ◌∙◌}
-use mathlib.Core.List.{List, [], ◌∷◌}
+use mathlib.Core.List.{List, [], ◌∷◌, ◌++◌}
 use Prim.Native.Nat.{ℕ, suc, ◌+◌, ◌*◌, ◌-◌, ◌≤◌, ◌<◌}
 use native.Mathlib.Omega.{arith}
-use lib.ListN.{length, set, length-set}
-use lib.Seq.{get_or-set_same, get_or-set_other}
-use borrow.Author.Count.{below_more}
+use lib.ListN.{length, take, drop}
+use borrow.Rule.Slice.PartMut.{put_mid, post_of}
+use Rattle.std.proofs.lemmas.List.{length-append, length-take, length-take-le, length-drop, get_or-take, get_or-drop, get_or_append_left, get_or-append_right}
 use Rattle.source_text.specs.Parts.{part_of}
 use Rattle.term_parser.specs.Source.{Arity, one, many}
 use Rattle.term_parser.specs.Rows.{application_kind}
@@ -91,17 +91,18 @@ pub stands_applied : (text : List ℕ) (rows : Rows) (p start n k : ℕ) (ts : W
 unfolding Stands name_in
 stands_applied text rows p start n k ts q l r e h = (record { within = l; spells = rw r refl; counts = rw r e }, ap (λ x. column x 0) r, h)
 
--- Copying row by row.
-pub copy_start : (source before : Rows) (first at : ℕ) → Copied source before before first 0 at
-copy_start source before first at = record { kept = refl; below = λ i l. refl; here = λ i l. absurd (omega arith) }
-
-pub copy_step : {source before after : Rows} {first i at : ℕ} → Copied source before after first i at → at + i < length after
-    → Copied source before (set after (at + i) (row_at source (first + i))) first (i + 1) at
-copy_step {source} {before} {after} {first} {i} {at} c l =
-    let r : List ℕ = row_at source (first + i) in
+-- Rows that are a part of `source` are written over n rows of `before`.
+pub copied : (source before part : Rows) (first n at k : ℕ) → k ≡ n → first + n ≤ length source → at + n ≤ length before → part ≡ take n (drop first source)
+    → Copied source before (put_mid at k before part) first n at
+copied source before part first n at k same within fits is =
+    let low = length-take-le at before (omega arith) in
+    let long : length part ≡ n = rw is (omega (arith, length-take n (drop first source), length-drop first source)) in
+    let rest = post_of at k before in
     record {
-      kept = length-set after (at + i) r ∙ c.kept;
-      below = λ k j. get_or-set_other after (at + i) k r [] (λ q. omega arith) ∙ c.below k j;
-      here = below_more (λ k. row_at (set after (at + i) r) (at + k) ≡ row_at source (first + k)) i
-          (λ k j. get_or-set_other after (at + i) (at + k) r [] (λ q. omega arith) ∙ c.here k j) (get_or-set_same after (at + i) r [] l);
+      kept = omega (arith, length-append (take at before) (part ++ rest), length-append part rest, length-drop k (drop at before), length-drop at before);
+      below = λ i l. get_or_append_left (take at before) (part ++ rest) [] i (omega arith) ∙ get_or-take at before i [] l;
+      here = λ i l. let e : at + i - at ≡ i = omega arith in
+          get_or-append_right (take at before) (part ++ rest) at (at + i) [] low (omega arith) ∙ ap (λ (j : ℕ). row_at (part ++ rest) j) e
+          ∙ get_or_append_left part rest [] i (omega arith) ∙ ap (λ (rows : Rows). row_at rows i) is
+          ∙ get_or-take n (drop first source) i [] l ∙ get_or-drop first source i [];
     }

@@ -9,12 +9,13 @@ ghost use Rattle.names.specs.Names.{result_length};
 ghost use Rattle.names.specs.Named.{symbols_named};
 ghost use Rattle.names.specs.Symbols.{column, row_at};
 ghost use Rattle.flattening.specs.Flattening.{is_function};
-ghost use Rattle.flattening.specs.Promises.{call_limit, arity_of, is_call, Copied, Finishes, Room, Flattens};
+ghost use Rattle.flattening.specs.Promises.{call_limit, arity_of, is_call, Finishes, Room, Flattens};
 
 use names::columns::MARK;
 use names::{FUNCTION, PREMISES, SourceTerms, TermRow, Word};
 
 // How far flattening is: the next row of the source, where the next row of the term and of the premises goes, and how many calls were made.
+// Stays: `out` and `calls` go beside it: of a struct that lends both, each contract from here to `declarations` would say that both come back.
 #[derive(Clone, Copy)]
 pub struct Place {
     pub next: usize,
@@ -23,15 +24,8 @@ pub struct Place {
     pub number: usize,
 }
 
-// Copies n rows.
-pub fn move_rows(source: &[TermRow], from: usize, n: usize, to: &mut [TermRow], at: usize)
-    requires { (from + n ≤ length source.now) × (at + n ≤ length to.old) }
-    ensures { Copied source.now to.old to.new from n at }
-{
-    to[at..at + n].copy_from_slice(&source[from..from + n]);
-}
-
 // Is the word at a place of the text the name of a function?
+// Stays: `forward_calls` tests so too, and reads the symbol's row besides; one function for both would tell `flatten` the number, which it never reads.
 fn is_function(source: SourceTerms, word: Word) -> bool
     ensures { result ≡ is_function (symbols_named source.entry) (part_of source.entry.text.now word.start word.size) }
 {
@@ -55,10 +49,11 @@ fn is_call(source: SourceTerms, row: &TermRow) -> bool
 }
 
 // How many arguments follow a row.
-pub fn arity(kind: u32, n: u32) -> usize
-    ensures value { result ≡ arity_of kind n }
+pub fn arity(row: &TermRow) -> usize
+    ensures value { result ≡ arity_of (column row.now 0) (column row.now 3) }
     ensures upper_bound { result < 4294967296 }
 {
+    let [kind, _, _, n] = *row;
     if kind == term_parser::APPLICATION {
         return n as usize;
     }
@@ -99,8 +94,8 @@ fn finish(
         word.size,
         args as u32 + 1,
     ];
-    move_rows(out, top + 1, last - top - 1, calls, end + 1);
     let stop = end + (last - top);
+    calls[end + 1..stop].copy_from_slice(&out[top + 1..last]);
     let place = 16 * (number as u32);
     let n = result_length(number);
     calls[stop] = [names::RESULT, place, n, 0];
@@ -129,7 +124,7 @@ pub fn flatten(
     let top = from.top;
     // No term stands past the last row, so that any answer serves there.
     let row = *rows.get(at)?;
-    let n = arity(row[0], row[3]);
+    let n = arity(&row);
     out[top] = row;
     let mut place = Place {
         next: at + 1,

@@ -22,7 +22,7 @@ pub fn is_ground(term: Source) -> bool
             return false;
         }
         left -= 1;
-        left += flattening::arity(row[0], row[3]);
+        left += flattening::arity(row);
         if left == 0 {
             return true;
         }

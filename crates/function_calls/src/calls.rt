@@ -21,6 +21,7 @@ pub const MAX_DEPTH: u32 = 128;
 pub const MAX_CALLS: u32 = 10000;
 
 // What an evaluation has spent: the calls made and the words used.
+// Stays: that each call has taken two words holds only where no call is open, as in `expressions`; in a call it is said with the depth.
 #[derive(Clone, Copy)]
 pub struct Spent {
     pub calls: u32,
@@ -58,7 +59,7 @@ pub struct Level {
 }
 
 // A program: its symbols, its rules, the words of their patterns, and how many words its values may take.
-// Stays: tried with a ghost field that it is in form: no proposition, as the symbols and rules that it stores are data, which the rows alone don't fix.
+// Stays: that it is in form says there are symbols and rules that it stores; what each function asks besides names them, and a ghost field hides them.
 #[derive(Clone, Copy)]
 pub struct Program<'a> {
     pub symbols: &'a [SymbolRow],
@@ -80,6 +81,8 @@ impl Program<'_> {
 }
 
 // What an evaluation writes: the words of values, links for comparing them, a row of trees for each call, and a row of the stack for each node that is open.
+// Stays: each function promises that the same buffers are lent afterwards (`IsLent`); an invariant tells of one value, and not of the one before.
+// Stays: the counts are not in it, since they are answered; that they fit its buffers is asked beside them (`Working`), by the limit of the program.
 #[derive(Drop)]
 pub struct Store<'a> {
     pub words: &'a mut [u32],

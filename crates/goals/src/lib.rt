@@ -4,14 +4,12 @@
 // All functions here serve the crates above: they ask for storage of the listed sizes.
 #![tactic(auto)]
 
-ghost use Rattle.std.specs.Prelude.{◌≡◌, List, map, ℕ, ◌+◌, ◌≤◌, ◌<◌, length};
+ghost use Rattle.std.specs.Prelude.{◌≡◌, ℕ, ◌+◌, ◌≤◌, ◌<◌, length};
 ghost use Rattle.std.proofs.lemmas.List.Edits.{sets};
 ghost use Rattle.arena.specs.Copies.{term_room, pattern_room, moved, copied, Copyable, Movable};
 ghost use Rattle.names.specs.Named.{symbols_named};
-ghost use Rattle.names.specs.Symbols.{row_at, variables_of};
+ghost use Rattle.names.specs.Symbols.{row_at};
 ghost use Rattle.patterns.specs.Promises.{Ready};
-ghost use Rattle.sessions.specs.Goals.{variable_for};
-ghost use Rattle.sessions.specs.Storage.{names_in};
 ghost use Rattle.goals.specs.Compiling.{Bounds, GoalMade};
 ghost use Rattle.goals.specs.Storing.{name_row, StoreAsked, GoalStored};
 
@@ -33,19 +31,6 @@ pub struct Goal {
     pub words: u32,
 }
 
-// The session's names as variables: the first four columns of each row.
-// Stays: tried with `variables.iter_mut().zip(names)`: what is written behind a `zip` is told by no law of the library, and `returns` did not close.
-fn copy_names(names: &[NameRow], variables: &mut [VariableRow])
-    requires { length names.now ≤ length variables.old }
-    ensures { (text : List ℕ) → variables_of text variables.new (length names.now)
-        ≡ map variable_for (names_in text names.now (length names.now)) }
-{
-    for (i, row) in names.iter().enumerate() {
-        let [kind, start, size, sort, _] = *row;
-        variables[i] = [kind, start, size, sort];
-    }
-}
-
 // Compiles the goal at a row against the names of a session, which are only read: its variables go to a table of 64 rows, the session's
 // names first, and its words to a buffer for 1,024 nodes.
 pub fn compile(
@@ -60,7 +45,8 @@ pub fn compile(
     ensures goal_made { GoalMade source.entry.text.now source.entry.rows.now at (symbols_named source.entry) names.now words.old result
         variables.new words.new }
 {
-    copy_names(names, variables);
+    // A name of the session is a variable: the first columns of its row.
+    signature::put_parts(names, 0, variables);
     let start = Place {
         next: at,
         variables: names.len(),
@@ -80,7 +66,7 @@ pub fn compile(
 }
 
 // Writes the rows of a goal's new names, with variables from `counter` on.
-// Stays: as at `copy_names`, nothing would be known of what is written behind a `zip`.
+// Stays: as at `signature::put_parts`, nothing would be known of what is written behind a `zip`.
 fn enter_names(variables: &[VariableRow], names: &mut [NameRow], counter: u32)
     requires { (length variables.now ≤ 64) × (length variables.now ≤ length names.old) × (counter + length variables.now ≤ term_room) }
     ensures { (i : ℕ) → i < length variables.now → row_at names.new i ≡ name_row (row_at variables.now i) (counter + i) }
@@ -111,6 +97,7 @@ fn copy_goal(pattern: &[u32], goal: Goal, places: &[u32], words: &mut [u32], use
 }
 
 // Stores a compiled goal in a session: writes the rows of its new names, and its words with its variables put in; answers its reference.
+// Stays: the goal's counts go on as they are, into the session's; of parts, the caller would cut two buffers, and their lengths be made 32 bits again.
 pub fn store(
     variables: &[VariableRow],
     pattern: &[u32],

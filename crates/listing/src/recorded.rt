@@ -111,7 +111,7 @@ pub fn read(list: &[u8], at: usize) -> Recorded
     let size = length.value as usize;
     let limits = Limits {
         text: limit.value,
-        ..words::NO_LIMITS
+        ..Limits::default()
     };
     Recorded {
         start,

@@ -109,6 +109,7 @@ fn refused(rejection: Rejection, buffers: &mut LentBuffers) -> Result<Loaded, Re
 }
 
 // Enters the declarations, and clears what is past the counts; or clears everything.
+// Stays: no `From` makes `Used` or `Counts` of a `State`: none of the three is a type of this crate, and their crates do not know each other's.
 fn load_rows(walk: Walk, buffers: &mut LentBuffers) -> Result<Loaded, Rejection>
     requires { RowsAsked walk.text.now walk.limit walk.n walk.used buffers.old.tokens.now buffers.old.rows.now buffers.old.calls.now buffers.old.sorts.now buffers.old.symbols.now buffers.old.rules.now buffers.old.words.now buffers.old.evals.now }
     ensures loaded { RowsLoaded walk.entry.text.now walk.entry.limit walk.entry.n walk.entry.used (buffers_of buffers.old) result (buffers_of buffers.new) }

@@ -4,7 +4,7 @@
 #![tactic(auto)]
 
 ghost use Rattle.std.specs.Prelude.{◌≡◌, replicate};
-ghost use Rattle.load_storage.specs.Storage.{cleared_from, is_short, SignatureCleared, ScratchCleared, Wiped, Filled, AllFilled};
+ghost use Rattle.load_storage.specs.Storage.{cleared_from, is_short, SignatureCleared, ScratchCleared, Wiped, AllFilled};
 ghost use Rattle.load_storage.specs.Lent.{buffers_of, lengths_of, IsLent};
 
 use names::{SORTS, SYMBOLS, SortRow, SymbolRow, TermRow};
@@ -14,6 +14,7 @@ use rules::{PREMISES, RULES, RuleRow};
 pub type EvalRow = [u32; 2];
 
 // All that a caller of `load` lends: scratch and rows for reading a text, storage for a signature, and rows for the `#eval` that wait.
+// Stays: each function promises that the same buffers are lent afterwards (`IsLent`); an invariant tells of one value, and not of the one before.
 #[derive(Drop)]
 pub struct LentBuffers<'a> {
     pub tokens: &'a mut [TermRow],
@@ -61,14 +62,14 @@ impl LentBuffers<'_> {
         ensures filled { AllFilled value (buffers_of self.old) (buffers_of self.new) }
         ensures lent { IsLent self.old self.new }
     {
-        fill_rows(self.tokens, value);
-        fill_rows(self.rows, value);
-        fill_rows(self.calls, value);
-        fill_rows(self.sorts, value);
-        fill_rows(self.symbols, value);
-        fill_rows(self.rules, value);
+        fill_rows(self.tokens, 0, value);
+        fill_rows(self.rows, 0, value);
+        fill_rows(self.calls, 0, value);
+        fill_rows(self.sorts, 0, value);
+        fill_rows(self.symbols, 0, value);
+        fill_rows(self.rules, 0, value);
         self.words.fill(value);
-        fill_rows(self.evals, value);
+        fill_rows(self.evals, 0, value);
     }
 }
 
@@ -82,18 +83,11 @@ pub struct Used {
     pub words: usize,
 }
 
-// Sets each number of the rows to a value, whatever their width.
-fn fill_rows<const N: usize>(rows: &mut [[u32; N]], value: u32)
-    ensures { Filled (replicate N value) rows.old rows.new }
+// Sets each number of the rows from a place on to a value, whatever their width.
+fn fill_rows<const N: usize>(rows: &mut [[u32; N]], from: usize, value: u32)
+    ensures { rows.new ≡ cleared_from (replicate N value) from rows.old }
 {
-    slices::clear_from(rows, 0, [value; N]);
-}
-
-// Zeroes the rows from a place on, whatever their width.
-fn clear_rows<const N: usize>(rows: &mut [[u32; N]], from: usize)
-    ensures { rows.new ≡ cleared_from (replicate N 0) from rows.old }
-{
-    slices::clear_from(rows, from, [0; N]);
+    slices::clear_from(rows, from, [value; N]);
 }
 
 // Zeroes the scratch, and the rest of the storage from the counts on.
@@ -103,16 +97,17 @@ pub fn leave(buffers: &mut LentBuffers, used: Used, waiting: usize)
     ensures rows { buffers.new.rows.now ≡ buffers.old.rows.now }
     ensures lent { IsLent buffers.old buffers.new }
 {
-    clear_rows(buffers.tokens, 0);
-    clear_rows(buffers.calls, 0);
-    clear_rows(buffers.evals, waiting);
-    clear_rows(buffers.sorts, used.sorts);
-    clear_rows(buffers.symbols, used.symbols);
-    clear_rows(buffers.rules, used.rules);
+    fill_rows(buffers.tokens, 0, 0);
+    fill_rows(buffers.calls, 0, 0);
+    fill_rows(buffers.evals, waiting, 0);
+    fill_rows(buffers.sorts, used.sorts, 0);
+    fill_rows(buffers.symbols, used.symbols, 0);
+    fill_rows(buffers.rules, used.rules, 0);
     slices::clear_from(buffers.words, used.words, 0);
 }
 
 // Zeroes everything.
+// Stays: `load` owes `Wiped`; of `fill(0)` in its place it would get what each buffer holds, and its proof would put them together.
 pub fn leave_nothing(buffers: &mut LentBuffers)
     ensures wiped { Wiped (buffers_of buffers.old) (buffers_of buffers.new) }
     ensures lent { IsLent buffers.old buffers.new }

@@ -3,7 +3,6 @@ use Prim.Native.Nat.{ℕ, suc, ◌+◌, ◌-◌, ◌*◌, ◌≤◌, ◌<◌}
 use native.Mathlib.Omega.{arith}
 use native.Mathlib.Numerals.{add-one}
 use mathlib.Core.Path.{◌≡◌, refl, sym, ap, ◌∙◌, subst}
-use mathlib.Core.Logic.{◌≢◌}
 use mathlib.Core.Bool.{Bool, true, false}
 use mathlib.Core.List.{List, [], ◌∷◌}
 use lib.ListN.{length, set, length-set}
@@ -199,7 +198,7 @@ module _ {pattern : List ℕ} {reference : ℕ} {table₀ : List (Option ℕ)} {
         }
 
     -- A row is open.
-    module _ (n : depth ≢ 0) where
+    module _ (n : 1 ≤ depth) where
       abbrev last : ℕ
       last = depth - 1
 
@@ -226,9 +225,9 @@ module _ {pattern : List ℕ} {reference : ℕ} {table₀ : List (Option ℕ)} {
       turns_last = ap (turns stack) is
 
       -- All its arguments are met.
-      module _ (z : rest ≡ 0) where
+      module _ (z : 1 ≤ rest → ⊥) where
         closed : unmet (cells pattern) stack depth ≡ unmet (cells pattern) stack last
-        closed = split ∙ rw z
+        closed = let e : rest ≡ 0 = omega arith in split ∙ rw e
 
         pub less_close : left most stack spent last waiting < left most stack spent depth waiting
         less_close = let t = turns_last in omega arith
@@ -254,7 +253,7 @@ module _ {pattern : List ℕ} {reference : ℕ} {table₀ : List (Option ℕ)} {
             }
 
       -- The next argument is taken from it.
-      module _ (o : rest ≢ 0) where
+      module _ (o : 1 ≤ rest) where
         abbrev taken : Rows
         taken = set stack last ((at + 1) ∷ (rest - 1) ∷ [])
 

@@ -61,11 +61,9 @@ impl Places {
         let mut waiting = Some(reference);
         loop {
             match waiting.take() {
-                Some(next) => {
-                    if next < PATTERN_ROOM {
-                        self.give(next);
-                    } else {
-                        let address = next - PATTERN_ROOM;
+                Some(next) => match next.checked_sub(PATTERN_ROOM) {
+                    None => self.give(next),
+                    Some(address) => {
                         let arity = arity_of(words[address as usize]);
                         if most - spent <= arity {
                             return None;
@@ -74,18 +72,18 @@ impl Places {
                         stack[depth] = [address + 1, arity];
                         depth += 1;
                     }
-                }
+                },
                 None => {
-                    if depth == 0 {
+                    let Some(row) = depth.checked_sub(1) else {
                         return Some(spent);
-                    }
-                    let row = depth - 1;
+                    };
                     let [at, left] = stack[row];
-                    if left == 0 {
-                        depth -= 1;
-                    } else {
-                        stack[row] = [at + 1, left - 1];
-                        waiting = Some(words[at as usize]);
+                    match left.checked_sub(1) {
+                        None => depth = row,
+                        Some(rest) => {
+                            stack[row] = [at + 1, rest];
+                            waiting = Some(words[at as usize]);
+                        }
                     }
                 }
             }

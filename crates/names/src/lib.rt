@@ -1,10 +1,10 @@
 // Names: sorts, symbols and variables, found by their whole names. Two names are the same only if all their bytes are.
 #![tactic(auto)]
 
-ghost use Rattle.std.specs.Prelude.{ℕ, ◌≡◌, ◌≤◌, ◌<◌, List, length, get_or, position, IsTrue, ◌↔◌};
+ghost use Rattle.std.specs.Prelude.{ℕ, ◌≡◌, ◌≤◌, ◌<◌, List, length, get_or, position, cond, eqb, IsTrue, ◌↔◌};
 ghost use Rattle.source_text.specs.Bytes.{same_bytes};
 ghost use Rattle.source_text.specs.Parts.{part_of};
-ghost use Rattle.names.specs.Names.{Name, result_names, name_of, name_in};
+ghost use Rattle.names.specs.Names.{Name, result_names, result_kind, name_of, name_in};
 ghost use Rattle.names.specs.NamePlaces.{NamePlace, is_word_place};
 ghost use Rattle.names.specs.Symbols.{column, row_at, sort_of};
 
@@ -89,7 +89,7 @@ pub const NO_FUNCTION: u32 = 0;
 pub const FUNCTION: u32 = 1;
 
 // The names `result.1` to `result.16`, 16 bytes each.
-const RESULT_NAMES: [u8; 16 * PREMISES] =
+static RESULT_NAMES: [u8; 16 * PREMISES] =
     *b"result.1\0\0\0\0\0\0\0\0result.2\0\0\0\0\0\0\0\0result.3\0\0\0\0\0\0\0\0result.4\0\0\0\0\0\0\0\0result.5\0\0\0\0\0\0\0\0result.6\0\0\0\0\0\0\0\0result.7\0\0\0\0\0\0\0\0result.8\0\0\0\0\0\0\0\0result.9\0\0\0\0\0\0\0\0result.10\0\0\0\0\0\0\0result.11\0\0\0\0\0\0\0result.12\0\0\0\0\0\0\0result.13\0\0\0\0\0\0\0result.14\0\0\0\0\0\0\0result.15\0\0\0\0\0\0\0result.16\0\0\0\0\0\0\0";
 
 // The word at a place of a text.
@@ -132,21 +132,18 @@ fn is_word(text: &[u8], word: Word, w: &[u8]) -> bool
     words::same(part(text, word), w)
 }
 
-// Is the name at a place of `RESULT_NAMES` w? The table is laid out wherever it is named, so the functions that read it are apart from the others.
-fn is_result(word: Word, w: &[u8]) -> bool
-    ensures { result ≡ same_bytes (part_of result_names word.start word.size) w.now }
+// The bytes among which the name of a row of this kind stands.
+fn names_of<'a>(text: &'a [u8], kind: u32) -> &'a [u8]
+    ensures { result.now ≡ cond (eqb kind result_kind) result_names text.now }
 {
-    words::same(part(&RESULT_NAMES, word), w)
+    if kind == RESULT { &RESULT_NAMES } else { text }
 }
 
 // Is the name at a place w?
 pub fn is_named(text: &[u8], kind: u32, word: Word, w: &[u8]) -> bool
     ensures { result ≡ same_bytes (name_of text.now kind word.start word.size) w.now }
 {
-    if kind == RESULT {
-        return is_result(word, w);
-    }
-    is_word(text, word, w)
+    is_word(names_of(text, kind), word, w)
 }
 
 // A row with a name.
@@ -190,19 +187,9 @@ pub fn find<R: Named>(text: &[u8], rows: &[R], w: &[u8]) -> Option<usize>
     rows.iter().position(|row| row.is_called(text, w))
 }
 
-// The number of the first row whose name stands at a place of `RESULT_NAMES`.
-fn find_result<R: Named>(text: &[u8], rows: &[R], word: Word) -> Option<usize>
-    ensures { result ≡ position (λ row. same_bytes (R.name text.now row) (part_of result_names word.start word.size)) rows.now }
-{
-    find(text, rows, part(&RESULT_NAMES, word))
-}
-
 // The number of the first row whose name stands at a place.
 pub fn find_at<R: Named>(text: &[u8], rows: &[R], kind: u32, word: Word) -> Option<usize>
     ensures { result ≡ position (λ row. same_bytes (R.name text.now row) (name_of text.now kind word.start word.size)) rows.now }
 {
-    if kind == RESULT {
-        return find_result(text, rows, word);
-    }
-    find(text, rows, part(text, word))
+    find(text, rows, part(names_of(text, kind), word))
 }

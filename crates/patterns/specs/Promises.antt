@@ -14,7 +14,7 @@ use Rattle.refusals.specs.declared.Refusal.{Refusal}
 use Rattle.refusals.specs.Refusals.{number_of}
 use Rattle.patterns.specs.declared.EnteredVariable.{EnteredVariable}
 use Rattle.patterns.specs.declared.CompiledTerm.{CompiledTerm}
-use Rattle.patterns.specs.declared.NumeralSymbols.{NumeralSymbols}
+use Rattle.patterns.specs.declared.numeral_symbols.NumeralSymbols.{NumeralSymbols}
 use Rattle.patterns.specs.declared.Place.{Place}
 
 -- What the code hands back: a refusal, or references, words, variables and the room left.

@@ -3,7 +3,7 @@
 // All functions here serve the crates above: they ask for storage of the listed sizes.
 #![tactic(auto)]
 
-ghost use Rattle.std.specs.Prelude.{◌≡◌, List, [], ◌∷◌, ℕ, ◌+◌, ◌*◌, ◌≤◌, ◌<◌, length};
+ghost use Rattle.std.specs.Prelude.{◌≡◌, IfOk, List, [], ◌∷◌, ℕ, ◌+◌, ◌*◌, ◌≤◌, ◌<◌, length};
 ghost use Rattle.names.specs.Names.{name_of};
 ghost use Rattle.names.specs.Named.{symbols_named};
 ghost use Rattle.names.specs.Symbols.{column, row_at, symbol_of, symbols_of, variables_of};
@@ -12,9 +12,12 @@ ghost use Rattle.patterns.specs.Laying.{lay, laid};
 ghost use Rattle.patterns.specs.Promises.{stored, entry_of, Grew, answer, Small, NextIs, Ready, Compiled, NodeMade, tower, refusal, RefusedFor, constructor_of, NumeralsFound, Numbered, Judged};
 ghost use Rattle.patterns.specs.Promises.{LiesAt, EntryPlaced, MadePlaced};
 
+pub mod numeral_symbols; // the symbols of numerals
+
 use arena::{INPUTS, PATTERN_ROOM};
 use names::columns::{ARITY, FIRST_INPUT, MARK, OUTPUT, SORT};
 use names::{FUNCTION, SourceTerms, SymbolRow, TermRow, VariableRow, Word};
+pub use numeral_symbols::NumeralSymbols;
 use refusals::Refusal;
 
 // How many variables a rule may have.
@@ -112,22 +115,20 @@ fn variable(
     })
 }
 
-// The constructors of numerals, by the numbers of their symbols.
-#[derive(Clone, Copy)]
-pub struct NumeralSymbols {
-    pub zero: usize,
-    pub succ: usize,
-}
-
-impl NumeralSymbols {
+impl<'a> NumeralSymbols<'a> {
     // Those among a text's symbols.
     // Stays: a numeral's symbols are looked up for a program's functions too, whose symbols are lent with its rules and not with the rows of a term.
-    pub fn find(text: &[u8], symbols: &[SymbolRow]) -> Result<Self, Refusal>
-        ensures { NumeralsFound (symbols_of text.now symbols.now (length symbols.now)) result }
+    pub fn find(text: &[u8], symbols: &'a [SymbolRow]) -> Result<Self, Refusal>
+        ensures found { NumeralsFound (symbols_of text.now symbols.now (length symbols.now)) result }
+        ensures same { IfOk result (λ found. found.symbols.now ≡ symbols.now) }
     {
         let zero = constructor(text, symbols, b"zero").ok_or(Refusal::NoNumerals)?;
         let succ = constructor(text, symbols, b"succ").ok_or(Refusal::NoNumerals)?;
-        Ok(NumeralSymbols { zero, succ })
+        Ok(NumeralSymbols {
+            symbols,
+            zero,
+            succ,
+        })
     }
 }
 
@@ -151,17 +152,14 @@ fn misfit(symbol: &SymbolRow, want: u32, arguments: usize) -> Result<(), Refusal
 }
 
 // What n times `succ` on `zero` is refused for. Without room it ends, however large n is.
-fn numeral_misfit(
-    symbols: &[SymbolRow],
-    numerals: NumeralSymbols,
-    n: usize,
-    want: u32,
-    room: usize,
-) -> Result<(), Refusal>
-    requires { (numerals.succ < length symbols.now) × (numerals.zero < length symbols.now) }
-    ensures { (text : List ℕ) → RefusedFor (refusal (symbol_of text (row_at symbols.now numerals.succ)) (symbol_of text (row_at symbols.now numerals.zero)) n want room) result }
+fn numeral_misfit(numerals: NumeralSymbols, n: usize, want: u32, room: usize) -> Result<(), Refusal>
+    ensures { (text : List ℕ) → RefusedFor (refusal (symbol_of text (row_at numerals.entry.symbols.now numerals.entry.succ)) (symbol_of text (row_at numerals.entry.symbols.now numerals.entry.zero)) n want room) result }
 {
-    let NumeralSymbols { zero, succ } = numerals;
+    let NumeralSymbols {
+        symbols,
+        zero,
+        succ,
+    } = numerals;
     let mut s = want;
     let mut m = room;
     for _k in 0..n {
@@ -180,9 +178,9 @@ fn numeral_misfit(
 // Stays: with the words from `used` on alone lent, the caller would have to join what comes back, and references count from the first word of all.
 fn numeral_words(words: &mut [u32], used: usize, numerals: NumeralSymbols, n: usize) -> u32
     requires { (used + 1 + 2 * n ≤ length words.old) × (used + 2 * n ≤ 65536) × (numerals.succ < 1024) × (numerals.zero < 1024) }
-    ensures { lay (tower numerals.succ numerals.zero n) words.old used ≡ laid (result ∷ []) words.new (used + 1 + 2 * n) }
+    ensures { lay (tower numerals.entry.succ numerals.entry.zero n) words.old used ≡ laid (result ∷ []) words.new (used + 1 + 2 * n) }
 {
-    let NumeralSymbols { zero, succ } = numerals;
+    let NumeralSymbols { zero, succ, .. } = numerals;
     words[used] = arena::header_of(zero, 0);
     let h = arena::header_of(succ, 1);
     let mut r = PATTERN_ROOM + (used as u32);
@@ -215,7 +213,7 @@ fn numeral(
     ensures { Numbered source.entry.text.now (symbols_named source.entry) n want from.variables from.next words.old from.used from.room result words.new }
 {
     let numerals = NumeralSymbols::find(source.text, source.symbols)?;
-    numeral_misfit(source.symbols, numerals, n, want, from.room)?;
+    numeral_misfit(numerals, n, want, from.room)?;
     let r = numeral_words(words, from.used, numerals, n);
     Ok(CompiledTerm {
         node: r,

@@ -54,7 +54,7 @@ pub fn prove_cleared(
     }
     let signature = query.signature;
     let program = Program {
-        rules: &signature.rules[..signature.counts.rules as usize],
+        rules: signature.rules_in_use(),
         pattern: signature.words,
         limits: search_limits(query.limits),
         frames: query.limits.capped().steps,

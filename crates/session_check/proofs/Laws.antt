@@ -20,10 +20,9 @@ use Rattle.bindings.specs.Promises.{Tells, BindingsChecked}
 use Rattle.bindings.specs.Checking.{tells_no, tells_yes}
 use Rattle.unifier.specs.Promises.{Scratch}
 use Rattle.names.specs.Names.{Distinct, name_in}
-use Rattle.names.specs.Symbols.{Rows, column, row_at, sort_of, sorts_of, symbols_of}
+use Rattle.names.specs.Symbols.{Rows, column, columns, row_at, sort_of, sorts_of, symbols_of}
 use Rattle.names.specs.SearchLaws.{table_length, table_at, get_d_any}
 use Rattle.rules.specs.PatternLaws.{arities_of}
-use Rattle.signature.specs.Parts.{place_in}
 use Rattle.signature.proofs.Laws.{same}
 use Rattle.signature.proofs.UsedLaws.{used_length, row_used, used_each, each_used}
 use Rattle.sessions.specs.Storage.{SessionStore, Workspace, NameFormed, too_short}
@@ -43,9 +42,9 @@ names_there limits b s n e f = let l = (enough_lent limits b s e).names in omega
 
 -- The words at the places that were written are those of the names.
 module _ (text : List ℕ) (names places : Rows) (n : ℕ) (long : n ≤ length places) (put : (i : ℕ) → i < n
-    → row_at places i ≡ place_in (row_at names i) 1) where
+    → row_at places i ≡ columns (row_at names i) 1 2) where
   word_at : (i : ℕ) → i < n → get_or (sorts_of text places n) i [] ≡ word_in text (row_at names i)
-  unfolding sorts_of
+  unfolding sorts_of columns
   word_at i l =
       get_d_any (map (sort_of text) (take n places)) i [] (sort_of text []) (rw (table_length (sort_of text) places n long) l)
       ∙ table_at (sort_of text) places n long i l ∙ ap (sort_of text) (put i l)

@@ -20,6 +20,7 @@ pub struct SessionCounts {
 }
 
 // A session in storage: the rows of its names, its words, its bindings with their trail, and how much of each is in use.
+// Stays: C lends whole tables and counts of any size, so parts in use can be lent only behind `check_session`, which tests that the counts fit.
 #[derive(Clone, Copy)]
 pub struct StoredSession<'a> {
     pub names: &'a [NameRow],

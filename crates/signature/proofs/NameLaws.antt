@@ -1,15 +1,14 @@
--- The names of sorts and symbols together are those at the places that `put_places` writes.
+-- The names of sorts and symbols together are those at the places that `put_parts` writes.
 use Rattle.std.proofs.Common.{◌≡◌, ℕ, ◌+◌, ◌<◌, Bool, List, ◌∷◌, [], ◌++◌, map, length, take, refl, sym, ap, subst, ◌∙◌, arith, append_assoc, length-append}
 use Rattle.std.proofs.Math.ListN.{get_or-map}
 use Rattle.std.proofs.Math.Seq.{take-length}
 use Rattle.std.proofs.lemmas.List.{take_at, ext_get_or}
 use mathlib.Core.List.{map-append}
 use Rattle.names.specs.Names.{Name, Distinct}
-use Rattle.names.specs.Symbols.{Rows, Symbol, row_at, sort_of, symbol_of, sorts_of, symbols_of}
+use Rattle.names.specs.Symbols.{Rows, Symbol, columns, row_at, sort_of, symbol_of, sorts_of, symbols_of}
 use Rattle.names.specs.SearchLaws.{map_length}
 use Rattle.loader.specs.Legal.{names_of}
 use Rattle.unifier.specs.Promises.{Tells}
-use Rattle.signature.specs.Parts.{place_in}
 
 -- A symbol's name is at its row's place.
 names_map : (text : List ℕ) (rows : Rows) → map (λ (f : Symbol). f.name) (map (symbol_of text) rows) ≡ map (sort_of text) rows
@@ -19,11 +18,12 @@ names_map text (row ∷ rows) = ap (λ (l : List Name). sort_of text row ∷ l) 
 
 -- The places Q of the symbols' names stand behind those of the sorts, which are the sorts' rows.
 module _ (text : List ℕ) (sorts symbols placed Q zeros rest : Rows) (first : placed ≡ sorts) (as_many : length Q ≡ length symbols)
-    (each : (i : ℕ) → i < length symbols → row_at Q i ≡ place_in (row_at symbols i) 0) where
+    (each : (i : ℕ) → i < length symbols → row_at Q i ≡ columns (row_at symbols i) 0 2) where
   sorts_placed : take (length sorts) (placed ++ zeros) ≡ sorts
   sorts_placed = rw first (take_at sorts zeros (length sorts) refl)
 
   symbols_placed : map (sort_of text) Q ≡ map (sort_of text) symbols
+  unfolding columns
   symbols_placed =
       let p = map_length (sort_of text) Q in
       let q = map_length (sort_of text) symbols in

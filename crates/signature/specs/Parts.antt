@@ -26,10 +26,6 @@ pub record Counted (words : List ℕ) (n m k u : ℕ) : Type 0 where
 abbrev pub SortsNamed : List ℕ → Rows → ℕ → Type 0
 SortsNamed text sorts n = (i : ℕ) → i < n → NamePlace text (column (row_at sorts i) 0) (column (row_at sorts i) 1)
 
--- The place of a name, which stands in a row from a column on.
-abbrev pub place_in : List ℕ → ℕ → List ℕ
-place_in row at = column row at ∷ column row (at + 1) ∷ []
-
 -- A symbol's output, number of inputs and free column,
 pub record NumbersFormed (sorts o inputs f : ℕ) : Type 0 where
   pub output : o ≤ sorts

@@ -5,12 +5,12 @@
 
 ghost use Rattle.std.specs.Prelude.{◌≡◌, ℕ, ◌+◌, ◌≤◌, ◌<◌, length, take};
 ghost use Rattle.names.specs.Names.{Distinct};
-ghost use Rattle.names.specs.Symbols.{column, row_at, sorts_of, symbols_of};
+ghost use Rattle.names.specs.Symbols.{column, columns, row_at, sorts_of, symbols_of};
 ghost use Rattle.unifier.specs.Promises.{Tells};
 ghost use Rattle.rules.specs.PatternLaws.{arities_of};
 ghost use Rattle.loader.specs.Legal.{names_of};
 ghost use Rattle.signature.specs.Form.{SymbolFormed};
-ghost use Rattle.signature.specs.Parts.{Lent, Counted, SortsNamed, place_in, NumbersFormed, MarkFormed, ClausesFormed, InputsFormed, SymbolsFormed, RulesListed};
+ghost use Rattle.signature.specs.Parts.{Lent, Counted, SortsNamed, NumbersFormed, MarkFormed, ClausesFormed, InputsFormed, SymbolsFormed, RulesListed};
 ghost use Rattle.signature.specs.Storage.{store_of, SignatureChecked};
 
 pub mod columns;
@@ -40,6 +40,7 @@ pub struct Counts {
 }
 
 // A signature in storage: the rows of its sorts, symbols and rules, the words of the rules, and how much of each is in use.
+// Stays: C lends whole tables and counts of any size, so parts in use can be lent only behind `check_signature`, which tests that the counts fit.
 #[derive(Clone, Copy)]
 pub struct StoredSignature<'a> {
     pub sorts: &'a [SortRow],
@@ -56,6 +57,14 @@ impl<'a> StoredSignature<'a> {
         ensures { result.now ≡ take self.entry.counts.symbols self.entry.symbols.now }
     {
         &self.symbols[..self.counts.symbols as usize]
+    }
+
+    // The rows of the rules in use.
+    pub fn rules_in_use(self) -> &'a [RuleRow]
+        requires { self.counts.rules ≤ length self.rules.now }
+        ensures { result.now ≡ take self.entry.counts.rules self.entry.rules.now }
+    {
+        &self.rules[..self.counts.rules as usize]
     }
 }
 
@@ -88,14 +97,19 @@ fn are_sorts_named(text: &[u8], sorts: &[SortRow]) -> bool
         .all(|row| names::is_word_place(text, Word::at_start(row)))
 }
 
-// Writes the places of names: where they start and how long they are, which stand in rows from a column on.
-// Stays: tried `places.iter_mut().zip(rows)`: the loop's invariant can't name the places then, and so nothing is known of what was written.
-pub fn put_places<const N: usize>(rows: &[[u32; N]], at: usize, places: &mut [SortRow])
-    requires { (at + 1 < N) × (length rows.now ≤ length places.old) }
-    ensures { (i : ℕ) → i < length rows.now → row_at places.new i ≡ place_in (row_at rows.now i) at }
+// Writes M columns of rows, from a column on.
+// Stays: tried `parts.iter_mut().zip(rows)`: the loop's invariant can't name the parts then, and so nothing is known of what was written.
+pub fn put_parts<const N: usize, const M: usize>(
+    rows: &[[u32; N]],
+    at: usize,
+    parts: &mut [[u32; M]],
+)
+    requires { (at + M ≤ N) × (length rows.now ≤ length parts.old) }
+    ensures { (i : ℕ) → i < length rows.now → row_at parts.new i ≡ columns (row_at rows.now i) at M }
 {
     for (i, row) in rows.iter().enumerate() {
-        places[i] = [row[at], row[at + 1]];
+        let columns = &row[..];
+        parts[i].copy_from_slice(&columns[at..at + M]);
     }
 }
 
@@ -109,34 +123,36 @@ fn are_names_distinct(text: &[u8], sorts: &[SortRow], symbols: &[SymbolRow]) -> 
     let n = sorts.len();
     let m = symbols.len();
     places[..n].copy_from_slice(sorts);
-    put_places(symbols, START, &mut places[n..n + m]);
+    put_parts(symbols, START, &mut places[n..n + m]);
     distinct::are_distinct(text, &mut places[..n + m])
 }
 
 // Are a symbol's output, number of inputs and free column in form?
-fn are_numbers_formed(sorts: u32, output: u32, inputs: u32, free: u32) -> bool
-    ensures { Tells result (NumbersFormed sorts output inputs free) }
+fn are_numbers_formed(sorts: u32, row: &SymbolRow) -> bool
+    ensures { Tells result (NumbersFormed sorts (column row.now 2) (column row.now 6) (column row.now 7)) }
 {
-    output <= sorts && inputs <= INPUTS && free == 0
+    row[OUTPUT] <= sorts && row[ARITY] <= INPUTS && row[FREE] == 0
 }
 
 // A function has no output, and its last input is its result; only a function has clauses.
 // Stays: C callers lend the mark as a number that may be neither; an enum would be made by the same `match`, only to be matched again here.
-fn is_mark_formed(output: u32, mark: u32, clauses: u32, inputs: u32) -> bool
-    ensures { Tells result (MarkFormed output mark clauses inputs) }
+fn is_mark_formed(row: &SymbolRow) -> bool
+    ensures { Tells result (MarkFormed (column row.now 2) (column row.now 3) (column row.now 5) (column row.now 6)) }
 {
-    match mark {
-        NO_FUNCTION => clauses == 0,
-        FUNCTION => output == 0 && 0 < inputs,
+    match row[MARK] {
+        NO_FUNCTION => row[CLAUSES] == 0,
+        FUNCTION => row[OUTPUT] == 0 && 0 < row[ARITY],
         _ => false,
     }
 }
 
 // Are the clauses rules that there are, and is the first number zero without clauses?
-fn are_clauses_formed(first: u32, clauses: u32, rules: u32) -> bool
-    ensures { Tells result (ClausesFormed first clauses rules) }
+fn are_clauses_formed(row: &SymbolRow, rules: u32) -> bool
+    ensures { Tells result (ClausesFormed (column row.now 4) (column row.now 5) rules) }
 {
-    first as usize + clauses as usize <= rules as usize && (clauses != 0 || first == 0)
+    let first = row[FIRST_CLAUSE] as usize;
+    let clauses = row[CLAUSES] as usize;
+    first + clauses <= rules as usize && (clauses != 0 || first == 0)
 }
 
 // Is each input of a symbol's row a sort, and each column past them zero?
@@ -156,13 +172,13 @@ fn is_symbol_formed(text: &[u8], row: &SymbolRow, counts: Counts) -> bool
     if !names::is_word_place(text, Word::at_start(row)) {
         return false;
     }
-    if !are_numbers_formed(counts.sorts, row[OUTPUT], row[ARITY], row[FREE]) {
+    if !are_numbers_formed(counts.sorts, row) {
         return false;
     }
-    if !is_mark_formed(row[OUTPUT], row[MARK], row[CLAUSES], row[ARITY]) {
+    if !is_mark_formed(row) {
         return false;
     }
-    if !are_clauses_formed(row[FIRST_CLAUSE], row[CLAUSES], counts.rules) {
+    if !are_clauses_formed(row, counts.rules) {
         return false;
     }
     are_inputs_formed(counts.sorts, row)
@@ -182,14 +198,14 @@ fn are_rules_listed(
     text: &[u8],
     arities: &[u32],
     signature: StoredSignature,
-    stack: &mut [[u32; 2]],
+    stack: &mut [[u32; 2]; RULE_WORDS],
 ) -> bool
-    requires { (signature.counts.words ≤ length signature.words.now) × (signature.counts.words ≤ 65536) × (signature.counts.rules ≤ length signature.rules.now) × (2048 ≤ length stack.old) }
+    requires { (signature.counts.words ≤ length signature.words.now) × (signature.counts.words ≤ 65536) × (signature.counts.rules ≤ length signature.rules.now) }
     ensures { Tells result (RulesListed text.now arities.now signature.entry.words.now signature.entry.counts.sorts signature.entry.rules.now signature.entry.counts.rules signature.entry.counts.words) }
 {
     let counts = signature.counts;
     let mut at = 0;
-    for rule in &signature.rules[..counts.rules as usize] {
+    for rule in signature.rules_in_use() {
         let Some(next) = rule_checks::check_rule(
             text,
             arities,
@@ -231,7 +247,7 @@ pub fn check_signature(text: &[u8], signature: StoredSignature) -> bool
     }
     let sorts = &signature.sorts[..counts.sorts as usize];
     let symbols = signature.symbols_in_use();
-    let rules = &signature.rules[..counts.rules as usize];
+    let rules = signature.rules_in_use();
     if !are_sorts_named(text, sorts) {
         return false;
     }

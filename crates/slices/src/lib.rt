@@ -16,14 +16,11 @@ pub fn put<T: Copy>(items: &mut [T], at: usize, item: T)
 }
 
 // Clears the items from a place on: sets each to `zero`.
-// Stays: `fill` asks for a `clone` that cannot fail, and what `fill_with` writes is told as a fold of the closure's calls, not as `replicate`.
 pub fn clear_from<T: Copy>(items: &mut [T], from: usize, zero: T)
     ensures { items.new ≡ take from items.old ++ replicate (length items.old - from) zero }
 {
     let start = from.min(items.len());
-    for item in &mut items[start..] {
-        *item = zero;
-    }
+    items[start..].fill_with(|| zero);
 }
 
 // Is a place within the items or their end, and each item from there on the value?

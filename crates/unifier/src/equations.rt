@@ -105,19 +105,18 @@ pub fn equate(
                 }
             }
             None => {
-                if d == 0 {
+                let Some(last) = d.checked_sub(1) else {
                     break true;
-                }
-                let last = (d - 1) as usize;
-                let [left, right, taken] = stack[last];
+                };
+                let [left, right, taken] = stack[last as usize];
                 if taken < terms.arity(left) {
-                    stack[last] = [left, right, taken + 1];
+                    stack[last as usize] = [left, right, taken + 1];
                     pending = Some((terms.argument(left, taken), terms.argument(right, taken)));
                 } else {
                     link(links, c, left, right);
                     c += 1;
-                    stack[last] = [0, 0, 0];
-                    d -= 1;
+                    stack[last as usize] = [0, 0, 0];
+                    d = last;
                 }
             }
         }

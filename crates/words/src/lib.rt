@@ -28,7 +28,7 @@ use source_text::utf8::is_utf8;
 use tokens::{outside_line, read_lines};
 
 // The limits that a caller may set. A limit over the one of document 01 counts as that one.
-#[derive(Clone, Copy)]
+#[derive(Clone, Copy, Default)]
 pub struct Limits {
     pub text: u32,
     pub nodes: u32,
@@ -47,15 +47,6 @@ const STEPS: u32 = 65535;
 const VARIABLES: u32 = 65536;
 
 pub const WORDS: u32 = 262144;
-
-// Limits of 0, for those that a reader does not look at.
-pub const NO_LIMITS: Limits = Limits {
-    text: 0,
-    nodes: 0,
-    steps: 0,
-    variables: 0,
-    words: 0,
-};
 
 impl Limits {
     // The limits that count.

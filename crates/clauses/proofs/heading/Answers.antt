@@ -13,16 +13,14 @@ overflow_cast-out c = let f = few_patterns c.requires in omega arith
 pub overflow_add-out : goal.overflow_add-out
 overflow_add-out c = let f = few_patterns c.requires in omega arith
 
-pub move_rows-requires : goal.move_rows-requires
-move_rows-requires c =
-    let w = skipped_within c.requires (c.skip-end.result) (c.skip-end.ensures) in
+pub slice_bounds-copy_from_slice-end : goal.slice_bounds-copy_from_slice-end
+slice_bounds-copy_from_slice-end c =
+    let w = skipped_within c.requires c.skip-end.result c.skip-end.ensures in
     let p = c.requires in
-    (omega arith, rw length-set (omega arith))
+    simp length-set (omega arith)
+
+pub slice_bounds-copy_from_slice-end-2 : goal.slice_bounds-copy_from_slice-end-2
+slice_bounds-copy_from_slice-end-2 c = let w = skipped_within c.requires c.skip-end.result c.skip-end.ensures in omega arith
 
 pub returns : goal.returns
-returns c =
-    let pre = c.requires in
-    let args = c.args in
-    let skip = c.skip-end in
-    let move-rows = c.move_rows in
-    headed pre (args.word.start) (args.word.size) (skip.result) _ (skip.ensures) (move-rows.ensures)
+returns c = headed c.requires c.args.word.start c.args.word.size c.skip-end.result _ _ c.skip-end.ensures (omega arith) c.copy_from_slice.ensures.after

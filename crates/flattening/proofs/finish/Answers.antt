@@ -6,8 +6,6 @@ use Rattle.flattening.proofs.finish.Goals as goal
 pub returns : goal.returns
 returns c =
     let args = c.args in
-    let result-length = c.result_length-n in
-    let move-rows = c.move_rows in
     let pre = c.requires in
     let if1 = c.if-number-eq-PREMISES in
-    replaced args.out.now args.calls.now _ args.top args.from.top args.from.end args.from.number args.word.start args.word.size args.args result-length.result args.from.next move-rows.ensures pre.0 pre.1 pre.2 (omega (arith, if1.false)) result-length.ensures
+    replaced args.out.now args.calls.now _ args.top args.from.top args.from.end args.from.number args.word.start args.word.size args.args c.result_length-n.result args.from.next _ c.copy_from_slice.ensures.after (omega arith) pre.0 pre.1 pre.2 (omega (arith, if1.false)) c.result_length-n.ensures

@@ -1,9 +1,7 @@
--- `is_named` meets its contract: the name is one of flattening, or a word of the text.
-use borrow.Author.Tests.{eq-eqb, ne_eqb}
+-- `is_named` meets its contract: the name is a word of the bytes among which names of its kind stand.
+use Rattle.names.specs.Names.{result_names}
+use Rattle.names.proofs.NamesOf.{part_either}
 use Rattle.names.proofs.is_named.Goals as goal
 
-pub returns-then-kind-eq-RESULT : goal.returns-then-kind-eq-RESULT
-returns-then-kind-eq-RESULT c = rw (eq-eqb c.args.kind 27 c.if-kind-eq-RESULT.true) c.is_result.ensures
-
 pub returns : goal.returns
-returns c = rw (ne_eqb c.args.kind 27 c.if-kind-eq-RESULT.false) c.is_word.ensures
+returns c = rw (c.names_of.ensures, part_either _ result_names c.args.text.now c.args.word.start c.args.word.size) at c.is_word.ensures

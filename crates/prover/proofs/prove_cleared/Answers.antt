@@ -9,9 +9,10 @@ use Rattle.prover.proofs.prove_cleared.Goals as goal
 pub search_goal-requires : goal.search_goal-requires
 search_goal-requires c =
     let lent = rules_there c.requires in
-    asked_used _ _ _ (used_length _ _ lent) lent
+    rw c.rules_in_use.ensures
+    (asked_used _ _ _ (used_length _ _ lent) lent
     (search_asked c.requires (sym c.is_too_much.ensures ∙ c.if-is_too_much.false) _
-    (at_answer c.prepare.ensures c.in_ok-goal.was) (allowed_used _ _ lent _ c.search_limits.ensures c.capped.ensures))
+    (at_answer c.prepare.ensures c.in_ok-goal.was) (allowed_used _ _ lent _ c.search_limits.ensures c.capped.ensures)))
 
 pub returns-in_err-goal-clause-left : goal.returns-in_err-goal-clause-left
 returns-in_err-goal-clause-left c =
@@ -24,4 +25,4 @@ returns-clause-left c =
     let lent = rules_there c.requires in
     search_left c.requires (sym c.is_too_much.ensures ∙ c.if-is_too_much.false) _
     (at_answer c.prepare.ensures c.in_ok-goal.was) (allowed_used _ _ lent _ c.search_limits.ensures c.capped.ensures)
-    (left_used _ _ _ (used_length _ _ lent) lent c.search_goal.ensures.left)
+    (left_used _ _ _ (used_length _ _ lent) lent (rw c.rules_in_use.ensures at c.search_goal.ensures.left))

@@ -48,7 +48,7 @@ are_listed-requires c =
     let lent = holds c.is_lent.ensures c.if-not-is_lent.false-raw in
     let counted = holds c.is_counted.ensures c.if-not-is_counted.false-raw in
     let there = symbols_there_lem lent counted in
-    rw c.symbols_in_use-symbols.ensures
+    rw (c.symbols_in_use-symbols.ensures, c.rules_in_use-rules.ensures)
     (clauses_asked lent counted
     (each_used sg.symbols.now sg.counts.symbols there (SymbolFormed c.args.text.now sg.counts.sorts sg.counts.rules) (rw c.symbols_in_use-symbols.ensures at (holds c.are_symbols_formed.ensures c.if-not-are_symbols_formed.false-raw)))
     (holds c.are_rules_of.ensures c.if-not-are_rules_of.false-raw))
@@ -72,4 +72,4 @@ returns c =
     (rw (c.symbols_in_use-symbols.ensures, symbols_are) at (holds c.are_rules_of.ensures c.if-not-are_rules_of.false-raw))
     (clauses_listed text sg.words.now sg.symbols.now sg.rules.now sg.counts.symbols sg.counts.rules symbols_there rules_there (λ i l. (formed i l).clauses) h))
     (λ h. clauses_used text sg.words.now sg.symbols.now sg.rules.now sg.counts.symbols sg.counts.rules symbols_there rules_there (λ i l. (formed i l).clauses) h.clauses_formed)
-    (rw c.symbols_in_use-symbols.ensures at (c.are_listed.ensures text)))
+    (rw (c.symbols_in_use-symbols.ensures, c.rules_in_use-rules.ensures) at (c.are_listed.ensures text)))

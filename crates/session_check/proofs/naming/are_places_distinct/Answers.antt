@@ -6,7 +6,7 @@ use Rattle.session_check.proofs.naming.are_places_distinct.Goals as goal
 
 pub returns : goal.returns
 returns c =
-    let places = c.put_places.new.places in
+    let places = c.put_parts.new.parts in
     let n = length c.args.names.now in
-    let lent : n ≤ length places = omega (arith, c.requires, c.put_places.auto.places) in
-    places_distinct c.args.text.now c.args.names.now places n lent c.put_places.ensures (rw (sorts_used places n lent c.args.text.now) at c.are_distinct.ensures)
+    let lent : n ≤ length places = omega (arith, c.requires, c.put_parts.auto.parts) in
+    places_distinct c.args.text.now c.args.names.now places n lent c.put_parts.ensures (rw (sorts_used places n lent c.args.text.now) at c.are_distinct.ensures)
