@@ -115,6 +115,7 @@ impl Places {
 }
 
 // Whether each variable below `count` has its own number as its place.
+// Stays: with `&places[..count]` lent, the promise would be of that part, and the method, which promises it of the table, would need a law for it.
 pub fn is_in_order(places: &[Option<u32>], count: u32) -> bool
     requires { count ≤ length places.now }
     ensures { result ≡ in_order places.now count }
