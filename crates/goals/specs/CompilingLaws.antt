@@ -6,8 +6,8 @@ use Rattle.std.proofs.Math.Bool.{true, false}
 use mathlib.Core.List.{List, [], ◌∷◌, ◌++◌, map}
 use Rattle.term_parser.specs.Source.{one}
 use Rattle.names.specs.Names.{name_in}
-use Rattle.names.specs.Symbols.{Rows, Symbol, Variable, columns, row_at, variable_of, variables_of}
-use Rattle.names.specs.SearchLaws.{table_length, table_at}
+use Rattle.names.specs.Symbols.{Rows, Symbol, Variable, column, columns, row_at, variable_of, variables_of}
+use Rattle.names.specs.SearchLaws.{table_length, table_at, table_more}
 use Rattle.names.specs.Standing.{Stands}
 use Rattle.patterns.specs.Patterns.{Out, bad, good, pattern_of}
 use Rattle.patterns.specs.Laying.{Laid, laid, after, lay}
@@ -23,7 +23,7 @@ use Rattle.sessions.specs.Goals.{WrittenTerm, variable_for, name_for, closing, g
 use Rattle.goals.specs.Compiling.{Agrees, GoalMade}
 use Rattle.goals.specs.declared.Goal.{Goal}
 use Rattle.std.specs.Prelude.{Result, Ok, Err}
-use Rattle.std.proofs.lemmas.List.{length-map, get_or-map, ext_get_or}
+use Rattle.std.proofs.lemmas.List.{length-map, get_or-map, ext_get_or, map-append}
 
 -- Names as variables
 
@@ -45,6 +45,34 @@ module _ (text : List ℕ) (names : Rows) where
       table_at (variable_of text) vs (length names) l i k ∙ ap (variable_of text) (h i k) ∙ as_variable (row_at names i)
       ∙ sym (get_or-map variable_for (map (named_in text) (take (length names) names)) i (named_in text []) (variable_of text []) (omega arith)
       ∙ ap variable_for (table_at (named_in text) names (length names) (omega arith) i k)))
+
+-- The same row by row.
+module _ (text : List ℕ) (names : Rows) (i : ℕ) (l : i < length names) where
+  abbrev variable : Variable
+  variable = variable_for (named_in text (row_at names i))
+
+  abbrev row : List ℕ
+  row = column (row_at names i) 0 ∷ column (row_at names i) 1 ∷ column (row_at names i) 2 ∷ column (row_at names i) 3 ∷ []
+
+  -- One more name.
+  names_more : map variable_for (names_in text names (i + 1)) ≡ map variable_for (names_in text names i) ++ (variable ∷ [])
+  unfolding names_in
+  names_more =
+      ap (λ (j : ℕ). map variable_for (map (named_in text) (take j names))) (add-one i)
+      ∙ ap (λ (x : Rows). map variable_for (map (named_in text) x)) (take-suc names i [] l)
+      ∙ ap (map variable_for) (map-append (named_in text) (take i names) (row_at names i ∷ []))
+      ∙ map-append variable_for (map (named_in text) (take i names)) (named_in text (row_at names i) ∷ [])
+
+  -- A turn of the copy.
+  pub copied_more : (vs : Rows) → i < length vs → variables_of text vs i ≡ map variable_for (names_in text names i)
+      → variables_of text (set vs i row) (i + 1) ≡ map variable_for (names_in text names (i + 1))
+  unfolding variables_of variable_of named_in name_in
+  copied_more vs m e =
+      table_more (variable_of text) vs i row m ∙ ap (λ (x : List Variable). x ++ (variable ∷ [])) e ∙ sym names_more
+
+pub copied_none : (text : List ℕ) (names vs : Rows) → variables_of text vs 0 ≡ map variable_for (names_in text names 0)
+unfolding variables_of names_in
+copied_none text names vs = refl
 
 -- The ways out
 
