@@ -3,6 +3,7 @@ use mathlib.Core.Path.{◌≡◌, refl, sym, ap, ◌∙◌}
 use mathlib.Core.Bool.{Bool, true, false, cond}
 use mathlib.Core.List.{List, []}
 use Rattle.std.specs.Prelude.{Option, Some, None}
+use Rattle.std.specs.Option.{is_some}
 use Prim.Native.Nat.{ℕ, suc, ◌+◌, ◌*◌, ◌-◌, ◌≤◌, ◌<◌}
 use native.Mathlib.Omega.{arith}
 use lib.ListN.{length, set, length-set}
@@ -18,9 +19,9 @@ use Rattle.names.specs.Symbols.{Rows, column, row_at, Symbol, symbols_of}
 use Rattle.names.specs.RowNames.{kind_at, name_at}
 use Rattle.names.specs.Standing.{Stands, parsed_stands}
 use Rattle.flattening.specs.Flattening.{snoc, is_function, Flat, flat, resulted, calling, paired, and_flat, flatten_of}
-use Rattle.flattening.specs.Promises.{call_limit, arity_of, is_call, premise_count, Finishes, Room, FlatAs, FlatRows, TooMany, Flattens}
+use Rattle.flattening.specs.Promises.{call_limit, arity_of, is_call, callee_of, premise_count, Finishes, Room, FlatAs, FlatRows, TooMany, Flattens}
 use Rattle.flattening.specs.declared.Place.{Place}
-use Rattle.flattening.proofs.SymbolLaws.{call_of_lem, is_call_kind}
+use Rattle.flattening.proofs.SymbolLaws.{call_of_lem, is_call_kind, is_callee}
 use Rattle.flattening.proofs.RowLaws.{forward, moved, stands_snoc, size_snoc}
 
 -- Lists of flattened terms.
@@ -317,8 +318,9 @@ module _ {text : List ℕ} {rows : Rows} {at : ℕ} {symbol_rows : Rows} {count 
     below_top : (k : ℕ) → k < top → row_at out k ≡ row_at out₀ k
     below_top k l = inv.below k (omega arith) ∙ get_or-set_other out₀ top k (row_at rows at) [] (λ q. omega arith)
 
-    pub end_plain : is_call symbols (kind_at rows at) (name_at text rows at) ≡ false → FlatRows text rows at symbols out₀ top calls₀ end number out calls row last stop made
-    end_plain other =
+    pub end_plain : {o : Option ℕ} → o ≡ callee_of symbols (kind_at rows at) (name_at text rows at) → is_some o ≡ false → FlatRows text rows at symbols out₀ top calls₀ end number out calls row last stop made
+    end_plain e f =
+        let other = sym (is_callee symbols (kind_at rows at) (name_at text rows at) e) ∙ f in
         record {
           onward = omega arith;
           within = inv.within;
@@ -374,10 +376,11 @@ module _ {text : List ℕ} {rows : Rows} {at : ℕ} {symbol_rows : Rows} {count 
         (inv.written, omega arith, omega arith, inv.allowed, omega arith)
 
     -- What `finish` answers is right.
-    pub end_call : is_call symbols (kind_at rows at) (name_at text rows at) ≡ true → (out' calls' : Rows) (r : Option Place) → length out' ≡ length out → length calls' ≡ length calls
+    pub end_call : {o : Option ℕ} → o ≡ callee_of symbols (kind_at rows at) (name_at text rows at) → is_some o ≡ true → (out' calls' : Rows) (r : Option Place) → length out' ≡ length out → length calls' ≡ length calls
         → Finishes out top last calls stop made (column (row_at rows at) 1) (column (row_at rows at) 2) n row out' calls' r → Flattens text rows at symbols out₀ top calls₀ end number out' calls' r
-    end_call called-here out' calls' None lo lc f = λ t q ps st sp cp. call_over (call_is called-here t q ps st sp cp) f
-    end_call called-here out' calls' (Some p) lo lc f =
+    end_call e h out' calls' None lo lc f = λ t q ps st sp cp. call_over (call_is (sym (is_callee symbols (kind_at rows at) (name_at text rows at) e) ∙ h) t q ps st sp cp) f
+    end_call e h out' calls' (Some p) lo lc f =
+        let called-here = sym (is_callee symbols (kind_at rows at) (name_at text rows at) e) ∙ h in
         let f0 = f.next_same in
         let f1 = f.one_row in
         record {

@@ -1,7 +1,8 @@
 -- What a symbol's row and a term's row say of calls.
-use mathlib.Core.Path.{◌≡◌, refl, sym, ◌∙◌}
-use Rattle.std.specs.Prelude.{Option, Some, None, MatchOption}
+use mathlib.Core.Path.{◌≡◌, refl, sym, ap, ◌∙◌}
+use Rattle.std.specs.Prelude.{Option, Some, None}
 use Rattle.std.specs.List.{position}
+use Rattle.std.specs.Option.{is_some}
 use Rattle.source_text.specs.Bytes.{same_bytes}
 use mathlib.Core.Bool.{Bool, true, false, cond}
 use mathlib.Core.List.{List, [], map}
@@ -9,14 +10,14 @@ use Prim.Native.Nat.{ℕ, ◌≤◌, ◌<◌}
 use native.Mathlib.Omega.{arith}
 use lib.Dec.{eqb}
 use lib.ListN.{length, take}
-use borrow.Author.Tests.{lt-ltb, le-ltb, ne_eqb, eqb-false}
+use borrow.Author.Tests.{lt-ltb, le-ltb, eq-eqb, ne_eqb, eqb-false}
 use Rattle.words.specs.Names.{metavariable_kind, numeral_kind}
 use Rattle.names.specs.Names.{Name}
 use Rattle.names.specs.Symbols.{Rows, column, row_at, Symbol, sort_of, symbol_of, symbols_of, symbol_number, symbol_at, no_symbol}
 use Rattle.names.specs.SearchLaws.{table_length, table_at, get_d_any}
 use Rattle.names.specs.UsedLaws.{some_symbol, no_symbol as no_symbol_of}
 use Rattle.flattening.specs.Flattening.{is_function}
-use Rattle.flattening.specs.Promises.{is_call}
+use Rattle.flattening.specs.Promises.{is_call, callee_of}
 
 -- The mark of the symbol that is found tells functions.
 module _ (text : List ℕ) (rows : Rows) (n : ℕ) (h : n ≤ length rows) where
@@ -51,12 +52,41 @@ module _ (symbols : List Symbol) (kind : ℕ) (w : Name) where
       go false true p q e = absurd (let z : ◌≡◌ {A = ℕ} 0 1 = cc in omega arith)
       go false false p q e = (eqb-false kind metavariable_kind p, eqb-false kind numeral_kind q)
 
--- What is found is below the rows' number,
-pub function_there : (text : List ℕ) (rows : Rows) (w : Name) (found : Option ℕ) → found ≡ position (λ row. same_bytes (sort_of text row) w) rows → (i : ℕ) → found ≡ Some i → i < length rows
-function_there text rows w found e i q = (some_symbol text rows w i (sym q ∙ e)).1
+  -- What the function that a row calls says of the row.
+  pub is_callee : {o : Option ℕ} → o ≡ callee_of symbols kind w → is_some o ≡ is_call symbols kind w
+  is_callee {o} e = ap is_some e ∙ go (is_call symbols kind w)
+    where
+      go : (b : Bool) → is_some (cond b (Some (symbol_number symbols w)) None) ≡ b
+      go true = refl
+      go false = refl
 
--- and the answer that is made of its row, or of none, tells functions.
-pub function_told : (text : List ℕ) (rows : Rows) (w : Name) (found : Option ℕ) (r : Bool) → found ≡ position (λ row. same_bytes (sort_of text row) w) rows
-    → MatchOption found (r ≡ false) (λ i. r ≡ eqb (column (row_at rows i) 3) 1) → r ≡ is_function (symbols_of text rows (length rows)) w
-function_told text rows w None r e h = h ∙ function_absent text rows (length rows) (omega arith) w _ refl (no_symbol_of text rows w e)
-function_told text rows w (Some i) r e h = let (q, l) = some_symbol text rows w i e in h ∙ function_found text rows (length rows) (omega arith) w i q l
+  pub callee_some : {i : ℕ} → Some i ≡ callee_of symbols kind w → (is_call symbols kind w ≡ true) × (i ≡ symbol_number symbols w)
+  callee_some {i} = go (is_call symbols kind w)
+    where
+      go : (b : Bool) → Some i ≡ cond b (Some (symbol_number symbols w)) None → (b ≡ true) × (i ≡ symbol_number symbols w)
+      go true h = (refl, cc)
+      go false h = absurd (let z : ⊥ = cc in z)
+
+-- What the symbol that is found, or none, says of the function that the row calls.
+module _ (text : List ℕ) (rows : Rows) (kind : ℕ) (w : Name) (a : kind ≡ metavariable_kind → ⊥) (b : kind ≡ numeral_kind → ⊥) where
+  abbrev table : List Symbol
+  table = symbols_of text rows (length rows)
+
+  callee_there : (f : Bool) → is_function table w ≡ f → callee_of table kind w ≡ cond f (Some (symbol_number table w)) None
+  callee_there f e = ap (λ (c : Bool). cond c (Some (symbol_number table w)) None) (call_of_lem table kind w a b ∙ e)
+
+  abbrev search : Option ℕ
+  search = position (λ row. same_bytes (sort_of text row) w) rows
+
+  pub callee_unknown : None ≡ search → None ≡ callee_of table kind w
+  callee_unknown e = sym (callee_there false (sym (function_absent text rows (length rows) (omega arith) w _ refl (no_symbol_of text rows w e))))
+
+  pub callee_other : {i : ℕ} → Some i ≡ search → (column (row_at rows i) 3 ≡ 1 → ⊥) → None ≡ callee_of table kind w
+  callee_other {i} e f =
+      let (q, l) = some_symbol text rows w i e in
+      sym (callee_there false (sym (function_found text rows (length rows) (omega arith) w i q l) ∙ ne_eqb (column (row_at rows i) 3) 1 f))
+
+  pub callee_found : {i : ℕ} → Some i ≡ search → column (row_at rows i) 3 ≡ 1 → Some i ≡ callee_of table kind w
+  callee_found {i} e f =
+      let (q, l) = some_symbol text rows w i e in
+      ap Some q ∙ sym (callee_there true (sym (function_found text rows (length rows) (omega arith) w i q l) ∙ eq-eqb (column (row_at rows i) 3) 1 f))

@@ -8,7 +8,7 @@ use Rattle.term_parser.specs.Rows.{application_kind}
 use Rattle.term_parser.specs.Standing as parsed
 use Rattle.term_parser.specs.Standing.{Written, called, applied, size}
 use Rattle.names.specs.Names.{Name, result_name}
-use Rattle.names.specs.Symbols.{Rows, row_at, Symbol}
+use Rattle.names.specs.Symbols.{Rows, row_at, Symbol, symbol_number}
 use Rattle.names.specs.Standing.{Stands}
 use Rattle.flattening.specs.Flattening.{Flat, flat, snoc, is_function, flatten_of}
 use Rattle.flattening.specs.declared.Place.{Place}
@@ -24,6 +24,10 @@ arity_of kind n = cond (eqb kind application_kind) n 0
 -- Does a row of this kind and name stand for a call? Metavariables and numerals do not.
 abbrev pub is_call : List Symbol → ℕ → Name → Bool
 is_call symbols kind w = cond (eqb kind metavariable_kind) false (cond (eqb kind numeral_kind) false (is_function symbols w))
+
+-- The number of the function that a row of this kind and name calls, if it stands for a call.
+abbrev pub callee_of : List Symbol → ℕ → Name → Option ℕ
+callee_of symbols kind w = cond (is_call symbols kind w) (Some (symbol_number symbols w)) None
 
 -- How many premises there are in all.
 abbrev pub premise_count : {n : Arity} → Flat n → ℕ

@@ -3,13 +3,12 @@
 // All functions here serve the crates above: `Room` and the contracts say what they ask.
 #![tactic(auto)]
 
-ghost use Rattle.std.specs.Prelude.{◌≡◌, ◌+◌, ◌-◌, ◌*◌, ◌≤◌, ◌<◌, eqb, length};
+ghost use Rattle.std.specs.Prelude.{◌≡◌, ◌+◌, ◌-◌, ◌*◌, ◌≤◌, ◌<◌, length};
 ghost use Rattle.source_text.specs.Parts.{part_of};
 ghost use Rattle.names.specs.Names.{result_length};
 ghost use Rattle.names.specs.Named.{symbols_named};
-ghost use Rattle.names.specs.Symbols.{column, row_at};
-ghost use Rattle.flattening.specs.Flattening.{is_function};
-ghost use Rattle.flattening.specs.Promises.{call_limit, arity_of, is_call, Finishes, Room, Flattens};
+ghost use Rattle.names.specs.Symbols.{column};
+ghost use Rattle.flattening.specs.Promises.{call_limit, arity_of, callee_of, Finishes, Room, Flattens};
 
 use names::columns::MARK;
 use names::{FUNCTION, PREMISES, SourceTerms, TermRow, Word};
@@ -24,28 +23,19 @@ pub struct Place {
     pub number: usize,
 }
 
-// Is the word at a place of the text the name of a function?
-// Stays: `forward_calls` tests so too, and reads the symbol's row besides; one function for both would tell `flatten` the number, which it never reads.
-fn is_function(source: SourceTerms, word: Word) -> bool
-    ensures { result ≡ is_function (symbols_named source.entry) (part_of source.entry.text.now word.start word.size) }
+// The number of the function that a row calls, if it stands for a call.
+pub fn callee(source: SourceTerms, row: &TermRow) -> Option<usize>
+    ensures { result ≡ callee_of (symbols_named source.entry) (column row.now 0) (part_of source.entry.text.now (column row.now 1) (column row.now 2)) }
 {
-    names::find(source.text, source.symbols, names::part(source.text, word)).is_some_and(
-        |i|
-            requires { i < length source.symbols.now }
-            ensures { result ≡ eqb (column (row_at source.entry.symbols.now i) 3) 1 }
-        { source.symbols[i][MARK] == FUNCTION },
-    )
-}
-
-// Does a row stand for a call?
-// Stays: the kind is a number in a row of the parser; an enum of kinds would be made by the same `match`, only to be matched again here.
-fn is_call(source: SourceTerms, row: &TermRow) -> bool
-    ensures { result ≡ is_call (symbols_named source.entry) (column row.now 0) (part_of source.entry.text.now (column row.now 1) (column row.now 2)) }
-{
-    match row[0] {
-        words::METAVARIABLE | words::NUMERAL => false,
-        _ => is_function(source, Word::behind_kind(row)),
+    if row[0] == words::METAVARIABLE || row[0] == words::NUMERAL {
+        return None;
     }
+    let name = names::part(source.text, Word::behind_kind(row));
+    let i = names::find(source.text, source.symbols, name)?;
+    if source.symbols[i][MARK] != FUNCTION {
+        return None;
+    }
+    Some(i)
 }
 
 // How many arguments follow a row.
@@ -134,7 +124,7 @@ pub fn flatten(
     for _i in 0..n {
         place = flatten(source, out, calls, place)?;
     }
-    if is_call(source, &row) {
+    if callee(source, &row).is_some() {
         return finish(out, top, calls, place, Word::behind_kind(&row), n);
     }
     Some(place)

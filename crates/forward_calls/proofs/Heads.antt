@@ -28,6 +28,7 @@ pub record Head (text : List ℕ) (rows : Rows) (p : ℕ) (t : Written one) (q :
   pub name : Name
   pub parts : Written many
   pub spells : name_of text (column (row_at rows p) 0) (column (row_at rows p) 1) (column (row_at rows p) 2) ≡ name
+  pub written : part_of text (column (row_at rows p) 1) (column (row_at rows p) 2) ≡ name
   pub counts : column (row_at rows p) 3 ≡ size parts
   pub stands : Stands text rows (p + 1) parts q
   pub forward : (symbols : List Symbol) → is_forward_call symbols t ≡ (is_called_with symbols name (size parts) && is_ground t)
@@ -52,6 +53,7 @@ head_of text rows p q (called w) h n m = record {
   name = w;
   parts = none;
   spells = spelled text rows p 12 w (λ e. let z : ⊥ = omega arith in z) h.0.kinded h.0.spells;
+  written = h.0.spells;
   counts = h.0.counts;
   stands = h.1;
   forward = λ symbols. and_true (is_called_with symbols w 0);
@@ -61,6 +63,7 @@ head_of text rows p q (applied w ts) h n m = record {
   name = w;
   parts = ts;
   spells = spelled text rows p 24 w (λ e. let z : ⊥ = omega arith in z) h.0.kinded h.0.spells;
+  written = h.0.spells;
   counts = h.0.counts;
   stands = h.1;
   forward = λ symbols. refl;

@@ -6,8 +6,8 @@
 ghost use Rattle.forward_calls.specs.Ground.{GroundAsked, GroundAnswered};
 ghost use Rattle.forward_calls.specs.Forward.{ForwardAsked, ForwardAnswered};
 
-use names::columns::{ARITY, MARK};
-use names::{FUNCTION, Source, SymbolRow, Word};
+use names::columns::ARITY;
+use names::{Source, SourceTerms, SymbolRow};
 
 // Whether a term has no metavariable: its rows stand in preorder, so one pass over them sees every part.
 // Stays: tried by `any` up to the row that `clauses::skip` finds: its goal `skip-end-requires` is open, as here there may be more than 65,536 rows.
@@ -36,16 +36,14 @@ pub fn is_forward_call(term: Source, symbols: &[SymbolRow]) -> bool
     ensures { ForwardAnswered term.entry.text.now term.entry.rows.now term.entry.at symbols.now result }
 {
     let row = &term.rows[term.at];
-    let kind = row[0];
-    if kind == words::NUMERAL || kind == words::METAVARIABLE {
-        return false;
-    }
-    let Some(i) = names::find_at(term.text, symbols, kind, Word::behind_kind(row)) else {
+    let source = SourceTerms {
+        text: term.text,
+        rows: term.rows,
+        symbols,
+    };
+    let Some(i) = flattening::callee(source, row) else {
         return false;
     };
-    if symbols[i][MARK] != FUNCTION {
-        return false;
-    }
     if symbols[i][ARITY].checked_sub(1) != Some(row[3]) {
         return false;
     }

@@ -4,7 +4,7 @@ use Rattle.names.specs.Symbols.{row_at, symbols_of}
 use Rattle.flattening.proofs.FlatteningLaws.{past_rows, loop_start, argument_room, turn_over, turn, end_plain, finish_room, end_call}
 use native.Mathlib.Omega.{arith}
 use Prim.Native.Nat.{◌<◌}
-use mathlib.Core.List.{List, []}
+use mathlib.Core.List.{[]}
 use lib.ListN.{length}
 use mathlib.Core.Path.{◌≡◌, sym, ap, ◌∙◌}
 use Rattle.flattening.proofs.+flatten.Goals as goal
@@ -52,14 +52,13 @@ finish-requires t c =
     let i = rw e at c.loop-i.invariant in
     finish_room c.requires l n i c.loop-i-test.false
 
-pub returns-then-is_call : goal.returns-then-is_call
-returns-then-is_call t c =
+pub returns-then-is_some : goal.returns-then-is_some
+returns-then-is_some t c =
     let l : c.args.from.next < length c.args.source.rows.now = omega (arith, rw c.in_ok-row.was at c.get.ensures.lookup.3) in
     let e : c.in_ok-row.field-0.now ≡ row_at c.args.source.rows.now c.args.from.next = ap (λ r. unwrap_or (option_map (λ x. x.now) r) []) (sym c.in_ok-row.was) ∙ c.get.ensures.lookup.4 (omega arith) [] in
     let n = rw e at c.arity-n.ensures.value in
     let i = rw e at c.loop-i.invariant in
-    end_call c.requires l n i c.loop-i-test.false (sym (rw e at c.is_call.ensures)
-    ∙ c.if-is_call.true) _ _ c.finish.result c.finish.auto.out c.finish.auto.calls (rw e at (rw c.behind_kind.ensures at c.finish.ensures))
+    end_call c.requires l n i c.loop-i-test.false (rw e at c.callee.ensures) (sym c.is_some.ensures ∙ c.if-is_some.true) _ _ c.finish.result c.finish.auto.out c.finish.auto.calls (rw e at (rw c.behind_kind.ensures at c.finish.ensures))
 
 pub returns : goal.returns
 returns t c =
@@ -67,4 +66,4 @@ returns t c =
     let e : c.in_ok-row.field-0.now ≡ row_at c.args.source.rows.now c.args.from.next = ap (λ r. unwrap_or (option_map (λ x. x.now) r) []) (sym c.in_ok-row.was) ∙ c.get.ensures.lookup.4 (omega arith) [] in
     let n = rw e at c.arity-n.ensures.value in
     let i = rw e at c.loop-i.invariant in
-    end_plain c.requires l n i c.loop-i-test.false (sym (rw e at c.is_call.ensures) ∙ c.if-is_call.false)
+    end_plain c.requires l n i c.loop-i-test.false (rw e at c.callee.ensures) (sym c.is_some.ensures ∙ c.if-is_some.false)
