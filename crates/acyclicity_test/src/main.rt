@@ -91,11 +91,7 @@ fn tower(name: &[u8], variable: u32) {
         leaf: 1,
         arity: 2,
     };
-    let Some(built) = put_tower(&mut words, TERM_ROOM, 0, shared) else {
-        report::text(name);
-        report::text(b": no room\n");
-        return;
-    };
+    let built = put_tower(&mut words, TERM_ROOM, 0, shared);
     let mut bindings = [[0u32; 2]; 2];
     slices::put(
         &mut bindings,

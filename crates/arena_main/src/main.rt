@@ -3,9 +3,6 @@
 
 #![tactic(auto)]
 
-ghost use Rattle.std.specs.Prelude.{◌≤◌};
-ghost use Rattle.arena.specs.Form.{inputs};
-
 use arena::{PATTERN_ROOM, Terms};
 use samples::build::{BINARY, CONSTANT, MOST, OTHER, Tower, UNARY, put_two};
 use samples::report;
@@ -39,9 +36,7 @@ fn compare(words: &[u32], links: &mut [u32], a: u32, b: u32) -> Option<bool> {
 }
 
 // Two towers of the heights m and n with `arity` arguments in a node, the second on the leaf given; with two arguments they are shared terms.
-fn towers(m: u32, n: u32, leaf: u32, arity: u32) -> Option<bool>
-    requires { arity ≤ inputs }
-{
+fn towers(m: u32, n: u32, leaf: u32, arity: u32) -> Option<bool> {
     let mut words = [0u32; MOST as usize];
     let mut links = [0u32; MOST as usize];
     let lower = Tower {

@@ -42,7 +42,7 @@ const RULE: Stored = Stored {
 };
 
 // Whether storage has room for what the limits allow, and the scratch is zero.
-// Stays: as at `is_state`, of words, bindings and workspace.
+// Stays: `try_rule` takes words, bindings and workspace apart, so a struct of the three would be made for this one call and taken apart in it.
 fn has_room(words: &[u32], bindings: &[[u32; 2]], workspace: &Workspace, state: SearchState) -> bool
     ensures { result ≡ true → Room state.limits.variables state.limits.words words.now bindings.now
         workspace.now.links.now workspace.now.marks.now workspace.now.stack.now }
@@ -93,7 +93,7 @@ fn is_state(
 }
 
 // Tries the rule: as `try_rule` answers.
-// Stays: as at `is_state`, of words, bindings and workspace.
+// Stays: `try_rule` takes words, bindings and workspace apart, so a struct of the three would be made for this one call and taken apart in it.
 pub fn attempt(
     words: &mut [u32],
     bindings: &mut [[u32; 2]],
@@ -111,7 +111,12 @@ pub fn attempt(
         stored: RULE,
     };
     let tried = attempts::try_rule(rule, words, bindings, &mut lent, state);
-    unification::is_clean(&lent)
+    let Workspace {
+        links,
+        marks,
+        stack,
+    } = lent;
+    unification::is_clean(links, marks, stack)
         .then_some(tried)
         .ok_or(Fault::ScratchLeft)
 }

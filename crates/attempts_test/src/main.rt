@@ -37,7 +37,7 @@ fn put_goal(
         leaf: TERM_ROOM,
         arity: 1,
     };
-    let used = build::put_tower(words, TERM_ROOM, 2, tower)?.next;
+    let used = build::put_tower(words, TERM_ROOM, 2, tower).next;
     if LEVELS < height || 100 < spare || MOST < used {
         return None;
     }
@@ -87,12 +87,12 @@ fn report_attempt(
         }
         Ok(Err(_)) => {
             report::text(b": exceeded");
-            unification::compare(&remains);
+            remains.compare();
         }
         Ok(Ok(Tried::Missed { counter })) => {
             report::text(b": missed, counter ");
             report::decimal(counter);
-            unification::compare(&remains);
+            remains.compare();
         }
         Ok(
             Ok(

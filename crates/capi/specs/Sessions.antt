@@ -7,6 +7,8 @@ use Rattle.signature.specs.Storage.{SignatureStore}
 use Rattle.sessions.specs.Storage.{SessionStore, Workspace}
 use Rattle.sessions.specs.Promises.{Opening, Asked, Proving}
 use Rattle.sessions.specs.declared.SessionCounts.{SessionCounts}
+use Rattle.sessions.specs.declared.Verdict.{Verdict}
+use Rattle.sessions.specs.declared.Verdict.TheVariants.{Proved as ProvedCase, Nothing as NothingCase, Undecided as UndecidedCase}
 use Rattle.sessions.specs.Answers.{Answer, Refused, Proved, Nothing, Undecided}
 use Rattle.refusals.specs.Refusals.{number_of}
 use Rattle.refusals.specs.declared.Refusal.{Refusal}
@@ -31,6 +33,13 @@ pub record OpenedAs (variables words : ℕ) (b : SessionStore) (s : Workspace) (
 -- A session's four counts.
 abbrev pub counts_in : List ℕ → SessionCounts
 counts_in counts = record { names = get_or counts 0 0; variables = get_or counts 1 0; bound = get_or counts 2 0; words = get_or counts 3 0 }
+
+-- An answer whose refusal is told by its number, whichever that is.
+abbrev pub answer_of : Result Verdict ℕ → Answer
+answer_of (Err e) = Refused e
+answer_of (Ok (ProvedCase u nodes m)) = Proved u nodes m
+answer_of (Ok (NothingCase u m)) = Nothing u m
+answer_of (Ok (UndecidedCase u m)) = Undecided u m
 
 -- 1 for a proof, 2 for none, 3 for undecided, or 2^32 times the refusal's number.
 abbrev pub packed_proof : Answer → ℕ

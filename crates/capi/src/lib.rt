@@ -8,11 +8,10 @@ ghost use Rattle.capi.specs.Checks.{CheckedAs};
 ghost use Rattle.signature.specs.Storage.{store_of};
 ghost use Rattle.capi.specs.Evaluation.{store_with, stored_counts, EvaluatedAs, ForwardAs};
 ghost use Rattle.capi.specs.Signatures.{LoadedAs};
-ghost use Rattle.capi.specs.Sessions.{OpenedAs, ProvedAs, counts_in, packed_proof, verdict_row, verdict_after, search_limits};
+ghost use Rattle.capi.specs.Sessions.{OpenedAs, ProvedAs, answer_of, counts_in, packed_proof, verdict_row, verdict_after, search_limits};
 ghost use Rattle.capi.specs.Unification.{Answered};
 ghost use Rattle.capi.specs.Words.{packed, packed_rejection, text_limit};
 ghost use Rattle.refusals.specs.Refusals.{number_of};
-ghost use Rattle.sessions.specs.Answers.{answer_in};
 ghost use Rattle.words.specs.Lexer.{lex_answer, lex_rows};
 
 use arena::{TERM_ROOM, Terms};
@@ -115,11 +114,11 @@ fn put_numbers(results: &mut [u32], numbers: &[u32])
     results[..numbers.len()].copy_from_slice(numbers);
 }
 
-// Zeroes the numbers of what is refused; 1 writes nothing.
-fn clear_numbers(results: &mut [u32], refusal: Refusal)
-    ensures { results.new ≡ cond (eqb (number_of refusal) 1) results.old (replicate (length results.old) 0) }
+// Zeroes the numbers of what is refused, by the refusal's number; 1 writes nothing.
+fn clear_numbers(results: &mut [u32], number: u32)
+    ensures { results.new ≡ cond (eqb number 1) results.old (replicate (length results.old) 0) }
 {
-    if refusal != Refusal::Storage {
+    if number != u32::from(Refusal::Storage) {
         results.fill(0);
     }
 }
@@ -212,7 +211,7 @@ pub fn horn_load(
     };
     match load::load(text, limits, &mut buffers) {
         Err(rejection) => {
-            clear_numbers(counts, rejection.refusal);
+            clear_numbers(counts, u32::from(rejection.refusal));
             packed_rejection(rejection)
         }
         Ok(loaded) => {
@@ -301,7 +300,7 @@ pub fn horn_evaluate(
     };
     match evaluator::evaluate(query, &mut buffers) {
         Err(refusal) => {
-            clear_numbers(results, refusal);
+            clear_numbers(results, u32::from(refusal));
             packed_refusal(refusal)
         }
         Ok(outcome) => {
@@ -365,17 +364,17 @@ pub fn horn_open(
     }
 }
 
-// An answer as one number, and what else it tells.
+// An answer as one number, and what else it tells; a refusal by its number.
 // Stays: programs in C take the answer as one number and the rest in a lent buffer, and neither of the types is of this crate.
-pub fn tell_answer(results: &mut [u32], answer: Result<Verdict, Refusal>) -> u64
+pub fn tell_answer(results: &mut [u32], answer: Result<Verdict, u32>) -> u64
     requires { 6 ≤ length results.old }
-    ensures number { result ≡ packed_proof (answer_in answer) }
-    ensures results { results.new ≡ verdict_after (answer_in answer) results.old }
+    ensures number { result ≡ packed_proof (answer_of answer) }
+    ensures results { results.new ≡ verdict_after (answer_of answer) results.old }
 {
     match answer {
-        Err(refusal) => {
-            clear_numbers(results, refusal);
-            packed_refusal(refusal)
+        Err(number) => {
+            clear_numbers(results, number);
+            number as u64 * REFUSAL
         }
         Ok(
             Verdict::Proved {
@@ -468,7 +467,7 @@ pub fn horn_prove(
     };
     let used = session_counts(session);
     let answer = prover::prove(query, names, &mut store, used);
-    tell_answer(results, answer)
+    tell_answer(results, answer.map_err(u32::from))
 }
 
 // `unifier::unify` on storage of any contents. Where words, bindings, scratch and references are what it asks, the answer is how it ended, as `packed`

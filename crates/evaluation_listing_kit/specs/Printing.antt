@@ -11,6 +11,10 @@ Fits o = o.at ≤ length o.bytes.now
 abbrev pub Moved : Output → Output → Type 0
 Moved o o' = (o.at ≤ o'.at) × (o'.at ≤ length o'.bytes.now) × (length o'.bytes.now ≡ length o.bytes.now)
 
+-- Nothing is written.
+abbrev pub Unmoved : Output → Output → Type 0
+Unmoved o o' = (o'.at ≡ o.at) × (o'.bytes.now ≡ o.bytes.now)
+
 -- No more nodes are open than the stack holds.
 abbrev pub Within : Printer → Type 0
 Within p = p.depth ≤ length p.stack.now

@@ -1,7 +1,7 @@
 // Bytes and numbers in decimal, written into a lent buffer where there is room for them, so that a byte is left. Where there is none, nothing is written, and
 // the answer is none.
 ghost use Rattle.std.specs.Prelude.{◌≡◌, ◌+◌, ◌≤◌, IfSome, IfNone, length};
-ghost use Rattle.evaluation_listing_kit.specs.Printing.{Fits, Moved};
+ghost use Rattle.evaluation_listing_kit.specs.Printing.{Fits, Moved, Unmoved};
 
 use byte_output::Output;
 
@@ -13,7 +13,7 @@ pub fn put_byte(out: &mut Output, byte: u8) -> Option<()>
     requires { Fits out.old }
     ensures moved { Moved out.old out.new }
     ensures place { IfSome result (λ _. out.new.at ≡ out.old.at + 1) }
-    ensures room { IfNone result (length out.old.bytes.now ≤ out.old.at + 1) }
+    ensures room { IfNone result (Unmoved out.old out.new × (length out.old.bytes.now ≤ out.old.at + 1)) }
 {
     put(&[byte], out)
 }
@@ -23,7 +23,7 @@ pub fn put(bytes: &[u8], out: &mut Output) -> Option<()>
     requires { Fits out.old }
     ensures moved { Moved out.old out.new }
     ensures place { IfSome result (λ _. out.new.at ≡ out.old.at + length bytes.now) }
-    ensures room { IfNone result (length out.old.bytes.now ≤ out.old.at + length bytes.now) }
+    ensures room { IfNone result (Unmoved out.old out.new × (length out.old.bytes.now ≤ out.old.at + length bytes.now)) }
 {
     if out.bytes.len() - out.at <= bytes.len() {
         return None;
@@ -35,7 +35,8 @@ pub fn put(bytes: &[u8], out: &mut Output) -> Option<()>
 // Writes a number in decimal. For any number there has to be room for ten digits and a byte.
 pub fn put_decimal(number: u32, out: &mut Output) -> Option<()>
     requires { Fits out.old }
-    ensures { Moved out.old out.new }
+    ensures moved { Moved out.old out.new }
+    ensures room { IfNone result (Unmoved out.old out.new) }
 {
     if out.bytes.len() - out.at <= DIGITS {
         return None;

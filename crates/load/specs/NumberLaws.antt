@@ -332,13 +332,13 @@ module _ (text : List ℕ) (limit e line : ℕ) where
   refusal_numbered : (r : Refusal) (n : ℕ) → Numbered (number_of r) → of_parsed text limit (barred r n) ≡ refused e line → Numbered e
   refusal_numbered r n h p = let w : number_of r ≡ e = cc in rw w at h
 
-  parsed_numbered : (ts : Tokens) (o : Parsed (List Declared)) → parse_of text ts ≡ o → ReadNumbered o → of_parsed text limit o ≡ refused e line → Numbered e
-  parsed_numbered ts (parsed ds n) q h p = loaded_numbered limit text ds e line (parsed_nonempty text ts ds n q) p
-  parsed_numbered ts absent q h p = loaded_numbered limit text [] e line tt p
-  parsed_numbered ts (barred r n) q h p = refusal_numbered r n h p
+  parsed_numbered : (ts : Tokens) (o : Parsed (List Declared)) → parse_of text ts ≡ o → of_parsed text limit o ≡ refused e line → Numbered e
+  parsed_numbered ts (parsed ds n) q p = loaded_numbered limit text ds e line (parsed_nonempty text ts ds n q) p
+  parsed_numbered ts absent q p = loaded_numbered limit text [] e line tt p
+  parsed_numbered ts (barred r n) q p = refusal_numbered r n (rw q at (parse_numbered text ts)) p
 
   read_numbered : (o : Reading) → ReadingNumbered o → of_parsed text limit (parsed_text text o) ≡ refused e line → Numbered e
-  read_numbered (tokens ts) h p = parsed_numbered ts (parse_of text ts) refl (parse_numbered text ts) p
+  read_numbered (tokens ts) h p = parsed_numbered ts (parse_of text ts) refl p
   read_numbered (unread r n) h p = refusal_numbered r n h p
 
 -- No text is refused by 0.

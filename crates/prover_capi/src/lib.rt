@@ -88,5 +88,5 @@ pub extern "C" fn horn_prove_cleared(
     };
     let used = session_counts(session);
     let answer = prover::prove_cleared(query, names, &mut store, used);
-    capi::tell_answer(results, answer)
+    capi::tell_answer(results, answer.map_err(u32::from))
 }

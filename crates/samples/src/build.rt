@@ -1,7 +1,6 @@
 // Words of terms: two constants, and towers of nodes on a leaf.
-ghost use Rattle.std.specs.Prelude.{◌≡◌, ◌≤◌, set, length};
-ghost use Rattle.arena.specs.Form.{inputs};
-ghost use Rattle.samples.specs.Building.{NodePut, TowerPut, TwoPut};
+ghost use Rattle.std.specs.Prelude.{◌≡◌, set};
+ghost use Rattle.samples.specs.Building.{NodePut, PairPut, TowerPut, TowerOrLeaf, TwoPut};
 
 use arena::{HEADERS, INPUTS, SYMBOL_STEP};
 
@@ -25,12 +24,11 @@ pub fn put_constants(words: &mut [u32])
     slices::put(words, 1, OTHER);
 }
 
-// Writes a node with these arguments: the address behind it; none where there is no room, and nothing changes.
+// Writes a node with these arguments: the address behind it; none where there is no room, or there are more than 16 of them, and nothing changes.
 pub fn put_node(words: &mut [u32], at: u32, arguments: &[u32]) -> Option<u32>
-    requires { length arguments.now ≤ inputs }
     ensures { NodePut words.old words.new at arguments.now result }
 {
-    if MOST < at {
+    if arguments.len() > INPUTS as usize || MOST < at {
         return None;
     }
     let arity = arguments.len();
@@ -41,6 +39,13 @@ pub fn put_node(words: &mut [u32], at: u32, arguments: &[u32]) -> Option<u32>
     let header = arena::header_of(arity, arity);
     arena::push_node(words, at, header, arguments);
     Some(next)
+}
+
+// Writes a node with two arguments: the address behind it; without room the address given, and nothing changes.
+pub fn put_pair(words: &mut [u32], at: u32, left: u32, right: u32) -> u32
+    ensures { PairPut words.old words.new at left right result }
+{
+    put_node(words, at, &[left, right]).unwrap_or(at)
 }
 
 // A tower that was built: the address behind it, and its reference.
@@ -58,9 +63,9 @@ pub struct Tower {
     pub arity: u32,
 }
 
-// Writes a tower from an address on, with references to nodes from `room` on; none where there is no room, and nothing changes.
-pub fn put_tower(words: &mut [u32], room: u32, at: u32, tower: Tower) -> Option<Built>
-    requires { tower.arity ≤ inputs }
+// Writes a tower from an address on, with references to nodes from `room` on; none where there is no room, or nodes have more than 16 arguments, and nothing
+// changes.
+pub fn try_put_tower(words: &mut [u32], room: u32, at: u32, tower: Tower) -> Option<Built>
     ensures { TowerPut words.old words.new room at tower result }
 {
     let Tower {
@@ -68,7 +73,7 @@ pub fn put_tower(words: &mut [u32], room: u32, at: u32, tower: Tower) -> Option<
         leaf,
         arity,
     } = tower;
-    if MOST < room || MOST < at || MOST < height {
+    if INPUTS < arity || MOST < room || MOST < at || MOST < height {
         return None;
     }
     if words.len() < (at + height * (1 + arity)) as usize {
@@ -86,7 +91,18 @@ pub fn put_tower(words: &mut [u32], room: u32, at: u32, tower: Tower) -> Option<
     Some(Built { next, root })
 }
 
-// Writes two towers one behind the other, from an address on; none where there is no room for both, and the lower one may stand then.
+// The same; where it answers none, this one answers the address given and the leaf.
+pub fn put_tower(words: &mut [u32], room: u32, at: u32, tower: Tower) -> Built
+    ensures { TowerOrLeaf words.old words.new room at tower result }
+{
+    let leaf = Built {
+        next: at,
+        root: tower.leaf,
+    };
+    try_put_tower(words, room, at, tower).unwrap_or(leaf)
+}
+
+// Writes two towers one behind the other, from an address on; none where one of them can't be written, and the lower one may stand then.
 pub fn put_two(
     words: &mut [u32],
     room: u32,
@@ -94,10 +110,9 @@ pub fn put_two(
     lower: Tower,
     upper: Tower,
 ) -> Option<[Built; 2]>
-    requires { (lower.arity ≤ inputs) × (upper.arity ≤ inputs) }
     ensures { TwoPut words.old words.new room at lower upper result }
 {
-    let first = put_tower(words, room, at, lower)?;
-    let second = put_tower(words, room, first.next, upper)?;
+    let first = try_put_tower(words, room, at, lower)?;
+    let second = try_put_tower(words, room, first.next, upper)?;
     Some([first, second])
 }

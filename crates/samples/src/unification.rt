@@ -40,6 +40,13 @@ pub struct Remains<'a> {
     pub marks: &'a mut [[u32; 2]],
 }
 
+impl Remains<'_> {
+    // Says so if the bindings are not those that stood before.
+    pub fn compare(&self) {
+        compare(self.bindings, self.before);
+    }
+}
+
 // Why a call has no answer.
 #[derive(Clone, Copy)]
 pub enum Fault {
@@ -50,10 +57,10 @@ pub enum Fault {
 }
 
 // Whether all scratch is zero.
-pub fn is_clean(workspace: &Workspace) -> bool
-    ensures { Tells result (Clean workspace.now.links.now workspace.now.marks.now workspace.now.stack.now) }
+pub fn is_clean(links: &[[u32; 2]], marks: &[[u32; 2]], stack: &[[u32; 3]]) -> bool
+    ensures { Tells result (Clean links.now marks.now stack.now) }
 {
-    checks::is_scratch_zero(0, 0, workspace.links, workspace.marks, workspace.stack)
+    checks::is_scratch_zero(0, 0, links, marks, stack)
 }
 
 // Whether the two references unify: how many bindings there are then.
@@ -66,6 +73,7 @@ pub fn solve(
     left: u32,
     right: u32,
 ) -> Result<Option<u32>, Fault> {
+    // Stays: Tried with the workspace whole: the borrow checker does not cover a part of a parameter's struct that is lent as `&mut` to `is_ready`.
     let Workspace {
         links,
         marks,
@@ -84,7 +92,14 @@ pub fn solve(
         stack,
     };
     let ended = unifier::unify(terms, bindings, &mut lent, bound, left, right);
-    is_clean(&lent).then_some(ended).ok_or(Fault::ScratchLeft)
+    let Workspace {
+        links,
+        marks,
+        stack,
+    } = lent;
+    is_clean(links, marks, stack)
+        .then_some(ended)
+        .ok_or(Fault::ScratchLeft)
 }
 
 // Whether the variable occurs in what the reference denotes.
@@ -174,9 +189,9 @@ pub fn finish(remains: Remains, counts: Counts, mark: u32) {
     report::text(b", undone");
 }
 
-// Says so if the bindings are not those that stood before.
-pub fn compare(remains: &Remains) {
-    if *remains.bindings != *remains.before {
+// Says so if two lists of bindings are not the same.
+pub fn compare(bindings: &[[u32; 2]], before: &[[u32; 2]]) {
+    if bindings != before {
         report::text(b", and other bindings stand");
     }
 }

@@ -1,7 +1,7 @@
 // The cases: each builds its storage, runs one call, and writes a line.
 ghost use Rattle.std.specs.Prelude.{◌<◌, length};
 
-use arena::{INPUTS, TERM_ROOM, Terms};
+use arena::{TERM_ROOM, Terms};
 use bindings::StoredBindings;
 use samples::build::{Built, Tower};
 use samples::rows::bind_chain;
@@ -48,9 +48,6 @@ fn put_case(words: &mut [u32], bindings: &mut [[u32; 2]], towers: Towers) -> Opt
         right,
         paired,
     } = towers;
-    if INPUTS < lower.arity || INPUTS < upper.arity {
-        return None;
-    }
     build::put_constants(words);
     let [_, Built { next: top, .. }] = build::put_two(words, TERM_ROOM, 2, lower, upper)?;
     slices::put(bindings, 60, [TERM_ROOM + 1, 0]);
@@ -61,8 +58,8 @@ fn put_case(words: &mut [u32], bindings: &mut [[u32; 2]], towers: Towers) -> Opt
         bound: 1,
     };
     if paired {
-        let next = build::put_node(words, top, &[0, left])?;
-        let used = build::put_node(words, next, &[TERM_ROOM, right])?;
+        let next = build::put_pair(words, top, 0, left);
+        let used = build::put_pair(words, next, TERM_ROOM, right);
         return Some(Case {
             counts: Counts { used, ..counts },
             left: TERM_ROOM.saturating_add(top),
@@ -90,7 +87,7 @@ fn report_unify(remains: Remains, counts: Counts, found: Result<Option<u32>, Fau
         }
         Ok(None) => {
             report::text(b": do not unify");
-            unification::compare(&remains);
+            remains.compare();
         }
         Ok(Some(bound)) => {
             report::text(b": unify");

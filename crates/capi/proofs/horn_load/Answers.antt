@@ -17,7 +17,7 @@ returns-in-Err c =
         loading = loading_lent c.load.new.buffers (search (rules, lent.tokens)) (search (rules, lent.rows)) (search (rules, lent.calls))
             (search (rules, lent.sorts)) (search (rules, lent.symbols)) (search (rules, lent.rules)) (search (rules, lent.words))
             (search (rules, lent.evals)) (rw none at c.load.ensures.loaded);
-        counted = rw c.in-Err.is c.clear_numbers.ensures;
+        counted = rw c.in-Err.is (rw c.from.ensures at c.clear_numbers.ensures);
       };
     }
 

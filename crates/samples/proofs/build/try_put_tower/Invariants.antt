@@ -2,7 +2,7 @@
 use Rattle.std.proofs.Common.{◌+◌, ◌*◌}
 use Rattle.samples.specs.Building.{raised_by}
 use Rattle.samples.proofs.Towers.{Rising}
-use Rattle.samples.proofs.build.put_tower.Given as goal
+use Rattle.samples.proofs.build.try_put_tower.Given as goal
 
 abbrev pub invariant-loop : goal.invariant-loop
 invariant-loop l =
