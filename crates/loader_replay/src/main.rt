@@ -24,7 +24,16 @@ fn list_loaded(text: &[u8], loaded: Loaded, parsed: Result<Parsed, Rejection>, l
         loaded.declarations == parsed.declarations,
         b"as many declarations as parsed",
     );
-    buffers::test(lent, parsed.rows, n, loaded.counts, 0);
+    buffers::test_scratch(
+        lent.tokens,
+        lent.rows,
+        parsed.rows,
+        lent.calls,
+        lent.evals,
+        n,
+        0,
+    );
+    buffers::test_signature(stored, 0);
     buffers::expect(
         signature::check_signature(text, stored),
         b"loaded in the listed form",
@@ -35,7 +44,8 @@ fn list_loaded(text: &[u8], loaded: Loaded, parsed: Result<Parsed, Rejection>, l
 fn list_refused(rejection: Rejection, lent: &Lent) {
     listing::write_refusal(u32::from(rejection.refusal), rejection.line);
     let value = recorded::value_after(rejection.refusal);
-    buffers::test(lent, 0, 0, Counts::default(), value);
+    buffers::test_scratch(lent.tokens, lent.rows, 0, lent.calls, lent.evals, 0, value);
+    buffers::test_signature(buffers::stored_in(lent, Counts::default()), value);
 }
 
 // Loads a text into buffers that hold junk.

@@ -85,28 +85,41 @@ pub fn expect(holds: bool, claim: &[u8]) {
     write(b"\n");
 }
 
-// Tests that a signature's storage past the counts, the declarations' rows past so many and those of `#eval` past so many hold the value, and the
-// scratch throughout.
+// Tests that the declarations' rows past so many and those of `#eval` past so many hold the value, and the other scratch throughout.
 // Stays: a count past the end is one of the faults that the test tells, so that the used part cannot be lent.
-pub fn test(lent: &LentBuffers, rows: usize, evals: usize, counts: Counts, value: u32) {
-    expect(are_rows(lent.tokens, 0, value), b"tokens as lent or zero");
-    expect(are_rows(lent.rows, rows, value), b"rows as lent or zero");
-    expect(are_rows(lent.calls, 0, value), b"calls as lent or zero");
-    expect(are_rows(lent.evals, evals, value), b"evals as lent or zero");
+// Stays: each buffer is lent by itself; a struct of the four would be made for each call and taken apart in it.
+pub fn test_scratch(
+    tokens: &[[u32; 4]],
+    rows: &[[u32; 4]],
+    used: usize,
+    calls: &[[u32; 4]],
+    evals: &[[u32; 2]],
+    waiting: usize,
+    value: u32,
+) {
+    expect(are_rows(tokens, 0, value), b"tokens as lent or zero");
+    expect(are_rows(rows, used, value), b"rows as lent or zero");
+    expect(are_rows(calls, 0, value), b"calls as lent or zero");
+    expect(are_rows(evals, waiting, value), b"evals as lent or zero");
+}
+
+// Tests that a signature's storage past the counts holds the value.
+pub fn test_signature(stored: StoredSignature, value: u32) {
+    let counts = stored.counts;
     expect(
-        are_rows(lent.sorts, counts.sorts as usize, value),
+        are_rows(stored.sorts, counts.sorts as usize, value),
         b"sorts as lent or zero",
     );
     expect(
-        are_rows(lent.symbols, counts.symbols as usize, value),
+        are_rows(stored.symbols, counts.symbols as usize, value),
         b"symbols as lent or zero",
     );
     expect(
-        are_rows(lent.rules, counts.rules as usize, value),
+        are_rows(stored.rules, counts.rules as usize, value),
         b"rules as lent or zero",
     );
     expect(
-        slices::are_all(lent.words, counts.words as usize, value),
+        slices::are_all(stored.words, counts.words as usize, value),
         b"words as lent or zero",
     );
 }
