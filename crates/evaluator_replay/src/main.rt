@@ -61,12 +61,14 @@ fn list_evaluation(loaded: LoadedText, answer: Result<Evaluation, Refusal>, stor
             write(b"refused ");
             write_number(u32::from(refusal));
             write(b"\n");
-            lent::test(storage, 0, 0, recorded::value_after(refusal));
+            let value = recorded::value_after(refusal);
+            lent::test(storage.words, 0, storage.links, storage.trees, 0, value);
         }
         Ok(evaluation) => {
             list_value(loaded, evaluation, storage);
             let words = evaluation.words as usize;
-            lent::test(storage, words, evaluation.calls as usize, 0);
+            let calls = evaluation.calls as usize;
+            lent::test(storage.words, words, storage.links, storage.trees, calls, 0);
         }
     }
 }
