@@ -35,7 +35,7 @@ impl Output<'_> {
     }
 
     // Writes a number in decimal: the digits of its tenth, and then its last digit. A number of 32 bits has at most ten digits.
-    // Stays: `write!` promises its digits only where it answers `Ok`, and nothing says that it does so where there is room.
+    // Stays: `write!` has digits only where it answers `Ok`; `itoa` has them outright, but as std's `decimal`, which no law here equates with `digits`.
     pub fn write_decimal(&mut self, number: u32)
         requires { self.old.at + length (numeral number) ≤ length self.old.bytes.now }
         ensures { IsWritten self.old self.new (numeral number) }

@@ -2,7 +2,7 @@
 ghost use Rattle.evaluator.specs.Storage.{AreLent};
 
 use evaluator::{Buffers, Query};
-use function_calls::Outcome;
+use function_calls::{Outcome, TreeRow};
 use refusals::Refusal;
 use signature_tests::buffers;
 
@@ -16,17 +16,21 @@ pub fn evaluate(query: Query, storage: &mut Buffers) -> Result<Outcome, Refusal>
 
 // Tests that the words past those used and the rows past those of the calls hold the value, and the links throughout.
 // Stays: a count past the end is one of the faults that the test tells, so that the used part cannot be lent.
-pub fn test(storage: &Buffers, used: usize, calls: usize, value: u32) {
+pub fn test(
+    words: &[u32],
+    used: usize,
+    links: &[u32],
+    trees: &[TreeRow],
+    calls: usize,
+    value: u32,
+) {
     buffers::expect(
-        slices::are_all(storage.words, used, value),
+        slices::are_all(words, used, value),
         b"words of values as lent or zero",
     );
+    buffers::expect(slices::are_all(links, 0, value), b"links as lent or zero");
     buffers::expect(
-        slices::are_all(storage.links, 0, value),
-        b"links as lent or zero",
-    );
-    buffers::expect(
-        buffers::are_rows(storage.trees, calls, value),
+        buffers::are_rows(trees, calls, value),
         b"rows of trees as lent or zero",
     );
 }

@@ -20,13 +20,25 @@ fn is_refused<T: Copy>(answer: Result<T, Refusal>) -> bool
     }
 }
 
+// Tests that the buffers are as they were.
+fn test_kept(storage: &Buffers) {
+    lent::test(
+        storage.words,
+        0,
+        storage.links,
+        storage.trees,
+        0,
+        buffers::JUNK,
+    );
+}
+
 // Tests that an evaluation is refused by 1, and that the buffers are as they were.
 fn test_evaluation(query: Query, storage: &mut Buffers, claim: &[u8])
     ensures { AreLent storage.old storage.new }
 {
     let answer = lent::evaluate(query, storage);
     buffers::expect(is_refused(answer), claim);
-    lent::test(storage, 0, 0, buffers::JUNK);
+    test_kept(storage);
 }
 
 // Tests that a term is refused by 1 where it is asked whether it is evaluated.

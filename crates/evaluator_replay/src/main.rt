@@ -60,12 +60,14 @@ fn list_evaluation(loaded: LoadedText, answer: Result<Outcome, Refusal>, storage
             write(b"refused ");
             write_number(u32::from(refusal));
             write(b"\n");
-            lent::test(storage, 0, 0, recorded::value_after(refusal));
+            let value = recorded::value_after(refusal);
+            lent::test(storage.words, 0, storage.links, storage.trees, 0, value);
         }
         Ok(outcome) => {
             list_value(loaded, outcome, storage);
-            let spent = outcome.spent;
-            lent::test(storage, spent.used as usize, spent.calls as usize, 0);
+            let words = outcome.spent.used as usize;
+            let calls = outcome.spent.calls as usize;
+            lent::test(storage.words, words, storage.links, storage.trees, calls, 0);
         }
     }
 }

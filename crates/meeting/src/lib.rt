@@ -61,9 +61,12 @@ impl Places {
         let mut waiting = Some(reference);
         loop {
             match waiting.take() {
-                Some(next) => match next.checked_sub(PATTERN_ROOM) {
-                    None => self.give(next),
-                    Some(address) => {
+                Some(next) => {
+                    // Stays: tried `next.checked_sub(PATTERN_ROOM)`: `meet` takes 5.7 % more instructions (729,128 for 689,523, over 24,587 words).
+                    if next < PATTERN_ROOM {
+                        self.give(next);
+                    } else {
+                        let address = next - PATTERN_ROOM;
                         let arity = arity_of(words[address as usize]);
                         if most - spent <= arity {
                             return None;
@@ -72,7 +75,7 @@ impl Places {
                         stack[depth] = [address + 1, arity];
                         depth += 1;
                     }
-                },
+                }
                 None => {
                     let Some(row) = depth.checked_sub(1) else {
                         return Some(spent);

@@ -6,45 +6,45 @@ use Rattle.meeting.proofs.Turns.{turn_start, turn_variable, turn_over, less_ente
 use native.Mathlib.Omega.{arith}
 use Rattle.meeting.proofs.Places.meet.Goals as goal
 
-pub loop-next-preserved-in-None-checked_sub : goal.loop-next-preserved-in-None-checked_sub
-loop-next-preserved-in-None-checked_sub c =
-    rw c.take.ensures.after (turn_variable (rw (sym c.take.ensures.value ∙ c.in-Some.is) at c.loop-next.invariant) refl (let l = c.in-None-checked_sub.ensures in omega arith) _ _ c.give.ensures)
+pub loop-next-preserved-then-next-lt-PATTERN_ROOM : goal.loop-next-preserved-then-next-lt-PATTERN_ROOM
+loop-next-preserved-then-next-lt-PATTERN_ROOM c =
+    rw c.take.ensures.after (turn_variable (rw (sym c.take.ensures.value ∙ c.in-Some.is) at c.loop-next.invariant) refl c.if-next-lt-PATTERN_ROOM.true _ _ c.give.ensures)
 
 pub returns-then-most-spent : goal.returns-then-most-spent
 returns-then-most-spent c =
-    let o = turn_over (rw (sym c.take.ensures.value ∙ c.in-Some.is) at c.loop-next.invariant) refl c.in-Some-checked_sub.ensures.0 (rw (c.arity_of-arity.ensures, c.in-Some-checked_sub.ensures.1) at c.if-most-spent.true) in
+    let o = turn_over (rw (sym c.take.ensures.value ∙ c.in-Some.is) at c.loop-next.invariant) refl c.if-next-lt-PATTERN_ROOM.false (rw c.arity_of-arity.ensures at c.if-most-spent.true) in
     record {
       exceeded = λ l. refl;
       answered = λ l. let z : ⊥ = omega arith in absurd z;
       recorded = λ l. let z : ⊥ = omega arith in absurd z;
     }
 
-pub loop-next-smaller-in-Some-checked_sub : goal.loop-next-smaller-in-Some-checked_sub
-loop-next-smaller-in-Some-checked_sub c =
-    rw (sym c.take.ensures.value ∙ c.in-Some.is, c.take.ensures.after, c.arity_of-arity.ensures, c.in-Some-checked_sub.ensures.1)
-    (less_enter (rw (sym c.take.ensures.value ∙ c.in-Some.is) at c.loop-next.invariant) refl c.in-Some-checked_sub.ensures.0 (rw (c.arity_of-arity.ensures, c.in-Some-checked_sub.ensures.1) at c.if-most-spent.false))
+pub loop-next-smaller-else-next-lt-PATTERN_ROOM : goal.loop-next-smaller-else-next-lt-PATTERN_ROOM
+loop-next-smaller-else-next-lt-PATTERN_ROOM c =
+    rw (sym c.take.ensures.value ∙ c.in-Some.is, c.take.ensures.after, c.arity_of-arity.ensures)
+    (less_enter (rw (sym c.take.ensures.value ∙ c.in-Some.is) at c.loop-next.invariant) refl c.if-next-lt-PATTERN_ROOM.false (rw c.arity_of-arity.ensures at c.if-most-spent.false))
 
-pub loop-next-preserved-in-Some-checked_sub : goal.loop-next-preserved-in-Some-checked_sub
-loop-next-preserved-in-Some-checked_sub c =
-    rw (c.take.ensures.after, c.arity_of-arity.ensures, c.in-Some-checked_sub.ensures.1)
-    (turn_enter (rw (sym c.take.ensures.value ∙ c.in-Some.is) at c.loop-next.invariant) refl c.in-Some-checked_sub.ensures.0 (rw (c.arity_of-arity.ensures, c.in-Some-checked_sub.ensures.1) at c.if-most-spent.false))
+pub loop-next-preserved-else-next-lt-PATTERN_ROOM : goal.loop-next-preserved-else-next-lt-PATTERN_ROOM
+loop-next-preserved-else-next-lt-PATTERN_ROOM c =
+    rw (c.take.ensures.after, c.arity_of-arity.ensures)
+    (turn_enter (rw (sym c.take.ensures.value ∙ c.in-Some.is) at c.loop-next.invariant) refl c.if-next-lt-PATTERN_ROOM.false (rw c.arity_of-arity.ensures at c.if-most-spent.false))
 
-pub loop-next-preserved-in-None-checked_sub-2 : goal.loop-next-preserved-in-None-checked_sub-2
-loop-next-preserved-in-None-checked_sub-2 c =
-    let (some, is) = c.in-Some-checked_sub-2.ensures in
+pub loop-next-preserved-in-None-checked_sub : goal.loop-next-preserved-in-None-checked_sub
+loop-next-preserved-in-None-checked_sub c =
+    let (some, is) = c.in-Some-checked_sub.ensures in
     rw (c.take.ensures.after ∙ sym c.in-None.is ∙ c.take.ensures.value, is)
-    (turn_close c.loop-next.invariant (ap is_some (sym c.take.ensures.value ∙ c.in-None.is)) some (rw is at c.in-None-checked_sub-2.ensures))
+    (turn_close c.loop-next.invariant (ap is_some (sym c.take.ensures.value ∙ c.in-None.is)) some (rw is at c.in-None-checked_sub.ensures))
 
 pub loop-next-smaller : goal.loop-next-smaller
 loop-next-smaller c =
-    let (some, is) = c.in-Some-checked_sub-2.ensures in
-    let (more, less) = c.in-Some-checked_sub-3.ensures in
+    let (some, is) = c.in-Some-checked_sub.ensures in
+    let (more, less) = c.in-Some-checked_sub-2.ensures in
     rw (less, is) (less_next c.loop-next.invariant (ap is_some (sym c.take.ensures.value ∙ c.in-None.is)) some (rw is at more))
 
 pub loop-next-preserved : goal.loop-next-preserved
 loop-next-preserved c =
-    let (some, is) = c.in-Some-checked_sub-2.ensures in
-    let (more, less) = c.in-Some-checked_sub-3.ensures in
+    let (some, is) = c.in-Some-checked_sub.ensures in
+    let (more, less) = c.in-Some-checked_sub-2.ensures in
     rw (less, is) (turn_next c.loop-next.invariant (ap is_some (sym c.take.ensures.value ∙ c.in-None.is)) some (rw is at more))
 
 pub loop-next-init : goal.loop-next-init
