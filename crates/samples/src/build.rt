@@ -42,6 +42,7 @@ pub fn put_node(words: &mut [u32], at: u32, arguments: &[u32]) -> Option<u32>
 }
 
 // Writes a node with two arguments: the address behind it; without room the address given, and nothing changes.
+// Stays: it makes a node of two references, and converts no pair.
 pub fn put_pair(words: &mut [u32], at: u32, left: u32, right: u32) -> u32
     ensures { PairPut words.old words.new at left right result }
 {
@@ -65,6 +66,7 @@ pub struct Tower {
 
 // Writes a tower from an address on, with references to nodes from `room` on; none where there is no room, or nodes have more than 16 arguments, and nothing
 // changes.
+// Stays: the place moves with each tower; words in one struct with it are lent to be written, so that each contract would say that they come back.
 pub fn try_put_tower(words: &mut [u32], room: u32, at: u32, tower: Tower) -> Option<Built>
     ensures { TowerPut words.old words.new room at tower result }
 {

@@ -57,6 +57,7 @@ pub enum Fault {
 }
 
 // Whether all scratch is zero.
+// Stays: with a `Workspace`, which lends the three to be written, callers that lend them to be read would be asked for more.
 pub fn is_clean(links: &[[u32; 2]], marks: &[[u32; 2]], stack: &[[u32; 3]]) -> bool
     ensures { Tells result (Clean links.now marks.now stack.now) }
 {
@@ -73,7 +74,7 @@ pub fn solve(
     left: u32,
     right: u32,
 ) -> Result<Option<u32>, Fault> {
-    // Stays: Tried with the workspace whole: the borrow checker does not cover a part of a parameter's struct that is lent as `&mut` to `is_ready`.
+    // Stays: tried with the workspace whole: the borrow checker does not cover a part of a parameter's struct that is lent as `&mut` to `is_ready`.
     let Workspace {
         links,
         marks,
