@@ -94,6 +94,7 @@ pub fn try_put_tower(words: &mut [u32], room: u32, at: u32, tower: Tower) -> Opt
 }
 
 // The same; where it answers none, this one answers the address given and the leaf.
+// Stays: words and place go apart, as at `try_put_tower`.
 pub fn put_tower(words: &mut [u32], room: u32, at: u32, tower: Tower) -> Built
     ensures { TowerOrLeaf words.old words.new room at tower result }
 {
@@ -105,6 +106,7 @@ pub fn put_tower(words: &mut [u32], room: u32, at: u32, tower: Tower) -> Built
 }
 
 // Writes two towers one behind the other, from an address on; none where one of them can't be written, and the lower one may stand then.
+// Stays: words and place go apart, as at `try_put_tower`.
 pub fn put_two(
     words: &mut [u32],
     room: u32,
