@@ -7,16 +7,19 @@ use mathlib.Core.List.{List}
 use lib.Dec.{eqb, ltb}
 use lib.ListN.{length}
 use borrow.Author.Tests.{eq-eqb, ne_eqb, eqb-true, eqb-false, lt-ltb, ltb-true}
-use Rattle.std.specs.Prelude.{Option, Some, None}
+use Rattle.std.specs.Prelude.{Option, Some, None, position}
 use Rattle.std.specs.Option.{SomeIff, option_eq}
 use Rattle.std.proofs.Math.Bool.{and-false}
 use Rattle.std.proofs.lemmas.Bool.{not-true, not-false}
+use Rattle.std.proofs.Math.Seq.{take-length}
+use Rattle.source_text.specs.Bytes.{same_bytes}
+use Rattle.names.specs.SearchLaws.{symbol_some, symbol_none}
 use Rattle.source_text.specs.ByteLaws.{and_left, and_right}
 use Rattle.source_text.specs.Parts.{part_of}
 use Rattle.term_parser.specs.Source.{one}
 use Rattle.term_parser.specs.Standing.{Written, size, Stands}
 use Rattle.names.specs.Names.{Name}
-use Rattle.names.specs.Symbols.{Rows, Symbol, column, row_at, symbols_of, symbol_at, symbol_number}
+use Rattle.names.specs.Symbols.{Rows, Symbol, column, row_at, sort_of, symbols_of, symbol_at, symbol_number}
 use Rattle.flattening.specs.Flattening.{is_function}
 use Rattle.flattening.specs.Promises.{is_call, callee_of}
 use Rattle.flattening.proofs.SymbolLaws.{is_callee, callee_some, is_call_kind, call_of_lem}
@@ -25,6 +28,18 @@ use Rattle.forward_calls.specs.Ground.{GroundAsked, GroundAnswered}
 use Rattle.forward_calls.specs.Forward.{ForwardAsked, ForwardAnswered}
 use Rattle.forward_calls.proofs.Tables.{symbols_length, arity_at_lem}
 use Rattle.forward_calls.proofs.Heads.{Head, head_of, row_within, number_row, meta_row}
+
+-- The symbol that is found among all the rows, or that there is none.
+module _ (text : List ℕ) (symbols : Rows) (w : List ℕ) where
+  abbrev search : Rows → Option ℕ
+  search rows = position (λ row. same_bytes (sort_of text row) w) rows
+
+  pub some_symbol : {r : Option ℕ} (i : ℕ) → r ≡ Some i → r ≡ search symbols
+      → (i ≡ symbol_number (symbols_of text symbols (length symbols)) w) × (i < length symbols)
+  some_symbol i e f = symbol_some text symbols (length symbols) (omega arith) w i (sym e ∙ f ∙ ap search (sym (take-length symbols)))
+
+  pub no_symbol : {r : Option ℕ} → r ≡ None → r ≡ search symbols → length symbols ≤ symbol_number (symbols_of text symbols (length symbols)) w
+  no_symbol e f = symbol_none text symbols (length symbols) (omega arith) w (sym e ∙ f ∙ ap search (sym (take-length symbols)))
 
 and_more : (a b c : Bool) → (a && b) ≡ false → (a && (b && c)) ≡ false
 and_more true true c e = absurd (let z : ⊥ = cc in z)
