@@ -1,6 +1,6 @@
 -- `read_lines` meets its contract: each line that is taken is read behind those before it.
 use mathlib.Core.Path.{◌≡◌, refl, sym, ap, subst, ◌∙◌}
-use Prim.Native.Nat.{◌≤◌, ◌-◌, ◌+◌}
+use Prim.Native.Nat.{◌≤◌, ◌<◌, ◌-◌, ◌+◌}
 use lib.ListN.{length, drop, take, length-drop}
 use Rattle.std.specs.Prelude.{Ok}
 use Rattle.refusals.specs.Refused.{handed_on}
@@ -13,7 +13,17 @@ use Rattle.source_text.proofs.Scans.{taken_within}
 use Rattle.words.proofs.Readings.{then_nil, then_end, line_read, lines_past, stopped, with_part, read_on, refused_on, rows_on}
 use borrow.Author.Rules.{rules}
 use native.Mathlib.Omega.{arith}
+use Rattle.words.proofs.tokens.read_lines.Goals.{In-Some}
 use Rattle.words.proofs.tokens.read_lines.Goals as goal
+
+-- The line that the loop is at is taken, and lies in the text.
+module _ (c : In-Some) where
+  line_taken : LineTaken c.args.text.now c.loop-code.code-iterator.at c.loop-code.code-iterator.line c.in-Some.code c.next.new.self
+  line_taken = subst (λ s. LineTaken s c.loop-code.code-iterator.at c.loop-code.code-iterator.line c.in-Some.code c.next.new.self) c.loop-code.invariant.0 c.in-Some.ensures.steps.1
+
+  line_fits : (c.loop-code.code-iterator.at + length c.in-Some.code.bytes.now < c.next.new.self.at) × (c.loop-code.code-iterator.at + length c.in-Some.code.bytes.now ≤ length c.args.text.now)
+      × (c.next.new.self.at ≤ length c.args.text.now + 1)
+  line_fits = taken_within c.args.text.now c.loop-code.code-iterator.at c.loop-code.code-iterator.line c.in-Some.code c.next.new.self line_taken
 
 pub loop-code-init : goal.loop-code-init
 loop-code-init c =
@@ -26,8 +36,8 @@ slice_bounds-read_code-count c = omega (arith, c.requires, c.loop-code.invariant
 pub read_code-requires : goal.read_code-requires
 read_code-requires c =
     let loop = c.loop-code in
-    let taken = subst (λ s. LineTaken s loop.code-iterator.at loop.code-iterator.line c.in-Some.code c.next.new.self) loop.invariant.0 c.in-Some.ensures.steps.1 in
-    let within = taken_within c.args.text.now loop.code-iterator.at loop.code-iterator.line c.in-Some.code c.next.new.self taken in
+    let taken = line_taken (goal.at.read_code-requires c).In-Some in
+    let within = line_fits (goal.at.read_code-requires c).In-Some in
     record {
       lent = let room : length (drop loop.count loop.rows) ≡ length loop.rows - loop.count = length-drop loop.count loop.rows in omega (arith, c.requires, loop.invariant, within);
       small = omega (arith, c.requires, taken.start, within);
@@ -38,8 +48,8 @@ returns-in_err-read c =
     let read-code = c.read_code in
     let loop = c.loop-code in
     let args = c.args in
-    let taken = subst (λ s. LineTaken s loop.code-iterator.at loop.code-iterator.line c.in-Some.code c.next.new.self) loop.invariant.0 c.in-Some.ensures.steps.1 in
-    let within = taken_within args.text.now loop.code-iterator.at loop.code-iterator.line c.in-Some.code c.next.new.self taken in
+    let taken = line_taken (goal.at.returns-in_err-read c).In-Some in
+    let within = line_fits (goal.at.returns-in_err-read c).In-Some in
     let inside : loop.count ≤ length loop.rows = omega (arith, c.requires, loop.invariant) in
     let before = take loop.count loop.rows in
     let after = with_part loop.rows loop.count read-code.new.rows in
@@ -56,8 +66,7 @@ returns-in_err-read c =
 pub overflow_add-count : goal.overflow_add-count
 overflow_add-count c =
     let loop = c.loop-code in
-    let taken = subst (λ s. LineTaken s loop.code-iterator.at loop.code-iterator.line c.in-Some.code c.next.new.self) loop.invariant.0 c.in-Some.ensures.steps.1 in
-    let within = taken_within c.args.text.now loop.code-iterator.at loop.code-iterator.line c.in-Some.code c.next.new.self taken in
+    let within = line_fits (goal.at.overflow_add-count c).In-Some in
     let counted : count_of c.read_code.result ≡ c.in_ok-read.read = ap count_of c.in_ok-read.was in
     omega (arith, c.requires, loop.invariant, c.read_code.ensures.fits, within)
 
@@ -65,8 +74,8 @@ pub loop-code-preserved : goal.loop-code-preserved
 loop-code-preserved c =
     let loop = c.loop-code in
     let read-code = c.read_code in
-    let taken = subst (λ s. LineTaken s loop.code-iterator.at loop.code-iterator.line c.in-Some.code c.next.new.self) loop.invariant.0 c.in-Some.ensures.steps.1 in
-    let within = taken_within c.args.text.now loop.code-iterator.at loop.code-iterator.line c.in-Some.code c.next.new.self taken in
+    let taken = line_taken (goal.at.loop-code-preserved c).In-Some in
+    let within = line_fits (goal.at.loop-code-preserved c).In-Some in
     let inside : loop.count ≤ length loop.rows = omega (arith, c.requires, loop.invariant) in
     let before = take loop.count loop.rows in
     let counted : count_of read-code.result ≡ c.in_ok-read.read = ap count_of c.in_ok-read.was in (
