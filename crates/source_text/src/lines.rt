@@ -71,13 +71,13 @@ impl<'a> Lines<'a> {
 }
 
 impl<'a> Iterator for Lines<'a> {
-    ghost use Rattle.std.specs.Prelude.{◌≡◌, ◌+◌, ◌-◌, ◌≤◌, length, MatchOption};
+    ghost use Rattle.std.specs.Prelude.{◌+◌, ◌-◌, length};
     ghost use Rattle.std.specs.Iterator.{at_most};
-    ghost use Rattle.source_text.specs.TakenLines.{LineTaken};
+    ghost use Rattle.source_text.specs.TakenLines.{GivesLine};
 
     type Item = Code<'a>;
 
-    ghost next_gives = { λ s r t. (t.text.now ≡ s.text.now) × MatchOption r (length s.text.now ≤ s.at) (λ code. LineTaken s.text.now s.at s.line code t) };
+    ghost next_gives = { GivesLine };
 
     ghost remaining = { λ s. at_most (length s.text.now + 1 - s.at) };
 

@@ -17,7 +17,7 @@ use Rattle.source_text.specs.Bytes.{starts_with}
 use Rattle.source_text.specs.Characters.{character_of, has_outside}
 use Rattle.source_text.specs.Lines.{lines}
 use Rattle.source_text.specs.Utf8.{positive}
-use Rattle.source_text.specs.TakenLines.{LineTaken}
+use Rattle.source_text.specs.TakenLines.{LineTaken, GivesLine}
 use Rattle.source_text.specs.declared.lines.Code.{Code}
 use Rattle.source_text.specs.declared.lines.Lines.{Lines}
 use Rattle.words.specs.Names.{word_item, if_fits}
@@ -172,21 +172,17 @@ pub lines_past : (text : List ℕ) (at : ℕ) → length text ≤ at → lines (
 unfolding lines
 lines_past text at h = simp (drop_of_length-le text h)
 
--- What a call of `next` gives: a line is taken, or none is left.
-abbrev Next : Lines → Option Code → Lines → Type 0
-Next s r t = (t.text.now ≡ s.text.now) × MatchOption r (length s.text.now ≤ s.at) (λ code. LineTaken s.text.now s.at s.line code t)
-
 -- Of the lines that are taken, the first with a character outside the domain is the one that is found.
 module _ {F : Type 0} {g : Mut F (Bor Code × Unit {0}) Bool} (f : F) (tells : (x : Code) (b : Bool) (q : F) → CalledAt g f x b q → (q ≡ f) × (b ≡ has_outside x.bytes.now)) (j : F) (u : Lines) where
-  pub outside_found : (r : Option Code) (xs : List Code) (s : Lines) → 0 < s.line → YieldsThen Next s xs r u
+  pub outside_found : (r : Option Code) (xs : List Code) (s : Lines) → 0 < s.line → YieldsThen GivesLine s xs r u
       → FoldsTo (λ p x q. CalledAt g p x false q) f xs j → MatchOption r ⊤ (λ x. (h : F) × CalledAt g j x true h)
       → option_map (λ x. x.line) r ≡ positive (outside_line (lines (drop s.at s.text.now)) s.line)
   unfolding outside_line
   outside_found None [] s p y c m =
-      let h = subst (λ k. Next k None u) (sym y.1) y.2 in
+      let h = subst (λ k. GivesLine k None u) (sym y.1) y.2 in
       simp (lines_past s.text.now s.at h.1)
   outside_found (Some x) [] s p y c m =
-      let h = subst (λ k. Next k (Some x) u) (sym y.1) y.2 in
+      let h = subst (λ k. GivesLine k (Some x) u) (sym y.1) y.2 in
       let t = tells x true m.0 (subst (λ k. CalledAt g k x true m.0) (sym c) m.1) in
       let number = h.1.number in
       positive_is _ _ (omega arith) (outside_line_lem s.text.now s.at s.line x u h.1 ∙ simp (← t.1) (sym number))
