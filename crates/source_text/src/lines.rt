@@ -1,7 +1,6 @@
 // Line ends and comments.
-ghost use Rattle.std.specs.Prelude.{◌≡◌, ◌+◌, ◌≤◌, ◌<◌, length, drop, MatchOption};
+ghost use Rattle.std.specs.Prelude.{◌≡◌, ◌+◌, ◌≤◌, ◌<◌, length, drop};
 ghost use Rattle.source_text.specs.Lines.{line_of, code_of, ends_code};
-ghost use Rattle.source_text.specs.TakenLines.{LineTaken};
 
 use super::bytes::starts_with;
 
@@ -53,11 +52,14 @@ pub struct Lines<'a> {
     pub text: &'a [u8],
     pub at: usize,
     pub line: u32,
+    pub ghost short: { length text.now ≤ 65536 },
+    pub ghost counted: { line ≤ at + 1 },
 }
 
 impl<'a> Lines<'a> {
     // All lines of a text.
     pub fn new(text: &'a [u8]) -> Self
+        requires { length text.now ≤ 65536 }
         ensures { (result.text.now ≡ text.now) × (result.at ≡ 0) × (result.line ≡ 1) }
     {
         Lines {
@@ -66,14 +68,21 @@ impl<'a> Lines<'a> {
             line: 1,
         }
     }
+}
+
+impl<'a> Iterator for Lines<'a> {
+    ghost use Rattle.std.specs.Prelude.{◌+◌, ◌-◌, length};
+    ghost use Rattle.std.specs.Iterator.{at_most};
+    ghost use Rattle.source_text.specs.TakenLines.{GivesLine};
+
+    type Item = Code<'a>;
+
+    ghost next_gives = { GivesLine };
+
+    ghost remaining = { λ s. at_most (length s.text.now + 1 - s.at) };
 
     // The code of the next line, if there is one.
-    pub fn next(&mut self) -> Option<Code<'a>>
-        requires { (length self.old.text.now ≤ 65536) × (self.old.line ≤ self.old.at + 1) }
-        ensures text { self.new.text.now ≡ self.old.text.now }
-        ensures line { MatchOption result (length self.old.text.now ≤ self.old.at)
-            (λ code. LineTaken self.old.text.now self.old.at self.old.line code self.new) }
-    {
+    fn next(&mut self) -> Option<Code<'a>> {
         if self.text.len() <= self.at {
             return None;
         }

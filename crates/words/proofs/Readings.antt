@@ -1,6 +1,6 @@
 -- Laws of readings: of one after another, of a line from a place on, and of a text from a line on.
 use mathlib.Core.Path.{◌≡◌, refl, sym, ap, subst, ◌∙◌}
-use mathlib.Core.Bool.{Bool, true, cond, ◌&&◌}
+use mathlib.Core.Bool.{Bool, true, false, cond, ◌&&◌}
 use mathlib.Core.List.{List, [], ◌∷◌, ◌++◌, append_assoc, append-nil}
 use Prim.Native.Nat.{ℕ, zero, suc, ◌+◌, ◌-◌, ◌≤◌, ◌<◌}
 use native.Mathlib.Numerals.{add-one}
@@ -16,7 +16,8 @@ use borrow.Author.Tests.{ltb-true}
 use Rattle.source_text.specs.Bytes.{starts_with}
 use Rattle.source_text.specs.Characters.{character_of, has_outside}
 use Rattle.source_text.specs.Lines.{lines}
-use Rattle.source_text.specs.TakenLines.{LineTaken}
+use Rattle.source_text.specs.Utf8.{positive}
+use Rattle.source_text.specs.TakenLines.{LineTaken, GivesLine}
 use Rattle.source_text.specs.declared.lines.Code.{Code}
 use Rattle.source_text.specs.declared.lines.Lines.{Lines}
 use Rattle.words.specs.Names.{word_item, if_fits}
@@ -26,7 +27,13 @@ use Rattle.words.specs.Tokens.{Reading, and_then, is_word, word_of, item_of, ite
 use Rattle.words.specs.Rows.{outcome}
 use Rattle.words.specs.Tokens.Reading.{tokens, refused}
 use Rattle.words.specs.Lexer.{answer_of, rows_of, zero_row, count_of}
-use Rattle.std.specs.Prelude.{Option, Some, None}
+use denote.Ref.{Bor}
+use denote.Param.Members.{Mut}
+use Rattle.std.specs.Prelude.{Option, Some, None, MatchOption, ⊤}
+use Rattle.std.specs.Option.{option_map, IsSomeAnd}
+use Rattle.std.specs.Fn.{CalledAt}
+use Rattle.std.specs.Iterator.{YieldsThen}
+use Rattle.std.specs.List.{FoldsTo}
 use Rattle.std.specs.Prelude.{Result, Ok, Err}
 use Rattle.std.specs.Result.{result_unwrap_or, IsErrAnd, MatchResult}
 use Rattle.refusals.specs.declared.Rejection.{Rejection}
@@ -36,7 +43,7 @@ use Rattle.words.specs.Items.Item.{Blank, Token, Refused}
 use Rattle.source_text.specs.ByteLaws.{by_bool, and_left, and_right}
 use Rattle.source_text.specs.ScanLaws.{starts_short}
 use Rattle.source_text.proofs.Scans.{lines_taken}
-use Rattle.source_text.proofs.Encodings.{past}
+use Rattle.source_text.proofs.Encodings.{past, positive_is}
 use Rattle.words.proofs.Items.{word_fits, word_starts}
 
 -- One reading after another.
@@ -165,6 +172,29 @@ pub lines_past : (text : List ℕ) (at : ℕ) → length text ≤ at → lines (
 unfolding lines
 lines_past text at h = simp (drop_of_length-le text h)
 
+-- Of the lines that are taken, the first with a character outside the domain is the one that is found.
+module _ {F : Type 0} {g : Mut F (Bor Code × Unit {0}) Bool} (f : F) (tells : (x : Code) (b : Bool) (q : F) → CalledAt g f x b q → (q ≡ f) × (b ≡ has_outside x.bytes.now)) (j : F) (u : Lines) where
+  pub outside_found : (r : Option Code) (xs : List Code) (s : Lines) → 0 < s.line → YieldsThen GivesLine s xs r u
+      → FoldsTo (λ p x q. CalledAt g p x false q) f xs j → MatchOption r ⊤ (λ x. (h : F) × CalledAt g j x true h)
+      → option_map (λ x. x.line) r ≡ positive (outside_line (lines (drop s.at s.text.now)) s.line)
+  unfolding outside_line
+  outside_found None [] s p y c m =
+      let h = subst (λ k. GivesLine k None u) (sym y.1) y.2 in
+      simp (lines_past s.text.now s.at h.1)
+  outside_found (Some x) [] s p y c m =
+      let h = subst (λ k. GivesLine k (Some x) u) (sym y.1) y.2 in
+      let t = tells x true m.0 (subst (λ k. CalledAt g k x true m.0) (sym c) m.1) in
+      let number = h.1.number in
+      positive_is _ _ (omega arith) (outside_line_lem s.text.now s.at s.line x u h.1 ∙ simp (← t.1) (sym number))
+  outside_found r (x ∷ xs) s p y c m =
+      let k = y.1.0 in
+      let h = y.1.1 in
+      let t = tells x false c.0 c.1 in
+      let counted = h.1.counted in
+      let q : 0 < k.line = omega arith in
+      outside_found r xs k q (y.0, y.1.2, y.2) (subst (λ f. FoldsTo (λ p x q. CalledAt g p x false q) f xs j) t.0 c.2) m
+      ∙ ap positive (sym (outside_line_lem s.text.now s.at s.line x k h.1 ∙ simp (← t.1) (ap (λ text. outside_line (lines (drop k.at text)) k.line) (sym h.0))))
+
 -- A row more.
 pub push_row : (rows : List (List ℕ)) (n : ℕ) (row : List ℕ) → n < length rows → take (n + 1) (set rows n row) ≡ take n rows ++ (row ∷ [])
 push_row rows n row h = rw (add-one n) (take-suc-set rows n row h)
@@ -225,3 +255,9 @@ pub mapped_err : {A E D : Type 0} (r : Result A E) (q : Result A D) (P : E → D
 mapped_err (Ok y) q P d h k = absurd (let f : Ok y ≡ Err d = sym h ∙ k in cc)
 mapped_err (Err e) (Ok y) P d h k = absurd h
 mapped_err (Err e) (Err c) P d h k = let g : c ≡ d = cc in (e, refl, subst (P e) g h)
+
+-- What `map` makes of a value.
+pub mapped_some : {A B : Type 0} (h : A → B) (r : Option A) (q : Option B) (P : A → B → Type 0) → ((x : A) (y : B) → P x y → y ≡ h x) → MatchOption r (q ≡ None) (λ x. IsSomeAnd q (P x)) → q ≡ option_map h r
+mapped_some h None q P k m = m
+mapped_some h (Some x) None P k m = absurd m
+mapped_some h (Some x) (Some y) P k m = ap Some (k x y m)

@@ -81,9 +81,8 @@ pub fn read_lines(text: &[u8], rows: &mut [Row]) -> Result<usize, Rejection>
     requires { (length text.now ≤ 65536) × (length text.now ≤ length rows.old) }
     ensures { Read (read_lines (lines text.now) 0 1) (length text.now) 0 rows.old result rows.new }
 {
-    let mut lines = Lines::new(text);
     let mut count = 0;
-    while let Some(code) = lines.next() {
+    for code in Lines::new(text) {
         let read = read_code(code, &mut rows[count..])?;
         count += read;
     }
@@ -95,11 +94,7 @@ pub fn outside_line(text: &[u8]) -> Option<u32>
     requires { length text.now ≤ 65536 }
     ensures { result ≡ positive (outside_line (lines text.now) 1) }
 {
-    let mut lines = Lines::new(text);
-    while let Some(code) = lines.next() {
-        if has_outside(code.bytes) {
-            return Some(code.line);
-        }
-    }
-    None
+    Lines::new(text)
+        .find(|code| has_outside(code.bytes))
+        .map(|code| code.line)
 }

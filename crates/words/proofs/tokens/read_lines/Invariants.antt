@@ -1,7 +1,7 @@
 -- The loop's invariant: the rows before `count`, and then the reading of the lines from the next one on, come to the whole reading;
 -- there is no more than one row for each byte passed.
 use mathlib.Core.Path.{◌≡◌}
-use Prim.Native.Nat.{◌≤◌, ◌-◌, ◌+◌}
+use Prim.Native.Nat.{◌≤◌}
 use lib.ListN.{length, drop, take}
 use Rattle.source_text.specs.Lines.{lines}
 use Rattle.words.specs.Tokens.{and_then, read_lines}
@@ -9,7 +9,4 @@ use Rattle.words.specs.Tokens.Reading.{tokens}
 use Rattle.words.proofs.tokens.read_lines.Given as goal
 
 abbrev pub invariant-loop-code : goal.invariant-loop-code
-invariant-loop-code l = (l.lines.text.now ≡ l.text) × (l.lines.line ≤ l.lines.at + 1) × (l.count ≤ l.lines.at) × (l.count ≤ length l.text) × (length l.rows ≡ length l.initial.rows) × (read_lines (lines l.text) 0 1 ≡ and_then (tokens (take l.count l.rows)) (read_lines (lines (drop l.lines.at l.text)) l.lines.at l.lines.line))
-
-abbrev pub decreases-loop-code : goal.decreases-loop-code
-decreases-loop-code l = length l.text + 1 - l.lines.at
+invariant-loop-code l = (l.code-iterator.text.now ≡ l.text) × (l.count ≤ l.code-iterator.at) × (l.count ≤ length l.text) × (length l.rows ≡ length l.initial.rows) × (read_lines (lines l.text) 0 1 ≡ and_then (tokens (take l.count l.rows)) (read_lines (lines (drop l.code-iterator.at l.text)) l.code-iterator.at l.code-iterator.line))
