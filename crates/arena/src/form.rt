@@ -47,7 +47,7 @@ pub fn is_header(arities: &[u32], word: u32) -> bool
 }
 
 // Whether a word may be an argument of a node behind the words in use, or is a reference in form: a variable, or a node in use from the address `from` on.
-// Stays: tried `word.checked_sub(terms.room)`: `check_words` takes 8 % more instructions (604,340 for 560,348, over 30,944 words).
+// Stays: by `checked_sub` it is as many lines, and `check_words` takes 8 % more instructions (604,340 for 560,348): tried.
 pub fn is_argument(terms: Terms, from: u32, word: u32) -> bool
     // The words in use are among those lent.
     requires { terms.used ≤ length terms.words.now }

@@ -366,6 +366,7 @@ pub fn horn_open(
 
 // An answer as one number, and what else it tells; a refusal by its number.
 // Stays: programs in C take the answer as one number and the rest in a lent buffer, and neither of the types is of this crate.
+// Stays: a refusal is told by any number, as the contract says; of a `Refusal` it would tell those of document 01 alone, and ask more of callers.
 pub fn tell_answer(results: &mut [u32], answer: Result<Verdict, u32>) -> u64
     requires { 6 ≤ length results.old }
     ensures number { result ≡ packed_proof (answer_of answer) }

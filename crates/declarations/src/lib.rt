@@ -117,7 +117,7 @@ fn declare_symbol(
     let Source { rows, at, .. } = source;
     let [_, _, count, _] = rows[at];
     let k = count as usize;
-    // Stays: tried as a function `from_row` of `Source`, here and below: 5 lines fewer, and 11 answers of four functions would rewrite by its contract.
+    // Stays: tried as a function `from_row` of `Source`, here and below: no plainer; 5 lines fewer, but 11 answers of four functions rewrite by its contract.
     let part = Part {
         source: Source {
             at: at + 1,

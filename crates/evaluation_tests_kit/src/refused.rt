@@ -48,7 +48,7 @@ fn test_forward(signature: StoredSignature, term: Source, claim: &[u8]) {
 }
 
 // Lends each buffer one too short: a word, a link and a row of trees less than is asked.
-// Stays: tried with one `Buffers`: the checker makes no proof for lending part of one field while another field is used.
+// Stays: tried with one `Buffers`: the check does not cover a part of one field lent beside another; each field lent first would be three lines more.
 pub fn test_short(query: Query, words: &mut [u32], links: &mut [u32], trees: &mut [TreeRow]) {
     if let Some(last) = words.len().checked_sub(1) {
         let mut short = Buffers {

@@ -157,7 +157,7 @@ pub enum Kind {
 }
 
 // What a symbol is, as the columns of its row have it: whether its last sort is its output, its function mark, and its clauses.
-// Stays: any four numbers of a row may be entered, as C callers lend them; a `Kind` has only those of a declaration.
+// Stays: `enter_symbol` promises the row of any four numbers, as a row that C lends may hold; a `Kind` has only those of a declaration, and would ask more.
 #[derive(Clone, Copy, Default)]
 pub struct SymbolMarks {
     pub constructor: bool,

@@ -95,7 +95,7 @@ pub struct InUse {
 
 // The machine's state beside its storage.
 // Stays: `cut` tells of the whole search; no field has its meaning from it alone, so that an option would hold nothing.
-// Stays: of `counter`, `bound` and `used`, `at_rule` sets one and `at_retry` two, so that with an `InUse` each would have two struct updates.
+// Stays: with an `InUse`, `in_use` would go, but `at_rule` and `at_retry` would have an update in an update, and 162 lines of specs a field more.
 // Stays: with a `Frame` in it the five moves that set a field of one would each have two struct updates, one inside the other.
 #[derive(Clone, Copy)]
 pub struct Machine {

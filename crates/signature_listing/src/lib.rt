@@ -19,7 +19,7 @@ use signature::columns::{
 };
 
 // So many of the numbers from a place on, none where there are not as many.
-// Stays: `source_text::word` is this for bytes; `source_text` stands on no crate, so one function for both would be there, where all else is about texts.
+// Stays: `source_text::word` is this for bytes; one of any type, in `slices`, would save five lines, for a contract, a definition of any type and an edit.
 fn numbers_from<'a>(numbers: &'a [u32], start: usize, count: usize) -> &'a [u32]
     ensures { result.now ≡ part_of numbers.now start count }
 {
@@ -95,7 +95,7 @@ fn list_evals(evals: &[EvalRow]) {
 }
 
 // The first rows, so many as are in use, or all where there are not as many.
-// Stays: this is where the part of a table in use is made from the table and its count.
+// Stays: the part in use is made here; `symbols_in_use` and `rules_in_use` ask that the counts fit, and what is listed may have counts of any size.
 pub fn used<T>(rows: &[T], count: u32) -> &[T]
     ensures { result.now ≡ take count rows.now }
 {

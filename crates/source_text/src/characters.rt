@@ -171,7 +171,7 @@ fn class_of(c: u8) -> Class
 }
 
 // The character at a place of a text; past the end, a stray one of no length.
-// Stays: each caller goes through the places of a text: it would cut the text at each, and unwrap an `Option` where there is always a character.
+// Stays: any place may be asked for, where a rest could not be cut; an `Option` would be unwrapped by each caller, where there always is a character.
 pub fn character_at(text: &[u8], at: usize) -> Character
     ensures { classed_of result ≡ character_of (drop at text.now) }
 {

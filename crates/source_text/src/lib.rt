@@ -17,7 +17,7 @@ use numerals::value;
 
 // A word of a text, whole: the part of `length` bytes from `start` on. A place outside the text gives the empty part.
 // It is cut at once: cutting off the rest first takes two tests, and loading a text of many symbols 9 to 17 % more time.
-// Stays: `numbers_from` of `signature_listing` is this for numbers; one function for both would be here, and `part_of`, which many files cite, of any type.
+// Stays: `numbers_from` of `signature_listing` is this for numbers: see there why no function of any type, in `slices`, serves both.
 pub fn word<'a>(text: &'a [u8], start: usize, length: usize) -> &'a [u8]
     ensures { result.now ≡ part_of text.now start length }
 {
