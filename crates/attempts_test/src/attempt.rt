@@ -42,7 +42,7 @@ const RULE: Stored = Stored {
 };
 
 // Whether storage has room for what the limits allow, and the scratch is zero.
-// Stays: `try_rule` takes words, bindings and workspace apart, so a struct of the three would be made for this one call and taken apart in it.
+// Stays: `is_state`, its one caller, is lent words, bindings and workspace apart; a struct of the three would be made for this call and taken apart in it.
 fn has_room(words: &[u32], bindings: &[[u32; 2]], workspace: &Workspace, state: SearchState) -> bool
     ensures { result ≡ true → Room state.limits.variables state.limits.words words.now bindings.now
         workspace.now.links.now workspace.now.marks.now workspace.now.stack.now }

@@ -6,7 +6,7 @@ use search_machine::Frame;
 use tree_rows::row as row_of_node;
 
 // Turns the first frames into the rows of the proof, with the height from the top.
-// Stays: tried with `&mut store.frames[..count]` lent: the contract of `leave` is not proved then, as only the length of the frames is known.
+// Stays: tried with `&mut store.frames[..count]` lent: clause `left` of `leave` is open, as of a part of a field that was lent only the length is known.
 pub fn write_tree(frames: &mut [[u32; 8]], count: u32, depth: u32)
     ensures { frames.new ≡ tree_rows depth frames.old count }
 {

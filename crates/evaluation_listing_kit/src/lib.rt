@@ -19,17 +19,13 @@ use prefix::{put_name, put_term};
 use rules::RuleRow;
 use signature::columns::CLAUSE;
 
-// Standard output.
-// Stays: `listing` has this number and the call that writes to it, but is not among the crates that this one may use.
-const STDOUT_FILENO: i32 = 1;
-
 // Writes a line to standard output, if there was room for it.
 fn write_line(made: Option<()>, line: &Output) {
     let bytes: &[u8] = match made {
         Some(()) => words::word(line.bytes, 0, line.at),
         None => b"wrong: no room for the line\n",
     };
-    io::write_all(STDOUT_FILENO, bytes);
+    listing::write(bytes);
 }
 
 // Makes the line of a value.

@@ -78,6 +78,7 @@ pub fn list(text: &[u8], limits: Limits, rows: &mut [Row], out: &mut [u8])
 }
 
 // Writes the line `refused N line L` to standard output.
+// Stays: as at `write_refused_line`, any number and line may be listed.
 pub fn write_refusal(number: u32, line: u32) {
     let mut out = [0u8; REFUSAL];
     let n = write_refused(number, line, &mut out);

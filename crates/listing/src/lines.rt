@@ -34,6 +34,7 @@ pub fn write_token(text: &[u8], row: Row, out: &mut Output)
 }
 
 // Writes the line `refused N line L`.
+// Stays: any number and line are listed, as the contract says; a `Rejection` has only the numbers of document 01, and would ask more of callers.
 pub fn write_refused_line(number: u32, line: u32, out: &mut Output)
     requires { out.old.at + length (refused_line number line) ≤ length out.old.bytes.now }
     ensures { IsWritten out.old out.new (refused_line number line) }

@@ -1,5 +1,5 @@
 // Standard output.
-// Stays: `samples` has these two functions too, and `evaluation_listing_kit` the number; only `terms` and `slices` are below all three, and neither has `io`.
+// Stays: `samples` has these two functions too; only `terms` and `slices` are below both, and neither has `io`.
 // Stays: bytes are no `str`, and `print!` asks for the handle that `main` is given: each function up to `main` would take it and hand on a `Result`.
 const STDOUT_FILENO: i32 = 1;
 

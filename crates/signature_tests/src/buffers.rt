@@ -1,9 +1,9 @@
 // The lent buffers: what they hold before a call, and the tests of what they hold afterwards.
-ghost use Rattle.std.specs.Prelude.{◌≡◌, ◌&&◌, length, drop, nat_le};
+ghost use Rattle.std.specs.Prelude.{◌≡◌};
 ghost use Rattle.load_storage.specs.Lent.{buffers_of, IsLent};
 ghost use Rattle.signature.specs.Storage.{store_of};
 ghost use Rattle.signature_tests.specs.Damage.{stored_in};
-ghost use Rattle.signature_tests.specs.Rows.{are_all, is_all, AllFilled};
+ghost use Rattle.signature_tests.specs.Rows.{AllFilled};
 
 pub use listing::recorded::JUNK;
 use listing::write;
@@ -11,6 +11,7 @@ use load_storage::LentBuffers;
 use names::{SORTS, SYMBOLS};
 use rules::RULES;
 use signature::{Counts, StoredSignature};
+use slices::are_all;
 
 // Fills all that a load is lent.
 pub fn fill(lent: &mut LentBuffers)
@@ -62,19 +63,6 @@ pub fn stored_in<'a>(lent: &'a LentBuffers, counts: Counts) -> StoredSignature<'
     }
 }
 
-// Is a place within rows or their end, and each number from there on the value?
-// Stays: tried as `slices::are_all(rows, from, [value; N])`: no proof was found that rows equal as arrays are those whose numbers are all the value.
-pub fn are_rows<const N: usize>(rows: &[[u32; N]], from: usize, value: u32) -> bool
-    ensures { result ≡ nat_le from (length rows.now) && are_all value (drop from rows.now) }
-{
-    from <= rows.len()
-        && rows[from..].iter().all(
-            |row|
-                ensures { result ≡ is_all value row.now }
-            { slices::are_all(row, 0, value) },
-        )
-}
-
 // Writes that a test failed, where it did.
 pub fn expect(holds: bool, claim: &[u8]) {
     if holds {
@@ -87,7 +75,7 @@ pub fn expect(holds: bool, claim: &[u8]) {
 
 // Tests that the declarations' rows past so many and those of `#eval` past so many hold the value, and the other scratch throughout.
 // Stays: a count past the end is one of the faults that the test tells, so that the used part cannot be lent.
-// Stays: each buffer is lent by itself; a struct of the four would be made for each call and taken apart in it.
+// Stays: `LentBuffers` has them to be written, which would ask more; a struct to read them would be made for each call and taken apart in it.
 pub fn test_scratch(
     tokens: &[[u32; 4]],
     rows: &[[u32; 4]],
@@ -97,29 +85,29 @@ pub fn test_scratch(
     waiting: usize,
     value: u32,
 ) {
-    expect(are_rows(tokens, 0, value), b"tokens as lent or zero");
-    expect(are_rows(rows, used, value), b"rows as lent or zero");
-    expect(are_rows(calls, 0, value), b"calls as lent or zero");
-    expect(are_rows(evals, waiting, value), b"evals as lent or zero");
+    expect(are_all(tokens, 0, [value; 4]), b"tokens as lent or zero");
+    expect(are_all(rows, used, [value; 4]), b"rows as lent or zero");
+    expect(are_all(calls, 0, [value; 4]), b"calls as lent or zero");
+    expect(are_all(evals, waiting, [value; 2]), b"evals as lent or zero");
 }
 
 // Tests that a signature's storage past the counts holds the value.
 pub fn test_signature(stored: StoredSignature, value: u32) {
     let counts = stored.counts;
     expect(
-        are_rows(stored.sorts, counts.sorts as usize, value),
+        are_all(stored.sorts, counts.sorts as usize, [value; 2]),
         b"sorts as lent or zero",
     );
     expect(
-        are_rows(stored.symbols, counts.symbols as usize, value),
+        are_all(stored.symbols, counts.symbols as usize, [value; 24]),
         b"symbols as lent or zero",
     );
     expect(
-        are_rows(stored.rules, counts.rules as usize, value),
+        are_all(stored.rules, counts.rules as usize, [value; 154]),
         b"rules as lent or zero",
     );
     expect(
-        slices::are_all(stored.words, counts.words as usize, value),
+        are_all(stored.words, counts.words as usize, value),
         b"words as lent or zero",
     );
 }
