@@ -1,10 +1,9 @@
 // The token listing of a text, written into a lent buffer, and from there to standard output.
 #![tactic(auto)]
 
-pub use output::{write, write_number};
+pub use standard_output::{write, write_number};
 
 pub mod recorded; // recorded lists of texts
-mod output; // bytes and numbers, to standard output
 mod lines; // the line of a token, and of a refused text
 
 ghost use Rattle.std.specs.Prelude.{◌≡◌, ◌≤◌, length};

@@ -1,19 +1,6 @@
 // Lines of output.
 use super::unification::Fault;
-
-// Standard output.
-const STDOUT_FILENO: i32 = 1;
-
-// Writes bytes.
-// Stays: `print!` asks for the handle that `main` is given and answers a `Result`, so each function up to `main` would take the one and hand on the other.
-pub fn text(bytes: &[u8]) {
-    io::write_all(STDOUT_FILENO, bytes);
-}
-
-// Writes a number.
-pub fn decimal(n: u32) {
-    io::print_decimal(STDOUT_FILENO, n as u64);
-}
+pub use standard_output::{write as text, write_number as decimal};
 
 // Writes the bindings at the positions from `from` up to `to` of the trail, each as a variable and the reference that it is bound to.
 pub fn bindings(table: &[[u32; 2]], from: u32, to: u32) {
