@@ -4,7 +4,7 @@
 ghost use Rattle.std.specs.Prelude.{◌≡◌, ◌+◌, ◌^◌, ◌≤◌, ◌<◌, IfSome};
 ghost use Rattle.listing.specs.Recorded.{end_of, digit_at, read_digit, decimal_at, recorded_at, node_limits, value_after, Reads, Replayed};
 
-use crate::output::{write, write_number};
+use standard_output::{write, write_number};
 use refusals::Refusal;
 use source_text::numerals;
 use words::Limits;
