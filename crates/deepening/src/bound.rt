@@ -72,23 +72,22 @@ pub fn at_bound(
     ensures bounded { BoundedIn program.entry store.old store.new question depth result }
     ensures lent { IsLent store.old store.new }
 {
-    let steps = question.steps;
     let counter = question.in_use.counter;
-    if steps == 0 {
+    let Some(steps) = question.steps.checked_sub(1) else {
         return Ok(Came::Failed {
             left: 0,
             cut: false,
             counter,
         });
-    }
-    if depth == 0 {
+    };
+    let Some(below) = depth.checked_sub(1) else {
         return Ok(Came::Failed {
-            left: steps - 1,
+            left: steps,
             cut: true,
             counter,
         });
-    }
-    let first = Machine::at_start(question.goal, depth - 1, steps - 1, question.in_use);
+    };
+    let first = Machine::at_start(question.goal, below, steps, question.in_use);
     let m = run(program, store, first);
     leave(store, m, question, depth)
 }

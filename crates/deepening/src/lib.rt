@@ -28,6 +28,7 @@ pub struct Question {
 
 // The answer to a goal that the limits allow.
 // Stays: no case is an error, each has its counts, and document 01 has these three verdicts.
+// Stays: `sessions::Verdict` has these cases too; one enum of both would be generic in what is counted, and `search_goal` would match all three still.
 #[derive(Clone, Copy)]
 pub enum Answer {
     // Proved: the number of the proof's applications, steps used, and variables, bindings and words in use.

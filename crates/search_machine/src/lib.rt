@@ -61,6 +61,7 @@ impl Store<'_> {
 }
 
 // What the machine is about to do.
+// Stays: refused is a mode and no `Err`: `deepening` then needs the state, to undo what was bound and to clear what was written.
 #[derive(Clone, Copy)]
 pub enum Mode {
     // To enter a place: the next premise of an open application, or its end.
@@ -190,11 +191,10 @@ fn back(program: Program, store: &mut Store, m: Machine) -> Machine
     ensures returned { ReturnedIn (allowed_in program.entry) store.old store.new m result }
     ensures lent { IsLent store.old store.new }
 {
-    let count = m.frames;
-    if count == 0 {
+    let Some(last) = m.frames.checked_sub(1) else {
         return m.at_stop(Mode::Over, m.steps);
-    }
-    let x = store.frame(count - 1);
+    };
+    let x = store.frame(last);
     undo(store.bindings, m.bound, x.bound);
     m.at_retry(x)
 }
