@@ -37,11 +37,10 @@ pub fn skip(rows: &[TermRow], at: usize, n: usize) -> usize
     // How many terms are still to be passed at the row p.
     let mut left = n;
     for p in at..rows.len() {
-        if left == 0 {
+        let Some(rest) = left.checked_sub(1) else {
             return p;
-        }
-        left -= 1;
-        left += flattening::arity(&rows[p]);
+        };
+        left = rest + flattening::arity(&rows[p]);
     }
     rows.len().max(at)
 }

@@ -9,7 +9,7 @@ pub use listing::recorded::JUNK;
 use listing::write;
 use load_storage::LentBuffers;
 use names::{SORTS, SYMBOLS};
-use rules::RULES;
+use rules::{PREMISES, RULES};
 use signature::{Counts, StoredSignature};
 use slices::are_all;
 
@@ -32,7 +32,7 @@ pub fn with_buffers<F: FnMut(&mut LentBuffers)>(mut each: F)
 {
     let mut tokens = [[0; 4]; TEXT];
     let mut rows = [[0; 4]; TEXT];
-    let mut calls = [[0; 4]; TEXT + 32];
+    let mut calls = [[0; 4]; TEXT + 2 * PREMISES];
     let mut sorts = [[0; 2]; SORTS];
     let mut symbols = [[0; 24]; SYMBOLS];
     let mut rules = [[0; 154]; RULES];
@@ -88,7 +88,10 @@ pub fn test_scratch(
     expect(are_all(tokens, 0, [value; 4]), b"tokens as lent or zero");
     expect(are_all(rows, used, [value; 4]), b"rows as lent or zero");
     expect(are_all(calls, 0, [value; 4]), b"calls as lent or zero");
-    expect(are_all(evals, waiting, [value; 2]), b"evals as lent or zero");
+    expect(
+        are_all(evals, waiting, [value; 2]),
+        b"evals as lent or zero",
+    );
 }
 
 // Tests that a signature's storage past the counts holds the value.

@@ -2,7 +2,7 @@
 use Rattle.clauses.proofs.SkipLaws.{left_start, left_turn, left_end, left_past}
 use Rattle.terms.specs.Numbers.{by_less}
 use lib.ListN.{length}
-use Prim.Native.Nat.{◌≤◌}
+use Prim.Native.Nat.{◌≤◌, ◌-◌}
 use mathlib.Core.Path.{◌≡◌}
 use native.Mathlib.Omega.{arith}
 use Rattle.clauses.proofs.skip.Goals as goal
@@ -10,22 +10,23 @@ use Rattle.clauses.proofs.skip.Goals as goal
 pub loop-p-init : goal.loop-p-init
 loop-p-init c = (omega arith, omega arith, left_start (c.args.rows.now) (c.args.at) (c.args.n))
 
-pub returns-then-left-eq0 : goal.returns-then-left-eq0
-returns-then-left-eq0 c =
+pub returns-in_default : goal.returns-in_default
+returns-in_default c =
     let loop = c.loop-p in
     record {
       onward = loop.auto.p;
-      behind = left_end (c.args.rows.now) (c.args.at) (c.args.n) (loop.p) (loop.left) (loop.invariant.2) (omega (arith, c.if-left-eq0.true));
+      behind = left_end (c.args.rows.now) (c.args.at) (c.args.n) (loop.p) (loop.left) (loop.invariant.2) (omega arith);
     }
 
 pub loop-p-preserved : goal.loop-p-preserved
 loop-p-preserved c =
     let loop = c.loop-p in
     let args = c.args in
-    let e = c.arity-left.ensures.value in
-    let f = c.arity-left.ensures.upper_bound in
+    let e = c.arity.ensures.value in
+    let f = c.arity.ensures.upper_bound in
     let i = loop.invariant in
-    (omega (arith, loop.auto.p), omega (arith, c.loop-p-test.true), rw e (left_turn (args.rows.now) (args.at) (args.n) (loop.p) (loop.left) (loop.invariant.2) (omega (arith, c.if-left-eq0.false))))
+    let d : c.in-Some.rest ≡ loop.left - 1 = omega (arith, c.in-Some.ensures) in
+    (omega (arith, loop.auto.p), omega (arith, c.loop-p-test.true), rw (e, d) (left_turn (args.rows.now) (args.at) (args.n) (loop.p) (loop.left) (loop.invariant.2) (omega (arith, c.in-Some.ensures))))
 
 pub returns : goal.returns
 returns c =
