@@ -2,7 +2,7 @@
 use Rattle.std.specs.Prelude.{ℕ, ◌+◌, ◌≡◌, List, length}
 use Rattle.std.proofs.lemmas.List.Edits.{sets}
 use Rattle.names.specs.Names.{digits}
-use Rattle.byte_output.specs.declared.Output.{Output}
+use Rattle.byte_output.specs.declared.output.Output.{Output}
 
 -- A number of 32 bits in decimal: at most ten digits, and no leading zero.
 abbrev pub numeral : ℕ → List ℕ

@@ -3,7 +3,7 @@ use Rattle.std.specs.Prelude.{ℕ, suc, ◌+◌, ◌≤◌, ◌<◌, ◌≡◌, 
 use Rattle.std.proofs.Common.{arith, sym, ap, ◌∙◌, length-append, take-suc, length-take-le}
 use Rattle.std.proofs.lemmas.List.Edits.{sets}
 use Rattle.std.proofs.Math.Seq.{length-sets}
-use Rattle.byte_output.specs.declared.Output.{Output}
+use Rattle.byte_output.specs.declared.output.Output.{Output}
 use Rattle.byte_output.specs.Output.{Written, IsWritten}
 
 pub sets_append : (l : List ℕ) (i : ℕ) (xs ys : List ℕ) → sets (sets l i xs) (i + length xs) ys ≡ sets l i (xs ++ ys)

@@ -3,16 +3,12 @@
 // Each method asks that there is room.
 #![tactic(auto)]
 
+mod output; // the buffer
+
 ghost use Rattle.std.specs.Prelude.{◌+◌, ◌≤◌, ◌<◌, [], ◌∷◌, length};
 ghost use Rattle.byte_output.specs.Output.{numeral, IsWritten};
 
-// A lent buffer, which is written up to a place.
-// Stays: contracts speak of the whole buffer; with the unwritten rest alone, each caller would join it to what is written and count that again.
-#[derive(Drop)]
-pub struct Output<'a> {
-    pub bytes: &'a mut [u8],
-    pub at: usize,
-}
+pub use output::Output;
 
 impl Output<'_> {
     // Writes a byte.

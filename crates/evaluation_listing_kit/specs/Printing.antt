@@ -3,13 +3,9 @@ use Rattle.std.specs.Prelude.{◌≡◌, ◌≤◌, length}
 use Rattle.byte_output.specs.declared.Output.{Output}
 use Rattle.evaluation_listing_kit.specs.declared.prefix.Printer.{Printer}
 
--- No more is written than the buffer holds.
-abbrev pub Fits : Output → Type 0
-Fits o = o.at ≤ length o.bytes.now
-
 -- It is written on, and the buffer is as long as it was.
 abbrev pub Moved : Output → Output → Type 0
-Moved o o' = (o.at ≤ o'.at) × (o'.at ≤ length o'.bytes.now) × (length o'.bytes.now ≡ length o.bytes.now)
+Moved o o' = (o.at ≤ o'.at) × (length o'.bytes.now ≡ length o.bytes.now)
 
 -- Nothing is written.
 abbrev pub Unmoved : Output → Output → Type 0

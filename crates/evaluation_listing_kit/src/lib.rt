@@ -8,7 +8,7 @@
 mod output; // bytes and numbers, where there is room
 mod prefix; // terms in prefix form
 
-ghost use Rattle.evaluation_listing_kit.specs.Printing.{Fits, Moved};
+ghost use Rattle.evaluation_listing_kit.specs.Printing.{Moved};
 
 use byte_output::Output;
 use function_calls::TreeRow;
@@ -29,9 +29,12 @@ fn write_line(made: Option<()>, line: &Output) {
 }
 
 // Makes the line of a value.
-fn put_value(terms: StoredTerms, value: u32, stack: &mut [OpenRow], line: &mut Output) -> Option<()>
-    requires { Fits line.old }
-{
+fn put_value(
+    terms: StoredTerms,
+    value: u32,
+    stack: &mut [OpenRow],
+    line: &mut Output,
+) -> Option<()> {
     put(b"value ", line)?;
     put_term(terms, value, stack, line)?;
     put_byte(line, b'\n')
@@ -47,7 +50,6 @@ pub fn list_value(terms: StoredTerms, value: u32, stack: &mut [OpenRow], out: &m
 
 // Writes a rule's name into the line, that of a clause with its number.
 fn put_rule(text: &[u8], rules: &[RuleRow], number: u32, out: &mut Output) -> Option<()>
-    requires { Fits out.old }
     ensures { Moved out.old out.new }
 {
     let Some(row) = rules.get(number as usize) else {
@@ -68,9 +70,7 @@ fn put_call(
     row: TreeRow,
     stack: &mut [OpenRow],
     line: &mut Output,
-) -> Option<()>
-    requires { Fits line.old }
-{
+) -> Option<()> {
     let [height, _, rule, goal, ..] = row;
     put_decimal(height, line)?;
     put_byte(line, b' ')?;

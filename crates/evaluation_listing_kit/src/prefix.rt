@@ -1,7 +1,7 @@
 // Terms in prefix form, as the Rust's `pat_text` prints them. A term may be as deep as it has nodes, so it is written by a loop over a stack of open nodes.
 ghost use Rattle.std.specs.Prelude.{◌≡◌, ◌+◌, ◌≤◌, ◌<◌, IfSome, length, slice_get};
 ghost use Rattle.evaluation_listing_kit.specs.Nodes.{node_at};
-ghost use Rattle.evaluation_listing_kit.specs.Printing.{Fits, Moved, Within, Stepped};
+ghost use Rattle.evaluation_listing_kit.specs.Printing.{Moved, Within, Stepped};
 
 use super::output::{put, put_byte};
 use arena::HEADERS;
@@ -58,7 +58,6 @@ fn argument_at(words: &[u32], address: u32, number: u32) -> Option<u32>
 
 // Writes a name of the text.
 pub fn put_name(text: &[u8], word: Word, out: &mut Output) -> Option<()>
-    requires { Fits out.old }
     ensures { Moved out.old out.new }
 {
     put(names::part(text, word), out)
@@ -75,7 +74,6 @@ fn is_bare(symbols: &[SymbolRow], node: Node) -> bool {
 impl Printer<'_> {
     // Writes the name of a symbol.
     fn put_symbol(&self, symbol: usize, out: &mut Output) -> Option<()>
-        requires { Fits out.old }
         ensures { Moved out.old out.new }
     {
         match self.terms.symbols.get(symbol) {
@@ -86,7 +84,7 @@ impl Printer<'_> {
 
     // Writes the start of a node that has parentheses, and opens it, if there is room for it in the stack too.
     fn open_node(&mut self, symbol: usize, address: u32, out: &mut Output) -> Option<()>
-        requires { Within self.old × Fits out.old }
+        requires { Within self.old }
         ensures { Stepped self.old self.new × Moved out.old out.new }
     {
         let depth = self.depth;
@@ -101,7 +99,7 @@ impl Printer<'_> {
 
     // Writes the start of the node at an address, which is all of one without parentheses.
     fn enter(&mut self, address: u32, out: &mut Output) -> Option<()>
-        requires { Within self.old × Fits out.old }
+        requires { Within self.old }
         ensures { Stepped self.old self.new × Moved out.old out.new }
     {
         let Some(node) = node_at(self.terms.words, address) else {
@@ -115,7 +113,7 @@ impl Printer<'_> {
 
     // Writes on at the innermost open node: the start of its next argument, or its end.
     fn step(&mut self, out: &mut Output) -> Option<()>
-        requires { Fits out.old × (0 < self.old.depth) × Within self.old }
+        requires { (0 < self.old.depth) × Within self.old }
         ensures { IfSome result (λ _. out.old.at < out.new.at) × Stepped self.old self.new × Moved out.old out.new }
     {
         let top = self.depth - 1;
@@ -144,7 +142,6 @@ pub fn put_term(
     stack: &mut [OpenRow],
     out: &mut Output,
 ) -> Option<()>
-    requires { Fits out.old }
     ensures { Moved out.old out.new }
 {
     let mut printer = Printer {

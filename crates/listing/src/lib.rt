@@ -6,8 +6,8 @@ pub use standard_output::{write, write_number};
 pub mod recorded; // recorded lists of texts
 mod lines; // the line of a token, and of a refused text
 
-ghost use Rattle.std.specs.Prelude.{◌≡◌, ◌≤◌, length};
-ghost use Rattle.byte_output.specs.Output.{Written};
+ghost use Rattle.std.specs.Prelude.{◌≡◌, ◌+◌, ◌≤◌, length};
+ghost use Rattle.byte_output.specs.Output.{Written, IsWritten};
 ghost use Rattle.listing.specs.Listing.{token_lines, refused_line, listing_size, listed_buffer, listed_rows, ListingWritten};
 
 use byte_output::Output;
@@ -25,14 +25,22 @@ pub fn size(limits: Limits) -> usize
 }
 
 // Writes the lines of token rows.
+fn write_rows(text: &[u8], rows: &[Row], output: &mut Output)
+    requires { output.old.at + length (token_lines text.now rows.now) ≤ length output.old.bytes.now }
+    ensures { IsWritten output.old output.new (token_lines text.now rows.now) }
+{
+    for row in rows {
+        write_token(text, *row, output);
+    }
+}
+
+// Writes them from the buffer's start on.
 fn write_tokens(text: &[u8], rows: &[Row], out: &mut [u8]) -> usize
     requires { length (token_lines text.now rows.now) ≤ length out.old }
     ensures { Written out.old 0 (token_lines text.now rows.now) result out.new }
 {
     let mut output = Output { bytes: out, at: 0 };
-    for row in rows {
-        write_token(text, *row, &mut output);
-    }
+    write_rows(text, rows, &mut output);
     output.at
 }
 

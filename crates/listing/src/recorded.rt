@@ -4,9 +4,9 @@
 ghost use Rattle.std.specs.Prelude.{◌≡◌, ◌+◌, ◌^◌, ◌≤◌, ◌<◌, IfSome};
 ghost use Rattle.listing.specs.Recorded.{end_of, digit_at, read_digit, decimal_at, recorded_at, node_limits, value_after, Reads, Replayed};
 
-use standard_output::{write, write_number};
 use refusals::Refusal;
 use source_text::numerals;
+use standard_output::{write, write_number};
 use words::Limits;
 
 // A text of a list: where it stands, the limits and the number of lent rows to read it with, and the place of the next one's line.

@@ -7,4 +7,4 @@ pub returns-clause-moved : goal.returns-clause-moved
 returns-clause-moved c =
     let p = c.write.ensures.written.place in
     let k = length_kept c.write.ensures in
-    (omega arith, omega arith, k)
+    (omega arith, k)

@@ -12,4 +12,4 @@ returns-clause-moved c =
     let h = numeral_short c.args.number in
     let p = c.write_decimal.ensures.written.place in
     let k = length_kept c.write_decimal.ensures in
-    (omega arith, omega arith, k)
+    (omega arith, k)

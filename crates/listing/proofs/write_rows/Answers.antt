@@ -1,17 +1,16 @@
--- `write_tokens` meets its contract: the lines of the rows, in order.
+-- `write_rows` meets its contract: the lines of the rows, in order.
 use mathlib.Core.Path.{refl, sym, ap}
 use lib.ListN.{length}
-use borrow.Author.Rules.{rules}
 use Rattle.std.proofs.lemmas.List.{take_all}
-use Rattle.byte_output.specs.OutputLaws.{written_on, said_as, length_kept, written_in}
+use Rattle.byte_output.specs.OutputLaws.{written_on, said_as, length_kept}
 use Rattle.listing.specs.Listing.{token_lines}
 use Rattle.listing.specs.ListingLaws.{lines_next, line_room}
 use native.Mathlib.Omega.{arith}
-use Rattle.listing.proofs.write_tokens.Goals as goal
+use Rattle.listing.proofs.write_rows.Goals as goal
 
 pub loop-row-init : goal.loop-row-init
 unfolding token_lines
-loop-row-init c = record { written = record { buffer = refl; place = refl }; lent = refl }
+loop-row-init c = record { written = record { buffer = refl; place = omega arith }; lent = refl }
 
 pub write_token-requires : goal.write_token-requires
 write_token-requires c =
@@ -26,4 +25,4 @@ pub loop-row-preserved : goal.loop-row-preserved
 loop-row-preserved c = said_as (written_on c.loop-row.invariant c.write_token.ensures) (sym (lines_next c.args.text.now c.args.rows.now c.loop-row.row-index c.loop-row-test.true))
 
 pub returns : goal.returns
-returns c = written_in (said_as c.loop-row.invariant (ap (token_lines c.args.text.now) (take_all _ _ c.loop-row-test.false))) (search (rules, c.loop-row.invariant.lent))
+returns c = said_as c.loop-row.invariant (ap (token_lines c.args.text.now) (take_all _ _ c.loop-row-test.false))

@@ -6,7 +6,7 @@ use lib.Seq.{drop-drop}
 use mathlib.Core.List.{append_assoc}
 use native.Mathlib.Omega.{arith}
 use Rattle.std.proofs.lemmas.List.Edits.{sets-eq}
-use Rattle.byte_output.proofs.Output.write.Goals as goal
+use Rattle.byte_output.proofs.output.Output.write.Goals as goal
 
 pub returns : goal.returns
 returns c =

@@ -4,7 +4,7 @@ use native.Mathlib.Omega.{arith}
 use mathlib.Core.Path.{sym, ◌∙◌}
 use Rattle.byte_output.specs.OutputLaws.{written_as}
 use Rattle.byte_output.specs.NumeralLaws.{numeral_digit, digit_room, tenth_room, last_room, number_written}
-use Rattle.byte_output.proofs.Output.+write_decimal.Goals as goal
+use Rattle.byte_output.proofs.output.Output.+write_decimal.Goals as goal
 
 pub overflow_cast-number : goal.overflow_cast-number
 overflow_cast-number t c = omega arith
