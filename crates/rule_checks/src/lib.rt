@@ -216,16 +216,11 @@ fn are_places(rule: &RuleRow, places: &Places) -> bool
     requires { column rule.now 3 ≤ 64 }
     ensures { Tells result ((x : ℕ) → x < column rule.now 3 → get_or places.now.places x None ≡ Some (column rule.now (90 + x))) }
 {
-    let count = rule[VARIABLES] as usize;
-    places
-        .places
-        .iter()
-        .zip(&rule[FIRST_PLACE..FIRST_PLACE + count])
-        .all(
-            |(place, column)|
-                ensures { result ≡ is_place place.entry.now column.entry.now }
-            { *place == Some(*column) },
-        )
+    places.places.iter().zip(rules::places(rule)).all(
+        |(place, column)|
+            ensures { result ≡ is_place place.entry.now column.entry.now }
+        { *place == Some(*column) },
+    )
 }
 
 // Whether a row has the variables of its conclusion counted and the places of all in meeting order. The stack is scratch.

@@ -11,7 +11,7 @@ ghost use Rattle.names.specs.Named.{symbols_named};
 ghost use Rattle.names.specs.Symbols.{column, variables_of};
 ghost use Rattle.meeting.specs.Places.{place_numbers};
 ghost use Rattle.patterns.specs.Promises.{Ready};
-ghost use Rattle.rules.specs.StoredRows.{rule_row, heads_in};
+ghost use Rattle.rules.specs.StoredRows.{rule_row, heads_in, places_in};
 ghost use Rattle.rules.specs.Promises.{Judging, OrderAsked, Ordered, Keeping, KeepAsked, RuleAsked, RuleEntered};
 
 pub mod columns; // the columns of a rule's row
@@ -46,6 +46,15 @@ pub fn premises(row: &RuleRow) -> &[u32]
 {
     let end = FIRST_PREMISE + row[columns::PREMISES] as usize;
     &row[FIRST_PREMISE..end]
+}
+
+// The places of a rule's variables: the part of its row that has them.
+pub fn places(row: &RuleRow) -> &[u32]
+    requires { column row.now 3 ≤ 64 }
+    ensures { result.now ≡ places_in row.now }
+{
+    let end = FIRST_PLACE + row[columns::VARIABLES] as usize;
+    &row[FIRST_PLACE..end]
 }
 
 // How many words are used, and the room for nodes left.

@@ -1,8 +1,8 @@
 // What an attempt reads in a rule's row.
 ghost use Rattle.std.specs.Prelude.{◌≡◌, ◌≤◌};
 ghost use Rattle.arena.specs.Rows.{Rows};
-ghost use Rattle.names.specs.Symbols.{column, row_at};
-ghost use Rattle.rules.specs.StoredRows.{places_in, stored_in};
+ghost use Rattle.names.specs.Symbols.{row_at};
+ghost use Rattle.rules.specs.StoredRows.{stored_in};
 ghost use Rattle.search_machine.specs.Storage.{PremiseAsked};
 ghost use Rattle.search_machine.specs.Groups.{AskedIn, TriedIn, IsLent};
 ghost use Rattle.search_machine.specs.State.{premise_ref};
@@ -13,10 +13,9 @@ use arena::{PATTERN_ROOM, TERM_ROOM, moved_word};
 use attempts::{LentRule, Stored, Tried, try_rule};
 use refusals::Refusal;
 use rules::columns::{
-    CONCLUSION, CONCLUSION_WORDS, FIRST_PLACE, FIRST_PREMISE, FIRST_WORD, MET, PREMISE_WORDS,
-    VARIABLES,
+    CONCLUSION, CONCLUSION_WORDS, FIRST_PREMISE, FIRST_WORD, MET, PREMISE_WORDS, VARIABLES,
 };
-use rules::{RuleRow, premises};
+use rules::{RuleRow, places, premises};
 use unifier::Workspace;
 
 // What a row says of its rule.
@@ -32,15 +31,6 @@ fn stored_in(row: &RuleRow) -> Stored
         met: row[MET],
         variables: row[VARIABLES],
     }
-}
-
-// The places of a rule's variables: the part of its row that has them.
-fn places(row: &RuleRow) -> &[u32]
-    requires { column row.now 3 ≤ 64 }
-    ensures { result.now ≡ places_in row.now }
-{
-    let end = FIRST_PLACE + row[VARIABLES] as usize;
-    &row[FIRST_PLACE..end]
 }
 
 // The reference of a premise of an application, whose rule has this row.

@@ -12,14 +12,15 @@ pub run-m-requires : goal.run-m-requires
 run-m-requires c =
     let s : c.in-Some.steps ≡ c.args.question.steps - 1 = omega (arith, c.in-Some.ensures) in
     let d : c.in-Some-checked_sub.below ≡ c.args.depth - 1 = omega (arith, c.in-Some-checked_sub.ensures) in
-    bound_ready c.requires c.args.depth (omega (arith, c.in-Some.ensures)) (omega (arith, c.in-Some-checked_sub.ensures)) (rw (s, d) at c.at_start-first.ensures)
+    bound_ready c.requires c.args.depth (omega (arith, c.in-Some.ensures)) (omega (arith, c.in-Some-checked_sub.ensures))
+    (rw (s, d) at c.at_start-first.ensures)
 
 pub leave-requires : goal.leave-requires
 leave-requires c =
     let s : c.in-Some.steps ≡ c.args.question.steps - 1 = omega (arith, c.in-Some.ensures) in
     let d : c.in-Some-checked_sub.below ≡ c.args.depth - 1 = omega (arith, c.in-Some-checked_sub.ensures) in
-    bound_leaving c.requires c.args.depth (omega (arith, c.in-Some.ensures)) (omega (arith, c.in-Some-checked_sub.ensures)) (rw (s, d) at c.at_start-first.ensures)
-    c.run-m.ensures.searched
+    bound_leaving c.requires c.args.depth (omega (arith, c.in-Some.ensures)) (omega (arith, c.in-Some-checked_sub.ensures))
+    (rw (s, d) at c.at_start-first.ensures) c.run-m.ensures.searched
 
 pub returns-clause-bounded : goal.returns-clause-bounded
 returns-clause-bounded c =
@@ -27,5 +28,5 @@ returns-clause-bounded c =
     let d : c.in-Some-checked_sub.below ≡ c.args.depth - 1 = omega (arith, c.in-Some-checked_sub.ensures) in
     let l = c.leave.ensures.left in
     bounded_on l.links l.marks l.stack
-    (bound_left c.requires c.args.depth (omega (arith, c.in-Some.ensures)) (omega (arith, c.in-Some-checked_sub.ensures)) (rw (s, d) at c.at_start-first.ensures)
-    c.run-m.ensures.searched l.left)
+    (bound_left c.requires c.args.depth (omega (arith, c.in-Some.ensures)) (omega (arith, c.in-Some-checked_sub.ensures))
+    (rw (s, d) at c.at_start-first.ensures) c.run-m.ensures.searched l.left)
