@@ -14,10 +14,7 @@ use signature_tests::buffers;
 fn is_refused<T: Copy>(answer: Result<T, Refusal>) -> bool
     ensures { result ≡ is_refused answer }
 {
-    match answer {
-        Err(refusal) => refusal == Refusal::Storage,
-        Ok(_) => false,
-    }
+    answer.err() == Some(Refusal::Storage)
 }
 
 // Tests that the buffers are as they were.
@@ -97,7 +94,9 @@ fn past(term: Source) -> Source {
 }
 
 // Lends a damaged signature, and asks for a term past the rows.
-pub fn test_unlisted(query: Query, storage: &mut Buffers) {
+pub fn test_unlisted(query: Query, storage: &mut Buffers)
+    ensures { AreLent storage.old storage.new }
+{
     let less = Query {
         signature: damaged(query.signature),
         ..query

@@ -12,7 +12,7 @@ pub record Results : Type 0 where
   pub links : List ℕ
   pub trees : Rows
 
--- What the buffers hold, and that the same ones are lent.
+-- What the buffers hold, and that the same ones are lent, as long as before.
 abbrev pub results_in : Buffers → Results
 results_in b = record { words = b.words.now; links = b.links.now; trees = b.trees.now }
 
@@ -20,6 +20,9 @@ pub record AreLent (b b' : Buffers) : Type 0 where
   pub words : b'.words.ghost_name ≡ b.words.ghost_name
   pub links : b'.links.ghost_name ≡ b.links.ghost_name
   pub trees : b'.trees.ghost_name ≡ b.trees.ghost_name
+  pub words_long : length b'.words.now ≡ length b.words.now
+  pub links_long : length b'.links.now ≡ length b.links.now
+  pub trees_long : length b'.trees.now ≡ length b.trees.now
 
 -- The most words of an evaluation: the caller's limit, or document 01's.
 abbrev pub most_words : Limits → ℕ
