@@ -88,10 +88,7 @@ impl Printer<'_> {
         ensures { Stepped self.old self.new × Moved out.old out.new }
     {
         let depth = self.depth;
-        if self.stack.len() <= depth {
-            return None;
-        }
-        self.stack[depth] = [address, 0];
+        *self.stack.get_mut(depth)? = [address, 0];
         self.depth = depth + 1;
         put_byte(out, b'(')?;
         self.put_symbol(symbol, out)
