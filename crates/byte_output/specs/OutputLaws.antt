@@ -59,7 +59,3 @@ module _ {o o' : Output} {xs : List ℕ} (v : IsWritten o o' xs) where
   -- The same bytes, said otherwise.
   pub said_as : {ys : List ℕ} → xs ≡ ys → IsWritten o o' ys
   said_as e = record { written = written_as v.written e; lent = v.lent }
-
-  -- What the buffer holds when it is given back.
-  pub written_in : {out' : List ℕ} → out' ≡ o'.bytes.now → Written o.bytes.now o.at xs o'.at out'
-  written_in e = record { buffer = e ∙ v.written.buffer; place = v.written.place }

@@ -7,6 +7,7 @@
 
 mod output; // bytes and numbers, where there is room
 mod prefix; // terms in prefix form
+mod printer; // the open nodes of a term
 
 ghost use Rattle.evaluation_listing_kit.specs.Printing.{Moved};
 

@@ -1,9 +1,10 @@
 // Terms in prefix form, as the Rust's `pat_text` prints them. A term may be as deep as it has nodes, so it is written by a loop over a stack of open nodes.
 ghost use Rattle.std.specs.Prelude.{◌≡◌, ◌+◌, ◌≤◌, ◌<◌, IfSome, length, slice_get};
 ghost use Rattle.evaluation_listing_kit.specs.Nodes.{node_at};
-ghost use Rattle.evaluation_listing_kit.specs.Printing.{Moved, Within, Stepped};
+ghost use Rattle.evaluation_listing_kit.specs.Printing.{Moved, Stepped};
 
 use super::output::{put, put_byte};
+use super::printer::Printer;
 use arena::HEADERS;
 use byte_output::Output;
 use names::{SymbolRow, Word};
@@ -18,15 +19,6 @@ pub struct StoredTerms<'a> {
     pub text: &'a [u8],
     pub symbols: &'a [SymbolRow],
     pub words: &'a [u32],
-}
-
-// A printer of terms: the open nodes, which are `depth`.
-// Stays: the number of open nodes changes as a term is written, and with no heap a lent buffer with that number beside it is what a stack can be.
-#[derive(Drop)]
-struct Printer<'a> {
-    terms: StoredTerms<'a>,
-    stack: &'a mut [OpenRow],
-    depth: usize,
 }
 
 // A node: its symbol, and how many arguments it has.
@@ -84,14 +76,10 @@ impl Printer<'_> {
 
     // Writes the start of a node that has parentheses, and opens it, if there is room for it in the stack too.
     fn open_node(&mut self, symbol: usize, address: u32, out: &mut Output) -> Option<()>
-        requires { Within self.old }
         ensures { Stepped self.old self.new × Moved out.old out.new }
     {
         let depth = self.depth;
-        if self.stack.len() <= depth {
-            return None;
-        }
-        self.stack[depth] = [address, 0];
+        *self.stack.get_mut(depth)? = [address, 0];
         self.depth = depth + 1;
         put_byte(out, b'(')?;
         self.put_symbol(symbol, out)
@@ -99,7 +87,6 @@ impl Printer<'_> {
 
     // Writes the start of the node at an address, which is all of one without parentheses.
     fn enter(&mut self, address: u32, out: &mut Output) -> Option<()>
-        requires { Within self.old }
         ensures { Stepped self.old self.new × Moved out.old out.new }
     {
         let Some(node) = node_at(self.terms.words, address) else {
@@ -113,7 +100,7 @@ impl Printer<'_> {
 
     // Writes on at the innermost open node: the start of its next argument, or its end.
     fn step(&mut self, out: &mut Output) -> Option<()>
-        requires { (0 < self.old.depth) × Within self.old }
+        requires { 0 < self.old.depth }
         ensures { IfSome result (λ _. out.old.at < out.new.at) × Stepped self.old self.new × Moved out.old out.new }
     {
         let top = self.depth - 1;

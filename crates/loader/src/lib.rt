@@ -158,6 +158,7 @@ pub enum Kind {
 
 // What a symbol is, as the columns of its row have it: whether its last sort is its output, its function mark, and its clauses.
 // Stays: `enter_symbol` promises the row of any four numbers, as a row that C lends may hold; a `Kind` has only those of a declaration, and would ask more.
+// Stays: three of these are in `SymbolHead` too, which has an output in place of `constructor`; a struct of the three would be nested in both.
 #[derive(Clone, Copy, Default)]
 pub struct SymbolMarks {
     pub constructor: bool,
