@@ -24,7 +24,7 @@ pub fn size(limits: Limits) -> usize
     REFUSAL + 26 * (limits.capped().text as usize)
 }
 
-// Writes the lines of token rows.
+// Writes the lines of token rows. The loop stands apart, since behind a loop over an `Output` made there the proof would not know what the buffer holds.
 fn write_rows(text: &[u8], rows: &[Row], output: &mut Output)
     requires { output.old.at + length (token_lines text.now rows.now) ≤ length output.old.bytes.now }
     ensures { IsWritten output.old output.new (token_lines text.now rows.now) }
