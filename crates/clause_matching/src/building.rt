@@ -64,8 +64,7 @@ fn instantiate_node(
     let mut top = room.limit;
     let mut spent = room.used;
     // Stays: the stack grows and shrinks, so no range is known at the start.
-    while depth != 0 {
-        let row = depth - 1;
+    while let Some(row) = depth.checked_sub(1) {
         let [address, taken, base] = stack[row];
         let header = pattern[address as usize];
         let arity = arity_of(header);

@@ -70,30 +70,29 @@ fn bind_node(
     stack[0] = [first, value + 1, arena::arity_of(header)];
     let mut depth: usize = 1;
     // Stays: the stack grows and shrinks, so no range is known at the start.
-    while depth != 0 {
-        let row = depth - 1;
+    while let Some(row) = depth.checked_sub(1) {
         let [at, across, left] = stack[row];
-        if left == 0 {
+        let Some(rest) = left.checked_sub(1) else {
             depth = row;
-        } else {
-            stack[row] = [at + 1, across + 1, left - 1];
-            let other = values.words[across as usize];
-            match pattern_at(pattern, pattern[at as usize]) {
-                Pattern::Variable { index } => {
-                    if !take(values, other, environment, index, links) {
-                        return false;
-                    }
+            continue;
+        };
+        stack[row] = [at + 1, across + 1, rest];
+        let other = values.words[across as usize];
+        match pattern_at(pattern, pattern[at as usize]) {
+            Pattern::Variable { index } => {
+                if !take(values, other, environment, index, links) {
+                    return false;
                 }
-                Pattern::Node {
-                    header: wanted,
-                    first: inner,
-                } => {
-                    if wanted != values.words[other as usize] {
-                        return false;
-                    }
-                    stack[depth] = [inner, other + 1, arena::arity_of(wanted)];
-                    depth += 1;
+            }
+            Pattern::Node {
+                header: wanted,
+                first: inner,
+            } => {
+                if wanted != values.words[other as usize] {
+                    return false;
                 }
+                stack[depth] = [inner, other + 1, arena::arity_of(wanted)];
+                depth += 1;
             }
         }
     }

@@ -27,6 +27,8 @@ const NO_WORD: u32 = 0xFFFF_FFFF;
 
 // A signature that was loaded, whose storage is damaged and put right again.
 // Stays: with `LentBuffers` in it, the definitions of damage would speak of four buffers more, which no test here reads or changes.
+// Stays: that a row or spot stands in what is loaded is asked beside it; a struct of both would be made anew for each number that is changed.
+// Stays: each test promises that all is as it was (`loaded.new ≡ loaded.old`); an invariant tells of one value, and not of the one before.
 #[derive(Drop)]
 struct LoadedSignature<'a> {
     text: &'a [u8],

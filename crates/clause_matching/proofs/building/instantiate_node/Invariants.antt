@@ -6,8 +6,8 @@ use Rattle.arena.specs.Copies.{pattern_room}
 use Rattle.clause_matching.proofs.BuildTurns.{Turn, left}
 use Rattle.clause_matching.proofs.building.instantiate_node.Given as goal
 
-abbrev pub invariant-loop-depth : goal.invariant-loop-depth
-invariant-loop-depth l = (n : ℕ) × Turn l.pattern (l.root + pattern_room) l.environment l.initial.words l.room.used l.room.limit l.initial.stack l.words l.stack l.depth l.top l.spent n false
+abbrev pub invariant-loop-row : goal.invariant-loop-row
+invariant-loop-row l = (n : ℕ) × Turn l.pattern (l.root + pattern_room) l.environment l.initial.words l.room.used l.room.limit l.initial.stack l.words l.stack l.depth l.top l.spent n false
 
-abbrev pub decreases-loop-depth : goal.decreases-loop-depth
-decreases-loop-depth l = left l.pattern l.stack l.depth 0 false
+abbrev pub decreases-loop-row : goal.decreases-loop-row
+decreases-loop-row l = left l.pattern l.stack l.depth 0 false

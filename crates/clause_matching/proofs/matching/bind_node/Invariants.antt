@@ -4,9 +4,9 @@ use mathlib.Core.Bool.{false}
 use Rattle.clause_matching.proofs.BindTurns.{Turn, place_of, left}
 use Rattle.clause_matching.proofs.matching.bind_node.Given as goal
 
-abbrev pub invariant-loop-depth : goal.invariant-loop-depth
-invariant-loop-depth l =
+abbrev pub invariant-loop-row : goal.invariant-loop-row
+invariant-loop-row l =
     Turn l.pattern (place_of l.first) l.values.words.now l.values.used l.value l.initial.environment l.initial.links l.fn.stack l.environment l.links l.stack l.depth 0 0 false
 
-abbrev pub decreases-loop-depth : goal.decreases-loop-depth
-decreases-loop-depth l = left l.pattern l.stack l.depth 0 false
+abbrev pub decreases-loop-row : goal.decreases-loop-row
+decreases-loop-row l = left l.pattern l.stack l.depth 0 false
