@@ -23,6 +23,7 @@ fn goal_header(terms: Terms, held: StoredBindings, goal: u32) -> Option<u32>
 }
 
 // Whether a conclusion may unify with a goal that leads to this header: a node with another one cannot.
+// Stays: tried one `match` of the header and `conclusion.checked_sub(PATTERN_ROOM)`: as plain, a pair and its patterns for two early returns.
 fn may_unify(pattern: &[u32], header: Option<u32>, conclusion: u32) -> bool
     requires { Readable pattern.now conclusion }
     ensures { result ≡ false → Differs pattern.now header conclusion }
