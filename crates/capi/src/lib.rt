@@ -58,6 +58,7 @@ pub fn limits_of(steps: u32, variables: u32, words: u32) -> words::Limits
 
 // The first four counts that `horn_load` leaves. Whether there are so many is asked by each function that programs in C call.
 // Stays: with an `Option`, `prover_capi`, which knows both lengths, would have two cases for none that never come, each with an answer of its own.
+// Stays: of arrays of four, each caller would show that the counts of the first four are those of all, and `prover_capi` that there are four.
 pub fn signature_counts(counts: &[u32]) -> signature::Counts
     requires { 4 ≤ length counts.now }
     ensures { result ≡ stored_counts counts.now }
@@ -367,6 +368,7 @@ pub fn horn_open(
 // An answer as one number, and what else it tells; a refusal by its number.
 // Stays: programs in C take the answer as one number and the rest in a lent buffer, and neither of the types is of this crate.
 // Stays: a refusal is told by any number, as the contract says; of a `Refusal` it would tell those of document 01 alone, and ask more of callers.
+// Stays: callers may lend more than six numbers, and an array in their place would ask for exactly six.
 pub fn tell_answer(results: &mut [u32], answer: Result<Verdict, u32>) -> u64
     requires { 6 ≤ length results.old }
     ensures number { result ≡ packed_proof (answer_of answer) }
