@@ -23,18 +23,14 @@ fn goal_header(terms: Terms, held: StoredBindings, goal: u32) -> Option<u32>
 }
 
 // Whether a conclusion may unify with a goal that leads to this header: a node with another one cannot.
-// Stays: tried one `match` of the header and `conclusion.checked_sub(PATTERN_ROOM)`: as plain, a pair and its patterns for two early returns.
 fn may_unify(pattern: &[u32], header: Option<u32>, conclusion: u32) -> bool
     requires { Readable pattern.now conclusion }
     ensures { result ≡ false → Differs pattern.now header conclusion }
 {
-    let Some(header) = header else {
-        return true;
-    };
-    if conclusion < PATTERN_ROOM {
-        return true;
+    match (header, conclusion.checked_sub(PATTERN_ROOM)) {
+        (Some(header), Some(address)) => pattern[address as usize] == header,
+        _ => true,
     }
-    pattern[(conclusion - PATTERN_ROOM) as usize] == header
 }
 
 // Whether the rule of a conclusion has to be tried: it does not clash with the goal, by its head or by those of its arguments.
