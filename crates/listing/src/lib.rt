@@ -45,6 +45,7 @@ fn write_tokens(text: &[u8], rows: &[Row], out: &mut [u8]) -> usize
 }
 
 // Writes the one line of a refused text.
+// Stays: with `write_tokens` as one function, what is written would be a closure, with a contract as long as these two lines and each caller's own.
 fn write_refused(number: u32, line: u32, out: &mut [u8]) -> usize
     requires { length (refused_line number line) ≤ length out.old }
     ensures { Written out.old 0 (refused_line number line) result out.new }
