@@ -17,12 +17,6 @@ bounds-stack-0 c = waits_free (c.requires.0, c.requires.1) (turn_start c.require
 pub loop-row-init : goal.loop-row-init
 loop-row-init c = rw c.arity_of.ensures (turn_waits (c.requires.0, c.requires.1) (turn_start c.requires.2) refl c.if-header-values.false)
 
-pub loop-row-smaller-in_default-checked_sub : goal.loop-row-smaller-in_default-checked_sub
-loop-row-smaller-in_default-checked_sub c =
-    let q : c.in-Some.row ≡ c.loop-row.depth - 1 = omega (arith, c.in-Some.ensures) in
-    let d = rw q at c.in_default-checked_sub.ensures in
-    rw q (less_close c.loop-row.invariant refl (omega (arith, c.in-Some.ensures)) (omega (arith, d)))
-
 pub loop-row-preserved-in_default-checked_sub : goal.loop-row-preserved-in_default-checked_sub
 loop-row-preserved-in_default-checked_sub c =
     let q : c.in-Some.row ≡ c.loop-row.depth - 1 = omega (arith, c.in-Some.ensures) in
