@@ -5,7 +5,7 @@ use mathlib.Core.Path.{refl, ap}
 use Rattle.words.specs.declared.Limits.{Limits}
 use Rattle.evaluator.proofs.TestingLaws.{symbols_within}
 use Rattle.evaluator.proofs.PartLaws.{part_asked, part_answered}
-use Rattle.evaluator.proofs.LeavingLaws.{expression_asked, left_refused, left_valued, given_wiped, left_long}
+use Rattle.evaluator.proofs.LeavingLaws.{expression_asked, left_refused, left_valued, given_wiped}
 use Rattle.evaluator.proofs.evaluate_listed.Goals as goal
 
 pub expression-requires : goal.expression-requires
@@ -21,36 +21,9 @@ returns-in-Err-clause-left c =
     (part_answered _ _ _ (symbols_within c.requires.readable) (rw c.symbols_in_use.ensures at c.expression.ensures.answered)) _ c.in-Err.is l.trees_kept _
     (given_wiped c.fill-in-Err.ensures.filled (search (rules, l.words)) (search (rules, l.links)) (search (rules, l.trees)))
 
-pub returns-in-Err-clause-lent : goal.returns-in-Err-clause-lent
-returns-in-Err-clause-lent c =
-    let l = c.expression.ensures.lent in
-    let f = c.fill-in-Err.ensures.lent in
-    let (w, k, t) = left_long c.requires _ _ (returns-in-Err-clause-left c) in
-    record {
-      words = search (rules, f.words, l.words);
-      links = search (rules, f.links, l.links);
-      trees = search (rules, f.trees, l.trees);
-      words_long = w;
-      links_long = k;
-      trees_long = t;
-    }
-
 pub returns-in-Ok-clause-left : goal.returns-in-Ok-clause-left
 returns-in-Ok-clause-left c =
     let l = c.expression.ensures.lent in
     left_valued c.requires _ (ap (λ (l : Limits). l.words) c.capped-most.ensures) (c.fill.ensures.after (λ y e. e))
     (part_answered _ _ _ (symbols_within c.requires.readable) (rw c.symbols_in_use.ensures at c.expression.ensures.answered)) _ _ _ _ c.in-Ok.is l.trees_kept
     c.clear_from.ensures c.clear_from-in-Ok.ensures (search (rules, l.words)) (search (rules, l.links)) (search (rules, l.trees))
-
-pub returns-in-Ok-clause-lent : goal.returns-in-Ok-clause-lent
-returns-in-Ok-clause-lent c =
-    let l = c.expression.ensures.lent in
-    let (w, k, t) = left_long c.requires _ _ (returns-in-Ok-clause-left c) in
-    record {
-      words = search (rules, l.words);
-      links = search (rules, l.links);
-      trees = search (rules, l.trees);
-      words_long = w;
-      links_long = k;
-      trees_long = t;
-    }

@@ -15,10 +15,3 @@ invariant_of-result c =
     let z = constructor_at symbols zero_name c.in_ok-zero.zero c.constructor.result c.constructor.ensures c.in_ok-zero.ensures.value in
     let y = constructor_at symbols succ_name c.in_ok-succ.succ c.constructor-2.result c.constructor-2.ensures c.in_ok-succ.ensures.value in
     record { inside = (rw e at z.2, rw e at y.2) }
-
-pub returns-clause-found : goal.returns-clause-found
-returns-clause-found c =
-    let symbols = symbols_of c.args.text.now c.args.symbols.now (length c.args.symbols.now) in (
-      constructor_at symbols zero_name c.in_ok-zero.zero c.constructor.result c.constructor.ensures c.in_ok-zero.ensures.value,
-      constructor_at symbols succ_name c.in_ok-succ.succ c.constructor-2.result c.constructor-2.ensures c.in_ok-succ.ensures.value,
-    )
