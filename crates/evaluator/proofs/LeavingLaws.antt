@@ -27,7 +27,6 @@ use Rattle.tree_rows.proofs.TreeLaws.{lists_grown, lists_same}
 use Rattle.evaluation.specs.Expressions.{Evaluated, failed, evaluated, evaluate_of}
 use Rattle.clause_matching.specs.Building.{Stands as Built}
 use Rattle.function_calls.specs.Calls.{outcome, tree_rows, Working}
-use Rattle.function_calls.specs.declared.calls.Outcome.{Outcome}
 use Rattle.expressions.specs.Terms.{expressed, ExpressionAsked, Evaluates, ExpressionAnswered}
 use Rattle.expressions.specs.declared.written.Expressed.{Expressed}
 use Rattle.std.specs.Prelude.{Result, Err}
@@ -267,19 +266,3 @@ module _ {text : List ℕ} {limits : Limits} {sg : SignatureStore} {rows : Rows}
             past [] i l = refl
             past (y ∷ ys) zero l = absurd (let z : ⊥ = omega arith in z)
             past (y ∷ ys) (suc i) l = past ys i (omega arith)
-
--- Whatever is left, no buffer has changed its length.
-module _ {text : List ℕ} {limits : Limits} {sg : SignatureStore} {rows : Rows} {at : ℕ} {b : Results}
-    (h : Ready text limits sg rows at b) (r : Result Outcome Refusal) (b' : Results) where
-  pub left_long : EvaluationLeft text limits sg rows at b r b'
-      → (length b'.words ≡ length b.words) × (length b'.links ≡ length b.links) × (length b'.trees ≡ length b.trees)
-  left_long left = go (evaluate_of (most_words limits) (signature_of text sg) (written_in h.readable)) (left h)
-    where
-      go : (o : Evaluated one) → Left text sg b o r b'
-          → (length b'.words ≡ length b.words) × (length b'.links ≡ length b.links) × (length b'.trees ≡ length b.trees)
-      go (failed e) d = (
-        ap (λ (x : Results). length x.words) d.left ∙ length-replicate (length b.words) 0,
-        ap (λ (x : Results). length x.links) d.left ∙ length-replicate (length b.links) 0,
-        ap (λ (x : Results). length x.trees) d.left ∙ length-replicate (length b.trees) zero_tree,
-      )
-      go (evaluated v ps c) d = (d.words_kept, ap length d.links_zero ∙ length-replicate (length b.links) 0, d.trees_kept)

@@ -34,7 +34,7 @@ fn write_rows(text: &[u8], rows: &[Row], output: &mut Output)
     }
 }
 
-// Writes them from the buffer's start on.
+// Writes the lines of token rows from the buffer's start on.
 fn write_tokens(text: &[u8], rows: &[Row], out: &mut [u8]) -> usize
     requires { length (token_lines text.now rows.now) ≤ length out.old }
     ensures { Written out.old 0 (token_lines text.now rows.now) result out.new }
