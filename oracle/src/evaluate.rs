@@ -16,12 +16,24 @@ const LARGEST_NUMERAL: u64 = 2_000;
 /// Room for the recursion of the original, which frees and compares terms as deep as they are.
 const STACK: usize = 1 << 30;
 
-/// Runs on a thread whose stack is large enough for any term that is asked for.
-pub fn with_large_stack<R: Send>(run: impl FnOnce() -> R + Send) -> R {
+/// The stack that a program has by default. The original needs a larger one for deep terms, ours must not.
+const PROGRAM_STACK: usize = 8 << 20;
+
+fn with_stack<R: Send>(size: usize, run: impl FnOnce() -> R + Send) -> R {
     std::thread::scope(|scope| {
-        let thread = std::thread::Builder::new().stack_size(STACK).spawn_scoped(scope, run);
+        let thread = std::thread::Builder::new().stack_size(size).spawn_scoped(scope, run);
         thread.expect("a thread").join().unwrap_or_else(|panic| std::panic::resume_unwind(panic))
     })
+}
+
+/// Runs on a thread whose stack is large enough for any term that is asked for.
+pub fn with_large_stack<R: Send>(run: impl FnOnce() -> R + Send) -> R {
+    with_stack(STACK, run)
+}
+
+/// Runs on a thread with the stack of a program.
+pub fn with_program_stack<R: Send>(run: impl FnOnce() -> R + Send) -> R {
+    with_stack(PROGRAM_STACK, run)
 }
 
 fn capped(term: &Term) -> Term {

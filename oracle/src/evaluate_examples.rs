@@ -217,6 +217,7 @@ pub fn examples() -> Vec<Example> {
     all.extend(SUMS.iter().map(sum));
     all.extend(sums());
     all.extend(parentheses());
+    all.extend(wide());
     all.extend(words());
     all.extend(calls());
     all
@@ -264,6 +265,25 @@ fn parentheses() -> Vec<Example> {
         asked(double(62, "c"), "value a"),
         asked(double(62, "(id c)"), "value a"),
         asked(double(62, "(id (id c))"), "refused 29"),
+    ]
+}
+
+/// A function of 15 arguments that calls itself at every depth on terms of 16 arguments, and such terms in one another as deep as they are written.
+fn wide() -> Vec<Example> {
+    let (inputs, ys) = ("A → ".repeat(15), (0..14).map(|at| format!("y{at}")).collect::<Vec<_>>().join(", "));
+    let node = |first: &str| format!("(w {first}{})", " zero".repeat(15));
+    let functions = format!(
+        "sort A ctor zero : A ctor succ : A → A ctor w : A → {inputs}A\ndef f : {inputs}A | zero, {ys} => y0 | succ x, {ys} => f x{}",
+        format!(" {}", node("zero")).repeat(14)
+    );
+    let deepest = (0..62).fold("zero".to_owned(), |inner, _| node(&inner));
+    let asked = |first: &str, second: &str, answer: &str| {
+        example(format!("{functions}\n#eval f {first} {second}{}", " zero".repeat(13)), WORDS, answer)
+    };
+    vec![
+        asked("127", "zero", &format!("value {}", node("zero"))),
+        asked("128", "zero", "refused 29"),
+        asked("0", &deepest, &format!("value {deepest}")),
     ]
 }
 

@@ -6,7 +6,7 @@ mod ours;
 mod ours_load;
 
 use horn_oracle::command::{count_and_seed, fail};
-use horn_oracle::evaluate::{Kept, with_large_stack};
+use horn_oracle::evaluate::{Kept, with_large_stack, with_program_stack};
 use horn_oracle::evaluate_cases::{
     Program, Question, agreed_as_kept, damage, fixed_questions, generated, unexpected_example,
 };
@@ -183,7 +183,7 @@ impl Place<'_> {
             _ => Answer::Refused(1),
         };
         buffers.reset(&lent, GUARD, JUNK);
-        let code = ours::evaluate(&stored, limit, self.at, &lent, buffers);
+        let code = with_program_stack(|| ours::evaluate(&stored, limit, self.at, &lent, buffers));
         tally.goals += u64::from(forward != 1 && expected != Answer::Refused(1));
         tally.counts[expected.number() as usize] += 1;
         self.left(&expected, code, &lent, buffers, terms).map_err(|cause| format!("with {limit} words: {cause}"))

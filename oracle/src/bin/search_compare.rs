@@ -6,17 +6,14 @@ mod ours_load;
 mod ours_search;
 
 use horn_oracle::command::{count_and_seed, fail};
-use horn_oracle::evaluate::with_large_stack;
+use horn_oracle::evaluate::{with_large_stack, with_program_stack};
 use horn_oracle::loaded::{self, Limits as TextLimits};
 use horn_oracle::search_cases::unexpected_answers;
 use horn_oracle::search_compared::{Posed, Searching, compare, questions};
 use horn_oracle::searched::{Allowance, Ask, Buffers, Counts, Given, Lent};
 use ours_search::{COUNTS, JUNK, Ours, RESULTS, prove};
 
-/// The stack that a program has by default. The Rust needs a larger one for deep terms, ours must not.
-const STACK: usize = 8 << 20;
-
-/// Our search, each goal of it on a stack of that size.
+/// Our search, each goal of it on the stack of a program.
 struct Stacked;
 
 impl Searching for Stacked {
@@ -29,11 +26,7 @@ impl Searching for Stacked {
     }
 
     fn prove(&mut self, posed: &Posed, counts: Counts, lent: &Lent, buffers: &mut Buffers) -> Given {
-        std::thread::scope(|scope| {
-            let builder = std::thread::Builder::new().stack_size(STACK);
-            let thread = builder.spawn_scoped(scope, || Ours.prove(posed, counts, lent, buffers));
-            thread.expect("a thread").join().unwrap_or_else(|panic| std::panic::resume_unwind(panic))
-        })
+        with_program_stack(|| Ours.prove(posed, counts, lent, buffers))
     }
 }
 
