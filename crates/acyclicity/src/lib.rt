@@ -13,7 +13,7 @@ use arena::Terms;
 
 // The mark of a reference from which all edges were followed, and which no cycle was found through. Any other mark is 0 where the search has not been,
 // else 1 + the number of edges followed: below this, since a node has at most 31 arguments.
-// Stays: the marks stand in rows of numbers that programs in C lend, so an enum would be turned into a number at each step of the search.
+// Stays: the marks stand in rows of numbers that programs in C lend, and all but this one are counts.
 const CLOSED: u32 = 33;
 
 // A place as the number that stands for it in a row: 0 for none, else 1 + the reference.
@@ -46,7 +46,7 @@ fn edge_at(terms: Terms, bindings: &[[u32; 2]], reference: u32, i: u32) -> Optio
 }
 
 // Whether the stored bindings are acyclic; leaves its marks in scratch.
-// Stays: terms, bindings and scratch have different owners; a struct of the three would be made for each call and taken apart in it again.
+// Stays: only the scratch is written; a struct of the three, lent as `&mut`, would have to promise besides that terms and bindings are as before.
 fn search(terms: Terms, bindings: &[[u32; 2]], scratch: &mut [[u32; 2]]) -> bool
     requires { Searchable terms.words.now bindings.now terms.room terms.variables terms.used scratch.old }
     ensures { Searched terms.entry.words.now bindings.now terms.entry.room terms.entry.variables terms.entry.used scratch.old result scratch.new }
@@ -90,7 +90,7 @@ fn search(terms: Terms, bindings: &[[u32; 2]], scratch: &mut [[u32; 2]]) -> bool
 
 // Whether the stored bindings are acyclic: one search in depth through all that the variables lead to. Scratch has a row for
 // each reference; it is zero before and after.
-// Stays: terms, bindings and scratch have different owners; a struct of the three would be made for each call and taken apart in it again.
+// Stays: only the scratch is written; a struct of the three, lent as `&mut`, would have to promise besides that terms and bindings are as before.
 pub fn is_acyclic(terms: Terms, bindings: &[[u32; 2]], scratch: &mut [[u32; 2]]) -> bool
     requires { Ready terms.words.now bindings.now terms.room terms.variables terms.used scratch.old }
     ensures { Decided terms.entry.words.now bindings.now terms.entry.room terms.entry.variables scratch.old result scratch.new }

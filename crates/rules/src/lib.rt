@@ -233,7 +233,7 @@ fn store(
 }
 
 // Where a rule's name stands, and the number of its clause + 1; 0 for a written rule.
-// Stays: C callers lend the rules' rows, in which a clause is its number + 1 and a written rule 0, and a title is only carried to such a row.
+// Stays: in the row that C callers lend a clause is its number + 1; `keep` writes it there, and would turn an `Option` back into it: no plainer.
 #[derive(Clone, Copy)]
 pub struct Title {
     pub word: Word,
