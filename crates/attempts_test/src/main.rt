@@ -3,9 +3,10 @@
 
 use arena::TERM_ROOM;
 use attempts::{SearchLimits, SearchState, Tried};
+use bindings::InUse;
 use refusals::Refusal;
 use samples::build::{MOST, Tower};
-use samples::unification::{Counts, Fault, Remains};
+use samples::unification::{Fault, Remains};
 use samples::{build, report, unification};
 use unifier::Workspace;
 
@@ -37,7 +38,7 @@ fn put_goal(
         leaf: TERM_ROOM,
         arity: 1,
     };
-    let used = build::put_tower(words, TERM_ROOM, 2, tower).next;
+    let used = build::try_put_tower(words, TERM_ROOM, 2, tower)?.next;
     if LEVELS < height || 100 < spare || MOST < used {
         return None;
     }
@@ -47,9 +48,11 @@ fn put_goal(
             variables: most,
             words: used + spare,
         },
-        counter: 2,
-        used,
-        bound: 1,
+        in_use: InUse {
+            variables: 2,
+            bound: 1,
+            used,
+        },
         goal: 0,
     })
 }
@@ -108,12 +111,12 @@ fn report_attempt(
             report::text(b", words ");
             report::decimal(used);
             report_premises(state);
-            let after = Counts {
+            let after = InUse {
                 variables: counter,
-                used,
                 bound,
+                used,
             };
-            unification::finish(remains, after, state.bound);
+            unification::finish(remains, after, state.in_use.bound);
         }
     }
 }

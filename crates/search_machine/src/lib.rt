@@ -86,14 +86,6 @@ impl Mode {
     }
 }
 
-// What is in use: variables, bindings and words.
-#[derive(Clone, Copy)]
-pub struct InUse {
-    pub counter: u32,
-    pub bound: u32,
-    pub used: u32,
-}
-
 // The machine's state beside its storage.
 // Stays: `cut` tells of the whole search; no field has its meaning from it alone, so that an option would hold nothing.
 // Stays: with an `InUse`, `in_use` would go, but `at_rule` and `at_retry` would have an update in an update, and 162 lines of specs a field more.
