@@ -68,8 +68,8 @@ impl SearchLimits {
 pub enum Tried {
     // The conclusion does not unify; the counter has moved on.
     Missed { counter: u32 },
-    // The rule is entered, with the counter, the number of bindings and the words in use.
-    Entered { counter: u32, bound: u32, used: u32 },
+    // The rule is entered, with what is in use then.
+    Entered { in_use: InUse },
 }
 
 // The reference of the node that the bindings lead to from the goal; none where they lead to a variable.
@@ -245,13 +245,14 @@ pub fn try_rule(
     let unified = try_head(rule, words, bindings, workspace, at)?;
     match unified {
         None => Ok(Tried::Missed { counter: met }),
-        Some(n) => {
-            try_body(rule, words, bindings, at, n)?;
-            Ok(Tried::Entered {
-                counter: counter + rule.stored.variables,
-                bound: n,
+        Some(bound) => {
+            try_body(rule, words, bindings, at, bound)?;
+            let in_use = InUse {
+                variables: counter + rule.stored.variables,
+                bound,
                 used: at.in_use.used + rule.stored.head + rule.stored.body,
-            })
+            };
+            Ok(Tried::Entered { in_use })
         }
     }
 }

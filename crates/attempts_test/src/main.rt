@@ -97,26 +97,13 @@ fn report_attempt(
             report::decimal(counter);
             remains.compare();
         }
-        Ok(
-            Ok(
-                Tried::Entered {
-                    counter,
-                    bound,
-                    used,
-                },
-            ),
-        ) => {
+        Ok(Ok(Tried::Entered { in_use })) => {
             report::text(b": entered, counter ");
-            report::decimal(counter);
+            report::decimal(in_use.variables);
             report::text(b", words ");
-            report::decimal(used);
+            report::decimal(in_use.used);
             report_premises(state);
-            let after = InUse {
-                variables: counter,
-                bound,
-                used,
-            };
-            unification::finish(remains, after, state.in_use.bound);
+            unification::finish(remains, in_use, state.in_use.bound);
         }
     }
 }

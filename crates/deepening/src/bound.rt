@@ -12,6 +12,7 @@ use search_machine::{Machine, Mode, Program, Store, run};
 
 // What came of one depth bound that the limits allow.
 // Stays: a bound without a proof is no error, and an `Option` would leave out the steps and the variables that it took.
+// Stays: of two cases for `cut` and `left`, which settle a goal together, both would have these fields, and `leave` the test that `prove` makes of them.
 #[derive(Clone, Copy)]
 pub enum Came {
     // A proof: the number of its applications, steps left, and variables, bindings and words in use.

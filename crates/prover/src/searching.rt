@@ -6,6 +6,7 @@ ghost use Rattle.search_machine.specs.Groups.{IsLent};
 ghost use Rattle.prover.specs.Searching.{counts_then, SearchAskedIn, SearchLeftIn};
 
 use super::Query;
+use super::clearing::clear_session;
 use super::preparing::StoredGoal;
 use bindings::InUse;
 use deepening::{Answer as Deepened, Question};
@@ -38,8 +39,7 @@ pub fn search_goal(
     };
     match deepening::prove(program, store, question, query.depth) {
         Err(refusal) => {
-            slices::clear_from(names, session.names as usize, [0; 5]);
-            slices::clear_from(store.words, session.words as usize, 0);
+            clear_session(names, store.words, session);
             Err(refusal)
         }
         Ok(

@@ -31,16 +31,16 @@ abbrev pub to_rule : Machine → ℕ → ℕ → ℕ → Machine
 to_rule m rule counter top = record m { mode = Try; counter = counter; rule = rule; top = top }
 
 -- Into an application, where rows were written below `high`.
-abbrev pub to_body : Machine → ℕ → ℕ → ℕ → ℕ → Machine
-to_body m counter bound used high =
+abbrev pub to_body : Machine → InUse → ℕ → Machine
+to_body m i high =
     record m {
       mode = Enter;
       parent = m.frames + 1;
       place = 0;
       frames = m.frames + 1;
-      counter = counter;
-      bound = bound;
-      used = used;
+      counter = i.variables;
+      bound = i.bound;
+      used = i.used;
       high = high;
     }
 

@@ -148,17 +148,11 @@ fn attempt(program: Program, store: &mut Store, m: Machine) -> Machine
     match try_stored(program, store, m) {
         Err(_) => m.at_stop(Mode::Refused, m.steps),
         Ok(Tried::Missed { counter }) => m.at_rule(m.rule + 1, counter, m.top),
-        Ok(
-            Tried::Entered {
-                counter,
-                bound,
-                used,
-            },
-        ) => {
+        Ok(Tried::Entered { in_use }) => {
             let row: [u32; 8] = m.frame().into();
             store.frames[m.frames as usize] = row;
             let high = m.high.max(m.frames + 1);
-            m.at_body(counter, bound, used, high)
+            m.at_body(in_use, high)
         }
     }
 }

@@ -95,18 +95,18 @@ impl Machine {
     }
 
     // Into an application: its premises are next; rows were written below a number.
-    pub fn at_body(self, counter: u32, bound: u32, used: u32, high: u32) -> Machine
+    pub fn at_body(self, in_use: InUse, high: u32) -> Machine
         requires { self.frames < 4294967295 }
-        ensures { result ≡ to_body self counter bound used high }
+        ensures { result ≡ to_body self in_use high }
     {
         Machine {
             mode: Mode::Enter,
             parent: self.frames + 1,
             place: 0,
             frames: self.frames + 1,
-            counter,
-            bound,
-            used,
+            counter: in_use.variables,
+            bound: in_use.bound,
+            used: in_use.used,
             high,
             ..self
         }
