@@ -53,7 +53,7 @@ module _ {most limit : ℕ} {pattern premises places : List ℕ} {stored : Store
       → (j : ℕ) → j ≤ bound → held term_room words' rows' j ≡ held term_room words rows j
   attempted_held (Err e) h j l = ap (λ (b : Rows). held term_room words' b j) h.left.same ∙ held_older asked.state.form words' h.kept j l
   attempted_held (Ok (Missed c)) h j l = ap (λ (b : Rows). held term_room words' b j) h.left.1.same ∙ held_older asked.state.form words' h.kept j l
-  attempted_held (Ok (Entered c n u)) h j l = added_held asked.state.form words' h.kept h.left.added j l
+  attempted_held (Ok (Entered i)) h j l = added_held asked.state.form words' h.kept h.left.added j l
 
   -- In form, with as many rows, it is again a state of the search.
   pub attempted_state : {answer : Result Tried Refusal} {counter' used' bound' : ℕ}

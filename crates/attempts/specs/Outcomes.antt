@@ -209,7 +209,7 @@ module _ {most limit : ℕ} {pattern premises places : List ℕ} {stored : Store
 
         pub entered_way : copied ≡ Ok tt
             → Attempted most limit pattern premises places stored words words'' rows rows'' links links' marks marks' stack stack' counter used bound goal
-            (Ok (Entered (counter + stored.variables) n (used + stored.head + stored.body)))
+            (Ok (Entered (record { variables = counter + stored.variables; bound = n; used = used + stored.head + stored.body })))
         entered_way f = let k = subst (λ (a : Result (Unit {0}) Refusal). BodyTried most limit pattern places stored words' words'' rows' rows'' counter used bound n a) f done in record {
           limits = tt;
           is = ap (λ (β : Bindings). entered β (counter + stored.variables) (used + stored.head + stored.body)) k.done.1.bindings

@@ -41,7 +41,7 @@ pub record Asked (most limit : ℕ) (pattern premises places : List ℕ) (stored
 abbrev pub attempt_of : List ℕ → Rows → Result Tried Refusal → Attempt
 attempt_of words rows (Err e) = exceeded
 attempt_of words rows (Ok (Missed counter)) = missed counter
-attempt_of words rows (Ok (Entered counter bound used)) = entered (held term_room words rows bound) counter used
+attempt_of words rows (Ok (Entered i)) = entered (held term_room words rows i.bound) i.variables i.used
 
 -- What a pattern's reference becomes, when the part from `from` on was copied to the address `used` with new variables from the counter on.
 abbrev pub copied_at : List ℕ → ℕ → ℕ → ℕ → ℕ → ℕ
@@ -87,14 +87,14 @@ abbrev pub Left : List ℕ → List ℕ → Stored → Rule → List ℕ → Row
 Left premises places stored R words' rows rows' counter used bound (Err e) = Back words' rows rows' counter used bound
 Left premises places stored R words' rows rows' counter used bound (Ok (Missed counter')) =
     (counter ≤ counter') × Back words' rows rows' counter' used bound
-Left premises places stored R words' rows rows' counter used bound (Ok (Entered counter' bound' used')) =
-    Inside premises places stored R words' rows rows' counter used bound counter' used' bound'
+Left premises places stored R words' rows rows' counter used bound (Ok (Entered i)) =
+    Inside premises places stored R words' rows rows' counter used bound i.variables i.used i.bound
 
 -- Are the words in form over a signature's arities, with the counts that an answer leaves?
 abbrev pub left_in_form : List ℕ → ℕ → ℕ → List ℕ → Result Tried Refusal → Bool
 left_in_form words counter used arities (Err e) = in_form words 0 used term_room counter arities
 left_in_form words counter used arities (Ok (Missed counter')) = in_form words 0 used term_room counter' arities
-left_in_form words counter used arities (Ok (Entered counter' bound' used')) = in_form words 0 used' term_room counter' arities
+left_in_form words counter used arities (Ok (Entered i)) = in_form words 0 i.used term_room i.variables arities
 
 -- `try_rule` tried a rule with a goal.
 pub record Attempted (most limit : ℕ) (pattern premises places : List ℕ) (stored : Stored) (words words' : List ℕ)

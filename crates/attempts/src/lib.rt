@@ -5,13 +5,12 @@ ghost use Rattle.std.specs.Prelude.{◌≡◌, ◌+◌, ◌<◌, true, IfSome};
 ghost use Rattle.resolution.specs.Search.{within, over};
 ghost use Rattle.arena.specs.Cells.{cells, Reference};
 ghost use Rattle.bindings.specs.Stored.{Form};
-ghost use Rattle.arena.specs.Copies.{term_room};
 ghost use Rattle.attempts.specs.Clashes.{LeadsTo, BothNodes, Comparable, Clashes};
 ghost use Rattle.unifier.specs.Lending.{SameBuffers};
 ghost use Rattle.attempts.specs.Promises.{Asked, Attempted, HeadAsked, HeadTried, BodyAsked, BodyTried};
 
 use arena::{PATTERN_ROOM, RulePart, TERM_ROOM, Terms, arity_of, inst, moved_word};
-use bindings::{StoredBindings, undo, walk};
+use bindings::{InUse, StoredBindings, undo, walk};
 use refusals::Refusal;
 use unifier::{Workspace, unify};
 
@@ -45,14 +44,12 @@ pub struct SearchLimits {
     pub words: u32,
 }
 
-// Where a search stands: what it may use, how many variables, words and bindings are in use, and the goal.
+// Where a search stands: what it may use, what is in use, and the goal.
 // Stays: words and bindings go beside it, as they have other owners and are written between two attempts.
 #[derive(Clone, Copy)]
 pub struct SearchState {
     pub limits: SearchLimits,
-    pub counter: u32,
-    pub used: u32,
-    pub bound: u32,
+    pub in_use: InUse,
     pub goal: u32,
 }
 
@@ -65,38 +62,14 @@ impl SearchLimits {
     }
 }
 
-impl SearchState {
-    // The terms in these words, of which those of the state are in use.
-    pub fn terms(self, words: &[u32]) -> Terms<'_>
-        ensures { (result.words.now ≡ words.now) × (result.room ≡ term_room) × (result.variables ≡ self.counter) × (result.used ≡ self.used) }
-    {
-        Terms {
-            words,
-            room: TERM_ROOM,
-            variables: self.counter,
-            used: self.used,
-        }
-    }
-
-    // The bindings in these rows, of which those of the state are in use.
-    pub fn bindings(self, rows: &[[u32; 2]]) -> StoredBindings<'_>
-        ensures { (result.rows.now ≡ rows.now) × (result.bound ≡ self.bound) }
-    {
-        StoredBindings {
-            rows,
-            bound: self.bound,
-        }
-    }
-}
-
 // What came of an attempt that the limits allow.
 // Stays: a miss is no absence and no error, since the counter has moved on; an `Option` would leave the counter of a miss out.
 #[derive(Clone, Copy)]
 pub enum Tried {
     // The conclusion does not unify; the counter has moved on.
     Missed { counter: u32 },
-    // The rule is entered, with the counter, the number of bindings and the words in use.
-    Entered { counter: u32, bound: u32, used: u32 },
+    // The rule is entered, with what is in use then.
+    Entered { in_use: InUse },
 }
 
 // The reference of the node that the bindings lead to from the goal; none where they lead to a variable.
@@ -176,22 +149,26 @@ fn try_head(
     at: SearchState,
 ) -> Result<Option<u32>, Refusal>
     requires { HeadAsked at.limits.variables at.limits.words rule.pattern.now rule.places.now rule.stored words.old bindings.old
-        workspace.old.links.now workspace.old.marks.now workspace.old.stack.now at.counter at.used at.bound at.goal }
+        workspace.old.links.now workspace.old.marks.now workspace.old.stack.now at.in_use.variables at.in_use.used at.in_use.bound at.goal }
     ensures tried { HeadTried at.limits.variables at.limits.words rule.entry.pattern.now rule.entry.places.now rule.entry.stored words.old words.new
         bindings.old bindings.new workspace.old.links.now workspace.new.links.now workspace.old.marks.now workspace.new.marks.now
-        workspace.old.stack.now workspace.new.stack.now at.counter at.used at.bound at.goal result }
+        workspace.old.stack.now workspace.new.stack.now at.in_use.variables at.in_use.used at.in_use.bound at.goal result }
     ensures lent { SameBuffers workspace.old workspace.new }
 {
     let stored = rule.stored;
     let from = stored.from + stored.body;
-    let variables = at.counter + stored.met;
-    let top = at.used + stored.head;
-    if at.limits.exceeds(variables, top) {
+    let before = at.in_use;
+    let after = InUse {
+        variables: before.variables + stored.met,
+        used: before.used + stored.head,
+        ..before
+    };
+    if at.limits.exceeds(after.variables, after.used) {
         return Err(Refusal::OverLimit);
     }
-    let before = at.terms(words);
-    let held = at.bindings(bindings);
-    if clashes(rule.pattern, before, held, at.goal, stored.conclusion) {
+    let terms = before.terms(words);
+    let held = before.bindings(bindings);
+    if clashes(rule.pattern, terms, held, at.goal, stored.conclusion) {
         return Ok(None);
     }
     // Of two variables the first is bound: the goal's.
@@ -199,9 +176,9 @@ fn try_head(
     let second = moved_word(
         stored.conclusion,
         rule.places,
-        at.counter,
+        before.variables,
         PATTERN_ROOM + from,
-        TERM_ROOM + at.used,
+        TERM_ROOM + before.used,
     );
     let head = RulePart {
         words: rule.pattern,
@@ -209,14 +186,9 @@ fn try_head(
         count: stored.head,
         places: rule.places,
     };
-    inst(head, words, TERM_ROOM, at.used, at.counter);
-    let terms = Terms {
-        words,
-        room: TERM_ROOM,
-        variables,
-        used: top,
-    };
-    Ok(unify(terms, bindings, workspace, at.bound, first, second))
+    inst(head, words, TERM_ROOM, before.used, before.variables);
+    let copied = after.terms(words);
+    Ok(unify(copied, bindings, workspace, before.bound, first, second))
 }
 
 // Copies the premises behind the conclusion, if the limits allow it; else the bindings, `bound` by now, are undone to those before the attempt.
@@ -227,16 +199,17 @@ fn try_body(
     at: SearchState,
     bound: u32,
 ) -> Result<(), Refusal>
-    requires { BodyAsked at.limits.variables at.limits.words rule.pattern.now rule.places.now rule.stored words.old bindings.old at.counter at.used at.bound bound }
+    requires { BodyAsked at.limits.variables at.limits.words rule.pattern.now rule.places.now rule.stored words.old bindings.old at.in_use.variables at.in_use.used at.in_use.bound bound }
     ensures { BodyTried at.limits.variables at.limits.words rule.entry.pattern.now rule.entry.places.now rule.entry.stored words.old words.new
-        bindings.old bindings.new at.counter at.used at.bound bound result }
+        bindings.old bindings.new at.in_use.variables at.in_use.used at.in_use.bound bound result }
 {
     let stored = rule.stored;
-    let behind = at.used + stored.head;
-    let variables = at.counter + stored.variables;
+    let before = at.in_use;
+    let behind = before.used + stored.head;
+    let variables = before.variables + stored.variables;
     let end = behind + stored.body;
     if at.limits.exceeds(variables, end) {
-        undo(bindings, bound, at.bound);
+        undo(bindings, bound, before.bound);
         return Err(Refusal::OverLimit);
     }
     let body = RulePart {
@@ -245,7 +218,7 @@ fn try_body(
         count: stored.body,
         places: rule.places,
     };
-    inst(body, words, TERM_ROOM, behind, at.counter);
+    inst(body, words, TERM_ROOM, behind, before.variables);
     Ok(())
 }
 
@@ -260,25 +233,26 @@ pub fn try_rule(
     at: SearchState,
 ) -> Result<Tried, Refusal>
     requires { Asked at.limits.variables at.limits.words rule.pattern.now rule.premises.now rule.places.now rule.stored words.old bindings.old
-        workspace.old.links.now workspace.old.marks.now workspace.old.stack.now at.counter at.used at.bound at.goal }
+        workspace.old.links.now workspace.old.marks.now workspace.old.stack.now at.in_use.variables at.in_use.used at.in_use.bound at.goal }
     ensures tried { Attempted at.limits.variables at.limits.words rule.entry.pattern.now rule.entry.premises.now rule.entry.places.now rule.entry.stored
         words.old words.new bindings.old bindings.new workspace.old.links.now workspace.new.links.now
         workspace.old.marks.now workspace.new.marks.now workspace.old.stack.now workspace.new.stack.now
-        at.counter at.used at.bound at.goal result }
+        at.in_use.variables at.in_use.used at.in_use.bound at.goal result }
     ensures lent { SameBuffers workspace.old workspace.new }
 {
-    let counter = at.counter;
+    let counter = at.in_use.variables;
     let met = counter + rule.stored.met;
     let unified = try_head(rule, words, bindings, workspace, at)?;
     match unified {
         None => Ok(Tried::Missed { counter: met }),
-        Some(n) => {
-            try_body(rule, words, bindings, at, n)?;
-            Ok(Tried::Entered {
-                counter: counter + rule.stored.variables,
-                bound: n,
-                used: at.used + rule.stored.head + rule.stored.body,
-            })
+        Some(bound) => {
+            try_body(rule, words, bindings, at, bound)?;
+            let in_use = InUse {
+                variables: counter + rule.stored.variables,
+                bound,
+                used: at.in_use.used + rule.stored.head + rule.stored.body,
+            };
+            Ok(Tried::Entered { in_use })
         }
     }
 }

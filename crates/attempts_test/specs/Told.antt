@@ -17,6 +17,6 @@ pub record Room (most limit : ℕ) (words : List ℕ) (rows links marks stack : 
 
 -- The storage is what an attempt asks, if the answer is yes, and the marks are as they were.
 pub record StateTold (s : SearchState) (words : List ℕ) (rows links marks marks' stack : Rows) (answer : Bool) : Type 0 where
-  pub state : answer ≡ true → contracts.State s.limits.variables s.limits.words words rows links marks stack s.counter s.used s.bound
-  pub refers : answer ≡ true → Reference term_room (cells words) s.counter s.used s.goal
+  pub state : answer ≡ true → contracts.State s.limits.variables s.limits.words words rows links marks stack s.in_use.variables s.in_use.used s.in_use.bound
+  pub refers : answer ≡ true → Reference term_room (cells words) s.in_use.variables s.in_use.used s.goal
   pub kept : marks' ≡ marks

@@ -81,8 +81,8 @@ fn is_state(
     ensures links { workspace.new.links.now ≡ workspace.old.links.now }
     ensures stack { workspace.new.stack.now ≡ workspace.old.stack.now }
 {
-    let terms = state.terms(words);
-    let held = state.bindings(bindings);
+    let terms = state.in_use.terms(words);
+    let held = state.in_use.bindings(bindings);
     if !checks::is_form(terms, held, workspace.marks) {
         return false;
     }
@@ -124,14 +124,14 @@ pub fn attempt(
 // What a premise's reference becomes by an attempt; none where no sum is sure to fit.
 pub fn premise(reference: u32, state: SearchState) -> Option<u32> {
     let [first, last] = PREMISES;
-    if reference < first || last < reference || MOST < state.used {
+    if reference < first || last < reference || MOST < state.in_use.used {
         return None;
     }
     Some(arena::moved_word(
         reference,
         &PLACES,
-        state.counter,
+        state.in_use.variables,
         PATTERN_ROOM,
-        TERM_ROOM + state.used + RULE.head,
+        TERM_ROOM + state.in_use.used + RULE.head,
     ))
 }

@@ -3,9 +3,10 @@
 
 use arena::TERM_ROOM;
 use attempts::{SearchLimits, SearchState, Tried};
+use bindings::InUse;
 use refusals::Refusal;
 use samples::build::{MOST, Tower};
-use samples::unification::{Counts, Fault, Remains};
+use samples::unification::{Fault, Remains};
 use samples::{build, report, unification};
 use unifier::Workspace;
 
@@ -37,7 +38,7 @@ fn put_goal(
         leaf: TERM_ROOM,
         arity: 1,
     };
-    let used = build::put_tower(words, TERM_ROOM, 2, tower).next;
+    let used = build::try_put_tower(words, TERM_ROOM, 2, tower)?.next;
     if LEVELS < height || 100 < spare || MOST < used {
         return None;
     }
@@ -47,9 +48,11 @@ fn put_goal(
             variables: most,
             words: used + spare,
         },
-        counter: 2,
-        used,
-        bound: 1,
+        in_use: InUse {
+            variables: 2,
+            bound: 1,
+            used,
+        },
         goal: 0,
     })
 }
@@ -94,26 +97,13 @@ fn report_attempt(
             report::decimal(counter);
             remains.compare();
         }
-        Ok(
-            Ok(
-                Tried::Entered {
-                    counter,
-                    bound,
-                    used,
-                },
-            ),
-        ) => {
+        Ok(Ok(Tried::Entered { in_use })) => {
             report::text(b": entered, counter ");
-            report::decimal(counter);
+            report::decimal(in_use.variables);
             report::text(b", words ");
-            report::decimal(used);
+            report::decimal(in_use.used);
             report_premises(state);
-            let after = Counts {
-                variables: counter,
-                used,
-                bound,
-            };
-            unification::finish(remains, after, state.bound);
+            unification::finish(remains, in_use, state.in_use.bound);
         }
     }
 }

@@ -13,12 +13,13 @@ mod trails; // the check of trail and values
 
 ghost use Rattle.std.specs.Prelude.{◌≡◌, ◌+◌, ◌<◌, ◌≤◌, length};
 ghost use Rattle.arena.specs.Cells.{cells, headers, Reference, WellFormed};
+ghost use Rattle.arena.specs.Copies.{term_room};
 ghost use Rattle.arena.specs.Rows.{column};
 ghost use Rattle.bindings.specs.Stored.{Form};
 ghost use Rattle.bindings.specs.Promises.{Walked, Free, Checked, BindingsChecked};
 
 use acyclicity::is_acyclic;
-use arena::Terms;
+use arena::{TERM_ROOM, Terms};
 use trails::{check_rest, check_trail};
 use visits::Queue;
 
@@ -30,6 +31,38 @@ use visits::Queue;
 pub struct StoredBindings<'a> {
     pub rows: &'a [[u32; 2]],
     pub bound: u32,
+}
+
+// What of a session's storage is in use: variables, bindings and words.
+#[derive(Clone, Copy)]
+pub struct InUse {
+    pub variables: u32,
+    pub bound: u32,
+    pub used: u32,
+}
+
+impl InUse {
+    // The terms in these words, of which so many are in use.
+    pub fn terms(self, words: &[u32]) -> Terms<'_>
+        ensures { (result.words.now ≡ words.now) × (result.room ≡ term_room) × (result.variables ≡ self.variables) × (result.used ≡ self.used) }
+    {
+        Terms {
+            words,
+            room: TERM_ROOM,
+            variables: self.variables,
+            used: self.used,
+        }
+    }
+
+    // The bindings in these rows, of which so many are in use.
+    pub fn bindings(self, rows: &[[u32; 2]]) -> StoredBindings<'_>
+        ensures { (result.rows.now ≡ rows.now) × (result.bound ≡ self.bound) }
+    {
+        StoredBindings {
+            rows,
+            bound: self.bound,
+        }
+    }
 }
 
 // Where the bindings lead from r; only the rows and the room are read, the rest serves the contract.

@@ -60,6 +60,7 @@ fn good_value(terms: Terms, rows: &[[u32; 2]], marks: &[[u32; 2]], v: usize) -> 
 }
 
 // Whether all values are 0 or in form.
+// Stays: rows may outnumber marks, and a `zip` of the two would end at the last mark; `good_value` needs the variable's number too.
 fn check_values(terms: Terms, rows: &[[u32; 2]], marks: &[[u32; 2]]) -> bool
     requires { (terms.used ≤ length terms.words.now) × (terms.variables ≤ length marks.now) }
     ensures { Tells result ((v : ℕ) → GoodValue terms.entry.room terms.entry.words.now rows.now marks.now terms.entry.variables terms.entry.used v) }

@@ -128,7 +128,7 @@ module _ {a : Allowed} {P : List ℕ} {R F : Rows} {W : List ℕ} {T L M S : Row
         record { text = text; arities = arities; words = W; rows = T; frames = F; counter = c; used = u; bound = t; steps = s; depth = d }
 
     begins : (text arities : List ℕ) → Holds a P R F W T (start text arities) (bounded_of a text P R W T g d s c t u)
-        (to_start g (d - 1) (s - 1) (record { counter = c; bound = t; used = u }))
+        (to_start g (d - 1) (s - 1) (record { variables = c; bound = t; used = u }))
     unfolding start search
     begins text arities =
         let st = asking.steps in
@@ -167,7 +167,7 @@ module _ {a : Allowed} {P : List ℕ} {R F : Rows} {W : List ℕ} {T L M S : Row
           frames_long = refl;
         }
 
-    module _ {m₀ : Machine} (e₀ : m₀ ≡ to_start g (d - 1) (s - 1) (record { counter = c; bound = t; used = u })) where
+    module _ {m₀ : Machine} (e₀ : m₀ ≡ to_start g (d - 1) (s - 1) (record { variables = c; bound = t; used = u })) where
       begun : (text arities : List ℕ) → Holds a P R F W T (start text arities) (bounded_of a text P R W T g d s c t u) m₀
       begun text arities =
           subst (λ (m : Machine). Holds a P R F W T (start text arities) (bounded_of a text P R W T g d s c t u) m) (sym e₀)

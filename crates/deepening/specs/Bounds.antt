@@ -91,7 +91,7 @@ pub record Counted (a : Allowed) (W : List ℕ) (T : Rows) (c t u c' : ℕ) : Ty
 -- What an answer says of the theory's result.
 abbrev pub Says : Allowed → List ℕ → Rows → Rows → Rows → List ℕ → List ℕ → Rows → Rows → ℕ → ℕ → ℕ → ℕ → Result → Outcome Came Refusal → Type 0
 Says a P R F F' W W' T T' s c t u o (Err e) = (number_of e ≡ 37) × (refused ≡ o) × Unchanged F F' W W' T T'
-Says a P R F F' W W' T T' s c t u o (Ok (Found n b i)) = Shown a P R F F' W W' T T' s c t u o n b i.counter i.bound i.used
+Says a P R F F' W W' T T' s c t u o (Ok (Found n b i)) = Shown a P R F F' W W' T T' s c t u o n b i.variables i.bound i.used
 Says a P R F F' W W' T T' s c t u o (Ok (Failed b cut c')) = (failed b cut c' ≡ o) × (b ≤ s) × Counted a W T c t u c' × Unchanged F F' W W' T T'
 
 -- `at_bound` searched at the depth bound d; the scratch is as it was.
@@ -154,7 +154,7 @@ pub record Proven (a : Allowed) (P : List ℕ) (R F F' : Rows) (W W' : List ℕ)
 -- What an answer says of the theory's verdict.
 abbrev pub Answers : Allowed → List ℕ → Rows → Rows → Rows → List ℕ → List ℕ → Rows → Rows → ℕ → ℕ → ℕ → Verdict → Outcome Answer Refusal → Type 0
 Answers a P R F F' W W' T T' c t u v (Err e) = (number_of e ≡ 37) × (refusal 37 ≡ v) × Unchanged F F' W W' T T'
-Answers a P R F F' W W' T T' c t u v (Ok (Proved n k i)) = Proven a P R F F' W W' T T' c t u v n k i.counter i.bound i.used
+Answers a P R F F' W W' T T' c t u v (Ok (Proved n k i)) = Proven a P R F F' W W' T T' c t u v n k i.variables i.bound i.used
 Answers a P R F F' W W' T T' c t u v (Ok (Nothing k c')) = (nothing k c' ≡ v) × Counted a W T c t u c' × Unchanged F F' W W' T T'
 Answers a P R F F' W W' T T' c t u v (Ok (Undecided k c')) = (undecided k c' ≡ v) × Counted a W T c t u c' × Unchanged F F' W W' T T'
 

@@ -178,9 +178,9 @@ module _ {a : Allowed} {P : List ℕ} {R F₀ F : Rows} {W₀ W : List ℕ} {T�
       stack = from_entry.stack;
     }
 
-    module _ (n b c₁ t₁ u₁ : ℕ) (e : r ≡ Ok (Found n b (record { counter = c₁; bound = t₁; used = u₁ }))) where
+    module _ (n b c₁ t₁ u₁ : ℕ) (e : r ≡ Ok (Found n b (record { variables = c₁; bound = t₁; used = u₁ }))) where
       shown : (text : List ℕ) → Shown a P R F₀ F' W₀ W' T₀ T' s c' t u (bounded_of a text P R W₀ T₀ g d s c' t u) n b c₁ t₁ u₁
-      shown text = known (Ok (Found n b (record { counter = c₁; bound = t₁; used = u₁ }))) e text
+      shown text = known (Ok (Found n b (record { variables = c₁; bound = t₁; used = u₁ }))) e text
 
       pub found_left : b ≤ s
       found_left = (shown []).left
@@ -217,7 +217,7 @@ module _ {a : Allowed} {P : List ℕ} {R F₀ F : Rows} {W₀ W : List ℕ} {T�
               let lw = h.start.well.form.lent_words in
               form_same W₀ W₀ 0 u term_room c c' arities (omega arith) lw lw h.counted.later (λ i l. refl) f
 
-      pub deepening_proved : Deepened a P R F₀ F' W₀ W' T₀ T' L₀ L' M₀ M' S₀ S' g largest s c t u (Ok (Proved n (s - b) (record { counter = c₁; bound = t₁; used = u₁ })))
+      pub deepening_proved : Deepened a P R F₀ F' W₀ W' T₀ T' L₀ L' M₀ M' S₀ S' g largest s c t u (Ok (Proved n (s - b) (record { variables = c₁; bound = t₁; used = u₁ })))
       deepening_proved = record {
         answers = λ text.
             let x = shown text in

@@ -13,12 +13,12 @@ use Rattle.deepening.specs.declared.bound.Came.{Came}
 abbrev pub AskingIn : Program → Store → Question → Type 0
 AskingIn p s q =
     Asking (allowed_in p) p.pattern.now p.rules.now s.frames.now s.words.now s.bindings.now s.links.now s.marks.now s.stack.now
-    q.goal q.steps q.in_use.counter q.in_use.bound q.in_use.used
+    q.goal q.steps q.in_use.variables q.in_use.bound q.in_use.used
 
 abbrev pub BoundedIn : Program → Store → Store → Question → ℕ → Result Came Refusal → Type 0
 BoundedIn p s s' q depth r =
     Bounded (allowed_in p) p.pattern.now p.rules.now s.frames.now s'.frames.now s.words.now s'.words.now s.bindings.now s'.bindings.now
-    s.links.now s'.links.now s.marks.now s'.marks.now s.stack.now s'.stack.now q.goal depth q.steps q.in_use.counter q.in_use.bound q.in_use.used r
+    s.links.now s'.links.now s.marks.now s'.marks.now s.stack.now s'.stack.now q.goal depth q.steps q.in_use.variables q.in_use.bound q.in_use.used r
 
 -- Of the words those from `used` on that a machine wrote are zero, of the frames those from `frames` on; what else a store lends is as it was.
 pub record WrittenCleared (s s' : Store) (used frames : ℕ) (m : Machine) : Type 0 where
@@ -38,4 +38,4 @@ pub record LeftIn (s s' : Store) (m : Machine) (q : Question) (depth : ℕ) (r :
 abbrev pub DeepenedIn : Program → Store → Store → Question → ℕ → Result Answer Refusal → Type 0
 DeepenedIn p s s' q largest r =
     Deepened (allowed_in p) p.pattern.now p.rules.now s.frames.now s'.frames.now s.words.now s'.words.now s.bindings.now s'.bindings.now
-    s.links.now s'.links.now s.marks.now s'.marks.now s.stack.now s'.stack.now q.goal largest q.steps q.in_use.counter q.in_use.bound q.in_use.used r
+    s.links.now s'.links.now s.marks.now s'.marks.now s.stack.now s'.stack.now q.goal largest q.steps q.in_use.variables q.in_use.bound q.in_use.used r

@@ -6,12 +6,13 @@ ghost use Rattle.deepening.specs.Groups.{AskingIn, BoundedIn, LeftIn};
 use super::Question;
 use super::clearing::clear_written;
 use super::trees::write_tree;
-use bindings::undo;
+use bindings::{InUse, undo};
 use refusals::Refusal;
-use search_machine::{InUse, Machine, Mode, Program, Store, run};
+use search_machine::{Machine, Mode, Program, Store, run};
 
 // What came of one depth bound that the limits allow.
 // Stays: a bound without a proof is no error, and an `Option` would leave out the steps and the variables that it took.
+// Stays: of two cases for `cut` and `left`, which settle a goal together, both would have these fields, and `leave` the test that `prove` makes of them.
 #[derive(Clone, Copy)]
 pub enum Came {
     // A proof: the number of its applications, steps left, and variables, bindings and words in use.
@@ -53,7 +54,7 @@ fn leave(store: &mut Store, m: Machine, question: Question, depth: u32) -> Resul
                 counter: m.counter,
             })
         }
-        _ => {
+        Mode::Enter | Mode::Try | Mode::Fail | Mode::Refused => {
             undo(store.bindings, m.bound, question.in_use.bound);
             clear_written(store, question.in_use.used, 0, m);
             Err(Refusal::OverLimit)
@@ -72,7 +73,7 @@ pub fn at_bound(
     ensures bounded { BoundedIn program.entry store.old store.new question depth result }
     ensures lent { IsLent store.old store.new }
 {
-    let counter = question.in_use.counter;
+    let counter = question.in_use.variables;
     let Some(steps) = question.steps.checked_sub(1) else {
         return Ok(Came::Failed {
             left: 0,

@@ -14,9 +14,10 @@ ghost use Rattle.search_machine.specs.Groups.{IsLent};
 ghost use Rattle.deepening.specs.Bounds.{settled};
 ghost use Rattle.deepening.specs.Groups.{AskingIn, DeepenedIn};
 
+use bindings::InUse;
 use bound::{Came, at_bound};
 use refusals::Refusal;
-use search_machine::{InUse, Program, Store};
+use search_machine::{Program, Store};
 
 // A goal that is asked: its reference, the steps that the search may use, and what of the session is in use.
 #[derive(Clone, Copy)]
@@ -69,10 +70,10 @@ pub fn prove(
 {
     let mut depth = 4;
     let mut taken = 0;
-    let mut met = question.in_use.counter;
+    let mut met = question.in_use.variables;
     while depth <= largest {
         let in_use = InUse {
-            counter: met,
+            variables: met,
             ..question.in_use
         };
         let asked = Question { in_use, ..question };

@@ -85,11 +85,11 @@ module _ {a : Allowed} {P : List ℕ} {R F F' : Rows} {W W' : List ℕ} {T T' L 
     stack = done.stack;
   }
 
-  pub left_proved : (k i c t u : ℕ) → r ≡ Ok (Shown k i (record { counter = c; bound = t; used = u }))
+  pub left_proved : (k i c t u : ℕ) → r ≡ Ok (Shown k i (record { variables = c; bound = t; used = u }))
       → SearchLeft a P R F F' W W' T T' L L' M M' S S' N N g n s d
       (Proved i k (record { names = g.names; variables = c; bound = t; words = u }))
   left_proved k i c t u e = record {
-    says = λ text. record { counts = refl; names_are = refl; proven = known (Ok (Shown k i (record { counter = c; bound = t; used = u }))) e text };
+    says = λ text. record { counts = refl; names_are = refl; proven = known (Ok (Shown k i (record { variables = c; bound = t; used = u }))) e text };
     links = done.links;
     marks = done.marks;
     stack = done.stack;

@@ -6,10 +6,12 @@ ghost use Rattle.search_machine.specs.Groups.{IsLent};
 ghost use Rattle.prover.specs.Searching.{counts_then, SearchAskedIn, SearchLeftIn};
 
 use super::Query;
+use super::clearing::clear_session;
 use super::preparing::StoredGoal;
+use bindings::InUse;
 use deepening::{Answer as Deepened, Question};
 use refusals::Refusal;
-use search_machine::{InUse, Program, Store};
+use search_machine::{Program, Store};
 use sessions::{NameRow, SessionCounts, Verdict};
 
 // Searches for a goal that stands in the session. Without a proof its words are cleared; refused by the limits, so are its names.
@@ -30,15 +32,14 @@ pub fn search_goal(
         goal: goal.node,
         steps: query.steps,
         in_use: InUse {
-            counter: goal.variables,
+            variables: goal.variables,
             bound: session.bound,
             used: goal.words,
         },
     };
     match deepening::prove(program, store, question, query.depth) {
         Err(refusal) => {
-            slices::clear_from(names, session.names as usize, [0; 5]);
-            slices::clear_from(store.words, session.words as usize, 0);
+            clear_session(names, store.words, session);
             Err(refusal)
         }
         Ok(
@@ -52,7 +53,7 @@ pub fn search_goal(
             nodes: applications,
             counts: SessionCounts {
                 names: goal.names,
-                variables: in_use.counter,
+                variables: in_use.variables,
                 bound: in_use.bound,
                 words: in_use.used,
             },

@@ -42,7 +42,7 @@ pub fn put_node(words: &mut [u32], at: u32, arguments: &[u32]) -> Option<u32>
 }
 
 // Writes a node with two arguments: the address behind it; without room the address given, and nothing changes.
-// Stays: it serves callers that go on where there is no room; `put_node` beside it tells that case by an `Option`.
+// Stays: a public function that could not fail still can't; `put_node` beside it tells by an `Option` that there is no room.
 pub fn put_pair(words: &mut [u32], at: u32, left: u32, right: u32) -> u32
     ensures { PairPut words.old words.new at left right result }
 {
@@ -94,7 +94,7 @@ pub fn try_put_tower(words: &mut [u32], room: u32, at: u32, tower: Tower) -> Opt
 }
 
 // The same; where it answers none, this one answers the address given and the leaf.
-// Stays: it serves callers that go on where nothing is put; `try_put_tower` tells that case by an `Option`.
+// Stays: a public function that could not fail still can't; `try_put_tower` tells by an `Option` that nothing is put.
 // Stays: words and place go apart, as at `try_put_tower`.
 pub fn put_tower(words: &mut [u32], room: u32, at: u32, tower: Tower) -> Built
     ensures { TowerOrLeaf words.old words.new room at tower result }

@@ -1,35 +1,12 @@
 // One call of `unify`, `occurs` or `check_bindings` on storage that is tested first, and of `undo` after it.
 ghost use Rattle.std.specs.Prelude.{◌≡◌};
-ghost use Rattle.arena.specs.Copies.{term_room};
 ghost use Rattle.samples.specs.Scratch.{Clean};
 ghost use Rattle.bindings.specs.Promises.{Tells};
 
 use super::report;
-use arena::{TERM_ROOM, Terms};
-use bindings::StoredBindings;
+use arena::Terms;
+use bindings::{InUse, StoredBindings};
 use unifier::Workspace;
-
-// How many variables, words and bindings of storage are in use.
-#[derive(Clone, Copy)]
-pub struct Counts {
-    pub variables: u32,
-    pub used: u32,
-    pub bound: u32,
-}
-
-impl Counts {
-    // Terms in these words, of which so many are in use.
-    pub fn terms(self, words: &[u32]) -> Terms<'_>
-        ensures { (result.words.now ≡ words.now) × (result.room ≡ term_room) × (result.variables ≡ self.variables) × (result.used ≡ self.used) }
-    {
-        Terms {
-            words,
-            room: TERM_ROOM,
-            variables: self.variables,
-            used: self.used,
-        }
-    }
-}
 
 // What a call leaves: the words, the bindings and the marks, beside the bindings that stood before it.
 #[derive(Drop)]
@@ -170,16 +147,16 @@ fn are_same(left: &[[u32; 2]], right: &[[u32; 2]]) -> bool {
 }
 
 // Writes the new bindings, takes them back, and says so if that does not give the rows that stood before.
-pub fn finish(remains: Remains, counts: Counts, mark: u32) {
+pub fn finish(remains: Remains, in_use: InUse, mark: u32) {
     let Remains {
         words,
         before,
         bindings,
         marks,
     } = remains;
-    let terms = counts.terms(words);
-    report::bindings(bindings, mark, counts.bound);
-    if !take_back(terms, bindings, marks, counts.bound, mark) {
+    let terms = in_use.terms(words);
+    report::bindings(bindings, mark, in_use.bound);
+    if !take_back(terms, bindings, marks, in_use.bound, mark) {
         report::text(b", which are not in form");
         return;
     }

@@ -4,7 +4,7 @@ use Rattle.arena.specs.Rows.{Rows}
 use Rattle.attempts.specs.declared.SearchLimits.{SearchLimits}
 use Rattle.attempts.specs.declared.SearchState.{SearchState}
 use Rattle.search_machine.specs.State.{frame_at}
-use Rattle.search_machine.specs.declared.InUse.{InUse}
+use Rattle.bindings.specs.declared.InUse.{InUse}
 use Rattle.search_machine.specs.declared.Machine.{Machine}
 use Rattle.search_machine.specs.declared.Mode.{Mode}
 use Rattle.search_machine.specs.declared.Mode.TheVariants.{Enter, Try, Fail, Proved, Over, Refused}
@@ -31,16 +31,16 @@ abbrev pub to_rule : Machine → ℕ → ℕ → ℕ → Machine
 to_rule m rule counter top = record m { mode = Try; counter = counter; rule = rule; top = top }
 
 -- Into an application, where rows were written below `high`.
-abbrev pub to_body : Machine → ℕ → ℕ → ℕ → ℕ → Machine
-to_body m counter bound used high =
+abbrev pub to_body : Machine → InUse → ℕ → Machine
+to_body m i high =
     record m {
       mode = Enter;
       parent = m.frames + 1;
       place = 0;
       frames = m.frames + 1;
-      counter = counter;
-      bound = bound;
-      used = used;
+      counter = i.variables;
+      bound = i.bound;
+      used = i.used;
       high = high;
     }
 
@@ -69,7 +69,7 @@ to_start goal depth steps i =
       frames = 0;
       steps = steps;
       cut = false;
-      counter = i.counter;
+      counter = i.variables;
       bound = i.bound;
       used = i.used;
       goal = goal;
@@ -81,11 +81,11 @@ to_start goal depth steps i =
 
 -- What of a state is in use.
 abbrev pub in_use_of : Machine → InUse
-in_use_of m = record { counter = m.counter; bound = m.bound; used = m.used }
+in_use_of m = record { variables = m.counter; bound = m.bound; used = m.used }
 
 -- Where an attempt with the next rule starts.
 abbrev pub state_for : Machine → SearchLimits → SearchState
-state_for m limits = record { limits = limits; counter = m.counter; used = m.used; bound = m.bound; goal = m.goal }
+state_for m limits = record { limits = limits; in_use = in_use_of m; goal = m.goal }
 
 -- The frame of an application that is entered.
 abbrev pub frame_for : Machine → Frame

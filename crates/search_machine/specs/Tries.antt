@@ -18,6 +18,7 @@ use Rattle.resolution.specs.Preorder.{Entry, entry, builds, made, made_enter, fi
 use Rattle.attempts.specs.Promises.{Added}
 use Rattle.attempts.specs.Extending.{held_kept, form_back}
 use Rattle.attempts.specs.declared.Tried.TheVariants.{Missed, Entered}
+use Rattle.bindings.specs.declared.InUse.{InUse}
 use Rattle.search_machine.specs.Storage.{RowAsked, RowTried}
 use Rattle.search_machine.specs.State.{term, Refers, span, rule_at, rules_from, arity, frame_of, row_of, frame_at}
 use Rattle.search_machine.specs.State.{premise_ref, pending, Place, inside, entries, Start, limits, all_rules}
@@ -148,9 +149,9 @@ module _ (a : Allowed) (P : List ℕ) (R F : Rows) (W : List ℕ) (T : Rows) (z 
       pub tried_missed : Trying a P R F W' T' z o (to_rule m (m.rule + 1) c' m.top)
       tried_missed = subst (λ (B : Rows). Trying a P R F W' B z o (to_rule m (m.rule + 1) c' m.top)) (sym t.left.1.same) missed_same
 
-    module _ (c' t' u' high : ℕ) (ln : m.frames < length F)
+    module _ (in_use : InUse) (high : ℕ) (ln : m.frames < length F)
         (t : RowTried a.limits.variables a.limits.words P R W W' T T' L L' M M' S S' m.counter m.used m.bound m.goal m.rule
-        (Ok (Entered c' t' u'))) where
+        (Ok (Entered in_use))) where
       abbrev F' : Rows
       F' = set F m.frames (row_of (frame_for m))
 
@@ -160,7 +161,7 @@ module _ (a : Allowed) (P : List ℕ) (R F : Rows) (W : List ℕ) (T : Rows) (z 
       long : length T ≡ length T'
       long = added_length t.left.added
 
-      lent : c' ≤ length T
+      lent : in_use.variables ≤ length T
       lent = let a = long in let b = t.left.form.lent_rows in omega arith
 
       goal_kept : term W' m.goal ≡ term W m.goal
@@ -198,16 +199,16 @@ module _ (a : Allowed) (P : List ℕ) (R F : Rows) (W : List ℕ) (T : Rows) (z 
           ∙ ap (λ (g : Term). goals (span (λ (k : ℕ). term W' (premise_ref R (frame_for m) k)) 0 (arity R m.rule - 0)) m.depth
           (build m.rule g (arity R m.rule) ∷ h.work)) (sym goal_kept)
 
-      premise_refers : (k : ℕ) → k < arity R m.rule → Refers W' c' u' (premise_ref R (frame_for m) k)
+      premise_refers : (k : ℕ) → k < arity R m.rule → Refers W' in_use.variables in_use.used (premise_ref R (frame_for m) k)
       unfolding arity premise_ref
       premise_refers k l = let e = columns_length (row_at R m.rule) 10 (column (row_at R m.rule) 4) in t.left.references k
           (omega arith)
 
-      outer : (u : ℕ) → m.used ≤ u → Place z.depth a.rules R F' W' c' u m.parent (suc m.place) h.work
+      outer : (u : ℕ) → m.used ≤ u → Place z.depth a.rules R F' W' in_use.variables u m.parent (suc m.place) h.work
       outer u lu = place_kept W W' m.counter m.used h.well.form.words t.kept z.depth a.rules R F F'
-          m.frames c' u sf t.left.later lu h.within h.place
+          m.frames in_use.variables u sf t.left.later lu h.within h.place
 
-      frame_ok : FrameOk a P R F' z W' T' T m.frames c' t' u' (frame_for m) f
+      frame_ok : FrameOk a P R F' z W' T' T m.frames in_use.variables in_use.bound in_use.used (frame_for m) f
       frame_ok = record {
         reads = frame_set F m.frames (frame_for m) ln;
         saved = held_kept h.well.form W' t.kept;
@@ -219,18 +220,18 @@ module _ (a : Allowed) (P : List ℕ) (R F : Rows) (W : List ℕ) (T : Rows) (z 
         known = lr;
         rest = outer m.used (le_refl m.used);
         parent = h.within;
-        refers = goal_refers c' m.used t.left.later (le_refl m.used);
+        refers = goal_refers in_use.variables m.used t.left.later (le_refl m.used);
         below = t.left.longer;
         added = t.left.added;
-        form = form_back h.well.form W' t.kept c' t.left.later t.left.form.few lent t.long;
-        formed = λ rs s. form_same W W' 0 m.used term_room m.counter c' z.arities (omega arith) h.well.form.lent_words
+        form = form_back h.well.form W' t.kept in_use.variables t.left.later t.left.form.few lent t.long;
+        formed = λ rs s. form_same W W' 0 m.used term_room m.counter in_use.variables z.arities (omega arith) h.well.form.lent_words
             (let l = h.well.form.lent_words in let k = t.long in omega arith) t.left.later t.kept (h.formed rs s);
         level = h.level;
         order = es ∙ h.order;
         fits = h.fits;
       }
 
-      pub tried_entered : Entering a P R (set F m.frames (row_of (frame_for m))) W' T' z o (to_body m c' t' u' high)
+      pub tried_entered : Entering a P R (set F m.frames (row_of (frame_for m))) W' T' z o (to_body m in_use high)
       tried_entered =
           let one : suc m.frames ≡ m.frames + 1 = omega arith in
           let r = h.room in
@@ -243,16 +244,16 @@ module _ (a : Allowed) (P : List ℕ) (R F : Rows) (W : List ℕ) (T : Rows) (z 
             work = w';
             trees = h.trees;
             branches = f ∷ h.branches;
-            place = subst (λ (q : ℕ). Place z.depth a.rules R F' W' c' u' q 0 w') one
+            place = subst (λ (q : ℕ). Place z.depth a.rules R F' W' in_use.variables in_use.used q 0 w') one
                 (inside {x = frame_for m} (frame_set F m.frames (frame_for m) ln) lr₀ h.within (omega arith) t.left.longer
-                (goal_refers c' u' t.left.later t.left.longer) premise_refers
-                (outer u' t.left.longer) h.level same_work);
+                (goal_refers in_use.variables in_use.used t.left.later t.left.longer) premise_refers
+                (outer in_use.used t.left.longer) h.level same_work);
             within = omega arith;
-            stack = subst (λ (q : ℕ). Stack a P R F' z W' T' q c' t' u' (f ∷ h.branches)) one (
+            stack = subst (λ (q : ℕ). Stack a P R F' z W' T' q in_use.variables in_use.bound in_use.used (f ∷ h.branches)) one (
               frame_for m,
               T,
               frame_ok,
-              stack_kept_lem a P R F F' z W W' T m.frames m.counter c' m.bound m.used h.branches sf
+              stack_kept_lem a P R F F' z W W' T m.frames m.counter in_use.variables m.bound m.used h.branches sf
                   t.kept t.long t.left.later t.left.form.few lent h.stack,
             );
             order = subst (λ (q : ℕ). entries z.depth F' W' q ≡ made 0 w' h.trees) one
@@ -275,7 +276,7 @@ module _ (a : Allowed) (P : List ℕ) (R F : Rows) (W : List ℕ) (T : Rows) (z 
             formed = λ rs s. t.stays_in_form z.arities (rs m.rule lr₀) (h.formed rs s);
             room = omega arith;
             value = sym (try_entered (limits a P R F) (all_rules a P R F z) h.branches f m.rule (rule_at z.text P R m.rule)
-                m.steps m.cut m.counter (held term_room W' T' t') c' u' refl
+                m.steps m.cut m.counter (held term_room W' T' in_use.bound) in_use.variables in_use.used refl
                 (sym (attempt_at z.text P R m.rule (limits a P R F) (held term_room W T m.bound) (term W m.goal) m.used
                 m.counter) ∙ sym t.is))
                 ∙ value_at_lem _ (rules_cons z.text P R a.rules m.rule lr₀);

@@ -14,6 +14,7 @@ use Rattle.bindings.specs.Promises.{Undoable}
 use Rattle.unifier.specs.Promises.{Scratch}
 use Rattle.resolution.specs.Search.{Result}
 use Rattle.attempts.specs.declared.Tried.TheVariants.{Missed, Entered}
+use Rattle.bindings.specs.declared.InUse.{InUse}
 use Rattle.search_machine.specs.Storage.{RowAsked, RowTried, PremiseAsked, Attempt}
 use Rattle.names.specs.Symbols.{column, row_at}
 use Rattle.search_machine.specs.State.{arity, premise_ref, frame_at, row_of, Start, Holds, Case, Entering, Trying, Failing}
@@ -207,7 +208,7 @@ module _ {a : Allowed} {P : List ℕ} {R F : Rows} {W : List ℕ} {T L M S : Row
       stack = t.stack_kept;
     }
 
-    module _ (c' t' u' high : ℕ) (q : answer ≡ Ok (Entered c' t' u')) (above : m.high ≤ high) (new : m.frames + 1 ≤ high) where
+    module _ (in_use : InUse) (high : ℕ) (q : answer ≡ Ok (Entered in_use)) (above : m.high ≤ high) (new : m.frames + 1 ≤ high) where
       abbrev F' : Rows
       F' = set F m.frames (row_of (frame_for m))
 
@@ -215,7 +216,7 @@ module _ {a : Allowed} {P : List ℕ} {R F : Rows} {W : List ℕ} {T L M S : Row
       rows_past : (i : ℕ) → high ≤ i → get_or (set F m.frames (row_of (frame_for m))) i [] ≡ get_or F i []
       rows_past i l = get_or-set_other F m.frames i (row_of (frame_for m)) [] (λ e. omega arith)
 
-      fell : measure a.rules F' (to_body m c' t' u' high) < measure a.rules F m
+      fell : measure a.rules F' (to_body m in_use high) < measure a.rules F m
       unfolding measure
       fell =
           let one : m.frames + 1 ≡ suc m.frames = omega arith in
@@ -226,15 +227,15 @@ module _ {a : Allowed} {P : List ℕ} {R F : Rows} {W : List ℕ} {T L M S : Row
           let l = ready_rule in
           omega arith
 
-      step_entered : Stepped a P R F F' W W' T T' L L' M M' S S' m (to_body m c' t' u' high)
+      step_entered : Stepped a P R F F' W W' T T' L L' M M' S S' m (to_body m in_use high)
       step_entered = record {
         keeps = λ z o h. record {
-          case = tried_entered a P R F W T z o m (case_at h trying) ready_rule ready_asked c' t' u' high lent_frames
-              (known (Ok (Entered c' t' u')) q);
+          case = tried_entered a P R F W T z o m (case_at h trying) ready_rule ready_asked in_use high lent_frames
+              (known (Ok (Entered in_use)) q);
           rules = h.rules;
           frames = let l = h.frames in let s = length-set F m.frames (row_of (frame_for m)) in omega arith;
           left = h.left;
-          later = let c = h.later in let l = (known (Ok (Entered c' t' u')) q).left.later in omega arith;
+          later = let c = h.later in let l = (known (Ok (Entered in_use)) q).left.later in omega arith;
           words_past = λ i l. past i l ∙ h.words_past i l;
           frames_past = λ i l. rows_past i l ∙ h.frames_past i (omega arith);
           words_long = t.long ∙ h.words_long;
@@ -247,10 +248,10 @@ module _ {a : Allowed} {P : List ℕ} {R F : Rows} {W : List ℕ} {T L M S : Row
       }
 
       -- The frame was put.
-      pub step_put : {F'' : Rows} {x : Frame} {r : Machine} → x ≡ frame_for m → F'' ≡ set F m.frames (row_of x) → r ≡ to_body m c' t' u' high
+      pub step_put : {F'' : Rows} {x : Frame} {r : Machine} → x ≡ frame_for m → F'' ≡ set F m.frames (row_of x) → r ≡ to_body m in_use high
           → Stepped a P R F F'' W W' T T' L L' M M' S S' m r
       step_put ex ef er =
-          stepped_as er (subst (λ (B : Rows). Stepped a P R F B W W' T T' L L' M M' S S' m (to_body m c' t' u' high))
+          stepped_as er (subst (λ (B : Rows). Stepped a P R F B W W' T T' L L' M M' S S' m (to_body m in_use high))
           (sym (ef ∙ ap (λ (x : Frame). set F m.frames (row_of x)) ex)) step_entered)
 
 module _ {a : Allowed} {F T : Rows} {m : Machine} (k : Known a F T m) where

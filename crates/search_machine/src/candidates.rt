@@ -7,7 +7,7 @@ ghost use Rattle.search_machine.specs.Groups.{allowed_in};
 ghost use Rattle.search_machine.specs.Choosing.{Goal, HeadsNode, Readable, Differs, Judged, Choosing, Chosen};
 
 use super::{Machine, Mode, Program, Store};
-use arena::{PATTERN_ROOM, TERM_ROOM, Terms};
+use arena::{PATTERN_ROOM, Terms};
 use attempts::{clashes, goal_node};
 use bindings::StoredBindings;
 use rules::columns::{CONCLUSION, CONCLUSION_WORDS, MET, PREMISE_WORDS};
@@ -54,16 +54,9 @@ pub fn next_candidate(program: Program, store: &Store, m: Machine) -> Machine
     requires { Choosing (allowed_in program) program.pattern.now program.rules.now store.now.words.now store.now.bindings.now m }
     ensures { Chosen (allowed_in program.entry) program.entry.pattern.now program.entry.rules.now store.now.words.now store.now.bindings.now m result }
 {
-    let terms = Terms {
-        words: store.words,
-        room: TERM_ROOM,
-        variables: m.counter,
-        used: m.used,
-    };
-    let held = StoredBindings {
-        rows: store.bindings,
-        bound: m.bound,
-    };
+    let in_use = m.in_use();
+    let terms = in_use.terms(store.words);
+    let held = in_use.bindings(store.bindings);
     let header = goal_header(terms, held, m.goal);
     let rules = program.rules.len() as u32;
     let mut counter = m.counter;

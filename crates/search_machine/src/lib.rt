@@ -86,14 +86,6 @@ impl Mode {
     }
 }
 
-// What is in use: variables, bindings and words.
-#[derive(Clone, Copy)]
-pub struct InUse {
-    pub counter: u32,
-    pub bound: u32,
-    pub used: u32,
-}
-
 // The machine's state beside its storage.
 // Stays: `cut` tells of the whole search; no field has its meaning from it alone, so that an option would hold nothing.
 // Stays: with an `InUse`, `in_use` would go, but `at_rule` and `at_retry` would have an update in an update, and 162 lines of specs a field more.
@@ -156,17 +148,11 @@ fn attempt(program: Program, store: &mut Store, m: Machine) -> Machine
     match try_stored(program, store, m) {
         Err(_) => m.at_stop(Mode::Refused, m.steps),
         Ok(Tried::Missed { counter }) => m.at_rule(m.rule + 1, counter, m.top),
-        Ok(
-            Tried::Entered {
-                counter,
-                bound,
-                used,
-            },
-        ) => {
+        Ok(Tried::Entered { in_use }) => {
             let row: [u32; 8] = m.frame().into();
             store.frames[m.frames as usize] = row;
             let high = m.high.max(m.frames + 1);
-            m.at_body(counter, bound, used, high)
+            m.at_body(in_use, high)
         }
     }
 }

@@ -3,8 +3,9 @@ ghost use Rattle.std.specs.Prelude.{◌≡◌, ◌<◌};
 ghost use Rattle.search_machine.specs.Moves.{to_place, to_fail, to_stop, to_goal, to_rule, to_body, to_retry, to_start, in_use_of, frame_for, state_for};
 
 use super::frames::Frame;
-use super::{InUse, Machine, Mode};
+use super::{Machine, Mode};
 use attempts::{SearchLimits, SearchState};
+use bindings::InUse;
 
 impl Machine {
     // The first state: a goal, from the first rule on; nothing was written.
@@ -18,7 +19,7 @@ impl Machine {
             frames: 0,
             steps,
             cut: false,
-            counter: in_use.counter,
+            counter: in_use.variables,
             bound: in_use.bound,
             used: in_use.used,
             goal,
@@ -94,18 +95,18 @@ impl Machine {
     }
 
     // Into an application: its premises are next; rows were written below a number.
-    pub fn at_body(self, counter: u32, bound: u32, used: u32, high: u32) -> Machine
+    pub fn at_body(self, in_use: InUse, high: u32) -> Machine
         requires { self.frames < 4294967295 }
-        ensures { result ≡ to_body self counter bound used high }
+        ensures { result ≡ to_body self in_use high }
     {
         Machine {
             mode: Mode::Enter,
             parent: self.frames + 1,
             place: 0,
             frames: self.frames + 1,
-            counter,
-            bound,
-            used,
+            counter: in_use.variables,
+            bound: in_use.bound,
+            used: in_use.used,
             high,
             ..self
         }
@@ -141,7 +142,7 @@ impl Machine {
             ..
         } = self;
         InUse {
-            counter,
+            variables: counter,
             bound,
             used,
         }
@@ -153,9 +154,7 @@ impl Machine {
     {
         SearchState {
             limits,
-            counter: self.counter,
-            used: self.used,
-            bound: self.bound,
+            in_use: self.in_use(),
             goal: self.goal,
         }
     }

@@ -7,6 +7,7 @@ ghost use Rattle.unifier.specs.Promises.{LeadsTo, Falling, Joined};
 use bindings::enter;
 
 // The root to which the links lead from r.
+// Stays: `bindings::walk` ends at any node as well, and promises by `Form` where bindings lead; a root is told by `Falling`, so one contract states neither.
 // Stays: a struct of links with this as its invariant would serve `equate` alone, and `link` would promise besides that the same rows come back.
 pub fn find(links: &[[u32; 2]], r: u32) -> u32
     requires fact_1 { Falling links.now }

@@ -2,10 +2,10 @@
 ghost use Rattle.std.specs.Prelude.{◌<◌, length};
 
 use arena::{TERM_ROOM, Terms};
-use bindings::StoredBindings;
+use bindings::{InUse, StoredBindings};
 use samples::build::{Built, Tower};
 use samples::rows::bind_chain;
-use samples::unification::{Counts, Fault, Remains};
+use samples::unification::{Fault, Remains};
 use samples::{build, report, unification};
 use unifier::Workspace;
 
@@ -30,10 +30,10 @@ pub struct Towers {
     pub paired: bool,
 }
 
-// The counts of storage, and two references.
+// What of storage is in use, and two references.
 #[derive(Clone, Copy)]
 struct Case {
-    counts: Counts,
+    in_use: InUse,
     left: u32,
     right: u32,
 }
@@ -52,22 +52,22 @@ fn put_case(words: &mut [u32], bindings: &mut [[u32; 2]], towers: Towers) -> Opt
     let [_, Built { next: top, .. }] = build::put_two(words, TERM_ROOM, 2, lower, upper)?;
     slices::put(bindings, 60, [TERM_ROOM + 1, 0]);
     slices::put(bindings, 0, [0, 60]);
-    let counts = Counts {
+    let in_use = InUse {
         variables: VARIABLES,
-        used: top,
         bound: 1,
+        used: top,
     };
     if paired {
-        let next = build::put_pair(words, top, 0, left);
-        let used = build::put_pair(words, next, TERM_ROOM, right);
+        let next = build::put_node(words, top, &[0, left])?;
+        let used = build::put_node(words, next, &[TERM_ROOM, right])?;
         return Some(Case {
-            counts: Counts { used, ..counts },
+            in_use: InUse { used, ..in_use },
             left: TERM_ROOM.saturating_add(top),
             right: TERM_ROOM.saturating_add(next),
         });
     }
     Some(Case {
-        counts,
+        in_use,
         left,
         right,
     })
@@ -80,7 +80,7 @@ fn report_room(name: &[u8]) {
 }
 
 // Writes the line of a unification.
-fn report_unify(remains: Remains, counts: Counts, found: Result<Option<u32>, Fault>) {
+fn report_unify(remains: Remains, in_use: InUse, found: Result<Option<u32>, Fault>) {
     match found {
         Err(fault) => {
             report::fault(fault);
@@ -91,7 +91,7 @@ fn report_unify(remains: Remains, counts: Counts, found: Result<Option<u32>, Fau
         }
         Ok(Some(bound)) => {
             report::text(b": unify");
-            unification::finish(remains, Counts { bound, ..counts }, counts.bound);
+            unification::finish(remains, InUse { bound, ..in_use }, in_use.bound);
         }
     }
     report::text(b"\n");
@@ -111,14 +111,14 @@ pub fn unify(name: &[u8], towers: Towers) {
     let mut marks = [[0u32; 2]; REFERENCES];
     let mut stack = [[0u32; 3]; WORDS];
     let found = unification::solve(
-        case.counts.terms(&words),
+        case.in_use.terms(&words),
         &mut bindings,
         Workspace {
             links: &mut links,
             marks: &mut marks,
             stack: &mut stack,
         },
-        case.counts.bound,
+        case.in_use.bound,
         case.left,
         case.right,
     );
@@ -129,7 +129,7 @@ pub fn unify(name: &[u8], towers: Towers) {
         bindings: &mut bindings,
         marks: &mut marks,
     };
-    report_unify(remains, case.counts, found);
+    report_unify(remains, case.in_use, found);
 }
 
 // Writes the line of a question that has only yes and no for an answer.
@@ -157,10 +157,10 @@ pub fn occurs(name: &[u8], towers: Towers) {
         return;
     };
     let mut marks = [[0u32; 2]; REFERENCES];
-    let terms = case.counts.terms(&words);
+    let terms = case.in_use.terms(&words);
     let held = StoredBindings {
         rows: &bindings,
-        bound: case.counts.bound,
+        bound: case.in_use.bound,
     };
     let found = unification::ask(terms, held, &mut marks, case.left, case.right);
     report::text(name);

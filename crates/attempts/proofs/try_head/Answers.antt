@@ -8,7 +8,7 @@ returns-then-clashes-clause-tried c =
     let pre = c.requires in
     let exceeds = c.exceeds in
     let if1 = c.if-exceeds in
-    let t = c.terms-before.ensures in
+    let t = c.terms-terms.ensures in
     let b = c.bindings-held.ensures in
     let clash = c.clashes.ensures c.if-clashes.true in
     head_clashes pre (sym exceeds.ensures ∙ if1.false) (rw (t.0, t.1, b.0, b.1) at clash)
@@ -35,9 +35,11 @@ unify-requires c =
     let inst = c.inst in
     let moved_word = c.moved_word-second in
     let fits = sym exceeds.ensures ∙ if1.false in
-    record { fact_1 = head_form pre fits _ inst.ensures; fact_2 = (head_goal pre fits _ inst.ensures, head_conclusion pre fits _ inst.ensures _ moved_word.ensures); fact_3 = head_scratch pre fits }
+    let t = c.terms-copied.ensures in
+    rw (t.0, t.1, t.2, t.3) record { fact_1 = head_form pre fits _ inst.ensures; fact_2 = (head_goal pre fits _ inst.ensures, head_conclusion pre fits _ inst.ensures _ moved_word.ensures); fact_3 = head_scratch pre fits }
 
 pub returns-clause-tried : goal.returns-clause-tried
 returns-clause-tried c =
     let fits = sym c.exceeds.ensures ∙ c.if-exceeds.false in
-    head_ended c.requires fits _ c.inst.ensures c.moved_word-second.ensures c.unify.result c.unify.ensures.unified
+    let t = c.terms-copied.ensures in
+    head_ended c.requires fits _ c.inst.ensures c.moved_word-second.ensures c.unify.result (rw (t.0, t.1, t.2, t.3) at c.unify.ensures.unified)

@@ -10,7 +10,7 @@ invariant-loop-depth l = record {
   deepening : Deepening (allowed_in l.program) l.program.pattern.now l.program.rules.now l.initial.store.frames.now l.store.frames.now
       l.initial.store.words.now l.store.words.now l.initial.store.bindings.now l.store.bindings.now l.initial.store.links.now
       l.store.links.now l.initial.store.marks.now l.store.marks.now l.initial.store.stack.now l.store.stack.now l.question.goal
-      l.largest l.question.steps l.question.in_use.counter l.question.in_use.bound l.question.in_use.used l.depth l.taken l.met;
+      l.largest l.question.steps l.question.in_use.variables l.question.in_use.bound l.question.in_use.used l.depth l.taken l.met;
   lent : IsLent l.initial.store l.store;
 }
 

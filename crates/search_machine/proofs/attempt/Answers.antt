@@ -18,6 +18,6 @@ returns-in-Ok-Missed-clause-stepped c =
 pub returns-in-Ok-Entered-clause-stepped : goal.returns-in-Ok-Entered-clause-stepped
 returns-in-Ok-Entered-clause-stepped c =
     let e = c.max-high.ensures in
-    step_put c.requires.ready c.requires.choice c.try_stored.ensures.tried _ _ _ _ (c.in-Ok-Entered.is ∙ ap Ok c.in-Ok-Entered.field-0-is) (omega arith) (omega arith)
+    step_put c.requires.ready c.requires.choice c.try_stored.ensures.tried _ _ (c.in-Ok-Entered.is ∙ ap Ok c.in-Ok-Entered.field-0-is) (omega arith) (omega arith)
     c.frame.ensures (ap (λ (F : Rows). set F c.args.m.frames c.into-row.result) c.try_stored.ensures.frames
     ∙ ap (set c.args.store.now.frames.now c.args.m.frames) c.into-row.ensures) c.at_body.ensures

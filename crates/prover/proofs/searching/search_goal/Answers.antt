@@ -5,8 +5,8 @@ use Rattle.prover.proofs.searching.search_goal.Goals as goal
 
 pub returns-in-Err-clause-left : goal.returns-in-Err-clause-left
 returns-in-Err-clause-left c =
-    left_refused c.args.names.now c.args.goal c.args.session c.prove.ensures.deepened _ c.in-Err.is c.clear_from.ensures
-    c.clear_from-in-Err.ensures
+    left_refused c.args.names.now c.args.goal c.args.session c.prove.ensures.deepened _ c.in-Err.is c.clear_session.ensures.names
+    c.clear_session.ensures.words
 
 pub returns-in-Ok-Proved-clause-left : goal.returns-in-Ok-Proved-clause-left
 returns-in-Ok-Proved-clause-left c =

@@ -24,7 +24,10 @@ returns-then-exceeds c =
 
 pub loop-rule-preserved : goal.loop-rule-preserved
 loop-rule-preserved c =
-    passing_next c.requires c.loop-rule.invariant c.loop-rule-test.true (c.is_candidate.ensures c.if-is_candidate.false)
+    let t = c.terms-terms.ensures in
+    let b = c.bindings-held.ensures in
+    let clash = c.is_candidate.ensures c.if-is_candidate.false in
+    passing_next c.requires c.loop-rule.invariant c.loop-rule-test.true (rw (t.0, b.0, b.1, c.in_use-in_use.ensures) at clash)
     (sym c.exceeds.ensures ∙ c.if-exceeds.false)
 
 pub returns : goal.returns
