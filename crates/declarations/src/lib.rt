@@ -117,12 +117,8 @@ fn declare_symbol(
     let Source { rows, at, .. } = source;
     let [_, _, count, _] = rows[at];
     let k = count as usize;
-    // Stays: tried as a function `from_row` of `Source`, here and below: no plainer; 5 lines fewer, but 11 answers of four functions rewrite by its contract.
     let part = Part {
-        source: Source {
-            at: at + 1,
-            ..source
-        },
+        source: source.from_row(at + 1),
         k,
     };
     loader::enter_symbol(
@@ -168,10 +164,7 @@ fn declare_rule(
     let word = Word::behind_kind(&rows[at + 1]);
     let place = state.next_rule();
     let part = Part {
-        source: Source {
-            at: at + 2,
-            ..source
-        },
+        source: source.from_row(at + 2),
         k,
     };
     let rule = loader::enter_rule(
@@ -246,10 +239,7 @@ fn declare_clauses(
         state,
     };
     for i in 0..n {
-        let clause = Source {
-            at: progress.next,
-            ..source
-        };
+        let clause = source.from_row(progress.next);
         progress = declare_clause(clause, i, word, symbols, store, progress.state)?;
     }
     Ok(progress)
@@ -288,10 +278,7 @@ fn declare_def(
         clauses: n as u32,
     };
     let entered = declare_symbol(source, kind, sorts, symbols, state)?;
-    let clauses = Source {
-        at: entered.next,
-        ..source
-    };
+    let clauses = source.from_row(entered.next);
     let word = Word::behind_kind(&rows[at + 1]);
     declare_clauses(clauses, n, word, symbols, store, entered.state)
 }

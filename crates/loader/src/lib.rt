@@ -234,10 +234,7 @@ pub fn enter_symbol(
     let Source { text, rows, at } = source;
     let mut inputs = [0u32; INPUTS as usize];
     let behind = Part {
-        source: Source {
-            at: at + 1,
-            ..source
-        },
+        source: source.from_row(at + 1),
         k,
     };
     let last = find_arrow(behind, sorts, &mut inputs).ok_or(Refusal::UnknownSort)?;

@@ -41,6 +41,15 @@ pub struct Source<'a> {
     pub at: usize,
 }
 
+impl<'a> Source<'a> {
+    // The same rows, from another row on.
+    pub fn from_row(self, at: usize) -> Source<'a>
+        ensures { result ≡ record { text = self.entry.text; rows = self.entry.rows; at = at } }
+    {
+        Source { at, ..self }
+    }
+}
+
 // Source terms: the text, the rows in which they stand, and the symbols that they may name.
 // Stays: that symbols are few, with at most 16 inputs each, is asked beside it: `flattening::flatten` is given source terms too, and asks neither.
 #[derive(Clone, Copy)]

@@ -2,6 +2,7 @@
 use mathlib.Core.Path.{◌≡◌, refl, sym, ap, ◌∙◌}
 use mathlib.Core.List.{List, [], ◌++◌}
 use Prim.Native.Nat.{ℕ, ◌+◌, ◌<◌}
+use native.Mathlib.Nat.{add-zero}
 use lib.ListN.{length, take, drop}
 use Rattle.term_parser.specs.Source.{Place}
 use Rattle.term_parser.specs.Parsing.{Tokens, last_line, Parsed, parsed, absent, refused, plus, follow}
@@ -14,7 +15,7 @@ use Rattle.term_parser.specs.Promises.{told, Room, Answers, Lists}
 use Rattle.term_parser.specs.Firmness.{Firm, firm_name}
 use Rattle.parser.specs.Source.{Titled, Declaration}
 use Rattle.parser.specs.Declarations.{titled_of}
-use Rattle.parser.specs.Rows.{titled_rows, declaration_rows}
+use Rattle.parser.specs.Rows.{single_rows, titled_rows, declaration_rows}
 use Rattle.term_parser.proofs.Readers.{Stopped, got}
 use Rattle.term_parser.proofs.ListLaws.{firm_title, firm_separated}
 use Rattle.parser.proofs.PartLaws.{Along, start, part, part_stopped}
@@ -88,6 +89,27 @@ module _ {A B : Type 0} (f : A → B) where
   told_mapped rowsA rowsB e p before (parsed a n) = ap (λ z. told (λ _. z) p before (parsed a n)) (e a)
   told_mapped rowsA rowsB e p before absent = refl
   told_mapped rowsA rowsB e p before (refused r l) = refl
+
+-- A declaration that is made of one item.
+mapped_item : {A B : Type 0} (f : A → B) (x : Parsed A) (us : Tokens) → follow x us (λ a vs. parsed (f a) 0) ≡ mapped f x
+mapped_item f (parsed a n) us = let e : n + 0 ≡ n = add-zero n in ap (parsed (f a)) e
+mapped_item f absent us = refl
+mapped_item f (refused r l) us = refl
+
+pub item_alone : {A : Type 0} (x : Parsed A) (us : Tokens) → x ≡ follow x us (λ a vs. parsed a 0)
+item_alone (parsed a n) us = let e : n ≡ n + 0 = sym (add-zero n) in ap (parsed a) e
+item_alone absent us = refl
+item_alone (refused r l) us = refl
+
+module _ {A : Type 0} (make : A → Declaration) (rows : A → Rows) (kind number : ℕ) (made : (a : A) → declaration_rows number (make a) ≡ single_rows rows kind number a) where
+  pub declares_item : (x : Parsed A) (us : Tokens) {ts : Tokens} {p u : ℕ} {before : Rows} {r : Step} {after : Rows} → Answers 1 (single_rows rows kind number) (plus 1 x) ts p u before r after
+      → Answers 1 (declaration_rows number) (plus 1 (follow x us (λ a vs. parsed (make a) 0))) ts p u before r after
+  declares_item x us {ts} {p} {u} {before} h = record {
+    is = h.is ∙ sym (ap (told (declaration_rows number) p (take u before)) (ap (plus 1) (mapped_item make x us) ∙ sym (mapped_plus make 1 x))
+        ∙ told_mapped make (single_rows rows kind number) (declaration_rows number) made p (take u before) (plus 1 x));
+    within = h.within;
+    still = h.still;
+  }
 
 -- A declaration that is made of a title and items.
 module _ {A : Type 0} (make : Place → List A → Declaration) (rows : A → Rows) (kind number : ℕ) (made : (t : Titled A) → declaration_rows number (make t.title t.items) ≡ titled_rows rows kind number t) where

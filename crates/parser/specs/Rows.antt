@@ -26,6 +26,10 @@ abbrev pub tactic_rows : Tactic → Rows
 tactic_rows auto = []
 tactic_rows (induction p) = name_rows p
 
+-- An item under a keyword's number.
+abbrev pub single_rows : {A : Type 0} → (A → Rows) → ℕ → ℕ → A → Rows
+single_rows rows kind line a = (kind ∷ line ∷ 0 ∷ 0 ∷ []) ∷ rows a
+
 -- A title and a list behind it, under a keyword's number: the number of items, the title, the items.
 abbrev pub titled_rows : {A : Type 0} → (A → Rows) → ℕ → ℕ → Titled A → Rows
 titled_rows rows kind line t = (kind ∷ line ∷ length t.items ∷ 0 ∷ []) ∷ (name_rows t.title ++ rows_of_all rows t.items)

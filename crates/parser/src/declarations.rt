@@ -3,7 +3,7 @@ ghost use Rattle.std.specs.Prelude.{◌≡◌, ◌⊎◌, [], ◌≤◌, ◌<◌
 ghost use Rattle.source_text.specs.Bytes.{same_bytes};
 ghost use Rattle.source_text.specs.Parts.{part_of};
 ghost use Rattle.parser.specs.Source.{Clause, Binders};
-ghost use Rattle.parser.specs.Rows.{clause_rows, binders_rows, tactic_rows, titled_rows, declaration_rows, declared_rows, numbered};
+ghost use Rattle.parser.specs.Rows.{clause_rows, binders_rows, tactic_rows, single_rows, titled_rows, declaration_rows, declared_rows, numbered};
 ghost use Rattle.parser.specs.Declarations.{Declared, prop_name, binders_of, tactic_of, titled_of, sort_of, ctor_of, clause_of, pred_of, rule_of, def_of, theorem_of, asked_of, body_of, declaration_of, parse_of};
 ghost use Rattle.term_parser.specs.Lists.{separated};
 ghost use Rattle.term_parser.specs.Steps.{step};
@@ -14,7 +14,7 @@ use super::{BINDERS, CLAUSE};
 use refusals::{Refusal, Rejection};
 use term_parser::items::{Item, Judgment, Name, Repeated, all, list};
 use term_parser::lists::{arrows, judgments, name, names, patterns, title};
-use term_parser::terms::{app, term};
+use term_parser::terms::app;
 use term_parser::tokens::{name_token, peek, rejection, sign};
 use term_parser::{Input, PARENTHESES, Position, Read, Token};
 use words::{
@@ -98,9 +98,27 @@ pub fn tactic(input: Input, from: Position, out: &mut [[u32; 4]]) -> Result<Read
     }
 }
 
-// `sort n`, from its keyword on, which is in this line, as each declaration below.
+// An item behind a keyword whose number is `kind`, from the keyword on, which is in this line, as each declaration below.
 // Stays: what these ask for speaks of the rows too, which they write: a struct of input, place and rows would be lent to be written, input and all.
 // Stays: that a token is left is asked beside it, as a `Position` does not know the tokens.
+pub fn single<I: Item>(
+    input: Input,
+    from: Position,
+    out: &mut [[u32; 4]],
+    kind: u32,
+    line: u32,
+) -> Result<Read, Rejection>
+    requires fact_1 { Room input.tokens.now from.at from.used out.old }
+    requires fact_2 { from.at < length input.tokens.now }
+    ensures { Declares (single_rows I.rows kind line) I.grammar input.entry from out.old (step result) out.new }
+{
+    let behind = from.past_row();
+    let item = I::read(input, behind, out)?;
+    out[from.used] = [kind, line, 0, 0];
+    Ok(Read { count: 1, ..item })
+}
+
+// `sort n`
 pub fn sort(
     input: Input,
     from: Position,
@@ -111,10 +129,7 @@ pub fn sort(
     requires fact_2 { from.at < length input.tokens.now }
     ensures { Declares (declaration_rows line) (λ _. sort_of) input.entry from out.old (step result) out.new }
 {
-    let behind = from.past_row();
-    let n = name(input, behind, out)?;
-    out[from.used] = [SORT, line, 0, 0];
-    Ok(Read { count: 1, ..n })
+    single::<Name>(input, from, out, SORT, line)
 }
 
 // `n : A → B`, from the keyword on, whose number is `kind`.
@@ -266,10 +281,7 @@ pub fn asked(
     requires kinds { (token.kind ≡ EVAL) ⊎ (token.kind ≡ CHECK) }
     ensures { Declares (declaration_rows token.line) (λ text last. asked_of text last token.kind) input.entry from out.old (step result) out.new }
 {
-    let behind = from.past_row();
-    let t = term(input, behind, PARENTHESES, out)?;
-    out[from.used] = [token.kind, token.line, 0, 0];
-    Ok(Read { count: 1, ..t })
+    single::<Judgment>(input, from, out, token.kind, token.line)
 }
 
 // What a token starts, from it on: its kind says which declaration.

@@ -40,7 +40,7 @@ declare_clauses-requires c =
     let some : 0 < column (row_at args.source.rows.now args.source.at) 2 = c.in_ok-some_behind.ensures.1 in
     let f = first_is held args.source.rows.now args.source.at pre.inside cs first-clause.ensures e in
     let d = def_entered held args.source.rows.now args.source.at pre.inside cs some f e h.entered (sym h.is.0) in
-    rw (h.is.1, c.behind_kind-word.ensures)
+    rw (c.from_row-clauses.ensures, h.is.1, c.behind_kind-word.ensures)
     (record {
       short = pre.short;
       few = pre.few;
@@ -57,7 +57,7 @@ returns-clause-declared c =
     let pre = c.requires in
     let first-clause = c.first_clause in
     let h = c.in_ok-entered.ensures in
-    let declared = rw (h.is.1, c.behind_kind-word.ensures) at c.declare_clauses.ensures.declared in
+    let declared = rw (c.from_row-clauses.ensures, h.is.1, c.behind_kind-word.ensures) at c.declare_clauses.ensures.declared in
     let some : 0 < column (row_at args.source.rows.now args.source.at) 2 = c.in_ok-some_behind.ensures.1 in
     record {
       same = λ limit ts s held cs q st e legal.

@@ -23,7 +23,8 @@ enter_rule-requires c =
     let place = c.next_rule-place in
     let st = pre.stand counted.1 in
     let here = pre.here in
-    record {
+    rw c.from_row.ensures
+    (record {
       first = st.0;
       others = st.1;
       end = st.2;
@@ -33,7 +34,7 @@ enter_rule-requires c =
       later = omega arith;
       short = pre.short;
       storage = rw (place.ensures) (storage_used (storage (pre.ready.3)));
-    }
+    })
 
 pub with_rule-requires : goal.with_rule-requires
 with_rule-requires c =
@@ -44,7 +45,7 @@ with_rule-requires c =
     let place = c.next_rule-place in
     let enter-rule = c.enter_rule in
     let st = pre.stand counted.1 in
-    rw place.ensures (rw c.in_ok-rule.was at (told_by pre.ready.3 (record { word = record { start = column (row_at args.source.rows.now (args.source.at + 1)) 1; size = column (row_at args.source.rows.now (args.source.at + 1)) 2 }; clause = 0 }) (λ (F : List Symbol) (m : ℕ). rule_of F (name_at args.source.text.now args.source.rows.now (args.source.at + 1)) (spelled args.source.text.now (all_of (front_of (st.0 ∷ st.1)))) (spelled args.source.text.now (last_judgment st.0 st.1)) m) (min 1024 args.state.left) refl (enter-rule.new.rules) (enter-rule.new.words) enter-rule.result ((rw (known, place.ensures, c.behind_kind-word.ensures) at enter-rule.ensures).same st.0 st.1 st.2 st.3 (counted.0 ∙ st.4)).1))
+    rw place.ensures (rw c.in_ok-rule.was at (told_by pre.ready.3 (record { word = record { start = column (row_at args.source.rows.now (args.source.at + 1)) 1; size = column (row_at args.source.rows.now (args.source.at + 1)) 2 }; clause = 0 }) (λ (F : List Symbol) (m : ℕ). rule_of F (name_at args.source.text.now args.source.rows.now (args.source.at + 1)) (spelled args.source.text.now (all_of (front_of (st.0 ∷ st.1)))) (spelled args.source.text.now (last_judgment st.0 st.1)) m) (min 1024 args.state.left) refl (enter-rule.new.rules) (enter-rule.new.words) enter-rule.result ((rw (c.from_row.ensures, known, place.ensures, c.behind_kind-word.ensures) at enter-rule.ensures).same st.0 st.1 st.2 st.3 (counted.0 ∙ st.4)).1))
 
 pub returns-in_err-k-clause-declared : goal.returns-in_err-k-clause-declared
 returns-in_err-k-clause-declared c =
@@ -65,7 +66,7 @@ returns-in_err-rule-clause-declared c =
     rw (handed_on c.from_residual-in_err-rule.result c.from_residual-in_err-rule.ensures.1)
     (record {
       none = λ z. (let l = counted.1 in absurd (omega (arith, z)));
-      same = λ limit ts s ready inside j js q st kn. let h = (rw (known, place.ensures, c.behind_kind-word.ensures) at enter-rule.ensures).same j js q st (counted.0 ∙ kn) in
+      same = λ limit ts s ready inside j js q st kn. let h = (rw (c.from_row.ensures, known, place.ensures, c.behind_kind-word.ensures) at enter-rule.ensures).same j js q st (counted.0 ∙ kn) in
           advanced_by ready (record { word = record { start = column (row_at args.source.rows.now (args.source.at + 1)) 1; size = column (row_at args.source.rows.now (args.source.at + 1)) 2 }; clause = 0 }) inside (omega arith) (enter-rule.new.rules) (enter-rule.new.words) (enter-rule.auto.rules) (enter-rule.auto.words) (λ (F : List Symbol) (m : ℕ). rule_of F (name_at args.source.text.now args.source.rows.now (args.source.at + 1)) (spelled args.source.text.now (all_of (front_of (j ∷ js)))) (spelled args.source.text.now (last_judgment j js)) m) (min 1024 args.state.left) refl q enter-rule.result _ h.0 h.1 (rw c.in_err-rule.was refl);
     })
 
@@ -78,6 +79,6 @@ returns-clause-declared c =
     let place = c.next_rule-place in
     record {
       none = λ z. (let l = counted.1 in absurd (omega (arith, z)));
-      same = λ limit ts s ready inside j js q st kn. let h = (rw (known, place.ensures, c.behind_kind-word.ensures) at enter-rule.ensures).same j js q st (counted.0 ∙ kn) in
+      same = λ limit ts s ready inside j js q st kn. let h = (rw (c.from_row.ensures, known, place.ensures, c.behind_kind-word.ensures) at enter-rule.ensures).same j js q st (counted.0 ∙ kn) in
           advanced_by ready (record { word = record { start = column (row_at args.source.rows.now (args.source.at + 1)) 1; size = column (row_at args.source.rows.now (args.source.at + 1)) 2 }; clause = 0 }) inside (omega arith) (enter-rule.new.rules) (enter-rule.new.words) (enter-rule.auto.rules) (enter-rule.auto.words) (λ (F : List Symbol) (m : ℕ). rule_of F (name_at args.source.text.now args.source.rows.now (args.source.at + 1)) (spelled args.source.text.now (all_of (front_of (j ∷ js)))) (spelled args.source.text.now (last_judgment j js)) m) (min 1024 args.state.left) refl q enter-rule.result _ h.0 h.1 (rw c.in_ok-rule.was (rw place.ensures at c.with_rule.ensures));
     }
