@@ -22,6 +22,7 @@ pub struct SourceClause<'a> {
 }
 
 // A rule that is entered: the row behind it, and the space left then.
+// Stays: one `Ended<T>` of `Progress`, `EnteredRule`, `Expressed` and `Decimal` would call `item` what is `state`, `space`, `outcome` and `value`.
 #[derive(Clone, Copy)]
 pub struct EnteredRule {
     pub next: usize,

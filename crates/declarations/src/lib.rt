@@ -62,6 +62,7 @@ impl State {
 }
 
 // How far declaring is: the next row, and what there is.
+// Stays: one `Ended<T>` of `Progress`, `EnteredRule`, `Expressed` and `Decimal` would call `item` what is `state`, `space`, `outcome` and `value`.
 #[derive(Clone, Copy)]
 pub struct Progress {
     pub next: usize,

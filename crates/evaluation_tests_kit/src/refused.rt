@@ -87,10 +87,7 @@ fn damaged(signature: StoredSignature) -> StoredSignature {
 
 // The place past the rows, where no term stands.
 fn past(term: Source) -> Source {
-    Source {
-        at: term.rows.len(),
-        ..term
-    }
+    term.from_row(term.rows.len())
 }
 
 // Lends a damaged signature, and asks for a term past the rows.

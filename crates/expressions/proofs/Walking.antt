@@ -5,6 +5,7 @@ use mathlib.Core.Path.{◌≡◌, refl, sym, ap, ap₂, ◌∙◌, subst}
 use mathlib.Core.List.{List, [], ◌∷◌}
 use lib.ListN.{length, get_or, set, take, drop, length-set}
 use lib.Seq.{get_or-set_same, get_or-set_other, get_or-drop, get_or-take, length-take-le}
+use Rattle.std.proofs.Common.{length-take}
 use borrow.Author.Tests.{eq-eqb, ne_eqb}
 use Rattle.terms.specs.Numbers.{by_same}
 use Rattle.terms.specs.Term.{Term, Terms, nil, cons, append}
@@ -54,6 +55,10 @@ extend_more : (vs : Terms) (ps : Tree several) (v : Term) (qs : Tree several) (o
     → extend vs ps (if_evaluated o (λ us rs e. evaluated (cons v us) (joined qs rs) e)) ≡ extend (append vs (cons v nil)) (joined ps qs) o
 extend_more vs ps v qs (failed e) = refl
 extend_more vs ps v qs (evaluated us rs c) = ap₂ (λ (x : Terms) (y : Tree several). evaluated x y c) (append_more vs v us) (joined_joined ps qs rs)
+
+-- A number among those of a part of a row is one of as many as the part was to have.
+pub inside_part : (row : List ℕ) (a : ℕ) {k : ℕ} → k < length (take (8 + a - 8) (drop 8 row)) → k < a
+inside_part row a h = omega (arith, length-take (8 + a - 8) (drop 8 row))
 
 rest_drop : (k : ℕ) (l : List ℕ) → rest (drop k l) ≡ drop (suc k) l
 rest_drop zero [] = refl

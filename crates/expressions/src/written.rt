@@ -13,6 +13,7 @@ use names::{Source, Word};
 use refusals::Refusal;
 
 // A term that has a value: the value with what is spent then, and the row behind the term.
+// Stays: one `Ended<T>` of `Progress`, `EnteredRule`, `Expressed` and `Decimal` would call `item` what is `state`, `space`, `outcome` and `value`.
 #[derive(Clone, Copy)]
 pub struct Expressed {
     pub outcome: Outcome,
@@ -42,12 +43,16 @@ fn application(
     let mut values = [0u32; INPUTS as usize];
     let mut p = first.at;
     let mut spent = before;
-    for k in 0..arguments {
-        let term = Source { at: p, ..first };
+    // Stays: as at `names::put_column`, nothing would be known of what is written behind a `zip`.
+    for (k, sort) in program.symbols[i][FIRST_INPUT..FIRST_INPUT + arguments]
+        .iter()
+        .enumerate()
+    {
+        let term = first.from_row(p);
         let argument = expression(term, program, depth + 1, spent, store)?;
         let value = argument.outcome.value;
         let header = store.words[value as usize];
-        if sort_of(program.symbols, header) != program.symbols[i][FIRST_INPUT + k] {
+        if sort_of(program.symbols, header) != *sort {
             return Err(Refusal::WrongSort);
         }
         values[k] = value;
@@ -104,10 +109,7 @@ pub fn expression(
             )?;
             let arguments = row[3] as usize;
             check_use(&program.symbols[i], arguments)?;
-            let first = Source {
-                at: term.at + 1,
-                ..term
-            };
+            let first = term.from_row(term.at + 1);
             application(first, arguments, program, i, depth, spent, store)
         }
     }

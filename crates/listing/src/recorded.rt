@@ -48,6 +48,7 @@ pub fn value_after(refusal: Refusal) -> u32
 }
 
 // A decimal number of a list and the place past it and the byte that ends it.
+// Stays: one `Ended<T>` of `Progress`, `EnteredRule`, `Expressed` and `Decimal` would call `item` what is `state`, `space`, `outcome` and `value`.
 #[derive(Clone, Copy)]
 pub struct Decimal {
     pub value: u32,

@@ -79,7 +79,7 @@ pub fn enter_sort(
 }
 
 // May a symbol with k inputs be entered by a name?
-// Stays: k is how many inputs the symbol has, not how many bytes of the word are meant.
+// Stays: `k` is how many inputs the symbol has, not how many bytes of the word are meant.
 pub fn check_symbol(known: Known, word: &[u8], k: usize) -> Result<(), Refusal>
     ensures { RefusedFor (symbol_refusal (sorts_known known.entry) (symbols_known known.entry) word.now k) result }
 {

@@ -88,6 +88,7 @@ pub fn tactic(input: Input, from: Position, out: &mut [[u32; 4]]) -> Result<Read
         at: from.at + 3,
         ..from
     };
+    // Stays: the kind is a number in a token's row and may be that of a name or a sign; an enum would be made by the same `match`, only to be matched again.
     match peek(input.tokens, from.at + 2).kind {
         AUTO => Ok(Read {
             position: behind,

@@ -20,6 +20,7 @@ pub const APPLICATION: u32 = 24;
 pub const PARENTHESES: u32 = 64;
 
 // A token: the numbers of its row.
+// Stays: the row that it is read from is lent, of any kind, and past the end its kind is 0; an enum would be made at each `peek`, to be compared once.
 #[derive(Clone, Copy)]
 pub struct Token {
     pub kind: u32,

@@ -38,7 +38,7 @@ pub fn arrows(input: Input, from: Position, out: &mut [[u32; 4]]) -> Result<Read
 }
 
 // `x y z`, up to a colon
-// Stays: as `items::list`, but with `Bound` for `Next<Name>`; one function of both would have two ghost types of items, and no bound makes them one.
+// Stays: as `items::list`, but with `Bound` for `Next<Name>`; a trait of both with a first item's grammar and reader takes 18 lines, and this body 6.
 pub fn names(input: Input, from: Position, out: &mut [[u32; 4]]) -> Result<Read, Rejection>
     requires { Room input.tokens.now from.at from.used out.old }
     ensures { ReadsList 1 name_rows (λ _. names_of) input.entry from out.old (step result) out.new }

@@ -29,6 +29,7 @@ pub fn apply(
         return Ok(read);
     }
     let row = out[root];
+    // Stays: a kind is a number in these rows, which C lends; an enum would be made by the same `match`, only to be matched again.
     match row {
         [NAME, start, length, _] => {
             out[root] = [APPLICATION, start, length, more];
@@ -39,6 +40,7 @@ pub fn apply(
 }
 
 // The term whose rows start at `root`, with the term behind it, up to the place `from`, as its last argument.
+// Stays: with `apply` it shares the arm of a name alone; one function of both would get the number and the refusal, and a flag for the second arm.
 pub fn equate(
     input: Input,
     from: Position,
@@ -54,6 +56,7 @@ pub fn equate(
         count: 1,
     };
     let row = out[root];
+    // Stays: a kind is a number in these rows, which C lends; an enum would be made by the same `match`, only to be matched again.
     match row {
         [NAME, start, length, _] => {
             out[root] = [APPLICATION, start, length, 1];
