@@ -1,6 +1,8 @@
 -- Laws of numbers in decimal: the last digit stands behind the digits of a tenth.
 use Rattle.std.specs.Prelude.{ℕ, zero, suc, ◌+◌, ◌*◌, ◌/◌, ◌%◌, ◌≤◌, ◌<◌, ◌≡◌, List, [], ◌∷◌, ◌++◌, length}
 use Rattle.std.proofs.Common.{arith, sym, ap, ◌∙◌, length-append, lt-ltb, le-ltb}
+use Rattle.std.specs.Fmt.{decimal}
+use Rattle.std.proofs.lemmas.Fmt.{decimal_by_steps}
 use Rattle.terms.specs.Numbers.{by_less}
 use Rattle.names.specs.Names.{digits}
 use Rattle.byte_output.specs.Output.{numeral, Written}
@@ -46,6 +48,13 @@ module _ (out : List ℕ) (at n : ℕ) (room : at + length (numeral n) ≤ lengt
     pub number_written : {next last : ℕ} {out' out'' : List ℕ} → Written out at (numeral (n / 10)) next out' → Written out' next ((48 + n % 10) ∷ []) last out''
         → Written out at (numeral n) last out''
     number_written v w = written_as (and_then v w) (sym (numeral_more n l m))
+
+-- They are the library's digits.
+pub numeral_decimal : (n : ℕ) → n < 4294967296 → decimal n ≡ numeral n
+numeral_decimal n l = decimal_by_steps (λ m ds. m < 10000000000 → ds ≡ numeral m)
+    (λ m s k. sym (numeral_digit m s))
+    (λ m ds g h k. ap (λ (d : List ℕ). d ++ ((48 + m % 10) ∷ [])) (h (omega arith)) ∙ sym (numeral_more m g k))
+    n (omega arith) (omega arith)
 
 -- A number has at most ten digits.
 digits_short : (k n : ℕ) → length (digits k n) ≤ k + 1

@@ -30,17 +30,12 @@ impl Output<'_> {
         self.at = end;
     }
 
-    // Writes a number in decimal: the digits of its tenth, and then its last digit. A number of 32 bits has at most ten digits.
-    // Stays: `write!` has digits only where it answers `Ok`; `itoa` has them outright, but as std's `decimal`, which no law here equates with `digits`.
+    // Writes a number in decimal. A number of 32 bits has at most ten digits.
     pub fn write_decimal(&mut self, number: u32)
         requires { self.old.at + length (numeral number) ≤ length self.old.bytes.now }
         ensures { IsWritten self.old self.new (numeral number) }
     {
-        if number < 10 {
-            self.write_byte(b'0' + number as u8);
-            return;
-        }
-        self.write_decimal(number / 10);
-        self.write_byte(b'0' + (number % 10) as u8);
+        let mut digits = itoa::Buffer::new();
+        self.write(digits.format(number).as_bytes());
     }
 }

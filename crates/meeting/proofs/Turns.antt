@@ -5,6 +5,7 @@ use native.Mathlib.Numerals.{add-one}
 use mathlib.Core.Path.{◌≡◌, refl, sym, ap, ◌∙◌, subst}
 use mathlib.Core.Bool.{Bool, true, false}
 use mathlib.Core.List.{List, [], ◌∷◌}
+use mathlib.Core.Logic.{∥∥₁_map}
 use lib.ListN.{length, set, length-set}
 use lib.Seq.{get_or-set_same, get_or-set_other}
 use Rattle.terms.specs.Numbers.{by_same, by_less, true_false}
@@ -17,7 +18,7 @@ use Rattle.arena.specs.Rows.{Rows, column}
 use Rattle.resolution.specs.Fresh.{met}
 use Rattle.resolution.specs.Search.{words}
 use Rattle.resolution.specs.WordLaws.{words_append}
-use Rattle.meeting.specs.Places.{Records, Given}
+use Rattle.meeting.specs.Places.{Records, Given, Known}
 use Rattle.meeting.specs.PlaceLaws.{given_kept, records_met}
 use Rattle.meeting.specs.Contract.{term_of, Ready, Walked}
 use Rattle.std.specs.Prelude.{Option, Some}
@@ -39,6 +40,7 @@ pub record Turn (pattern : List ℕ) (reference : ℕ) (table₀ : List (Option 
     (given spent depth next : ℕ) (waiting : Bool) : Type 0 where
   pub ready : Ready pattern reference most stack₀
   pub long : pattern_room ≤ length table
+  pub sized : length table ≡ length table₀
   pub keeps : length stack ≡ length stack₀
   -- each open row was paid for with a word
   pub enough : spent ≤ most
@@ -60,6 +62,7 @@ pub turn_start : {pattern : List ℕ} {reference : ℕ} {table : List (Option �
 turn_start l h = record {
   ready = h;
   long = l;
+  sized = refl;
   keeps = refl;
   enough = omega arith;
   deep = omega arith;
@@ -72,6 +75,10 @@ turn_start l h = record {
 module _ {pattern : List ℕ} {reference : ℕ} {table₀ : List (Option ℕ)} {count most : ℕ} {stack₀ : Rows} {table : List (Option ℕ)} {stack : Rows}
     {given spent depth next : ℕ} {waiting : Bool}
     (h : Turn pattern reference table₀ count most stack₀ table stack given spent depth next waiting) where
+  -- Table and count are those of some variables, as at the start.
+  pub turn_known : Known table₀ count → Known table given
+  turn_known k = ∥∥₁_map k (λ p. let r = h.meets p.0 p.1 in (r.f, r.records))
+
   -- A term waits.
   module _ (q : waiting ≡ true) where
     abbrev here : Turn pattern reference table₀ count most stack₀ table stack given spent depth next true
@@ -92,6 +99,7 @@ module _ {pattern : List ℕ} {reference : ℕ} {table₀ : List (Option ℕ)} {
           record {
             ready = h.ready;
             long = omega arith;
+            sized = kept ∙ h.sized;
             keeps = h.keeps;
             enough = h.enough;
             deep = h.deep;
@@ -160,6 +168,7 @@ module _ {pattern : List ℕ} {reference : ℕ} {table₀ : List (Option ℕ)} {
         turn_enter = record {
           ready = h.ready;
           long = h.long;
+          sized = h.sized;
           keeps = length-set stack depth ((address + 1) ∷ arity ∷ []) ∙ h.keeps;
           enough = omega arith;
           deep = let d = h.deep in omega arith;
@@ -238,6 +247,7 @@ module _ {pattern : List ℕ} {reference : ℕ} {table₀ : List (Option ℕ)} {
             record {
               ready = h.ready;
               long = h.long;
+              sized = h.sized;
               keeps = h.keeps;
               enough = h.enough;
               deep = let d = h.deep in omega arith;
@@ -279,6 +289,7 @@ module _ {pattern : List ℕ} {reference : ℕ} {table₀ : List (Option ℕ)} {
             record {
               ready = h.ready;
               long = h.long;
+              sized = h.sized;
               keeps = length-set stack last ((at + 1) ∷ (rest - 1) ∷ []) ∙ h.keeps;
               enough = h.enough;
               deep = h.deep;

@@ -1,44 +1,24 @@
 -- Laws of tables of places: a table for no variables, one variable met, and which variables were met in the order of their numbers.
-use Rattle.std.specs.Prelude.{ℕ, zero, suc, ◌+◌, ◌≤◌, ◌<◌, ◌≡◌, refl, ◌≢◌, Bool, true, false, ◌||◌, cond, Option, Some, None, List, [], ◌∷◌, ◌++◌, get_or, length, set, replicate, zip}
-use Rattle.std.specs.Option.{is_some}
+use Rattle.std.specs.Prelude.{ℕ, zero, suc, ◌+◌, ◌≤◌, ◌<◌, ◌≡◌, refl, ◌≢◌, Bool, true, false, ◌||◌, cond, Option, Some, None, List, [], ◌∷◌, ◌++◌, get_or, length, replicate, zip}
 use Rattle.std.specs.List.{list_all, range_with_len}
 use Rattle.std.proofs.Common.{arith, not-suc-le-zero, sym, ap, ◌∙◌, length-set, length-append, get_or-set_same, get_or-set_other, ext_get_or}
 use Rattle.std.proofs.lemmas.Bool.{eqb-true, eq-eqb}
 use Rattle.std.proofs.Math.ListN.{get_or-append}
 use Rattle.std.proofs.Math.Seq.{get_or-append_seam}
+use mathlib.Core.Logic.{∥∥₁_elim}
 use Rattle.terms.specs.Numbers.{same, by_bool, true_false, same_refl, same_true, same_ne, by_same, by_less, or_false}
 use Rattle.terms.specs.Term.{Kind, Syn, var, app, nil, cons, Below}
 use Rattle.arena.specs.Copies.{pattern_room}
 use Rattle.resolution.specs.Fresh.{elem, met, place}
 use Rattle.resolution.specs.FreshLaws.{Grows}
 use Rattle.resolution.proofs.FreshLaws.{covers_grows, elem_last, place_append, place_lt, at_place}
-use Rattle.meeting.specs.Places.{Variables, Placed, Records, Given, placed_count, is_place, in_order, place_numbers, numbers_below}
+use Rattle.meeting.specs.Places.{Variables, Placed, Records, Given, Known, is_place, in_order, place_numbers, numbers_below}
 
 some_none : {p : ℕ} → Some p ≡ None → ⊥
 some_none q = let z : ◌≡◌ {A = ℕ} 0 1 = cc in omega arith
 
 pub some_one : {p q : ℕ} → Some p ≡ Some q → p ≡ q
 some_one h = cc
-
-pub not_some : (p : Option ℕ) → is_some p ≡ false → p ≡ None
-not_some None h = refl
-not_some (Some p) h = true_false refl h
-
--- No table has more places than variables,
-pub placed_most : (table : List (Option ℕ)) → placed_count table ≤ length table
-unfolding placed_count
-placed_most [] = omega arith
-placed_most (None ∷ table) = let h = placed_most table in omega arith
-placed_most (Some p ∷ table) = let h = placed_most table in omega arith
-
--- and a variable that is given a place is one more that has one.
-pub placed_more : (table : List (Option ℕ)) (x place : ℕ) → x < length table → get_or table x None ≡ None → placed_count (set table x (Some place)) ≡ suc (placed_count table)
-unfolding placed_count
-placed_more [] x place l h = absurd (not-suc-le-zero l)
-placed_more (None ∷ table) zero place l h = refl
-placed_more (Some p ∷ table) zero place l h = absurd (some_none h)
-placed_more (None ∷ table) (suc x) place l h = placed_more table x place (omega arith) h
-placed_more (Some p ∷ table) (suc x) place l h = ap suc (placed_more table x place (omega arith) h)
 
 -- A table in which no variable has a place.
 pub records_none : (table : List (Option ℕ)) → ((x : ℕ) → x < pattern_room → get_or table x None ≡ None) → Records [] table 0
@@ -108,6 +88,12 @@ among_all (x ∷ e) v = among_more x e pattern_room v.0 v.1 ∙ ap suc (among_al
 -- There are no more variables than there is room for.
 pub variables_few : (e : List ℕ) → Variables e → length e ≤ pattern_room
 variables_few e v = let a = among_all e v in let b = among_most e pattern_room in omega arith
+
+-- So the count of a table is no more than that.
+pub known_few : {table : List (Option ℕ)} {count : ℕ} → Known table count → count ≤ pattern_room
+known_few {count = count} k = by_less pattern_room count
+    (λ l e. absurd (∥∥₁_elim k (λ x y. absurd x) (λ p. let f = variables_few p.0 p.1.variables in let c = p.1.counted in let z : ⊥ = omega arith in z)))
+    (λ l e. l)
 
 -- A variable that was met has its place in the table.
 pub placed_yes : (e : List ℕ) (table : List (Option ℕ)) (x : ℕ) → Placed e table → x < pattern_room → elem x e ≡ true → get_or table x None ≡ Some (place e x)

@@ -13,17 +13,15 @@ Variables (x ∷ e) = (x < pattern_room) × (elem x e ≡ false) × Variables e
 abbrev pub Placed : List ℕ → List (Option ℕ) → Type 0
 Placed e table = (x : ℕ) → x < pattern_room → get_or table x None ≡ cond (elem x e) (Some (place e x)) None
 
--- How many variables have places in a table.
-unfoldable pub placed_count : List (Option ℕ) → ℕ
-placed_count [] = 0
-placed_count (None ∷ table) = placed_count table
-placed_count (Some p ∷ table) = suc (placed_count table)
-
 -- Table and count are those of the variables e, in meeting order.
 pub record Records (e : List ℕ) (table : List (Option ℕ)) (count : ℕ) : Type 0 where
   pub variables : Variables e
   pub placed : Placed e table
   pub counted : count ≡ length e
+
+-- They are those of some variables.
+abbrev pub Known : List (Option ℕ) → ℕ → Type 0
+Known table count = ∥ ((e : List ℕ) × Records e table count) ∥₁
 
 -- What meeting the variable x does to table and count.
 pub record Given (table : List (Option ℕ)) (x count count' : ℕ) (table' : List (Option ℕ)) : Type 0 where

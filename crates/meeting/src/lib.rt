@@ -4,7 +4,7 @@
 
 ghost use Rattle.std.specs.Prelude.{◌≡◌, ◌<◌, ◌≤◌, ℕ, List, [], length, get_or};
 ghost use Rattle.arena.specs.Copies.{pattern_room};
-ghost use Rattle.meeting.specs.Places.{Records, Given, placed_count, is_place, in_order};
+ghost use Rattle.meeting.specs.Places.{Records, Given, Known, is_place, in_order};
 ghost use Rattle.arena.specs.Cells.{terms_of};
 ghost use Rattle.resolution.specs.Fresh.{met_back};
 ghost use Rattle.meeting.specs.Contract.{term_of, Ready, Walked, WholeAsked};
@@ -16,7 +16,7 @@ use arena::{PATTERN_ROOM, arity_of};
 pub struct Places {
     pub places: [Option<u32>; PATTERN_ROOM as usize],
     pub count: u32,
-    ghost counted: { count ≡ placed_count places },
+    ghost known: { Known places count },
     ghost long: { length places ≡ pattern_room },
 }
 
@@ -31,20 +31,7 @@ impl Places {
         }
     }
 
-    // Gives the variable x the next place if it has none.
-    fn give(&mut self, x: u32)
-        requires { x < pattern_room }
-        ensures { Given self.old.places x self.old.count self.new.count self.new.places }
-    {
-        let place = self.places[x as usize];
-        if place.is_none() {
-            self.places[x as usize] = Some(self.count);
-            self.count += 1;
-        }
-    }
-
-    // Meets the variables of a pattern's term from left to right, and answers how many words the term takes; none if these are more than `most`. The
-    // stack has a row for each word, since a node takes at least one.
+    // Meets the variables of a pattern's term from left to right: `meet` of the table and the count.
     pub fn meet(
         &mut self,
         words: &[u32],
@@ -55,42 +42,14 @@ impl Places {
         requires { Ready words.now reference most stack.old }
         ensures { Walked words.now reference self.old.places self.old.count most result self.new.places self.new.count }
     {
-        // A row of the stack is an open node: the address of its next argument, and how many arguments are left. `waiting` is the reference to be met next.
-        let mut spent = 0;
-        let mut depth: usize = 0;
-        let mut waiting = Some(reference);
-        loop {
-            match waiting.take() {
-                Some(next) => {
-                    // Stays: by `checked_sub` it is as many lines, and `meet` takes 5.7 % more instructions (729,128 for 689,523, over 24,587 words): tried.
-                    if next < PATTERN_ROOM {
-                        self.give(next);
-                    } else {
-                        let address = next - PATTERN_ROOM;
-                        let arity = arity_of(words[address as usize]);
-                        if most - spent <= arity {
-                            return None;
-                        }
-                        spent += arity + 1;
-                        stack[depth] = [address + 1, arity];
-                        depth += 1;
-                    }
-                }
-                None => {
-                    let Some(row) = depth.checked_sub(1) else {
-                        return Some(spent);
-                    };
-                    let [at, left] = stack[row];
-                    match left.checked_sub(1) {
-                        None => depth = row,
-                        Some(rest) => {
-                            stack[row] = [at + 1, rest];
-                            waiting = Some(words[at as usize]);
-                        }
-                    }
-                }
-            }
-        }
+        meet(
+            words,
+            reference,
+            &mut self.places,
+            &mut self.count,
+            most,
+            stack,
+        )
     }
 
     // Meets the variables of several patterns' terms from the last to the first, each from left to right. None of the terms takes more than `most` words.
@@ -117,8 +76,75 @@ impl Places {
     }
 }
 
+// Gives the variable x the next place if it has none.
+fn give(places: &mut [Option<u32>], count: &mut u32, x: u32)
+    requires { (x < length places.old) × (count.old ≤ pattern_room) }
+    ensures { Given places.old x count.old count.new places.new }
+{
+    let place = places[x as usize];
+    if place.is_none() {
+        places[x as usize] = Some(*count);
+        *count += 1;
+    }
+}
+
+// Meets the variables of a pattern's term from left to right, and answers how many words the term takes; none if these are more than `most`. Table and
+// count are those of the variables met before. The stack has a row for each word, since a node takes at least one.
+pub fn meet(
+    words: &[u32],
+    reference: u32,
+    places: &mut [Option<u32>],
+    count: &mut u32,
+    most: u32,
+    stack: &mut [[u32; 2]],
+) -> Option<u32>
+    requires ready { Ready words.now reference most stack.old }
+    requires long { pattern_room ≤ length places.old }
+    requires known { Known places.old count.old }
+    ensures walked { Walked words.now reference places.old count.old most result places.new count.new }
+    ensures known { Known places.new count.new }
+    ensures kept { length places.new ≡ length places.old }
+{
+    // A row of the stack is an open node: the address of its next argument, and how many arguments are left. `waiting` is the reference to be met next.
+    let mut spent = 0;
+    let mut depth: usize = 0;
+    let mut waiting = Some(reference);
+    loop {
+        match waiting.take() {
+            Some(next) => {
+                // Stays: by `checked_sub` it is as many lines, and `meet` takes 5.7 % more instructions (729,128 for 689,523, over 24,587 words): tried.
+                if next < PATTERN_ROOM {
+                    give(places, count, next);
+                } else {
+                    let address = next - PATTERN_ROOM;
+                    let arity = arity_of(words[address as usize]);
+                    if most - spent <= arity {
+                        return None;
+                    }
+                    spent += arity + 1;
+                    stack[depth] = [address + 1, arity];
+                    depth += 1;
+                }
+            }
+            None => {
+                let Some(row) = depth.checked_sub(1) else {
+                    return Some(spent);
+                };
+                let [at, left] = stack[row];
+                match left.checked_sub(1) {
+                    None => depth = row,
+                    Some(rest) => {
+                        stack[row] = [at + 1, rest];
+                        waiting = Some(words[at as usize]);
+                    }
+                }
+            }
+        }
+    }
+}
+
 // Whether each variable below `count` has its own number as its place.
-// Stays: with `&places[..count]` lent, the promise would be of that part, and the method, which promises it of the table, would need a law for it.
+// Stays: public, it takes any table with a count, as before; of a table of 64 alone it would ask more of its callers.
 pub fn is_in_order(places: &[Option<u32>], count: u32) -> bool
     requires { count ≤ length places.now }
     ensures { result ≡ in_order places.now count }

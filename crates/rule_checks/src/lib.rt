@@ -67,12 +67,11 @@ fn are_numbers(text: &[u8], rule: &RuleRow, from: u32, used: u32) -> bool
     are_sizes(used - from, rule[PREMISE_WORDS], rule[CONCLUSION_WORDS])
 }
 
-// Whether columns are zero.
-// Stays: `slices::are_all` promises `list_all`; that it tells of each column, as contracts here say it, is proved here once and not at four calls.
+// Whether columns are zero: that `are_all` tells of each column, as contracts here say it, is proved here once.
 pub fn are_zeros(columns: &[u32]) -> bool
     ensures { IsTrue result ↔ EachIndex columns.now (λ k. slice_index columns.now k ≡ 0) }
 {
-    columns.iter().all(|column| *column == 0)
+    slices::are_all(columns, 0, 0)
 }
 
 // Whether sorts are there, of which there are so many.
@@ -99,7 +98,7 @@ fn are_columns(rule: &RuleRow, sorts: u32) -> bool
     if !are_zeros(&rule[FIRST_PLACE + variables..]) {
         return false;
     }
-    are_sorts(&rule[FIRST_SORT..FIRST_SORT + variables], sorts)
+    are_sorts(rules::part_of_row(rule, FIRST_SORT, rule[VARIABLES]), sorts)
 }
 
 // Whether references are of the part of the words in use from `from` on.

@@ -3,12 +3,12 @@
 // All functions here serve the crates above: they ask for storage of the listed sizes.
 #![tactic(auto)]
 
-ghost use Rattle.std.specs.Prelude.{◌≡◌, [], ℕ, ◌≤◌, length, nat_lt};
+ghost use Rattle.std.specs.Prelude.{◌≡◌, [], ℕ, ◌+◌, ◌≤◌, length, nat_lt};
 ghost use Rattle.std.specs.List.{list_all};
 ghost use mathlib.Core.List.{List};
 ghost use Rattle.std.proofs.lemmas.List.Edits.{sets};
 ghost use Rattle.names.specs.Named.{symbols_named};
-ghost use Rattle.names.specs.Symbols.{column, variables_of};
+ghost use Rattle.names.specs.Symbols.{column, columns, variables_of};
 ghost use Rattle.meeting.specs.Places.{place_numbers};
 ghost use Rattle.patterns.specs.Promises.{Ready};
 ghost use Rattle.rules.specs.StoredRows.{rule_row, heads_in, places_in};
@@ -39,13 +39,21 @@ pub const RULE_WORDS: usize = 2 * RULE_NODES;
 
 pub const RULES: usize = 1024;
 
+// So many columns of a rule's row, from one on.
+pub fn part_of_row(row: &RuleRow, first: usize, count: u32) -> &[u32]
+    requires { first + count ≤ 154 }
+    ensures { result.now ≡ columns row.now first count }
+{
+    let end = first + count as usize;
+    &row[first..end]
+}
+
 // The references of a rule's premises: the part of its row that has them.
 pub fn premises(row: &RuleRow) -> &[u32]
     requires { column row.now 4 ≤ 16 }
     ensures { result.now ≡ heads_in row.now }
 {
-    let end = FIRST_PREMISE + row[columns::PREMISES] as usize;
-    &row[FIRST_PREMISE..end]
+    part_of_row(row, FIRST_PREMISE, row[columns::PREMISES])
 }
 
 // The places of a rule's variables: the part of its row that has them.
@@ -53,8 +61,7 @@ pub fn places(row: &RuleRow) -> &[u32]
     requires { column row.now 3 ≤ 64 }
     ensures { result.now ≡ places_in row.now }
 {
-    let end = FIRST_PLACE + row[columns::VARIABLES] as usize;
-    &row[FIRST_PLACE..end]
+    part_of_row(row, FIRST_PLACE, row[columns::VARIABLES])
 }
 
 // How many words are used, and the room for nodes left.

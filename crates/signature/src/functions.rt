@@ -75,7 +75,7 @@ fn is_clause(words: &[u32], rule: &RuleRow, symbols: &[SymbolRow], i: usize) -> 
 }
 
 // Are all clauses of the symbol i in form?
-// Stays: `function_calls::call` cuts its clauses so too; one function for both would save three lines, for a contract, an edit and laws in both crates.
+// Stays: `function_calls::call` cuts its clauses so too, from the same two columns; one function for both is nine lines with its contract, and saves four.
 fn are_clauses_of(words: &[u32], rules: &[RuleRow], symbols: &[SymbolRow], i: usize) -> bool
     requires { ClausesAsked symbols.now rules.now × (i < length symbols.now) }
     ensures { (text : List ℕ) → Tells result (ClausesOf text symbols.now (length symbols.now) rules.now words.now i) }

@@ -4,7 +4,6 @@
 #![tactic(auto)]
 
 ghost use Rattle.std.specs.Prelude.{◌≡◌, ◌≤◌, ◌+◌, take};
-ghost use Rattle.source_text.specs.Parts.{part_of};
 ghost use Rattle.signature_listing.specs.Nodes.{arity_at};
 
 use arena::{HEADERS, PATTERN_ROOM, symbol_of};
@@ -17,17 +16,6 @@ use signature::columns::{
     ARITY, CLAUSE, CLAUSES, CONCLUSION, CONCLUSION_WORDS, FIRST_CLAUSE, FIRST_INPUT, FIRST_PLACE,
     FIRST_PREMISE, FIRST_SORT, FIRST_WORD, MARK, MET, OUTPUT, PREMISE_WORDS, PREMISES, VARIABLES,
 };
-
-// So many of the numbers from a place on, none where there are not as many.
-// Stays: `source_text::word` is this for bytes; one of any type, in `slices`, would save five lines, for a contract, a definition of any type and an edit.
-fn numbers_from<'a>(numbers: &'a [u32], start: usize, count: usize) -> &'a [u32]
-    ensures { result.now ≡ part_of numbers.now start count }
-{
-    numbers
-        .get(start..)
-        .and_then(|rest| rest.get(..count))
-        .unwrap_or(&[])
-}
 
 fn write_numbers(numbers: &[u32]) {
     for number in numbers {
@@ -73,13 +61,13 @@ fn list_references(row: &RuleRow) {
     let premises = row[PREMISES] as usize;
     let first = row[FIRST_WORD];
     write(b"  premises");
-    write_references(numbers_from(row, FIRST_PREMISE, premises), first);
+    write_references(slices::part(row, FIRST_PREMISE, premises), first);
     write(b" conclusion");
     write_reference(row[CONCLUSION], first);
     write(b" met ");
     write_number(row[MET]);
     write(b" places");
-    write_numbers(numbers_from(row, FIRST_PLACE, variables));
+    write_numbers(slices::part(row, FIRST_PLACE, variables));
     write(b"\n");
 }
 
@@ -154,7 +142,7 @@ impl NamedSignature<'_> {
         self.write_name(Word::at_start(row));
         write(b" :");
         let inputs = row[ARITY] as usize;
-        self.write_sorts(numbers_from(row, FIRST_INPUT, inputs));
+        self.write_sorts(slices::part(row, FIRST_INPUT, inputs));
         write(b" -> ");
         self.write_sort(row[OUTPUT]);
         write_clauses(row);
@@ -187,7 +175,7 @@ impl NamedSignature<'_> {
         write(b" ");
         self.write_symbol(symbol_of(header));
         let arity = arena::arity_of(header);
-        write_references(numbers_from(words, address + 1, arity as usize), first);
+        write_references(slices::part(words, address + 1, arity as usize), first);
         write(b"\n");
         1 + arity
     }
@@ -220,7 +208,7 @@ impl NamedSignature<'_> {
         self.write_rule_name(row);
         write(b" vars");
         let variables = row[VARIABLES] as usize;
-        self.write_sorts(numbers_from(row, FIRST_SORT, variables));
+        self.write_sorts(slices::part(row, FIRST_SORT, variables));
         write(b"\n");
     }
 

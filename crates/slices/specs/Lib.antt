@@ -1,2 +1,3 @@
 -- What the contracts of `slices` and of the crates above it cite.
 pub mod Rows
+pub mod Parts

@@ -16,15 +16,10 @@ ghost use Rattle.source_text.specs.Parts.{part_of, NumeralRead};
 use numerals::value;
 
 // A word of a text, whole: the part of `length` bytes from `start` on. A place outside the text gives the empty part.
-// It is cut at once: cutting off the rest first takes two tests, and loading a text of many symbols 9 to 17 % more time.
-// Stays: `numbers_from` of `signature_listing` is this for numbers: see there why no function of any type, in `slices`, serves both.
 pub fn word<'a>(text: &'a [u8], start: usize, length: usize) -> &'a [u8]
     ensures { result.now ≡ part_of text.now start length }
 {
-    start
-        .checked_add(length)
-        .and_then(|end| text.get(start..end))
-        .unwrap_or(&[])
+    slices::part(text, start, length)
 }
 
 // The value of the numeral at a place of a text; none where it is too large, the refusal 5.

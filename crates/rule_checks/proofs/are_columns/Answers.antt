@@ -2,6 +2,8 @@
 -- Each way out is one of the tests of the columns, of a part of the row.
 use Rattle.std.proofs.Common.{◌≡◌, ℕ, ◌<◌, ◌≤◌, arith}
 use Rattle.names.specs.Symbols.{column}
+use Rattle.names.specs.SearchLaws.{part_columns}
+use mathlib.Core.Path.{sym, ◌∙◌}
 use Rattle.terms.specs.Numbers.{true_false}
 use Rattle.unifier.specs.Checking.{tells_no}
 use Rattle.rule_checks.proofs.PartLaws.{columns_each, each_columns}
@@ -34,12 +36,13 @@ returns c =
     let row = c.args.rule.now in
     let few = c.requires.0 in
     let long = c.told-rule in
+    let part = part_columns row 26 (column row 3) (omega arith) ∙ sym c.part_of_row.ensures in
     record {
       yes = λ e. record {
         heads_clear = columns_each row 10 (column row 4) 16 Zero (omega arith) (c.are_zeros.ensures.0 c.if-not-are_zeros.false);
         sorts_clear_lem = columns_each row 26 (column row 3) 64 Zero (omega arith) (c.are_zeros-2.ensures.0 c.if-not-are_zeros-2.false);
         places_clear = columns_each row 90 (column row 3) 64 Zero (omega arith) (c.are_zeros-3.ensures.0 c.if-not-are_zeros-3.false);
-        sorted = λ j. columns_each row 26 0 (column row 3) (Sort c.args.sorts) (omega arith) (c.are_sorts.ensures.0 e) j (omega arith);
+        sorted = λ j. columns_each row 26 0 (column row 3) (Sort c.args.sorts) (omega arith) (rw part (c.are_sorts.ensures.0 e)) j (omega arith);
       };
-      back = λ h. c.are_sorts.ensures.1 (each_columns row 26 0 (column row 3) (Sort c.args.sorts) (omega arith) (λ j _. h.sorted j));
+      back = λ h. c.are_sorts.ensures.1 (rw part at (each_columns row 26 0 (column row 3) (Sort c.args.sorts) (omega arith) (λ j _. h.sorted j)));
     }

@@ -2,21 +2,32 @@
 -- variables that the table records, comes to meeting the whole. What falls: words left to spend, arguments left on the stack, rows to close.
 use mathlib.Core.Path.{refl, sym, ap, ◌∙◌}
 use Rattle.std.specs.Option.{is_some}
-use Rattle.meeting.proofs.Turns.{turn_start, turn_variable, turn_over, less_enter, turn_enter, turn_close, less_next, turn_next}
+use Rattle.meeting.specs.PlaceLaws.{known_few}
+use Rattle.meeting.proofs.Turns.{turn_start, turn_known, turn_variable, turn_over, less_enter, turn_enter, turn_close, less_next, turn_next}
 use native.Mathlib.Omega.{arith}
-use Rattle.meeting.proofs.Places.meet.Goals as goal
+use Rattle.meeting.proofs.meet.Goals as goal
 
 pub loop-next-preserved-then-next-lt-PATTERN_ROOM : goal.loop-next-preserved-then-next-lt-PATTERN_ROOM
 loop-next-preserved-then-next-lt-PATTERN_ROOM c =
     rw c.take.ensures.after (turn_variable (rw (sym c.take.ensures.value ∙ c.in-Some.is) at c.loop-next.invariant) refl c.if-next-lt-PATTERN_ROOM.true _ _ c.give.ensures)
 
+pub give-requires : goal.give-requires
+give-requires c =
+    let t = c.loop-next.invariant in
+    (let l = t.long in omega (arith, c.if-next-lt-PATTERN_ROOM.true), known_few (turn_known t c.requires.known))
+
 pub returns-then-most-spent : goal.returns-then-most-spent
 returns-then-most-spent c =
-    let o = turn_over (rw (sym c.take.ensures.value ∙ c.in-Some.is) at c.loop-next.invariant) refl c.if-next-lt-PATTERN_ROOM.false (rw c.arity_of-arity.ensures at c.if-most-spent.true) in
+    let t = c.loop-next.invariant in
+    let o = turn_over (rw (sym c.take.ensures.value ∙ c.in-Some.is) at t) refl c.if-next-lt-PATTERN_ROOM.false (rw c.arity_of-arity.ensures at c.if-most-spent.true) in
     record {
-      exceeded = λ l. refl;
-      answered = λ l. let z : ⊥ = omega arith in absurd z;
-      recorded = λ l. let z : ⊥ = omega arith in absurd z;
+      walked = record {
+        exceeded = λ l. refl;
+        answered = λ l. let z : ⊥ = omega arith in absurd z;
+        recorded = λ l. let z : ⊥ = omega arith in absurd z;
+      };
+      known = turn_known t c.requires.known;
+      kept = t.sized;
     }
 
 pub loop-next-smaller-else-next-lt-PATTERN_ROOM : goal.loop-next-smaller-else-next-lt-PATTERN_ROOM
@@ -48,4 +59,7 @@ loop-next-preserved c =
     rw (less, is) (turn_next c.loop-next.invariant (ap is_some (sym c.take.ensures.value ∙ c.in-None.is)) some (rw is at more))
 
 pub loop-next-init : goal.loop-next-init
-loop-next-init c = turn_start (omega arith) c.requires
+loop-next-init c = turn_start c.requires.long c.requires.ready
+
+pub returns-in_default-clause-known : goal.returns-in_default-clause-known
+returns-in_default-clause-known c = turn_known c.loop-next.invariant c.requires.known
