@@ -138,16 +138,14 @@ pub fn all_known(variables: &[VariableRow]) -> bool
     variables.iter().all(|row| 0 < row[SORT])
 }
 
-// A rule's terms: the references of its premises and of its conclusion, the words that hold them and how many of these are in use, and the most words of
-// one of them.
+// A rule's terms: the references of its premises and of its conclusion, the words in use, which hold them, and the most words of one of them.
 #[derive(Clone, Copy)]
 struct RuleTerms<'a> {
     heads: &'a [u32],
     conclusion: u32,
     words: &'a [u32],
-    used: usize,
     most: u32,
-    ghost asked: { OrderAsked words.now used heads.now conclusion most },
+    ghost asked: { OrderAsked words.now (length words.now) heads.now conclusion most },
 }
 
 // The places of a rule's variables in meeting order, and how many variables are met in the conclusion.
@@ -167,7 +165,6 @@ fn order(rule: RuleTerms, stack: &mut [[u32; 2]]) -> MeetingOrder
         conclusion,
         words,
         most,
-        ..
     } = rule;
     let mut places = Places::new();
     places.meet(words, conclusion, most, stack);
@@ -263,8 +260,7 @@ fn keep(
     let terms = RuleTerms {
         heads,
         conclusion,
-        words,
-        used,
+        words: &words[..used],
         most: (used - from) as u32,
     };
     let order = order_sized(terms);

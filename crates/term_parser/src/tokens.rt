@@ -33,7 +33,7 @@ pub fn held(text: &[u8], start: u32, length: u32) -> Option<u32>
     ensures { result ≡ held_of (numeral_of (part_of text.now start length)) }
 {
     let value = words::numeral(text, start as usize, length as usize)?;
-    Some(value.min(u64::from(u32::MAX)) as u32)
+    Some(u32::try_from(value).unwrap_or(u32::MAX))
 }
 
 // The same, 2^32 - 1 also where no numeral of 64 bits stands there.
