@@ -27,6 +27,7 @@ use refusals::Refusal;
 
 // A rule: start and length of its name, clause number + 1 (0: a written rule), number of variables, number of premises, reference of the conclusion, first
 // word, words of the premises, words of the conclusion, variables met in the conclusion; 16 references of premises; 64 sorts; 64 places in meeting order.
+// Stays: C lends rows of any numbers; that premises are at most 16 and variables 64 is asked at each read, as a struct with it would be made for that alone.
 pub type RuleRow = [u32; END];
 
 // Most rules have few words, and a walk through few words needs a small stack only.
