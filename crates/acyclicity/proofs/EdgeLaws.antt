@@ -8,13 +8,18 @@ use lib.ListN.{length}
 use denote.Ref.{Bor}
 use Rattle.std.specs.Prelude.{Option, Some, None}
 use Rattle.std.specs.Slice.{IsItemAt}
-use Rattle.std.specs.Option.{option_copied}
+use Rattle.std.specs.Option.{option_copied, SomeIff}
 use Rattle.terms.specs.Numbers.{less_yes, less_no, same_refl, same_ne, by_same, by_less}
 use Rattle.arena.specs.Cells.{headers, Cells, cells, arity_of, Reference, low_or_high, reference_up}
 use Rattle.arena.specs.Arguments.{arguments_in, arguments_long, argument_in}
 use Rattle.arena.specs.Rows.{Rows, column}
 use Rattle.acyclicity.specs.Contract.{Stored}
 use Rattle.acyclicity.specs.Edges.{number, edge, Outside}
+
+-- The place that a number in a row stands for.
+pub held_place : (o : Option ℕ) (n : ℕ) → SomeIff o (1 ≤ n) (n - 1) → number o ≡ n
+held_place None n h = omega arith
+held_place (Some r) n h = omega arith
 
 module _ (N : ℕ) (w bound : Cells) (r : ℕ) where
   pub edge_variable : (i : ℕ) → r < N → i ≡ 0 → edge N w bound r i ≡ bound r

@@ -17,18 +17,12 @@ use arena::Terms;
 const CLOSED: u32 = 33;
 
 // A place as the number that stands for it in a row: 0 for none, else 1 + the reference.
+// Stays: neither type is of this crate, so that no `From` can be written; in its one call the closure would need a contract, and be as long.
 fn held_of(place: Option<u32>) -> u32
     requires { number place ≤ headers }
     ensures { result ≡ number place }
 {
     place.map_or(0, |reference| reference + 1)
-}
-
-// The place that a number in a row stands for.
-fn place_of(held: u32) -> Option<u32>
-    ensures { number result ≡ held }
-{
-    held.checked_sub(1)
 }
 
 // The place that edge number `i` from a reference leads to.
@@ -38,7 +32,7 @@ fn edge_at(terms: Terms, bindings: &[[u32; 2]], reference: u32, i: u32) -> Optio
 {
     if reference < terms.room {
         if i == 0 {
-            return place_of(bindings[reference as usize][0]);
+            return bindings[reference as usize][0].checked_sub(1);
         }
         return None;
     }
@@ -73,7 +67,7 @@ fn search(terms: Terms, bindings: &[[u32; 2]], scratch: &mut [[u32; 2]]) -> bool
                 match edge_at(terms, bindings, reference, followed) {
                     None => {
                         scratch[row] = [CLOSED, parent];
-                        top = place_of(parent);
+                        top = parent.checked_sub(1);
                     }
                     Some(target) => {
                         scratch[row] = [followed + 2, parent];

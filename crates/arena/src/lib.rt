@@ -24,7 +24,7 @@ use links::{link, past, settle};
 
 // Terms in lent words: of the words `used` are in use, and of the `room` variables that there is room for, `variables`.
 // Stays: words are lent whole, as terms are written into the same buffer behind those in use, so the contracts speak of the whole buffer.
-// Stays: that the words in use are among those lent is no invariant, since `checks::are_terms` is handed terms of any numbers and tests that.
+// Stays: that words in use are lent and references below the headers is no invariant, since `checks::are_terms` is handed terms of any numbers to test it.
 #[derive(Clone, Copy)]
 pub struct Terms<'a> {
     pub words: &'a [u32],
@@ -35,6 +35,7 @@ pub struct Terms<'a> {
 
 impl<'a> Terms<'a> {
     // The header of the node r.
+    // Stays: that `r` is a node is asked here and below; a node with that in it would be made of `r` at each call, to be read once or twice.
     pub fn header(self, r: u32) -> u32
         requires { (self.room ≤ r) × (r - self.room < length self.words.now) }
         ensures { result ≡ cells self.entry.words.now (r - self.entry.room) }

@@ -27,6 +27,7 @@ use visits::Queue;
 // their order.
 // Stays: terms, bindings and marks have different owners; the rows hold all values beside the trail, so that no part up to `bound` can be lent.
 // Stays: a struct of terms and bindings with `Form` in it would be made anew by `equate` at each pair, and for each rule that is tried, as both change.
+// Stays: that a number is a `Reference` is asked beside it; a struct of it and the terms would be made anew for both of each pair that `equate` takes up.
 #[derive(Clone, Copy)]
 pub struct StoredBindings<'a> {
     pub rows: &'a [[u32; 2]],

@@ -13,6 +13,8 @@ use arena::Terms;
 // The queue of the occurs check: its entries are those references that have a mark, in the order in which they were met.
 // Stays: the marks of all references stand in the rows beside the queue, so that no part up to the queue's end can be lent.
 // Stays: `Entries` has for each mark its place in the queue, so a ghost field takes it only truncated, and `Grown`, which holds it, would not follow.
+// Stays: each function promises that the same marks are lent afterwards; an invariant tells of one value, and not of the one before.
+// Stays: that each reference has a mark is asked beside it; with the terms in the queue each method would promise besides that they are as before.
 #[derive(Drop)]
 pub struct Queue<'a> {
     pub marks: &'a mut [[u32; 2]],

@@ -6,6 +6,7 @@ ghost use Rattle.deepening.specs.Groups.{WrittenCleared};
 use search_machine::{Machine, Store};
 
 // Sets the items from one place up to another to zero, as far as there are any.
+// Stays: `to` may be past the end, and then all from `from` on is cleared; both calls would cut the part by `min` themselves.
 fn clear<T: Copy>(items: &mut [T], from: u32, to: u32, zero: T)
     ensures { (past : T) → Cleared past zero items.old items.new from to }
 {

@@ -26,6 +26,7 @@ use rules::{RulePlace, RuleRow, SourceRule, Title};
 pub use names::{SORTS, SYMBOLS};
 
 // The names that there are: the rows of the sorts and symbols in use, and the text in which their names stand.
+// Stays: that sorts and symbols are few is asked beside it: `check_symbol` takes any number of both, and a ghost field would ask more of its callers.
 #[derive(Clone, Copy)]
 pub struct Known<'a> {
     pub text: &'a [u8],

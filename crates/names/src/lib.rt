@@ -34,6 +34,7 @@ pub type TermRow = [u32; 4];
 pub type VariableRow = [u32; 4];
 
 // A declaration or a term as it is written: the text, the rows, and the row at which it begins.
+// Stays: that the rows are at most 65,536 is asked beside it: `term_check::check_term` takes any number, and a ghost field would ask more of its callers.
 #[derive(Clone, Copy)]
 pub struct Source<'a> {
     pub text: &'a [u8],

@@ -157,16 +157,24 @@ fn are_parts(arities: &[u32], rule: PlacedRule) -> bool
     arena::is_argument(all, middle, row[CONCLUSION])
 }
 
+// Such a rule whose words and references are in form, so that its terms can be walked through.
+#[derive(Clone, Copy)]
+struct FormedRule<'a> {
+    placed: PlacedRule<'a>,
+    ghost walkable: { Walkable placed.words.now placed.end placed.row.now },
+}
+
 // Meets the variables of a row's premises in writing order, none of which has a place before; answers whether the premises take the words that the row
 // counts.
-fn walk_premises(rule: PlacedRule, places: &mut Places, stack: &mut Stack) -> bool
-    requires { Walkable rule.words.now rule.end rule.row.now × Records [] places.old.places places.old.count }
-    ensures { Walked (premises_of rule.entry.words.now rule.entry.row.now) (column rule.entry.row.now 7) places.old.places places.old.count result places.new.places places.new.count }
+fn walk_premises(rule: FormedRule, places: &mut Places, stack: &mut Stack) -> bool
+    requires { Records [] places.old.places places.old.count }
+    ensures { Walked (premises_of rule.entry.placed.words.now rule.entry.placed.row.now) (column rule.entry.placed.row.now 7) places.old.places places.old.count result places.new.places places.new.count }
 {
-    let size = rule.row[PREMISE_WORDS];
+    let PlacedRule { row, words, .. } = rule.placed;
+    let size = row[PREMISE_WORDS];
     let mut spent = 0;
-    for reference in rules::premises(rule.row) {
-        let Some(taken) = places.meet(rule.words, *reference, size - spent, stack) else {
+    for reference in rules::premises(row) {
+        let Some(taken) = places.meet(words, *reference, size - spent, stack) else {
             return false;
         };
         spent += taken;
@@ -182,9 +190,8 @@ fn are_placed(words: &[u32], places: &Places) -> bool
 }
 
 // Whether the terms of a row take the words that it counts, and its variables are numbered in writing order. The stack is scratch.
-fn is_in_order(rule: PlacedRule, stack: &mut Stack) -> bool
-    requires { Walkable rule.words.now rule.end rule.row.now }
-    ensures { Tells result (InOrder rule.entry.words.now rule.entry.from rule.entry.row.now) }
+fn is_in_order(rule: FormedRule, stack: &mut Stack) -> bool
+    ensures { Tells result (InOrder rule.entry.placed.words.now rule.entry.placed.from rule.entry.placed.row.now) }
 {
     let PlacedRule {
         row,
@@ -192,7 +199,7 @@ fn is_in_order(rule: PlacedRule, stack: &mut Stack) -> bool
         from,
         middle,
         ..
-    } = rule;
+    } = rule.placed;
     let mut places = Places::new();
     if !walk_premises(rule, &mut places, stack) {
         return false;
@@ -223,9 +230,9 @@ fn are_places(rule: &RuleRow, places: &Places) -> bool
 }
 
 // Whether a row has the variables of its conclusion counted and the places of all in meeting order. The stack is scratch.
-fn is_in_places(rule: PlacedRule, stack: &mut Stack) -> bool
-    requires { Walkable rule.words.now rule.end rule.row.now × InOrder rule.words.now rule.from rule.row.now }
-    ensures { Tells result (InPlaces rule.entry.words.now rule.entry.from rule.entry.row.now) }
+fn is_in_places(rule: FormedRule, stack: &mut Stack) -> bool
+    requires { InOrder rule.placed.words.now rule.placed.from rule.placed.row.now }
+    ensures { Tells result (InPlaces rule.entry.placed.words.now rule.entry.placed.from rule.entry.placed.row.now) }
 {
     let PlacedRule {
         row,
@@ -233,7 +240,7 @@ fn is_in_places(rule: PlacedRule, stack: &mut Stack) -> bool
         middle,
         end,
         ..
-    } = rule;
+    } = rule.placed;
     let mut places = Places::new();
     places.meet(words, row[CONCLUSION], MOST, stack);
     if places.count != row[MET] {
@@ -285,10 +292,11 @@ pub fn check_rule(
     let Some(stack) = stack.first_chunk_mut() else {
         unreachable!();
     };
-    if !is_in_order(placed, stack) {
+    let formed = FormedRule { placed };
+    if !is_in_order(formed, stack) {
         return None;
     }
-    if !is_in_places(placed, stack) {
+    if !is_in_places(formed, stack) {
         return None;
     }
     Some(end)

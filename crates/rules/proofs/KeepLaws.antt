@@ -16,7 +16,7 @@ use Rattle.resolution.specs.Search.{words}
 use Rattle.meeting.specs.Places.{Records, numbers_below}
 use Rattle.meeting.specs.Contract.{term_of}
 use Rattle.names.specs.Symbols.{column, columns}
-use Rattle.rules.specs.LayingLaws.{RuleLying, lying_one}
+use Rattle.rules.specs.LayingLaws.{RuleLying, lying_one, rule_same}
 use Rattle.rules.specs.CountLaws.{all_count, all_below}
 use Rattle.rules.specs.StoredRows.{titled, rule_row, heads_in, places_in, Kept}
 use Rattle.rules.specs.Promises.{RootAsked, OrderAsked, Ordered}
@@ -27,6 +27,13 @@ words_one : (g : ℕ → Term) (rs : List ℕ) (i : ℕ) → i < length rs → w
 words_one g [] i l = absurd (omega arith)
 words_one g (r ∷ rs) zero l = omega arith
 words_one g (r ∷ rs) (suc i) l = let h = words_one g rs i (omega arith) in omega arith
+
+-- A rule lies so in the words in use, lent as a part.
+pub lying_used : (pattern heads : List ℕ) {arities : List ℕ} {R : Rule} {from middle used conclusion : ℕ}
+    → RuleLying arities R pattern from heads middle conclusion used → RuleLying arities R (take used pattern) from heads middle conclusion used
+lying_used pattern heads {used = used} lying =
+    let long = length-take-le used pattern lying.conclusion.there in
+    rule_same (λ i l. sym (get_or-take used pattern i 0 l)) (omega (arith, long)) lying
 
 module _ (heads : List ℕ) {arities : List ℕ} {R : Rule} {pattern : List ℕ} {from middle used conclusion : ℕ}
     (lying : RuleLying arities R pattern from heads middle conclusion used) where

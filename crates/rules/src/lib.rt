@@ -27,6 +27,7 @@ use refusals::Refusal;
 
 // A rule: start and length of its name, clause number + 1 (0: a written rule), number of variables, number of premises, reference of the conclusion, first
 // word, words of the premises, words of the conclusion, variables met in the conclusion; 16 references of premises; 64 sorts; 64 places in meeting order.
+// Stays: C lends rows of any numbers; that premises are at most 16 and variables 64 is asked at each read, as a struct with it would be made for that alone.
 pub type RuleRow = [u32; END];
 
 // Most rules have few words, and a walk through few words needs a small stack only.
@@ -145,16 +146,14 @@ pub fn all_known(variables: &[VariableRow]) -> bool
     variables.iter().all(|row| 0 < row[SORT])
 }
 
-// A rule's terms: the references of its premises and of its conclusion, the words that hold them and how many of these are in use, and the most words of
-// one of them.
+// A rule's terms: the references of its premises and of its conclusion, the words in use, which hold them, and the most words of one of them.
 #[derive(Clone, Copy)]
 struct RuleTerms<'a> {
     heads: &'a [u32],
     conclusion: u32,
     words: &'a [u32],
-    used: usize,
     most: u32,
-    ghost asked: { OrderAsked words.now used heads.now conclusion most },
+    ghost asked: { OrderAsked words.now (length words.now) heads.now conclusion most },
 }
 
 // The places of a rule's variables in meeting order, and how many variables are met in the conclusion.
@@ -174,7 +173,6 @@ fn order(rule: RuleTerms, stack: &mut [[u32; 2]]) -> MeetingOrder
         conclusion,
         words,
         most,
-        ..
     } = rule;
     let mut places = Places::new();
     places.meet(words, conclusion, most, stack);
@@ -270,8 +268,7 @@ fn keep(
     let terms = RuleTerms {
         heads,
         conclusion,
-        words,
-        used,
+        words: &words[..used],
         most: (used - from) as u32,
     };
     let order = order_sized(terms);

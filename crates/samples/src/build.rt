@@ -25,6 +25,7 @@ pub fn put_constants(words: &mut [u32])
 }
 
 // Writes a node with these arguments: the address behind it; none where there is no room, or there are more than 16 of them, and nothing changes.
+// Stays: as at `arena::push_node`: with the words from `at` on alone lent, each caller would join what comes back to those before.
 pub fn put_node(words: &mut [u32], at: u32, arguments: &[u32]) -> Option<u32>
     ensures { NodePut words.old words.new at arguments.now result }
 {

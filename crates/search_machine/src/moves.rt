@@ -132,6 +132,7 @@ impl Machine {
     }
 
     // What is in use.
+    // Stays: a `From` would write the same fields out, with the same promise; the moves are methods, and so is `state`, which takes the limits too.
     pub fn in_use(self) -> InUse
         ensures { result ≡ in_use_of self }
     {
@@ -160,6 +161,7 @@ impl Machine {
     }
 
     // The frame of an application that is entered.
+    // Stays: a `From` would write the same fields out, with the same promise; the moves are methods, and so is `state`, which takes the limits too.
     pub fn frame(self) -> Frame
         ensures { result ≡ frame_for self }
     {

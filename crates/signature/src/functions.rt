@@ -1,4 +1,5 @@
 // The clauses of functions: the test that each concludes in its own function and calls only functions. It reads headers alone.
+// Stays: words and symbols go apart, here and below: the one caller has cut the symbols in use, and lends the words whole; a struct would be made for it.
 ghost use Rattle.std.specs.Prelude.{◌≡◌, List, ℕ, ◌≤◌, ◌<◌, length, get_or, eqb};
 ghost use Rattle.terms.specs.Term.{Terms, app};
 ghost use Rattle.arena.specs.Cells.{symbol_of, terms_of};

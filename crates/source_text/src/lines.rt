@@ -29,6 +29,7 @@ fn ends_code(rest: &[u8]) -> bool
 }
 
 // The end of the code of the line that starts at a place: its first `--`, or its end.
+// Stays: as at `line_end`: `Lines::next` keeps places of the text; of a rest alone it would add the place that it has cut at.
 pub fn code_end(text: &[u8], at: usize) -> usize
     requires { at ≤ length text.now }
     ensures { result ≡ at + length (code_of (line_of (drop at text.now))) }

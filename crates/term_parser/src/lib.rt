@@ -44,6 +44,7 @@ impl From<[u32; 4]> for Token {
 }
 
 // What is read: a text, and its tokens.
+// Stays: with input and position as one `Reader`, each `Read` would hold one, and each contract say besides that its input is the one that was given.
 #[derive(Clone, Copy)]
 pub struct Input<'a> {
     pub text: &'a [u8],
@@ -52,6 +53,7 @@ pub struct Input<'a> {
 
 // Where a reader stands: the place of the next token, and how many rows are in use.
 // Stays: with the rows in one struct, which is lent to be written, each contract would say besides that input and rows are the same ones afterwards.
+// Stays: that there is room for what is read (`Room`) is asked beside it: it tells of the rows too, which are lent to be written.
 #[derive(Clone, Copy)]
 pub struct Position {
     pub at: usize,

@@ -13,6 +13,7 @@ use words::NAME;
 
 // The token at a place; past the end all its numbers are 0. No other function reads the list.
 // Stays: no kind is 0, so that past the end no reader finds the one that it looks for; of an `Option` ten readers would ask `is_some_and(..)`.
+// Stays: tokens and place go apart, here and below: as methods of `Input` these would be called `input.peek(at)`, and no clause of a contract would go.
 pub fn peek(tokens: &[[u32; 4]], at: usize) -> Token
     ensures { result ≡ token_of (drop at tokens.now) }
 {
@@ -33,7 +34,7 @@ pub fn held(text: &[u8], start: u32, length: u32) -> Option<u32>
     ensures { result ≡ held_of (numeral_of (part_of text.now start length)) }
 {
     let value = words::numeral(text, start as usize, length as usize)?;
-    Some(value.min(u64::from(u32::MAX)) as u32)
+    Some(u32::try_from(value).unwrap_or(u32::MAX))
 }
 
 // The same, 2^32 - 1 also where no numeral of 64 bits stands there.

@@ -61,6 +61,7 @@ fn decide(
 }
 
 // Makes r and t equal under the first `bound` bindings, if that can be, the pairs in the Rust's order; each pair of nodes is opened at most once.
+// Stays: how many pairs are open changes, and with no heap a lent buffer with that number beside it is what a stack can be.
 pub fn equate(
     terms: Terms,
     bindings: &mut [[u32; 2]],

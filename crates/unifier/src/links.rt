@@ -24,6 +24,7 @@ pub fn find(links: &[[u32; 2]], r: u32) -> u32
 }
 
 // Links the roots of x and y, the greater to the smaller.
+// Stays: `c` counts the links that are entered; as at `bindings::enter`, the values of all keys stand in the rows beside the list.
 pub fn link(links: &mut [[u32; 2]], c: u32, x: u32, y: u32)
     requires fact_1 { Falling links.old }
     requires fact_2 { (x < length links.old) × (y < length links.old) × (c < length links.old) × (x < headers) × (y < headers) }

@@ -13,6 +13,7 @@ pub fn put_pair(s: &mut [[u32; 3]], d: u32, left: u32, right: u32)
 }
 
 // Sets the rows of the stack below d to 0.
+// Stays: tried `fill` of `workspace.stack[..d]` at its one call, and by a local: of the field only the length is known then (`returns-clause-unified`).
 pub fn clear_before(s: &mut [[u32; 3]], d: u32)
     requires { d ≤ length s.old }
     ensures { s.new ≡ cleared s.old d }

@@ -24,6 +24,7 @@ ghost use Rattle.words.specs.Lexer.{capped_of, lex_of, Lexing};
 
 use refusals::{Refusal, Rejection};
 use slices::clear_from;
+use source_text::lines::Lines;
 use source_text::utf8::is_utf8;
 use tokens::{outside_line, read_lines};
 
@@ -75,10 +76,10 @@ fn read(text: &[u8], limit: usize, rows: &mut [Row]) -> Result<usize, Rejection>
     if !is_utf8(text) {
         return Err(Rejection::from(Refusal::NotUtf8));
     }
-    match read_lines(text, rows) {
+    match read_lines(Lines::new(text), rows) {
         Ok(count) => Ok(count),
         // A text that is read to its end has no character outside the domain, so only a refused one is searched for it.
-        Err(rejection) => Err(outside_line(text).map_or(
+        Err(rejection) => Err(outside_line(Lines::new(text)).map_or(
             rejection,
             |line| Rejection {
                 refusal: Refusal::OutsideDomain,

@@ -1,5 +1,5 @@
 // One item, one line, all lines.
-ghost use Rattle.std.specs.Prelude.{◌≡◌, ◌+◌, ◌≤◌, ◌<◌, length};
+ghost use Rattle.std.specs.Prelude.{◌≡◌, ◌+◌, ◌≤◌, ◌<◌, length, drop};
 ghost use Rattle.source_text.specs.Characters.{class_number};
 ghost use Rattle.source_text.specs.Lines.{lines};
 ghost use Rattle.source_text.specs.Utf8.{positive};
@@ -77,13 +77,13 @@ fn read_code(code: Code, rows: &mut [Row]) -> Result<usize, Rejection>
     Ok(n)
 }
 
-// Reads all lines of a text; their tokens go to the rows from 0 on.
-pub fn read_lines(text: &[u8], rows: &mut [Row]) -> Result<usize, Rejection>
-    requires { (length text.now ≤ 65536) × (length text.now ≤ length rows.old) }
-    ensures { Read (read_lines (lines text.now) 0 1) (length text.now) 0 rows.old result rows.new }
+// Reads lines of a text; their tokens go to the rows from 0 on.
+pub fn read_lines(all: Lines, rows: &mut [Row]) -> Result<usize, Rejection>
+    requires { length all.text.now ≤ length rows.old }
+    ensures { Read (read_lines (lines (drop all.entry.at all.entry.text.now)) all.entry.at all.entry.line) (length all.entry.text.now) 0 rows.old result rows.new }
 {
     let mut count = 0;
-    for code in Lines::new(text) {
+    for code in all {
         let read = read_code(code, &mut rows[count..])?;
         count += read;
     }
@@ -91,11 +91,10 @@ pub fn read_lines(text: &[u8], rows: &mut [Row]) -> Result<usize, Rejection>
 }
 
 // The first line with a character outside the domain and not in a comment.
-pub fn outside_line(text: &[u8]) -> Option<u32>
-    requires { length text.now ≤ 65536 }
-    ensures { result ≡ positive (outside_line (lines text.now) 1) }
+pub fn outside_line(mut all: Lines) -> Option<u32>
+    requires { 0 < all.line }
+    ensures { result ≡ positive (outside_line (lines (drop all.entry.at all.entry.text.now)) all.entry.line) }
 {
-    Lines::new(text)
-        .find(|code| has_outside(code.bytes))
+    all.find(|code| has_outside(code.bytes))
         .map(|code| code.line)
 }

@@ -4,6 +4,7 @@ use mathlib.Core.Path.{refl, sym, ap, ◌∙◌}
 use Rattle.terms.specs.Numbers.{true_false}
 use Rattle.arena.specs.Rows.{column}
 use Rattle.acyclicity.specs.Edges.{number}
+use Rattle.acyclicity.proofs.EdgeLaws.{held_place}
 use Rattle.acyclicity.proofs.Turns.{risen, turn_start, ahead_row, top_small, turn_skip, turn_enter, turn_refuse, top_row, turn_close, turn_follow, turn_begin, turn_accept}
 use native.Mathlib.Omega.{arith}
 use Rattle.acyclicity.proofs.search.Goals as goal
@@ -79,7 +80,7 @@ loop-reference-smaller-in-None c =
 
 pub loop-reference-preserved-in-None : goal.loop-reference-preserved-in-None
 loop-reference-preserved-in-None c =
-    rw (c.place_of-top.ensures, c.take.ensures.after ∙ sym c.in_default.is ∙ c.take.ensures.value)
+    rw (held_place _ _ c.checked_sub-top.ensures, c.take.ensures.after ∙ sym c.in_default.is ∙ c.take.ensures.value)
     (turn_close c.loop-reference.invariant (ap number (sym c.take.ensures.value ∙ c.in_default.is)) _ (ap number c.in-Some-top.is) _ c.edge_at.ensures (ap number c.in-None.is))
 
 pub bounds-scratch-row-in-Some-edge_at : goal.bounds-scratch-row-in-Some-edge_at

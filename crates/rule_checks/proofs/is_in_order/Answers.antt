@@ -17,12 +17,12 @@ use Rattle.rule_checks.proofs.is_in_order.Goals as goal
 pub returns-then-not-are_placed : goal.returns-then-not-are_placed
 returns-then-not-are_placed c =
     let walk-premises = c.walk_premises in
-    let pre = c.requires in
+    let pre = c.args.rule.walkable in
     let args = c.args in
     let rec = walk-premises.ensures.records c.if-not-walk_premises.false [] c.new-places.ensures in
-    let m = args.rule.counted.middle in
-    let z = args.rule.counted.last in
-    tells_no (λ h. tells_false c.are_placed.ensures c.if-not-are_placed.true (each_part args.rule.words.now args.rule.from args.rule.middle (PlacedWord walk-premises.new.places.places) (omega (arith, pre.within)) (listed_placed (premises_of args.rule.words.now args.rule.row.now) rec args.rule.words.now args.rule.from args.rule.middle (λ a l b. h.listed a l (omega arith)))))
+    let m = args.rule.placed.counted.middle in
+    let z = args.rule.placed.counted.last in
+    tells_no (λ h. tells_false c.are_placed.ensures c.if-not-are_placed.true (each_part args.rule.placed.words.now args.rule.placed.from args.rule.placed.middle (PlacedWord walk-premises.new.places.places) (omega (arith, pre.within)) (listed_placed (premises_of args.rule.placed.words.now args.rule.placed.row.now) rec args.rule.placed.words.now args.rule.placed.from args.rule.placed.middle (λ a l b. h.listed a l (omega arith)))))
 
 pub returns-then-places-row : goal.returns-then-places-row
 returns-then-places-row c =
@@ -34,18 +34,18 @@ returns-then-places-row c =
 pub returns : goal.returns
 returns c =
     let walk-premises = c.walk_premises in
-    let pre = c.requires in
+    let pre = c.args.rule.walkable in
     let args = c.args in
     let in-order = c.is_in_order.ensures in
     let rec = walk-premises.ensures.records c.if-not-walk_premises.false [] c.new-places.ensures in
     let fits = (walked_words c.meet.ensures _ (place_is _ _ (not-false _ (sym c.ne.ensures ∙ c.if-ne.false)))).0 in
     let both = c.meet.ensures.recorded (omega arith) _ rec in
-    let m = args.rule.counted.middle in
-    let z = args.rule.counted.last in
+    let m = args.rule.placed.counted.middle in
+    let z = args.rule.placed.counted.last in
     record {
       yes = λ e. record {
         body = walk-premises.ensures.fits c.if-not-walk_premises.false;
-        listed = λ a l b. placed_listed (premises_of args.rule.words.now args.rule.row.now) rec args.rule.words.now args.rule.from args.rule.middle (part_each args.rule.words.now args.rule.from args.rule.middle (PlacedWord walk-premises.new.places.places) (omega (arith, pre.within)) (c.are_placed.ensures.yes c.if-not-are_placed.false)) a l (omega arith);
+        listed = λ a l b. placed_listed (premises_of args.rule.placed.words.now args.rule.placed.row.now) rec args.rule.placed.words.now args.rule.placed.from args.rule.placed.middle (part_each args.rule.placed.words.now args.rule.placed.from args.rule.placed.middle (PlacedWord walk-premises.new.places.places) (omega (arith, pre.within)) (c.are_placed.ensures.yes c.if-not-are_placed.false)) a l (omega arith);
         head = sym fits;
         order = order_list both (sym in-order ∙ e) ∙ ap numbers_below c.if-places-row.false;
       };

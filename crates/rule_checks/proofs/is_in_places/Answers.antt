@@ -19,36 +19,39 @@ use Rattle.rule_checks.proofs.is_in_places.Goals as goal
 pub returns-then-not-are_placed : goal.returns-then-not-are_placed
 returns-then-not-are_placed c =
     let pre = c.requires in
+    let walkable = c.args.rule.walkable in
     let args = c.args in
-    let rec = c.meet.ensures.recorded (conclusion_asked pre.0 args.rule.counted pre.1).small [] c.new-places.ensures in
-    let m = args.rule.counted.middle in
-    let z = args.rule.counted.last in
-    tells_no (λ h. tells_false c.are_placed.ensures c.if-not-are_placed.true (each_part args.rule.words.now args.rule.middle args.rule.end (PlacedWord c.meet.new.self.places) pre.0.within (listed_placed (conclusion_of args.rule.words.now args.rule.row.now) rec args.rule.words.now args.rule.middle args.rule.end (λ a l b. h.listed a (omega arith) (omega arith)))))
+    let rec = c.meet.ensures.recorded (conclusion_asked walkable args.rule.placed.counted pre).small [] c.new-places.ensures in
+    let m = args.rule.placed.counted.middle in
+    let z = args.rule.placed.counted.last in
+    tells_no (λ h. tells_false c.are_placed.ensures c.if-not-are_placed.true (each_part args.rule.placed.words.now args.rule.placed.middle args.rule.placed.end (PlacedWord c.meet.new.self.places) walkable.within (listed_placed (conclusion_of args.rule.placed.words.now args.rule.placed.row.now) rec args.rule.placed.words.now args.rule.placed.middle args.rule.placed.end (λ a l b. h.listed a (omega arith) (omega arith)))))
 
 pub meet_back-requires : goal.meet_back-requires
 meet_back-requires c = rw c.premises.ensures (λ i l.
     let pre = c.requires in
+    let walkable = c.args.rule.walkable in
     let args = c.args in
-    let row = args.rule.row.now in
+    let row = args.rule.placed.row.now in
     let n : i < column row 4 = omega (arith, heads_length row, l) in
-    let a = premise_asked pre.0 args.rule.counted pre.1 i n in
-    subst (λ (r : ℕ). WholeAsked args.rule.words.now r 2048 c.meet.new.stack) (sym (heads_index row i n))
+    let a = premise_asked walkable args.rule.placed.counted pre i n in
+    subst (λ (r : ℕ). WholeAsked args.rule.placed.words.now r 2048 c.meet.new.stack) (sym (heads_index row i n))
     (record { used = a.end; within = a.within; low = a.low; formed = a.formed; root = a.root; room = omega arith }, a.small))
 
 pub returns : goal.returns
 returns c =
     let pre = c.requires in
+    let walkable = c.args.rule.walkable in
     let args = c.args in
-    let m = args.rule.counted.middle in
-    let z = args.rule.counted.last in
-    let rec = c.meet.ensures.recorded (conclusion_asked pre.0 args.rule.counted pre.1).small [] c.new-places.ensures in
-    let row = args.rule.row.now in
+    let m = args.rule.placed.counted.middle in
+    let z = args.rule.placed.counted.last in
+    let rec = c.meet.ensures.recorded (conclusion_asked walkable args.rule.placed.counted pre).small [] c.new-places.ensures in
+    let row = args.rule.placed.row.now in
     let all = rw c.premises.ensures at (c.meet_back.ensures _ rec) in
-    let placed = table_places pre.1 args.rule.counted.variables all in
+    let placed = table_places pre args.rule.placed.counted.variables all in
     record {
       yes = λ e. record {
         meets = sym c.if-places-row.false ∙ rec.counted;
-        listed = λ a l b. placed_listed (conclusion_of args.rule.words.now args.rule.row.now) rec args.rule.words.now args.rule.middle args.rule.end (part_each args.rule.words.now args.rule.middle args.rule.end (PlacedWord c.meet.new.self.places) pre.0.within (c.are_placed.ensures.yes c.if-not-are_placed.false)) a (omega arith) (omega arith);
+        listed = λ a l b. placed_listed (conclusion_of args.rule.placed.words.now args.rule.placed.row.now) rec args.rule.placed.words.now args.rule.placed.middle args.rule.placed.end (part_each args.rule.placed.words.now args.rule.placed.middle args.rule.placed.end (PlacedWord c.meet.new.self.places) walkable.within (c.are_placed.ensures.yes c.if-not-are_placed.false)) a (omega arith) (omega arith);
         placed = λ x l. some_one (sym (c.are_places.ensures.yes e x l) ∙ placed x l);
       };
       back = λ h. c.are_places.ensures.back (λ x l. placed x l ∙ ap Some (sym (h.placed x l)));

@@ -6,4 +6,4 @@ use Rattle.rule_checks.proofs.PremiseLaws.{Going}
 use Rattle.rule_checks.proofs.walk_premises.Given as goal
 
 abbrev pub invariant-loop-reference : goal.invariant-loop-reference
-invariant-loop-reference l = (l.spent ≤ l.size) × Going (term_of l.rule.words.now) l.rule.row.now (column l.rule.row.now 4) l.reference-index l.initial.places.places l.initial.places.count l.places.places l.places.count l.spent
+invariant-loop-reference l = (l.spent ≤ l.size) × Going (term_of l.fn.rule.placed.words.now) l.fn.rule.placed.row.now (column l.fn.rule.placed.row.now 4) l.reference-index l.initial.places.places l.initial.places.count l.places.places l.places.count l.spent

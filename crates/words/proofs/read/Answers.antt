@@ -36,7 +36,8 @@ pub returns-in-Ok : goal.returns-in-Ok
 unfolding lex_of
 returns-in-Ok c =
     let text = c.args.text.now in
-    let r : Read (read_lines (lines text) 0 1) (length text) 0 c.args.rows.now (Ok c.in-Ok.count) c.read_lines.new.rows = c.in-Ok.ensures in
+    let new = c.new.ensures in
+    let r : Read (read_lines (lines text) 0 1) (length text) 0 c.args.rows.now (Ok c.in-Ok.count) c.read_lines.new.rows = rw (new.0, new.1, new.2) at c.in-Ok.ensures in
     let reads : outcome (Ok c.in-Ok.count) c.read_lines.new.rows ≡ read_lines (lines text) 0 1 = r.reads ∙ then_nil _ in
     record {
       reads = reads
@@ -57,9 +58,11 @@ pub returns-in-Err : goal.returns-in-Err
 unfolding lex_of
 returns-in-Err c =
     let text = c.args.text.now in
-    let r : Read (read_lines (lines text) 0 1) (length text) 0 c.args.rows.now (Err c.in-Err.rejection) c.read_lines.new.rows = c.in-Err.ensures in
+    let new = c.new.ensures in
+    let again = c.new-in-Err.ensures in
+    let r : Read (read_lines (lines text) 0 1) (length text) 0 c.args.rows.now (Err c.in-Err.rejection) c.read_lines.new.rows = rw (new.0, new.1, new.2) at c.in-Err.ensures in
     record {
-      reads = refused_by c.outside_line.result c.in-Err.rejection c.map_or.result _ c.map_or.ensures (λ i q. search rules) (outside_line (lines text) 1) _ c.outside_line.ensures (r.reads ∙ then_nil _)
+      reads = refused_by c.outside_line.result c.in-Err.rejection c.map_or.result _ c.map_or.ensures (λ i q. search rules) (outside_line (lines text) 1) _ (rw (again.0, again.1, again.2) at c.outside_line.ensures) (r.reads ∙ then_nil _)
           ∙ sym (then_nil _ ∙ simp (le-ltb _ _ c.if-limit-text.false, ← c.is_utf8.ensures, c.if-not-is_utf8.false));
       fits = omega arith;
       long = r.long;

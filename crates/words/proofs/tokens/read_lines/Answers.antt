@@ -18,17 +18,15 @@ use Rattle.words.proofs.tokens.read_lines.Goals as goal
 
 -- The line that the loop is at is taken, and lies in the text.
 module _ (c : In-Some) where
-  line_taken : LineTaken c.args.text.now c.loop-code.code-iterator.at c.loop-code.code-iterator.line c.in-Some.code c.next.new.self
+  line_taken : LineTaken c.args.all.text.now c.loop-code.code-iterator.at c.loop-code.code-iterator.line c.in-Some.code c.next.new.self
   line_taken = subst (λ s. LineTaken s c.loop-code.code-iterator.at c.loop-code.code-iterator.line c.in-Some.code c.next.new.self) c.loop-code.invariant.0 c.in-Some.ensures.steps.1
 
-  line_fits : (c.loop-code.code-iterator.at + length c.in-Some.code.bytes.now < c.next.new.self.at) × (c.loop-code.code-iterator.at + length c.in-Some.code.bytes.now ≤ length c.args.text.now)
-      × (c.next.new.self.at ≤ length c.args.text.now + 1)
-  line_fits = taken_within c.args.text.now c.loop-code.code-iterator.at c.loop-code.code-iterator.line c.in-Some.code c.next.new.self line_taken
+  line_fits : (c.loop-code.code-iterator.at + length c.in-Some.code.bytes.now < c.next.new.self.at) × (c.loop-code.code-iterator.at + length c.in-Some.code.bytes.now ≤ length c.args.all.text.now)
+      × (c.next.new.self.at ≤ length c.args.all.text.now + 1)
+  line_fits = taken_within c.args.all.text.now c.loop-code.code-iterator.at c.loop-code.code-iterator.line c.in-Some.code c.next.new.self line_taken
 
 pub loop-code-init : goal.loop-code-init
-loop-code-init c =
-    let new = c.new-code-items.ensures in
-    rw c.into_iter-code-iterator.ensures.into_iter_gives (new.0, search rules, search rules, refl, simp (new.1, new.2) (sym (then_nil _)))
+loop-code-init c = rw c.into_iter-code-iterator.ensures.into_iter_gives (refl, search rules, search rules, refl, sym (then_nil _))
 
 pub slice_bounds-read_code-count : goal.slice_bounds-read_code-count
 slice_bounds-read_code-count c = omega (arith, c.requires, c.loop-code.invariant)
@@ -56,7 +54,7 @@ returns-in_err-read c =
     let q : c.from_residual.result ≡ read-code.result = handed_on c.from_residual.result c.from_residual.ensures.1 ∙ sym c.in_err-read.was in
     record {
       reads = ap (λ l. outcome l after) q ∙ sym (then_nil _
-          ∙ line_read args.text.now loop.code-iterator.at loop.code-iterator.line c.in-Some.code c.next.new.self taken _ before (outcome read-code.result after) loop.invariant.4
+          ∙ line_read args.all.text.now loop.code-iterator.at loop.code-iterator.line c.in-Some.code c.next.new.self taken _ before (outcome read-code.result after) loop.invariant.4
           (refused_on read-code.result _ before read-code.new.rows after c.in_err-read.was ∙ ap (and_then (tokens before)) (read-code.ensures.reads ∙ then_nil _))
           ∙ stopped read-code.result after _ _ c.in_err-read.was);
       fits = rw q (omega (arith, read-code.ensures.fits, within));
@@ -83,7 +81,7 @@ loop-code-preserved c =
       omega (arith, loop.invariant, read-code.ensures.fits, within),
       omega (arith, loop.invariant, read-code.ensures.fits, within),
       rows_on loop.count loop.rows read-code.new.rows inside read-code.ensures.long ∙ loop.invariant.3,
-      line_read c.args.text.now loop.code-iterator.at loop.code-iterator.line c.in-Some.code c.next.new.self taken _ before (outcome (Ok (loop.count + c.in_ok-read.read)) (with_part loop.rows loop.count read-code.new.rows)) loop.invariant.4
+      line_read c.args.all.text.now loop.code-iterator.at loop.code-iterator.line c.in-Some.code c.next.new.self taken _ before (outcome (Ok (loop.count + c.in_ok-read.read)) (with_part loop.rows loop.count read-code.new.rows)) loop.invariant.4
           (read_on loop.count c.in_ok-read.read loop.rows read-code.new.rows inside ∙ ap (and_then (tokens before)) (ap (λ l. outcome l read-code.new.rows) (sym c.in_ok-read.was) ∙ read-code.ensures.reads ∙ then_nil _)),
     )
 
@@ -93,7 +91,7 @@ returns c =
     let inv = c.loop-code.invariant in
     let past = rw inv.0 at c.in-None.ensures.steps.1 in
     record {
-      reads = sym (then_nil _ ∙ inv.4 ∙ simp (lines_past c.args.text.now c.loop-code.code-iterator.at past, then_end));
+      reads = sym (then_nil _ ∙ inv.4 ∙ simp (lines_past c.args.all.text.now c.loop-code.code-iterator.at past, then_end));
       fits = inv.2;
       long = inv.3;
     }

@@ -9,4 +9,4 @@ use Rattle.words.specs.Tokens.Reading.{tokens}
 use Rattle.words.proofs.tokens.read_lines.Given as goal
 
 abbrev pub invariant-loop-code : goal.invariant-loop-code
-invariant-loop-code l = (l.code-iterator.text.now ≡ l.text) × (l.count ≤ l.code-iterator.at) × (l.count ≤ length l.text) × (length l.rows ≡ length l.initial.rows) × (read_lines (lines l.text) 0 1 ≡ and_then (tokens (take l.count l.rows)) (read_lines (lines (drop l.code-iterator.at l.text)) l.code-iterator.at l.code-iterator.line))
+invariant-loop-code l = (l.code-iterator.text.now ≡ l.fn.all.text.now) × (l.count ≤ l.code-iterator.at) × (l.count ≤ length l.fn.all.text.now) × (length l.rows ≡ length l.initial.rows) × (read_lines (lines (drop l.fn.all.at l.fn.all.text.now)) l.fn.all.at l.fn.all.line ≡ and_then (tokens (take l.count l.rows)) (read_lines (lines (drop l.code-iterator.at l.fn.all.text.now)) l.code-iterator.at l.code-iterator.line))
