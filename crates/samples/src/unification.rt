@@ -51,7 +51,7 @@ pub fn solve(
     left: u32,
     right: u32,
 ) -> Result<Option<u32>, Fault> {
-    // Stays: tried with the workspace whole: the borrow checker does not cover a part of a parameter's struct that is lent as `&mut` to `is_ready`.
+    // Stays: tried with it moved whole to a variable: a field, `marks`, of a struct given by value that is lent as `&mut`, to `is_ready`, is not covered.
     let Workspace {
         links,
         marks,

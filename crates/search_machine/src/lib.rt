@@ -194,6 +194,7 @@ fn step(program: Program, store: &mut Store, m: Machine) -> Machine
     ensures stepped { SteppedIn program.entry store.old store.new m result }
     ensures lent { IsLent store.old store.new }
 {
+    // Stays: here and in `next_rule` a `match` on the own enum names each mode's step once; a trait or closures would name them again elsewhere.
     match m.mode {
         Mode::Enter => enter(program, store, m),
         Mode::Try => next_rule(program, store, m),
