@@ -109,7 +109,7 @@ fn report_attempt(
 }
 
 // Tries the rule.
-// Stays: tried scratch as a struct of the three buffers that a function makes and a method lends: made so it is moved, and the program ran out of stack.
+// Stays: a function that makes the scratch moves it (tried: out of stack); a closure that is lent it would take it apart for `attempt` and for `Remains`.
 fn case(name: &[u8], most: u32, height: u32, spare: u32) {
     let mut words = [0u32; WORDS];
     let mut bindings = [[0u32; 2]; VARIABLES as usize];

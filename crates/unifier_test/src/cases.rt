@@ -98,7 +98,7 @@ fn report_unify(remains: Remains, in_use: InUse, found: Result<Option<u32>, Faul
 }
 
 // Unifies the two references.
-// Stays: tried scratch as a struct of the three buffers that a function makes and a method lends: made so it is moved, and the program ran out of stack.
+// Stays: a function that makes the scratch moves it (tried: out of stack); a closure that is lent it would take it apart for `solve` and for `Remains`.
 pub fn unify(name: &[u8], towers: Towers) {
     let mut words = [0u32; WORDS];
     let mut bindings = [[0u32; 2]; VARIABLES as usize];
