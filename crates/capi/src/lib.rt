@@ -159,8 +159,10 @@ pub fn horn_lex(text: &[u8], limit: u32, tokens: &mut [[u32; 4]]) -> u64
     ensures answer { result ≡ packed (lex_answer text.now (text_limit limit) tokens.old) }
     ensures rows { tokens.new ≡ lex_rows text.now (text_limit limit) tokens.old }
 {
-    words::lex(text, text_limits(limit, 0), tokens)
-        .map_or_else(packed_rejection, |count| count as u64)
+    words::lex(text, text_limits(limit, 0), tokens).map_or_else(
+        packed_rejection,
+        |count| count as u64,
+    )
 }
 
 // `parser::parse_text` under a limit on the text's bytes. The answer is the number of declarations, or 2^32 times the refusal's number and its line.
@@ -168,8 +170,10 @@ pub fn horn_lex(text: &[u8], limit: u32, tokens: &mut [[u32; 4]]) -> u64
 pub fn horn_parse(text: &[u8], limit: u32, tokens: &mut [[u32; 4]], rows: &mut [[u32; 4]]) -> u64
     ensures { ParsedAs text.now limit tokens.old rows.old result tokens.new rows.new }
 {
-    parser::parse_text(text, text_limits(limit, 0), tokens, rows)
-        .map_or_else(packed_rejection, |parsed| parsed.declarations as u64)
+    parser::parse_text(text, text_limits(limit, 0), tokens, rows).map_or_else(
+        packed_rejection,
+        |parsed| parsed.declarations as u64,
+    )
 }
 
 // `load::load` under limits on the text's bytes and the nodes in all. The answer is the number of declarations, or 2^32 times the refusal's number and its
@@ -345,8 +349,10 @@ pub fn horn_open(
         (record { links = links.new; marks = marks.new; stack = stack.new }) }
 {
     let limits = limits_of(0, variables, limit);
-    session_open::open(limits, names, words, bindings, links, marks, stack)
-        .map_or_else(packed_refusal, |()| 0)
+    session_open::open(limits, names, words, bindings, links, marks, stack).map_or_else(
+        packed_refusal,
+        |()| 0,
+    )
 }
 
 // An answer as one number, and what else it tells; a refusal by its number.
