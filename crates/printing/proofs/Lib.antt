@@ -1,0 +1,2 @@
+-- Laws of printing.
+pub mod WalkLaws
