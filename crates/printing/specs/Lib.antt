@@ -6,3 +6,4 @@ pub mod Known
 pub mod Stored
 pub mod OpenNodes
 pub mod Walking
+pub mod Written

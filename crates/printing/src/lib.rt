@@ -6,7 +6,11 @@
 mod printed; // stored terms as they are printed
 mod walk; // a walk through one
 mod pieces; // what a term is printed of
+mod writing; // its bytes
+mod sizes; // how many nodes that is
 
 pub use pieces::Piece;
 pub use printed::PrintedTerms;
+pub use sizes::is_too_large;
 pub use walk::{OpenRow, Walk};
+pub use writing::write_term;
