@@ -9,7 +9,9 @@ use Rattle.names.specs.Symbols.{Symbol}
 use Rattle.printing.specs.PieceLaws.{bytes_of_pieces, nodes_of_pieces}
 use Rattle.printing.specs.Terms.{most_nodes, term_bytes, printed_nodes}
 use Rattle.printing.specs.Pieces.{pieces, piece_bytes, pieces_bytes, pieces_nodes}
-use Rattle.printing.specs.Walking.{pieces_left, Stepped}
+use Rattle.printing.specs.Walking.{pieces_left, Started, Stepped}
+use Rattle.arena.specs.Rows.{Rows}
+use Rattle.printing.specs.Stored.{term_in}
 use Rattle.printing.specs.Written.{symbols_in}
 use Rattle.printing.specs.declared.pieces.Piece.{Piece}
 use Rattle.printing.specs.declared.printed.PrintedTerms.{PrintedTerms}
@@ -31,15 +33,16 @@ pub record Writing (p : PrintedTerms) (t : Term) (w : Walk) (o₀ o : Output) : 
   pub whole : done ++ pieces_bytes (symbols_in w.printed) (pieces_left w) ≡ term_bytes (symbols_in p) t
 
 -- At the start, the term comes next.
-pub nothing_yet : {p : PrintedTerms} {t : Term} (w : Walk) (o : Output) → w.printed ≡ p → w.depth ≡ 0 → pieces_left w ≡ pieces t ++ []
-    → printed_nodes t < length w.stack.now → Writing p t w o o
-nothing_yet {p} {t} w o e d l s = record {
-  printed = e;
-  deep = let n = ap pieces_nodes l ∙ whole_nodes t in omega arith;
+pub nothing_yet : {p : PrintedTerms} {r : ℕ} {stack : Rows} {w : Walk} (o : Output) → Started p r stack w → printed_nodes (term_in p r) < length stack
+    → Writing p (term_in p r) w o o
+nothing_yet {p} {r} {w = w} o s l = record {
+  printed = s.printed;
+  deep = let n = ap pieces_nodes s.left ∙ whole_nodes (term_in p r) in let d = s.depth in let k = ap length s.rows in omega arith;
   done = [];
   written = record { written = record { buffer = refl; place = omega arith }; lent = refl };
   whole =
-      ap (λ (q : PrintedTerms). pieces_bytes (symbols_in q) (pieces_left w)) e ∙ ap (pieces_bytes (symbols_in p)) l ∙ whole_bytes (symbols_in p) t;
+      ap (λ (q : PrintedTerms). pieces_bytes (symbols_in q) (pieces_left w)) s.printed ∙ ap (pieces_bytes (symbols_in p)) s.left
+      ∙ whole_bytes (symbols_in p) (term_in p r);
 }
 
 module _ {p : PrintedTerms} {t : Term} {w w' : Walk} {o₀ o : Output} {piece : Piece} (h : Writing p t w o₀ o) (s : Stepped w w' (Some piece)) where
@@ -83,6 +86,10 @@ pub record Counting (p : PrintedTerms) (t : Term) (w : Walk) (left : ℕ) : Type
   pub whole : printed_nodes t + left ≡ most_nodes + pieces_nodes (pieces_left w)
 
 -- At the start, all that are allowed.
-pub none_counted : {p : PrintedTerms} {t : Term} (w : Walk) → w.printed ≡ p → w.depth ≡ 0 → pieces_left w ≡ pieces t ++ [] → most_nodes < length w.stack.now
-    → Counting p t w most_nodes
-none_counted {t = t} w e d l s = record { printed = e; deep = omega arith; whole = let n = ap pieces_nodes l ∙ whole_nodes t in omega arith }
+pub none_counted : {p : PrintedTerms} {r : ℕ} {stack : Rows} {w : Walk} → Started p r stack w → most_nodes < length stack
+    → Counting p (term_in p r) w most_nodes
+none_counted {p} {r} s l = record {
+  printed = s.printed;
+  deep = let d = s.depth in let k = ap length s.rows in omega arith;
+  whole = let n = ap pieces_nodes s.left ∙ whole_nodes (term_in p r) in omega arith;
+}

@@ -32,12 +32,7 @@ pub fn is_too_large(printed: PrintedTerms, reference: u32, stack: &mut [OpenRow]
     requires rows { most_nodes < length stack.old }
     ensures { result ≡ is_too_large (term_in printed.entry reference) }
 {
-    let mut walk = Walk {
-        printed,
-        stack,
-        depth: 0,
-        next: Some(reference),
-    };
+    let mut walk = Walk::new(printed, reference, stack);
     let mut left = MOST_NODES;
     while let Some(piece) = walk.next_piece() {
         let Some(fewer) = left.checked_sub(piece.nodes()) else {

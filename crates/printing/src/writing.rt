@@ -79,12 +79,7 @@ pub fn write_term(printed: PrintedTerms, reference: u32, stack: &mut [OpenRow], 
     requires room { out.old.at + length (term_bytes (symbols_in printed) (term_in printed reference)) ≤ length out.old.bytes.now }
     ensures { IsWritten out.old out.new (term_bytes (symbols_in printed.entry) (term_in printed.entry reference)) }
 {
-    let mut walk = Walk {
-        printed,
-        stack,
-        depth: 0,
-        next: Some(reference),
-    };
+    let mut walk = Walk::new(printed, reference, stack);
     while let Some(piece) = walk.next_piece() {
         walk.printed.write_piece(piece, out);
     }
