@@ -11,6 +11,6 @@ mod sizes; // how many nodes that is
 
 pub use pieces::Piece;
 pub use printed::PrintedTerms;
-pub use sizes::is_too_large;
+pub use sizes::{MOST_NODES, is_too_large};
 pub use walk::{OpenRow, Walk};
 pub use writing::write_term;
