@@ -1,0 +1,4 @@
+-- Laws of printing.
+pub mod WalkLaws
+pub mod SymbolLaws
+pub mod Turns

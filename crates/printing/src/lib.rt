@@ -1,0 +1,16 @@
+// Printing: terms and the lines of a listing as bytes (document 01, "One text in full"; the Rust's `pat_text`).
+//
+// Each writing function asks that its output has room.
+#![tactic(auto)]
+
+mod printed; // stored terms as they are printed
+mod walk; // a walk through one
+mod pieces; // what a term is printed of
+mod writing; // its bytes
+mod sizes; // how many nodes that is
+
+pub use pieces::Piece;
+pub use printed::PrintedTerms;
+pub use sizes::{MOST_NODES, is_too_large};
+pub use walk::{OpenRow, Walk};
+pub use writing::write_term;
