@@ -201,9 +201,7 @@ fn read(list: &[u8], at: usize) -> Recorded
 }
 
 fn main() {
-    let mut list = [0u8; 262144];
-    let n = io::read_full(0, &mut list);
-    recorded::replay(&list[..n], read, |text, recorded| {
+    recorded::replay_input::<262144, _, _>(read, |text, recorded| {
         list_text(text, recorded.limits);
     });
 }

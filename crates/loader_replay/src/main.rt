@@ -72,9 +72,7 @@ fn list_text(text: &[u8], limits: Limits) {
 }
 
 fn main() {
-    let mut list = [0u8; 262144];
-    let n = io::read_full(0, &mut list);
-    recorded::replay(&list[..n], recorded::read, |text, recorded| {
+    recorded::replay_input::<262144, _, _>(recorded::read, |text, recorded| {
         list_text(text, recorded.node_limits());
     });
 }
