@@ -20,9 +20,6 @@ invariant_of-terms c =
           (order_asked c.args.heads.now (lying_used c.args.words.now c.args.heads.now lying) c.requires.rising.0);
     }
 
-pub slice_bounds-terms-end : goal.slice_bounds-terms-end
-slice_bounds-terms-end c = sym (length-take-le c.args.body.space.used c.args.words.now c.requires.rule.2.conclusion.there)
-
 pub returns : goal.returns
 returns c =
     let order-sized = c.order_sized-order in
