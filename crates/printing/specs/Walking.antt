@@ -1,10 +1,12 @@
 -- A walk through a printed term: which pieces are left, and what a step promises.
 use Rattle.std.specs.Prelude.{ℕ, ◌+◌, ◌≤◌, ◌≡◌, List, [], ◌∷◌, ◌++◌, length, Option, None, Some, IfSome}
 use Rattle.arena.specs.Cells.{cells}
+use Rattle.arena.specs.Rows.{Rows}
 use Rattle.printing.specs.Pieces.{pieces, piece_nodes, PieceKnown}
 use Rattle.printing.specs.Stored.{term_in}
 use Rattle.printing.specs.OpenNodes.{open_pieces, ahead_pieces}
 use Rattle.printing.specs.declared.pieces.Piece.{Piece}
+use Rattle.printing.specs.declared.printed.PrintedTerms.{PrintedTerms}
 use Rattle.printing.specs.declared.walk.Walk.{Walk}
 
 -- The pieces that are left of the open nodes, and of a term that comes next.
@@ -48,3 +50,10 @@ pub record Stepped (w w' : Walk) (r : Option Piece) : Type 0 where
   pub same : SameWalk w w'
   pub left : Yields r (pieces_left w) (pieces_left w')
   pub reached : IfSome r (Reached w w')
+
+-- A walk stands in front of the term of a reference.
+pub record Started (p : PrintedTerms) (reference : ℕ) (stack : Rows) (w : Walk) : Type 0 where
+  pub printed : w.printed ≡ p
+  pub rows : w.stack.now ≡ stack
+  pub depth : w.depth ≡ 0
+  pub left : pieces_left w ≡ pieces (term_in p reference) ++ []

@@ -8,9 +8,11 @@ mod walk; // a walk through one
 mod pieces; // what a term is printed of
 mod writing; // its bytes
 mod sizes; // how many nodes that is
+mod lines; // the lines of a listing
 
+pub use lines::{write_node_line, write_value_line, write_verdict_line};
 pub use pieces::Piece;
 pub use printed::PrintedTerms;
-pub use sizes::is_too_large;
+pub use sizes::{MOST_NODES, is_too_large};
 pub use walk::{OpenRow, Walk};
 pub use writing::write_term;

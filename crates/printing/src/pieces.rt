@@ -2,9 +2,10 @@
 ghost use Rattle.std.specs.Prelude.{◌≡◌, ◌<◌, None, length};
 ghost use Rattle.arena.specs.Cells.{cells, Reference};
 ghost use Rattle.printing.specs.Stored.{Printable};
-ghost use Rattle.printing.specs.Walking.{Stepped, Entered, WentOn};
+ghost use Rattle.printing.specs.Walking.{Started, Stepped, Entered, WentOn};
 
-use super::walk::Walk;
+use super::printed::PrintedTerms;
+use super::walk::{OpenRow, Walk};
 
 // A piece of a printed term.
 #[derive(Clone, Copy)]
@@ -21,7 +22,20 @@ pub enum Piece {
     Close,
 }
 
-impl Walk<'_> {
+impl<'a> Walk<'a> {
+    // A walk through the term of a reference, on a stack of which no row is in use.
+    pub fn new(printed: PrintedTerms<'a>, reference: u32, stack: &'a mut [OpenRow]) -> Self
+        requires { Reference printed.terms.room (cells printed.terms.words.now) printed.terms.variables printed.terms.used reference }
+        ensures { Started printed.entry reference stack.old result }
+    {
+        Walk {
+            printed,
+            stack,
+            depth: 0,
+            next: Some(reference),
+        }
+    }
+
     // Enters the term of a reference.
     fn enter(&mut self, reference: u32) -> Piece
         requires printable { Printable self.old.printed }

@@ -25,24 +25,6 @@ impl Piece {
     }
 }
 
-impl Walk<'_> {
-    // Do the pieces that are left print more than so many nodes?
-    fn has_more(&mut self, most: u32) -> bool
-        requires printable { Printable self.old.printed }
-        requires deep { self.old.depth + most < length self.old.stack.now }
-        ensures { result ≡ ltb most (pieces_nodes (pieces_left self.old)) }
-    {
-        let mut left = most;
-        while let Some(piece) = self.next_piece() {
-            let Some(fewer) = left.checked_sub(piece.nodes()) else {
-                return true;
-            };
-            left = fewer;
-        }
-        false
-    }
-}
-
 // Does the term of a reference print more nodes than are allowed? It is refused by 39 then.
 pub fn is_too_large(printed: PrintedTerms, reference: u32, stack: &mut [OpenRow]) -> bool
     requires printable { Printable printed }
@@ -50,11 +32,13 @@ pub fn is_too_large(printed: PrintedTerms, reference: u32, stack: &mut [OpenRow]
     requires rows { most_nodes < length stack.old }
     ensures { result ≡ is_too_large (term_in printed.entry reference) }
 {
-    let mut walk = Walk {
-        printed,
-        stack,
-        depth: 0,
-        next: Some(reference),
-    };
-    walk.has_more(MOST_NODES)
+    let mut walk = Walk::new(printed, reference, stack);
+    let mut left = MOST_NODES;
+    while let Some(piece) = walk.next_piece() {
+        let Some(fewer) = left.checked_sub(piece.nodes()) else {
+            return true;
+        };
+        left = fewer;
+    }
+    false
 }

@@ -70,20 +70,6 @@ impl PrintedTerms<'_> {
     }
 }
 
-impl Walk<'_> {
-    // Writes the pieces that are left. The loop stands apart, since behind a loop over a `Walk` made there the proof would not know what it began with.
-    fn write_left(&mut self, out: &mut Output)
-        requires printable { Printable self.old.printed }
-        requires deep { self.old.depth + pieces_nodes (pieces_left self.old) < length self.old.stack.now }
-        requires room { out.old.at + length (pieces_bytes (symbols_in self.old.printed) (pieces_left self.old)) ≤ length out.old.bytes.now }
-        ensures { IsWritten out.old out.new (pieces_bytes (symbols_in self.old.printed) (pieces_left self.old)) }
-    {
-        while let Some(piece) = self.next_piece() {
-            self.printed.write_piece(piece, out);
-        }
-    }
-}
-
 // Writes the term of a reference, of at most 4,096 nodes.
 pub fn write_term(printed: PrintedTerms, reference: u32, stack: &mut [OpenRow], out: &mut Output)
     requires printable { Printable printed }
@@ -93,11 +79,8 @@ pub fn write_term(printed: PrintedTerms, reference: u32, stack: &mut [OpenRow], 
     requires room { out.old.at + length (term_bytes (symbols_in printed) (term_in printed reference)) ≤ length out.old.bytes.now }
     ensures { IsWritten out.old out.new (term_bytes (symbols_in printed.entry) (term_in printed.entry reference)) }
 {
-    let mut walk = Walk {
-        printed,
-        stack,
-        depth: 0,
-        next: Some(reference),
-    };
-    walk.write_left(out);
+    let mut walk = Walk::new(printed, reference, stack);
+    while let Some(piece) = walk.next_piece() {
+        walk.printed.write_piece(piece, out);
+    }
 }
