@@ -1,4 +1,5 @@
 -- Laws of printing.
 pub mod WalkLaws
 pub mod SymbolLaws
+pub mod LineLaws
 pub mod Turns

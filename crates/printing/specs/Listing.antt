@@ -1,6 +1,6 @@
 -- The listing of a text (document 01, "One text in full"), in stages: what came of each `#eval`, the nodes of its trees in preorder, a line for each node, the
 -- bytes.
-use Rattle.std.specs.Prelude.{ℕ, suc, Bool, false, ◌||◌, cond, List, [], ◌∷◌, ◌++◌, map, get_or}
+use Rattle.std.specs.Prelude.{ℕ, Bool, false, ◌||◌, cond, List, [], ◌∷◌, ◌++◌, map, get_or}
 use Rattle.terms.specs.Term.{Term}
 use Rattle.terms.specs.Term.Kind.{one, many}
 use Rattle.names.specs.Names.{Name}

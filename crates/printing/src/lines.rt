@@ -1,6 +1,7 @@
 // The lines of a listing: of a verdict, of a value, and of a node of a tree.
 ghost use Rattle.std.specs.Prelude.{◌+◌, ◌≤◌, ◌<◌, length, get_or};
 ghost use Rattle.byte_output.specs.Output.{IsWritten};
+ghost use Rattle.names.specs.Symbols.{column};
 ghost use Rattle.printing.specs.Listing.{line_start, entry_line};
 ghost use Rattle.arena.specs.Cells.{cells, Reference};
 ghost use Rattle.printing.specs.Terms.{most_nodes, printed_nodes};
@@ -69,7 +70,13 @@ fn write_rule_name(text: &[u8], row: &RuleRow, out: &mut Output)
 }
 
 // Writes the line of a value.
-pub fn write_value_line(printed: PrintedTerms, line: u32, reference: u32, stack: &mut [OpenRow], out: &mut Output)
+pub fn write_value_line(
+    printed: PrintedTerms,
+    line: u32,
+    reference: u32,
+    stack: &mut [OpenRow],
+    out: &mut Output,
+)
     requires printable { Printable printed }
     requires stored { Reference printed.terms.room (cells printed.terms.words.now) printed.terms.variables printed.terms.used reference }
     requires small { printed_nodes (term_in printed reference) ≤ most_nodes }
@@ -84,7 +91,13 @@ pub fn write_value_line(printed: PrintedTerms, line: u32, reference: u32, stack:
 }
 
 // Writes the line of a node: its height, its rule and its goal.
-pub fn write_node_line(printed: PrintedTerms, rules: &[RuleRow], row: TreeRow, stack: &mut [OpenRow], out: &mut Output)
+pub fn write_node_line(
+    printed: PrintedTerms,
+    rules: &[RuleRow],
+    row: TreeRow,
+    stack: &mut [OpenRow],
+    out: &mut Output,
+)
     requires printable { Printable printed }
     requires rule { RuleAsked rules.now (get_or row 2 0) }
     requires stored { Reference printed.terms.room (cells printed.terms.words.now) printed.terms.variables printed.terms.used (get_or row 3 0) }
