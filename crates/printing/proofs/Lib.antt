@@ -2,4 +2,5 @@
 pub mod WalkLaws
 pub mod SymbolLaws
 pub mod LineLaws
+pub mod GoalLaws
 pub mod Turns
