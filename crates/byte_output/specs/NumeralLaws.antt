@@ -47,8 +47,8 @@ module _ (out : List ℕ) (at n : ℕ) (room : at + length (numeral n) ≤ lengt
         → Written out at (numeral n) last out''
     number_written v w = written_as (and_then v w) (sym (numeral_more n l m))
 
--- A number has at most ten digits.
-digits_short : (k n : ℕ) → length (digits k n) ≤ k + 1
+-- At most so many digits; a number has at most ten.
+pub digits_short : (k n : ℕ) → length (digits k n) ≤ k + 1
 unfolding digits
 digits_short zero n = omega arith
 digits_short (suc k) n = by_less n 10

@@ -9,3 +9,4 @@ pub mod Walking
 pub mod Written
 pub mod Listing
 pub mod Lines
+pub mod SizeLaws

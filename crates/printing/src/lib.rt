@@ -11,7 +11,7 @@ mod sizes; // how many nodes that is
 mod lines; // the lines of a listing
 mod nodes; // the goals of a tree
 
-pub use lines::{write_node_line, write_value_line, write_verdict_line};
+pub use lines::{LINE, write_node_line, write_value_line, write_verdict_line};
 pub use nodes::any_too_large;
 pub use pieces::Piece;
 pub use printed::PrintedTerms;

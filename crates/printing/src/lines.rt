@@ -20,6 +20,9 @@ use sessions::Verdict;
 use signature::columns::CLAUSE;
 use tree_rows::TreeRow;
 
+// The most bytes of a line (`line_size` of specs/SizeLaws), where names are as long as a word at most.
+pub const LINE: usize = 274_560;
+
 // Writes `line L ` in front of a verdict.
 fn write_line_start(line: u32, out: &mut Output)
     requires { out.old.at + length (line_start line) ≤ length out.old.bytes.now }
