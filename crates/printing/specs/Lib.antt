@@ -10,3 +10,4 @@ pub mod Written
 pub mod Listing
 pub mod Lines
 pub mod SizeLaws
+pub mod Examples
