@@ -56,8 +56,8 @@ numeral_decimal n l = decimal_by_steps (λ m ds. m < 10000000000 → ds ≡ nume
     (λ m ds g h k. ap (λ (d : List ℕ). d ++ ((48 + m % 10) ∷ [])) (h (omega arith)) ∙ sym (numeral_more m g k))
     n (omega arith) (omega arith)
 
--- A number has at most ten digits.
-digits_short : (k n : ℕ) → length (digits k n) ≤ k + 1
+-- At most so many digits; a number has at most ten.
+pub digits_short : (k n : ℕ) → length (digits k n) ≤ k + 1
 unfolding digits
 digits_short zero n = omega arith
 digits_short (suc k) n = by_less n 10

@@ -1,4 +1,6 @@
 -- Laws of printing.
 pub mod WalkLaws
 pub mod SymbolLaws
+pub mod LineLaws
+pub mod GoalLaws
 pub mod Turns

@@ -7,3 +7,7 @@ pub mod Stored
 pub mod OpenNodes
 pub mod Walking
 pub mod Written
+pub mod Listing
+pub mod Lines
+pub mod SizeLaws
+pub mod Examples

@@ -8,7 +8,11 @@ mod walk; // a walk through one
 mod pieces; // what a term is printed of
 mod writing; // its bytes
 mod sizes; // how many nodes that is
+mod lines; // the lines of a listing
+mod nodes; // the goals of a tree
 
+pub use lines::{LINE, write_node_line, write_value_line, write_verdict_line};
+pub use nodes::any_too_large;
 pub use pieces::Piece;
 pub use printed::PrintedTerms;
 pub use sizes::{MOST_NODES, is_too_large};
