@@ -1,0 +1,117 @@
+// Calls that must be refused by 1 and write nothing: one buffer is too short by one, a word of the session is damaged, or the signature is.
+use super::lent::{self, Lent};
+use evaluation_tests_kit::refused::{damaged, is_refused};
+use prover::Query;
+use search_machine::Store;
+use session_check::Lengths;
+use sessions::{NameRow, SessionCounts};
+use signature_tests::buffers::expect;
+
+// Neither a header nor a reference.
+const NO_WORD: u32 = 0xFFFF_FFFF;
+
+// Tests that a goal is refused by 1 where so much is lent.
+fn test_lent(
+    query: Query,
+    names: &mut [NameRow],
+    store: &mut Store,
+    session: SessionCounts,
+    lent: Lent,
+    claim: &[u8],
+) {
+    let answer = lent::prove_in(query, names, store, session, lent);
+    expect(is_refused(answer), claim);
+}
+
+// Lends each buffer one too short, where a session has nothing in use.
+pub fn test_short(query: Query, names: &mut [NameRow], store: &mut Store, session: SessionCounts) {
+    let lent = Lent::by_limits(query.limits, session);
+    let lengths = lent.session;
+    for short in [
+        Lengths {
+            names: lengths.names.saturating_sub(1),
+            ..lengths
+        },
+        Lengths {
+            words: lengths.words.saturating_sub(1),
+            ..lengths
+        },
+        Lengths {
+            bindings: lengths.bindings.saturating_sub(1),
+            ..lengths
+        },
+        Lengths {
+            links: lengths.links.saturating_sub(1),
+            ..lengths
+        },
+        Lengths {
+            marks: lengths.marks.saturating_sub(1),
+            ..lengths
+        },
+        Lengths {
+            stack: lengths.stack.saturating_sub(1),
+            ..lengths
+        },
+    ] {
+        let less = Lent {
+            session: short,
+            ..lent
+        };
+        test_lent(
+            query,
+            names,
+            store,
+            session,
+            less,
+            b"refused with a session's buffer too short",
+        );
+    }
+    let less = Lent {
+        rows: lent.rows.saturating_sub(1),
+        ..lent
+    };
+    test_lent(
+        query,
+        names,
+        store,
+        session,
+        less,
+        b"refused with a row of the proof too few",
+    );
+}
+
+// Damages the last word that is in use, and lends a damaged signature.
+pub fn test_damaged(
+    query: Query,
+    names: &mut [NameRow],
+    store: &mut Store,
+    session: SessionCounts,
+) {
+    let lent = Lent::by_limits(query.limits, session);
+    if let Some(last) = session.words.checked_sub(1) {
+        let at = last as usize;
+        let word = store.words.get(at).copied().unwrap_or(0);
+        slices::put(store.words, at, NO_WORD);
+        test_lent(
+            query,
+            names,
+            store,
+            session,
+            lent,
+            b"refused with a damaged word",
+        );
+        slices::put(store.words, at, word);
+    }
+    let less = Query {
+        signature: damaged(query.signature),
+        ..query
+    };
+    test_lent(
+        less,
+        names,
+        store,
+        session,
+        lent,
+        b"refused with a damaged signature",
+    );
+}
