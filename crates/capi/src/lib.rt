@@ -7,7 +7,7 @@ ghost use Rattle.capi.specs.Declarations.{ParsedAs};
 ghost use Rattle.capi.specs.Checks.{CheckedAs};
 ghost use Rattle.signature.specs.Storage.{store_of};
 ghost use Rattle.capi.specs.Evaluation.{store_with, stored_counts, EvaluatedAs, ForwardAs};
-ghost use Rattle.capi.specs.Signatures.{LoadedAs};
+ghost use Rattle.capi.specs.Signatures.{LoadedAs, load_limits};
 ghost use Rattle.capi.specs.Sessions.{OpenedAs, ProvedAs, answer_of, counts_in, packed_proof, verdict_row, verdict_after, search_limits};
 ghost use Rattle.capi.specs.Unification.{Answered};
 ghost use Rattle.capi.specs.Words.{packed, packed_rejection, text_limit};
@@ -42,6 +42,17 @@ fn packed_rejection(rejection: Rejection) -> u64
     ensures { result ≡ packed_rejection rejection }
 {
     packed_refusal(rejection.refusal) + rejection.line as u64
+}
+
+// Limits on the text's bytes and the nodes in all.
+fn text_limits(text: u32, nodes: u32) -> words::Limits
+    ensures { result ≡ load_limits text nodes }
+{
+    words::Limits {
+        text,
+        nodes,
+        ..words::Limits::default()
+    }
 }
 
 // Limits on steps, variables and words.
@@ -148,14 +159,10 @@ pub fn horn_lex(text: &[u8], limit: u32, tokens: &mut [[u32; 4]]) -> u64
     ensures answer { result ≡ packed (lex_answer text.now (text_limit limit) tokens.old) }
     ensures rows { tokens.new ≡ lex_rows text.now (text_limit limit) tokens.old }
 {
-    let limits = words::Limits {
-        text: limit,
-        ..words::Limits::default()
-    };
-    match words::lex(text, limits, tokens) {
-        Ok(n) => n as u64,
-        Err(rejection) => packed_rejection(rejection),
-    }
+    words::lex(text, text_limits(limit, 0), tokens).map_or_else(
+        packed_rejection,
+        |count| count as u64,
+    )
 }
 
 // `parser::parse_text` under a limit on the text's bytes. The answer is the number of declarations, or 2^32 times the refusal's number and its line.
@@ -163,14 +170,10 @@ pub fn horn_lex(text: &[u8], limit: u32, tokens: &mut [[u32; 4]]) -> u64
 pub fn horn_parse(text: &[u8], limit: u32, tokens: &mut [[u32; 4]], rows: &mut [[u32; 4]]) -> u64
     ensures { ParsedAs text.now limit tokens.old rows.old result tokens.new rows.new }
 {
-    let limits = words::Limits {
-        text: limit,
-        ..words::Limits::default()
-    };
-    match parser::parse_text(text, limits, tokens, rows) {
-        Ok(parsed) => parsed.declarations as u64,
-        Err(rejection) => packed_rejection(rejection),
-    }
+    parser::parse_text(text, text_limits(limit, 0), tokens, rows).map_or_else(
+        packed_rejection,
+        |parsed| parsed.declarations as u64,
+    )
 }
 
 // `load::load` under limits on the text's bytes and the nodes in all. The answer is the number of declarations, or 2^32 times the refusal's number and its
@@ -195,11 +198,6 @@ pub fn horn_load(
     if counts.len() < 5 {
         return packed_refusal(Refusal::Storage);
     }
-    let limits = words::Limits {
-        text: bytes,
-        nodes,
-        ..words::Limits::default()
-    };
     let mut buffers = load::LentBuffers {
         tokens,
         rows,
@@ -210,7 +208,7 @@ pub fn horn_load(
         words,
         evals,
     };
-    match load::load(text, limits, &mut buffers) {
+    match load::load(text, text_limits(bytes, nodes), &mut buffers) {
         Err(rejection) => {
             clear_numbers(counts, u32::from(rejection.refusal));
             packed_rejection(rejection)
@@ -285,14 +283,10 @@ pub fn horn_evaluate(
     if results.len() < 3 {
         return packed_refusal(Refusal::Storage);
     }
-    let limits = words::Limits {
-        words: limit,
-        ..words::Limits::default()
-    };
     let query = evaluator::Query {
         signature: stored_signature(sorts, symbols, rules, pattern, counts),
         term: Source { text, rows, at },
-        limits,
+        limits: limits_of(0, 0, limit),
     };
     let mut buffers = Buffers {
         words,
@@ -333,11 +327,7 @@ pub fn horn_is_forward_call(
     }
     let signature = stored_signature(sorts, symbols, rules, pattern, counts);
     let term = Source { text, rows, at };
-    match evaluator::is_forward_call(signature, term) {
-        Ok(true) => 1,
-        Ok(false) => 0,
-        Err(refusal) => packed_refusal(refusal),
-    }
+    evaluator::is_forward_call(signature, term).map_or_else(packed_refusal, u64::from)
 }
 
 // `session_open::open` under limits on variables and on words. The answer is 0 for a new session, or 2^32 for refusal 1.
@@ -359,10 +349,10 @@ pub fn horn_open(
         (record { links = links.new; marks = marks.new; stack = stack.new }) }
 {
     let limits = limits_of(0, variables, limit);
-    match session_open::open(limits, names, words, bindings, links, marks, stack) {
-        Ok(()) => 0,
-        Err(refusal) => packed_refusal(refusal),
-    }
+    session_open::open(limits, names, words, bindings, links, marks, stack).map_or_else(
+        packed_refusal,
+        |()| 0,
+    )
 }
 
 // An answer as one number, and what else it tells; a refusal by its number.

@@ -15,19 +15,23 @@ ghost use Rattle.evaluation_listing_kit.specs.Printing.{Moved};
 use byte_output::Output;
 use function_calls::TreeRow;
 use names::Word;
-use output::{put, put_byte, put_decimal};
+use output::{NoRoom, put, put_byte, put_decimal};
 pub use prefix::{OpenRow, StoredTerms};
 use prefix::{put_name, put_term, put_variable};
 use rules::RuleRow;
 use signature::columns::CLAUSE;
 
-// Writes a line to standard output, if there was room for it.
-fn write_line(made: Option<()>, line: &Output) {
-    let bytes: &[u8] = match made {
-        Some(()) => words::word(line.bytes, 0, line.at),
-        None => b"wrong: no room for the line\n",
-    };
-    listing::write(bytes);
+// Makes a line in the buffer, and writes it to standard output, if there was room for it.
+fn write_line<F: FnOnce(&mut Output) -> Result<(), NoRoom>>(out: &mut [u8], make: F)
+    requires { F.IsAlwaysCallable make }
+{
+    let mut line = Output { bytes: out, at: 0 };
+    let made = make(&mut line);
+    let Output { bytes, at, .. } = line;
+    match made {
+        Ok(()) => listing::write(&bytes[..at]),
+        Err(NoRoom) => listing::write(b"wrong: no room for the line\n"),
+    }
 }
 
 // Makes the line of a value.
@@ -36,7 +40,7 @@ fn put_value(
     value: u32,
     stack: &mut [OpenRow],
     line: &mut Output,
-) -> Option<()> {
+) -> Result<(), NoRoom> {
     put(b"value ", line)?;
     put_term(terms, value, stack, line)?;
     put_byte(line, b'\n')
@@ -45,13 +49,12 @@ fn put_value(
 // Writes the line of a value.
 // Stays: terms, stack and buffer are apart, since each line makes an output of the whole buffer, and each term a printer of terms and stack alone.
 pub fn list_value(terms: StoredTerms, value: u32, stack: &mut [OpenRow], out: &mut [u8]) {
-    let mut line = Output { bytes: out, at: 0 };
-    let made = put_value(terms, value, stack, &mut line);
-    write_line(made, &line);
+    write_line(out, |line| put_value(terms, value, stack, line));
 }
 
 // Writes a rule's name into the line, that of a clause with its number.
-fn put_rule(text: &[u8], rules: &[RuleRow], number: u32, out: &mut Output) -> Option<()>
+// Stays: `signature_listing` writes it to standard output, where nothing fails; of any sink it would be a trait with two `impl`s, for this and `put_symbol`.
+fn put_rule(text: &[u8], rules: &[RuleRow], number: u32, out: &mut Output) -> Result<(), NoRoom>
     ensures { Moved out.old out.new }
 {
     let Some(row) = rules.get(number as usize) else {
@@ -59,7 +62,7 @@ fn put_rule(text: &[u8], rules: &[RuleRow], number: u32, out: &mut Output) -> Op
     };
     put_name(text, Word::at_start(row), out)?;
     let Some(clause) = row[CLAUSE].checked_sub(1) else {
-        return Some(());
+        return Ok(());
     };
     put_byte(out, b'.')?;
     put_decimal(clause, out)
@@ -72,7 +75,7 @@ fn put_call(
     row: TreeRow,
     stack: &mut [OpenRow],
     line: &mut Output,
-) -> Option<()> {
+) -> Result<(), NoRoom> {
     let [height, _, rule, goal, ..] = row;
     put_decimal(height, line)?;
     put_byte(line, b' ')?;
@@ -91,9 +94,7 @@ pub fn list_calls(
     out: &mut [u8],
 ) {
     for row in trees {
-        let mut line = Output { bytes: out, at: 0 };
-        let made = put_call(terms, rules, *row, stack, &mut line);
-        write_line(made, &line);
+        write_line(out, |line| put_call(terms, rules, *row, stack, line));
     }
 }
 
@@ -104,7 +105,7 @@ fn put_binding(
     value: u32,
     stack: &mut [OpenRow],
     line: &mut Output,
-) -> Option<()> {
+) -> Result<(), NoRoom> {
     put_variable(variable, line)?;
     put(b" = ", line)?;
     put_term(terms, value, stack, line)?;
@@ -119,7 +120,5 @@ pub fn list_binding(
     stack: &mut [OpenRow],
     out: &mut [u8],
 ) {
-    let mut line = Output { bytes: out, at: 0 };
-    let made = put_binding(terms, variable, value, stack, &mut line);
-    write_line(made, &line);
+    write_line(out, |line| put_binding(terms, variable, value, stack, line));
 }

@@ -1,9 +1,9 @@
 // Terms in prefix form, as the Rust's `pat_text` prints them. A term may be as deep as it has nodes, so it is written by a loop over a stack of open nodes.
-ghost use Rattle.std.specs.Prelude.{◌≡◌, ◌+◌, ◌≤◌, ◌<◌, IfSome, length, slice_get};
+ghost use Rattle.std.specs.Prelude.{◌≡◌, ◌+◌, ◌≤◌, ◌<◌, IfOk, length, slice_get};
 ghost use Rattle.evaluation_listing_kit.specs.Nodes.{node_at};
 ghost use Rattle.evaluation_listing_kit.specs.Printing.{Moved, Stepped};
 
-use super::output::{put, put_byte, put_decimal};
+use super::output::{NoRoom, put, put_byte, put_decimal};
 use super::printer::Printer;
 use arena::HEADERS;
 use byte_output::Output;
@@ -50,14 +50,14 @@ fn argument_at(words: &[u32], address: u32, number: u32) -> Option<u32>
 }
 
 // Writes a name of the text.
-pub fn put_name(text: &[u8], word: Word, out: &mut Output) -> Option<()>
+pub fn put_name(text: &[u8], word: Word, out: &mut Output) -> Result<(), NoRoom>
     ensures { Moved out.old out.new }
 {
     put(names::part(text, word), out)
 }
 
 // Writes a variable.
-pub fn put_variable(number: u32, out: &mut Output) -> Option<()>
+pub fn put_variable(number: u32, out: &mut Output) -> Result<(), NoRoom>
     ensures { Moved out.old out.new }
 {
     put(b"?v", out)?;
@@ -74,7 +74,7 @@ fn is_bare(symbols: &[SymbolRow], node: Node) -> bool {
 
 impl Printer<'_> {
     // Writes the name of a symbol.
-    fn put_symbol(&self, symbol: usize, out: &mut Output) -> Option<()>
+    fn put_symbol(&self, symbol: usize, out: &mut Output) -> Result<(), NoRoom>
         ensures { Moved out.old out.new }
     {
         match self.terms.symbols.get(symbol) {
@@ -84,18 +84,18 @@ impl Printer<'_> {
     }
 
     // Writes the start of a node that has parentheses, and opens it, if there is room for it in the stack too.
-    fn open_node(&mut self, symbol: usize, address: u32, out: &mut Output) -> Option<()>
+    fn open_node(&mut self, symbol: usize, address: u32, out: &mut Output) -> Result<(), NoRoom>
         ensures { Stepped self.old self.new × Moved out.old out.new }
     {
         let depth = self.depth;
-        *self.stack.get_mut(depth)? = [address, 0];
+        *self.stack.get_mut(depth).ok_or(NoRoom)? = [address, 0];
         self.depth = depth + 1;
         put_byte(out, b'(')?;
         self.put_symbol(symbol, out)
     }
 
     // Writes a variable, or the start of a node, which is all of one without parentheses.
-    fn enter(&mut self, reference: u32, out: &mut Output) -> Option<()>
+    fn enter(&mut self, reference: u32, out: &mut Output) -> Result<(), NoRoom>
         ensures { Stepped self.old self.new × Moved out.old out.new }
     {
         let Some(address) = reference.checked_sub(self.terms.room) else {
@@ -111,9 +111,9 @@ impl Printer<'_> {
     }
 
     // Writes on at the innermost open node: the start of its next argument, or its end.
-    fn step(&mut self, out: &mut Output) -> Option<()>
+    fn step(&mut self, out: &mut Output) -> Result<(), NoRoom>
         requires { 0 < self.old.depth }
-        ensures { IfSome result (λ _. out.old.at < out.new.at) × Stepped self.old self.new × Moved out.old out.new }
+        ensures { IfOk result (λ _. out.old.at < out.new.at) × Stepped self.old self.new × Moved out.old out.new }
     {
         let top = self.depth - 1;
         let [address, next] = self.stack[top];
@@ -140,7 +140,7 @@ pub fn put_term(
     reference: u32,
     stack: &mut [OpenRow],
     out: &mut Output,
-) -> Option<()>
+) -> Result<(), NoRoom>
     ensures { Moved out.old out.new }
 {
     let mut printer = Printer {
@@ -152,5 +152,5 @@ pub fn put_term(
     while 0 < printer.depth {
         printer.step(out)?;
     }
-    Some(())
+    Ok(())
 }

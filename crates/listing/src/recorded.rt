@@ -1,7 +1,7 @@
 // Recorded lists of texts, which the replaying programs read.
 //
 // A list has for each text a line `LENGTH LIMIT ROWS`, then LENGTH bytes, then a line end. A line may have more numbers; they are read one by one.
-ghost use Rattle.std.specs.Prelude.{◌≡◌, ◌+◌, ◌^◌, ◌≤◌, ◌<◌, IfSome};
+ghost use Rattle.std.specs.Prelude.{◌≡◌, ◌+◌, ◌^◌, ◌≤◌, ◌<◌, ℕ, List, IfSome, length};
 ghost use Rattle.listing.specs.Recorded.{end_of, digit_at, read_digit, decimal_at, recorded_at, node_limits, value_after, Reads, Replayed};
 
 use refusals::Refusal;
@@ -21,6 +21,9 @@ pub struct Recorded {
 
 // What each number of a lent buffer is before a call.
 pub const JUNK: u32 = 0xA5A5_A5A5;
+
+// Standard input.
+const STDIN_FILENO: i32 = 0;
 
 // The most nodes that a recorded text asks for.
 const NODES: usize = 65536;
@@ -130,6 +133,7 @@ pub fn write_heading(number: u32) {
 }
 
 // Goes through a list from text to text, with a heading for each, and hands on its bytes and what the list says of it, as `read` reads that.
+// Stays: an iterator of texts, to `zip` with `1..`, would be a struct of list, end, place and reader with an `impl` of `Iterator`, for these two counts.
 pub fn replay<R: Fn(&[u8], usize) -> Recorded, F: FnMut(&[u8], Recorded)>(
     list: &[u8],
     read: R,
@@ -149,4 +153,19 @@ pub fn replay<R: Fn(&[u8], usize) -> Recorded, F: FnMut(&[u8], Recorded)>(
         at = text.next;
         number += 1;
     }
+}
+
+// Goes through the list on standard input, of which so many bytes are read.
+pub fn replay_input<const N: usize, R: Fn(&[u8], usize) -> Recorded, F: FnMut(&[u8], Recorded)>(
+    read: R,
+    each: F,
+)
+    requires size { N < 2 ^ 63 }
+    requires reads { (list : List ℕ) → Reads R.Fn list read }
+    requires callable { F.IsAlwaysCallable each }
+    ensures { (list : List ℕ) × (length list ≤ N) × Replayed R.Fn F.FnMut list read each }
+{
+    let mut list = [0u8; N];
+    let n = io::read_full(STDIN_FILENO, &mut list);
+    replay(&list[..n], read, each);
 }

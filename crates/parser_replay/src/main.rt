@@ -78,11 +78,9 @@ fn list_lent(text: &[u8], recorded: Recorded, tokens: &mut [Row], rows: &mut [Ro
 }
 
 fn main() {
-    let mut list = [0u8; 131072];
-    let n = io::read_full(0, &mut list);
     let mut tokens = [[0u32; 4]; 1024];
     let mut rows = [[0u32; 4]; 1024];
-    recorded::replay(&list[..n], recorded::read, |text, recorded| {
+    recorded::replay_input::<131072, _, _>(recorded::read, |text, recorded| {
         list_lent(text, recorded, &mut tokens, &mut rows);
     });
 }

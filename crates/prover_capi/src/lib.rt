@@ -16,6 +16,7 @@ use search_machine::Store;
 // The caller sees to what `prove_cleared` asks, and lends four counts of the signature, four of the session and six results. The answer is that of
 // `capi::horn_prove`.
 // Stays: the parameters are those that programs in C pass, each buffer by itself, as to `capi::horn_prove`.
+// Stays: the body past the guards is that of `capi::horn_prove`; one function of its 18 lines would be called in both with 23 arguments, a line for each.
 #[unsafe(no_mangle)]
 pub extern "C" fn horn_prove_cleared(
     text: &[u8],

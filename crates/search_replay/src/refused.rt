@@ -80,28 +80,39 @@ pub fn test_short(query: Query, names: &mut [NameRow], store: &mut Store, sessio
     );
 }
 
-// Damages the last word that is in use, and lends a damaged signature.
+// Damages a word that is in use, and puts it right again.
+fn test_word(
+    query: Query,
+    names: &mut [NameRow],
+    store: &mut Store,
+    session: SessionCounts,
+    at: usize,
+) {
+    let lent = Lent::by_limits(query.limits, session);
+    let word = store.words.get(at).copied().unwrap_or(0);
+    slices::put(store.words, at, NO_WORD);
+    test_lent(
+        query,
+        names,
+        store,
+        session,
+        lent,
+        b"refused with a damaged word",
+    );
+    slices::put(store.words, at, word);
+}
+
+// Damages each word that is in use, one at a time, and lends a damaged signature.
 pub fn test_damaged(
     query: Query,
     names: &mut [NameRow],
     store: &mut Store,
     session: SessionCounts,
 ) {
-    let lent = Lent::by_limits(query.limits, session);
-    if let Some(last) = session.words.checked_sub(1) {
-        let at = last as usize;
-        let word = store.words.get(at).copied().unwrap_or(0);
-        slices::put(store.words, at, NO_WORD);
-        test_lent(
-            query,
-            names,
-            store,
-            session,
-            lent,
-            b"refused with a damaged word",
-        );
-        slices::put(store.words, at, word);
+    for at in 0..session.words {
+        test_word(query, names, store, session, at as usize);
     }
+    let lent = Lent::by_limits(query.limits, session);
     let less = Query {
         signature: damaged(query.signature),
         ..query

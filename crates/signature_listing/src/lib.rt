@@ -114,16 +114,23 @@ impl NamedSignature<'_> {
         write(names::part(self.text, word));
     }
 
+    // Writes the name that a row begins with, or what is wrong where there is no such row.
+    fn write_name_of<const N: usize>(self, row: Option<&[u32; N]>, wrong: &[u8])
+        requires { 2 ≤ N }
+    {
+        match row {
+            Some(row) => self.write_name(Word::at_start(row)),
+            None => write(wrong),
+        }
+    }
+
     // Writes the name of a sort, `Prop` for none.
     fn write_sort(self, number: u32) {
         let Some(i) = number.checked_sub(1) else {
             write(b"Prop");
             return;
         };
-        match self.signature.sorts.get(i as usize) {
-            Some(row) => self.write_name(Word::at_start(row)),
-            None => write(b"wrong: no such sort"),
-        }
+        self.write_name_of(self.signature.sorts.get(i as usize), b"wrong: no such sort");
     }
 
     // Writes the names of sorts, a blank before each.
@@ -135,10 +142,7 @@ impl NamedSignature<'_> {
     }
 
     fn write_symbol(self, number: usize) {
-        match self.signature.symbols.get(number) {
-            Some(row) => self.write_name(Word::at_start(row)),
-            None => write(b"wrong: no such symbol"),
-        }
+        self.write_name_of(self.signature.symbols.get(number), b"wrong: no such symbol");
     }
 
     fn list_sorts(self) {

@@ -65,6 +65,7 @@ fn is_accepted(loaded: &LoadedSignature) -> bool
 }
 
 // Puts a number at a place, and answers the one that stood there.
+// Stays: tried with one `replace` behind the `match`: no reference may be one of four; a function that lends it would have these arms and a starred clause.
 fn exchange(loaded: &mut LoadedSignature, spot: Spot, value: u32) -> u32
     requires { Stands spot loaded.old }
     ensures before { result ≡ number_at spot loaded.old }

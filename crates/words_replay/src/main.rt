@@ -4,12 +4,10 @@
 use listing::recorded;
 
 fn main() {
-    let mut list = [0u8; 524288];
-    let n = io::read_full(0, &mut list);
     let mut rows = [[0u32; 4]; 65536];
     // `listing::size` of the largest limit.
     let mut out = [0u8; 1703971];
-    recorded::replay(&list[..n], recorded::read, |text, recorded| {
+    recorded::replay_input::<524288, _, _>(recorded::read, |text, recorded| {
         // The first rows are lent, as many as the list says.
         if let Some(lent) = rows.get_mut(..recorded.rows) {
             listing::list(text, recorded.limits, lent, &mut out);

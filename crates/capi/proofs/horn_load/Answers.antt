@@ -1,6 +1,6 @@
 -- `horn_load` meets its contract: the counts of what was loaded are told one by one, and those of what was refused are zero.
 use borrow.Author.Rules.{rules}
-use mathlib.Core.Path.{◌≡◌, refl}
+use mathlib.Core.Path.{refl}
 use native.Mathlib.Omega.{arith}
 use Rattle.capi.proofs.Laws.{loading_lent}
 use Rattle.capi.proofs.horn_load.Goals as goal
@@ -8,7 +8,6 @@ use Rattle.capi.proofs.horn_load.Goals as goal
 pub returns-in-Err : goal.returns-in-Err
 returns-in-Err c =
     let lent = c.load.ensures.lent in
-    let none : c.default.result ≡ record { text = 0; nodes = 0; steps = 0; variables = 0; words = 0 } = search rules in
     record {
       short = λ l. absurd (let z = c.if-counts-lt5.false in omega arith);
       enough = λ l. record {
@@ -16,7 +15,7 @@ returns-in-Err c =
         is = rw (c.packed_rejection.ensures, c.in-Err.is) refl;
         loading = loading_lent c.load.new.buffers (search (rules, lent.tokens)) (search (rules, lent.rows)) (search (rules, lent.calls))
             (search (rules, lent.sorts)) (search (rules, lent.symbols)) (search (rules, lent.rules)) (search (rules, lent.words))
-            (search (rules, lent.evals)) (rw none at c.load.ensures.loaded);
+            (search (rules, lent.evals)) (rw c.text_limits.ensures at c.load.ensures.loaded);
         counted = rw c.in-Err.is (rw c.from.ensures at c.clear_numbers.ensures);
       };
     }
@@ -24,7 +23,6 @@ returns-in-Err c =
 pub returns-in-Ok : goal.returns-in-Ok
 returns-in-Ok c =
     let lent = c.load.ensures.lent in
-    let none : c.default.result ≡ record { text = 0; nodes = 0; steps = 0; variables = 0; words = 0 } = search rules in
     record {
       short = λ l. absurd (let z = c.if-counts-lt5.false in omega arith);
       enough = λ l. record {
@@ -32,7 +30,7 @@ returns-in-Ok c =
         is = rw c.in-Ok.is refl;
         loading = loading_lent c.load.new.buffers (search (rules, lent.tokens)) (search (rules, lent.rows)) (search (rules, lent.calls))
             (search (rules, lent.sorts)) (search (rules, lent.symbols)) (search (rules, lent.rules)) (search (rules, lent.words))
-            (search (rules, lent.evals)) (rw none at c.load.ensures.loaded);
+            (search (rules, lent.evals)) (rw c.text_limits.ensures at c.load.ensures.loaded);
         counted = rw c.in-Ok.is c.put_numbers.ensures;
       };
     }
