@@ -1,14 +1,12 @@
 // Calls that must be refused by 1 and write nothing: one buffer is too short by one, a word of the session is damaged, or the signature is.
 use super::lent::{self, Lent};
 use evaluation_tests_kit::refused::{damaged, is_refused};
+use listing::recorded::JUNK;
 use prover::Query;
 use search_machine::Store;
 use session_check::Lengths;
 use sessions::{NameRow, SessionCounts};
 use signature_tests::buffers::expect;
-
-// Neither a header nor a reference.
-const NO_WORD: u32 = 0xFFFF_FFFF;
 
 // Tests that a goal is refused by 1 where so much is lent.
 fn test_lent(
@@ -80,7 +78,7 @@ pub fn test_short(query: Query, names: &mut [NameRow], store: &mut Store, sessio
     );
 }
 
-// Damages a word that is in use, and puts it right again.
+// Damages a word that is in use, by a number that is neither a header nor a reference, and puts it right again.
 fn test_word(
     query: Query,
     names: &mut [NameRow],
@@ -90,7 +88,7 @@ fn test_word(
 ) {
     let lent = Lent::by_limits(query.limits, session);
     let word = store.words.get(at).copied().unwrap_or(0);
-    slices::put(store.words, at, NO_WORD);
+    slices::put(store.words, at, JUNK);
     test_lent(
         query,
         names,
