@@ -1,4 +1,5 @@
-// Answers of the evaluator, listed as the recorded ones are: a line for the value, and a line `HEIGHT RULE GOAL` for each call of the trees.
+// Answers of the evaluator and of the search, listed as the recorded ones are: a line for the value, a line `HEIGHT RULE GOAL` for each node of the
+// trees, and a line `?vN = TERM` for a binding.
 //
 // A line is made in a lent buffer, and written to standard output from there. A line for which the buffer, or the stack of open nodes, is too short is
 // listed as `wrong`.
@@ -16,7 +17,7 @@ use function_calls::TreeRow;
 use names::Word;
 use output::{NoRoom, put, put_byte, put_decimal};
 pub use prefix::{OpenRow, StoredTerms};
-use prefix::{put_name, put_term};
+use prefix::{put_name, put_term, put_variable};
 use rules::RuleRow;
 use signature::columns::CLAUSE;
 
@@ -95,4 +96,29 @@ pub fn list_calls(
     for row in trees {
         write_line(out, |line| put_call(terms, rules, *row, stack, line));
     }
+}
+
+// Makes the line of a binding.
+fn put_binding(
+    terms: StoredTerms,
+    variable: u32,
+    value: u32,
+    stack: &mut [OpenRow],
+    line: &mut Output,
+) -> Result<(), NoRoom> {
+    put_variable(variable, line)?;
+    put(b" = ", line)?;
+    put_term(terms, value, stack, line)?;
+    put_byte(line, b'\n')
+}
+
+// Writes the line of a binding: a variable, and the reference of its value.
+pub fn list_binding(
+    terms: StoredTerms,
+    variable: u32,
+    value: u32,
+    stack: &mut [OpenRow],
+    out: &mut [u8],
+) {
+    write_line(out, |line| put_binding(terms, variable, value, stack, line));
 }

@@ -3,7 +3,7 @@ ghost use Rattle.std.specs.Prelude.{◌≡◌, ◌+◌, ◌≤◌, ◌<◌, IfOk
 ghost use Rattle.evaluation_listing_kit.specs.Nodes.{node_at};
 ghost use Rattle.evaluation_listing_kit.specs.Printing.{Moved, Stepped};
 
-use super::output::{NoRoom, put, put_byte};
+use super::output::{NoRoom, put, put_byte, put_decimal};
 use super::printer::Printer;
 use arena::HEADERS;
 use byte_output::Output;
@@ -13,12 +13,13 @@ use signature::columns::OUTPUT;
 // An open node: its address, and how many of its arguments are written or begun.
 pub type OpenRow = [u32; 2];
 
-// Stored terms: words over symbols whose names stand in a text.
+// Stored terms: words over symbols whose names stand in a text. A reference below the room is a variable, any other the room and a node's address.
 #[derive(Clone, Copy)]
 pub struct StoredTerms<'a> {
     pub text: &'a [u8],
     pub symbols: &'a [SymbolRow],
     pub words: &'a [u32],
+    pub room: u32,
 }
 
 // A node: its symbol, and how many arguments it has.
@@ -55,6 +56,14 @@ pub fn put_name(text: &[u8], word: Word, out: &mut Output) -> Result<(), NoRoom>
     put(names::part(text, word), out)
 }
 
+// Writes a variable.
+pub fn put_variable(number: u32, out: &mut Output) -> Result<(), NoRoom>
+    ensures { Moved out.old out.new }
+{
+    put(b"?v", out)?;
+    put_decimal(number, out)
+}
+
 // Is a node written without parentheses, as a constructor that has no arguments?
 fn is_bare(symbols: &[SymbolRow], node: Node) -> bool {
     node.arity == 0
@@ -85,10 +94,13 @@ impl Printer<'_> {
         self.put_symbol(symbol, out)
     }
 
-    // Writes the start of the node at an address, which is all of one without parentheses.
-    fn enter(&mut self, address: u32, out: &mut Output) -> Result<(), NoRoom>
+    // Writes a variable, or the start of a node, which is all of one without parentheses.
+    fn enter(&mut self, reference: u32, out: &mut Output) -> Result<(), NoRoom>
         ensures { Stepped self.old self.new × Moved out.old out.new }
     {
+        let Some(address) = reference.checked_sub(self.terms.room) else {
+            return put_variable(reference, out);
+        };
         let Some(node) = node_at(self.terms.words, address) else {
             return put(b"wrong: no node", out);
         };
@@ -122,10 +134,10 @@ impl Printer<'_> {
     }
 }
 
-// Writes the term whose root is at an address.
+// Writes the term of a reference.
 pub fn put_term(
     terms: StoredTerms,
-    address: u32,
+    reference: u32,
     stack: &mut [OpenRow],
     out: &mut Output,
 ) -> Result<(), NoRoom>
@@ -136,7 +148,7 @@ pub fn put_term(
         stack,
         depth: 0,
     };
-    printer.enter(address, out)?;
+    printer.enter(reference, out)?;
     while 0 < printer.depth {
         printer.step(out)?;
     }

@@ -1,7 +1,8 @@
 // Calls that must be refused by 1 and write nothing: one buffer is too short by one, a signature is damaged, or no term stands at the place.
 ghost use Rattle.std.specs.Prelude.{◌≡◌};
-ghost use Rattle.evaluation_tests_kit.specs.Refusals.{is_refused};
+ghost use Rattle.evaluation_tests_kit.specs.Refusals.{is_refused, damaged};
 ghost use Rattle.evaluator.specs.Storage.{AreLent};
+ghost use Rattle.signature.specs.Storage.{store_of};
 
 use crate::lent;
 use evaluator::{Buffers, Query};
@@ -11,7 +12,8 @@ use refusals::Refusal;
 use signature::{Counts, StoredSignature};
 use signature_tests::buffers;
 
-fn is_refused<T: Copy>(answer: Result<T, Refusal>) -> bool
+// Is an answer refusal 1?
+pub fn is_refused<T: Copy>(answer: Result<T, Refusal>) -> bool
     ensures { result ≡ is_refused answer }
 {
     answer.err() == Some(Refusal::Storage)
@@ -74,7 +76,9 @@ pub fn test_short(query: Query, words: &mut [u32], links: &mut [u32], trees: &mu
 }
 
 // A signature of one word less, whose rules do not end where its words do.
-fn damaged(signature: StoredSignature) -> StoredSignature {
+pub fn damaged(signature: StoredSignature) -> StoredSignature
+    ensures { store_of result ≡ damaged (store_of signature.entry) }
+{
     let counts = signature.counts;
     StoredSignature {
         counts: Counts {

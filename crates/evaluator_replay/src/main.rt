@@ -40,6 +40,7 @@ fn list_value(loaded: LoadedText, outcome: Outcome, storage: &Buffers) {
         text: loaded.text,
         symbols: signature.symbols,
         words: storage.words,
+        room: 0,
     };
     let mut stack = [[0u32; 2]; 1024];
     let mut out = [0u8; 16384];

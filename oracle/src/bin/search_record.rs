@@ -36,11 +36,10 @@ fn main() -> std::io::Result<()> {
     let (mut list, mut answers, mut goals) = (Vec::new(), String::new(), 0);
     let recorded = with_large_stack(recorded);
     for (index, List { text, asks, answers: given }) in recorded.iter().enumerate() {
-        let mut heading = format!("{} {} {} {}\n", text.len(), text.len(), LENT.nodes, asks.len());
-        for [steps, depth, step_limit, variables, words] in asks.iter().map(Ask::numbers) {
-            heading += &format!("{steps} {depth} {step_limit} {variables} {words}\n");
-        }
-        list.extend_from_slice(&[heading.as_bytes(), text, b"\n"].concat());
+        let asked = |[steps, depth, step_limit, variables, words]: [u32; 5]| format!("{steps} {depth} {step_limit} {variables} {words}\n");
+        let lines: String = asks.iter().map(Ask::numbers).map(asked).collect();
+        let heading = format!("{} {} {} {}\n", text.len(), text.len(), LENT.nodes, lines.len());
+        list.extend_from_slice(&[heading.as_bytes(), text, b"\n", lines.as_bytes()].concat());
         answers += &format!("text {}\n{given}", index + 1);
         goals += asks.len();
     }
