@@ -34,6 +34,13 @@ fn write_line<F: FnOnce(&mut Output) -> Result<(), NoRoom>>(out: &mut [u8], make
     }
 }
 
+// Writes the start of the line of an `#eval`.
+pub fn write_eval(line: u32) {
+    listing::write(b"eval ");
+    listing::write_number(line);
+    listing::write(b" ");
+}
+
 // Makes the line of a value.
 fn put_value(
     terms: StoredTerms,

@@ -73,13 +73,6 @@ fn list_evaluation(loaded: LoadedText, answer: Result<Outcome, Refusal>, storage
     }
 }
 
-// Writes the start of an `#eval`'s line.
-fn write_eval(line: u32) {
-    write(b"eval ");
-    write_number(line);
-    write(b" ");
-}
-
 // The evaluation of the term whose rows start at a place.
 fn query_at(loaded: LoadedText, at: u32) -> Query {
     Query {
@@ -111,7 +104,7 @@ fn is_evaluated(query: Query) -> bool {
 // Lists one `#eval`.
 fn list_eval(loaded: LoadedText, eval: EvalRow, storage: &mut Buffers) {
     let [line, at] = eval;
-    write_eval(line);
+    evaluation_listing_kit::write_eval(line);
     let query = query_at(loaded, at);
     if !is_evaluated(query) {
         return;

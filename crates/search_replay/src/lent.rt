@@ -183,6 +183,7 @@ impl Lent {
 }
 
 // The first items, so many, or all where there are not as many.
+// Stays: the count is how much is lent, and not how much of it is in use; each caller would cut the same part by the lesser length.
 fn first<T>(items: &mut [T], count: usize) -> &mut [T] {
     let n = items.len().min(count);
     &mut items[..n]

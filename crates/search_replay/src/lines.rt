@@ -12,13 +12,6 @@ use search_machine::Store;
 use sessions::{SessionCounts, Verdict};
 use signature_listing::used;
 
-// Writes the start of the line of an `#eval`.
-pub fn write_eval(line: u32) {
-    write(b"eval ");
-    write_number(line);
-    write(b" ");
-}
-
 // Writes a number behind what it counts.
 fn write_count(what: &[u8], number: u32) {
     write(what);

@@ -62,7 +62,7 @@ fn list_goal(
     let query = query_at(loaded, at, ask);
     let lent = Lent::by_limits(ask.limits, session);
     let answer = lent::prove_in(query, names, store, session, lent);
-    lines::write_eval(line);
+    evaluation_listing_kit::write_eval(line);
     list_answer(query, answer, store, session)
 }
 
@@ -103,6 +103,7 @@ fn list_loaded(loaded: LoadedText) {
 }
 
 // Lists a text that is loaded into what is lent.
+// Stays: as in `evaluator_replay` but for the field that each type has of its own; a type of both, generic in that, would be as long as these lines.
 fn list_stored(text: &[u8], asks: &[u8], loaded: Loaded, lent: &LentBuffers) {
     list_loaded(LoadedText {
         text,
