@@ -60,7 +60,7 @@ pub fn list_value(terms: StoredTerms, value: u32, stack: &mut [OpenRow], out: &m
 }
 
 // Writes a rule's name into the line, that of a clause with its number.
-// Stays: `signature_listing` writes it to standard output, where nothing fails; of any sink it would be a trait with two `impl`s, for this and `put_symbol`.
+// Stays: `signature_listing` and `printing` write where nothing fails; of any sink it would be a trait with three `impl`s, for this and `put_symbol`.
 fn put_rule(text: &[u8], rules: &[RuleRow], number: u32, out: &mut Output) -> Result<(), NoRoom>
     ensures { Moved out.old out.new }
 {

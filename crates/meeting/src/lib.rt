@@ -88,8 +88,8 @@ fn give(places: &mut [Option<u32>], count: &mut u32, x: u32)
     }
 }
 
-// Meets the variables of a pattern's term from left to right, and answers how many words the term takes; none if these are more than `most`. Table and
-// count are those of the variables met before. The stack has a row for each word, since a node takes at least one.
+// Meets the variables of a pattern's term from left to right, over those met before; answers how many words it takes, none past `most`, a stack row each.
+// Stays: public, it takes any table of 64 or more with a count, as before; of a `Places` it would ask more of its callers.
 pub fn meet(
     words: &[u32],
     reference: u32,
@@ -144,7 +144,7 @@ pub fn meet(
 }
 
 // Whether each variable below `count` has its own number as its place.
-// Stays: public, it takes any table with a count, as before; of a table of 64 alone it would ask more of its callers.
+// Stays: public, it takes any table with a count, as before; with `&places[..count]` lent, the method would need a law from that part to its table.
 pub fn is_in_order(places: &[Option<u32>], count: u32) -> bool
     requires { count ≤ length places.now }
     ensures { result ≡ in_order places.now count }

@@ -18,6 +18,7 @@ pub fn any_too_large(printed: PrintedTerms, rows: &[TreeRow], stack: &mut [OpenR
     requires rows { most_nodes < length stack.old }
     ensures { result ≡ any_too_large (entries_in (term_in printed.entry) rows.now) }
 {
+    // Stays: measuring writes the stack, so that a closure for `any` would be one that writes, with a contract of what it asks and what it leaves.
     for row in rows {
         let [_, _, _, goal, ..] = *row;
         if is_too_large(printed, goal, stack) {

@@ -79,6 +79,7 @@ impl<'a> Walk<'a> {
     }
 
     // The next piece, if there is one.
+    // Stays: no `Iterator`: `next` of one can ask nothing, and this asks `Printable`, which no ghost field takes whole, and room for a row.
     pub fn next_piece(&mut self) -> Option<Piece>
         requires printable { Printable self.old.printed }
         requires room { self.old.depth < length self.old.stack.now }

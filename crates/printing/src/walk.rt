@@ -10,6 +10,7 @@ use super::printed::PrintedTerms;
 pub type OpenRow = [u32; 2];
 
 // A walk through a printed term from left to right: the open nodes, and the reference that comes next, if a term does.
+// Stays: the number of open nodes changes as a term is walked through, and with no heap a lent buffer with that number beside it is what a stack can be.
 #[derive(Drop)]
 pub struct Walk<'a> {
     pub printed: PrintedTerms<'a>,

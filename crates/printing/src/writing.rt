@@ -1,4 +1,5 @@
 // A printed term as bytes.
+// Stays: names are bytes of a text, which `write!` does not write, and it promises its bytes only where it answers `Ok`.
 ghost use Rattle.std.specs.Prelude.{◌≡◌, ◌+◌, ◌≤◌, ◌<◌, length};
 ghost use Rattle.arena.specs.Cells.{cells, Reference};
 ghost use Rattle.byte_output.specs.Output.{IsWritten};
@@ -71,6 +72,7 @@ impl PrintedTerms<'_> {
 }
 
 // Writes the term of a reference, of at most 4,096 nodes.
+// Stays: callers may lend a longer stack, and an array in its place would ask for exactly 4,097 rows.
 pub fn write_term(printed: PrintedTerms, reference: u32, stack: &mut [OpenRow], out: &mut Output)
     requires printable { Printable printed }
     requires stored { Reference printed.terms.room (cells printed.terms.words.now) printed.terms.variables printed.terms.used reference }

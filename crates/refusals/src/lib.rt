@@ -138,7 +138,7 @@ impl From<Refusal> for u32 {
 }
 
 // The refusal of a text, and the line that it is about; 0: no line.
-// Stays: document 01 and programs in C have 0 for no line; each of the five places that tell a line would turn an `Option` back into that number.
+// Stays: document 01 and programs in C have 0 for no line; each of the six places that tell a line would turn an `Option` back into that number.
 #[derive(Clone, Copy, Debug, PartialEq, Eq)]
 pub struct Rejection {
     pub refusal: Refusal,

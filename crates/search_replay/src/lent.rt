@@ -190,7 +190,7 @@ fn first<T>(items: &mut [T], count: usize) -> &mut [T] {
 }
 
 // Proves a goal, where so much is lent, as far as there is.
-// Stays: names, store and counts are apart, as `prover::prove` takes them; a struct of them would be taken apart again at each call.
+// Stays: as at `prover::prove_listed`: the store alone is lent on, and the counts afterwards are in the verdict.
 pub fn prove_in(
     query: Query,
     names: &mut [NameRow],

@@ -141,6 +141,7 @@ fn read(list: &[u8], at: usize) -> Recorded
     }
 }
 
+// Stays: what is asked stands in the list behind the text, and `recorded::replay_input` hands on the text alone.
 fn main() {
     let mut input = [0u8; 262144];
     let n = io::read_full(0, &mut input);

@@ -20,7 +20,7 @@ pub enum Class {
 }
 
 // The class of each of the 128 ASCII codes, as a static, since a constant is laid out anew wherever it is named.
-// Stays: tried as a `match` on ranges: lexing 60,000 bytes of declarations takes 565 us in place of 273, and so less than 5 times the Rust's speed.
+// Stays: tried as a `match` on ranges: declarations are lexed at 2.3 times the Rust's speed in place of 4.7, where 3 is the aim of parsing with lexing.
 static CLASS: [Class; 128] = [
     Class::Stray, // 0
     Class::Stray, // 1

@@ -12,7 +12,7 @@ use unifier::Workspace;
 
 // The caller sees to what `unify` asks. The answer is that of `capi::horn_unify`.
 // Stays: programs in C call it, so each buffer and each number is a parameter of its own.
-// Stays: the 13 lines are those of `capi::horn_unify` past its test; one function of both would be called with ten arguments, a line for each, in each.
+// Stays: the 13 lines are those of `capi::horn_unify` but for its test; one function of both would be called with ten arguments, a line for each, in each.
 #[unsafe(no_mangle)]
 pub extern "C" fn horn_unify_unchecked(
     words: &[u32],
