@@ -1,3 +1,5 @@
--- The laws that the proofs cite.
+-- The laws that several proofs cite.
+pub mod OrderLaws
 pub mod TallyLaws
+pub mod MergeLaws
 pub mod SortLaws

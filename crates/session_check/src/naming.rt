@@ -59,8 +59,9 @@ fn are_places_distinct(text: &[u8], names: &[NameRow]) -> bool
     ensures { Tells result (PlacesDistinct text.now names.now (length names.now)) }
 {
     let mut places = [[0u32; 2]; NAMES];
+    let mut spare = [[0u32; 2]; NAMES];
     signature::put_parts(names, NAME_START, &mut places);
-    distinct::are_distinct(text, &mut places[..names.len()])
+    distinct::are_distinct(text, &mut places[..names.len()], &mut spare)
 }
 
 // Are names in form, all different, with variables that rise?

@@ -113,18 +113,19 @@ pub fn put_parts<const N: usize, const M: usize>(
     }
 }
 
-// Does no name serve twice among sorts and symbols? Their places are sorted by their names: for k names some k times log2 k comparisons, each at most as
+// Does no name serve twice among sorts and symbols? Their places are sorted by their names: for k names at most k times log2 k comparisons, each at most as
 // long as the shorter name.
 fn are_names_distinct(text: &[u8], sorts: &[SortRow], symbols: &[SymbolRow]) -> bool
     requires { (length sorts.now ≤ 256) × (length symbols.now ≤ 1024) }
     ensures { Tells result (Distinct (names_of (sorts_of text.now sorts.now (length sorts.now)) (symbols_of text.now symbols.now (length symbols.now)))) }
 {
     let mut places = [[0u32; 2]; NAMES];
+    let mut spare = [[0u32; 2]; NAMES];
     let n = sorts.len();
     let m = symbols.len();
     places[..n].copy_from_slice(sorts);
     put_parts(symbols, START, &mut places[n..n + m]);
-    distinct::are_distinct(text, &mut places[..n + m])
+    distinct::are_distinct(text, &mut places[..n + m], &mut spare)
 }
 
 // Are a symbol's output, number of inputs and free column in form?
