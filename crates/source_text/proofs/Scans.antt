@@ -114,6 +114,11 @@ pub line_goes_on : (c : ℕ) (s : List ℕ) → (c ≡ 10 → ⊥) → length (l
 unfolding line_of up_to starts_with
 line_goes_on c s n = simp (ne_eqb c 10 n, add-one)
 
+-- A line ends at the text's end.
+pub line_end_lem : (s : List ℕ) (i : ℕ) → length s ≤ i → length (line_of (drop i s)) ≡ 0
+unfolding line_of
+line_end_lem s i h = scan_end (starts_with (10 ∷ [])) s i h
+
 -- The code of the first line, read off the text itself.
 one_prefix : (s : List ℕ) → starts_with (45 ∷ []) (line_of s) ≡ starts_with (45 ∷ []) s
 unfolding line_of up_to starts_with
@@ -169,6 +174,12 @@ module _ (text : List ℕ) (at c e : ℕ) (h : at < length text) (f : c ≡ at +
       let k : c - at ≡ length (code_of (line_of (drop at text))) = omega arith in
       let q : length (code_of (line_of (drop at text))) ≡ length (up_to ends_code (drop at text)) = ap length (code_scan (drop at text)) in
       ap (λ n. take n (drop at text)) (k ∙ q) ∙ sym (scan_take ends_code (drop at text)) ∙ sym (code_scan (drop at text))
+
+  pub lines_at : lines (drop at text) ≡ line_of (drop at text) ∷ lines (drop (e + 1) text)
+  lines_at =
+      let p : 0 < length (drop at text) = simp length-drop (omega arith) in
+      let k : at + suc (length (line_of (drop at text))) ≡ e + 1 = omega (arith, line_long) in
+      lines_step (drop at text) p ∙ ap (λ l. line_of (drop at text) ∷ lines l) (drop-drop (suc (length (line_of (drop at text)))) at text ∙ ap (λ j. drop j text) k)
 
 pub code_fits : (text : List ℕ) (at c : ℕ) → at < length text → c ≡ at + length (code_of (line_of (drop at text))) → (at ≤ c) × (c ≤ length text)
 code_fits text at c h f =

@@ -10,9 +10,9 @@ use lib.Dec.{eqb}
 use borrow.Author.Tests.{ne_eqb, eqb-true}
 use Rattle.std.proofs.Common.{◌⊎◌, ⊎_elim}
 use Rattle.std.proofs.lemmas.List.{get_or_past}
-use Rattle.source_text.specs.Bytes.{starts_with}
+use Rattle.source_text.specs.Bytes.{starts_with, same_bytes}
 use Rattle.source_text.specs.Characters.{class_number, arrow, character_of}
-use Rattle.words.specs.Names.{if_fits, word_item}
+use Rattle.words.specs.Names.{if_fits, word_item, keywords, keyword_of, number_among, name_kind}
 use Rattle.words.specs.Signs.{signs, sign_among, sign_item}
 use Rattle.words.specs.Tokens.{is_word, word_of, item_of}
 use Rattle.refusals.specs.declared.Refusal.TheVariants.{UnexpectedCharacter, NumeralTooLarge}
@@ -153,6 +153,18 @@ fits_some None i e = absurd (let z : ◌≡◌ {A = ℕ} 0 1 = cc in omega arith
 pub fits_none : (v : Option ℕ) (i : Item) → is_some v ≡ false → if_fits v i ≡ Refused NumeralTooLarge
 fits_none (Some v) i e = absurd (let z : ◌≡◌ {A = ℕ} 0 1 = cc in omega arith)
 fits_none None i e = refl
+
+-- A word whose first byte is a, compared with the keywords that start so.
+pub keyword_by : (w : List ℕ) (a : ℕ) (f : List ℕ → ℕ) → 0 < length w → get_or w 0 0 ≡ a → ((t : List ℕ) → keyword_of (a ∷ t) ≡ f (a ∷ t)) → f w ≡ keyword_of w
+keyword_by [] a f h e k = absurd (omega arith)
+keyword_by (c ∷ w) a f h e k = sym (rw e (k w))
+
+-- A first byte that starts no keyword.
+pub keyword_none : (w : List ℕ) → 0 < length w → (get_or w 0 0 ≡ 115 → ⊥) → (get_or w 0 0 ≡ 99 → ⊥) → (get_or w 0 0 ≡ 112 → ⊥) → (get_or w 0 0 ≡ 114 → ⊥) → (get_or w 0 0 ≡ 100 → ⊥) → (get_or w 0 0 ≡ 116 → ⊥) → (get_or w 0 0 ≡ 98 → ⊥) → (get_or w 0 0 ≡ 97 → ⊥) → (get_or w 0 0 ≡ 105 → ⊥) → (get_or w 0 0 ≡ 35 → ⊥) → name_kind ≡ keyword_of w
+unfolding keywords keyword_of number_among same_bytes
+keyword_none [] h n0 n1 n2 n3 n4 n5 n6 n7 n8 n9 = absurd (omega arith)
+keyword_none (c ∷ w) h n0 n1 n2 n3 n4 n5 n6 n7 n8 n9 =
+    simp (ne_eqb _ _ n0, ne_eqb _ _ n1, ne_eqb _ _ n2, ne_eqb _ _ n3, ne_eqb _ _ n4, ne_eqb _ _ n5, ne_eqb _ _ n6, ne_eqb _ _ n7, ne_eqb _ _ n8, ne_eqb _ _ n9)
 
 -- The word with which s starts.
 module _ (s : List ℕ) where

@@ -15,7 +15,7 @@ use Rattle.std.proofs.lemmas.List.{take_all}
 use borrow.Author.Tests.{ltb-true}
 use Rattle.source_text.specs.Bytes.{starts_with}
 use Rattle.source_text.specs.Characters.{character_of, has_outside}
-use Rattle.source_text.specs.Lines.{lines}
+use Rattle.source_text.specs.Lines.{lines, line_of, code_of}
 use Rattle.source_text.specs.Utf8.{positive}
 use Rattle.source_text.specs.TakenLines.{LineTaken, GivesLine}
 use Rattle.source_text.specs.declared.lines.Code.{Code}
@@ -42,7 +42,7 @@ use Rattle.words.specs.Items.{Item}
 use Rattle.words.specs.Items.Item.{Blank, Token, Refused}
 use Rattle.source_text.specs.ByteLaws.{by_bool, and_left, and_right}
 use Rattle.source_text.specs.ScanLaws.{starts_short}
-use Rattle.source_text.proofs.Scans.{lines_taken}
+use Rattle.source_text.proofs.Scans.{lines_at, code_part, lines_taken}
 use Rattle.source_text.proofs.Encodings.{past, positive_is}
 use Rattle.words.proofs.Items.{word_fits, word_starts}
 
@@ -154,15 +154,21 @@ module _ (s : List ℕ) (i p n : ℕ) (ts : List (List ℕ)) where
     pub read_refused : (r : Refusal) → Refused r ≡ item_of (drop i s) → and_then (tokens ts) (read_after (drop i s) 0 (p + i) n) ≡ refused r n
     read_refused r e = ap (and_then (tokens ts)) (read_next s i p n (Refused r) h e) ∙ then_refused ts r n _
 
+-- The first line outside the domain, from the line at place `at` on: c is the end of that line's code, e its own.
+module _ (text : List ℕ) (at c e n : ℕ) (h : at < length text) (f : c ≡ at + length (code_of (line_of (drop at text)))) (g : e ≡ c + length (line_of (drop c text))) where
+  pub outside_line_lem : outside_line (lines (drop at text)) n ≡ cond (has_outside (take (c - at) (drop at text))) n (outside_line (lines (drop (e + 1) text)) (n + 1))
+  unfolding outside_line
+  outside_line_lem = simp (lines_at text at c e h f g, code_part text at c e h f g)
+
 -- The reading of a text from the line at place `at` on, which is taken.
 module _ (text : List ℕ) (at n : ℕ) (code : Code) (after : Lines) (t : LineTaken text at n code after) where
   pub read_line : read_lines (lines (drop at text)) at n ≡ and_then (read_after code.bytes.now 0 code.start code.line) (read_lines (lines (drop after.at text)) after.at after.line)
   unfolding read_lines
   read_line = simp (lines_taken text at n code after t, t.bytes, t.start, t.number, t.next, t.counted)
 
-  pub outside_line_lem : outside_line (lines (drop at text)) n ≡ cond (has_outside code.bytes.now) n (outside_line (lines (drop after.at text)) after.line)
+  pub outside_line_taken : outside_line (lines (drop at text)) n ≡ cond (has_outside code.bytes.now) n (outside_line (lines (drop after.at text)) after.line)
   unfolding outside_line
-  outside_line_lem = simp (lines_taken text at n code after t, t.bytes, t.counted)
+  outside_line_taken = simp (lines_taken text at n code after t, t.bytes, t.counted)
 
   -- With ts before it, and o what ts and the line's code come to.
   pub line_read : (whole : Reading) (ts : List (List ℕ)) (o : Reading) → whole ≡ and_then (tokens ts) (read_lines (lines (drop at text)) at n) → o ≡ and_then (tokens ts) (read_after code.bytes.now 0 code.start code.line) → whole ≡ and_then o (read_lines (lines (drop after.at text)) after.at after.line)
@@ -185,7 +191,7 @@ module _ {F : Type 0} {g : Mut F (Bor Code × Unit {0}) Bool} (f : F) (tells : (
       let h = subst (λ k. GivesLine k (Some x) u) (sym y.1) y.2 in
       let t = tells x true m.0 (subst (λ k. CalledAt g k x true m.0) (sym c) m.1) in
       let number = h.1.number in
-      positive_is _ _ (omega arith) (outside_line_lem s.text.now s.at s.line x u h.1 ∙ simp (← t.1) (sym number))
+      positive_is _ _ (omega arith) (outside_line_taken s.text.now s.at s.line x u h.1 ∙ simp (← t.1) (sym number))
   outside_found r (x ∷ xs) s p y c m =
       let k = y.1.0 in
       let h = y.1.1 in
@@ -193,7 +199,7 @@ module _ {F : Type 0} {g : Mut F (Bor Code × Unit {0}) Bool} (f : F) (tells : (
       let counted = h.1.counted in
       let q : 0 < k.line = omega arith in
       outside_found r xs k q (y.0, y.1.2, y.2) (subst (λ f. FoldsTo (λ p x q. CalledAt g p x false q) f xs j) t.0 c.2) m
-      ∙ ap positive (sym (outside_line_lem s.text.now s.at s.line x k h.1 ∙ simp (← t.1) (ap (λ text. outside_line (lines (drop k.at text)) k.line) (sym h.0))))
+      ∙ ap positive (sym (outside_line_taken s.text.now s.at s.line x k h.1 ∙ simp (← t.1) (ap (λ text. outside_line (lines (drop k.at text)) k.line) (sym h.0))))
 
 -- A row more.
 pub push_row : (rows : List (List ℕ)) (n : ℕ) (row : List ℕ) → n < length rows → take (n + 1) (set rows n row) ≡ take n rows ++ (row ∷ [])

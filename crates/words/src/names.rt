@@ -1,7 +1,7 @@
 // Keywords, and the tokens that words make.
 ghost use Rattle.std.specs.Prelude.{◌≡◌, ◌<◌, length};
 ghost use Rattle.words.specs.Items.{lexeme_item};
-ghost use Rattle.words.specs.Names.{keyword_of, word_item};
+ghost use Rattle.words.specs.Names.{keyword_of, number_if, hash_keyword_of, word_item};
 
 use super::tokens::Lexeme;
 use refusals::Refusal;
@@ -43,29 +43,47 @@ pub const NUMERAL: u32 = 14;
 // The most bytes that a word may have: document 01's 64.
 pub const LONGEST: usize = 64;
 
-// The keywords, in the Rust's order: the first is number 1.
-static KEYWORDS: [&[u8]; 11] = [
-    b"sort",
-    b"ctor",
-    b"pred",
-    b"rule",
-    b"def",
-    b"theorem",
-    b"by",
-    b"auto",
-    b"induction",
-    b"#eval",
-    b"#check",
-];
+// k where w is the keyword v, else the number of a name.
+// Stays: k is the number of a keyword, and no length of v.
+fn number_if(w: &[u8], v: &[u8], k: u32) -> u32
+    ensures { result ≡ number_if w.now v.now k }
+{
+    if same(w, v) {
+        return k;
+    }
+    NAME
+}
 
-// The number of a keyword, or that of a name.
+// The number of a keyword that starts with `#`, or that of a name.
+fn hash_keyword(w: &[u8]) -> u32
+    ensures { result ≡ hash_keyword_of w.now }
+{
+    if same(w, b"#eval") {
+        return EVAL;
+    }
+    number_if(w, b"#check", CHECK)
+}
+
+// The number of a keyword, in the Rust's order, or that of a name. The first byte leaves at most two to compare with.
+// Stays: a `match` on the eleven words was tried: it has a goal at each byte where words part, and the search left over thirty of them open.
 fn keyword(w: &[u8]) -> u32
+    requires { 0 < length w.now }
     ensures { result ≡ keyword_of w.now }
 {
-    KEYWORDS
-        .iter()
-        .position(|v| same(w, v))
-        .map_or(NAME, |i| i as u32 + 1)
+    let first = w[0];
+    match first {
+        b's' => number_if(w, b"sort", SORT),
+        b'c' => number_if(w, b"ctor", CTOR),
+        b'p' => number_if(w, b"pred", PRED),
+        b'r' => number_if(w, b"rule", RULE),
+        b'd' => number_if(w, b"def", DEF),
+        b't' => number_if(w, b"theorem", THEOREM),
+        b'b' => number_if(w, b"by", BY),
+        b'a' => number_if(w, b"auto", AUTO),
+        b'i' => number_if(w, b"induction", INDUCTION),
+        b'#' => hash_keyword(w),
+        _ => NAME,
+    }
 }
 
 // The token that a word makes: its length is tested first, so that 6 comes before 5.

@@ -1,41 +1,52 @@
--- `keyword` meets its contract: the place of a word in the table of keywords is its number.
-use mathlib.Core.Path.{◌≡◌, refl, ap, ◌∙◌}
-use mathlib.Core.List.{List, map, [], ◌∷◌}
-use Prim.Native.Nat.{ℕ, suc}
-use native.Mathlib.Numerals.{add-one}
-use denote.Ref.{Bor}
-use Rattle.std.proofs.lemmas.Iterator.Search.{position_from_yields_List}
-use Rattle.std.proofs.lemmas.Iterator.Adapters.{position_from-zero}
-use Rattle.std.proofs.lemmas.Iterator.{YieldsList-from_slice}
-use Rattle.std.proofs.Common.{rules}
-use Rattle.std.specs.List.{position_from}
-use Rattle.std.specs.Prelude.{Option, Some, None, MatchOption}
+-- `keyword` meets its contract: a word is compared with the keywords that start as it does.
+use mathlib.Core.Path.{refl, ◌∙◌}
+use mathlib.Core.List.{[], ◌∷◌}
+use native.Mathlib.Omega.{arith}
 use Rattle.source_text.specs.Bytes.{same_bytes}
-use Rattle.source_text.specs.ByteLaws.{by_bool}
-use Rattle.words.specs.Names.{keywords, keyword_of, number_among}
+use Rattle.words.specs.Names.{keywords, keyword_of, number_among, number_if, hash_keyword_of}
+use Rattle.words.proofs.Items.{keyword_by, keyword_none}
 use Rattle.words.proofs.names.keyword.Goals as goal
 
--- The number that follows a place, or that of a name.
-number_at : Option ℕ → ℕ
-number_at None = 12
-number_at (Some i) = suc i
+pub returns-in-115 : goal.returns-in-115
+unfolding keywords keyword_of number_among same_bytes
+returns-in-115 c = c.number_if.ensures ∙ keyword_by c.args.w.now 115 (λ w. number_if w (115 ∷ 111 ∷ 114 ∷ 116 ∷ []) 1) c.requires c.in-115.is (λ t. refl)
 
--- The number of the first of the words that is w, by its place.
-among : (w : List ℕ) (vs : List (Bor (List ℕ))) (i : ℕ) → number_at (position_from (λ v. same_bytes w v.now) i vs) ≡ number_among (map (λ v. v.now) vs) (suc i) w
-unfolding number_among number_at
-among w [] i = refl
-among w (v ∷ vs) i = by_bool (same_bytes w v.now) (λ e. simp e) (λ e. simp (e, add-one) (among w vs (suc i)))
+pub returns-in-99 : goal.returns-in-99
+unfolding keywords keyword_of number_among same_bytes
+returns-in-99 c = c.number_if-in-99.ensures ∙ keyword_by c.args.w.now 99 (λ w. number_if w (99 ∷ 116 ∷ 111 ∷ 114 ∷ []) 2) c.requires c.in-99.is (λ t. refl)
 
--- What `map_or` answers is the number of the place.
-mapped : (p : Option ℕ) (r : ℕ) (P : ℕ → Type 0) → MatchOption p (r ≡ 12) P → ((i : ℕ) → P i → r ≡ suc i) → r ≡ number_at p
-unfolding number_at
-mapped None r P h f = h
-mapped (Some i) r P h f = f i h
+pub returns-in-112 : goal.returns-in-112
+unfolding keywords keyword_of number_among same_bytes
+returns-in-112 c = c.number_if-in-112.ensures ∙ keyword_by c.args.w.now 112 (λ w. number_if w (112 ∷ 114 ∷ 101 ∷ 100 ∷ []) 3) c.requires c.in-112.is (λ t. refl)
 
-pub returns : goal.returns
-unfolding keyword_of keywords
-returns c =
-    let words = c.iter.result.rest.now in
-    let place = position_from_yields_List (λ v. same_bytes c.args.w.now v.now) _ _ c.position.result c.position.ensures.ran (YieldsList-from_slice words refl) (λ x b q e. (search rules, search rules)) ∙ position_from-zero (λ v. same_bytes c.args.w.now v.now) words in
-    let given : map (λ v. v.now) words ≡ keywords = ap (map (λ v. v.now)) c.iter.ensures.rest in
-    mapped c.position.result c.map_or.result _ c.map_or.ensures (λ i q. search rules) ∙ ap number_at place ∙ among c.args.w.now words 0 ∙ ap (λ vs. number_among vs 1 c.args.w.now) given
+pub returns-in-114 : goal.returns-in-114
+unfolding keywords keyword_of number_among same_bytes
+returns-in-114 c = c.number_if-in-114.ensures ∙ keyword_by c.args.w.now 114 (λ w. number_if w (114 ∷ 117 ∷ 108 ∷ 101 ∷ []) 4) c.requires c.in-114.is (λ t. refl)
+
+pub returns-in-100 : goal.returns-in-100
+unfolding keywords keyword_of number_among same_bytes
+returns-in-100 c = c.number_if-in-100.ensures ∙ keyword_by c.args.w.now 100 (λ w. number_if w (100 ∷ 101 ∷ 102 ∷ []) 5) c.requires c.in-100.is (λ t. refl)
+
+pub returns-in-116 : goal.returns-in-116
+unfolding keywords keyword_of number_among same_bytes
+returns-in-116 c = c.number_if-in-116.ensures ∙ keyword_by c.args.w.now 116 (λ w. number_if w (116 ∷ 104 ∷ 101 ∷ 111 ∷ 114 ∷ 101 ∷ 109 ∷ []) 6) c.requires c.in-116.is (λ t. refl)
+
+pub returns-in-98 : goal.returns-in-98
+unfolding keywords keyword_of number_among same_bytes
+returns-in-98 c = c.number_if-in-98.ensures ∙ keyword_by c.args.w.now 98 (λ w. number_if w (98 ∷ 121 ∷ []) 7) c.requires c.in-98.is (λ t. refl)
+
+pub returns-in-97 : goal.returns-in-97
+unfolding keywords keyword_of number_among same_bytes
+returns-in-97 c = c.number_if-in-97.ensures ∙ keyword_by c.args.w.now 97 (λ w. number_if w (97 ∷ 117 ∷ 116 ∷ 111 ∷ []) 8) c.requires c.in-97.is (λ t. refl)
+
+pub returns-in-105 : goal.returns-in-105
+unfolding keywords keyword_of number_among same_bytes
+returns-in-105 c = c.number_if-in-105.ensures ∙ keyword_by c.args.w.now 105 (λ w. number_if w (105 ∷ 110 ∷ 100 ∷ 117 ∷ 99 ∷ 116 ∷ 105 ∷ 111 ∷ 110 ∷ []) 9) c.requires c.in-105.is (λ t. refl)
+
+pub returns-in-35 : goal.returns-in-35
+unfolding keywords keyword_of number_among same_bytes
+returns-in-35 c = c.hash_keyword.ensures ∙ keyword_by c.args.w.now 35 hash_keyword_of c.requires c.in-35.is (λ t. refl)
+
+pub returns-in_default : goal.returns-in_default
+returns-in_default c =
+    keyword_none c.args.w.now c.requires (λ e. omega arith) (λ e. omega arith) (λ e. omega arith) (λ e. omega arith) (λ e. omega arith) (λ e. omega arith) (λ e. omega arith) (λ e. omega arith) (λ e. omega arith) (λ e. omega arith)

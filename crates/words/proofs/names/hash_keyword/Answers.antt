@@ -1,0 +1,8 @@
+-- `hash_keyword` meets its contract.
+use Rattle.words.proofs.names.hash_keyword.Goals as goal
+
+pub returns-then-same : goal.returns-then-same
+returns-then-same c = simp (← c.same.ensures, c.if-same.true)
+
+pub returns : goal.returns
+returns c = simp (← c.same.ensures, c.if-same.false, c.number_if.ensures)
