@@ -35,10 +35,15 @@ fn compare(words: &[u32], links: &mut [u32], a: u32, b: u32) -> Option<bool> {
     Some(arena::equal(terms, links, a, b))
 }
 
-// Two towers of the heights m and n with `arity` arguments in a node, the second on the leaf given; with two arguments they are shared terms.
-fn towers(m: u32, n: u32, leaf: u32, arity: u32) -> Option<bool> {
-    let mut words = [0u32; MOST as usize];
-    let mut links = [0u32; MOST as usize];
+// Two towers of the heights m and n with `arity` arguments in a node, the second on the leaf given.
+fn towers_in(
+    words: &mut [u32],
+    links: &mut [u32],
+    m: u32,
+    n: u32,
+    leaf: u32,
+    arity: u32,
+) -> Option<bool> {
     let lower = Tower {
         height: m,
         leaf: 0,
@@ -49,13 +54,27 @@ fn towers(m: u32, n: u32, leaf: u32, arity: u32) -> Option<bool> {
         leaf,
         arity,
     };
-    let [first, second] = put_two(&mut words, PATTERN_ROOM, 0, lower, upper)?;
+    let [first, second] = put_two(words, PATTERN_ROOM, 0, lower, upper)?;
     compare(
         words.get(..second.next as usize)?,
-        &mut links,
+        links,
         first.root,
         second.root,
     )
+}
+
+// Towers of nodes with one argument.
+fn towers(m: u32, n: u32, leaf: u32) -> Option<bool> {
+    let mut words = [0u32; MOST as usize];
+    let mut links = [0u32; MOST as usize];
+    towers_in(&mut words, &mut links, m, n, leaf, 1)
+}
+
+// Shared terms: nodes with two arguments, which are the same; there are few of them.
+fn twins(m: u32, n: u32, leaf: u32) -> Option<bool> {
+    let mut words = [0u32; 9000];
+    let mut links = [0u32; 9000];
+    towers_in(&mut words, &mut links, m, n, leaf, 2)
 }
 
 // The letter for two terms.
@@ -88,12 +107,12 @@ fn letter_of_words(formed: bool) -> u8 {
 
 fn main() {
     let letters = [
-        letter_of_terms(towers(65000, 65000, 0, 1)),
-        letter_of_terms(towers(65000, 64999, 0, 1)),
-        letter_of_terms(towers(65000, 65000, 1, 1)),
-        letter_of_terms(towers(1000, 1000, 0, 2)),
-        letter_of_terms(towers(1000, 999, 0, 2)),
-        letter_of_terms(towers(1000, 1000, 1, 2)),
+        letter_of_terms(towers(65000, 65000, 0)),
+        letter_of_terms(towers(65000, 64999, 0)),
+        letter_of_terms(towers(65000, 65000, 1)),
+        letter_of_terms(twins(1000, 1000, 0)),
+        letter_of_terms(twins(1000, 999, 0)),
+        letter_of_terms(twins(1000, 1000, 1)),
         b'\n',
         letter_of_words(changed(6, 0)),
         letter_of_words(changed(0, PATTERN_ROOM)),

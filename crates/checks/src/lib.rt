@@ -47,17 +47,18 @@ pub fn is_ready(
     ensures { ReadyTold terms.entry.room terms.entry.words.now bindings.entry.rows.now links.now marks.old marks.new
         stack.now terms.entry.variables terms.entry.used bindings.entry.bound left right result }
 {
-    if !are_terms(terms) {
-        return false;
-    }
-    if !is_scratch_zero(terms.room, terms.used, links, marks, stack) {
-        return false;
-    }
-    if !bindings::check_bindings(terms, bindings, marks) {
+    if !is_form(terms, bindings, marks) {
         return false;
     }
     if !is_reference(terms, left) {
         return false;
     }
-    is_reference(terms, right)
+    if !is_reference(terms, right) {
+        return false;
+    }
+    // Links and stack last: they may be much longer than what is asked for, and a refused call needs to read neither.
+    if !are_zero(links, (terms.room + terms.used) as usize) {
+        return false;
+    }
+    are_zero(stack, terms.used as usize)
 }

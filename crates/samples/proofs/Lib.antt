@@ -1,1 +1,2 @@
 mod Towers
+mod SameLaws

@@ -2,3 +2,4 @@
 pub mod Building
 pub mod Scratch
 pub mod Chains
+pub mod Same

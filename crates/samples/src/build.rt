@@ -1,5 +1,6 @@
 // Words of terms: two constants, and towers of nodes on a leaf.
-ghost use Rattle.std.specs.Prelude.{◌≡◌, set};
+ghost use Rattle.std.specs.Prelude.{◌≡◌, ◌∷◌, ◌+◌, ◌≤◌, length, replicate, set};
+ghost use Rattle.std.proofs.lemmas.List.Edits.{sets};
 ghost use Rattle.samples.specs.Building.{NodePut, PairPut, TowerPut, TowerOrLeaf, TwoPut};
 
 use arena::{HEADERS, INPUTS, SYMBOL_STEP};
@@ -65,6 +66,17 @@ pub struct Tower {
     pub arity: u32,
 }
 
+// Writes a node whose arguments are all the same, from an address on.
+// Stays: as at `arena::push_node`: with the words from `at` on alone lent, each caller would join what comes back to those before.
+fn push_alike(words: &mut [u32], at: u32, header: u32, argument: u32, arity: u32)
+    requires { at + 1 + arity ≤ length words.old }
+    ensures { words.new ≡ sets words.old at (header ∷ replicate arity argument) }
+{
+    let first = at as usize + 1;
+    words[at as usize] = header;
+    words[first..first + arity as usize].fill(argument);
+}
+
 // Writes a tower from an address on, with references to nodes from `room` on; none where there is no room, or nodes have more than 16 arguments, and nothing
 // changes.
 // Stays: the place moves with each tower; words in one struct with it are lent to be written, so that each contract would say that they come back.
@@ -86,8 +98,7 @@ pub fn try_put_tower(words: &mut [u32], room: u32, at: u32, tower: Tower) -> Opt
     let mut next = at;
     let mut root = leaf;
     for _ in 0..height {
-        let arguments = [root; INPUTS as usize];
-        arena::push_node(words, next, header, &arguments[..arity as usize]);
+        push_alike(words, next, header, root, arity);
         root = room + next;
         next += 1 + arity;
     }

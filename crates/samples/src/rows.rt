@@ -1,5 +1,7 @@
 // Rows of bindings.
+ghost use Rattle.bindings.specs.Promises.{Tells};
 ghost use Rattle.samples.specs.Chains.{Chained};
+ghost use Rattle.samples.specs.Same.{Same};
 
 use slices::put;
 
@@ -17,4 +19,12 @@ pub fn bind_chain(rows: &mut [[u32; 2]], last: [u32; 2])
     }
     let end = rows.len().saturating_sub(1);
     put(rows, end, last);
+}
+
+// Whether two lists of rows are the same.
+// Stays: tried `bindings != before` in `finish`: the borrow checker does not cover it, since one of the two was lent to be written in between.
+pub fn are_same(left: &[[u32; 2]], right: &[[u32; 2]]) -> bool
+    ensures { Tells result (Same left.now right.now) }
+{
+    left == right
 }

@@ -3,7 +3,7 @@ ghost use Rattle.std.specs.Prelude.{◌≡◌};
 ghost use Rattle.samples.specs.Scratch.{Clean};
 ghost use Rattle.bindings.specs.Promises.{Tells};
 
-use super::report;
+use super::{report, rows};
 use arena::Terms;
 use bindings::{InUse, StoredBindings};
 use unifier::Workspace;
@@ -140,12 +140,6 @@ pub fn take_back(
     checks::are_zero(marks, 0)
 }
 
-// Whether two lists of rows are the same.
-// Stays: tried `bindings != before` in `finish`: the borrow checker does not cover it, since one of the two was lent to be written in between.
-fn are_same(left: &[[u32; 2]], right: &[[u32; 2]]) -> bool {
-    left == right
-}
-
 // Writes the new bindings, takes them back, and says so if that does not give the rows that stood before.
 pub fn finish(remains: Remains, in_use: InUse, mark: u32) {
     let Remains {
@@ -160,7 +154,7 @@ pub fn finish(remains: Remains, in_use: InUse, mark: u32) {
         report::text(b", which are not in form");
         return;
     }
-    if !are_same(bindings, before) {
+    if !rows::are_same(bindings, before) {
         report::text(b", and undoing left other bindings");
         return;
     }
@@ -169,7 +163,7 @@ pub fn finish(remains: Remains, in_use: InUse, mark: u32) {
 
 // Says so if two lists of bindings are not the same.
 pub fn compare(bindings: &[[u32; 2]], before: &[[u32; 2]]) {
-    if bindings != before {
+    if !rows::are_same(bindings, before) {
         report::text(b", and other bindings stand");
     }
 }
