@@ -127,9 +127,7 @@ impl Printer<'_> {
         }
         self.stack[top] = [address, next + 1];
         put_byte(out, b' ')?;
-        let Some(argument) = argument_at(self.terms.words, address, next) else {
-            return put(b"wrong: no argument", out);
-        };
+        let argument = argument_at(self.terms.words, address, next).unwrap_or(0);
         self.enter(argument, out)
     }
 }

@@ -1,7 +1,7 @@
 -- Every text that is refused is refused by a number of the table (document 01, the table by place), 1 to 28; never by 0, which `declare` gives only for what
 -- is not parsed, and by none of the numbers above 28, which no reader gives.
-use Rattle.std.specs.Prelude.{ℕ, zero, suc, ◌+◌, ◌-◌, ◌≤◌, ◌<◌, ◌≡◌, refl, Bool, true, false, ◌&&◌, Option, Some, None, List, [], ◌∷◌, ◌++◌, eqb, ltb, length, drop, get_or}
-use Rattle.std.proofs.Common.{arith}
+use Rattle.std.specs.Prelude.{ℕ, zero, suc, ◌+◌, ◌-◌, ◌≤◌, ◌<◌, ◌≡◌, refl, Bool, true, false, ◌&&◌, Option, Some, None, Result, Ok, Err, cond, List, [], ◌∷◌, ◌++◌, eqb, ltb, length, drop, get_or}
+use Rattle.std.proofs.Common.{arith, sym, subst, ◌∙◌}
 use Rattle.terms.specs.Numbers.{by_bool}
 use Rattle.source_text.specs.Bytes.{starts_with}
 use Rattle.source_text.specs.Characters.{blank, sign, character_of}
@@ -9,7 +9,8 @@ use Rattle.source_text.specs.Lines.{lines, code_of}
 use Rattle.source_text.specs.Numerals.{all_digits, numeral_of}
 use Rattle.source_text.specs.Utf8.{is_utf8}
 use Rattle.refusals.specs.declared.Refusal.{Refusal}
-use Rattle.refusals.specs.declared.Refusal.TheVariants.{TermExpected}
+use Rattle.refusals.specs.declared.Refusal.TheVariants.{Storage, TermExpected}
+use Rattle.refusals.specs.declared.Rejection.{Rejection}
 use Rattle.refusals.specs.Refusals.{number_of}
 use Rattle.words.specs.Names.{name_kind, metavariable_kind, numeral_kind, if_fits, word_item}
 use Rattle.words.specs.Signs.{Sign, signs, sign_among, sign_item}
@@ -17,7 +18,7 @@ use Rattle.words.specs.Items.{Item}
 use Rattle.words.specs.Items.Item.{Blank, Token, Refused}
 use Rattle.words.specs.Tokens.{Reading, is_word, word_of, item_of, and_then, read_item, item_length, read_after, read_lines, outside_line}
 use Rattle.words.specs.Tokens.Reading.{tokens, refused as unread}
-use Rattle.words.specs.Lexer.{capped_of, in_domain, lex_of}
+use Rattle.words.specs.Lexer.{capped_of, in_domain, lex_of, lex_answer, answer_of as lexed_as}
 use Rattle.words.specs.declared.Limits.{Limits}
 use Rattle.term_parser.specs.Source.{Source, one, numeral, metavariable, name as named, application}
 use Rattle.term_parser.specs.Parsing.{Tokens, kind_of, line_of, last_line, when, Parsed, parsed, absent, refused as barred, plus, follow, required, sign_of, behind, continued, repeat}
@@ -25,22 +26,29 @@ use Rattle.term_parser.specs.Grammar.{applied, equated, name_of, atom_of, app_of
 use Rattle.term_parser.specs.Lists.{separated, unless, title_of, arrows_of, names_of, term, app, judgments_of, patterns_of}
 use Rattle.parser.specs.Source.{Declaration}
 use Rattle.parser.specs.Declarations.{ends_in_prop, Declared, behind_open, binders_of, by_of, tactic_of, sort_of, ctor_of, behind_bar, clause_of, pred_of, rule_of, def_of, theorem_of, eval_of, check_of, body_of, declaration_of, parse_of}
-use Rattle.parser.specs.Parser.{parsed_text}
+use Rattle.parser.specs.Parser.{Answer, rejected, answer_of as parsed_as, parsed_text, short_for, text_of, ParsingText}
 use Rattle.loader.specs.Signature.{refused}
 use Rattle.loader.specs.NonemptyLaws.{Numbered, parsed_nonempty, loaded_numbered}
 use Rattle.load.specs.Load.{of_parsed, load_text}
 
+-- From 1 to a last number.
+abbrev pub UpTo : ℕ → ℕ → Type 0
+UpTo last e = (0 < e) × (e ≤ last)
+
+numbered : {last e : ℕ} → last ≤ 28 → UpTo last e → Numbered e
+numbered l h = (h.0, omega (arith, l, h.1))
+
 -- Words
 
--- What is refused has a number of the table.
+-- What is refused has a number of the table, 2 to 6 of those of texts.
 abbrev ItemNumbered : Item → Type 0
 ItemNumbered Blank = Unit {0}
 ItemNumbered (Token kind m) = Unit {0}
-ItemNumbered (Refused r) = Numbered (number_of r)
+ItemNumbered (Refused r) = UpTo 6 (number_of r)
 
 abbrev ReadingNumbered : Reading → Type 0
 ReadingNumbered (tokens ts) = Unit {0}
-ReadingNumbered (unread r n) = Numbered (number_of r)
+ReadingNumbered (unread r n) = UpTo 6 (number_of r)
 
 fits_numbered : (v : Option ℕ) (kind m : ℕ) → ItemNumbered (if_fits v (Token kind m))
 fits_numbered (Some v) kind m = tt
@@ -103,11 +111,11 @@ lex_numbered limit text =
 
 -- Readers
 
--- What a reader refuses has a number of the table.
+-- What a reader refuses has a number of the table, at most 16.
 abbrev ReadNumbered : {A : Type 0} → Parsed A → Type 0
 ReadNumbered (parsed a n) = Unit {0}
 ReadNumbered absent = Unit {0}
-ReadNumbered (barred r l) = Numbered (number_of r)
+ReadNumbered (barred r l) = UpTo 16 (number_of r)
 
 plus_numbered : {A : Type 0} (n : ℕ) (o : Parsed A) → ReadNumbered o → ReadNumbered (plus n o)
 plus_numbered n (parsed a m) h = tt
@@ -119,7 +127,7 @@ follow_numbered (parsed a n) ts next h f = plus_numbered n (next a (drop n ts)) 
 follow_numbered absent ts next h f = tt
 follow_numbered (barred r l) ts next h f = h
 
-required_numbered : {A : Type 0} (r : Refusal) (l : ℕ) (o : Parsed A) → Numbered (number_of r) → ReadNumbered o → ReadNumbered (required r l o)
+required_numbered : {A : Type 0} (r : Refusal) (l : ℕ) (o : Parsed A) → UpTo 16 (number_of r) → ReadNumbered o → ReadNumbered (required r l o)
 required_numbered r l (parsed a n) g h = tt
 required_numbered r l absent g h = g
 required_numbered r l (barred q m) g h = h
@@ -301,7 +309,7 @@ module _ (text : List ℕ) (last : ℕ) where
     body_numbered : (k : ℕ) (all : Tokens) → ReadNumbered (body_of text last k all ts)
     unfolding body_of
     body_numbered k all =
-        let table : Numbered 16 = (omega arith, omega arith) in
+        let table : UpTo 16 16 = (omega arith, omega arith) in
         when_numbered (eqb k 1) _ _ sort_numbered
         (when_numbered (eqb k 2) _ _ ctor_numbered
         (when_numbered (eqb k 3) _ _ pred_numbered
@@ -335,13 +343,44 @@ module _ (text : List ℕ) (limit e line : ℕ) where
   parsed_numbered : (ts : Tokens) (o : Parsed (List Declared)) → parse_of text ts ≡ o → of_parsed text limit o ≡ refused e line → Numbered e
   parsed_numbered ts (parsed ds n) q p = loaded_numbered limit text ds e line (parsed_nonempty text ts ds n q) p
   parsed_numbered ts absent q p = loaded_numbered limit text [] e line tt p
-  parsed_numbered ts (barred r n) q p = refusal_numbered r n (rw q at (parse_numbered text ts)) p
+  parsed_numbered ts (barred r n) q p = refusal_numbered r n (numbered (omega arith) (rw q at (parse_numbered text ts))) p
 
   read_numbered : (o : Reading) → ReadingNumbered o → of_parsed text limit (parsed_text text o) ≡ refused e line → Numbered e
   read_numbered (tokens ts) h p = parsed_numbered ts (parse_of text ts) refl p
-  read_numbered (unread r n) h p = refusal_numbered r n h p
+  read_numbered (unread r n) h p = refusal_numbered r n (numbered (omega arith) h) p
 
 -- No text is refused by 0.
 pub refused_by_number : (text : List ℕ) (limits : Limits) (e line : ℕ) → load_text text limits ≡ refused e line → (0 < e) × (e ≤ 28)
 refused_by_number text limits e line p =
     read_numbered text (capped_of limits).nodes e line (lex_of (capped_of limits).text text) (lex_numbered (capped_of limits).text text) p
+
+-- What `lex` answers, and `parse_text`
+
+answer_numbered : (o : Reading) (e : Rejection) → ReadingNumbered o → lexed_as o ≡ Err e → UpTo 6 (number_of e.refusal)
+answer_numbered (tokens ts) e h p = absurd (let z : ◌≡◌ {A = ℕ} 0 1 = cc in omega arith)
+answer_numbered (unread r n) e h p = let w : number_of r ≡ number_of e.refusal = cc in rw w at h
+
+-- A text that `lex` refuses is refused by 1 to 6.
+pub lexed_by_number : (text : List ℕ) (limits : Limits) (rows : List (List ℕ)) (e : Rejection) → lex_answer text limits rows ≡ Err e → UpTo 6 (number_of e.refusal)
+lexed_by_number text limits rows e p =
+    by_bool (ltb (length rows) (capped_of limits).text)
+    (λ s. let q = rw s at p in let w : 1 ≡ number_of e.refusal = cc in let one : UpTo 6 1 = (omega arith, omega arith) in subst (λ (k : ℕ). UpTo 6 k) w one)
+    (λ s. answer_numbered (lex_of (capped_of limits).text text) e (lex_numbered (capped_of limits).text text) (rw s at p))
+
+text_numbered : (text : List ℕ) (o : Reading) → ReadingNumbered o → ReadNumbered (parsed_text text o)
+text_numbered text (tokens ts) h = parse_numbered text ts
+text_numbered text (unread r n) h = (h.0, omega (arith, h.1))
+
+parsed_answer_numbered : (o : Parsed (List Declared)) (e : Rejection) → ReadNumbered o → parsed_as o ≡ Err e → UpTo 16 (number_of e.refusal)
+parsed_answer_numbered (parsed ds n) e h p = absurd (let z : ◌≡◌ {A = ℕ} 0 1 = cc in omega arith)
+parsed_answer_numbered absent e h p = absurd (let z : ◌≡◌ {A = ℕ} 0 1 = cc in omega arith)
+parsed_answer_numbered (barred r n) e h p = let w : number_of r ≡ number_of e.refusal = cc in rw w at h
+
+-- A text that `parse_text` refuses is refused by 1 to 16.
+pub parsed_by_number : (text : List ℕ) (limits : Limits) (tokens' rows rows' : List (List ℕ)) (r : Answer) (ts : List (List ℕ)) (e : Rejection)
+    → ParsingText text limits ts rows r tokens' rows' → r ≡ Err e → UpTo 16 (number_of e.refusal)
+parsed_by_number text limits tokens' rows rows' r ts e h p =
+    let a : cond (short_for limits ts rows) (rejected Storage 0) (parsed_as (text_of text limits)) ≡ Err e = sym h.answer ∙ p in
+    by_bool (short_for limits ts rows)
+    (λ s. let q = rw s at a in let w : 1 ≡ number_of e.refusal = cc in let one : UpTo 16 1 = (omega arith, omega arith) in subst (λ (k : ℕ). UpTo 16 k) w one)
+    (λ s. parsed_answer_numbered (text_of text limits) e (text_numbered text (lex_of (capped_of limits).text text) (lex_numbered (capped_of limits).text text)) (rw s at a))

@@ -90,6 +90,36 @@ fn fill_rows<const N: usize>(rows: &mut [[u32; N]], from: usize, value: u32)
     slices::clear_from(rows, from, [value; N]);
 }
 
+// Zeroes the scratch, and the rows of `#eval` from a count on.
+fn clear_scratch(
+    tokens: &mut [TermRow],
+    calls: &mut [TermRow],
+    evals: &mut [EvalRow],
+    waiting: usize,
+)
+    ensures { ScratchCleared tokens.old calls.old evals.old waiting tokens.new calls.new evals.new }
+{
+    fill_rows(tokens, 0, 0);
+    fill_rows(calls, 0, 0);
+    fill_rows(evals, waiting, 0);
+}
+
+// Zeroes the storage of a signature from the counts on.
+fn clear_signature(
+    sorts: &mut [SortRow],
+    symbols: &mut [SymbolRow],
+    rules: &mut [RuleRow],
+    words: &mut [u32],
+    used: Used,
+)
+    ensures { SignatureCleared sorts.old symbols.old rules.old words.old used.sorts used.symbols used.rules used.words sorts.new symbols.new rules.new words.new }
+{
+    fill_rows(sorts, used.sorts, 0);
+    fill_rows(symbols, used.symbols, 0);
+    fill_rows(rules, used.rules, 0);
+    slices::clear_from(words, used.words, 0);
+}
+
 // Zeroes the scratch, and the rest of the storage from the counts on.
 pub fn leave(buffers: &mut LentBuffers, used: Used, waiting: usize)
     ensures scratch_cleared { ScratchCleared buffers.old.tokens.now buffers.old.calls.now buffers.old.evals.now waiting buffers.new.tokens.now buffers.new.calls.now buffers.new.evals.now }
@@ -97,13 +127,14 @@ pub fn leave(buffers: &mut LentBuffers, used: Used, waiting: usize)
     ensures rows { buffers.new.rows.now ≡ buffers.old.rows.now }
     ensures lent { IsLent buffers.old buffers.new }
 {
-    fill_rows(buffers.tokens, 0, 0);
-    fill_rows(buffers.calls, 0, 0);
-    fill_rows(buffers.evals, waiting, 0);
-    fill_rows(buffers.sorts, used.sorts, 0);
-    fill_rows(buffers.symbols, used.symbols, 0);
-    fill_rows(buffers.rules, used.rules, 0);
-    slices::clear_from(buffers.words, used.words, 0);
+    clear_scratch(buffers.tokens, buffers.calls, buffers.evals, waiting);
+    clear_signature(
+        buffers.sorts,
+        buffers.symbols,
+        buffers.rules,
+        buffers.words,
+        used,
+    );
 }
 
 // Zeroes everything.
