@@ -59,11 +59,12 @@ fn text_limits(text: u32, nodes: u32) -> words::Limits
 pub fn limits_of(steps: u32, variables: u32, words: u32) -> words::Limits
     ensures { result ≡ search_limits steps variables words }
 {
+    let others = words::Limits::default();
     words::Limits {
         steps,
         variables,
         words,
-        ..words::Limits::default()
+        ..others
     }
 }
 
