@@ -39,11 +39,10 @@ fn push_values(words: &mut [u32], address: u32, header: u32, from: u32, count: u
     ensures { Pushed words.old address header from count words.new }
 {
     let at = address as usize;
-    let size = count as usize;
-    let (front, arguments) = words.split_at_mut(from as usize);
-    front[at] = header;
-    front[at + 1..at + 1 + size].copy_from_slice(&arguments[..size]);
-    arguments[0] = address;
+    let source = from as usize;
+    words[at] = header;
+    words.copy_within(source..source + count as usize, at + 1);
+    words[source] = address;
 }
 
 // A pattern that is a node, by its address, with the values of its variables put in. The words from the limit on are scratch: references of arguments whose
