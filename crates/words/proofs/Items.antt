@@ -8,7 +8,7 @@ use native.Mathlib.Omega.{arith}
 use lib.ListN.{length, get_or, take, drop}
 use lib.Dec.{eqb}
 use borrow.Author.Tests.{ne_eqb, eqb-true}
-use Rattle.std.proofs.Common.{◌⊎◌, ⊎_elim}
+use Rattle.std.proofs.Common.{◌⊎◌, inl, inr, ⊎_elim}
 use Rattle.std.proofs.lemmas.List.{get_or_past}
 use Rattle.source_text.specs.Bytes.{starts_with, same_bytes}
 use Rattle.source_text.specs.Characters.{class_number, arrow, character_of}
@@ -19,7 +19,7 @@ use Rattle.refusals.specs.declared.Refusal.TheVariants.{UnexpectedCharacter, Num
 use Rattle.std.specs.Prelude.{◌≢◌, Option, Some, None}
 use Rattle.std.specs.Option.{is_some}
 use Rattle.source_text.specs.declared.characters.Class.{Class}
-use Rattle.source_text.specs.declared.characters.Class.TheVariants.{Letter, Digit}
+use Rattle.source_text.specs.declared.characters.Class.TheVariants.{Stray, Blank as BlankClass, Letter, Digit, Sign, Outside}
 use Rattle.words.specs.Items.{Item}
 use Rattle.words.specs.Items.Item.{Blank, Token, Refused}
 use Rattle.source_text.specs.ByteLaws.{by_bool, and_left, and_right}
@@ -144,6 +144,23 @@ lettered k e =
     (λ f. let g : k ≡ Letter = f in rw g (refl, λ z. omega arith))
     (λ f. let g : k ≡ Digit = f in rw g (refl, λ z. omega arith))
     e
+
+-- What is no blank has no blank's number; and what is neither a blank, nor makes words, nor starts a sign, starts nothing.
+pub no_blank : (k : Class) → (k ≡ BlankClass → ⊥) → class_number k ≡ 1 → ⊥
+no_blank Stray n e = omega arith
+no_blank BlankClass n e = n refl
+no_blank Letter n e = omega arith
+no_blank Digit n e = omega arith
+no_blank Sign n e = omega arith
+no_blank Outside n e = omega arith
+
+pub nothing_starts : (k : Class) → (k ≡ BlankClass → ⊥) → is_word (class_number k) ≡ false → (k ≡ Sign → ⊥) → (class_number k ≡ 0) ⊎ (class_number k ≡ 5)
+nothing_starts Stray n w s = inl refl
+nothing_starts BlankClass n w s = absurd (n refl)
+nothing_starts Letter n w s = absurd (let z : ◌≡◌ {A = ℕ} 0 1 = cc in omega arith)
+nothing_starts Digit n w s = absurd (let z : ◌≡◌ {A = ℕ} 0 1 = cc in omega arith)
+nothing_starts Sign n w s = absurd (s refl)
+nothing_starts Outside n w s = inr refl
 
 -- The item of a numeral.
 pub fits_some : (v : Option ℕ) (i : Item) → is_some v ≡ true → if_fits v i ≡ i

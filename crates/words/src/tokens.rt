@@ -40,16 +40,22 @@ fn in_word(class: Class) -> bool
 }
 
 // What stands where a rest of a line starts: a token, or nothing at a blank.
+// Stays: a `match` on the six classes becomes a table of jumps, and four-letter words took 1.5 to 1.8 times as long by one jump at each token and blank.
 fn item_at(rest: &[u8]) -> Result<Option<Lexeme>, Refusal>
     requires { 0 < length rest.now }
     ensures { item result ≡ item_of rest.now }
 {
-    match character_at(rest, 0).class {
-        Class::Blank => Ok(None),
-        Class::Letter | Class::Digit => Ok(Some(word_item(&rest[..word_length(rest)])?)),
-        Class::Sign => Ok(Some(sign_item(rest)?)),
-        Class::Stray | Class::Outside => Err(Refusal::UnexpectedCharacter),
+    let class = character_at(rest, 0).class;
+    if let Class::Blank = class {
+        return Ok(None);
     }
+    if in_word(class) {
+        return Ok(Some(word_item(&rest[..word_length(rest)])?));
+    }
+    if let Class::Sign = class {
+        return Ok(Some(sign_item(rest)?));
+    }
+    Err(Refusal::UnexpectedCharacter)
 }
 
 // Reads the code of a line; its tokens go to the rows from 0 on.
