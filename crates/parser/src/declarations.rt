@@ -12,7 +12,7 @@ ghost use Rattle.parser.specs.Promises.{Declares};
 
 use super::{BINDERS, CLAUSE};
 use refusals::{Refusal, Rejection};
-use term_parser::items::{Item, Judgment, Name, Repeated, all, list};
+use term_parser::items::{Item, Judgment, Name, Repeated, all, list, present};
 use term_parser::lists::{arrows, judgments, name, names, patterns, title};
 use term_parser::terms::app;
 use term_parser::tokens::{name_token, peek, rejection, sign};
@@ -325,7 +325,7 @@ impl Repeated for Declaration {
             return Ok(None);
         }
         let t = peek(input.tokens, from.at);
-        Ok(Some(body(input, from, out, t)?))
+        present(body(input, from, out, t))
     }
 }
 

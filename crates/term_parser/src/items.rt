@@ -1,5 +1,5 @@
 // Items: what lists are made of, and how a list is read, whatever its items are.
-ghost use Rattle.std.specs.Prelude.{ℕ, List, [], ◌+◌, ◌≤◌, ◌<◌, IfOk};
+ghost use Rattle.std.specs.Prelude.{◌≡◌, ℕ, List, [], ◌+◌, ◌≤◌, ◌<◌, IfOk};
 ghost use Rattle.std.proofs.Common.{rules};
 ghost use Rattle.term_parser.specs.Source.{Place, Source, one};
 ghost use Rattle.term_parser.specs.Parsing.{Tokens, Parsed, repeat, behind};
@@ -121,6 +121,17 @@ impl Item for Pattern {
     }
 }
 
+// An item that is there, where it is not refused.
+// Stays: `read.map(Some)` says the same, but parsing short declarations takes a fifth more time by it; so it does by `?`, here and in `all`.
+pub fn present(read: Result<Read, Rejection>) -> Result<Option<Read>, Rejection>
+    ensures { maybe_step result ≡ step read }
+{
+    match read {
+        Ok(read) => Ok(Some(read)),
+        Err(rejection) => Err(rejection),
+    }
+}
+
 // An item behind a sign, as those that follow a first one.
 pub struct Next<I>(I);
 
@@ -136,7 +147,7 @@ impl<I: Item> Repeated for Next<I> {
             return Ok(None);
         }
         let behind = from.past_token();
-        Ok(Some(I::read(input, behind, out)?))
+        present(I::read(input, behind, out))
     }
 }
 
@@ -154,7 +165,7 @@ impl Repeated for Bound {
         if peek(input.tokens, from.at).kind == COLON {
             return Ok(None);
         }
-        Ok(Some(name(input, from, out)?))
+        present(name(input, from, out))
     }
 }
 
@@ -170,9 +181,15 @@ pub fn all<R: Repeated>(
 {
     let mut next = from;
     let mut n = 0;
-    while let Some(more) = R::read(input, next, out)? {
-        next = more.position;
-        n += 1;
+    loop {
+        match R::read(input, next, out) {
+            Ok(Some(more)) => {
+                next = more.position;
+                n += 1;
+            }
+            Ok(None) => break,
+            Err(rejection) => return Err(rejection),
+        }
     }
     Ok(Read {
         position: next,

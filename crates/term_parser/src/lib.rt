@@ -85,8 +85,10 @@ impl Position {
 }
 
 // Where a reader came to, and how many items it read.
+// Stays: the count stands first: in a `Result` a place there would share the bytes of a `Rejection` in part, so that each `?` would cut it in two and put
+// it together in memory.
 #[derive(Clone, Copy)]
 pub struct Read {
-    pub position: Position,
     pub count: u32,
+    pub position: Position,
 }

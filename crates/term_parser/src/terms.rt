@@ -121,7 +121,9 @@ pub fn app(input: Input, from: Position, left: u32, out: &mut [[u32; 4]]) -> Res
 }
 
 // A judgment: `f args`, or `f args = result`.
+// It is inlined into `atom` and `Judgment::read`: called, it would read by 16 bytes an `Input` that is written by 8, and wait for both writes.
 #[cycle(app_atom_term)]
+#[inline(always)]
 pub fn term(
     input: Input,
     from: Position,
@@ -131,10 +133,13 @@ pub fn term(
     requires { Room input.tokens.now from.at from.used out.old }
     ensures { Reads 1 rows_of (λ text last. term_of text last (parenthesis text last left)) input.entry from out.old (step result) out.new }
 {
-    let first = app(input, from, left, out)?;
+    let read = app(input, from, left, out);
+    let Ok(first) = read else {
+        return read;
+    };
     let next = first.position;
     if peek(input.tokens, next.at).kind != EQUALS {
-        return Ok(first);
+        return read;
     }
     let behind = next.past_token();
     let second = app(input, behind, left, out)?;

@@ -41,40 +41,36 @@ app-returns t c = let args = c.args in let pre = c.requires in let atom = c.atom
 pub app-returns-in_err-more : goal.app-returns-in_err-more
 app-returns-in_err-more t c = let args = c.args in let pre = c.requires in let atom = c.atom in let loop = c.loop-more in rw (maybe_exits _ _ c.in_err-more.was c.from_residual.ensures.1, ap maybe_step c.in_err-more.was) (atoms_refused (args.input.text.now) (args.input.tokens.now) (args.left) (pre) (atom.ensures) (loop.invariant) (ap maybe_step c.in_err-more.was))
 
-pub term-returns-in_err-first : goal.term-returns-in_err-first
-term-returns-in_err-first t c =
-    let args = c.args in
-    let pre = c.requires in
-    let app = c.app in
-    rw (exits _ _ c.in_err-first.was c.from_residual.ensures.1) (term_stopped args.input.text.now args.input.tokens.now args.left pre app.ensures (stopped_err _ c.in_err-first.was))
+pub term-returns-in_default : goal.term-returns-in_default
+term-returns-in_default t c = term_stopped c.args.input.text.now c.args.input.tokens.now c.args.left c.requires c.app-read.ensures (stopped_err _ c.in_default.is)
 
 pub term-returns-then-peek-ne-EQUALS : goal.term-returns-then-peek-ne-EQUALS
 term-returns-then-peek-ne-EQUALS t c =
     let args = c.args in
     let pre = c.requires in
-    let app = c.app in
+    let app = c.app-read in
     let if1 = c.if-peek-ne-EQUALS in
     let peek = c.peek in
-    term_plain args.input.text.now args.input.tokens.now args.left pre app.ensures (ap step c.in_ok-first.was) (λ e. if1.true (ap (λ x. x.kind) peek.ensures ∙ e))
+    term_plain args.input.text.now args.input.tokens.now args.left pre app.ensures (ap step c.in-Ok.is) (λ e. if1.true (ap (λ x. x.kind) peek.ensures ∙ e))
 
 pub term-past_token-behind-requires : goal.term-past_token-behind-requires
 term-past_token-behind-requires t c =
-    let app = c.app in
+    let app = c.app-read in
     let args = c.args in
     let pre = c.requires in
-    let h = token_there args.input.tokens.now c.in_ok-first.first.position.at (let e = ap (λ x. x.kind) (sym c.peek.ensures) ∙ c.if-peek-ne-EQUALS.false in
+    let h = token_there args.input.tokens.now c.in-Ok.first.position.at (let e = ap (λ x. x.kind) (sym c.peek.ensures) ∙ c.if-peek-ne-EQUALS.false in
     omega arith) in
     omega (arith, h, pre.small)
 
-pub term-app-requires-2 : goal.term-app-requires-2
-term-app-requires-2 t c =
-    let app = c.app in
+pub term-app-requires : goal.term-app-requires
+term-app-requires t c =
+    let app = c.app-read in
     let args = c.args in
     let peek = c.peek in
     let if1 = c.if-peek-ne-EQUALS in
     let pre = c.requires in
-    let m = moved app.ensures (ap step c.in_ok-first.was) in
-    let h = token_there args.input.tokens.now c.in_ok-first.first.position.at (let e = ap (λ x. x.kind) (sym peek.ensures) ∙ if1.false in
+    let m = moved app.ensures (ap step c.in-Ok.is) in
+    let h = token_there args.input.tokens.now c.in-Ok.first.position.at (let e = ap (λ x. x.kind) (sym peek.ensures) ∙ if1.false in
     omega arith) in
     rw c.past_token-behind.ensures (omega (arith, m), room_on pre _ _ _ (omega arith) (omega (arith, m)) app.auto.out)
 
@@ -82,37 +78,37 @@ pub term-returns-in_err-second : goal.term-returns-in_err-second
 term-returns-in_err-second t c =
     let args = c.args in
     let pre = c.requires in
-    let app = c.app in
+    let app = c.app-read in
     let peek = c.peek in
     let if1 = c.if-peek-ne-EQUALS in
-    let app2 = c.app-2 in
+    let app2 = c.app in
     let second = rw c.past_token-behind.ensures at app2.ensures in
-    rw (exits _ _ c.in_err-second.was c.from_residual-in_err-second.ensures.1) (second_stopped args.input.text.now args.input.tokens.now args.left pre app.ensures (ap step c.in_ok-first.was) (ap (λ x. x.kind) (sym peek.ensures) ∙ if1.false) second (stopped_err _ c.in_err-second.was))
+    rw (exits _ _ c.in_err-second.was c.from_residual.ensures.1) (second_stopped args.input.text.now args.input.tokens.now args.left pre app.ensures (ap step c.in-Ok.is) (ap (λ x. x.kind) (sym peek.ensures) ∙ if1.false) second (stopped_err _ c.in_err-second.was))
 
 pub term-equate-requires : goal.term-equate-requires
 term-equate-requires t c =
-    let app = c.app in
-    let app2 = c.app-2 in
+    let app = c.app-read in
+    let app2 = c.app in
     let pre = c.requires in
     let args = c.args in
     let peek = c.peek in
     let if1 = c.if-peek-ne-EQUALS in
-    let m = moved app.ensures (ap step c.in_ok-first.was) in
+    let m = moved app.ensures (ap step c.in-Ok.is) in
     let second = rw c.past_token-behind.ensures at app2.ensures in
     let n = moved second (ap step c.in_ok-second.was) in
-    record { fact_1 = omega (arith, m, n, pre.lent, pre.below, app.auto.out, app2.auto.out); fact_2 = root_room args.input.text.now args.input.tokens.now args.left pre app.ensures (ap step c.in_ok-first.was) (ap (λ x. x.kind) (sym peek.ensures) ∙ if1.false) second (ap step c.in_ok-second.was) (omega (arith, m, n, pre.lent, pre.below, app.auto.out, app2.auto.out)) }
+    record { fact_1 = omega (arith, m, n, pre.lent, pre.below, app.auto.out, app2.auto.out); fact_2 = root_room args.input.text.now args.input.tokens.now args.left pre app.ensures (ap step c.in-Ok.is) (ap (λ x. x.kind) (sym peek.ensures) ∙ if1.false) second (ap step c.in_ok-second.was) (omega (arith, m, n, pre.lent, pre.below, app.auto.out, app2.auto.out)) }
 
 pub term-returns : goal.term-returns
 term-returns t c =
     let args = c.args in
     let pre = c.requires in
-    let app = c.app in
+    let app = c.app-read in
     let peek = c.peek in
     let if1 = c.if-peek-ne-EQUALS in
-    let app2 = c.app-2 in
+    let app2 = c.app in
     let equate = c.equate in
     let second = rw c.past_token-behind.ensures at app2.ensures in
-    term_equated args.input.text.now args.input.tokens.now args.left pre app.ensures (ap step c.in_ok-first.was) (ap (λ x. x.kind) (sym peek.ensures) ∙ if1.false) second (ap step c.in_ok-second.was) equate.ensures
+    term_equated args.input.text.now args.input.tokens.now args.left pre app.ensures (ap step c.in-Ok.is) (ap (λ x. x.kind) (sym peek.ensures) ∙ if1.false) second (ap step c.in_ok-second.was) equate.ensures
 
 pub atom-returns-in-12 : goal.atom-returns-in-12
 atom-returns-in-12 t c =

@@ -3,17 +3,10 @@ use mathlib.Core.Path.{ap, ◌∙◌}
 use lib.ListN.{drop}
 use Rattle.term_parser.specs.Parsing.{last_line}
 use Rattle.term_parser.specs.Grammar.{name_of}
-use Rattle.term_parser.specs.Steps.{step}
-use Rattle.term_parser.proofs.Readers.{exits_maybe}
 use Rattle.term_parser.proofs.ListLaws.{unless_answers}
 use Rattle.term_parser.proofs.items.BoundRepeated.read.Goals as goal
-
-pub returns-in_err-name : goal.returns-in_err-name
-returns-in_err-name c =
-    let tokens = c.args.input.tokens.now in
-    rw (exits_maybe _ _ c.in_err-name.was c.from_residual.ensures.1) (unless_answers 20 (name_of (last_line tokens)) (drop c.args.from.at tokens) (λ e. c.if-peek-eq-COLON.false (ap (λ x. x.kind) c.peek.ensures ∙ e)) c.name.ensures)
 
 pub returns : goal.returns
 returns c =
     let tokens = c.args.input.tokens.now in
-    rw (ap step c.in_ok-name.was) at (unless_answers 20 (name_of (last_line tokens)) (drop c.args.from.at tokens) (λ e. c.if-peek-eq-COLON.false (ap (λ x. x.kind) c.peek.ensures ∙ e)) c.name.ensures)
+    rw c.present.ensures (unless_answers 20 (name_of (last_line tokens)) (drop c.args.from.at tokens) (λ e. c.if-peek-eq-COLON.false (ap (λ x. x.kind) c.peek.ensures ∙ e)) c.name.ensures)
