@@ -53,7 +53,7 @@ fn heading(rows: &[TermRow], at: usize, n: usize, word: Word, out: &mut [TermRow
 {
     let end = skip(rows, at, n);
     out[0] = [APPLICATION, word.start, word.size, n as u32 + 1];
-    out[1..1 + (end - at)].copy_from_slice(&rows[at..end]);
+    slices::copy(&mut out[1..1 + (end - at)], &rows[at..end]);
     end
 }
 

@@ -48,7 +48,7 @@ fn copy(rows: &[SortRow], spare: &mut [SortRow], from: usize, to: usize)
     requires { (from ≤ to) × (to ≤ length rows.now) × (to ≤ length spare.old) }
     ensures { (i : ℕ) → from ≤ i → i < to → row_at spare.new i ≡ row_at rows.now i }
 {
-    spare[from..to].copy_from_slice(&rows[from..to]);
+    slices::copy(&mut spare[from..to], &rows[from..to]);
 }
 
 // Merges two ascending runs of `spare` into `places`: one before `middle`, one from there on. Where both have a name, the answer is no.

@@ -85,7 +85,7 @@ fn finish(
         args as u32 + 1,
     ];
     let stop = end + (last - top);
-    calls[end + 1..stop].copy_from_slice(&out[top + 1..last]);
+    slices::copy(&mut calls[end + 1..stop], &out[top + 1..last]);
     let place = 16 * (number as u32);
     let n = result_length(number);
     calls[stop] = [names::RESULT, place, n, 0];

@@ -1,6 +1,7 @@
-// Slices: a part of one; and of any type that is copied, an item put at a place, and the items from a place on cleared, or compared with a value.
+// Slices: a part of one; and of any type that is copied, an item put at a place, all items copied, and the items from a place on cleared, or compared
+// with a value.
 //
-// None asks anything of its caller.
+// None but `copy` asks anything of its caller.
 #![tactic(auto)]
 
 ghost use Rattle.std.specs.Prelude.{◌≡◌, ◌&&◌, ◌++◌, ◌-◌, nat_le, length, take, drop, replicate, set};
@@ -24,6 +25,17 @@ pub fn put<T: Copy>(items: &mut [T], at: usize, item: T)
 {
     if at < items.len() {
         items[at] = item;
+    }
+}
+
+// Copies all items of `source`, which is as long.
+// Stays: where a length is known at run time alone, `copy_from_slice` can become a call of `memmove`, which the archives for C would ask of their hosts.
+pub fn copy<T: Copy>(items: &mut [T], source: &[T])
+    requires { length items.old ≡ length source.now }
+    ensures after { items.new ≡ source.now }
+{
+    for (i, &item) in source.iter().enumerate() {
+        items[i] = item;
     }
 }
 
