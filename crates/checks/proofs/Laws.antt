@@ -7,8 +7,7 @@ use lib.Dec.{eqb}
 use lib.Bits.{bit_or, or_add_and, and_le_l, and_le_r}
 use lib.ListN.{get_or, length}
 use borrow.Author.Tests.{eqb-true, eq-eqb}
-use Rattle.std.specs.List.{fold, flat_map}
-use Rattle.std.proofs.lemmas.List.Sums.{fold-append}
+use Rattle.std.specs.List.{fold}
 use Rattle.arena.specs.Rows.{Rows}
 use Rattle.bindings.specs.Promises.{Tells}
 use Rattle.checks.specs.Ready.{ZeroRow, Joined, Zeros}
@@ -37,20 +36,19 @@ joined_row (x ∷ row) a =
     }
 
 -- So it is of rows, one behind the other.
-seen_rows : (rows : Rows) (a : ℕ) → fold bit_or a (flat_map (λ x. x) rows) ≡ 0 → (a ≡ 0) × ((j : ℕ) → ZeroRow (get_or rows j []))
+seen_rows : (rows : Rows) (a : ℕ) → fold (fold bit_or) a rows ≡ 0 → (a ≡ 0) × ((j : ℕ) → ZeroRow (get_or rows j []))
 seen_rows [] a e = (e, λ j c. refl)
 seen_rows (row ∷ rows) a e =
-    let more = seen_rows rows (fold bit_or a row) (sym (fold-append bit_or a row (flat_map (λ x. x) rows)) ∙ e) in
+    let more = seen_rows rows (fold bit_or a row) e in
     let one = joined_row row a in
     (one.old more.0, by_first (λ j. ZeroRow (get_or (row ∷ rows) j [])) (one.zero_row more.0) more.1)
 
-rows_seen : (rows : Rows) (a : ℕ) → a ≡ 0 → ((j : ℕ) → ZeroRow (get_or rows j [])) → fold bit_or a (flat_map (λ x. x) rows) ≡ 0
+rows_seen : (rows : Rows) (a : ℕ) → a ≡ 0 → ((j : ℕ) → ZeroRow (get_or rows j [])) → fold (fold bit_or) a rows ≡ 0
 rows_seen [] a e z = e
-rows_seen (row ∷ rows) a e z =
-    fold-append bit_or a row (flat_map (λ x. x) rows) ∙ rows_seen rows (fold bit_or a row) ((joined_row row a).back e (z 0)) (λ j. z (suc j))
+rows_seen (row ∷ rows) a e z = rows_seen rows (fold bit_or a row) ((joined_row row a).back e (z 0)) (λ j. z (suc j))
 
--- What is or-ed together of all numbers tells whether the rows are zero.
-pub seen_all : {rows : Rows} {least seen : ℕ} → least ≤ length rows → seen ≡ fold bit_or 0 (flat_map (λ x. x) rows) → Tells (eqb seen 0) (Zeros rows least)
+-- What is or-ed together of all rows tells whether they are zero.
+pub seen_all : {rows : Rows} {least seen : ℕ} → least ≤ length rows → seen ≡ fold (fold bit_or) 0 rows → Tells (eqb seen 0) (Zeros rows least)
 seen_all {rows} {least} {seen} l h = record {
   yes = λ e. record { lent = l; empty = λ c j. (seen_rows rows 0 (sym h ∙ eqb-true seen 0 e)).1 j c };
   back = λ z. eq-eqb seen 0 (h ∙ rows_seen rows 0 refl (λ j c. z.empty c j));

@@ -1,7 +1,17 @@
 // Whether scratch is zero: its numbers are or-ed together, and looked at once.
+ghost use Rattle.std.specs.Prelude.{◌≡◌};
+ghost use Rattle.std.specs.List.{fold};
+ghost use Rattle.std.specs.Int.Bits.{bit_or};
 ghost use Rattle.bindings.specs.Promises.{Tells};
 ghost use Rattle.unifier.specs.Promises.{Scratch};
 ghost use Rattle.checks.specs.Ready.{Zeros};
+
+// All numbers of a row, or-ed to what was before.
+fn joined<const N: usize>(seen: u32, row: &[u32; N]) -> u32
+    ensures { result ≡ fold bit_or seen row.now }
+{
+    row.iter().fold(seen, |seen, &number| seen | number)
+}
 
 // Whether there are at least so many rows, and all are zero.
 pub fn are_zero<const N: usize>(rows: &[[u32; N]], least: usize) -> bool
@@ -10,11 +20,7 @@ pub fn are_zero<const N: usize>(rows: &[[u32; N]], least: usize) -> bool
     if rows.len() < least {
         return false;
     }
-    let seen = rows
-        .as_flattened()
-        .iter()
-        .fold(0, |seen, &number| seen | number);
-    seen == 0
+    rows.iter().fold(0, joined) == 0
 }
 
 // Whether links, marks and stack are zero, and long enough for words of which `used` are in use, with room for `room` variables.
