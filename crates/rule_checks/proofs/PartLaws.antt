@@ -1,7 +1,9 @@
 -- Laws of a part of a list, as a slice of it is lent: what holds of each number of the part holds of each number at its places.
 use Rattle.std.specs.Prelude.{IsTrue, ◌↔◌, slice_index}
-use Rattle.std.specs.List.{list_all}
-use Rattle.std.proofs.Common.{◌≡◌, ℕ, ◌+◌, ◌-◌, ◌≤◌, ◌<◌, Bool, true, List, length, get_or, take, drop, sym, ap, subst, ◌∙◌, arith, EachIndex, length-take, length-drop, get_or-take, get_or-drop}
+use Rattle.std.specs.List.{list_all, fold}
+use Rattle.std.specs.Int.Bits.{bit_or}
+use lib.Bits.{or_add_and, and_le_l, and_le_r}
+use Rattle.std.proofs.Common.{◌≡◌, refl, ℕ, zero, suc, [], ◌∷◌, ◌&&◌, false, nat_eq, ne_eqb, ◌+◌, ◌-◌, ◌≤◌, ◌<◌, Bool, true, List, length, get_or, take, drop, sym, ap, subst, ◌∙◌, arith, EachIndex, length-take, length-drop, get_or-take, get_or-drop}
 use Rattle.std.proofs.lemmas.List.Sums.{AllPass-from_list_all, list_all-from_AllPass}
 use Rattle.names.specs.SearchLaws.{get_d_any}
 
@@ -43,3 +45,22 @@ each_passes test P right left xs r e = (
   λ t i l. right _ (AllPass-from_list_all test xs (sym e ∙ t) i 0 l),
   λ h. e ∙ list_all-from_AllPass test xs (λ i d l. ap test (get_d_any xs i d 0 l) ∙ left _ (h i l)),
 )
+
+-- What is or-ed together of numbers is 0 exactly where each of them is.
+or_zero : (a b : ℕ) → nat_eq (bit_or a b) 0 ≡ (nat_eq a 0 && nat_eq b 0)
+or_zero zero zero = refl
+or_zero zero (suc b) = ne_eqb _ _ (λ e. let s = or_add_and 0 (suc b) in let l = and_le_l 0 (suc b) in omega arith) ∙ sym (ne_eqb (suc b) 0 (λ e. omega arith))
+or_zero (suc a) b = ne_eqb _ _ (λ e. let s = or_add_and (suc a) b in let l = and_le_r (suc a) b in omega arith) ∙ sym (ap (λ t. t && nat_eq b 0) (ne_eqb (suc a) 0 (λ e. omega arith)))
+
+and_assoc : (a b c : Bool) → ((a && b) && c) ≡ (a && (b && c))
+and_assoc true b c = refl
+and_assoc false b c = refl
+
+and_true : (a : Bool) → a ≡ (a && true)
+and_true true = refl
+and_true false = refl
+
+pub joined_zero : (columns : List ℕ) (a : ℕ) → nat_eq (fold bit_or a columns) 0 ≡ (nat_eq a 0 && list_all (λ x. nat_eq x 0) columns)
+joined_zero [] a = and_true (nat_eq a 0)
+joined_zero (x ∷ columns) a =
+    joined_zero columns (bit_or a x) ∙ ap (λ b. b && list_all (λ y. nat_eq y 0) columns) (or_zero a x) ∙ and_assoc (nat_eq a 0) (nat_eq x 0) (list_all (λ y. nat_eq y 0) columns)
