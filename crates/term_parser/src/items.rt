@@ -122,7 +122,7 @@ impl Item for Pattern {
 }
 
 // An item that is there, where it is not refused.
-// Stays: `read.map(Some)` says the same, but parsing short declarations takes a fifth more time by it; so it does by `?`, here and in `all`.
+// Stays: `read.map(Some)` says the same, but parsing short declarations took longer by it, and longer still by `?`, here and in `all`.
 pub fn present(read: Result<Read, Rejection>) -> Result<Option<Read>, Rejection>
     ensures { maybe_step result ≡ step read }
 {

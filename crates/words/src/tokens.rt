@@ -40,7 +40,7 @@ fn in_word(class: Class) -> bool
 }
 
 // What stands where a rest of a line starts: a token, or nothing at a blank.
-// Stays: a `match` on the six classes becomes a table of jumps, and four-letter words took 1.5 to 1.8 times as long by one jump at each token and blank.
+// Stays: a `match` on the six classes becomes a table of jumps, and lexing takes one jump through it at each token and each blank.
 fn item_at(rest: &[u8]) -> Result<Option<Lexeme>, Refusal>
     requires { 0 < length rest.now }
     ensures { item result ≡ item_of rest.now }
