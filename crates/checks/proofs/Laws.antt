@@ -7,7 +7,8 @@ use lib.Dec.{eqb}
 use lib.Bits.{bit_or, or_add_and, and_le_l, and_le_r}
 use lib.ListN.{get_or, length}
 use borrow.Author.Tests.{eqb-true, eq-eqb}
-use Rattle.std.specs.List.{fold}
+use Rattle.std.specs.List.{fold, flat_map}
+use Rattle.std.proofs.lemmas.List.Sums.{fold-append}
 use Rattle.arena.specs.Rows.{Rows}
 use Rattle.bindings.specs.Promises.{Tells}
 use Rattle.checks.specs.Ready.{ZeroRow, Joined, Zeros}
@@ -48,8 +49,17 @@ rows_seen [] a e z = e
 rows_seen (row ∷ rows) a e z = rows_seen rows (fold bit_or a row) ((joined_row row a).back e (z 0)) (λ j. z (suc j))
 
 -- What is or-ed together of all rows tells whether they are zero.
-pub seen_all : {rows : Rows} {least seen : ℕ} → least ≤ length rows → seen ≡ fold (fold bit_or) 0 rows → Tells (eqb seen 0) (Zeros rows least)
-seen_all {rows} {least} {seen} l h = record {
+pub joined_all : {rows : Rows} {least seen : ℕ} → least ≤ length rows → seen ≡ fold (fold bit_or) 0 rows → Tells (eqb seen 0) (Zeros rows least)
+joined_all {rows} {least} {seen} l h = record {
   yes = λ e. record { lent = l; empty = λ c j. (seen_rows rows 0 (sym h ∙ eqb-true seen 0 e)).1 j c };
   back = λ z. eq-eqb seen 0 (h ∙ rows_seen rows 0 refl (λ j c. z.empty c j));
 }
+
+-- All numbers of rows, one behind the other.
+joined_flat : (rows : Rows) (a : ℕ) → fold bit_or a (flat_map (λ x. x) rows) ≡ fold (fold bit_or) a rows
+joined_flat [] a = refl
+joined_flat (row ∷ rows) a = fold-append bit_or a row (flat_map (λ x. x) rows) ∙ joined_flat rows (fold bit_or a row)
+
+-- What is or-ed together of all numbers tells whether the rows are zero.
+pub seen_all : {rows : Rows} {least seen : ℕ} → least ≤ length rows → seen ≡ fold bit_or 0 (flat_map (λ x. x) rows) → Tells (eqb seen 0) (Zeros rows least)
+seen_all {rows} l h = joined_all l (h ∙ joined_flat rows 0)

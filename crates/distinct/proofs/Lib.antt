@@ -3,3 +3,5 @@ pub mod OrderLaws
 pub mod TallyLaws
 pub mod MergeLaws
 pub mod SortLaws
+pub mod PermutationLaws
+pub mod NeighbourLaws

@@ -117,7 +117,7 @@ module _ (text : List ℕ) (rows : Rows) (n : ℕ) (lent : n ≤ length rows) wh
   names_length : length (sorts_of text rows n) ≡ n
   names_length = sorts_length text rows n lent
 
-  name_at_lem : (i : ℕ) → i < n → get_or (sorts_of text rows n) i [] ≡ name_at text rows i
+  pub name_at_lem : (i : ℕ) → i < n → get_or (sorts_of text rows n) i [] ≡ name_at text rows i
   unfolding sorts_of name_at
   name_at_lem i l = get_d_any (sorts_of text rows n) i [] (sort_of text []) (rw names_length l) ∙ table_at (sort_of text) rows n lent i l
 

@@ -1,6 +1,7 @@
 // Are all names of a table distinct? The places of the names are sorted by merging, and a merge that meets the same name twice says no.
 //
-// The entry point is `are_distinct`.
+// The entry points are `are_distinct_by_merging`, for which a caller lends spare places, and `are_distinct`, for which none are lent: there the library sorts,
+// and neighbours are compared.
 #![tactic(auto)]
 
 ghost use Rattle.std.specs.Prelude.{◌≡◌, ℕ, ◌+◌, ◌≤◌, ◌<◌, length};
@@ -114,10 +115,53 @@ fn sort(text: &[u8], places: &mut [SortRow], spare: &mut [SortRow], from: usize,
 
 // Do the names whose places are listed all differ? The places are sorted by their names: at most n times log2 n comparisons of n names, each of which reads
 // no more bytes than the shorter name has.
-pub fn are_distinct(text: &[u8], places: &mut [SortRow], spare: &mut [SortRow]) -> bool
+pub fn are_distinct_by_merging(text: &[u8], places: &mut [SortRow], spare: &mut [SortRow]) -> bool
     requires { length places.old ≤ length spare.old }
     ensures { Tells result (Distinct (sorts_of text.now places.old (length places.old))) }
 {
     let count = places.len();
     sort(text, places, spare, 0, count)
+}
+
+// The same without spare places: the library's sort takes some n times log2 n comparisons of n names, which can be more than merging takes, and then each
+// name has to stand before the next. A comparison reads no more bytes than the shorter name has.
+pub fn are_distinct(text: &[u8], places: &mut [SortRow]) -> bool
+    ensures { Tells result (Distinct (sorts_of text.now places.old (length places.old))) }
+{
+    places.sort_unstable_by(|a, b| compare(text, a, b));
+    places.is_sorted_by(|a, b| compare(text, a, b).is_lt())
+}
+
+#[cfg(test)]
+mod tests {
+    use super::{SortRow, are_distinct, are_distinct_by_merging};
+
+    // The names `b`, `bc`, `a`, an empty one, and `b` again.
+    static TEXT: &[u8] = b"b bc a b";
+
+    const PLACES: [SortRow; 5] = [[0, 1], [2, 2], [5, 1], [4, 0], [7, 1]];
+
+    // Of the first places of the list, as many as are asked for.
+    fn told(count: usize) -> [bool; 2] {
+        let mut places = PLACES;
+        let mut others = PLACES;
+        let mut spare = [[0; 2]; PLACES.len()];
+        let n = count.min(PLACES.len());
+        [
+            are_distinct(TEXT, &mut places[..n]),
+            are_distinct_by_merging(TEXT, &mut others[..n], &mut spare),
+        ]
+    }
+
+    #[test]
+    fn of_none_one_and_more(rt: HostRuntime) {
+        assert_eq!(rt; told(0), [true; 2]);
+        assert_eq!(rt; told(1), [true; 2]);
+        assert_eq!(rt; told(4), [true; 2]);
+    }
+
+    #[test]
+    fn of_a_name_that_stands_twice(rt: HostRuntime) {
+        assert_eq!(rt; told(5), [false; 2]);
+    }
 }

@@ -61,7 +61,7 @@ fn are_places_distinct(text: &[u8], names: &[NameRow]) -> bool
     let mut places = [[0u32; 2]; NAMES];
     let mut spare = [[0u32; 2]; NAMES];
     signature::put_parts(names, NAME_START, &mut places);
-    distinct::are_distinct(text, &mut places[..names.len()], &mut spare)
+    distinct::are_distinct_by_merging(text, &mut places[..names.len()], &mut spare)
 }
 
 // Are names in form, all different, with variables that rise?

@@ -125,7 +125,7 @@ fn are_names_distinct(text: &[u8], sorts: &[SortRow], symbols: &[SymbolRow]) -> 
     let m = symbols.len();
     places[..n].copy_from_slice(sorts);
     put_parts(symbols, START, &mut places[n..n + m]);
-    distinct::are_distinct(text, &mut places[..n + m], &mut spare)
+    distinct::are_distinct_by_merging(text, &mut places[..n + m], &mut spare)
 }
 
 // Are a symbol's output, number of inputs and free column in form?

@@ -9,4 +9,4 @@ returns c =
     let places = c.put_parts.new.parts in
     let n = length c.args.names.now in
     let lent : n ≤ length places = omega (arith, c.requires, c.put_parts.auto.parts) in
-    places_distinct c.args.text.now c.args.names.now places n lent c.put_parts.ensures (rw (sorts_used places n lent c.args.text.now) at c.are_distinct.ensures)
+    places_distinct c.args.text.now c.args.names.now places n lent c.put_parts.ensures (rw (sorts_used places n lent c.args.text.now) at c.are_distinct_by_merging.ensures)
