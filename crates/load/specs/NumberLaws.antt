@@ -38,8 +38,8 @@ UpTo last e = (0 < e) × (e ≤ last)
 numbered : {last e : ℕ} → last ≤ 28 → UpTo last e → Numbered e
 numbered l h = (h.0, omega (arith, l, h.1))
 
--- The laws of words and of readers are of any last number `top`, where they ask for it of any that is great enough. At 28 they speak of the numbers of the
--- table, `Numbered`.
+-- The laws of words and of readers hold for any last number `top`; those of refusals that are made there ask that it is great enough: words are refused by 6
+-- at most, and what is read by 16. At 28 the laws speak of the numbers of the table, `Numbered`.
 
 -- Words
 
